@@ -1,0 +1,31 @@
+-- The history of an array of sectors: the calls that change it, in order.
+use Rattle.std.specs.Prelude.{◌≡◌, ℕ, List, None, Some, ◌++◌, slice_set, replicate}
+use Rattle.std.specs.List.{fold}
+use Rattle.geometry.specs.declared.answer.Was.{Was}
+use Rattle.geometry.specs.Sectors.{Sector, sector_at, was_of}
+
+-- a call that changes the array: the number of the pass that makes it, the sector, and for a write the value
+pub data Call : Type 0 where
+  Write : ℕ → ℕ → List ℕ → Call
+  Trim : ℕ → ℕ → Call
+
+-- the array after one more call: a write puts its value at its sector, a trim empties it
+abbrev pub step : List Sector → Call → List Sector
+step array (Write pass s value) = slice_set array s (Some value)
+step array (Trim pass s) = slice_set array s None
+
+-- the array of that many sectors after the calls of a history, in order; before the first all sectors are empty
+abbrev pub after : ℕ → List Call → List Sector
+after sectors history = fold step (replicate sectors None) history
+
+-- what a sector holds after a history
+abbrev pub held : ℕ → List Call → ℕ → Sector
+held sectors history s = sector_at (after sectors history) s
+
+-- what a sector was after a history: empty or written
+abbrev pub was : ℕ → List Call → ℕ → Was
+was sectors history s = was_of (held sectors history s)
+
+-- the second list is the first one followed by some list
+abbrev pub Begins : {X : Type 0} → List X → List X → Type 0
+Begins {X} first whole = (others : List X) × (first ++ others ≡ whole)

@@ -1,0 +1,6 @@
+-- What public contracts rest on.
+pub mod Sectors
+pub mod History
+pub mod Limits
+pub mod Geometry
+pub mod PageBytes

@@ -1,0 +1,81 @@
+-- The limits of a device, and the first of them that its numbers break.
+use Rattle.std.specs.Prelude.{◌≡◌, ℕ, ◌+◌, ◌-◌, ◌*◌, ◌%◌, ◌≤◌, ◌<◌, ◌==◌, Bool, not, ◌&&◌, ◌||◌, nat_lt, nat_le, List, [], ◌∷◌, Option, None, Some, if◌then◌else◌}
+use Rattle.geometry.specs.declared.fault.GeometryFault.{GeometryFault}
+use Rattle.geometry.specs.declared.fault.GeometryFault.TheVariants.{Luns, Blocks, Pages, Words, Sectors, Endurance, Passes, TooManyWords, TooFewBlocks}
+use Rattle.geometry.specs.declared.limits.TheConstants.{MAX_LUNS, MIN_BLOCKS, MAX_BLOCKS, MAX_PAGES, MAX_WORDS, MAX_SECTORS, MAX_ENDURANCE, MAX_HOSTS, MAX_BROOMS, MAX_TABLE_WORDS}
+
+-- the numbers that make a device
+pub record Numbers : Type 0 where
+  pub luns : ℕ
+  pub blocks : ℕ
+  pub pages : ℕ
+  pub words : ℕ
+  pub sectors : ℕ
+  pub endurance : ℕ
+  pub hosts : ℕ
+  pub brooms : ℕ
+
+abbrev pub numbers : ℕ → ℕ → ℕ → ℕ → ℕ → ℕ → ℕ → ℕ → Numbers
+numbers luns blocks pages words sectors endurance hosts brooms =
+    record { luns = luns; blocks = blocks; pages = pages; words = words; sectors = sectors; endurance = endurance; hosts = hosts; brooms = brooms }
+
+-- the words of a shared device's table: one a sector, one a block, and the words and the stamp of each page
+abbrev pub table_words_of : ℕ → ℕ → ℕ → ℕ → ℕ
+table_words_of blocks pages words sectors = sectors + blocks + blocks * pages * (words + 1)
+
+-- the sectors fit beside what collection needs: with one thread a spare block and one page, and in a shared
+-- device a block for each host and two for each broom
+abbrev pub has_room_of : ℕ → ℕ → ℕ → ℕ → ℕ → Bool
+has_room_of blocks pages sectors hosts brooms =
+    if hosts == 0 then nat_lt sectors ((blocks - 1) * pages)
+    else (nat_lt (hosts + 2 * brooms) blocks && nat_le sectors ((blocks - (hosts + 2 * brooms)) * pages))
+
+-- a number is below the first bound or above the second
+abbrev pub is_outside : ℕ → ℕ → ℕ → Bool
+is_outside low high n = nat_lt n low || nat_lt high n
+
+-- the faults in the order in which they are looked for, each with its test
+abbrev pub fault_tests : Numbers → List (Bool × GeometryFault)
+fault_tests n =
+    (is_outside 1 MAX_LUNS n.luns, Luns)
+    ∷ ((is_outside MIN_BLOCKS MAX_BLOCKS n.blocks || not (n.blocks % n.luns == 0), Blocks)
+    ∷ ((is_outside 1 MAX_PAGES n.pages, Pages)
+    ∷ ((is_outside 1 MAX_WORDS n.words, Words)
+    ∷ ((is_outside 1 MAX_SECTORS n.sectors, Sectors)
+    ∷ ((is_outside 1 MAX_ENDURANCE n.endurance, Endurance)
+    ∷ ((nat_lt MAX_HOSTS n.hosts || nat_lt MAX_BROOMS n.brooms || (n.hosts == 0 && nat_lt 0 n.brooms), Passes)
+    ∷ ((nat_lt MAX_TABLE_WORDS (table_words_of n.blocks n.pages n.words n.sectors), TooManyWords)
+    ∷ ((not (has_room_of n.blocks n.pages n.sectors n.hosts n.brooms), TooFewBlocks)
+    ∷ []))))))))
+
+-- what stands beside the first test that holds
+abbrev pub first_that_holds : {X : Type 0} → List (Bool × X) → Option X
+first_that_holds [] = None
+first_that_holds (t ∷ others) = if t.0 then Some t.1 else first_that_holds others
+
+-- the first fault of these numbers, if they have one
+abbrev pub first_fault : Numbers → Option GeometryFault
+first_fault n = first_that_holds (fault_tests n)
+
+-- the numbers break no limit
+pub record IsWithinLimits (n : Numbers) : Type 0 where
+  pub luns_low : 1 ≤ n.luns
+  pub luns_high : n.luns ≤ MAX_LUNS
+  pub blocks_low : MIN_BLOCKS ≤ n.blocks
+  pub blocks_high : n.blocks ≤ MAX_BLOCKS
+  pub whole_luns : n.blocks % n.luns ≡ 0
+  pub pages_low : 1 ≤ n.pages
+  pub pages_high : n.pages ≤ MAX_PAGES
+  pub words_low : 1 ≤ n.words
+  pub words_high : n.words ≤ MAX_WORDS
+  pub sectors_low : 1 ≤ n.sectors
+  pub sectors_high : n.sectors ≤ MAX_SECTORS
+  pub endurance_low : 1 ≤ n.endurance
+  pub endurance_high : n.endurance ≤ MAX_ENDURANCE
+  pub hosts_high : n.hosts ≤ MAX_HOSTS
+  pub brooms_high : n.brooms ≤ MAX_BROOMS
+  pub lone : n.hosts ≡ 0 → n.brooms ≡ 0
+  pub table : table_words_of n.blocks n.pages n.words n.sectors ≤ MAX_TABLE_WORDS
+  pub one_thread : n.hosts ≡ 0 → n.sectors < (n.blocks - 1) * n.pages
+  pub shared_blocks : 0 < n.hosts → n.hosts + 2 * n.brooms < n.blocks
+  pub shared_space : 0 < n.hosts → n.sectors ≤ (n.blocks - (n.hosts + 2 * n.brooms)) * n.pages

@@ -1,0 +1,13 @@
+/// What a read found. With `Data` the caller's buffer holds the sector's value.
+#[derive(Clone, Copy, Debug, PartialEq, Eq)]
+pub enum Got {
+    Empty,
+    Data,
+}
+
+/// What a sector was before a write or a trim.
+#[derive(Clone, Copy, Debug, PartialEq, Eq)]
+pub enum Was {
+    Empty,
+    Written,
+}
