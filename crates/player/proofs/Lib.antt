@@ -1,0 +1,3 @@
+mod Deliveries
+mod Playable
+mod Plays

@@ -1,0 +1,63 @@
+ghost use Rattle.std.specs.Prelude.{◌≡◌, ◌+◌, ◌≤◌, [], ◌∷◌, ◌++◌, length, vec_len, vec_capacity, decimal};
+ghost use Rattle.player.specs.Answers.{line_text};
+ghost use Rattle.player.specs.Playing.{totals_text};
+
+use ftl_one::Counts;
+use trace::Op;
+
+/// The most bytes of a line beside those of its answer, and of the last line.
+pub const LINE_BYTES: usize = 96;
+
+/// How many bytes of output are handed on at once.
+pub const PIECE_BYTES: usize = 65_536;
+
+// The most digits of a number.
+const NUMBER_BYTES: usize = 20;
+
+// Adds bytes for which there is room.
+fn put(lines: &mut Vec<u8>, bytes: &[u8])
+    requires room { vec_len lines.old + length bytes.now ≤ vec_capacity lines.old }
+    ensures items { lines.new.items ≡ lines.old.items ++ bytes.now }
+    ensures len { vec_len lines.new ≡ vec_len lines.old + length bytes.now }
+    ensures capacity { vec_capacity lines.old ≤ vec_capacity lines.new }
+{
+    lines.extend_from_slice(bytes).unwrap();
+}
+
+// Adds a number in decimal digits, and a byte behind it.
+fn put_number(lines: &mut Vec<u8>, number: u64, end: u8)
+    requires room { vec_len lines.old + NUMBER_BYTES + 1 ≤ vec_capacity lines.old }
+    ensures items { lines.new.items ≡ lines.old.items ++ (decimal number ++ end ∷ []) }
+    ensures len { vec_len lines.new ≤ vec_len lines.old + NUMBER_BYTES + 1 }
+    ensures capacity { vec_capacity lines.old ≤ vec_capacity lines.new }
+{
+    let mut digits = itoa::Buffer::new();
+    put(lines, digits.format(number).as_bytes());
+    put(lines, &[end]);
+}
+
+/// Adds an answer line.
+pub fn put_line(lines: &mut Vec<u8>, line: u64, op: Op, sector: u32, answer: &[u8])
+    requires room { vec_len lines.old + length answer.now + LINE_BYTES ≤ vec_capacity lines.old }
+    ensures items { lines.new.items ≡ lines.old.items ++ line_text line op sector answer.now }
+    ensures capacity { vec_capacity lines.old ≤ vec_capacity lines.new }
+{
+    put_number(lines, line, b',');
+    put(lines, op.name().as_bytes());
+    put(lines, b",");
+    put_number(lines, u64::from(sector), b',');
+    put(lines, answer);
+    put(lines, b"\n");
+}
+
+/// Adds the last line, with the totals of a run.
+pub fn put_end(lines: &mut Vec<u8>, counts: Counts)
+    requires room { vec_len lines.old + LINE_BYTES ≤ vec_capacity lines.old }
+    ensures items { lines.new.items ≡ lines.old.items ++ totals_text counts.programs counts.copies counts.erases }
+    ensures capacity { vec_capacity lines.old ≤ vec_capacity lines.new }
+{
+    put(lines, b"end,");
+    put_number(lines, counts.programs, b',');
+    put_number(lines, counts.copies, b',');
+    put_number(lines, counts.erases, b'\n');
+}

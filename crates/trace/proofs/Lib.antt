@@ -1,0 +1,4 @@
+pub mod CheckFacts
+pub mod CommandFacts
+pub mod NumberFacts
+pub mod RowFacts

@@ -1,0 +1,9 @@
+use Rattle.std.proofs.Common.{arith}
+use Rattle.trace.proofs.NumberFacts.{ten_to}
+use Rattle.trace.proofs.parsing.number_below.Goals as goal
+
+pub overflow_mul-number : goal.overflow_mul-number
+overflow_mul-number c = let few = ten_to c.loop-digit.digit-index (omega arith) in omega arith
+
+pub overflow_add-number : goal.overflow_add-number
+overflow_add-number c = let few = ten_to c.loop-digit.digit-index (omega arith) in omega arith

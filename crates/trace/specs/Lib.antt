@@ -1,0 +1,10 @@
+-- What public contracts rest on.
+pub mod Commands
+pub mod Loading
+pub mod Page
+pub mod Trace
+pub mod Watched
+-- Internal.
+pub mod Parsing
+pub mod Rows
+pub mod Stored

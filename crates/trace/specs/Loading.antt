@@ -1,0 +1,26 @@
+-- What loading a trace takes from a reader.
+use Rattle.std.specs.Prelude.{◌≡◌, ◌≢◌, ℕ, ◌+◌, ◌<◌, List, length, Option, IfSome, ⊤}
+use Rattle.std.specs.Io.KnownBytes.{Consumes}
+use Rattle.trace.specs.declared.fault.TraceFaultKind.{TraceFaultKind}
+use Rattle.trace.specs.declared.fault.TraceFaultKind.TheVariants as fault
+use Rattle.trace.specs.declared.limits.TheConstants.{MAX_TRACE_BYTES}
+
+-- from a reader that held more than MAX_TRACE_BYTES bytes exactly one byte more was taken
+pub record TookOneTooMany (old new : Option (List ℕ)) : Type 0 where
+  pub held : IfSome old (λ bytes. MAX_TRACE_BYTES < length bytes)
+  pub taken : List ℕ
+  pub took : Consumes old new taken
+  pub count : length taken ≡ MAX_TRACE_BYTES + 1
+
+-- why a trace was not loaded: a read failed, memory ran out, or the trace is too big
+abbrev pub ExplainsLoad : TraceFaultKind → ℕ → ℕ → Option (List ℕ) → Option (List ℕ) → Type 0
+ExplainsLoad fault.Read failures_old failures_new old new = failures_new ≢ failures_old
+ExplainsLoad fault.Memory failures_old failures_new old new = ⊤
+ExplainsLoad fault.Big failures_old failures_new old new = TookOneTooMany old new
+ExplainsLoad fault.Fields failures_old failures_new old new = ⊥
+ExplainsLoad fault.Worker failures_old failures_new old new = ⊥
+ExplainsLoad fault.Op failures_old failures_new old new = ⊥
+ExplainsLoad fault.Sector failures_old failures_new old new = ⊥
+ExplainsLoad fault.Hex failures_old failures_new old new = ⊥
+ExplainsLoad fault.TooLong failures_old failures_new old new = ⊥
+ExplainsLoad fault.Unused failures_old failures_new old new = ⊥

@@ -1,0 +1,44 @@
+-- What the steps of parsing make of one record.
+use Rattle.std.specs.Prelude.{◌≡◌, ◌≤◌, ℕ, List, [], ◌∷◌, ◌++◌, length, Result, Ok, Err, ◌⊎◌}
+use Rattle.hex.specs.declared.error.FromHexError.{FromHexError}
+use Rattle.hex.specs.declared.error.FromHexError.TheVariants.{InvalidHexCharacter, OddLength, InvalidStringLength, OutOfMemory}
+use Rattle.trace.specs.Page.{page_with}
+use Rattle.trace.specs.Trace.{whole_fault}
+use Rattle.trace.specs.declared.commands.Command.{Command}
+use Rattle.trace.specs.declared.commands.Op.{Op}
+use Rattle.trace.specs.declared.commands.Op.TheVariants as op
+use Rattle.trace.specs.declared.fault.TraceFault.{TraceFault}
+use Rattle.trace.specs.declared.fault.TraceFaultKind.{TraceFaultKind}
+use Rattle.trace.specs.declared.fault.TraceFaultKind.TheVariants as fault
+
+-- a fault at a line: only that of a record has one
+abbrev pub fault_at : ℕ → TraceFaultKind → TraceFault
+fault_at line fault.Memory = whole_fault fault.Memory
+fault_at line kind = record { line = line; kind = kind }
+
+-- the check gave a command, and that is added at the end
+abbrev pub Adds : Result Command TraceFaultKind → List Command → List Command → Type 0
+Adds (Ok command) old new = new ≡ old ++ command ∷ []
+Adds (Err _) old new = ⊥
+
+-- a check's fault, or want of memory in its place
+abbrev pub RefusesBy : {T : Type 0} → Result T TraceFaultKind → TraceFaultKind → Type 0
+RefusesBy check kind = (kind ≡ fault.Memory) ⊎ (check ≡ Err kind)
+
+-- how many bytes the page of a command has, where a page has `size`
+abbrev pub page_len : Op → ℕ → ℕ
+page_len op.Write size = size
+page_len op.Read size = 0
+page_len op.Trim size = 0
+page_len op.Meet size = 0
+
+-- these bytes make the page, and are no more than it has
+abbrev pub MakesPage : ℕ → Op → List ℕ → Result (List ℕ) TraceFaultKind → Type 0
+MakesPage size op given page = (page ≡ Ok (page_with (page_len op size) given)) × (length given ≤ page_len op size)
+
+-- what is wrong with digits that were refused
+abbrev pub fault_of_hex : FromHexError → TraceFaultKind
+fault_of_hex OutOfMemory = fault.Memory
+fault_of_hex OddLength = fault.Hex
+fault_of_hex InvalidStringLength = fault.Hex
+fault_of_hex (InvalidHexCharacter c i) = fault.Hex

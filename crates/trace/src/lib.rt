@@ -1,0 +1,22 @@
+//! Traces: the text that a run plays. `load` reads it from a watched reader, and `parse` makes
+//! commands of it or names its first fault.
+#![tactic(auto)]
+
+mod commands;
+mod fault;
+mod limits;
+mod loading;
+mod page;
+mod parsing;
+mod rows;
+#[cfg(test)]
+mod tests;
+mod watched;
+
+pub use commands::{Command, CommandIter, Commands, Op};
+pub use fault::{TraceFault, TraceFaultKind};
+pub use limits::{MAX_DIGITS, MAX_TRACE_BYTES};
+pub use loading::load;
+pub use page::Page;
+pub use parsing::parse;
+pub use watched::Watched;

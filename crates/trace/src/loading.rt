@@ -1,0 +1,42 @@
+ghost use Rattle.std.specs.Prelude.{◌≡◌, ◌≤◌, vec_len, IfOk, IfErr, IfSome, OnOk};
+ghost use Rattle.std.specs.Io.KnownBytes.{IsAtEnd};
+ghost use Rattle.trace.specs.Loading.{ExplainsLoad};
+ghost use Rattle.trace.specs.Watched.{failures_of, inner_of};
+
+use crate::fault::{TraceFault, TraceFaultKind};
+use crate::limits::MAX_TRACE_BYTES;
+use crate::watched::Watched;
+use std::alloc::Global;
+use std::io::Read;
+
+const PIECE_BYTES: usize = 16_384;
+
+/// Reads a trace to its end. An error of the reader, `Interrupted` too, ends it: no read is repeated.
+pub fn load<R: Read>(alloc: Global, reader: &mut Watched<R>) -> Result<Vec<u8>, TraceFault>
+    // All that the reader held, read to the end, with no read that failed.
+    ensures bytes { IfOk result (λ text. IfSome (R.remaining (inner_of reader.old)) (λ held. text.items ≡ held)) }
+    ensures end { OnOk result (IsAtEnd (R.remaining (inner_of reader.new))) }
+    ensures within { IfOk result (λ text. vec_len text ≤ MAX_TRACE_BYTES) }
+    ensures unfailed { OnOk result (failures_of reader.new ≡ failures_of reader.old) }
+
+    // A refusal has line 0 and its reason.
+    ensures line { IfErr result (λ fault. fault.line ≡ 0) }
+    ensures why { IfErr result (λ fault. ExplainsLoad fault.kind (failures_of reader.old) (failures_of reader.new)
+        (R.remaining (inner_of reader.old)) (R.remaining (inner_of reader.new))) }
+{
+    let mut text = Vec::new(alloc);
+    let mut piece = [0u8; PIECE_BYTES];
+    while text.len() <= MAX_TRACE_BYTES {
+        let room = PIECE_BYTES.min(MAX_TRACE_BYTES + 1 - text.len());
+        let Ok(count) = reader.read(&mut piece[..room]) else {
+            return Err(TraceFault::whole(TraceFaultKind::Read));
+        };
+        if count == 0 {
+            return Ok(text);
+        }
+        if text.extend_from_slice(&piece[..count]).is_err() {
+            return Err(TraceFault::whole(TraceFaultKind::Memory));
+        }
+    }
+    Err(TraceFault::whole(TraceFaultKind::Big))
+}

@@ -1,0 +1,36 @@
+// The records of a trace, one at a time.
+
+ghost use Rattle.std.specs.Prelude.{◌≡◌, ◌<◌, [], IfOk, length, slice_index_or};
+ghost use Rattle.csv.specs.Records.{fields_of};
+ghost use Rattle.trace.specs.Rows.{IsReading, TakesNext, records_left};
+ghost use Rattle.trace.specs.Trace.{records_of};
+
+use csv::{ByteRecord, Error, Reader, ReaderBuilder};
+use std::alloc::Global;
+
+// A reader before the first record of a text.
+pub(crate) fn records(alloc: Global, text: &[u8]) -> Reader<&[u8]>
+    ensures reading { IsReading result }
+    ensures all { records_left result ≡ records_of text.now }
+{
+    ReaderBuilder::new()
+        .has_headers(false)
+        .flexible(true)
+        .from_reader(alloc, text)
+}
+
+// Takes the next record, or says that there is none.
+pub(crate) fn next_record(rows: &mut Reader<&[u8]>, row: &mut ByteRecord) -> Result<bool, Error>
+    requires { IsReading rows.old }
+    ensures { IfOk result (TakesNext rows.old rows.new (fields_of row.new)) }
+{
+    rows.read_byte_record(row)
+}
+
+// A field of a record that has it.
+pub(crate) fn field(row: &ByteRecord, i: usize) -> &[u8]
+    requires { i < length (fields_of row.now) }
+    ensures { result.now ≡ slice_index_or (fields_of row.now) i [] }
+{
+    row.get(i).unwrap()
+}

@@ -1,0 +1,98 @@
+ghost use Rattle.std.specs.Prelude.{◌≡◌};
+ghost use Rattle.std.specs.Io.{ReadsAtMost, WritesAtMost};
+ghost use Rattle.std.specs.Io.KnownBytes.{Keeps, ReadConsumes, WriteAppends};
+ghost use Rattle.trace.specs.Watched.{after_call, after_write, failures_of, inner_of, one_more};
+
+use std::io;
+use std::io::{Read, Write};
+
+/// A reader or a writer that counts the calls that failed.
+#[derive(Drop)]
+pub struct Watched<T> {
+    inner: T,
+    failures: u64,
+}
+
+impl<T> Watched<T> {
+    /// Watches `inner`, which has not failed so far.
+    pub fn new(inner: T) -> Watched<T>
+        ensures inner { inner_of result ≡ inner }
+        ensures failures { failures_of result ≡ 0 }
+    {
+        Watched { inner, failures: 0 }
+    }
+
+    /// How many calls failed, modulo 2^64: those that answered an error, of any kind, and the writes
+    /// that took no byte of some.
+    pub fn failures(&self) -> u64
+        ensures { result ≡ failures_of self.now }
+    {
+        self.failures
+    }
+
+    // Counts a call that failed.
+    fn count_failure(&mut self)
+        ensures { self.new ≡ record self.old { failures = one_more (failures_of self.old) } }
+    {
+        self.failures = self.failures.wrapping_add(1);
+    }
+
+    /// The reader or writer that is watched.
+    pub fn inner(&self) -> &T
+        ensures { result.now ≡ inner_of self.now }
+    {
+        &self.inner
+    }
+
+    /// Ends the watch.
+    pub fn into_inner(self) -> T
+        ensures { result ≡ inner_of self }
+    {
+        let Watched { inner, failures: _ } = self;
+        inner
+    }
+}
+
+impl<R: Read> Read for Watched<R> {
+    ghost remaining = { λ w. R.remaining (inner_of w) };
+
+    fn read(&mut self, buf: &mut [u8]) -> io::Result<usize>
+        ensures bound { ReadsAtMost result buf.new }
+        ensures bytes { ReadConsumes (R.remaining (inner_of self.old)) (R.remaining (inner_of self.new)) result buf.new }
+        ensures count { failures_of self.new ≡ after_call (failures_of self.old) result }
+    {
+        let result = self.inner.read(buf);
+        if result.is_err() {
+            self.count_failure();
+        }
+        result
+    }
+}
+
+impl<W: Write> Write for Watched<W> {
+    ghost contents = { λ w. W.contents (inner_of w) };
+
+    fn write(&mut self, buf: &[u8]) -> io::Result<usize>
+        ensures bound { WritesAtMost result buf.now }
+        ensures bytes { WriteAppends (W.contents (inner_of self.old)) (W.contents (inner_of self.new)) result buf.now }
+        ensures count { failures_of self.new ≡ after_write (failures_of self.old) buf.now result }
+    {
+        let result = self.inner.write(buf);
+        let took_nothing = matches!(&result, Ok(0)) && !buf.is_empty();
+        if result.is_err() || took_nothing {
+            self.count_failure();
+        }
+        result
+    }
+
+    fn flush(&mut self) -> io::Result<()>
+        ensures bytes { Keeps (W.contents (inner_of self.old)) (W.contents (inner_of self.new)) }
+        ensures count { failures_of self.new ≡ after_call (failures_of self.old) result }
+    {
+        let result = self.inner.flush();
+        if result.is_err() {
+            self.count_failure();
+        }
+        result
+    }
+}
