@@ -1,3 +1,4 @@
+mod CommandLines
 mod Deliveries
 mod Playable
 mod Plays

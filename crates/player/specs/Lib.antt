@@ -3,6 +3,9 @@ pub mod Answers
 pub mod Playing
 pub mod Delivery
 pub mod Outcome
+pub mod CommandLine
+pub mod Session
+pub mod Streams
 -- Internal.
 pub mod Steps
 pub mod Replies

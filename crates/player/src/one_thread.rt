@@ -9,6 +9,7 @@ ghost use Rattle.player.specs.Delivery.{AppendsBeginning, AppendsText};
 ghost use Rattle.player.specs.Playing.{text_of_commands};
 ghost use Rattle.player.specs.Outcome.{ExplainsRun};
 ghost use Rattle.player.specs.Steps.{IsPlayable};
+ghost use Rattle.player.specs.Streams.{stream_of};
 
 use crate::delivery::OutputFailed;
 use crate::desk::Desk;
@@ -36,7 +37,7 @@ pub fn run<R: Read, W: Write>(
     ensures text { OnOk result (IfSome (R.remaining (inner_of reader.old)) (λ bytes. AppendsText geometry.now bytes (W.contents (inner_of writer.old)) (W.contents (inner_of writer.new)))) }
 
     // A fault says what happened. Only a failed writer has taken bytes, and those are a beginning of the text.
-    ensures why { IfErr result (λ fault. ExplainsRun fault geometry.now (failures_of reader.old) (failures_of reader.new) (R.remaining (inner_of reader.old)) (R.remaining (inner_of reader.new)) (failures_of writer.old) (failures_of writer.new) (W.contents (inner_of writer.old)) (W.contents (inner_of writer.new))) }
+    ensures why { IfErr result (λ fault. ExplainsRun fault geometry.now (stream_of R.remaining reader.old) (stream_of R.remaining reader.new) (stream_of W.contents writer.old) (stream_of W.contents writer.new)) }
 {
     let text = match load(alloc, reader) {
         Ok(text) => text,

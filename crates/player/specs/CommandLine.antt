@@ -1,0 +1,58 @@
+-- The command line: the options as clap knows them, and the numbers that its matches give them.
+use Rattle.std.specs.Prelude.{◌≡◌, ℕ, List, [], ◌∷◌, codes, Some, pos, MatchOption, ◌^◌, ◌<◌, ◌⊎◌}
+use Rattle.std.specs.Str.Parse.{IsNumeral, digits_value, without_leading_plus}
+use Rattle.clap.specs.Words.{App, Kinds, Row, Rule, Text, fault_of, matches_of, new_app, new_rule, one_of, with_rule}
+use Rattle.clap.specs.declared.builder.value_parser.ValueParser.TheVariants as parser
+use Rattle.geometry.specs.Limits.{Numbers, numbers}
+use Rattle.player.specs.declared.command_line.Options.{Options}
+use Rattle.player.specs.declared.command_line.TheConstants.{LUNS, BLOCKS, PAGES, WORDS, SECTORS, ENDURANCE}
+
+-- an option: its name behind two dashes, and one whole number of 32 bits, with a default
+abbrev pub option_rule : Text → Text → Rule
+option_rule name default =
+  record (new_rule name) { long = Some name; value_names = 1; defaults = default ∷ []; parser = Some (parser.Signed (pos 0) (pos 4294967295)) }
+
+-- the program's command line
+abbrev pub flashplay : App
+flashplay =
+  with_rule (with_rule (with_rule (with_rule (with_rule (with_rule (new_app (codes "flashplay"))
+    (option_rule (codes "luns") (codes "1")))
+    (option_rule (codes "blocks") (codes "64")))
+    (option_rule (codes "pages") (codes "64")))
+    (option_rule (codes "words") (codes "64")))
+    (option_rule (codes "sectors") (codes "3072")))
+    (option_rule (codes "endurance") (codes "1000"))
+
+-- what clap finds for each option in the words of a command line, the defaults included
+unfoldable pub rows_given : List Text → List Row
+rows_given words = matches_of flashplay words
+
+-- the faults that clap finds in the words of a command line: a call for help is one of them
+unfoldable pub faults_given : List Text → Kinds
+faults_given words = fault_of flashplay words
+
+-- a text writes a whole number of 32 bits, perhaps behind a plus; clap refuses every other text
+abbrev pub WritesNumber : Text → Type 0
+WritesNumber text = IsNumeral 10 (without_leading_plus text) × (digits_value 10 (without_leading_plus text) < 2 ^ 32)
+
+-- the number that a text writes, or the default where it writes none
+abbrev pub IsNumberIn : Text → ℕ → ℕ → Type 0
+IsNumberIn text default number =
+  (WritesNumber text × (number ≡ digits_value 10 (without_leading_plus text))) ⊎ (¬ WritesNumber text × (number ≡ default))
+
+-- the number that the matches give to an option, or its default where they give none
+abbrev pub IsNumberOf : List Row → Text → ℕ → ℕ → Type 0
+IsNumberOf rows name default number = MatchOption (one_of name rows) (number ≡ default) (λ text. IsNumberIn text default number)
+
+-- each number is the one that the matches give to its option
+pub record AreOptionsOf (rows : List Row) (given : Options) : Type 0 where
+  pub luns : IsNumberOf rows (codes "luns") LUNS given.luns
+  pub blocks : IsNumberOf rows (codes "blocks") BLOCKS given.blocks
+  pub pages : IsNumberOf rows (codes "pages") PAGES given.pages
+  pub words : IsNumberOf rows (codes "words") WORDS given.words
+  pub sectors : IsNumberOf rows (codes "sectors") SECTORS given.sectors
+  pub endurance : IsNumberOf rows (codes "endurance") ENDURANCE given.endurance
+
+-- the numbers of the device that the options describe, which is for one thread
+abbrev pub numbers_given : Options → Numbers
+numbers_given given = numbers given.luns given.blocks given.pages given.words given.sectors given.endurance 0 0

@@ -1,0 +1,110 @@
+-- How a session of the program ends.
+use Rattle.std.specs.Prelude.{◌≡◌, ◌≢◌, ◌⊎◌, ℕ, List, IfSome, Some, Result, Ok, Err}
+use Rattle.std.specs.Io.KnownBytes.{Appends, IsAtEnd}
+use Rattle.clap.specs.Words.{IsAmong, Text, kind_of}
+use Rattle.clap.specs.declared.error.Error.{Error}
+use Rattle.clap.specs.declared.error.kind.ErrorKind.TheVariants as kind
+use Rattle.geometry.specs.Geometry.{numbers_of}
+use Rattle.geometry.specs.Limits.{first_fault}
+use Rattle.geometry.specs.declared.geometry.Geometry.{Geometry}
+use Rattle.geometry.specs.declared.fault.GeometryFault.{GeometryFault}
+use Rattle.trace.specs.declared.fault.TraceFaultKind.{TraceFaultKind}
+use Rattle.trace.specs.declared.fault.TraceFaultKind.TheVariants as fault
+use Rattle.player.specs.CommandLine.{AreOptionsOf, faults_given, numbers_given, rows_given}
+use Rattle.player.specs.Delivery.{AppendsText}
+use Rattle.player.specs.Outcome.{ExplainsRun}
+use Rattle.player.specs.Streams.{Stream}
+use Rattle.player.specs.declared.command_line.Options.{Options}
+use Rattle.player.specs.declared.fault.RunFault.{RunFault}
+use Rattle.player.specs.declared.fault.RunFault.TheVariants as run
+use Rattle.player.specs.declared.stop.Stop.{Stop}
+use Rattle.player.specs.declared.stop.Stop.TheVariants as stop
+
+-- the exit status where a trace is not played
+abbrev pub status_of_trace : TraceFaultKind → ℕ
+status_of_trace fault.Read = 1
+status_of_trace fault.Memory = 4
+status_of_trace _ = 3
+
+abbrev pub status_of_run : RunFault → ℕ
+status_of_run (run.Trace found) = status_of_trace found.kind
+status_of_run run.Memory = 4
+status_of_run run.Output = 1
+
+-- the exit status of a session that stopped
+abbrev pub status_of : Stop → ℕ
+status_of (stop.Arguments error) = 2
+status_of (stop.Geometry found) = 2
+status_of (stop.Run found) = status_of_run found
+status_of stop.Help = 1
+status_of stop.Memory = 4
+
+-- the device that the words of a command line describe
+pub record IsDescribed (words : List Text) (geo : Geometry) : Type 0 where
+  pub given : Options
+  pub told : AreOptionsOf (rows_given words) given
+  pub numbers : numbers_of geo ≡ numbers_given given
+
+-- the words describe no device, for this reason
+pub record DescribesNone (words : List Text) (found : GeometryFault) : Type 0 where
+  pub given : Options
+  pub told : AreOptionsOf (rows_given words) given
+  pub first : first_fault (numbers_given given) ≡ Some found
+
+-- the trace was played: the input was read to its end, and the text of all its bytes was written
+pub record Played (words : List Text) (input_old input_new output_old output_new : Stream) : Type 0 where
+  pub geo : Geometry
+  pub device : IsDescribed words geo
+  pub end : IsAtEnd input_new.bytes
+  pub text : IfSome input_old.bytes (λ bytes. AppendsText geo bytes output_old.bytes output_new.bytes)
+
+-- the words asked for help, which was written
+pub record Helped (words : List Text) (output_old output_new : Stream) : Type 0 where
+  pub asked : IsAmong kind.DisplayHelp (faults_given words)
+  pub text : List ℕ
+  pub out : Appends output_old.bytes output_new.bytes text
+
+-- a run on the described device stopped
+pub record Stopped (words : List Text) (found : RunFault) (input_old input_new output_old output_new : Stream) : Type 0 where
+  pub geo : Geometry
+  pub device : IsDescribed words geo
+  pub why : ExplainsRun found geo input_old input_new output_old output_new
+
+-- why a session stopped. Nothing is on the output but after `Output` of a run and `Help`
+abbrev pub ExplainsStop : Stop → List Text → Stream → Stream → Stream → Stream → Type 0
+ExplainsStop (stop.Arguments error) words input_old input_new output_old output_new =
+  IsAmong (kind_of error) (faults_given words) × (kind_of error ≢ kind.DisplayHelp) × (output_new ≡ output_old)
+ExplainsStop (stop.Geometry found) words input_old input_new output_old output_new = DescribesNone words found × (output_new ≡ output_old)
+ExplainsStop (stop.Run found) words input_old input_new output_old output_new = Stopped words found input_old input_new output_old output_new
+ExplainsStop stop.Help words input_old input_new output_old output_new =
+  IsAmong kind.DisplayHelp (faults_given words) × (output_new.failures ≢ output_old.failures)
+ExplainsStop stop.Memory words input_old input_new output_old output_new = output_new ≡ output_old
+
+-- how an attempt ended
+abbrev pub Explains : Result (Unit {0}) Stop → List Text → Stream → Stream → Stream → Stream → Type 0
+Explains (Ok _) words input_old input_new output_old output_new =
+  Played words input_old input_new output_old output_new ⊎ Helped words output_old output_new
+Explains (Err why) words input_old input_new output_old output_new = ExplainsStop why words input_old input_new output_old output_new
+
+-- the exit status
+abbrev pub status_after : Result (Unit {0}) Stop → ℕ
+status_after (Ok _) = 0
+status_after (Err why) = status_of why
+
+-- how a session ended, and that the status tells it
+pub record EndsSession (status : ℕ) (words : List Text) (input_old input_new output_old output_new : Stream) : Type 0 where
+  pub ending : Result (Unit {0}) Stop
+  pub status_is : status ≡ status_after ending
+  pub why : Explains ending words input_old input_new output_old output_new
+
+-- what comes of the words that clap refused with an error: the help is written, and every other text is told elsewhere
+abbrev pub AnswersClap : Error → Result (Unit {0}) Stop → Stream → Stream → Type 0
+AnswersClap error (Ok _) output_old output_new =
+  (kind_of error ≡ kind.DisplayHelp) × (text : List ℕ) × Appends output_old.bytes output_new.bytes text
+AnswersClap error (Err (stop.Arguments told)) output_old output_new =
+  (told ≡ error) × (kind_of error ≢ kind.OutOfMemory) × (kind_of error ≢ kind.DisplayHelp) × (output_new ≡ output_old)
+AnswersClap error (Err (stop.Geometry found)) output_old output_new = ⊥
+AnswersClap error (Err (stop.Run found)) output_old output_new = ⊥
+AnswersClap error (Err stop.Help) output_old output_new =
+  (kind_of error ≡ kind.DisplayHelp) × (output_new.failures ≢ output_old.failures)
+AnswersClap error (Err stop.Memory) output_old output_new = output_new ≡ output_old

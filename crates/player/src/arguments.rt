@@ -1,0 +1,68 @@
+ghost use Rattle.std.specs.Prelude.{◌≡◌, map, IfOk};
+ghost use Rattle.clap.specs.Words.{FailsBy, app_of, found_of, rows_of, with_rule};
+ghost use Rattle.player.specs.CommandLine.{AreOptionsOf, IsNumberOf, faults_given, flashplay, option_rule, rows_given};
+
+use crate::command_line::{BLOCKS, ENDURANCE, LUNS, Options, PAGES, SECTORS, WORDS};
+use clap::{Arg, ArgMatches, Command, Error, value_parser};
+use std::alloc::{AllocError, Global};
+
+/// The numbers that the words of a command line give; the first word is the program's name.
+pub fn options<'a>(alloc: Global, words: &'a [&'a str]) -> Result<Options, Error>
+    ensures numbers { IfOk result (AreOptionsOf (rows_given (map (λ w. w.now) words.entry.now))) }
+    ensures outcome { FailsBy (faults_given (map (λ w. w.now) words.entry.now)) result }
+{
+    let command = flashplay(alloc)?;
+    let matches = match command.try_get_matches_from(words) {
+        Ok(matches) => matches,
+        Err(error) => return Err(error),
+    };
+    Ok(Options {
+        luns: number(&matches, "luns", LUNS),
+        blocks: number(&matches, "blocks", BLOCKS),
+        pages: number(&matches, "pages", PAGES),
+        words: number(&matches, "words", WORDS),
+        sectors: number(&matches, "sectors", SECTORS),
+        endurance: number(&matches, "endurance", ENDURANCE),
+    })
+}
+
+// The command line as clap knows it.
+fn flashplay<'a>(alloc: Global) -> Result<Command<'a>, AllocError>
+    ensures { IfOk result (λ command. app_of command ≡ flashplay) }
+{
+    let command = Command::new(alloc, "flashplay").about(
+        "Plays a trace on a page-mapped flash layer: the trace comes from standard input, its answers go to standard output.",
+    );
+    let command = with(alloc, command, "luns", "1", "LUNs, from 1 to 8")?;
+    let command = with(alloc, command, "blocks", "64", "Blocks over all LUNs, from 3 to 4096, a multiple of the LUNs")?;
+    let command = with(alloc, command, "pages", "64", "Pages of a block, from 1 to 1024")?;
+    let command = with(alloc, command, "words", "64", "64-bit words of a page, from 1 to 512")?;
+    let command = with(alloc, command, "sectors", "3072", "Sectors of one page each, from 1 to 1048576")?;
+    with(alloc, command, "endurance", "1000", "Erase cycles of a block, from 1 to 1000000; the last one fails")
+}
+
+// The command with one option more, of one whole number.
+fn with<'a>(
+    alloc: Global,
+    command: Command<'a>,
+    name: &'a str,
+    default: &'a str,
+    help: &'a str,
+) -> Result<Command<'a>, AllocError>
+    ensures { IfOk result (λ more. app_of more ≡ with_rule (app_of command.entry) (option_rule name.entry.now default.entry.now)) }
+{
+    let option = Arg::new(alloc, name)
+        .long(name)
+        .value_name("N")
+        .value_parser(value_parser!(u32))
+        .default_value(default)
+        .help(help);
+    command.arg(option)
+}
+
+// The number that the matches give to an option.
+fn number(matches: &ArgMatches<'_>, name: &str, default: u32) -> u32
+    ensures { IsNumberOf (rows_of (found_of matches.now)) name.now default result }
+{
+    matches.get_one::<u32>(name).unwrap_or(default)
+}

@@ -1,0 +1,23 @@
+/// The LUNs where `--luns` is absent.
+pub const LUNS: u32 = 1;
+/// The blocks where `--blocks` is absent.
+pub const BLOCKS: u32 = 64;
+/// The pages of a block where `--pages` is absent.
+pub const PAGES: u32 = 64;
+/// The words of a page where `--words` is absent.
+pub const WORDS: u32 = 64;
+/// The sectors where `--sectors` is absent.
+pub const SECTORS: u32 = 3072;
+/// The erase cycles of a block where `--endurance` is absent.
+pub const ENDURANCE: u32 = 1000;
+
+/// The numbers that the command line gives, under the names of their options.
+#[derive(Clone, Copy, Debug, PartialEq, Eq)]
+pub struct Options {
+    pub luns: u32,
+    pub blocks: u32,
+    pub pages: u32,
+    pub words: u32,
+    pub sectors: u32,
+    pub endurance: u32,
+}

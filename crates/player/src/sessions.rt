@@ -1,0 +1,112 @@
+ghost use Rattle.std.specs.Prelude.{◌≡◌, Some, map, IfErr, IfOk};
+ghost use Rattle.geometry.specs.Geometry.{numbers_of};
+ghost use Rattle.geometry.specs.Limits.{first_fault};
+ghost use Rattle.player.specs.CommandLine.{numbers_given};
+ghost use Rattle.player.specs.Session.{AnswersClap, EndsSession, Explains};
+ghost use Rattle.player.specs.Streams.{stream_of};
+
+use crate::arguments::options;
+use crate::command_line::Options;
+use crate::delivery::{OutputFailed, send};
+use crate::one_thread::run;
+use crate::stop::Stop;
+use clap::error::ErrorKind;
+use geometry::{Geometry, GeometryFault};
+use std::alloc::Global;
+use std::io::{Read, Write};
+use trace::Watched;
+
+/// A whole session of the program: its arguments, its device, and its run. The answer is the exit
+/// status; a fault is told in a line on `errors`, and whether that line was written changes nothing.
+///
+/// | Status | When |
+/// |---|---|
+/// | 0 | all was written, or the help that the arguments asked for |
+/// | 1 | the input or the output failed |
+/// | 2 | the arguments are refused, or make no device |
+/// | 3 | the trace has a fault, or is too big |
+/// | 4 | memory ran out |
+pub fn session<'a, R: Read, W: Write, E: Write>(
+    alloc: Global,
+    words: &'a [&'a str],
+    reader: &mut Watched<R>,
+    writer: &mut Watched<W>,
+    errors: &mut Watched<E>,
+) -> u8
+    ensures { EndsSession result (map (λ w. w.now) words.entry.now) (stream_of R.remaining reader.old) (stream_of R.remaining reader.new) (stream_of W.contents writer.old) (stream_of W.contents writer.new) }
+{
+    match attempt(alloc, words, reader, writer) {
+        Ok(()) => 0,
+        Err(stop) => {
+            tell(&stop, errors);
+            stop.status()
+        }
+    }
+}
+
+// Tells why a session stopped.
+fn tell<E: Write>(stop: &Stop, errors: &mut Watched<E>) {
+    let _ = match stop {
+        Stop::Arguments(error) => write!(errors, "{error}"),
+        other => writeln!(errors, "{other}"),
+    };
+}
+
+// Reads the arguments, makes the device and plays the trace.
+fn attempt<'a, R: Read, W: Write>(
+    alloc: Global,
+    words: &'a [&'a str],
+    reader: &mut Watched<R>,
+    writer: &mut Watched<W>,
+) -> Result<(), Stop>
+    ensures { Explains result (map (λ w. w.now) words.entry.now) (stream_of R.remaining reader.old) (stream_of R.remaining reader.new) (stream_of W.contents writer.old) (stream_of W.contents writer.new) }
+{
+    let given = match options(alloc, words) {
+        Ok(given) => given,
+        Err(error) => return refuse(alloc, error, writer),
+    };
+    let geometry = match device(given) {
+        Ok(geometry) => geometry,
+        Err(fault) => return Err(Stop::Geometry(fault)),
+    };
+    match run(alloc, reader, writer, &geometry) {
+        Ok(()) => Ok(()),
+        Err(fault) => Err(Stop::Run(fault)),
+    }
+}
+
+// The device of these numbers, for one thread.
+fn device(given: Options) -> Result<Geometry, GeometryFault>
+    ensures numbers { IfOk result (λ geo. numbers_of geo ≡ numbers_given given) }
+    ensures first { IfErr result (λ found. first_fault (numbers_given given) ≡ Some found) }
+{
+    Geometry::new(
+        given.luns,
+        given.blocks,
+        given.pages,
+        given.words,
+        given.sectors,
+        given.endurance,
+        0,
+        0,
+    )
+}
+
+// Answers clap's refusal: the help that the words ask for goes to the output.
+fn refuse<W: Write>(alloc: Global, error: clap::Error, writer: &mut Watched<W>) -> Result<(), Stop>
+    ensures { AnswersClap error result (stream_of W.contents writer.old) (stream_of W.contents writer.new) }
+{
+    match error.kind() {
+        ErrorKind::OutOfMemory => Err(Stop::Memory),
+        ErrorKind::DisplayHelp => {
+            let Ok(text) = error.to_string(alloc) else {
+                return Err(Stop::Memory);
+            };
+            match send(writer, text.as_bytes()) {
+                Ok(()) => Ok(()),
+                Err(OutputFailed) => Err(Stop::Help),
+            }
+        }
+        _ => Err(Stop::Arguments(error)),
+    }
+}

@@ -1,0 +1,63 @@
+ghost use Rattle.std.specs.Prelude.{◌≡◌};
+ghost use Rattle.player.specs.Session.{status_of_run, status_of_trace};
+
+use crate::fault::RunFault;
+use geometry::GeometryFault;
+use thiserror::Error;
+use trace::TraceFaultKind;
+
+/// Why a session ended without its answers.
+#[derive(Debug, Drop, Error)]
+pub enum Stop {
+    /// The arguments are refused. Its text ends its own line.
+    #[error(transparent)]
+    Arguments(clap::Error),
+    /// The numbers make no device.
+    #[error("geometry: {0}")]
+    Geometry(GeometryFault),
+    /// The run stopped.
+    #[error(transparent)]
+    Run(RunFault),
+    /// The help could not be written.
+    #[error("output: failed")]
+    Help,
+    /// Memory ran out before the run.
+    #[error("memory: refused")]
+    Memory,
+}
+
+impl Stop {
+    ghost use Rattle.player.specs.Session.{status_of};
+
+    /// The exit status.
+    pub fn status(&self) -> u8
+        ensures { result ≡ status_of self.now }
+    {
+        match self {
+            Stop::Arguments(_) | Stop::Geometry(_) => 2,
+            Stop::Run(fault) => run_status(*fault),
+            Stop::Help => 1,
+            Stop::Memory => 4,
+        }
+    }
+}
+
+fn run_status(fault: RunFault) -> u8
+    ensures { result ≡ status_of_run fault }
+{
+    match fault {
+        RunFault::Trace(found) => trace_status(found.kind),
+        RunFault::Memory => 4,
+        RunFault::Output => 1,
+    }
+}
+
+fn trace_status(kind: TraceFaultKind) -> u8
+    ensures { result ≡ status_of_trace kind }
+{
+    match kind {
+        TraceFaultKind::Read => 1,
+        TraceFaultKind::Memory => 4,
+        _ => 3,
+    }
+}
