@@ -70,10 +70,12 @@ AppendsBeginning-part old new newer waiting text whole u part begins =
     record {
       sent = u.sent ++ part.sent;
       out = Appends-append old new newer u.sent part.sent u.out part.out;
-      beginning = (part.beginning.0 ++ begins.0,
+      beginning = (
+        part.beginning.0 ++ begins.0,
         append_assoc u.sent part.sent (part.beginning.0 ++ begins.0)
-        ∙ (ap (λ rest. u.sent ++ rest) (sym (append_assoc part.sent part.beginning.0 begins.0) ∙ ap (λ front. front ++ begins.0) part.beginning.1)
-        ∙ (sym (append_assoc u.sent waiting begins.0) ∙ (ap (λ front. front ++ begins.0) u.whole ∙ begins.1))));
+            ∙ (ap (λ rest. u.sent ++ rest) (sym (append_assoc part.sent part.beginning.0 begins.0) ∙ ap (λ front. front ++ begins.0) part.beginning.1)
+            ∙ (sym (append_assoc u.sent waiting begins.0) ∙ (ap (λ front. front ++ begins.0) u.whole ∙ begins.1))),
+      );
     }
 
 -- one stretch after another

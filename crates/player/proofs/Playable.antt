@@ -74,5 +74,5 @@ commands_are_playable geo text commands are k d within =
     let as_ok : Command → Result Command TraceFaultKind = λ command. Ok command in
     let in_records : k < length (records_of text) = omega (arith, ap length are, length-map (records_of text) (command_of geo), length-map commands as_ok) in
     let e : command_of geo (get_or (records_of text) k []) ≡ Ok (get_or commands k d) =
-        sym (get_or-map (command_of geo) (records_of text) k [] (Ok d) in_records) ∙ (ap (λ rs. get_or rs k (Ok d)) are ∙ get_or-map as_ok commands k d (Ok d) within) in
+    sym (get_or-map (command_of geo) (records_of text) k [] (Ok d) in_records) ∙ (ap (λ rs. get_or rs k (Ok d)) are ∙ get_or-map as_ok commands k d (Ok d) within) in
     command_is_playable geo (get_or (records_of text) k []) (get_or commands k d) e

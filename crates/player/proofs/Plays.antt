@@ -35,10 +35,11 @@ flat_map_begins : {X : Type 0} (f : ℕ → List X) (n m : ℕ) → Begins (flat
 flat_map_begins f n zero = ([], append-nil (flat_map f (range_with_len 0 n)) ∙ ap (λ k. flat_map f (range_with_len 0 k)) (sym (add-zero n)))
 flat_map_begins f n (suc m) =
     let before = flat_map_begins f n m in
-    let e : (n + m) + 1 ≡ n + suc m = omega arith in
-    (before.0 ++ f (n + m),
+    let e : (n + m) + 1 ≡ n + suc m = omega arith in (
+      before.0 ++ f (n + m),
       sym (append_assoc (flat_map f (range_with_len 0 n)) before.0 (f (n + m)))
-      ∙ (ap (λ front. front ++ f (n + m)) before.1 ∙ (sym (flat_map_more f (n + m)) ∙ ap (λ k. flat_map f (range_with_len 0 k)) e)))
+          ∙ (ap (λ front. front ++ f (n + m)) before.1 ∙ (sym (flat_map_more f (n + m)) ∙ ap (λ k. flat_map f (range_with_len 0 k)) e)),
+    )
 
 -- what holds of each command holds of the one at a place
 pub All-at : {X : Type 0} (P : X → Type 0) (xs : List X) (i : ℕ) (x : X) → All P xs → slice_get xs i ≡ Some x → P x
@@ -70,23 +71,23 @@ lines_more refusal n refused commands k c is =
 pub ArePlayed-more : (geo : Geometry) (commands : List Command) (k : ℕ) (c : Command) (array next_array : List Sector) (stock next_stock : Stock) (old new : Option (List ℕ)) (waiting next_waiting : List ℕ) → ArePlayed geo commands k array stock old new waiting → slice_get commands k ≡ Some c → next_array ≡ fold step array (calls_of (is_refused geo stock c) c) → next_stock ≡ stock_after geo stock c → next_waiting ≡ waiting ++ line_text (k + 1) c.op c.sector (answer_of (codes "worn") (is_refused geo stock c) c.op (sector_at array c.sector)) → ArePlayed geo commands (k + 1) next_array next_stock old new next_waiting
 ArePlayed-more geo commands k c array next_array stock next_stock old new waiting next_waiting played is array_step stock_step waiting_step =
     let refused : is_refused geo stock c ≡ refused_at geo commands k =
-        ap (λ s. is_refused geo s c) played.stock_is ∙ sym (refused_is geo commands k c is) in
+    ap (λ s. is_refused geo s c) played.stock_is ∙ sym (refused_is geo commands k c is) in
     let line : List ℕ = line_text (k + 1) c.op c.sector (answer_of (codes "worn") (refused_at geo commands k) c.op (held (sectors_of geo) (history_before (refused_at geo commands) commands k) c.sector)) in
     let waits : next_waiting ≡ waiting ++ line =
-        waiting_step
-        ∙ (ap (λ b. waiting ++ line_text (k + 1) c.op c.sector (answer_of (codes "worn") b c.op (sector_at array c.sector))) refused
-        ∙ ap (λ a. waiting ++ line_text (k + 1) c.op c.sector (answer_of (codes "worn") (refused_at geo commands k) c.op (sector_at a c.sector))) played.array_is) in
+    waiting_step
+    ∙ (ap (λ b. waiting ++ line_text (k + 1) c.op c.sector (answer_of (codes "worn") b c.op (sector_at array c.sector))) refused
+    ∙ ap (λ a. waiting ++ line_text (k + 1) c.op c.sector (answer_of (codes "worn") (refused_at geo commands k) c.op (sector_at a c.sector))) played.array_is) in
     let grown : IsUnderWay old new (waiting ++ line) (lines_before (codes "worn") (sectors_of geo) (refused_at geo commands) commands k ++ line) =
-        IsUnderWay-more old new waiting (lines_before (codes "worn") (sectors_of geo) (refused_at geo commands) commands k) line played.text in
+    IsUnderWay-more old new waiting (lines_before (codes "worn") (sectors_of geo) (refused_at geo commands) commands k) line played.text in
     record {
       array_is =
-        array_step
-        ∙ (ap (λ b. fold step array (calls_of b c)) refused
-        ∙ (ap (λ a. fold step a (calls_of (refused_at geo commands k) c)) played.array_is
-        ∙ sym (array_more (sectors_of geo) (refused_at geo commands) commands k c is)));
+          array_step
+          ∙ (ap (λ b. fold step array (calls_of b c)) refused
+          ∙ (ap (λ a. fold step a (calls_of (refused_at geo commands k) c)) played.array_is
+          ∙ sym (array_more (sectors_of geo) (refused_at geo commands) commands k c is)));
       stock_is = stock_step ∙ (ap (λ s. stock_after geo s c) played.stock_is ∙ sym (stock_more geo commands k c is));
       text = subst (λ w. IsUnderWay old new w (lines_before (codes "worn") (sectors_of geo) (refused_at geo commands) commands (k + 1))) (sym waits)
-        (subst (λ t. IsUnderWay old new (waiting ++ line) t) (sym (lines_more (codes "worn") (sectors_of geo) (refused_at geo commands) commands k c is)) grown);
+          (subst (λ t. IsUnderWay old new (waiting ++ line) t) (sym (lines_more (codes "worn") (sectors_of geo) (refused_at geo commands) commands k c is)) grown);
     }
 
 -- nothing was played yet
@@ -104,10 +105,11 @@ lines_begin geo commands k low =
     let m : ℕ = length commands - k in
     let e : k + m ≡ length commands = omega arith in
     let lines = flat_map_begins (line_at (codes "worn") (sectors_of geo) (refused_at geo commands) commands) k m in
-    let end = end_text (stock_before geo commands (length commands)) in
-    (lines.0 ++ end,
+    let end = end_text (stock_before geo commands (length commands)) in (
+      lines.0 ++ end,
       sym (append_assoc (lines_before (codes "worn") (sectors_of geo) (refused_at geo commands) commands k) lines.0 end)
-      ∙ ap (λ front. front ++ end) (lines.1 ∙ ap (λ n. lines_before (codes "worn") (sectors_of geo) (refused_at geo commands) commands n) e))
+          ∙ ap (λ front. front ++ end) (lines.1 ∙ ap (λ n. lines_before (codes "worn") (sectors_of geo) (refused_at geo commands) commands n) e),
+    )
 
 -- some of what waited went out
 pub ArePlayed-moved : (geo : Geometry) (commands : List Command) (k : ℕ) (array : List Sector) (stock : Stock) (old new newer : Option (List ℕ)) (waiting later : List ℕ) → ArePlayed geo commands k array stock old new waiting → IsUnderWay new newer later waiting → ArePlayed geo commands k array stock old newer later
@@ -122,19 +124,19 @@ ArePlayed-moved geo commands k array stock old new newer waiting later played mo
 pub ArePlayed-turn : (geo its_geo : Geometry) (commands : List Command) (k : ℕ) (c : Command) (array next_array : List Sector) (stock next_stock : Stock) (old new newer : Option (List ℕ)) (waiting later last : List ℕ) → its_geo ≡ geo → ArePlayed geo commands k array stock old new waiting → IsUnderWay new newer later waiting → slice_get commands k ≡ Some c → next_array ≡ fold step array (calls_of (is_refused its_geo stock c) c) → next_stock ≡ stock_after its_geo stock c → last ≡ later ++ line_text (k + 1) c.op c.sector (answer_of (codes "worn") (is_refused its_geo stock c) c.op (sector_at array c.sector)) → ArePlayed geo commands (k + 1) next_array next_stock old newer last
 ArePlayed-turn geo its_geo commands k c array next_array stock next_stock old new newer waiting later last same played moved is array_step stock_step lines_step =
     ArePlayed-more geo commands k c array next_array stock next_stock old newer later last
-      (ArePlayed-moved geo commands k array stock old new newer waiting later played moved) is
-      (subst (λ x. next_array ≡ fold step array (calls_of (is_refused x stock c) c)) same array_step)
-      (subst (λ x. next_stock ≡ stock_after x stock c) same stock_step)
-      (subst (λ x. last ≡ later ++ line_text (k + 1) c.op c.sector (answer_of (codes "worn") (is_refused x stock c) c.op (sector_at array c.sector))) same lines_step)
+    (ArePlayed-moved geo commands k array stock old new newer waiting later played moved) is
+    (subst (λ x. next_array ≡ fold step array (calls_of (is_refused x stock c) c)) same array_step)
+    (subst (λ x. next_stock ≡ stock_after x stock c) same stock_step)
+    (subst (λ x. last ≡ later ++ line_text (k + 1) c.op c.sector (answer_of (codes "worn") (is_refused x stock c) c.op (sector_at array c.sector))) same lines_step)
 
 -- the whole text, after the last command and the last line
 pub text_whole : (geo : Geometry) (commands : List Command) (array : List Sector) (stock : Stock) (old new newer : Option (List ℕ)) (waiting later last : List ℕ) → ArePlayed geo commands (length commands) array stock old new waiting → IsUnderWay new newer later waiting → last ≡ later ++ end_text stock → IsUnderWay old newer last (text_of_commands geo commands)
 text_whole geo commands array stock old new newer waiting later last played moved ends =
     let whole : IsUnderWay old newer (later ++ end_text stock) (lines_before (codes "worn") (sectors_of geo) (refused_at geo commands) commands (length commands) ++ end_text stock) =
-        IsUnderWay-more old newer later (lines_before (codes "worn") (sectors_of geo) (refused_at geo commands) commands (length commands)) (end_text stock)
-          (ArePlayed-moved geo commands (length commands) array stock old new newer waiting later played moved).text in
+    IsUnderWay-more old newer later (lines_before (codes "worn") (sectors_of geo) (refused_at geo commands) commands (length commands)) (end_text stock)
+    (ArePlayed-moved geo commands (length commands) array stock old new newer waiting later played moved).text in
     subst (λ l. IsUnderWay old newer l (text_of_commands geo commands)) (sym ends)
-      (subst (λ s. IsUnderWay old newer (later ++ end_text stock) (lines_before (codes "worn") (sectors_of geo) (refused_at geo commands) commands (length commands) ++ end_text s)) played.stock_is whole)
+    (subst (λ s. IsUnderWay old newer (later ++ end_text stock) (lines_before (codes "worn") (sectors_of geo) (refused_at geo commands) commands (length commands) ++ end_text s)) played.stock_is whole)
 
 -- an `Err` is what is claimed of one
 pub OnErr-any : {T E : Type 0} (P : Type 0) (r : Result T E) → P → OnErr r P

@@ -55,12 +55,12 @@ answer_of refusal refused op.Meet sector = codes "met"
 -- a line of the output
 abbrev pub line_text : ℕ → Op → ℕ → List ℕ → List ℕ
 line_text line op sector answer =
-  decimal line ++ codes "," ++ name_of op ++ codes "," ++ decimal sector ++ codes "," ++ answer ++ codes "\n"
+    decimal line ++ codes "," ++ name_of op ++ codes "," ++ decimal sector ++ codes "," ++ answer ++ codes "\n"
 
 -- the line of the command at a place: it answers at the history before it. Lines count from 1
 abbrev pub line_at : List ℕ → ℕ → (ℕ → Bool) → List Command → ℕ → List ℕ
 line_at refusal sectors refused commands k =
-  at_place commands k (λ command. line_text (k + 1) command.op command.sector (answer_of refusal (refused k) command.op (held sectors (history_before refused commands k) command.sector)))
+    at_place commands k (λ command. line_text (k + 1) command.op command.sector (answer_of refusal (refused k) command.op (held sectors (history_before refused commands k) command.sector)))
 
 -- the text of the first lines
 abbrev pub lines_before : List ℕ → ℕ → (ℕ → Bool) → List Command → ℕ → List ℕ

@@ -10,12 +10,12 @@ use Rattle.player.specs.declared.command_line.TheConstants.{LUNS, BLOCKS, PAGES,
 -- an option: its name behind two dashes, and one whole number of 32 bits, with a default
 abbrev pub option_rule : Text → Text → Rule
 option_rule name default =
-  record (new_rule name) { long = Some name; value_names = 1; defaults = default ∷ []; parser = Some (parser.Signed (pos 0) (pos 4294967295)) }
+    record (new_rule name) { long = Some name; value_names = 1; defaults = default ∷ []; parser = Some (parser.Signed (pos 0) (pos 4294967295)) }
 
 -- the program's command line
 abbrev pub flashplay : App
 flashplay =
-  with_rule (with_rule (with_rule (with_rule (with_rule (with_rule (new_app (codes "flashplay"))
+    with_rule (with_rule (with_rule (with_rule (with_rule (with_rule (new_app (codes "flashplay"))
     (option_rule (codes "luns") (codes "1")))
     (option_rule (codes "blocks") (codes "64")))
     (option_rule (codes "pages") (codes "64")))
@@ -38,7 +38,7 @@ WritesNumber text = IsNumeral 10 (without_leading_plus text) × (digits_value 10
 -- the number that a text writes, or the default where it writes none
 abbrev pub IsNumberIn : Text → ℕ → ℕ → Type 0
 IsNumberIn text default number =
-  (WritesNumber text × (number ≡ digits_value 10 (without_leading_plus text))) ⊎ (¬ WritesNumber text × (number ≡ default))
+    (WritesNumber text × (number ≡ digits_value 10 (without_leading_plus text))) ⊎ (¬ WritesNumber text × (number ≡ default))
 
 -- the number that the matches give to an option, or its default where they give none
 abbrev pub IsNumberOf : List Row → Text → ℕ → ℕ → Type 0

@@ -21,7 +21,7 @@ pub record ExplainsTrace (found : TraceFault) (geo : Geometry) (input_old input_
 -- written, and that is a beginning of the text
 abbrev pub ExplainsRun : RunFault → Geometry → Stream → Stream → Stream → Stream → Type 0
 ExplainsRun (run.Trace found) geo input_old input_new output_old output_new =
-  ExplainsTrace found geo input_old input_new × (output_new ≡ output_old)
+    ExplainsTrace found geo input_old input_new × (output_new ≡ output_old)
 ExplainsRun run.Memory geo input_old input_new output_old output_new = output_new ≡ output_old
 ExplainsRun run.Output geo input_old input_new output_old output_new =
-  (output_new.failures ≢ output_old.failures) × IfSome input_old.bytes (λ bytes. AppendsPart geo bytes output_old.bytes output_new.bytes)
+    (output_new.failures ≢ output_old.failures) × IfSome input_old.bytes (λ bytes. AppendsPart geo bytes output_old.bytes output_new.bytes)

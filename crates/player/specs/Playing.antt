@@ -37,7 +37,7 @@ refused_at geo commands k = option_map_or (is_refused geo (stock_before geo comm
 -- the last line: the totals of the stock
 abbrev pub totals_text : ℕ → ℕ → ℕ → List ℕ
 totals_text programs copies erases =
-  codes "end," ++ decimal programs ++ codes "," ++ decimal copies ++ codes "," ++ decimal erases ++ codes "\n"
+    codes "end," ++ decimal programs ++ codes "," ++ decimal copies ++ codes "," ++ decimal erases ++ codes "\n"
 
 abbrev pub end_text : Stock → List ℕ
 end_text stock = totals_text stock.programs stock.copies stock.erases
@@ -45,7 +45,7 @@ end_text stock = totals_text stock.programs stock.copies stock.erases
 -- the whole text of a run: the answers of all commands, and the totals after the last
 abbrev pub text_of_commands : Geometry → List Command → List ℕ
 text_of_commands geo commands =
-  answers (codes "worn") (sectors_of geo) (refused_at geo commands) commands ++ end_text (stock_before geo commands (length commands))
+    answers (codes "worn") (sectors_of geo) (refused_at geo commands) commands ++ end_text (stock_before geo commands (length commands))
 
 -- the text of the commands that these bytes mean
 pub record IsTextOf (geo : Geometry) (bytes text : List ℕ) : Type 0 where

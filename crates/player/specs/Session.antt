@@ -73,17 +73,17 @@ pub record Stopped (words : List Text) (found : RunFault) (input_old input_new o
 -- why a session stopped. Nothing is on the output but after `Output` of a run and `Help`
 abbrev pub ExplainsStop : Stop → List Text → Stream → Stream → Stream → Stream → Type 0
 ExplainsStop (stop.Arguments error) words input_old input_new output_old output_new =
-  IsAmong (kind_of error) (faults_given words) × (kind_of error ≢ kind.DisplayHelp) × (output_new ≡ output_old)
+    IsAmong (kind_of error) (faults_given words) × (kind_of error ≢ kind.DisplayHelp) × (output_new ≡ output_old)
 ExplainsStop (stop.Geometry found) words input_old input_new output_old output_new = DescribesNone words found × (output_new ≡ output_old)
 ExplainsStop (stop.Run found) words input_old input_new output_old output_new = Stopped words found input_old input_new output_old output_new
 ExplainsStop stop.Help words input_old input_new output_old output_new =
-  IsAmong kind.DisplayHelp (faults_given words) × (output_new.failures ≢ output_old.failures)
+    IsAmong kind.DisplayHelp (faults_given words) × (output_new.failures ≢ output_old.failures)
 ExplainsStop stop.Memory words input_old input_new output_old output_new = output_new ≡ output_old
 
 -- how an attempt ended
 abbrev pub Explains : Result (Unit {0}) Stop → List Text → Stream → Stream → Stream → Stream → Type 0
 Explains (Ok _) words input_old input_new output_old output_new =
-  Played words input_old input_new output_old output_new ⊎ Helped words output_old output_new
+    Played words input_old input_new output_old output_new ⊎ Helped words output_old output_new
 Explains (Err why) words input_old input_new output_old output_new = ExplainsStop why words input_old input_new output_old output_new
 
 -- the exit status
@@ -100,11 +100,11 @@ pub record EndsSession (status : ℕ) (words : List Text) (input_old input_new o
 -- what comes of the words that clap refused with an error: the help is written, and every other text is told elsewhere
 abbrev pub AnswersClap : Error → Result (Unit {0}) Stop → Stream → Stream → Type 0
 AnswersClap error (Ok _) output_old output_new =
-  (kind_of error ≡ kind.DisplayHelp) × (text : List ℕ) × Appends output_old.bytes output_new.bytes text
+    (kind_of error ≡ kind.DisplayHelp) × (text : List ℕ) × Appends output_old.bytes output_new.bytes text
 AnswersClap error (Err (stop.Arguments told)) output_old output_new =
-  (told ≡ error) × (kind_of error ≢ kind.OutOfMemory) × (kind_of error ≢ kind.DisplayHelp) × (output_new ≡ output_old)
+    (told ≡ error) × (kind_of error ≢ kind.OutOfMemory) × (kind_of error ≢ kind.DisplayHelp) × (output_new ≡ output_old)
 AnswersClap error (Err (stop.Geometry found)) output_old output_new = ⊥
 AnswersClap error (Err (stop.Run found)) output_old output_new = ⊥
 AnswersClap error (Err stop.Help) output_old output_new =
-  (kind_of error ≡ kind.DisplayHelp) × (output_new.failures ≢ output_old.failures)
+    (kind_of error ≡ kind.DisplayHelp) × (output_new.failures ≢ output_old.failures)
 AnswersClap error (Err stop.Memory) output_old output_new = output_new ≡ output_old

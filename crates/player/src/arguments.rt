@@ -34,11 +34,41 @@ fn flashplay<'a>(alloc: Global) -> Result<Command<'a>, AllocError>
         "Plays a trace on a page-mapped flash layer: the trace comes from standard input, its answers go to standard output.",
     );
     let command = with(alloc, command, "luns", "1", "LUNs, from 1 to 8")?;
-    let command = with(alloc, command, "blocks", "64", "Blocks over all LUNs, from 3 to 4096, a multiple of the LUNs")?;
-    let command = with(alloc, command, "pages", "64", "Pages of a block, from 1 to 1024")?;
-    let command = with(alloc, command, "words", "64", "64-bit words of a page, from 1 to 512")?;
-    let command = with(alloc, command, "sectors", "3072", "Sectors of one page each, from 1 to 1048576")?;
-    with(alloc, command, "endurance", "1000", "Erase cycles of a block, from 1 to 1000000; the last one fails")
+    let command = with(
+        alloc,
+        command,
+        "blocks",
+        "64",
+        "Blocks over all LUNs, from 3 to 4096, a multiple of the LUNs",
+    )?;
+    let command = with(
+        alloc,
+        command,
+        "pages",
+        "64",
+        "Pages of a block, from 1 to 1024",
+    )?;
+    let command = with(
+        alloc,
+        command,
+        "words",
+        "64",
+        "64-bit words of a page, from 1 to 512",
+    )?;
+    let command = with(
+        alloc,
+        command,
+        "sectors",
+        "3072",
+        "Sectors of one page each, from 1 to 1048576",
+    )?;
+    with(
+        alloc,
+        command,
+        "endurance",
+        "1000",
+        "Erase cycles of a block, from 1 to 1000000; the last one fails",
+    )
 }
 
 // The command with one option more, of one whole number.

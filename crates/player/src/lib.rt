@@ -19,3 +19,6 @@ pub use one_thread::run;
 pub use sessions::session;
 pub use stop::Stop;
 pub use trace::{TraceFault, TraceFaultKind, Watched};
+
+#[cfg(test)]
+mod tests;

@@ -1,8 +1,6 @@
-ghost use Rattle.std.specs.Prelude.{◌≡◌, ◌≤◌, ◌^◌, ◌<◌, [], ◌∷◌, ◌++◌, length, IfOk, IfErr, IfSome, MatchBool, MatchResult, OnOk};
+ghost use Rattle.std.specs.Prelude.{◌≡◌, IfOk, IfErr, MatchBool, OnOk};
 ghost use Rattle.std.specs.Bool.{OnTrue};
 ghost use Rattle.csv.specs.Records.{fields_of};
-ghost use Rattle.geometry.specs.Geometry.{page_bytes_of};
-ghost use Rattle.trace.specs.Page.{page_with};
 ghost use Rattle.trace.specs.Parsing.{Adds, MakesPage, RefusesBy, fault_at, fault_of_hex, page_len};
 ghost use Rattle.trace.specs.Trace.{AreCommands, IsFirstFault, checked, command_of, commands_of, is_of_record, number_below, op_of, page_of, whole_fault, workers_of};
 ghost use Rattle.trace.specs.declared.fault.TraceFaultKind.TheVariants.{Memory};

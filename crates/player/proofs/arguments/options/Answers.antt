@@ -11,7 +11,7 @@ pub returns-clause-numbers : goal.returns-clause-numbers
 returns-clause-numbers c =
     let words : List Text = map (λ w. w.now) c.args.words.now in
     let rows : rows_of (found_of c.in-Ok.matches) ≡ rows_given words =
-        rows_are (app_of c.in_ok-command.command) words c.in-Ok.matches c.in_ok-command.ensures c.in-Ok.ensures.matches in
+    rows_are (app_of c.in_ok-command.command) words c.in-Ok.matches c.in_ok-command.ensures c.in-Ok.ensures.matches in
     record {
       luns = subst (λ (r : List Row). IsNumberOf r (codes "luns") LUNS c.number.result) rows c.number.ensures;
       blocks = subst (λ (r : List Row). IsNumberOf r (codes "blocks") BLOCKS c.number-2.result) rows c.number-2.ensures;

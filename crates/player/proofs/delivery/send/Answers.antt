@@ -10,6 +10,8 @@ pub loop-rest-preserved : goal.loop-rest-preserved
 loop-rest-preserved g c =
     let was = g.W.Write.contents (inner_of c.args.writer.now) in
     let now = g.W.Write.contents (inner_of c.write.new.self) in
-    let rest = c.loop-rest.rest.now in
-    (subst (λ waiting. IsUnderWay was now waiting c.args.bytes.now) (sym (take_rest rest c.in-Ok.taken))
-      (IsUnderWay-take was (g.W.Write.contents (inner_of c.loop-rest.writer)) now rest c.args.bytes.now c.in-Ok.taken c.loop-rest.invariant.0 c.in-Ok.ensures.bytes), grind (arith, nat_tests, c.in-Ok.ensures.count, c.loop-rest.invariant.1))
+    let rest = c.loop-rest.rest.now in (
+      subst (λ waiting. IsUnderWay was now waiting c.args.bytes.now) (sym (take_rest rest c.in-Ok.taken))
+          (IsUnderWay-take was (g.W.Write.contents (inner_of c.loop-rest.writer)) now rest c.args.bytes.now c.in-Ok.taken c.loop-rest.invariant.0 c.in-Ok.ensures.bytes),
+      grind (arith, nat_tests, c.in-Ok.ensures.count, c.loop-rest.invariant.1),
+    )

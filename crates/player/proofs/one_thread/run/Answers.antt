@@ -7,4 +7,4 @@ use Rattle.player.proofs.one_thread.run.Goals as goal
 pub play-requires-clause-playable : goal.play-requires-clause-playable
 play-requires-clause-playable g c =
     subst (λ geo. All (IsPlayable geo) c.in-Ok-parse.commands) (sym c.in-Ok-new.ensures.geometry)
-      (commands_are_playable c.args.geometry.now c.deref.result.now c.in-Ok-parse.commands c.in-Ok-parse.ensures.each)
+    (commands_are_playable c.args.geometry.now c.deref.result.now c.in-Ok-parse.commands c.in-Ok-parse.ensures.each)
