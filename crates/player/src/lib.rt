@@ -21,4 +21,6 @@ pub use stop::Stop;
 pub use trace::{TraceFault, TraceFaultKind, Watched};
 
 #[cfg(test)]
+mod caller;
+#[cfg(test)]
 mod tests;
