@@ -19,13 +19,13 @@ page_kept : (size q n : ℕ) (xs ys : List ℕ) (p : ℕ) → p < q → q * size
 page_kept size q n xs ys p below room =
     let ends : p * size + size ≤ q * size = page_ends size p q below in
     let kept : take (p * size + size) (put_mid (q * size) n xs ys) ≡ take (p * size + size) xs =
-        take-put_mid_below (q * size) n xs ys (p * size + size) (omega arith) (omega arith) in
+    take-put_mid_below (q * size) n xs ys (p * size + size) (omega arith) (omega arith) in
     sym (drop-take (p * size) size (put_mid (q * size) n xs ys)) ∙ (ap (drop (p * size)) kept ∙ drop-take (p * size) size xs)
 
 page_programmed : (size q n : ℕ) (xs ys : List ℕ) → n ≡ size → length ys ≡ size → q * size + size ≤ length xs → page_at size (put_mid (q * size) n xs ys) q ≡ ys
 page_programmed size q n xs ys is_size len room =
     let front : take (q * size + size) (put_mid (q * size) n xs ys) ≡ take (q * size) xs ++ ys =
-        take-put_mid (q * size) n xs ys (q * size + size) (omega arith) (omega arith) in
+    take-put_mid (q * size) n xs ys (q * size + size) (omega arith) (omega arith) in
     sym (drop-take (q * size) size (put_mid (q * size) n xs ys)) ∙ (ap (drop (q * size)) front ∙ drop_at (take (q * size) xs) ys (q * size) (length-take-le (q * size) xs (omega arith)))
 
 others_kept : (size q n : ℕ) (xs ys : List ℕ) (current : List (Option ℕ)) → AreProgrammed q current → q * size + size ≤ length xs → sectors_in size (put_mid (q * size) n xs ys) current ≡ sectors_in size xs current

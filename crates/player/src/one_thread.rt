@@ -47,6 +47,7 @@ pub fn run<R: Read, W: Write>(
         Ok(commands) => commands,
         Err(fault) => return Err(RunFault::Trace(fault)),
     };
+    drop(text);
     let Ok(mut ftl) = OneFtl::new(alloc, geometry) else {
         return Err(RunFault::Memory);
     };

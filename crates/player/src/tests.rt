@@ -118,6 +118,153 @@ fn the_worked_rows_answer_as_written(rt: HostRuntime) -> Result<(), Fail> {
 }
 
 #[test]
+fn each_faulty_record_is_named(rt: HostRuntime) -> Result<(), Fail> {
+    let rows: [Row; 14] = [
+        ("three fields", b"0,read,2", 3, b"", b"line 1: Fields\n"),
+        ("five fields", b"0,read,2,,", 3, b"", b"line 1: Fields\n"),
+        (
+            "a worker too many",
+            b"500,read,0,",
+            3,
+            b"",
+            b"line 1: Worker\n",
+        ),
+        (
+            "a worker that is no number",
+            b"x,read,0,",
+            3,
+            b"",
+            b"line 1: Worker\n",
+        ),
+        (
+            "a space before a worker",
+            b" 0,read,0,",
+            3,
+            b"",
+            b"line 1: Worker\n",
+        ),
+        ("an op in upper case", b"0,READ,0,", 3, b"", b"line 1: Op\n"),
+        (
+            "a negative sector",
+            b"0,read,-1,",
+            3,
+            b"",
+            b"line 1: Sector\n",
+        ),
+        (
+            "a sector too many",
+            b"0,read,3,",
+            3,
+            b"",
+            b"line 1: Sector\n",
+        ),
+        ("one digit", b"0,write,0,4", 3, b"", b"line 1: Hex\n"),
+        ("no digit", b"0,write,0,4g", 3, b"", b"line 1: Hex\n"),
+        (
+            "nine bytes",
+            b"0,write,0,010203040506070809",
+            3,
+            b"",
+            b"line 1: TooLong\n",
+        ),
+        (
+            "data of a read",
+            b"0,read,0,41",
+            3,
+            b"",
+            b"line 1: Unused\n",
+        ),
+        (
+            "a meeting of one worker",
+            b"1,meet,0,",
+            3,
+            b"",
+            b"line 1: Unused\n",
+        ),
+        (
+            "a meeting at a sector",
+            b"0,meet,1,",
+            3,
+            b"",
+            b"line 1: Unused\n",
+        ),
+    ];
+    check(&rt, rows.as_slice());
+    Ok(())
+}
+
+#[test]
+fn a_trace_is_read_as_csv(rt: HostRuntime) -> Result<(), Fail> {
+    let rows: [Row; 9] = [
+        (
+            "leading zeros and quotes",
+            b"007,\"read\",002,",
+            0,
+            b"1,read,2,empty\nend,0,0,0\n",
+            b"",
+        ),
+        (
+            "digits of either case",
+            b"0,write,0,aBcD\n0,read,0,",
+            0,
+            b"1,write,0,empty\n2,read,0,abcd000000000000\nend,1,0,0\n",
+            b"",
+        ),
+        (
+            "a doubled quote",
+            b"0,\"re\"\"ad\",0,",
+            3,
+            b"",
+            b"line 1: Op\n",
+        ),
+        (
+            "lines that end as elsewhere",
+            b"0,read,0,\r\n0,read,1,\r\n",
+            0,
+            b"1,read,0,empty\n2,read,1,empty\nend,0,0,0\n",
+            b"",
+        ),
+        (
+            "empty lines are no records",
+            b"\n0,read,0,\n\n\n0,read,9,\n",
+            3,
+            b"",
+            b"line 2: Sector\n",
+        ),
+        (
+            "a byte order mark",
+            b"\xef\xbb\xbf0,read,0,\n",
+            0,
+            b"1,read,0,empty\nend,0,0,0\n",
+            b"",
+        ),
+        (
+            "a byte order mark inside",
+            b"0,read,0,\n\xef\xbb\xbf0,read,0,\n",
+            3,
+            b"",
+            b"line 2: Worker\n",
+        ),
+        (
+            "an open quote at the end",
+            b"0,write,0,\"41",
+            0,
+            b"1,write,0,empty\nend,1,0,0\n",
+            b"",
+        ),
+        (
+            "the first of two faults",
+            b"0,read,9,\n0,READ,0,\n",
+            3,
+            b"",
+            b"line 1: Sector\n",
+        ),
+    ];
+    check(&rt, rows.as_slice());
+    Ok(())
+}
+
+#[test]
 fn a_faulty_geometry_is_named(rt: HostRuntime) -> Result<(), Fail> {
     let words = [
         "flashplay",

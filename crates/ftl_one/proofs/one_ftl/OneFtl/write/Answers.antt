@@ -19,6 +19,6 @@ returns-clause-array c =
     let whole = put_mid (ftl.programs * c.page_bytes-size.result) (ftl.programs * c.page_bytes-size.result + c.page_bytes-size.result - ftl.programs * c.page_bytes-size.result) c.deref_mut.result.now c.copy_from_slice.new.self in
     ap (λ store. sectors_in size store (set ftl.current.items c.args.sector c.replace.new.self)) (take_at whole _ (vec_len ftl.store) (length-put_mid (ftl.programs * c.page_bytes-size.result) (ftl.programs * c.page_bytes-size.result + c.page_bytes-size.result - ftl.programs * c.page_bytes-size.result) c.deref_mut.result.now c.copy_from_slice.new.self (omega (arith, ap length c.copy_from_slice.ensures.after)) (omega arith) ∙ c.deref_mut.ensures.len)) ∙
     sectors_after_write_at size ftl.programs (ftl.programs * c.page_bytes-size.result) (ftl.programs * c.page_bytes-size.result + c.page_bytes-size.result - ftl.programs * c.page_bytes-size.result)
-        ftl.store.items c.deref_mut.result.now c.args.bytes.now c.copy_from_slice.new.self ftl.current.items c.args.sector c.replace.new.self
-        start_is c.deref_mut.ensures.value c.copy_from_slice.ensures.after c.replace.ensures.after
-        ftl.programmed (omega arith) c.requires.page (omega arith)
+    ftl.store.items c.deref_mut.result.now c.args.bytes.now c.copy_from_slice.new.self ftl.current.items c.args.sector c.replace.new.self
+    start_is c.deref_mut.ensures.value c.copy_from_slice.ensures.after c.replace.ensures.after
+    ftl.programmed (omega arith) c.requires.page (omega arith)
