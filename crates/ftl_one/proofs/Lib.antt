@@ -1,1 +1,11 @@
-mod PageLemmas
+pub mod Rows
+pub mod EntryLemmas
+pub mod MapLemmas
+pub mod StoreLemmas
+pub mod RelocateLemmas
+pub mod ClearLemmas
+pub mod BlocksLemmas
+pub mod LawfulLemmas
+pub mod FtlLemmas
+pub mod CollectLemmas
+pub mod NewLemmas

@@ -1,5 +1,8 @@
 -- What public contracts rest on.
 pub mod Stock
 pub mod OneFtl
--- Internal.
-pub mod Pages
+-- How the layer keeps its pages and roles: internal.
+pub mod Entries
+pub mod Store
+pub mod Lawful
+pub mod Blocks

@@ -2,6 +2,12 @@
 //! page-level baseline of Gupta, Kim and Urgaonkar, "DFTL" (ASPLOS 2009).
 #![tactic(auto)]
 
+mod copy;
 mod one_ftl;
+mod recount;
+mod role;
+mod roles;
+mod store;
 
 pub use one_ftl::{Counts, OneFtl, WornOut};
+pub use role::Role;

@@ -1,7 +1,14 @@
-ghost use Rattle.std.specs.Prelude.{◌≡◌, ℕ, [], ◌+◌, ◌-◌, ◌*◌, ◌^◌, ◌<◌, ◌≤◌, length, vec_len, IfOk, IfErr, OnErr, OnOk, Some, None};
-ghost use Rattle.geometry.specs.Geometry.{sectors_of as sector_count_of, blocks_of, pages_of, page_bytes_of, hosts_of};
+ghost use Rattle.std.specs.Prelude.{◌≡◌, ℕ, ◌+◌, ◌*◌, ◌<◌, ◌≤◌, length, map, sum_by, Option, None, Some};
+ghost use Rattle.geometry.specs.Geometry.{blocks_of, pages_of, page_bytes_of, endurance_of, sectors_of as sector_count_of, hosts_of};
+ghost use Rattle.ftl_one.specs.Store.{geometry_of as store_geometry_of, entries_of, retired_of};
+ghost use Rattle.ftl_one.specs.Stock.{is_closed};
+ghost use Rattle.ftl_one.specs.Lawful.{IsLawful, role_in};
+ghost use Rattle.ftl_one.specs.Blocks.{blocks_in, weight};
 
-use geometry::{Geometry, Got, Was};
+use crate::role::Role;
+use crate::roles::{assign, hand_over, lowest_free, spare_in};
+use crate::store::Store;
+use geometry::{Geometry, Got, Was, greedy};
 use std::alloc::{AllocError, Global};
 use thiserror::Error;
 
@@ -18,28 +25,28 @@ pub struct Counts {
     pub erases: u64,
 }
 
-/// The layer: pages are programmed in order, and each sector has its current page.
+/// The layer: each sector has its current page, and blocks are collected as pages run out.
 #[derive(Drop)]
 pub struct OneFtl {
-    geometry: Geometry,
-    store: Vec<u8>,
-    current: Vec<Option<u32>>,
-    programs: u32,
-    ghost room: { programs ≤ room_of geometry },
-    ghost store_len: { vec_len store ≡ room_of geometry * page_bytes_of geometry },
-    ghost current_len: { vec_len current ≡ sector_count_of geometry },
-    ghost programmed: { AreProgrammed programs current.items },
+    store: Store,
+    roles: Vec<Role>,
+    // Which blocks are closed, for the choice of a victim.
+    closed: Vec<bool>,
+    open_block: Option<u32>,
+    counts: Counts,
+    ghost one_thread: { hosts_of (store_geometry_of store) ≡ 0 },
+    ghost roles_sized: { length roles.items ≡ blocks_of (store_geometry_of store) },
+    ghost closed_marks: { closed.items ≡ map is_closed roles.items },
+    ghost lawful: { IsLawful (blocks_of (store_geometry_of store)) (pages_of (store_geometry_of store)) (λ b. length (entries_of store b)) (retired_of store) (role_in roles.items) open_block },
+    ghost bounded: { counts.programs + counts.copies + counts.erases ≤ sum_by (weight (pages_of (store_geometry_of store))) (blocks_in store roles.items) },
 }
 
-ghost use Rattle.ftl_one.specs.Stock.{room_of};
-ghost use Rattle.ftl_one.specs.Pages.{AreProgrammed};
-
 impl OneFtl {
-    ghost use Rattle.std.specs.Prelude.{replicate};
+    ghost use Rattle.std.specs.Prelude.{[], IfOk, IfSome, IfNone, OnOk, OnErr, ◌^◌};
     ghost use Rattle.geometry.specs.Sectors.{sector_at, was_of, Answers};
     ghost use Rattle.geometry.specs.History.{Write, Trim, step, after};
     ghost use Rattle.ftl_one.specs.OneFtl.{geometry_of, sectors_of, stock_of};
-    ghost use Rattle.ftl_one.specs.Stock.{next, opening};
+    ghost use Rattle.ftl_one.specs.Stock.{Stock, next, opening, opened, open_of, free_of, spare_of, victim_of, ready, collect, write_of};
 
     /// A layer with every sector empty.
     pub fn new(alloc: Global, geometry: &Geometry) -> Result<OneFtl, AllocError>
@@ -48,14 +55,21 @@ impl OneFtl {
         ensures empty { IfOk result (λ ftl. sectors_of ftl ≡ after (sector_count_of geometry.now) []) }
         ensures stock { IfOk result (λ ftl. stock_of ftl ≡ opening geometry.now) }
     {
-        let room = (geometry.blocks() as usize - 1) * geometry.pages() as usize;
-        let store = vec![in alloc; 0xff; room * geometry.page_bytes()]?;
-        let current = vec![in alloc; None; geometry.sectors() as usize]?;
+        let blocks = geometry.blocks() as usize;
+        let store = Store::new(alloc, geometry)?;
+        let mut roles = vec![in alloc; Role::Free; blocks]?;
+        roles[blocks - 1] = Role::Spare;
+        let closed = vec![in alloc; false; blocks]?;
         Ok(OneFtl {
-            geometry: *geometry,
             store,
-            current,
-            programs: 0,
+            roles,
+            closed,
+            open_block: None,
+            counts: Counts {
+                programs: 0,
+                copies: 0,
+                erases: 0,
+            },
         })
     }
 
@@ -65,15 +79,7 @@ impl OneFtl {
         requires page { length out.old ≡ page_bytes_of (geometry_of self.now) }
         ensures { Answers (sector_at (sectors_of self.now) sector) result out.old out.new }
     {
-        match self.current[sector as usize] {
-            None => Got::Empty,
-            Some(page) => {
-                let size = self.geometry.page_bytes();
-                let start = page as usize * size;
-                out.copy_from_slice(&self.store[start..start + size]);
-                Got::Data
-            }
-        }
+        self.store.read(sector, out)
     }
 
     /// Writes a sector, and answers what it was.
@@ -90,19 +96,10 @@ impl OneFtl {
         ensures same_array { OnErr result (sectors_of self.new ≡ sectors_of self.old) }
         ensures same_stock { OnErr result (stock_of self.new ≡ stock_of self.old) }
     {
-        let room = (self.geometry.blocks() - 1) * self.geometry.pages();
-        if self.programs >= room {
+        let Some(block) = self.make_ready() else {
             return Err(WornOut);
-        }
-        let size = self.geometry.page_bytes();
-        let start = self.programs as usize * size;
-        self.store[start..start + size].copy_from_slice(bytes);
-        let was = match self.current[sector as usize].replace(self.programs) {
-            None => Was::Empty,
-            Some(_) => Was::Written,
         };
-        self.programs += 1;
-        Ok(was)
+        Ok(self.write_into(block, sector, bytes))
     }
 
     /// Empties a sector, and answers what it was.
@@ -113,11 +110,7 @@ impl OneFtl {
         ensures array { sectors_of self.new ≡ step (sectors_of self.old) (Trim 0 sector) }
         ensures stock { next (geometry_of self.old) (stock_of self.old) (Trim 0 sector) ≡ Some (stock_of self.new) }
     {
-        let entry = &mut self.current[sector as usize];
-        match entry.take() {
-            None => Was::Empty,
-            Some(_) => Was::Written,
-        }
+        self.store.forget(sector)
     }
 
     /// What the layer has done so far.
@@ -126,10 +119,82 @@ impl OneFtl {
         ensures copies { result.copies ≡ (stock_of self.now).copies }
         ensures erases { result.erases ≡ (stock_of self.now).erases }
     {
-        Counts {
-            programs: u64::from(self.programs),
-            copies: 0,
-            erases: 0,
+        self.counts
+    }
+
+    // The open block: the one that there is, or the lowest free block, or the spare after a collection.
+    fn make_ready(&mut self) -> Option<u32>
+        ensures geometry { geometry_of self.new ≡ geometry_of self.old }
+        ensures sectors { sectors_of self.new ≡ sectors_of self.old }
+        ensures ready { IfSome result (λ block. ready (endurance_of (geometry_of self.old)) (stock_of self.old) ≡ Some (stock_of self.new)) }
+        ensures opened { IfSome result (λ block. open_of (stock_of self.new).blocks ≡ Some block) }
+        ensures none { IfNone result (ready (endurance_of (geometry_of self.old)) (stock_of self.old) ≡ None) }
+        ensures same { IfNone result (stock_of self.new ≡ stock_of self.old) }
+    {
+        if let Some(block) = self.open_block {
+            return Some(block);
         }
+        if let Some(block) = lowest_free(&self.roles) {
+            let block = block as u32;
+            self.open(block);
+            return Some(block);
+        }
+        let spare = spare_in(&self.roles)? as u32;
+        self.collect(spare);
+        Some(spare)
+    }
+
+    // Opens a free block.
+    fn open(&mut self, block: u32)
+        requires none { open_of (stock_of self.old).blocks ≡ None }
+        requires free { free_of (stock_of self.old).blocks ≡ Some block }
+        ensures geometry { geometry_of self.new ≡ geometry_of self.old }
+        ensures sectors { sectors_of self.new ≡ sectors_of self.old }
+        ensures stock { stock_of self.new ≡ opened (stock_of self.old) block }
+        ensures opened { open_of (stock_of self.new).blocks ≡ Some block }
+    {
+        assign(&mut self.roles, &mut self.closed, block, Role::Open);
+        self.open_block = Some(block);
+    }
+
+    // Copies the greedy victim's live pages into the spare, which is the open block then, and erases it.
+    fn collect(&mut self, spare: u32)
+        requires none { open_of (stock_of self.old).blocks ≡ None }
+        requires no_free { free_of (stock_of self.old).blocks ≡ None }
+        requires spare { spare_of (stock_of self.old).blocks ≡ Some spare }
+        ensures geometry { geometry_of self.new ≡ geometry_of self.old }
+        ensures sectors { sectors_of self.new ≡ sectors_of self.old }
+        ensures stock { collect (endurance_of (geometry_of self.old)) (stock_of self.old) spare (victim_of (stock_of self.old).blocks) ≡ Some (stock_of self.new) }
+        ensures opened { open_of (stock_of self.new).blocks ≡ Some spare }
+    {
+        let Some(victim) = greedy(self.store.live(), &self.closed) else {
+            unreachable!()
+        };
+        let victim = victim as u32;
+        let copies = self.store.clear(victim, spare);
+        let failed = self.store.erase(victim);
+        self.counts.copies += u64::from(copies);
+        self.counts.erases += 1;
+        hand_over(&mut self.roles, &mut self.closed, spare, victim, failed);
+        self.open_block = Some(spare);
+    }
+
+    // Programs the open block's next page for a sector, and closes the block if it is full then.
+    fn write_into(&mut self, block: u32, sector: u32, bytes: &[u8]) -> Was
+        requires opened { open_of (stock_of self.old).blocks ≡ Some block }
+        requires sector { sector < sector_count_of (geometry_of self.old) }
+        requires page { length bytes.now ≡ page_bytes_of (geometry_of self.old) }
+        ensures geometry { geometry_of self.new ≡ geometry_of self.old }
+        ensures answer { result ≡ was_of (sector_at (sectors_of self.old) sector) }
+        ensures array { sectors_of self.new ≡ step (sectors_of self.old) (Write 0 sector bytes.now) }
+        ensures stock { write_of (pages_of (geometry_of self.old)) sector (stock_of self.old) ≡ Some (stock_of self.new) }
+    {
+        let was = self.store.put(block, sector, bytes);
+        self.counts.programs += 1;
+        if self.store.is_full(block) {
+            assign(&mut self.roles, &mut self.closed, block, Role::Closed);
+            self.open_block = None;
+        }
+        was
     }
 }

@@ -4,3 +4,4 @@ pub mod History
 pub mod Limits
 pub mod Geometry
 pub mod PageBytes
+pub mod Greedy

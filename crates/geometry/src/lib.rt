@@ -8,6 +8,7 @@ mod geometry;
 mod limits;
 mod page_addr;
 mod page_bytes;
+mod victim;
 
 pub use answer::{Got, Was};
 pub use fault::GeometryFault;
@@ -18,6 +19,7 @@ pub use limits::{
 };
 pub use page_addr::PageAddr;
 pub use page_bytes::{put_word, word_at};
+pub use victim::greedy;
 
 #[cfg(test)]
 mod tests;

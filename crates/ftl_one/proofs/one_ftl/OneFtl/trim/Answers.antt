@@ -1,21 +1,64 @@
-use Rattle.std.proofs.Common.{None, ◌∙◌, ap}
-use Rattle.std.proofs.Math.ListN.{set}
-use Rattle.std.proofs.lemmas.List.{map-set}
-use Rattle.std.specs.Prelude.{option_map}
-use Rattle.ftl_one.specs.Pages.{page_at, sectors_in}
-use Rattle.geometry.specs.Geometry.{page_bytes_of}
+use Rattle.std.proofs.Common.{◌≡◌, ◌≢◌, ◌⊎◌, inl, inr, ◌∙◌, ℕ, ◌+◌, ◌-◌, ◌*◌, ◌<◌, ◌≤◌, ◌^◌, Bool, true, false, cond, eqb, List, [], ◌∷◌, ◌++◌, length, get_or, set, map, sum_by, replicate, Option, None, Some, sym, ap, refl, subst, arith, length-set, get_or-set_same, get_or-set_other}
+use Rattle.std.specs.Vec.{with_items, vec_len}
+use Rattle.std.specs.List.{position}
+use Rattle.std.proofs.lemmas.List.{with_items_is, length-map, map-set}
+use Rattle.geometry.specs.declared.geometry.Geometry.{Geometry}
+use Rattle.geometry.specs.Geometry.{blocks_of, pages_of, page_bytes_of, endurance_of, sectors_of as sector_count_of, hosts_of}
+use Rattle.geometry.specs.History.{step, Write, Trim, after}
+use Rattle.ftl_one.specs.declared.role.Role.{Role}
+use Rattle.ftl_one.specs.declared.role.Role.TheVariants.{Free, Open, Closed, Spare, Retired}
+use Rattle.ftl_one.specs.declared.store.Store.{Store}
+use Rattle.ftl_one.specs.declared.one_ftl.OneFtl.{OneFtl}
+use Rattle.ftl_one.specs.Stock.{Stock, Block, is_free, is_open, is_spare, is_closed, open_of, free_of, spare_of, victim_of, next, next_of, opening, opening_of, opened, ready, ready_by, write_of, write_into, collect, forget, change_at, unused, with_page, closed_if_full}
+use Rattle.ftl_one.specs.Store as pages
+use Rattle.ftl_one.specs.Lawful.{IsLawful, role_in}
+use Rattle.ftl_one.specs.Blocks.{block_in, blocks_in, weight}
+use Rattle.ftl_one.specs.OneFtl.{geometry_of, sectors_of, stock_of}
+use Rattle.ftl_one.proofs.LawfulLemmas.{lawful-same, lawful-open, lawful-put, lawful-close, lawful-collect, inside}
+use Rattle.ftl_one.proofs.FtlLemmas.{free_by, open_by, closed_by, spare_by, none_found, open_of-stock, free_of-stock, spare_of-stock, victim_of-stock, blocks-forget, blocks-put, blocks-role, blocks-collect, weight-forget, weight-put, weight-role, weight-collect}
+use Rattle.ftl_one.specs.Stock.{Entry, forgotten}
 use Rattle.ftl_one.proofs.one_ftl.OneFtl.trim.Goals as goal
 
-pub returns-in-None-clause-array : goal.returns-in-None-clause-array
-returns-in-None-clause-array c =
-    let size = page_bytes_of c.args.self.now.geometry in
-    let store = c.args.self.now.store.items in
-    let current = c.args.self.now.current.items in
-    ap (λ entry. sectors_in size store (set current c.args.sector entry)) c.take.ensures.after ∙ map-set (option_map (page_at size store)) current c.args.sector None
+pub forget-requires : goal.forget-requires
+unfolding geometry_of
+forget-requires c = c.requires.sector
 
-pub returns-in-Some-clause-array : goal.returns-in-Some-clause-array
-returns-in-Some-clause-array c =
-    let size = page_bytes_of c.args.self.now.geometry in
-    let store = c.args.self.now.store.items in
-    let current = c.args.self.now.current.items in
-    ap (λ entry. sectors_in size store (set current c.args.sector entry)) c.take.ensures.after ∙ map-set (option_map (page_at size store)) current c.args.sector None
+pub invariant_of-self : goal.invariant_of-self
+invariant_of-self c =
+    let f = c.args.self.now in
+    let s = c.forget.new.self in
+    let g = pages.geometry_of f.store in
+    let same = c.forget.ensures.keeps.geometry in
+    let blocks = blocks-forget f.store s f.roles.items c.args.sector f.roles_sized c.forget.ensures.entries c.forget.ensures.keeps in
+    let heavy : sum_by (weight (pages_of g)) (blocks_in s f.roles.items) ≡ sum_by (weight (pages_of g)) (blocks_in f.store f.roles.items) =
+      ap (sum_by (weight (pages_of g))) blocks ∙ weight-forget (pages_of g) c.args.sector (blocks_in f.store f.roles.items) in
+    let law = lawful-same (blocks_of g) (pages_of g) (λ b. length (pages.entries_of f.store b)) (pages.retired_of f.store) (role_in f.roles.items) f.open_block f.lawful (λ b. length (pages.entries_of s b)) (pages.retired_of s)
+      (λ b low. ap (λ (xs : List Entry). length xs) (c.forget.ensures.entries b low) ∙ length-map (pages.entries_of f.store b) (forgotten c.args.sector))
+      c.forget.ensures.keeps.retired in
+    record {
+      one_thread = ap hosts_of same ∙ f.one_thread;
+      roles_sized = f.roles_sized ∙ ap blocks_of (sym same);
+      closed_marks = f.closed_marks;
+      lawful = subst (λ (h : Geometry). IsLawful (blocks_of h) (pages_of h) (λ b. length (pages.entries_of s b)) (pages.retired_of s) (role_in f.roles.items) f.open_block) (sym same) law;
+      bounded = subst (λ (h : Geometry). f.counts.programs + f.counts.copies + f.counts.erases ≤ sum_by (weight (pages_of h)) (blocks_in s f.roles.items)) (sym same) (omega (arith, heavy, f.bounded))
+    }
+
+pub returns-clause-geometry : goal.returns-clause-geometry
+unfolding geometry_of
+returns-clause-geometry c = c.forget.ensures.keeps.geometry
+
+pub returns-clause-answer : goal.returns-clause-answer
+unfolding sectors_of
+returns-clause-answer c = c.forget.ensures.answer
+
+pub returns-clause-array : goal.returns-clause-array
+unfolding sectors_of
+returns-clause-array c = c.forget.ensures.sectors
+
+pub returns-clause-stock : goal.returns-clause-stock
+unfolding next stock_of
+returns-clause-stock c =
+    let f = c.args.self.now in
+    let s = c.forget.new.self in
+    let by : List Block → Stock = λ blocks. record { blocks = blocks; programs = f.counts.programs; copies = f.counts.copies; erases = f.counts.erases } in
+    ap (λ (blocks : List Block). Some (by blocks)) (sym (blocks-forget f.store s f.roles.items c.args.sector f.roles_sized c.forget.ensures.entries c.forget.ensures.keeps))

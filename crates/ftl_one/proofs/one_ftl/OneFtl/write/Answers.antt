@@ -1,24 +1,36 @@
-use Rattle.std.proofs.Common.{◌*◌, ◌+◌, ◌-◌, ◌≤◌, ◌<◌, ap, length, ◌∙◌, rules, arith}
-use borrow.Rule.Slice.PartMut.{put_mid}
-use Rattle.std.proofs.Math.ListN.{set}
-use Rattle.std.proofs.lemmas.List.{take_at}
-use Rattle.std.specs.Prelude.{vec_len}
-use Rattle.ftl_one.specs.Pages.{sectors_in}
-use Rattle.geometry.specs.Geometry.{page_bytes_of}
-use Rattle.ftl_one.specs.Stock.{room_of}
-use Rattle.ftl_one.proofs.PageLemmas.{sectors_after_write_at, page_ends, length-put_mid}
+use Rattle.std.proofs.Common.{◌≡◌, ◌≢◌, ◌⊎◌, inl, inr, ◌∙◌, ℕ, ◌+◌, ◌-◌, ◌*◌, ◌<◌, ◌≤◌, ◌^◌, Bool, true, false, cond, eqb, List, [], ◌∷◌, ◌++◌, length, get_or, set, map, sum_by, replicate, Option, None, Some, sym, ap, refl, subst, arith, length-set, get_or-set_same, get_or-set_other}
+use Rattle.std.specs.Vec.{with_items, vec_len}
+use Rattle.std.specs.List.{position}
+use Rattle.std.proofs.lemmas.List.{with_items_is, length-map, map-set}
+use Rattle.geometry.specs.declared.geometry.Geometry.{Geometry}
+use Rattle.geometry.specs.Geometry.{blocks_of, pages_of, page_bytes_of, endurance_of, sectors_of as sector_count_of, hosts_of}
+use Rattle.geometry.specs.History.{step, Write, Trim, after}
+use Rattle.ftl_one.specs.declared.role.Role.{Role}
+use Rattle.ftl_one.specs.declared.role.Role.TheVariants.{Free, Open, Closed, Spare, Retired}
+use Rattle.ftl_one.specs.declared.store.Store.{Store}
+use Rattle.ftl_one.specs.declared.one_ftl.OneFtl.{OneFtl}
+use Rattle.ftl_one.specs.Stock.{Stock, Block, is_free, is_open, is_spare, is_closed, open_of, free_of, spare_of, victim_of, next, next_of, opening, opening_of, opened, ready, ready_by, write_of, write_into, collect, forget, change_at, unused, with_page, closed_if_full}
+use Rattle.ftl_one.specs.Store as pages
+use Rattle.ftl_one.specs.Lawful.{IsLawful, role_in}
+use Rattle.ftl_one.specs.Blocks.{block_in, blocks_in, weight}
+use Rattle.ftl_one.specs.OneFtl.{geometry_of, sectors_of, stock_of}
+use Rattle.ftl_one.proofs.LawfulLemmas.{lawful-same, lawful-open, lawful-put, lawful-close, lawful-collect, inside}
+use Rattle.ftl_one.proofs.FtlLemmas.{free_by, open_by, closed_by, spare_by, none_found, open_of-stock, free_of-stock, spare_of-stock, victim_of-stock, blocks-forget, blocks-put, blocks-role, blocks-collect, weight-forget, weight-put, weight-role, weight-collect}
+use Rattle.std.specs.Option.{option_and_then}
 use Rattle.ftl_one.proofs.one_ftl.OneFtl.write.Goals as goal
 
-pub returns-clause-array : goal.returns-clause-array
-returns-clause-array c =
-    let ftl = c.args.self.now in
-    let size = page_bytes_of ftl.geometry in
-    let has_room : ftl.programs < room_of ftl.geometry = search rules in
-    let ends = page_ends size ftl.programs (room_of ftl.geometry) has_room in
-    let start_is = ap (λ n. ftl.programs * n) c.page_bytes-size.ensures in
-    let whole = put_mid (ftl.programs * c.page_bytes-size.result) (ftl.programs * c.page_bytes-size.result + c.page_bytes-size.result - ftl.programs * c.page_bytes-size.result) c.deref_mut.result.now c.copy_from_slice.new.self in
-    ap (λ store. sectors_in size store (set ftl.current.items c.args.sector c.replace.new.self)) (take_at whole _ (vec_len ftl.store) (length-put_mid (ftl.programs * c.page_bytes-size.result) (ftl.programs * c.page_bytes-size.result + c.page_bytes-size.result - ftl.programs * c.page_bytes-size.result) c.deref_mut.result.now c.copy_from_slice.new.self (omega (arith, ap length c.copy_from_slice.ensures.after)) (omega arith) ∙ c.deref_mut.ensures.len)) ∙
-    sectors_after_write_at size ftl.programs (ftl.programs * c.page_bytes-size.result) (ftl.programs * c.page_bytes-size.result + c.page_bytes-size.result - ftl.programs * c.page_bytes-size.result)
-    ftl.store.items c.deref_mut.result.now c.args.bytes.now c.copy_from_slice.new.self ftl.current.items c.args.sector c.replace.new.self
-    start_is c.deref_mut.ensures.value c.copy_from_slice.ensures.after c.replace.ensures.after
-    ftl.programmed (omega arith) c.requires.page (omega arith)
+-- a write that finds a block ready, and one that doesn't
+next_is : (g : Geometry) (k : Stock) (s : ℕ) (v : List ℕ) (r : Option Stock) → ready (endurance_of g) k ≡ r → next g k (Write 0 s v) ≡ option_and_then (write_of (pages_of g) s) r
+unfolding next
+next_is g k s v r e = ap (option_and_then (write_of (pages_of g) s)) e
+
+pub returns-in_default-clause-worn : goal.returns-in_default-clause-worn
+returns-in_default-clause-worn c =
+    next_is (geometry_of c.args.self.now) (stock_of c.args.self.now) c.args.sector c.args.bytes.now None c.in_default.ensures.none
+
+pub returns-clause-stock : goal.returns-clause-stock
+returns-clause-stock c =
+    let g = geometry_of c.args.self.now in
+    let mid = stock_of c.make_ready.new.self in
+    next_is g (stock_of c.args.self.now) c.args.sector c.args.bytes.now (Some mid) c.in-Some.ensures.ready
+      ∙ (ap (λ (h : Geometry). write_of (pages_of h) c.args.sector mid) (sym c.in-Some.ensures.geometry) ∙ c.write_into.ensures.stock)

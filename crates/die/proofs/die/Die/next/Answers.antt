@@ -1,0 +1,14 @@
+use Rattle.std.proofs.Common.{◌∙◌, sym, ap, ℕ, arith}
+use Rattle.die.specs.declared.block_state.BlockState.{BlockState}
+use Rattle.die.proofs.DieLemmas.{state_read, length-block, pages_within}
+use Rattle.die.proofs.die.Die.next.Goals as goal
+
+pub returns-clause-value : goal.returns-clause-value
+returns-clause-value c =
+    ap (λ (s : BlockState). s.next) (state_read c.args.self.now c.args.block c.index.result.now c.requires c.index.ensures)
+      ∙ sym (length-block c.args.self.now c.args.block)
+
+pub returns-clause-within : goal.returns-clause-within
+returns-clause-within c =
+    let s = state_read c.args.self.now c.args.block c.index.result.now c.requires c.index.ensures in
+    omega (arith, ap (λ (s : BlockState). s.next) s, (c.args.self.now.sound c.args.block c.requires).within)

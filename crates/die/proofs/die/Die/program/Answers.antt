@@ -1,0 +1,64 @@
+use Rattle.std.proofs.Common.{◌≡◌, ◌≢◌, ◌∙◌, ℕ, ◌+◌, ◌*◌, ◌<◌, ◌≤◌, List, length, get_or, set, sym, ap, refl, subst, arith, get_or-set_same, get_or-set_other, length-set}
+use Rattle.std.specs.Vec.{with_items, vec_len}
+use Rattle.std.proofs.lemmas.List.{with_items_is}
+use Rattle.std.proofs.Math.Nat.{mul-le-mul_right}
+use Rattle.geometry.specs.Geometry.{blocks_of, pages_of, page_bytes_of, endurance_of}
+use Rattle.die.specs.declared.block_state.BlockState.{BlockState}
+use Rattle.die.specs.Pages.{Page}
+use Rattle.die.specs.Slots.{PutsSlot}
+use Rattle.die.specs.Sound.{unused}
+use Rattle.die.proofs.BlockLemmas.{Adds, others-added, block-added}
+use Rattle.die.proofs.DieLemmas.{state_of, state_read, next-state, counted, sound-set, sound-counted, adds_page, changes_by_adding}
+use Rattle.die.proofs.die.Die.program.Goals as goal
+use Rattle.die.proofs.die.Die.program.Goals.{After-index_mut-2}
+
+pub put_page-requires : goal.put_page-requires
+put_page-requires c =
+    let d = c.args.self.now in
+    let g = d.geometry in
+    let place : c.place_of-place.result + 1 ≤ blocks_of g * pages_of g = omega (arith, c.place_of-place.ensures.within) in
+    let room : (c.place_of-place.result + 1) * page_bytes_of g ≤ blocks_of g * pages_of g * page_bytes_of g = mul-le-mul_right (page_bytes_of g) place in
+    omega (arith, room, c.requires.size, c.deref_mut.ensures.value, ap (λ (xs : List ℕ). length xs) c.deref_mut.ensures.value, d.bytes_sized, ap (λ (n : ℕ). (c.place_of-place.result + 1) * n) c.requires.size)
+
+the_state : (c : After-index_mut-2) → c.index_mut-2.result.now ≡ state_of c.args.self.now c.args.at.block
+the_state c = state_read c.args.self.now c.args.at.block c.index_mut-2.result.now c.requires.next.usable.within c.index_mut-2.ensures.value
+
+pub overflow_add-index_mut : goal.overflow_add-index_mut
+overflow_add-index_mut c =
+    let e = the_state (goal.at.overflow_add-index_mut c).After-index_mut-2 in
+    omega (arith, ap (λ (s : BlockState). s.next) e, next-state c.args.self.now c.args.at c.requires.next, c.requires.next.within, c.args.self.now.geometry.in_limits.pages_high)
+
+-- the place holds the bytes, and the other places what they held
+the_bytes : (c : After-index_mut-2) → ((with_items c.args.self.now.bytes c.put_page.new.bytes).items ≡ c.put_page.new.bytes) × PutsSlot (page_bytes_of c.args.self.now.geometry) c.args.self.now.bytes.items c.put_page.new.bytes c.place_of-place.result c.args.bytes.now
+the_bytes c =
+    let d = c.args.self.now in
+    let was = c.deref_mut.ensures.value in
+    let sized : length c.put_page.new.bytes ≡ vec_len d.bytes = omega (arith, c.put_page.ensures.size, ap (λ (xs : List ℕ). length xs) was, d.bytes.ok.0) in
+    let by_size = subst (λ (n : ℕ). PutsSlot n c.deref_mut.result.now c.put_page.new.bytes c.place_of-place.result c.args.bytes.now) c.requires.size c.put_page.ensures in
+    (with_items_is d.bytes c.put_page.new.bytes sized,
+     subst (λ (xs : List ℕ). PutsSlot (page_bytes_of d.geometry) xs c.put_page.new.bytes c.place_of-place.result c.args.bytes.now) was by_size)
+
+pub invariant_of-self : goal.invariant_of-self
+invariant_of-self c =
+    let at_end = (goal.at.invariant_of-self c).After-index_mut-2 in
+    let e = the_state at_end in
+    let d = c.args.self.now in
+    let b = the_bytes at_end in
+    let s = c.index_mut-2.result.now in
+    record {
+      bytes_sized = ap (λ (xs : List ℕ). length xs) b.0 ∙ (b.1.size ∙ d.bytes_sized);
+      stamps_sized = length-set d.stamps.items c.place_of-place.result c.from.result ∙ d.stamps_sized;
+      states_sized = length-set d.states.items c.args.at.block (counted s) ∙ d.states_sized;
+      sound = sound-set d c.args.at.block (counted s) c.requires.next.usable.within (sound-counted d c.args.at s c.requires.next e)
+    }
+
+pub returns-clause-changes : goal.returns-clause-changes
+returns-clause-changes c =
+    let at_end = (goal.at.returns-clause-changes c).After-index_mut-2 in
+    let e = the_state at_end in
+    let d = c.args.self.now in
+    let b = the_bytes at_end in
+    let page : Page = record { value = c.args.bytes.now; stamp = c.from.result } in
+    let puts = subst (λ (xs : List ℕ). PutsSlot (page_bytes_of d.geometry) d.bytes.items xs c.place_of-place.result c.args.bytes.now) (sym b.0) b.1 in
+    let adds = adds_page d c.args.at c.place_of-place.result page (with_items d.bytes c.put_page.new.bytes).items c.index_mut-2.result.now c.requires.next c.place_of-place.ensures.value puts e in
+    rw (← c.from.ensures) (changes_by_adding d _ c.args.at.block c.args.at.page page refl adds)

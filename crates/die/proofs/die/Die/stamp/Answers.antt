@@ -1,0 +1,24 @@
+use Rattle.std.proofs.Common.{◌≡◌, ◌∙◌, ℕ, ◌+◌, ◌*◌, get_or, ap, sym, arith}
+use Rattle.std.proofs.lemmas.List.{get_or_read}
+use Rattle.geometry.specs.Geometry.{pages_of, page_bytes_of}
+use Rattle.die.specs.Pages.{Page}
+use Rattle.die.specs.Storage.{stored}
+use Rattle.die.proofs.DieLemmas.{pages_within, page-stored}
+use Rattle.die.proofs.die.Die.stamp.Goals as goal
+
+pub place_of-requires-clause-page : goal.place_of-requires-clause-page
+place_of-requires-clause-page c =
+    omega (arith, c.requires.programmed, pages_within c.args.self.now c.args.at.block c.requires.usable.within)
+
+pub index-requires : goal.index-requires
+index-requires c =
+    let d = c.args.self.now in
+    omega (arith, c.place_of.ensures.within, d.stamps_sized, d.stamps.ok.0)
+
+pub returns : goal.returns
+unfolding stored
+returns c =
+    let d = c.args.self.now in
+    get_or_read d.stamps.items c.place_of.result c.index.result.now (omega (arith, c.place_of.ensures.within, d.stamps_sized)) c.index.ensures 0
+      ∙ (ap (λ (k : ℕ). get_or d.stamps.items k 0) c.place_of.ensures.value
+      ∙ ap (λ (p : Page). p.stamp) (sym (page-stored d c.args.at.block c.args.at.page c.requires.programmed)))

@@ -1,0 +1,7 @@
+-- What public contracts rest on.
+pub mod Pages
+pub mod Die
+-- How the die keeps its pages: internal.
+pub mod Slots
+pub mod Storage
+pub mod Sound

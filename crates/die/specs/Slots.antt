@@ -1,0 +1,12 @@
+-- The pages of all blocks one behind the other: of n bytes each, in one list of bytes.
+use Rattle.std.specs.Prelude.{◌≡◌, ℕ, ◌≢◌, ◌+◌, ◌*◌, ◌≤◌, List, length, take, drop}
+
+-- the bytes at a place
+unfoldable pub slot : ℕ → List ℕ → ℕ → List ℕ
+slot n bytes place = take n (drop (place * n) bytes)
+
+-- one place now holds this page, and each other place holds what it held
+pub record PutsSlot (n : ℕ) (old new : List ℕ) (place : ℕ) (page : List ℕ) : Type 0 where
+  pub size : length new ≡ length old
+  pub changed : slot n new place ≡ page
+  pub others : (k : ℕ) → k ≢ place → (k + 1) * n ≤ length old → slot n new k ≡ slot n old k

@@ -1,0 +1,8 @@
+/// What a die keeps of a block beside its pages.
+#[derive(Clone, Copy, Debug)]
+pub struct BlockState {
+    /// How many pages are programmed, which is also the page to be programmed next.
+    pub next: u32,
+    pub erases: u32,
+    pub retired: bool,
+}

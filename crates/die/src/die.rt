@@ -1,0 +1,173 @@
+ghost use Rattle.std.specs.Prelude.{◌≡◌, ℕ, ◌+◌, ◌*◌, ◌<◌, ◌≤◌, ◌↔◌, IsTrue, IfOk, length, vec_len, slice_index_or, if◌then◌else◌, ◌==◌};
+ghost use Rattle.geometry.specs.Geometry.{blocks_of, pages_of, page_bytes_of, endurance_of, lun_of};
+ghost use Rattle.die.specs.Sound.{IsSound, unused};
+
+use crate::block_state::BlockState;
+use crate::slots::{get_page, move_page, put_page};
+use geometry::{Geometry, PageAddr};
+use std::alloc::{AllocError, Global};
+
+/// A byte of an erased page.
+pub const ERASED_BYTE: u8 = 0xff;
+/// The stamp of an erased page.
+pub const ERASED_STAMP: u64 = u64::MAX;
+
+/// The dies of a device, as one row of blocks.
+#[derive(Debug, Drop)]
+pub struct Die {
+    geometry: Geometry,
+    // The main bytes of all pages, block by block.
+    bytes: Vec<u8>,
+    // The stamps of all pages, block by block.
+    stamps: Vec<u64>,
+    states: Vec<BlockState>,
+    ghost bytes_sized: { length bytes.items ≡ blocks_of geometry * pages_of geometry * page_bytes_of geometry },
+    ghost stamps_sized: { length stamps.items ≡ blocks_of geometry * pages_of geometry },
+    ghost states_sized: { length states.items ≡ blocks_of geometry },
+    ghost sound: { (b : ℕ) → b < blocks_of geometry → IsSound (pages_of geometry) (endurance_of geometry) (slice_index_or states.items b unused) },
+}
+
+impl Die {
+    ghost use Rattle.die.specs.Die.{geometry_of, block_of, ChangesBlock, IsUsable, IsNext, IsProgrammed, IsNew};
+    ghost use Rattle.die.specs.Pages.{page_at, programmed, erased};
+
+    /// A die whose blocks are all erased.
+    pub fn new(alloc: Global, geometry: &Geometry) -> Result<Die, AllocError>
+        ensures { IfOk result (λ die. IsNew die geometry.now) }
+    {
+        let geometry = *geometry;
+        let blocks = geometry.blocks() as usize;
+        let places = blocks * geometry.pages() as usize;
+        let unused = BlockState {
+            next: 0,
+            erases: 0,
+            retired: false,
+        };
+        Ok(Die {
+            geometry,
+            bytes: vec![in alloc; ERASED_BYTE; places * geometry.page_bytes()]?,
+            stamps: vec![in alloc; ERASED_STAMP; places]?,
+            states: vec![in alloc; unused; blocks]?,
+        })
+    }
+
+    /// The numbers that the die was made by.
+    pub fn geometry(&self) -> Geometry
+        ensures { result ≡ geometry_of self.now }
+    {
+        self.geometry
+    }
+
+    // Where a page stands in the storage.
+    fn place_of(&self, at: PageAddr) -> usize
+        requires block { at.block < blocks_of (geometry_of self.now) }
+        requires page { at.page < pages_of (geometry_of self.now) }
+        ensures value { result ≡ at.block * pages_of (geometry_of self.now) + at.page }
+        ensures within { result < blocks_of (geometry_of self.now) * pages_of (geometry_of self.now) }
+    {
+        at.block as usize * self.geometry.pages() as usize + at.page as usize
+    }
+
+    /// ONFI 4.0, Read: the main bytes into `out`, and the stamp. A page that isn't programmed shows
+    /// ones in every bit.
+    pub fn read(&self, at: PageAddr, out: &mut [u8]) -> u64
+        requires usable { IsUsable self.now at.block }
+        requires room { length out.old ≡ page_bytes_of (geometry_of self.now) }
+        ensures value { out.new ≡ (page_at (page_bytes_of (geometry_of self.now)) (block_of self.now at.block) at.page).value }
+        ensures stamp { result ≡ (page_at (page_bytes_of (geometry_of self.now)) (block_of self.now at.block) at.page).stamp }
+    {
+        if at.page >= self.states[at.block as usize].next {
+            out.fill(ERASED_BYTE);
+            return ERASED_STAMP;
+        }
+        let place = self.place_of(at);
+        get_page(&self.bytes, place, out);
+        self.stamps[place]
+    }
+
+    /// ONFI 4.0, Read with a column address in the spare bytes: the stamp of a programmed page alone.
+    pub fn stamp(&self, at: PageAddr) -> u64
+        requires { IsProgrammed self.now at }
+        ensures { result ≡ (page_at (page_bytes_of (geometry_of self.now)) (block_of self.now at.block) at.page).stamp }
+    {
+        self.stamps[self.place_of(at)]
+    }
+
+    /// ONFI 4.0, Page Program: the page holds the bytes and the stamp. The status is 0, for only an
+    /// erase can fail here; the pages of a block are programmed in order, each once between two erases.
+    pub fn program(&mut self, at: PageAddr, bytes: &[u8], stamp: u32) -> u8
+        requires next { IsNext self.old at }
+        requires size { length bytes.now ≡ page_bytes_of (geometry_of self.old) }
+        ensures status { result ≡ 0 }
+        ensures changes { ChangesBlock self.old self.new at.block
+            (programmed (block_of self.old at.block) (record { value = bytes.now; stamp = stamp })) }
+    {
+        let place = self.place_of(at);
+        put_page(&mut self.bytes, place, bytes);
+        self.stamps[place] = u64::from(stamp);
+        self.states[at.block as usize].next += 1;
+        0
+    }
+
+    /// ONFI 4.0, Copyback Read and Copyback Program: `to` holds the main bytes and the stamp of `from`,
+    /// on the same LUN. The status is 0.
+    pub fn copyback(&mut self, from: PageAddr, to: PageAddr) -> u8
+        requires source { IsProgrammed self.old from }
+        requires next { IsNext self.old to }
+        requires same_lun { lun_of (geometry_of self.old) from.block ≡ lun_of (geometry_of self.old) to.block }
+        ensures status { result ≡ 0 }
+        ensures changes { ChangesBlock self.old self.new to.block
+            (programmed (block_of self.old to.block)
+              (page_at (page_bytes_of (geometry_of self.old)) (block_of self.old from.block) from.page)) }
+    {
+        let source = self.place_of(from);
+        let place = self.place_of(to);
+        let page_bytes = self.geometry.page_bytes();
+        move_page(&mut self.bytes, page_bytes, source, place);
+        self.stamps[place] = self.stamps[source];
+        self.states[to.block as usize].next += 1;
+        0
+    }
+
+    /// ONFI 4.0, Block Erase: no page of the block is programmed. The status is 0, or 1 (FAIL) for the
+    /// last erase of the block's endurance, which retires it.
+    pub fn erase(&mut self, block: u32) -> u8
+        requires { IsUsable self.old block }
+        ensures status { result ≡ (if (block_of self.old block).erases + 1 == endurance_of (geometry_of self.old) then 1 else 0) }
+        ensures changes { ChangesBlock self.old self.new block
+            (erased (endurance_of (geometry_of self.old)) (block_of self.old block)) }
+    {
+        let endurance = self.geometry.endurance();
+        let state = &mut self.states[block as usize];
+        state.next = 0;
+        state.erases += 1;
+        state.retired = state.erases == endurance;
+        u8::from(state.retired)
+    }
+
+    /// How many pages of the block are programmed, which is the page to be programmed next.
+    pub fn next(&self, block: u32) -> u32
+        requires { block < blocks_of (geometry_of self.now) }
+        ensures value { result ≡ length (block_of self.now block).pages }
+        ensures within { result ≤ pages_of (geometry_of self.now) }
+    {
+        self.states[block as usize].next
+    }
+
+    /// Whether the block is retired, and may never be used again.
+    pub fn retired(&self, block: u32) -> bool
+        requires { block < blocks_of (geometry_of self.now) }
+        ensures { result ≡ (block_of self.now block).retired }
+    {
+        self.states[block as usize].retired
+    }
+
+    /// How many erase commands the block has had.
+    pub fn erases(&self, block: u32) -> u32
+        requires { block < blocks_of (geometry_of self.now) }
+        ensures value { result ≡ (block_of self.now block).erases }
+        ensures usable { IsUsable self.now block → result < endurance_of (geometry_of self.now) }
+    {
+        self.states[block as usize].erases
+    }
+}

@@ -1,0 +1,30 @@
+ghost use Rattle.std.specs.Prelude.{◌≡◌, ℕ, ◌≢◌, ◌+◌, ◌*◌, ◌≤◌, length};
+ghost use Rattle.die.specs.Slots.{slot, PutsSlot};
+
+/// Copies the page at a place out of the bytes of all pages.
+pub fn get_page(bytes: &[u8], place: usize, out: &mut [u8])
+    requires { (place + 1) * length out.old ≤ length bytes.now }
+    ensures { out.new ≡ slot (length out.old) bytes.now place }
+{
+    let start = place * out.len();
+    out.copy_from_slice(&bytes[start..start + out.len()]);
+}
+
+/// Copies a page into its place among the bytes of all pages.
+pub fn put_page(bytes: &mut [u8], place: usize, page: &[u8])
+    requires { (place + 1) * length page.now ≤ length bytes.old }
+    ensures { PutsSlot (length page.now) bytes.old bytes.new place page.now }
+{
+    let start = place * page.len();
+    bytes[start..start + page.len()].copy_from_slice(page);
+}
+
+/// Copies a page from its place over another place, both among the bytes of all pages.
+pub fn move_page(bytes: &mut Vec<u8>, page_bytes: usize, from: usize, to: usize)
+    requires from_within { (from + 1) * page_bytes ≤ length bytes.old.items }
+    requires to_within { (to + 1) * page_bytes ≤ length bytes.old.items }
+    ensures { PutsSlot page_bytes bytes.old.items bytes.new.items to (slot page_bytes bytes.old.items from) }
+{
+    let start = from * page_bytes;
+    bytes.copy_within(start..start + page_bytes, to * page_bytes);
+}

@@ -1,0 +1,148 @@
+-- A block's live pages are copied one after the other, from its first page on.
+use Rattle.std.proofs.Common.{◌≡◌, ◌≢◌, ◌⊎◌, inl, inr, ℕ, ◌+◌, ◌<◌, ◌≤◌, Bool, true, false, cond, List, [], ◌∷◌, ◌++◌, length, get_or, set, take, sum_by, sym, ap, ◌∙◌, refl, subst, arith, length-append, length-set, length-take, get_or-set_same, get_or-set_other}
+use Rattle.std.proofs.lemmas.List.{append_assoc, take_more, take_more_set, take_all, append-nil, get_or_default}
+use Rattle.std.proofs.lemmas.List.Elements.{filter-append}
+use Rattle.std.proofs.lemmas.List.Sums.{sum_by_push, sum_by-take-le, sum_by_more, length-filter, count_by-le-length}
+use Rattle.geometry.specs.declared.page_addr.PageAddr.{PageAddr}
+use Rattle.geometry.specs.Geometry.{blocks_of, pages_of}
+use Rattle.ftl_one.specs.declared.store.Store.{Store}
+use Rattle.ftl_one.specs.Stock.{Entry, live_entries}
+use Rattle.ftl_one.specs.Entries.{live_count}
+use Rattle.ftl_one.specs.Store.{geometry_of, sectors_of, entries_of, erases_of, retired_of, entry_at, live_at, sector_of, KeepsBlocks, HasRoom, HasRoomFor, Relocates, Clears}
+
+-- the first p pages of the victim are copied as far as they are live
+pub record ClearedTo (old now : Store) (victim spare p copies : ℕ) : Type 0 where
+  pub copied : entries_of now spare ≡ entries_of old spare ++ live_entries (take p (entries_of old victim))
+  pub size : length (entries_of now victim) ≡ length (entries_of old victim)
+  pub rest : (q : ℕ) (d : Entry) → p ≤ q → get_or (entries_of now victim) q d ≡ get_or (entries_of old victim) q d
+  pub dead : live_count (take p (entries_of now victim)) ≡ 0
+  pub count : copies ≡ live_count (take p (entries_of old victim))
+  pub others : (c : ℕ) → c ≢ spare → c ≢ victim → c < blocks_of (geometry_of old) → entries_of now c ≡ entries_of old c
+  pub sectors : sectors_of now ≡ sectors_of old
+  pub keeps : KeepsBlocks old now
+
+abbrev nothing : Entry
+nothing = record { sector = 0; live = false }
+
+pub kept_all : (s : Store) → KeepsBlocks s s
+kept_all s = record { geometry = refl; erases = λ b low. refl; retired = λ b low. refl }
+
+pub keeps_both : (a b c : Store) → KeepsBlocks a b → KeepsBlocks b c → KeepsBlocks a c
+keeps_both a b c first second =
+    let same : blocks_of (geometry_of b) ≡ blocks_of (geometry_of a) = ap blocks_of first.geometry in
+    record {
+      geometry = second.geometry ∙ first.geometry;
+      erases = λ k low. second.erases k (omega (arith, same, low)) ∙ first.erases k low;
+      retired = λ k low. second.retired k (omega (arith, same, low)) ∙ first.retired k low
+    }
+
+-- at the start nothing is copied
+pub ClearedTo-none : (s : Store) (victim spare : ℕ) → ClearedTo s s victim spare 0 0
+ClearedTo-none s victim spare =
+    record {
+      copied = sym (append-nil (entries_of s spare));
+      size = refl;
+      rest = λ q d h. refl;
+      dead = refl;
+      count = refl;
+      others = λ c first second low. refl;
+      sectors = refl;
+      keeps = kept_all s
+    }
+
+-- the live entries of one more page
+live-one : (xs : List Entry) (p : ℕ) (e d : Entry) → p < length xs → get_or xs p d ≡ e → live_entries (take (p + 1) xs) ≡ live_entries (take p xs) ++ cond e.live (e ∷ []) []
+live-one xs p e d low is =
+    ap live_entries (take_more xs p d low)
+      ∙ (filter-append (λ (x : Entry). x.live) (take p xs) (get_or xs p d ∷ [])
+      ∙ ap (λ (x : Entry). live_entries (take p xs) ++ cond x.live (x ∷ []) []) is)
+
+count-one : (xs : List Entry) (p : ℕ) (d : Entry) → p < length xs → live_count (take (p + 1) xs) ≡ live_count (take p xs) + cond (get_or xs p d).live 1 0
+count-one xs p d low = sum_by_more (λ (x : Entry). cond x.live 1 0) xs p d low
+
+-- a dead page is passed over
+pub ClearedTo-dead : (old now : Store) (victim spare p copies : ℕ) → ClearedTo old now victim spare p copies → p < length (entries_of old victim) → (get_or (entries_of now victim) p nothing).live ≡ false → ClearedTo old now victim spare (p + 1) copies
+ClearedTo-dead old now victim spare p copies h low off =
+    let was : get_or (entries_of old victim) p nothing ≡ get_or (entries_of now victim) p nothing = sym (h.rest p nothing (omega arith)) in
+    let off_old : (get_or (entries_of old victim) p nothing).live ≡ false = ap (λ (e : Entry). e.live) was ∙ off in
+    record {
+      copied = h.copied ∙ ap (λ (xs : List Entry). entries_of old spare ++ xs)
+        (sym (live-one (entries_of old victim) p (get_or (entries_of old victim) p nothing) nothing low refl
+          ∙ (ap (λ (t : Bool). live_entries (take p (entries_of old victim)) ++ cond t (get_or (entries_of old victim) p nothing ∷ []) []) off_old
+          ∙ append-nil (live_entries (take p (entries_of old victim))))));
+      size = h.size;
+      rest = λ q d past. h.rest q d (omega arith);
+      dead = omega (arith, h.dead, count-one (entries_of now victim) p nothing (omega (arith, low, h.size)), ap {B = ℕ} (λ (t : Bool). cond t 1 0) off);
+      count = omega (arith, h.count, count-one (entries_of old victim) p nothing low, ap {B = ℕ} (λ (t : Bool). cond t 1 0) off_old);
+      others = h.others;
+      sectors = h.sectors;
+      keeps = h.keeps
+    }
+
+-- a live page is copied
+pub ClearedTo-live : (old now next : Store) (victim spare p copies : ℕ) → ClearedTo old now victim spare p copies → p < length (entries_of old victim) → victim < blocks_of (geometry_of old) → live_at now (record { block = victim; page = p }) ≡ true → Relocates now next (record { block = victim; page = p }) spare (sector_of now (record { block = victim; page = p })) → ClearedTo old next victim spare (p + 1) (copies + 1)
+ClearedTo-live old now next victim spare p copies h low inside on moved =
+    let at : PageAddr = record { block = victim; page = p } in
+    let e : Entry = get_or (entries_of now victim) p nothing in
+    let was : get_or (entries_of old victim) p nothing ≡ e = sym (h.rest p nothing (omega arith)) in
+    let shown : (record { sector = e.sector; live = true }) ≡ e = ap (λ (t : Bool). let x : Entry = record { sector = e.sector; live = t } in x) (sym on) in
+    let dead : Entry = record { sector = e.sector; live = false } in
+    let same : blocks_of (geometry_of now) ≡ blocks_of (geometry_of old) = ap blocks_of h.keeps.geometry in
+    record {
+      copied =
+        moved.copied
+          ∙ (ap (λ (xs : List Entry). xs ++ (record { sector = e.sector; live = true }) ∷ []) h.copied
+          ∙ (append_assoc (entries_of old spare) (live_entries (take p (entries_of old victim))) ((record { sector = e.sector; live = true }) ∷ [])
+          ∙ ap (λ (xs : List Entry). entries_of old spare ++ xs)
+              (ap (λ (x : Entry). live_entries (take p (entries_of old victim)) ++ x ∷ []) shown
+                ∙ sym (live-one (entries_of old victim) p e nothing low was
+                    ∙ ap (λ (t : Bool). live_entries (take p (entries_of old victim)) ++ cond t (e ∷ []) []) on))));
+      size = ap (λ (xs : List Entry). length xs) moved.dead ∙ (length-set (entries_of now victim) p dead ∙ h.size);
+      rest = λ q d past. ap (λ (xs : List Entry). get_or xs q d) moved.dead ∙ (get_or-set_other (entries_of now victim) p q dead d (λ k. omega (arith, k)) ∙ h.rest q d (omega arith));
+      dead =
+        let front : take (p + 1) (entries_of next victim) ≡ take p (entries_of now victim) ++ dead ∷ [] =
+          ap (take (p + 1)) moved.dead ∙ take_more_set (entries_of now victim) p dead (omega (arith, low, h.size)) in
+        ap live_count front ∙ omega (arith, sum_by_push (λ (x : Entry). cond x.live 1 0) (take p (entries_of now victim)) dead, h.dead);
+      count = omega (arith, h.count, count-one (entries_of old victim) p nothing low, ap {B = ℕ} (λ (t : Entry). cond t.live 1 0) was, ap {B = ℕ} (λ (t : Bool). cond t 1 0) on);
+      others = λ c first second within. moved.others c first second (omega (arith, within, same)) ∙ h.others c first second within;
+      sectors = moved.sectors ∙ h.sectors;
+      keeps = keeps_both old now next h.keeps moved.keeps
+    }
+
+-- the block that is copied into has room for the next live page
+pub ClearedTo-room : (old now : Store) (victim spare p copies : ℕ) → ClearedTo old now victim spare p copies → p < length (entries_of old victim) → (get_or (entries_of now victim) p nothing).live ≡ true → HasRoomFor old spare (live_count (entries_of old victim)) → HasRoom now spare
+ClearedTo-room old now victim spare p copies h low on room =
+    let was : get_or (entries_of old victim) p nothing ≡ get_or (entries_of now victim) p nothing = sym (h.rest p nothing (omega arith)) in
+    let one = count-one (entries_of old victim) p nothing low in
+    let here = ap {B = ℕ} (λ (t : Entry). cond t.live 1 0) was in
+    let lit = ap {B = ℕ} (λ (t : Bool). cond t 1 0) on in
+    let most = sum_by-take-le (λ (x : Entry). cond x.live 1 0) (entries_of old victim) (p + 1) in
+    let size = ap (λ (xs : List Entry). length xs) h.copied ∙ length-append (entries_of old spare) (live_entries (take p (entries_of old victim))) in
+    let kept = length-filter (λ (x : Entry). x.live) (take p (entries_of old victim)) in
+    let same = ap blocks_of h.keeps.geometry in
+    let pages = ap pages_of h.keeps.geometry in
+    record {
+      within = omega (arith, same, room.within);
+      not_retired = h.keeps.retired spare room.within ∙ room.not_retired;
+      room = omega (arith, one, here, lit, most, size, kept, pages, room.room)
+    }
+
+-- all pages are passed
+pub ClearedTo-all : (old now : Store) (victim spare p copies : ℕ) → ClearedTo old now victim spare p copies → p ≡ length (entries_of old victim) → (copies ≡ live_count (entries_of old victim)) × Clears old now victim spare
+ClearedTo-all old now victim spare p copies h all =
+    let whole : take p (entries_of old victim) ≡ entries_of old victim = take_all p (entries_of old victim) (omega (arith, all)) in
+    let whole_now : take p (entries_of now victim) ≡ entries_of now victim = take_all p (entries_of now victim) (omega (arith, all, h.size)) in
+    (h.count ∙ ap live_count whole,
+     record {
+       copied = h.copied ∙ ap (λ (xs : List Entry). entries_of old spare ++ live_entries xs) whole;
+       dead = sym (ap live_count whole_now) ∙ h.dead;
+       others = h.others;
+       sectors = h.sectors;
+       keeps = h.keeps
+     })
+
+-- no more pages are copied than were passed
+pub copies_below : (old now : Store) (victim spare p copies : ℕ) → ClearedTo old now victim spare p copies → copies ≤ p
+copies_below old now victim spare p copies h =
+    let most : live_count (take p (entries_of old victim)) ≤ length (take p (entries_of old victim)) = count_by-le-length (λ (x : Entry). x.live) (take p (entries_of old victim)) in
+    omega (arith, h.count, most, length-take p (entries_of old victim))

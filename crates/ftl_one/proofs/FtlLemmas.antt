@@ -1,0 +1,308 @@
+-- The layer's blocks after each of its moves, and what the totals weigh.
+use Rattle.std.proofs.Common.{◌≡◌, ◌≢◌, ◌⊎◌, inl, inr, ℕ, zero, suc, ◌+◌, ◌-◌, ◌*◌, ◌<◌, ◌≤◌, ◌^◌, Bool, true, false, not, cond, eqb, ltb, List, [], ◌∷◌, ◌++◌, length, get_or, set, map, sum, sum_by, count_by, Option, None, Some, is_some, sym, ap, ◌∙◌, refl, subst, arith, length-append, length-set, get_or-set_same, get_or-set_other}
+use Rattle.std.specs.List.{range_with_len, position, position_or_len, prefix_len}
+use Rattle.std.specs.Vec.{with_items}
+use Rattle.std.proofs.lemmas.List.{with_items_is, length-map, get_or-map, length_push}
+use Rattle.std.proofs.lemmas.List.FromFn.{sum_by-map-range_with_len_more}
+use Rattle.std.proofs.lemmas.List.Sums.{sum_by-cons, sum_by-set, prefix_len_passes, count_by-le-length, length-filter}
+use Rattle.std.proofs.lemmas.List.Quantifiers.{position-Some}
+use Rattle.std.proofs.lemmas.Bool.{false≢true, cases_eq, cases_lt, cases_Bool, lt-ltb, not-true, eq-eqb, ne_eqb}
+use Rattle.std.proofs.lemmas.Nat.{mul-le}
+use Rattle.geometry.specs.Geometry.{blocks_of, pages_of, endurance_of, sectors_of as sector_count_of, hosts_of}
+use Rattle.geometry.specs.Greedy.{greedy_of, IsGreedy, IsClosed}
+use Rattle.die.proofs.DieLemmas.{erases-block}
+use Rattle.ftl_one.specs.declared.role.Role.{Role}
+use Rattle.ftl_one.specs.declared.role.Role.TheVariants.{Free, Open, Closed, Spare, Retired}
+use Rattle.ftl_one.specs.declared.store.Store.{Store}
+use Rattle.ftl_one.specs.declared.one_ftl.OneFtl.{OneFtl}
+use Rattle.ftl_one.specs.Stock.{Stock, Block, Entry, is_open, is_free, is_spare, is_closed, open_of, free_of, spare_of, live_of, victim_of, change_at, unused, forget, forgotten, with_page, closed_if_full, filled, emptied, live_entries}
+use Rattle.ftl_one.specs.Entries.{live_count}
+use Rattle.ftl_one.specs.Store.{geometry_of, sectors_of, entries_of, erases_of, retired_of, counts_of, KeepsBlocks, Puts, Clears, Erases, HasRoom}
+use Rattle.ftl_one.specs.Lawful.{IsLawful, role_in, is_retired}
+use Rattle.ftl_one.specs.Blocks.{block_in, blocks_in, weight}
+use Rattle.ftl_one.specs.OneFtl.{stock_of}
+use Rattle.ftl_one.proofs.BlocksLemmas.{table, length-table, get_or-table, table_is, table-change, table-map, position_alone, open_of-blocks, free_of-blocks, spare_of-blocks, victim_of-blocks}
+use Rattle.ftl_one.proofs.LawfulLemmas.{closed_else, inside, open≢retired}
+use Rattle.ftl_one.proofs.StoreLemmas.{entries_within}
+
+-- a role by its test
+pub free_by : (r : Role) → is_free r ≡ true → r ≡ Free
+free_by Free h = refl
+free_by Open h = absurd (false≢true h)
+free_by Closed h = absurd (false≢true h)
+free_by Spare h = absurd (false≢true h)
+free_by Retired h = absurd (false≢true h)
+
+pub open_by : (r : Role) → is_open r ≡ true → r ≡ Open
+open_by Free h = absurd (false≢true h)
+open_by Open h = refl
+open_by Closed h = absurd (false≢true h)
+open_by Spare h = absurd (false≢true h)
+open_by Retired h = absurd (false≢true h)
+
+pub closed_by : (r : Role) → is_closed r ≡ true → r ≡ Closed
+closed_by Free h = absurd (false≢true h)
+closed_by Open h = absurd (false≢true h)
+closed_by Closed h = refl
+closed_by Spare h = absurd (false≢true h)
+closed_by Retired h = absurd (false≢true h)
+
+pub spare_by : (r : Role) → is_spare r ≡ true → r ≡ Spare
+spare_by Free h = absurd (false≢true h)
+spare_by Open h = absurd (false≢true h)
+spare_by Closed h = absurd (false≢true h)
+spare_by Spare h = refl
+spare_by Retired h = absurd (false≢true h)
+
+-- where a search finds nothing, no element passes
+pub none_found : {X : Type 0} (p : X → Bool) (xs : List X) (d : X) → position p xs ≡ None → (k : ℕ) → k < length xs → p (get_or xs k d) ≡ false
+none_found p xs d e k low = elim (cases_lt (position_or_len p xs) (length xs)) [
+    inl short ↦ absurd (some_none (position_or_len p xs) (sym (ap (λ (t : Bool). cond t (Some (position_or_len p xs)) None) (lt-ltb (position_or_len p xs) (length xs) short)) ∙ e))
+  | inr past ↦ not-true (p (get_or xs k d)) (prefix_len_passes (λ x. not (p x)) xs k d (omega arith))
+  ]
+  where
+    some_none : (n : ℕ) → Some n ≡ None → ⊥
+    some_none n h = cc
+
+-- the open block, the lowest free block and the spare of the stock
+pub open_of-stock : (f : OneFtl) → open_of (stock_of f).blocks ≡ f.open_block
+unfolding stock_of
+open_of-stock f =
+    open_of-blocks f.store f.roles.items
+      ∙ position_alone is_open f.roles.items Retired f.open_block
+          (λ k low on. f.lawful.open_is k (open_by (role_in f.roles.items k) on))
+          (λ k e. let is = f.lawful.open_at k e in
+            (omega (arith, f.roles_sized, inside_open f k is), ap is_open is))
+  where
+    clash : (r : Role) → r ≡ Open → r ≡ Retired → ⊥
+    clash r h k = cc
+    inside_open : (g : OneFtl) (k : ℕ) → role_in g.roles.items k ≡ Open → k < blocks_of (geometry_of g.store)
+    inside_open g k is = elim (cases_lt k (blocks_of (geometry_of g.store))) [ inl low ↦ low | inr past ↦ absurd (clash (role_in g.roles.items k) is (g.lawful.outside k past)) ]
+
+pub free_of-stock : (f : OneFtl) → free_of (stock_of f).blocks ≡ position is_free f.roles.items
+unfolding stock_of
+free_of-stock f = free_of-blocks f.store f.roles.items
+
+pub spare_of-stock : (f : OneFtl) → spare_of (stock_of f).blocks ≡ position is_spare f.roles.items
+unfolding stock_of
+spare_of-stock f = spare_of-blocks f.store f.roles.items
+
+pub victim_of-stock : (f : OneFtl) → victim_of (stock_of f).blocks ≡ greedy_of (counts_of f.store) f.closed.items
+unfolding stock_of
+victim_of-stock f =
+    victim_of-blocks f.store f.roles.items f.roles_sized ∙ ap (greedy_of (counts_of f.store)) (sym f.closed_marks)
+
+-- a block from its parts
+abbrev parts : Role → ℕ → List Entry → Block
+parts r e xs = record { role = r; erases = e; entries = xs }
+
+same_block : (r r' : Role) (e e' : ℕ) (xs xs' : List Entry) → r ≡ r' → e ≡ e' → xs ≡ xs' → parts r e xs ≡ parts r' e' xs'
+same_block r r' e e' xs xs' p q s =
+    ap (λ (k : Role). let b : Block = record { role = k; erases = e; entries = xs } in b) p
+      ∙ (ap (λ (k : ℕ). let b : Block = record { role = r'; erases = k; entries = xs } in b) q
+      ∙ ap (λ (k : List Entry). let b : Block = record { role = r'; erases = e'; entries = k } in b) s)
+
+-- a block that is closed if it is full, in its parts
+closed-parts : (pages : ℕ) (r : Role) (e : ℕ) (xs : List Entry) → closed_if_full pages (parts r e xs) ≡ parts (cond (eqb (length xs) pages) Closed r) e xs
+closed-parts pages r e xs = by (eqb (length xs) pages)
+  where
+    by : (t : Bool) → cond t (parts Closed e xs) (parts r e xs) ≡ parts (cond t Closed r) e xs
+    by true = refl
+    by false = refl
+
+-- the blocks after a trim
+pub blocks-forget : (old new : Store) (roles : List Role) (s : ℕ) → length roles ≡ blocks_of (geometry_of old) → ((b : ℕ) → b < blocks_of (geometry_of old) → entries_of new b ≡ map (forgotten s) (entries_of old b)) → KeepsBlocks old new → blocks_in new roles ≡ map (forget s) (blocks_in old roles)
+unfolding blocks_in
+blocks-forget old new roles s size gone kept =
+    let d : Block = unused Retired in
+    let f = block_in old roles in
+    table_is (block_in new roles) (length roles) (map (forget s) (table f (length roles))) d
+      (length-map (table f (length roles)) (forget s) ∙ length-table f (length roles))
+      (λ k low.
+        let within : k < blocks_of (geometry_of old) = omega (arith, low, size) in
+        same_block (role_in roles k) (role_in roles k) (erases_of new k) (erases_of old k) (entries_of new k) (map (forgotten s) (entries_of old k)) refl (kept.erases k within) (gone k within)
+          ∙ (ap (forget s) (sym (get_or-table f (length roles) k d low))
+          ∙ sym (get_or-map (forget s) (table f (length roles)) k d d (omega (arith, low, length-table f (length roles))))))
+
+-- the blocks after a page is put, and its block closed if it is full
+pub blocks-put : (old new : Store) (roles roles' : List Role) (b s pages : ℕ) → length roles ≡ blocks_of (geometry_of old) → length roles' ≡ length roles → b < length roles → Puts old new b s → role_in roles' b ≡ cond (eqb (length (entries_of new b)) pages) Closed (role_in roles b) → ((c : ℕ) → c ≢ b → role_in roles' c ≡ role_in roles c) → blocks_in new roles' ≡ change_at (map (forget s) (blocks_in old roles)) b (λ block. closed_if_full pages (with_page s block))
+unfolding blocks_in
+blocks-put old new roles roles' b s pages size same low puts here there =
+    let f = block_in old roles in
+    let h : Block → Block = λ block. closed_if_full pages (with_page s block) in
+    let more : List Entry = map (forgotten s) (entries_of old b) ++ (record { sector = s; live = true }) ∷ [] in
+    ap (λ (n : ℕ). table (block_in new roles') n) same
+      ∙ (table-change (λ c. forget s (f c)) (block_in new roles') (length roles) b h low
+          (same_block (role_in roles' b) (cond (eqb (length more) pages) Closed (role_in roles b)) (erases_of new b) (erases_of old b) (entries_of new b) more
+            (here ∙ ap (λ (xs : List Entry). cond (eqb (length xs) pages) Closed (role_in roles b)) puts.changed) (puts.keeps.erases b (omega (arith, low, size))) puts.changed
+            ∙ sym (closed-parts pages (role_in roles b) (erases_of old b) more))
+          (λ c within apart.
+            same_block (role_in roles' c) (role_in roles c) (erases_of new c) (erases_of old c) (entries_of new c) (map (forgotten s) (entries_of old c))
+              (there c apart) (puts.keeps.erases c (omega (arith, within, size))) (puts.others c apart (omega (arith, within, size))))
+      ∙ ap (λ (xs : List Block). change_at xs b h) (table-map f (length roles) (forget s)))
+
+-- the blocks after one of them gets another role
+pub blocks-role : (s : Store) (roles roles' : List Role) (b : ℕ) (r : Role) → length roles' ≡ length roles → b < length roles → role_in roles' b ≡ r → ((c : ℕ) → c ≢ b → role_in roles' c ≡ role_in roles c) → blocks_in s roles' ≡ change_at (blocks_in s roles) b (λ block. record block { role = r })
+unfolding blocks_in
+blocks-role s roles roles' b r same low here there =
+    ap (λ (n : ℕ). table (block_in s roles') n) same
+      ∙ table-change (block_in s roles) (block_in s roles') (length roles) b (λ (block : Block). record block { role = r }) low
+          (ap (λ (k : Role). let x : Block = record { role = k; erases = erases_of s b; entries = entries_of s b } in x) here)
+          (λ c within apart. ap (λ (k : Role). let x : Block = record { role = k; erases = erases_of s c; entries = entries_of s c } in x) (there c apart))
+
+-- the blocks after a collection
+pub blocks-collect : (old mid new : Store) (roles roles' : List Role) (spare victim endurance : ℕ) → length roles ≡ blocks_of (geometry_of old) → length roles' ≡ length roles → spare < length roles → victim < length roles → victim ≢ spare → Clears old mid victim spare → Erases mid new victim → role_in roles' spare ≡ Open → role_in roles' victim ≡ cond (eqb (erases_of old victim + 1) endurance) Retired Spare → ((c : ℕ) → c ≢ spare → c ≢ victim → role_in roles' c ≡ role_in roles c) → blocks_in new roles' ≡ change_at (change_at (blocks_in old roles) spare (filled (get_or (blocks_in old roles) victim (unused Retired)))) victim (emptied endurance)
+unfolding blocks_in
+blocks-collect old mid new roles roles' spare victim endurance size same spare_in victim_in apart clears erases opened done others =
+    let n = length roles in
+    let d : Block = unused Retired in
+    let f = block_in old roles in
+    let fill : Block → Block = filled (get_or (table f n) victim d) in
+    let g : ℕ → Block = λ c. cond (eqb c spare) (fill (f c)) (f c) in
+    let at : (c : ℕ) → c < n → c < blocks_of (geometry_of mid) = λ c low. omega (arith, low, size, ap blocks_of clears.keeps.geometry) in
+    let is : (c : ℕ) → c < n → c < blocks_of (geometry_of old) = λ c low. omega (arith, low, size) in
+    let first : table g n ≡ change_at (table f n) spare fill =
+      table-change f g n spare fill spare_in (ap (λ (t : Bool). cond t (fill (f spare)) (f spare)) (eq-eqb spare spare refl))
+        (λ c low other. ap (λ (t : Bool). cond t (fill (f c)) (f c)) (ne_eqb c spare other)) in
+    ap (λ (k : ℕ). table (block_in new roles') k) same
+      ∙ (table-change g (block_in new roles') n victim (emptied endurance) victim_in
+          (same_block (role_in roles' victim) (cond (eqb (erases_of old victim + 1) endurance) Retired Spare) (erases_of new victim) (erases_of old victim + 1) (entries_of new victim) []
+              done (erases.counted ∙ ap (λ (k : ℕ). k + 1) (clears.keeps.erases victim (is victim victim_in))) erases.emptied
+            ∙ sym (ap (emptied endurance) (ap (λ (t : Bool). cond t (fill (f victim)) (f victim)) (ne_eqb victim spare apart))))
+          (λ c low other. elim (cases_eq c spare) [
+              inl e ↦ subst (λ (k : ℕ). block_in new roles' k ≡ g k) (sym e)
+                (same_block (role_in roles' spare) Open (erases_of new spare) (erases_of old spare) (entries_of new spare) (entries_of old spare ++ live_entries (entries_of old victim))
+                    opened
+                    (erases.erases spare (λ h. apart (sym h)) (at spare spare_in) ∙ clears.keeps.erases spare (is spare spare_in))
+                    (erases.entries spare (λ h. apart (sym h)) (at spare spare_in) ∙ clears.copied)
+                  ∙ (ap (λ (v : Block). filled v (f spare)) (sym (get_or-table f n victim d victim_in))
+                  ∙ sym (ap (λ (t : Bool). cond t (fill (f spare)) (f spare)) (eq-eqb spare spare refl))))
+            | inr another ↦
+                same_block (role_in roles' c) (role_in roles c) (erases_of new c) (erases_of old c) (entries_of new c) (entries_of old c)
+                    (others c another other)
+                    (erases.erases c other (at c low) ∙ clears.keeps.erases c (is c low))
+                    (erases.entries c other (at c low) ∙ clears.others c another other (is c low))
+                  ∙ sym (ap (λ (t : Bool). cond t (fill (f c)) (f c)) (ne_eqb c spare another))
+            ])
+      ∙ ap (λ (xs : List Block). change_at xs victim (emptied endurance)) first)
+
+-- what the blocks weigh
+sum_by-map-same : (w : Block → ℕ) (g : Block → Block) (xs : List Block) → ((x : Block) → w (g x) ≡ w x) → sum_by w (map g xs) ≡ sum_by w xs
+sum_by-map-same w g [] same = refl
+sum_by-map-same w g (x ∷ xs) same = omega (arith, sum_by-cons w (g x) (map g xs), sum_by-cons w x xs, sum_by-map-same w g xs same, same x)
+
+weight-closed : (pages : ℕ) (x : Block) → weight pages (closed_if_full pages x) ≡ weight pages x
+weight-closed pages x = ap (weight pages) (closed-parts pages x.role x.erases x.entries)
+
+pub weight-forget : (pages s : ℕ) (xs : List Block) → sum_by (weight pages) (map (forget s) xs) ≡ sum_by (weight pages) xs
+weight-forget pages s xs = sum_by-map-same (weight pages) (forget s) xs (λ x. ap (λ (n : ℕ). (pages + 1) * x.erases + n) (length-map x.entries (forgotten s)))
+
+pub weight-put : (pages s b : ℕ) (xs : List Block) → b < length xs → sum_by (weight pages) (change_at (map (forget s) xs) b (λ block. closed_if_full pages (with_page s block))) ≡ sum_by (weight pages) xs + 1
+weight-put pages s b xs low =
+    let d : Block = unused Retired in
+    let ys = map (forget s) xs in
+    let x = get_or ys b d in
+    let y : Block = closed_if_full pages (with_page s x) in
+    let changed = sum_by-set (weight pages) ys b y d (omega (arith, low, length-map xs (forget s))) in
+    let heavier : weight pages y ≡ weight pages x + 1 = weight-closed pages (with_page s x) ∙ omega (arith, length_push x.entries (record { sector = s; live = true })) in
+    omega (arith, changed, heavier, weight-forget pages s xs)
+
+pub weight-role : (pages b : ℕ) (r : Role) (xs : List Block) → b < length xs → sum_by (weight pages) (change_at xs b (λ block. record block { role = r })) ≡ sum_by (weight pages) xs
+weight-role pages b r xs low =
+    let d : Block = unused Retired in
+    let changed = sum_by-set (weight pages) xs b (record (get_or xs b d) { role = r }) d low in
+    omega (arith, changed)
+
+pub weight-collect : (pages endurance spare victim : ℕ) (xs : List Block) → spare < length xs → victim < length xs → victim ≢ spare → length (get_or xs victim (unused Retired)).entries ≡ pages → sum_by (weight pages) (change_at (change_at xs spare (filled (get_or xs victim (unused Retired)))) victim (emptied endurance)) ≡ sum_by (weight pages) xs + live_of (get_or xs victim (unused Retired)) + 1
+weight-collect pages endurance spare victim xs spare_in victim_in apart full =
+    let d : Block = unused Retired in
+    let v = get_or xs victim d in
+    let s = get_or xs spare d in
+    let y : Block = filled v s in
+    let ys = set xs spare y in
+    let z : Block = emptied endurance (get_or ys victim d) in
+    let first = sum_by-set (weight pages) xs spare y d spare_in in
+    let second = sum_by-set (weight pages) ys victim z d (omega (arith, victim_in, length-set xs spare y)) in
+    let was : get_or ys victim d ≡ v = get_or-set_other xs spare victim y d apart in
+    let heavier : weight pages y ≡ weight pages s + live_of v = omega (arith, length-append s.entries (live_entries v.entries), length-filter (λ (e : Entry). e.live) v.entries) in
+    let e = ap (λ (k : Block). weight pages k) was in
+    let e2 = ap (λ (k : Block). k.erases) was in
+    let worn : weight pages z ≡ (pages + 1) * (v.erases + 1) = ap (λ (k : ℕ). (pages + 1) * (k + 1) + 0) e2 ∙ omega arith in
+    omega (arith, first, second, heavier, worn, e, full)
+
+-- the table of all blocks has one for each role
+pub length-blocks : (s : Store) (roles : List Role) → length (blocks_in s roles) ≡ length roles
+unfolding blocks_in
+length-blocks s roles = length-table (block_in s roles) (length roles)
+
+pub get_or-blocks : (s : Store) (roles : List Role) (b : ℕ) (d : Block) → b < length roles → get_or (blocks_in s roles) b d ≡ block_in s roles b
+unfolding blocks_in
+get_or-blocks s roles b d low = get_or-table (block_in s roles) (length roles) b d low
+
+-- the lowest free block is free
+pub free_found : (f : OneFtl) (b : ℕ) → free_of (stock_of f).blocks ≡ Some b → (b < length f.roles.items) × (role_in f.roles.items b ≡ Free)
+free_found f b e =
+    let found = position-Some is_free f.roles.items b Retired (sym (free_of-stock f) ∙ e) in
+    (found.0, free_by (role_in f.roles.items b) found.1)
+
+pub spare_found : (f : OneFtl) (b : ℕ) → spare_of (stock_of f).blocks ≡ Some b → (b < length f.roles.items) × (role_in f.roles.items b ≡ Spare)
+spare_found f b e =
+    let found = position-Some is_spare f.roles.items b Retired (sym (spare_of-stock f) ∙ e) in
+    (found.0, spare_by (role_in f.roles.items b) found.1)
+
+-- the open block has a page left
+pub open_found : (f : OneFtl) (b : ℕ) → open_of (stock_of f).blocks ≡ Some b → (b < blocks_of (geometry_of f.store)) × (role_in f.roles.items b ≡ Open)
+open_found f b e =
+    let g = geometry_of f.store in
+    let is = f.lawful.open_at b (sym (open_of-stock f) ∙ e) in
+    (inside (blocks_of g) (pages_of g) (λ k. length (entries_of f.store k)) (retired_of f.store) (role_in f.roles.items) f.open_block f.lawful b (open≢retired (role_in f.roles.items b) is), is)
+
+pub open_room : (f : OneFtl) (b : ℕ) → open_of (stock_of f).blocks ≡ Some b → HasRoom f.store b
+open_room f b e =
+    let found = open_found f b e in
+    record {
+      within = found.0;
+      not_retired = f.lawful.usable b found.0 ∙ ap is_retired found.1;
+      room = f.lawful.room b found.1
+    }
+
+-- a sum over a table is at most its length times the most of its terms
+sum_table_le : (w : Block → ℕ) (f : ℕ → Block) (n m : ℕ) → ((k : ℕ) → k < n → w (f k) ≤ m) → sum_by w (table f n) ≤ n * m
+sum_table_le w f zero m most = omega arith
+sum_table_le w f (suc n) m most =
+    let same : n + 1 ≡ suc n = omega arith in
+    let more = ap (λ (k : ℕ). sum_by w (table f k)) (sym same) ∙ sum_by-map-range_with_len_more w f 0 n n (omega arith) in
+    let front = sum_table_le w f n m (λ k low. most k (omega arith)) in
+    let last = most n (omega arith) in
+    omega (arith, more, front, last)
+
+-- no block has more erases than its endurance
+erases_within : (s : Store) (b : ℕ) → b < blocks_of (geometry_of s) → erases_of s b ≤ endurance_of (geometry_of s)
+unfolding erases_of
+erases_within s b low = omega (arith, erases-block s.die b, (s.die.sound b low).erased)
+
+-- the totals stay far below what a counter can hold
+pub total_small : (f : OneFtl) → f.counts.programs + f.counts.copies + f.counts.erases < 2 ^ 60
+unfolding blocks_in
+total_small f =
+    let s = f.store in
+    let g = geometry_of s in
+    let m : ℕ = (pages_of g + 1) * endurance_of g + pages_of g in
+    let most = sum_table_le (weight (pages_of g)) (block_in s f.roles.items) (length f.roles.items) m (λ k low.
+      let within : k < blocks_of g = omega (arith, low, f.roles_sized) in
+      let worn = mul-le (pages_of g + 1) (erases_of s k) (pages_of g + 1) (endurance_of g) (omega arith) (erases_within s k within) in
+      omega (arith, worn, entries_within s k within)) in
+    let one = mul-le (pages_of g + 1) (endurance_of g) 1025 1000000 (omega (arith, s.die.geometry.in_limits.pages_high)) (omega (arith, s.die.geometry.in_limits.endurance_high)) in
+    let all = mul-le (length f.roles.items) m 4096 1025001024 (omega (arith, f.roles_sized, s.die.geometry.in_limits.blocks_high)) (omega (arith, one, s.die.geometry.in_limits.pages_high)) in
+    omega (arith, f.bounded, most, all)
+
+-- the roles and the marks of the layer once one was rewritten
+pub roles_now : (f : OneFtl) (was new : List Role) (b : ℕ) (r : Role) → new ≡ set was b r → was ≡ f.roles.items → (with_items f.roles new).items ≡ set f.roles.items b r
+roles_now f was new b r e same =
+    let now : new ≡ set f.roles.items b r = e ∙ ap (λ (xs : List Role). set xs b r) same in
+    with_items_is f.roles new (omega (arith, ap (λ (xs : List Role). length xs) now, length-set f.roles.items b r, f.roles.ok.0)) ∙ now
+
+pub marks_now : (f : OneFtl) (was new : List Bool) (b : ℕ) (t : Bool) → new ≡ set was b t → was ≡ f.closed.items → (with_items f.closed new).items ≡ set f.closed.items b t
+marks_now f was new b t e same =
+    let now : new ≡ set f.closed.items b t = e ∙ ap (λ (xs : List Bool). set xs b t) same in
+    with_items_is f.closed new (omega (arith, ap (λ (xs : List Bool). length xs) now, length-set f.closed.items b t, f.closed.ok.0)) ∙ now

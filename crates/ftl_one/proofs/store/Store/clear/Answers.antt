@@ -1,0 +1,58 @@
+use Rattle.std.proofs.Common.{◌≡◌, ◌∙◌, ℕ, ◌<◌, length, ap, sym, arith}
+use Rattle.geometry.specs.Geometry.{blocks_of}
+use Rattle.ftl_one.specs.Store.{entries_of}
+use Rattle.ftl_one.proofs.StoreLemmas.{length-entries_of, entries_within}
+use Rattle.ftl_one.proofs.ClearLemmas.{ClearedTo-none, ClearedTo-dead, ClearedTo-live, ClearedTo-room, ClearedTo-all, copies_below}
+use Rattle.ftl_one.proofs.store.Store.clear.Goals as goal
+use Rattle.ftl_one.proofs.store.Store.clear.Goals.{then-is_live, else-is_live}
+
+pub loop-page-init : goal.loop-page-init
+loop-page-init c = ClearedTo-none c.args.self.now c.args.victim c.args.spare
+
+pub is_live-requires-clause-block : goal.is_live-requires-clause-block
+is_live-requires-clause-block c = omega (arith, ap blocks_of c.loop-page.invariant.keeps.geometry, c.requires.victim)
+
+pub is_live-requires-clause-usable : goal.is_live-requires-clause-usable
+is_live-requires-clause-usable c = c.loop-page.invariant.keeps.retired c.args.victim c.requires.victim ∙ c.requires.usable
+
+pub is_live-requires-clause-page : goal.is_live-requires-clause-page
+is_live-requires-clause-page c = omega (arith, c.loop-page.invariant.size, c.next-page-end.ensures.value, length-entries_of c.args.self.now c.args.victim)
+
+pub relocate-requires-clause-source_block : goal.relocate-requires-clause-source_block
+relocate-requires-clause-source_block c = omega (arith, ap blocks_of c.loop-page.invariant.keeps.geometry, c.requires.victim)
+
+pub relocate-requires-clause-source_usable : goal.relocate-requires-clause-source_usable
+relocate-requires-clause-source_usable c = c.loop-page.invariant.keeps.retired c.args.victim c.requires.victim ∙ c.requires.usable
+
+pub relocate-requires-clause-room : goal.relocate-requires-clause-room
+relocate-requires-clause-room c =
+    ClearedTo-room c.args.self.now c.loop-page.self c.args.victim c.args.spare c.loop-page.page c.loop-page.copies c.loop-page.invariant
+      (omega (arith, c.next-page-end.ensures.value, length-entries_of c.args.self.now c.args.victim))
+      (sym c.is_live.ensures ∙ c.if-is_live.true) c.requires.room
+
+pub overflow_add-copies : goal.overflow_add-copies
+overflow_add-copies c =
+    let below = copies_below c.args.self.now c.loop-page.self c.args.victim c.args.spare c.loop-page.page c.loop-page.copies c.loop-page.invariant in
+    omega (arith, below, c.next-page-end.ensures.within, c.args.self.now.die.geometry.in_limits.pages_high)
+
+pub loop-page-preserved : goal.loop-page-preserved
+loop-page-preserved c =
+    let low : c.loop-page.page < length (entries_of c.args.self.now c.args.victim) = omega (arith, c.next-page-end.ensures.value, length-entries_of c.args.self.now c.args.victim) in
+    elim c.if-is_live.branch [
+      then-is_live w ↦
+        rw (w.self-is, w.copies-is)
+          (ClearedTo-live c.args.self.now c.loop-page.self w.relocate.new.self c.args.victim c.args.spare c.loop-page.page c.loop-page.copies c.loop-page.invariant low c.requires.victim (sym c.is_live.ensures ∙ w.if-is_live.true) w.relocate.ensures)
+    | else-is_live w ↦
+        rw (w.self-is, w.copies-is)
+          (ClearedTo-dead c.args.self.now c.loop-page.self c.args.victim c.args.spare c.loop-page.page c.loop-page.copies c.loop-page.invariant low (sym c.is_live.ensures ∙ w.if-is_live.false))
+    ]
+
+pub returns-clause-copies : goal.returns-clause-copies
+returns-clause-copies c =
+    (ClearedTo-all c.args.self.now c.loop-page.self c.args.victim c.args.spare c.loop-page.page c.loop-page.copies c.loop-page.invariant
+      (omega (arith, c.next-page-end.ensures.value, length-entries_of c.args.self.now c.args.victim))).0
+
+pub returns-clause-clears : goal.returns-clause-clears
+returns-clause-clears c =
+    (ClearedTo-all c.args.self.now c.loop-page.self c.args.victim c.args.spare c.loop-page.page c.loop-page.copies c.loop-page.invariant
+      (omega (arith, c.next-page-end.ensures.value, length-entries_of c.args.self.now c.args.victim))).1

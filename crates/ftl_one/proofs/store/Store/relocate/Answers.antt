@@ -1,0 +1,115 @@
+use Rattle.std.proofs.Common.{◌≡◌, ◌≢◌, ◌∙◌, ℕ, ◌+◌, ◌<◌, ◌^◌, List, length, get_or, set, Option, None, Some, sym, ap, refl, subst, arith}
+use Rattle.std.specs.Option.{IfSome}
+use Rattle.std.specs.Vec.{with_items}
+use Rattle.std.proofs.lemmas.List.{with_items_is}
+use Rattle.geometry.specs.declared.page_addr.PageAddr.{PageAddr}
+use Rattle.geometry.specs.Geometry.{blocks_of, page_bytes_of, sectors_of as sector_count_of}
+use Rattle.die.specs.Die.{geometry_of as die_geometry_of, block_of, IsNext}
+use Rattle.ftl_one.specs.Stock.{Entry}
+use Rattle.ftl_one.specs.Entries.{Recounts, IsMapped, sectors_in, entries_in}
+use Rattle.ftl_one.specs.Store.{geometry_of, sectors_of, entries_of, erases_of, retired_of, sector_of}
+use Rattle.ftl_one.proofs.StoreLemmas.{size_of, programmed_page, next_of_block, count_small, named_counted, recounted, put-mapped, put-erases, put-retired}
+use Rattle.ftl_one.proofs.RelocateLemmas.{page_of, sector_of-page, names_live, stamp_below, relocate-copied, relocate-dead, relocate-others, relocate-sectors}
+use Rattle.ftl_one.proofs.store.Store.relocate.Goals as goal
+use Rattle.ftl_one.proofs.store.Store.relocate.Goals.{After-next_page-to, After-recount}
+
+pub stamp-sector-requires : goal.stamp-sector-requires
+stamp-sector-requires c = programmed_page c.args.self.now c.args.source c.requires.source_block c.requires.source_usable c.requires.source_page
+
+pub overflow_cast-sector : goal.overflow_cast-sector
+overflow_cast-sector c =
+    let s = c.args.self.now in
+    omega (arith, stamp_below s c.args.source c.requires.source_block c.requires.source_page, c.stamp-sector.ensures, s.die.geometry.in_limits.sectors_high)
+
+pub copy_page-requires-clause-source : goal.copy_page-requires-clause-source
+copy_page-requires-clause-source c = programmed_page c.args.self.now c.args.source c.requires.source_block c.requires.source_usable c.requires.source_page
+
+pub copy_page-requires-clause-next : goal.copy_page-requires-clause-next
+copy_page-requires-clause-next c = next_of_block c.args.self.now c.next_page-to.result c.args.block c.requires.room c.next_page-to.ensures.block c.next_page-to.ensures.page
+
+-- the page that is programmed is the block's next
+the_next : (c : After-next_page-to) → IsNext c.args.self.now.die c.next_page-to.result
+the_next c = next_of_block c.args.self.now c.next_page-to.result c.args.block c.requires.room c.next_page-to.ensures.block c.next_page-to.ensures.page
+
+pub index_mut-requires : goal.index_mut-requires
+index_mut-requires c =
+    let s = c.args.self.now in
+    omega (arith, stamp_below s c.args.source c.requires.source_block c.requires.source_page, c.stamp-sector.ensures, s.current.ok.0, s.mapped.current_size)
+
+pub recount-requires-clause-dead_within : goal.recount-requires-clause-dead_within
+recount-requires-clause-dead_within c =
+    let s = c.args.self.now in
+    omega (arith, c.requires.source_block, s.mapped.live_size, ap (λ (xs : List ℕ). length xs) c.deref_mut-2.ensures.value)
+
+pub recount-requires-clause-counted : goal.recount-requires-clause-counted
+recount-requires-clause-counted c =
+    let s = c.args.self.now in
+    let named = names_live s c.args.source c.requires.source_page c.requires.live in
+    let some = named_counted s (page_of s c.args.source).stamp (Some c.args.source) named in
+    omega (arith, some, ap (λ (xs : List ℕ). get_or xs c.args.source.block 0) c.deref_mut-2.ensures.value)
+
+pub recount-requires-clause-live_within : goal.recount-requires-clause-live_within
+recount-requires-clause-live_within c =
+    let s = c.args.self.now in
+    omega (arith, c.next_page-to.ensures.block, c.requires.room.within, s.mapped.live_size, ap (λ (xs : List ℕ). length xs) c.deref_mut-2.ensures.value)
+
+pub recount-requires-clause-room : goal.recount-requires-clause-room
+recount-requires-clause-room c =
+    let s = c.args.self.now in
+    let small = count_small s c.args.block c.requires.room.within in
+    omega (arith, small, ap (λ (k : ℕ). get_or s.live.items k 0) c.next_page-to.ensures.block, ap (λ (xs : List ℕ). get_or xs c.next_page-to.result.block 0) c.deref_mut-2.ensures.value)
+
+-- the counts with the copy in place of the page
+the_counts : (c : After-recount) → Recounts c.args.self.now.live.items c.recount.new.counts (get_or c.args.self.now.current.items (page_of c.args.self.now c.args.source).stamp None) (Some c.next_page-to.result)
+the_counts c =
+    let s = c.args.self.now in
+    let named = names_live s c.args.source c.requires.source_page c.requires.live in
+    subst (λ (o : Option PageAddr). Recounts s.live.items c.recount.new.counts o (Some c.next_page-to.result)) (sym named)
+      (subst (λ (xs : List ℕ). Recounts xs c.recount.new.counts (Some c.args.source) (Some c.next_page-to.result)) c.deref_mut-2.ensures.value c.recount.ensures)
+
+pub invariant_of-self : goal.invariant_of-self
+invariant_of-self c =
+    let s = c.args.self.now in
+    let at_end = (goal.at.invariant_of-self c).After-recount in
+    let next = the_next (goal.at.invariant_of-self c).After-next_page-to in
+    let counts = the_counts at_end in
+    let page = page_of s c.args.source in
+    let die = c.copy_page.new.die in
+    let g = die_geometry_of die in
+    let at = c.next_page-to.result in
+    let mapped = put-mapped s die at page c.recount.new.counts (stamp_below s c.args.source c.requires.source_block c.requires.source_page) next c.copy_page.ensures counts in
+    let P : ℕ → List ℕ → Type 0 = λ k xs. IsMapped (page_bytes_of g) (blocks_of g) (sector_count_of g) (block_of die) (set s.current.items k (Some at)) xs in
+    let buffer : (with_items s.page c.copy_page.new.page).items ≡ c.copy_page.new.page =
+      with_items_is s.page c.copy_page.new.page (omega (arith, c.copy_page.auto.page, c.deref_mut.ensures.len)) in
+    record {
+      page_sized = ap (λ (xs : List ℕ). length xs) buffer ∙ (c.copy_page.auto.page ∙ (ap (λ (xs : List ℕ). length xs) c.deref_mut.ensures.value ∙ (s.page_sized ∙ ap page_bytes_of (sym c.copy_page.ensures.geometry))));
+      mapped = subst (λ (k : ℕ). P k (with_items s.live c.recount.new.counts).items) (sym c.stamp-sector.ensures)
+        (subst (λ (xs : List ℕ). P page.stamp xs) (sym (recounted s c.recount.new.counts (get_or s.current.items page.stamp None) (Some at) counts)) mapped)
+    }
+
+pub returns : goal.returns
+unfolding entries_of erases_of retired_of sectors_of
+returns c =
+    let s = c.args.self.now in
+    let at_end = (goal.at.returns c).After-recount in
+    let next = the_next (goal.at.returns c).After-next_page-to in
+    let counts = the_counts at_end in
+    let page = page_of s c.args.source in
+    let die = c.copy_page.new.die in
+    let at = c.next_page-to.result in
+    let live = c.recount.new.counts in
+    let low = stamp_below s c.args.source c.requires.source_block c.requires.source_page in
+    let apart : c.args.source.block ≢ at.block = λ e. c.requires.apart (e ∙ c.next_page-to.ensures.block) in
+    let by : ℕ → ℕ → List Entry = λ k b. entries_in (page_bytes_of (die_geometry_of die)) (set s.current.items k (Some at)) b (block_of die b) in
+    let e = c.stamp-sector.ensures in
+    rw (← c.next_page-to.ensures.block, sector_of-page s c.args.source c.requires.source_page) (record {
+      copied = ap (λ (k : ℕ). by k at.block) e ∙ relocate-copied s die c.args.source at live c.requires.source_block c.requires.source_page c.requires.live apart next c.copy_page.ensures counts;
+      dead = ap (λ (k : ℕ). by k c.args.source.block) e ∙ relocate-dead s die c.args.source at live c.requires.source_block c.requires.source_page c.requires.live apart next c.copy_page.ensures counts;
+      others = λ b first second inside. ap (λ (k : ℕ). by k b) e ∙ relocate-others s die c.args.source at live c.requires.source_block c.requires.source_page c.requires.live apart next c.copy_page.ensures counts b first second inside;
+      sectors = ap (λ (k : ℕ). sectors_in (page_bytes_of (die_geometry_of die)) (block_of die) (set s.current.items k (Some at))) e ∙ relocate-sectors s die c.args.source at live c.requires.source_block c.requires.source_page c.requires.live apart next c.copy_page.ensures counts;
+      keeps = record {
+        geometry = c.copy_page.ensures.geometry;
+        erases = put-erases s die at page live low next c.copy_page.ensures counts;
+        retired = put-retired s die at page live low next c.copy_page.ensures counts
+      }
+    })

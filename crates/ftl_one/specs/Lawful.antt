@@ -1,0 +1,31 @@
+-- What the layer keeps true of its blocks: by their roles, how many pages they have and whether they are retired.
+use Rattle.std.specs.Prelude.{◌≡◌, ℕ, ◌<◌, ◌≤◌, Bool, true, false, List, Option, None, Some, length, map, slice_index_or}
+use Rattle.ftl_one.specs.declared.role.Role.{Role}
+use Rattle.ftl_one.specs.declared.role.Role.TheVariants.{Free, Open, Closed, Spare, Retired}
+
+abbrev pub is_retired : Role → Bool
+is_retired Retired = true
+is_retired _ = false
+
+-- a block of this role has pages
+abbrev pub has_pages : Role → Bool
+has_pages Open = true
+has_pages Closed = true
+has_pages _ = false
+
+-- the role of a block
+abbrev pub role_in : List Role → ℕ → Role
+role_in roles b = slice_index_or roles b Retired
+
+-- the open block is the one that is remembered, with a page left; closed blocks are full and the other blocks
+-- empty; the die has retired those with that role; there is one spare at most, and none beside a retired block
+pub record IsLawful (count pages : ℕ) (size : ℕ → ℕ) (retired : ℕ → Bool) (role : ℕ → Role) (open_block : Option ℕ) : Type 0 where
+  pub open_is : (b : ℕ) → role b ≡ Open → open_block ≡ Some b
+  pub open_at : (b : ℕ) → open_block ≡ Some b → role b ≡ Open
+  pub room : (b : ℕ) → role b ≡ Open → size b < pages
+  pub full : (b : ℕ) → role b ≡ Closed → size b ≡ pages
+  pub unused : (b : ℕ) → b < count → has_pages (role b) ≡ false → size b ≡ 0
+  pub usable : (b : ℕ) → b < count → retired b ≡ is_retired (role b)
+  pub one_spare : (b c : ℕ) → role b ≡ Spare → role c ≡ Spare → b ≡ c
+  pub spare_last : (b c : ℕ) → c < count → role b ≡ Spare → role c ≡ Retired → ⊥
+  pub outside : (b : ℕ) → count ≤ b → role b ≡ Retired
