@@ -117,6 +117,111 @@ fn the_worked_rows_answer_as_written(rt: HostRuntime) -> Result<(), Fail> {
     Ok(())
 }
 
+// The same device with other blocks, LUNs and endurance.
+fn device(luns: &'static str, blocks: &'static str, endurance: &'static str) -> [&'static str; 13] {
+    [
+        "flashplay",
+        "--luns",
+        luns,
+        "--blocks",
+        blocks,
+        "--pages",
+        "2",
+        "--words",
+        "1",
+        "--sectors",
+        "3",
+        "--endurance",
+        endurance,
+    ]
+}
+
+#[test]
+fn collection_keeps_every_sector(rt: HostRuntime) -> Result<(), Fail> {
+    let rows: [Row; 4] = [
+        (
+            "a victim with no live page",
+            b"0,write,0,\n0,write,1,\n0,write,0,\n0,write,1,\n0,write,2,\n",
+            0,
+            b"1,write,0,empty\n2,write,1,empty\n3,write,0,written\n4,write,1,written\n5,write,2,empty\nend,5,0,1\n",
+            b"",
+        ),
+        (
+            "a live page is copied",
+            b"0,write,0,01\n0,write,1,02\n0,write,2,03\n0,write,0,04\n0,write,2,05\n0,read,1,\n",
+            0,
+            b"1,write,0,empty\n2,write,1,empty\n3,write,2,empty\n4,write,0,written\n5,write,2,written\n6,read,1,0200000000000000\nend,5,1,1\n",
+            b"",
+        ),
+        (
+            "a trim empties",
+            b"0,write,0,41\n0,trim,0,\n0,trim,0,\n0,read,0,\n",
+            0,
+            b"1,write,0,empty\n2,trim,0,written\n3,trim,0,empty\n4,read,0,empty\nend,1,0,0\n",
+            b"",
+        ),
+        (
+            "all ops in one trace",
+            b"0,write,0,01\n0,write,1,02\n0,write,2,03\n0,write,0,04\n0,write,2,05\n0,meet,0,\n0,read,1,\n0,trim,1,\n0,read,1,\n",
+            0,
+            b"1,write,0,empty\n2,write,1,empty\n3,write,2,empty\n4,write,0,written\n5,write,2,written\n6,meet,0,met\n7,read,1,0200000000000000\n8,trim,1,written\n9,read,1,empty\nend,5,1,1\n",
+            b"",
+        ),
+    ];
+    check(&rt, rows.as_slice());
+    Ok(())
+}
+
+#[test]
+fn wear_and_luns_answer_as_written(rt: HostRuntime) -> Result<(), Fail> {
+    let once = play(
+        rt.alloc(),
+        device("1", "3", "1").as_slice(),
+        b"0,write,0,01\n0,write,1,02\n0,write,0,03\n0,write,1,04\n0,write,2,05\n0,write,0,06\n0,write,1,07\n0,read,1,\n",
+    );
+    assert!(rt;
+        once.output.as_slice()
+            == b"1,write,0,empty\n2,write,1,empty\n3,write,0,written\n4,write,1,written\n5,write,2,empty\n6,write,0,written\n7,write,1,worn\n8,read,1,0400000000000000\nend,6,0,1\n".as_slice()
+    );
+    let least_live = play(
+        rt.alloc(),
+        device("1", "4", "10").as_slice(),
+        b"0,write,0,\n0,write,1,\n0,write,2,\n0,write,2,\n0,write,2,\n0,write,2,\n0,write,0,\n",
+    );
+    assert!(rt;
+        least_live
+            .output
+            .as_slice()
+            .ends_with(b"7,write,0,written\nend,7,0,1\n")
+    );
+    let two_luns = play(
+        rt.alloc(),
+        device("2", "4", "10").as_slice(),
+        b"0,write,0,01\n0,write,1,02\n0,write,1,03\n0,write,2,04\n0,write,2,05\n0,write,2,06\n0,write,1,07\n0,read,0,\n0,read,1,\n0,read,2,\n",
+    );
+    assert!(rt;
+        two_luns.output.as_slice().ends_with(
+            b"8,read,0,0100000000000000\n9,read,1,0700000000000000\n10,read,2,0600000000000000\nend,7,1,1\n"
+        )
+    );
+    Ok(())
+}
+
+#[test]
+fn a_device_of_endurance_two_wears_out_after_twelve_writes(rt: HostRuntime) -> Result<(), Fail> {
+    let ended = play(
+        rt.alloc(),
+        device("1", "3", "2").as_slice(),
+        b"0,write,0,01\n0,write,1,02\n0,write,0,03\n0,write,1,04\n0,write,0,05\n0,write,1,06\n0,write,0,07\n0,write,1,08\n0,write,0,09\n0,write,1,0a\n0,write,0,0b\n0,write,1,0c\n0,write,0,0d\n0,read,0,\n0,read,1,\n",
+    );
+    assert!(rt;
+        ended.output.as_slice().ends_with(
+            b"12,write,1,written\n13,write,0,worn\n14,read,0,0b00000000000000\n15,read,1,0c00000000000000\nend,12,0,4\n"
+        )
+    );
+    Ok(())
+}
+
 #[test]
 fn each_faulty_record_is_named(rt: HostRuntime) -> Result<(), Fail> {
     let rows: [Row; 14] = [
