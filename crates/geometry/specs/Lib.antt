@@ -4,4 +4,7 @@ pub mod History
 pub mod Limits
 pub mod Geometry
 pub mod PageBytes
+pub mod MapWords
+pub mod PinWords
+pub mod TableOrder
 pub mod Greedy

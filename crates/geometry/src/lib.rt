@@ -6,8 +6,11 @@ mod answer;
 mod fault;
 mod geometry;
 mod limits;
+mod map_word;
 mod page_addr;
 mod page_bytes;
+mod pin_word;
+mod table_order;
 mod victim;
 
 pub use answer::{Got, Was};
@@ -17,9 +20,14 @@ pub use limits::{
     LONE_WORKERS, MAX_BLOCKS, MAX_BROOMS, MAX_ENDURANCE, MAX_HOSTS, MAX_LUNS, MAX_PAGES,
     MAX_SECTORS, MAX_TABLE_WORDS, MAX_WORDS, MIN_BLOCKS, WORD_BYTES,
 };
+pub use map_word::{MapWord, UNMAPPED};
 pub use page_addr::PageAddr;
 pub use page_bytes::{put_word, word_at};
+pub use pin_word::{NEXT_PHASE, PAGE_WRITTEN, Phase, PinWord, READER, TAKEN, freed, kept};
+pub use table_order::{ERASED, page_word_at, pin_at, table_size};
 pub use victim::greedy;
 
 #[cfg(test)]
 mod tests;
+#[cfg(test)]
+mod word_tests;

@@ -1,0 +1,14 @@
+-- The word of a sector.
+use Rattle.std.specs.Prelude.{ℕ, ◌+◌, ◌*◌, ◌<◌}
+use Rattle.geometry.specs.declared.map_word.MapWord.{MapWord}
+use Rattle.geometry.specs.declared.map_word.TheConstants.{MAPPED, MAP_GENERATION, MAP_BLOCK, MAP_GENERATIONS, MAP_BLOCKS}
+
+-- the fields have room in a word
+pub record FitsMap (m : MapWord) : Type 0 where
+  pub generation : m.generation < MAP_GENERATIONS
+  pub block : m.block < MAP_BLOCKS
+  pub page : m.page < MAP_BLOCK
+
+-- the word that names a page
+abbrev pub map_word : MapWord → ℕ
+map_word m = ((MAPPED + m.generation * MAP_GENERATION) + m.block * MAP_BLOCK) + m.page

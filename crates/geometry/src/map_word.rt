@@ -1,0 +1,71 @@
+//! The word of a sector in the shared table: which page holds the sector's data.
+ghost use Rattle.std.specs.Prelude.{◌≡◌, ◌<◌, IfSome, IfNone};
+ghost use Rattle.geometry.specs.MapWords.{FitsMap, map_word};
+ghost use Rattle.geometry.specs.declared.map_word.MapWord.{MapWord};
+
+use std::fmt;
+use std::fmt::{Display, Formatter};
+
+/// The word of a sector that no page holds.
+pub const UNMAPPED: u64 = 0;
+/// Bit 63 of the word of a sector that a page holds.
+pub const MAPPED: u64 = 0x8000_0000_0000_0000;
+/// One more generation: bits 32 to 62.
+pub const MAP_GENERATION: u64 = 0x1_0000_0000;
+/// One block further: bits 16 to 31. The page has the bits below.
+pub const MAP_BLOCK: u64 = 0x1_0000;
+/// Generations in a map word are below this.
+pub const MAP_GENERATIONS: u64 = 0x8000_0000;
+/// Blocks in a map word are below this.
+pub const MAP_BLOCKS: u64 = 0x1_0000;
+
+/// A page of one generation of its block.
+#[derive(Clone, Copy, PartialEq, Eq, Debug)]
+pub struct MapWord {
+    pub generation: u32,
+    pub block: u32,
+    pub page: u32,
+}
+
+impl MapWord {
+    pub fn pack(self) -> u64
+        requires { FitsMap self }
+        ensures { result ≡ map_word self }
+    {
+        MAPPED
+            + self.generation as u64 * MAP_GENERATION
+            + self.block as u64 * MAP_BLOCK
+            + self.page as u64
+    }
+
+    /// `None` where bit 63 is clear.
+    pub fn unpack(word: u64) -> Option<MapWord>
+        ensures some { IfSome result (λ page. FitsMap page × (map_word page ≡ word)) }
+        ensures none { IfNone result (word < MAPPED) }
+    {
+        if word < MAPPED {
+            return None;
+        }
+        Some(MapWord {
+            generation: ((word - MAPPED) / MAP_GENERATION) as u32,
+            block: (word % MAP_GENERATION / MAP_BLOCK) as u32,
+            page: (word % MAP_BLOCK) as u32,
+        })
+    }
+}
+
+/// A map word names one page, so that `unpack` undoes `pack`.
+pub fn map_word_names_one_page()
+    ensures { (m n : MapWord) → FitsMap m → FitsMap n → map_word m ≡ map_word n → m ≡ n }
+{}
+
+/// For people who debug: `block 2 page 3 generation 1`.
+impl Display for MapWord {
+    fn fmt<W: fmt::Write>(&self, f: &mut Formatter<W>) -> fmt::Result {
+        write!(
+            f,
+            "block {} page {} generation {}",
+            self.block, self.page, self.generation
+        )
+    }
+}
