@@ -15,8 +15,8 @@ use Rattle.die.specs.Sound.{unused}
 pub map_range_same : {X : Type 0} (f g : ℕ → X) (n : ℕ) → ((k : ℕ) → k < n → f k ≡ g k) → map f (range_with_len 0 n) ≡ map g (range_with_len 0 n)
 map_range_same f g n same =
     same_lists (map f (range_with_len 0 n)) (map g (range_with_len 0 n)) (length-map-range_with_len f 0 n ∙ sym (length-map-range_with_len g 0 n))
-      (λ k d short. let low : k < n = omega (arith, length-map-range_with_len f 0 n) in
-        get_or-map-range_with_len f 0 n k k d low (omega arith) ∙ (same k low ∙ sym (get_or-map-range_with_len g 0 n k k d low (omega arith))))
+    (λ k d short. let low : k < n = omega (arith, length-map-range_with_len f 0 n) in
+    get_or-map-range_with_len f 0 n k k d low (omega arith) ∙ (same k low ∙ sym (get_or-map-range_with_len g 0 n k k d low (omega arith))))
 
 -- a block has as many pages as its state says
 pub length-pages : (n pages : ℕ) (bytes stamps : List ℕ) (states : List BlockState) (b : ℕ) → length (block_in n pages bytes stamps states b).pages ≡ (get_or states b unused).next
@@ -35,8 +35,8 @@ pub block_in-same : (n pages : ℕ) (bytes bytes' stamps stamps' : List ℕ) (st
 unfolding block_in
 block_in-same n pages bytes bytes' stamps stamps' states states' b same places =
     rw same
-      (ap (λ (ps : List Page). let r : Block = record { pages = ps; erases = (get_or states b unused).erases; retired = (get_or states b unused).retired } in r)
-        (map_range_same (λ p. stored n bytes' stamps' (b * pages + p)) (λ p. stored n bytes stamps (b * pages + p)) (get_or states b unused).next places))
+    (ap (λ (ps : List Page). let r : Block = record { pages = ps; erases = (get_or states b unused).erases; retired = (get_or states b unused).retired } in r)
+    (map_range_same (λ p. stored n bytes' stamps' (b * pages + p)) (λ p. stored n bytes stamps (b * pages + p)) (get_or states b unused).next places))
 
 -- a page is put at a place that its block's state allows, and that state counts it
 pub record Adds (n pages blocks : ℕ) (bytes bytes' stamps stamps' : List ℕ) (states states' : List BlockState) (b p : ℕ) (page : Page) : Type 0 where
@@ -71,15 +71,15 @@ module _ (n pages blocks : ℕ) (bytes bytes' stamps stamps' : List ℕ) (states
       let place : c * pages + q < blocks * pages = omega (arith, mul-add-lt c pages q blocks low short) in
       let room : (c * pages + q + 1) * n ≤ blocks * pages * n = mul-le-mul_right n (omega arith) in
       rw adds.stamps_after
-        (stored-other n bytes bytes' stamps (b * pages + p) (c * pages + q) page
-          (λ e. let same = same_from_place c q b p pages short adds.within e in apart same.0 same.1)
-          (omega (arith, adds.bytes_size)) adds.bytes_after)
+      (stored-other n bytes bytes' stamps (b * pages + p) (c * pages + q) page
+      (λ e. let same = same_from_place c q b p pages short adds.within e in apart same.0 same.1)
+      (omega (arith, adds.bytes_size)) adds.bytes_after)
 
   -- each other block shows what it showed
   pub others-added : (c : ℕ) → c ≢ b → c < blocks → block_in n pages bytes' stamps' states' c ≡ block_in n pages bytes stamps states c
   others-added c apart low =
       block_in-same n pages bytes bytes' stamps stamps' states states' c (adds.states_after c apart)
-        (λ q short. kept c q low (omega (arith, adds.counts c low)) (λ e _. apart e))
+      (λ q short. kept c q low (omega (arith, adds.counts c low)) (λ e _. apart e))
 
   -- the block has the page behind the others
   pub block-added : block_in n pages bytes' stamps' states' b ≡ programmed (block_in n pages bytes stamps states b) page
@@ -90,10 +90,10 @@ module _ (n pages blocks : ℕ) (bytes bytes' stamps stamps' : List ℕ) (states
       let g : ℕ → Page = λ q. stored n bytes stamps (b * pages + q) in
       let place : b * pages + p < blocks * pages = omega (arith, mul-add-lt b pages p blocks adds.block adds.within) in
       let last : f s.next ≡ page =
-        ap f (sym adds.next) ∙ rw adds.stamps_after (stored-added n bytes bytes' stamps (b * pages + p) page (omega (arith, adds.stamps_size)) adds.bytes_after) in
+      ap f (sym adds.next) ∙ rw adds.stamps_after (stored-added n bytes bytes' stamps (b * pages + p) page (omega (arith, adds.stamps_size)) adds.bytes_after) in
       let front : map f (range_with_len 0 s.next) ≡ map g (range_with_len 0 s.next) =
-        map_range_same f g s.next (λ q low. kept b q adds.block (omega (arith, adds.counts b adds.block)) (λ _ e. omega (arith, adds.next))) in
+      map_range_same f g s.next (λ q low. kept b q adds.block (omega (arith, adds.counts b adds.block)) (λ _ e. omega (arith, adds.next))) in
       let pushed : map f (range_with_len 0 (s.next + 1)) ≡ map g (range_with_len 0 s.next) ++ page ∷ [] =
-        map-range_with_len_more f 0 s.next s.next (omega arith) ∙ (ap (λ (ps : List Page). ps ++ f s.next ∷ []) front ∙ ap (λ (x : Page). map g (range_with_len 0 s.next) ++ x ∷ []) last) in
+      map-range_with_len_more f 0 s.next s.next (omega arith) ∙ (ap (λ (ps : List Page). ps ++ f s.next ∷ []) front ∙ ap (λ (x : Page). map g (range_with_len 0 s.next) ++ x ∷ []) last) in
       rw adds.state_after
-        (ap (λ (ps : List Page). let r : Block = record { pages = ps; erases = s.erases; retired = s.retired } in r) pushed)
+      (ap (λ (ps : List Page). let r : Block = record { pages = ps; erases = s.erases; retired = s.retired } in r) pushed)

@@ -48,15 +48,15 @@ pub page-stored : (d : Die) (b p : ℕ) → p < length (block_of d b).pages → 
 unfolding block_of
 page-stored d b p low =
     page_at-stored (page_bytes_of d.geometry) (pages_of d.geometry) d.bytes.items d.stamps.items d.states.items b p
-      (omega (arith, length-pages (page_bytes_of d.geometry) (pages_of d.geometry) d.bytes.items d.stamps.items d.states.items b))
+    (omega (arith, length-pages (page_bytes_of d.geometry) (pages_of d.geometry) d.bytes.items d.stamps.items d.states.items b))
 
 -- every block is sound once one block has a sound state
 pub sound-set : (d : Die) (b : ℕ) (s : BlockState) → b < blocks_of d.geometry → IsSound (pages_of d.geometry) (endurance_of d.geometry) s → (c : ℕ) → c < blocks_of d.geometry → IsSound (pages_of d.geometry) (endurance_of d.geometry) (get_or (set d.states.items b s) c unused)
 sound-set d b s within sound c low =
     let P : BlockState → Type 0 = λ t. IsSound (pages_of d.geometry) (endurance_of d.geometry) t in
     elim (cases_eq c b) [
-      inl e ↦ subst P (sym (ap (λ (k : ℕ). get_or (set d.states.items b s) k unused) e ∙ get_or-set_same d.states.items b s unused (omega (arith, d.states_sized)))) sound
-    | inr apart ↦ subst P (sym (get_or-set_other d.states.items b c s unused apart)) (d.sound c low)
+      | inl e ↦ subst P (sym (ap (λ (k : ℕ). get_or (set d.states.items b s) k unused) e ∙ get_or-set_same d.states.items b s unused (omega (arith, d.states_sized)))) sound
+      | inr apart ↦ subst P (sym (get_or-set_other d.states.items b c s unused apart)) (d.sound c low)
     ]
 
 -- the state of a block that has one more page
@@ -89,7 +89,7 @@ adds_page d at place page bytes' s is e puts same =
       bytes_after = subst (λ (k : ℕ). PutsSlot (page_bytes_of d.geometry) d.bytes.items bytes' k page.value) e puts;
       stamps_after = ap (λ (k : ℕ). set d.stamps.items k page.stamp) e;
       state_after = get_or-set_same d.states.items at.block (counted s) unused (omega (arith, is.usable.within, d.states_sized)) ∙ ap counted same;
-      states_after = λ c apart. get_or-set_other d.states.items at.block c (counted s) unused apart
+      states_after = λ c apart. get_or-set_other d.states.items at.block c (counted s) unused apart;
     }
 
 -- the blocks of the die after a page was added, where its geometry is as before
@@ -102,7 +102,7 @@ changes_by_adding old new b p page same adds =
     record {
       changed = subst (λ (h : Geometry). block_in (page_bytes_of h) (pages_of h) new.bytes.items new.stamps.items new.states.items b ≡ programmed (block_in (page_bytes_of g) (pages_of g) old.bytes.items old.stamps.items old.states.items b) page) (sym same) added;
       others = λ c apart low. subst (λ (h : Geometry). block_in (page_bytes_of h) (pages_of h) new.bytes.items new.stamps.items new.states.items c ≡ block_in (page_bytes_of g) (pages_of g) old.bytes.items old.stamps.items old.states.items c) (sym same) (others c apart low);
-      geometry = same
+      geometry = same;
     }
 
 -- the state of a block after an erase command
@@ -116,7 +116,7 @@ sound-wiped d b s is e =
     record {
       within = omega arith;
       erased = omega (arith, left, e');
-      usable = λ off. let apart = eqb-false (s.erases + 1) (endurance_of d.geometry) off in omega (arith, left, e', apart)
+      usable = λ off. let apart = eqb-false (s.erases + 1) (endurance_of d.geometry) off in omega (arith, left, e', apart);
     }
 
 -- the blocks of the die after one block's state was wiped
@@ -127,6 +127,8 @@ changes_by_wiping d b s is e =
     let f : BlockState → Block = λ t. record {
       pages = map (λ p. stored (page_bytes_of d.geometry) d.bytes.items d.stamps.items (b * pages_of d.geometry + p)) (range_with_len 0 t.next);
       erases = t.erases;
-      retired = t.retired } in
-    (ap f (get_or-set_same d.states.items b (wiped E s) unused (omega (arith, is.within, d.states_sized))) ∙ ap (λ (t : BlockState). f (wiped E t)) e,
-     λ c apart. block_in-same (page_bytes_of d.geometry) (pages_of d.geometry) d.bytes.items d.bytes.items d.stamps.items d.stamps.items d.states.items (set d.states.items b (wiped E s)) c (get_or-set_other d.states.items b c (wiped E s) unused apart) (λ p low. refl))
+      retired = t.retired;
+    } in (
+      ap f (get_or-set_same d.states.items b (wiped E s) unused (omega (arith, is.within, d.states_sized))) ∙ ap (λ (t : BlockState). f (wiped E t)) e,
+      λ c apart. block_in-same (page_bytes_of d.geometry) (pages_of d.geometry) d.bytes.items d.bytes.items d.stamps.items d.stamps.items d.states.items (set d.states.items b (wiped E s)) c (get_or-set_other d.states.items b c (wiped E s) unused apart) (λ p low. refl),
+    )

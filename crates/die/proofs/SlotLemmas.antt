@@ -16,7 +16,7 @@ below-paste : (d : List ℕ) (at : ℕ) (s : List ℕ) (n j z : ℕ) → at + n 
 below-paste d at s n j z fits long low =
     let e : length (take at d) ≡ at = length-take-le at d (omega arith) in
     rw append_assoc
-      (get_or_append_left (take at d) (take n s ++ drop (at + n) d) z j (omega arith) ∙ get_or-take at d j z low)
+    (get_or_append_left (take at d) (take n s ++ drop (at + n) d) z j (omega arith) ∙ get_or-take at d j z low)
 
 -- above the part nothing changes
 above-paste : (d : List ℕ) (at : ℕ) (s : List ℕ) (n j z : ℕ) → at + n ≤ length d → n ≤ length s → at + n ≤ j → get_or (paste d at s n) j z ≡ get_or d j z
@@ -24,21 +24,21 @@ above-paste d at s n j z fits long high =
     let e : length (take at d ++ take n s) ≡ at + n = length-append (take at d) (take n s) ∙ omega (arith, length-take-le at d (omega arith), length-take-le n s long) in
     let k : at + n + (j - (at + n)) ≡ j = omega arith in
     get_or-append_right (take at d ++ take n s) (drop (at + n) d) (at + n) j z e high
-      ∙ (get_or-drop (at + n) d (j - (at + n)) z ∙ ap (λ i. get_or d i z) k)
+    ∙ (get_or-drop (at + n) d (j - (at + n)) z ∙ ap (λ i. get_or d i z) k)
 
 -- the part itself
 part-paste : (d : List ℕ) (at : ℕ) (s : List ℕ) (n : ℕ) → at + n ≤ length d → n ≤ length s → take n (drop at (paste d at s n)) ≡ take n s
 part-paste d at s n fits long =
     rw append_assoc
-      (ap (take n) (drop_at (take at d) (take n s ++ drop (at + n) d) at (length-take-le at d (omega arith)))
-        ∙ take_at (take n s) (drop (at + n) d) n (length-take-le n s long))
+    (ap (take n) (drop_at (take at d) (take n s ++ drop (at + n) d) at (length-take-le at d (omega arith)))
+    ∙ take_at (take n s) (drop (at + n) d) n (length-take-le n s long))
 
 -- two lists that agree at n places from `at` on have one part there
 same_part : (n at : ℕ) (xs ys : List ℕ) → length xs ≡ length ys → ((i z : ℕ) → i < n → get_or xs (at + i) z ≡ get_or ys (at + i) z) → take n (drop at xs) ≡ take n (drop at ys)
 same_part n at xs ys e h =
     same_lists (take n (drop at xs)) (take n (drop at ys)) (simp (length-take, length-drop) (omega arith))
-      (λ k z short. let low : k < n = omega (arith, length-take n (drop at xs)) in
-        get_or-take n (drop at xs) k z low ∙ (get_or-drop at xs k z ∙ (h k z low ∙ (sym (get_or-drop at ys k z) ∙ sym (get_or-take n (drop at ys) k z low)))))
+    (λ k z short. let low : k < n = omega (arith, length-take n (drop at xs)) in
+    get_or-take n (drop at xs) k z low ∙ (get_or-drop at xs k z ∙ (h k z low ∙ (sym (get_or-drop at ys k z) ∙ sym (get_or-take n (drop at ys) k z low)))))
 
 -- one place is written
 pub PutsSlot-paste : (n : ℕ) (d : List ℕ) (place : ℕ) (s : List ℕ) → (place + 1) * n ≤ length d → n ≤ length s → PutsSlot n d (paste d (place * n) s n) place (take n s)
@@ -49,12 +49,12 @@ PutsSlot-paste n d place s fits long =
       size = length-paste d (place * n) s n room long;
       changed = part-paste d (place * n) s n room long;
       others = λ k apart within.
-        same_part n (k * n) (paste d (place * n) s n) d (length-paste d (place * n) s n room long)
+          same_part n (k * n) (paste d (place * n) s n) d (length-paste d (place * n) s n room long)
           (λ i z low. elim (cases_order k place) [
-            inl e ↦ absurd (apart e)
-          | inr o ↦ elim o [
-              inl lower ↦ below-paste d (place * n) s n (k * n + i) z room long (let g : (k + 1) * n ≤ place * n = mul-le-mul_right n (omega arith) in omega arith)
-            | inr higher ↦ above-paste d (place * n) s n (k * n + i) z room long (let g : (place + 1) * n ≤ k * n = mul-le-mul_right n (omega arith) in omega arith)
+            | inl e ↦ absurd (apart e)
+            | inr o ↦ elim o [
+              | inl lower ↦ below-paste d (place * n) s n (k * n + i) z room long (let g : (k + 1) * n ≤ place * n = mul-le-mul_right n (omega arith) in omega arith)
+              | inr higher ↦ above-paste d (place * n) s n (k * n + i) z room long (let g : (place + 1) * n ≤ k * n = mul-le-mul_right n (omega arith) in omega arith)
             ]
-          ])
+          ]);
     }

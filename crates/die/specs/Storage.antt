@@ -13,9 +13,9 @@ stored page_bytes bytes stamps place = record { value = slot page_bytes bytes pl
 -- block b, by its state: its pages stand one behind the other, from place b * pages on
 unfoldable pub block_in : ℕ → ℕ → List ℕ → List ℕ → List BlockState → ℕ → Block
 block_in page_bytes pages bytes stamps states b =
-  let state = slice_index_or states b unused in
-  record {
-    pages = map (λ p. stored page_bytes bytes stamps (b * pages + p)) (range_with_len 0 state.next);
-    erases = state.erases;
-    retired = state.retired
-  }
+    let state = slice_index_or states b unused in
+    record {
+      pages = map (λ p. stored page_bytes bytes stamps (b * pages + p)) (range_with_len 0 state.next);
+      erases = state.erases;
+      retired = state.retired;
+    }

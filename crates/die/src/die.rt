@@ -118,7 +118,7 @@ impl Die {
         ensures status { result ≡ 0 }
         ensures changes { ChangesBlock self.old self.new to.block
             (programmed (block_of self.old to.block)
-              (page_at (page_bytes_of (geometry_of self.old)) (block_of self.old from.block) from.page)) }
+            (page_at (page_bytes_of (geometry_of self.old)) (block_of self.old from.block) from.page)) }
     {
         let source = self.place_of(from);
         let place = self.place_of(to);

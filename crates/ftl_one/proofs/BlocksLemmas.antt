@@ -39,20 +39,20 @@ table-change f f' n b change low here there =
     let d : Block = unused Retired in
     let v : Block = change (get_or xs b d) in
     table_is f' n (set xs b v) d (length-set xs b v ∙ length-table f n)
-      (λ k within. elim (cases_eq k b) [
-        inl e ↦
+    (λ k within. elim (cases_eq k b) [
+      | inl e ↦
           ap f' e ∙ (here ∙ (ap change (sym (get_or-table f n b d low))
-            ∙ (sym (get_or-set_same xs b v d (omega (arith, low, length-table f n))) ∙ ap (λ (i : ℕ). get_or (set xs b v) i d) (sym e))))
+          ∙ (sym (get_or-set_same xs b v d (omega (arith, low, length-table f n))) ∙ ap (λ (i : ℕ). get_or (set xs b v) i d) (sym e))))
       | inr apart ↦
           there k within apart ∙ (sym (get_or-table f n k d within) ∙ sym (get_or-set_other xs b k v d apart))
-      ])
+    ])
 
 -- every block is changed
 pub table-map : (f : ℕ → Block) (n : ℕ) (change : Block → Block) → table (λ c. change (f c)) n ≡ map change (table f n)
 table-map f n change =
     let d : Block = unused Retired in
     table_is (λ c. change (f c)) n (map change (table f n)) d (length-map (table f n) change ∙ length-table f n)
-      (λ k low. ap change (sym (get_or-table f n k d low)) ∙ sym (get_or-map change (table f n) k d d (omega (arith, low, length-table f n))))
+    (λ k low. ap change (sym (get_or-table f n k d low)) ∙ sym (get_or-map change (table f n) k d d (omega (arith, low, length-table f n))))
 
 -- a search by a part of each element is one over the parts
 prefix_len-map : {X Y : Type 0} (p : Y → Bool) (g : X → Y) (xs : List X) → prefix_len (λ x. p (g x)) xs ≡ prefix_len p (map g xs)
@@ -69,9 +69,9 @@ position-map p g xs =
 pub position_alone : {X : Type 0} (p : X → Bool) (xs : List X) (d : X) (o : Option ℕ) → ((k : ℕ) → k < length xs → p (get_or xs k d) ≡ true → o ≡ Some k) → ((k : ℕ) → o ≡ Some k → (k < length xs) × (p (get_or xs k d) ≡ true)) → position p xs ≡ o
 position_alone p xs d None one at =
     let found : position_or_len p xs ≡ length xs =
-      position_or_len_is p xs (length xs) d (omega arith)
-        (λ k low. elim (cases_Bool (p (get_or xs k d))) [ inl on ↦ absurd (none_some k (one k low on)) | inr off ↦ off ])
-        (λ h. absurd (omega arith)) in
+    position_or_len_is p xs (length xs) d (omega arith)
+    (λ k low. elim (cases_Bool (p (get_or xs k d))) [ inl on ↦ absurd (none_some k (one k low on)) | inr off ↦ off ])
+    (λ h. absurd (omega arith)) in
     rw found (rw (le-ltb (length xs) (length xs) (omega arith)) refl)
   where
     none_some : (k : ℕ) → None ≡ Some k → ⊥
@@ -79,11 +79,12 @@ position_alone p xs d None one at =
 position_alone p xs d (Some b) one at =
     let here = at b refl in
     let found : position_or_len p xs ≡ b =
-      position_or_len_is p xs b d (omega (arith, here.0))
-        (λ k low. elim (cases_Bool (p (get_or xs k d))) [
-            inl on ↦ let same : b ≡ k = same_some b k (one k (omega (arith, here.0)) on) in absurd (omega (arith, same))
-          | inr off ↦ off ])
-        (λ h. here.1) in
+    position_or_len_is p xs b d (omega (arith, here.0))
+    (λ k low. elim (cases_Bool (p (get_or xs k d))) [
+      | inl on ↦ let same : b ≡ k = same_some b k (one k (omega (arith, here.0)) on) in absurd (omega (arith, same))
+      | inr off ↦ off
+    ])
+    (λ h. here.1) in
     rw found (rw (lt-ltb b (length xs) here.0) refl)
   where
     same_some : (m k : ℕ) → Some m ≡ Some k → m ≡ k
@@ -102,7 +103,7 @@ pub roles-blocks : (s : Store) (roles : List Role) → map (λ block. block.role
 unfolding blocks_in
 roles-blocks s roles =
     map-table (λ (block : Block). block.role) (block_in s roles) (length roles)
-      ∙ table_is (role_in roles) (length roles) roles Retired refl (λ k low. refl)
+    ∙ table_is (role_in roles) (length roles) roles Retired refl (λ k low. refl)
 
 pub open_of-blocks : (s : Store) (roles : List Role) → open_of (blocks_in s roles) ≡ position is_open roles
 open_of-blocks s roles = position-map is_open (λ (block : Block). block.role) (blocks_in s roles) ∙ ap (position is_open) (roles-blocks s roles)
@@ -118,8 +119,8 @@ pub counts-blocks : (s : Store) (roles : List Role) → length roles ≡ blocks_
 unfolding blocks_in counts_of
 counts-blocks s roles size =
     map-table live_of (block_in s roles) (length roles)
-      ∙ table_is (λ b. live_count (entries_of s b)) (length roles) s.live.items 0 (omega (arith, size, s.mapped.live_size))
-          (λ k low. sym (count-entries_of s k (omega (arith, low, size))))
+    ∙ table_is (λ b. live_count (entries_of s b)) (length roles) s.live.items 0 (omega (arith, size, s.mapped.live_size))
+    (λ k low. sym (count-entries_of s k (omega (arith, low, size))))
 
 pub closed-blocks : (s : Store) (roles : List Role) → map (λ block. is_closed block.role) (blocks_in s roles) ≡ map is_closed roles
 closed-blocks s roles = map-part (blocks_in s roles) ∙ ap (map is_closed) (roles-blocks s roles)
@@ -132,4 +133,4 @@ closed-blocks s roles = map-part (blocks_in s roles) ∙ ap (map is_closed) (rol
 pub victim_of-blocks : (s : Store) (roles : List Role) → length roles ≡ blocks_of (geometry_of s) → victim_of (blocks_in s roles) ≡ greedy_of (counts_of s) (map is_closed roles)
 victim_of-blocks s roles size =
     ap (λ (xs : List ℕ). greedy_of xs (map (λ block. is_closed block.role) (blocks_in s roles))) (counts-blocks s roles size)
-      ∙ ap (greedy_of (counts_of s)) (closed-blocks s roles)
+    ∙ ap (greedy_of (counts_of s)) (closed-blocks s roles)

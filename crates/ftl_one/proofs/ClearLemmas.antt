@@ -33,7 +33,7 @@ keeps_both a b c first second =
     record {
       geometry = second.geometry ∙ first.geometry;
       erases = λ k low. second.erases k (omega (arith, same, low)) ∙ first.erases k low;
-      retired = λ k low. second.retired k (omega (arith, same, low)) ∙ first.retired k low
+      retired = λ k low. second.retired k (omega (arith, same, low)) ∙ first.retired k low;
     }
 
 -- at the start nothing is copied
@@ -47,15 +47,15 @@ ClearedTo-none s victim spare =
       count = refl;
       others = λ c first second low. refl;
       sectors = refl;
-      keeps = kept_all s
+      keeps = kept_all s;
     }
 
 -- the live entries of one more page
 live-one : (xs : List Entry) (p : ℕ) (e d : Entry) → p < length xs → get_or xs p d ≡ e → live_entries (take (p + 1) xs) ≡ live_entries (take p xs) ++ cond e.live (e ∷ []) []
 live-one xs p e d low is =
     ap live_entries (take_more xs p d low)
-      ∙ (filter-append (λ (x : Entry). x.live) (take p xs) (get_or xs p d ∷ [])
-      ∙ ap (λ (x : Entry). live_entries (take p xs) ++ cond x.live (x ∷ []) []) is)
+    ∙ (filter-append (λ (x : Entry). x.live) (take p xs) (get_or xs p d ∷ [])
+    ∙ ap (λ (x : Entry). live_entries (take p xs) ++ cond x.live (x ∷ []) []) is)
 
 count-one : (xs : List Entry) (p : ℕ) (d : Entry) → p < length xs → live_count (take (p + 1) xs) ≡ live_count (take p xs) + cond (get_or xs p d).live 1 0
 count-one xs p d low = sum_by_more (λ (x : Entry). cond x.live 1 0) xs p d low
@@ -67,7 +67,7 @@ ClearedTo-dead old now victim spare p copies h low off =
     let off_old : (get_or (entries_of old victim) p nothing).live ≡ false = ap (λ (e : Entry). e.live) was ∙ off in
     record {
       copied = h.copied ∙ ap (λ (xs : List Entry). entries_of old spare ++ xs)
-        (sym (live-one (entries_of old victim) p (get_or (entries_of old victim) p nothing) nothing low refl
+          (sym (live-one (entries_of old victim) p (get_or (entries_of old victim) p nothing) nothing low refl
           ∙ (ap (λ (t : Bool). live_entries (take p (entries_of old victim)) ++ cond t (get_or (entries_of old victim) p nothing ∷ []) []) off_old
           ∙ append-nil (live_entries (take p (entries_of old victim))))));
       size = h.size;
@@ -76,7 +76,7 @@ ClearedTo-dead old now victim spare p copies h low off =
       count = omega (arith, h.count, count-one (entries_of old victim) p nothing low, ap {B = ℕ} (λ (t : Bool). cond t 1 0) off_old);
       others = h.others;
       sectors = h.sectors;
-      keeps = h.keeps
+      keeps = h.keeps;
     }
 
 -- a live page is copied
@@ -90,23 +90,23 @@ ClearedTo-live old now next victim spare p copies h low inside on moved =
     let same : blocks_of (geometry_of now) ≡ blocks_of (geometry_of old) = ap blocks_of h.keeps.geometry in
     record {
       copied =
-        moved.copied
+          moved.copied
           ∙ (ap (λ (xs : List Entry). xs ++ (record { sector = e.sector; live = true }) ∷ []) h.copied
           ∙ (append_assoc (entries_of old spare) (live_entries (take p (entries_of old victim))) ((record { sector = e.sector; live = true }) ∷ [])
           ∙ ap (λ (xs : List Entry). entries_of old spare ++ xs)
-              (ap (λ (x : Entry). live_entries (take p (entries_of old victim)) ++ x ∷ []) shown
-                ∙ sym (live-one (entries_of old victim) p e nothing low was
-                    ∙ ap (λ (t : Bool). live_entries (take p (entries_of old victim)) ++ cond t (e ∷ []) []) on))));
+          (ap (λ (x : Entry). live_entries (take p (entries_of old victim)) ++ x ∷ []) shown
+          ∙ sym (live-one (entries_of old victim) p e nothing low was
+          ∙ ap (λ (t : Bool). live_entries (take p (entries_of old victim)) ++ cond t (e ∷ []) []) on))));
       size = ap (λ (xs : List Entry). length xs) moved.dead ∙ (length-set (entries_of now victim) p dead ∙ h.size);
       rest = λ q d past. ap (λ (xs : List Entry). get_or xs q d) moved.dead ∙ (get_or-set_other (entries_of now victim) p q dead d (λ k. omega (arith, k)) ∙ h.rest q d (omega arith));
       dead =
-        let front : take (p + 1) (entries_of next victim) ≡ take p (entries_of now victim) ++ dead ∷ [] =
+          let front : take (p + 1) (entries_of next victim) ≡ take p (entries_of now victim) ++ dead ∷ [] =
           ap (take (p + 1)) moved.dead ∙ take_more_set (entries_of now victim) p dead (omega (arith, low, h.size)) in
-        ap live_count front ∙ omega (arith, sum_by_push (λ (x : Entry). cond x.live 1 0) (take p (entries_of now victim)) dead, h.dead);
+          ap live_count front ∙ omega (arith, sum_by_push (λ (x : Entry). cond x.live 1 0) (take p (entries_of now victim)) dead, h.dead);
       count = omega (arith, h.count, count-one (entries_of old victim) p nothing low, ap {B = ℕ} (λ (t : Entry). cond t.live 1 0) was, ap {B = ℕ} (λ (t : Bool). cond t 1 0) on);
       others = λ c first second within. moved.others c first second (omega (arith, within, same)) ∙ h.others c first second within;
       sectors = moved.sectors ∙ h.sectors;
-      keeps = keeps_both old now next h.keeps moved.keeps
+      keeps = keeps_both old now next h.keeps moved.keeps;
     }
 
 -- the block that is copied into has room for the next live page
@@ -124,22 +124,23 @@ ClearedTo-room old now victim spare p copies h low on room =
     record {
       within = omega (arith, same, room.within);
       not_retired = h.keeps.retired spare room.within ∙ room.not_retired;
-      room = omega (arith, one, here, lit, most, size, kept, pages, room.room)
+      room = omega (arith, one, here, lit, most, size, kept, pages, room.room);
     }
 
 -- all pages are passed
 pub ClearedTo-all : (old now : Store) (victim spare p copies : ℕ) → ClearedTo old now victim spare p copies → p ≡ length (entries_of old victim) → (copies ≡ live_count (entries_of old victim)) × Clears old now victim spare
 ClearedTo-all old now victim spare p copies h all =
     let whole : take p (entries_of old victim) ≡ entries_of old victim = take_all p (entries_of old victim) (omega (arith, all)) in
-    let whole_now : take p (entries_of now victim) ≡ entries_of now victim = take_all p (entries_of now victim) (omega (arith, all, h.size)) in
-    (h.count ∙ ap live_count whole,
-     record {
-       copied = h.copied ∙ ap (λ (xs : List Entry). entries_of old spare ++ live_entries xs) whole;
-       dead = sym (ap live_count whole_now) ∙ h.dead;
-       others = h.others;
-       sectors = h.sectors;
-       keeps = h.keeps
-     })
+    let whole_now : take p (entries_of now victim) ≡ entries_of now victim = take_all p (entries_of now victim) (omega (arith, all, h.size)) in (
+      h.count ∙ ap live_count whole,
+      record {
+        copied = h.copied ∙ ap (λ (xs : List Entry). entries_of old spare ++ live_entries xs) whole;
+        dead = sym (ap live_count whole_now) ∙ h.dead;
+        others = h.others;
+        sectors = h.sectors;
+        keeps = h.keeps;
+      },
+    )
 
 -- no more pages are copied than were passed
 pub copies_below : (old now : Store) (victim spare p copies : ℕ) → ClearedTo old now victim spare p copies → copies ≤ p

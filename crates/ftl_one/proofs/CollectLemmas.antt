@@ -58,10 +58,10 @@ module _ (f : OneFtl) (spare : ℕ) (none : open_of (stock_of f).blocks ≡ None
   pub all_closed : (b : ℕ) → b < blocks_of (geometry_of f.store) → b ≢ spare → role_in f.roles.items b ≡ Closed
   all_closed b low apart =
       closed_else (role_in f.roles.items b)
-        (λ e. absurd (false≢true (sym (none_found is_free f.roles.items Retired (sym (free_of-stock f) ∙ no_free) b (omega (arith, low, f.roles_sized))) ∙ ap is_free e)))
-        (λ e. clash b no_open (f.lawful.open_is b e))
-        (λ e. apart (f.lawful.one_spare b spare e spare_role))
-        (λ e. f.lawful.spare_last spare b low spare_role e)
+      (λ e. absurd (false≢true (sym (none_found is_free f.roles.items Retired (sym (free_of-stock f) ∙ no_free) b (omega (arith, low, f.roles_sized))) ∙ ap is_free e)))
+      (λ e. clash b no_open (f.lawful.open_is b e))
+      (λ e. apart (f.lawful.one_spare b spare e spare_role))
+      (λ e. f.lawful.spare_last spare b low spare_role e)
     where
       clash : (k : ℕ) → f.open_block ≡ None → f.open_block ≡ Some k → ⊥
       clash k p q = cc
@@ -75,16 +75,16 @@ module _ (f : OneFtl) (spare : ℕ) (none : open_of (stock_of f).blocks ≡ None
   -- some block is closed
   pub one_closed : ((b : ℕ) → IsClosed f.closed.items b → ⊥) → ⊥
   one_closed never = elim (cases_eq spare 0) [
-      inl e ↦ never 1 (marked 1 (omega (arith, f.store.die.geometry.in_limits.blocks_low)) (λ k. omega (arith, k, e)))
+    | inl e ↦ never 1 (marked 1 (omega (arith, f.store.die.geometry.in_limits.blocks_low)) (λ k. omega (arith, k, e)))
     | inr apart ↦ never 0 (marked 0 (omega (arith, f.store.die.geometry.in_limits.blocks_low)) (λ k. apart (sym k)))
-    ]
+  ]
 
   -- a block that is marked is one of the device's, and closed
   pub victim_within : (b : ℕ) → IsClosed f.closed.items b → b < blocks_of (geometry_of f.store)
   victim_within b is = elim (cases_lt b (blocks_of (geometry_of f.store))) [
-      inl low ↦ low
+    | inl low ↦ low
     | inr past ↦ absurd (false≢true (sym (get_or_past f.closed.items b false (omega (arith, past, f.roles_sized, ap (λ (xs : List Bool). length xs) f.closed_marks, length-map f.roles.items is_closed))) ∙ is))
-    ]
+  ]
 
   pub victim_role : (b : ℕ) → IsClosed f.closed.items b → role_in f.roles.items b ≡ Closed
   victim_role b is = closed_by (role_in f.roles.items b) (sym (mark_of b (victim_within b is)) ∙ is)
@@ -101,25 +101,25 @@ module _ (f : OneFtl) (spare : ℕ) (none : open_of (stock_of f).blocks ≡ None
       record {
         within = spare_within;
         not_retired = f.lawful.usable spare spare_within ∙ ap is_retired spare_role;
-        room = omega (arith, spare_empty, most, entries_within f.store b (victim_within b is))
+        room = omega (arith, spare_empty, most, entries_within f.store b (victim_within b is));
       }
 
   -- the greedy victim has a dead page, for the sectors are fewer than the pages of the closed blocks
   pub few_live : (v : ℕ) → IsGreedy (counts_of f.store) f.closed.items v → live_count (entries_of f.store v) < pages_of (geometry_of f.store)
   unfolding counts_of
   few_live v best = elim (cases_lt (live_count (entries_of f.store v)) (pages_of (geometry_of f.store))) [
-      inl few ↦ few
+    | inl few ↦ few
     | inr many ↦
         let g = geometry_of f.store in
         let s = f.store in
         let mine = count-entries_of s v (victim_within v best.is_closed) in
         let all = sum_all_but s.live.items spare (pages_of g) (λ k low apart.
-          let within : k < blocks_of g = omega (arith, low, s.mapped.live_size) in
-          omega (arith, many, mine, best.least k (marked k within apart))) in
+        let within : k < blocks_of g = omega (arith, low, s.mapped.live_size) in
+        omega (arith, many, mine, best.least k (marked k within apart))) in
         let size = ap (λ (n : ℕ). (n - 1) * pages_of g) s.mapped.live_size in
         let named = count_by-le-length is_some s.current.items in
         omega (arith, all, size, s.mapped.total, named, s.mapped.current_size, s.die.geometry.in_limits.one_thread f.one_thread)
-    ]
+  ]
 
   -- what the layer keeps true after it
   pub law_after : (mid new : Store) (v : ℕ) (failed : Bool) (role' : ℕ → Role) → IsGreedy (counts_of f.store) f.closed.items v → Clears f.store mid v spare → Erases mid new v → retired_of new v ≡ failed → role' spare ≡ Open → role' v ≡ cond failed Retired Spare → ((c : ℕ) → c ≢ spare → c ≢ v → role' c ≡ role_in f.roles.items c) → IsLawful (blocks_of (geometry_of f.store)) (pages_of (geometry_of f.store)) (λ b. length (entries_of new b)) (retired_of new) role' (Some spare)
@@ -128,13 +128,13 @@ module _ (f : OneFtl) (spare : ℕ) (none : open_of (stock_of f).blocks ≡ None
       let apart = victim_apart v best.is_closed in
       let count = ap blocks_of clears.keeps.geometry in
       let moved : length (entries_of new spare) ≡ live_count (entries_of f.store v) =
-        ap (λ (xs : List Entry). length xs) (erases.entries spare (λ e. apart (sym e)) (omega (arith, spare_within, count)) ∙ clears.copied)
-          ∙ omega (arith, length-append (entries_of f.store spare) (live_entries (entries_of f.store v)), spare_empty, length-filter (λ (e : Entry). e.live) (entries_of f.store v)) in
+      ap (λ (xs : List Entry). length xs) (erases.entries spare (λ e. apart (sym e)) (omega (arith, spare_within, count)) ∙ clears.copied)
+      ∙ omega (arith, length-append (entries_of f.store spare) (live_entries (entries_of f.store v)), spare_empty, length-filter (λ (e : Entry). e.live) (entries_of f.store v)) in
       lawful-collect (blocks_of g) (pages_of g) (λ b. length (entries_of f.store b)) (retired_of f.store) (role_in f.roles.items) f.open_block f.lawful
-        (λ b. length (entries_of new b)) (retired_of new) role' spare v failed no_open spare_role (victim_role v best.is_closed)
-        (omega (arith, moved, few_live v best))
-        (ap (λ (xs : List Entry). length xs) erases.emptied)
-        (λ c low first second. ap (λ (xs : List Entry). length xs) (erases.entries c second (omega (arith, low, count)) ∙ clears.others c first second low))
-        is_failed
-        (λ c low other. erases.others c other (omega (arith, low, count)) ∙ clears.keeps.retired c low)
-        opened done others
+      (λ b. length (entries_of new b)) (retired_of new) role' spare v failed no_open spare_role (victim_role v best.is_closed)
+      (omega (arith, moved, few_live v best))
+      (ap (λ (xs : List Entry). length xs) erases.emptied)
+      (λ c low first second. ap (λ (xs : List Entry). length xs) (erases.entries c second (omega (arith, low, count)) ∙ clears.others c first second low))
+      is_failed
+      (λ c low other. erases.others c other (omega (arith, low, count)) ∙ clears.keeps.retired c low)
+      opened done others

@@ -23,8 +23,8 @@ get_or-entries n current b block p d low = get_or-map-range_with_len (λ q. entr
 pub same_entries : (n : ℕ) (current : List (Option PageAddr)) (b : ℕ) (block : Block) (xs : List Entry) → length xs ≡ length block.pages → ((p : ℕ) (d : Entry) → p < length block.pages → entry_of current b p (page_at n block p) ≡ get_or xs p d) → entries_in n current b block ≡ xs
 same_entries n current b block xs size same =
     same_lists (entries_in n current b block) xs (length-entries n current b block ∙ sym size)
-      (λ p d low. let short : p < length block.pages = omega (arith, length-entries n current b block) in
-        get_or-entries n current b block p d short ∙ same p d short)
+    (λ p d low. let short : p < length block.pages = omega (arith, length-entries n current b block) in
+    get_or-entries n current b block p d short ∙ same p d short)
 
 -- what a named page is
 pub is_page-same : (o : Option PageAddr) (b p : ℕ) → is_page o b p ≡ true → (at : PageAddr) × (o ≡ Some at) × (at.block ≡ b) × (at.page ≡ p)
@@ -54,22 +54,22 @@ pub entry-remapped : (current : List (Option PageAddr)) (s : ℕ) (o : Option Pa
 entry-remapped current s o b p page low off =
     let with : Bool → Entry = λ t. record { sector = page.stamp; live = t } in
     elim (cases_eq page.stamp s) [
-      inl e ↦
-        rw (eq-eqb page.stamp s e)
+      | inl e ↦
+          rw (eq-eqb page.stamp s e)
           (ap with (ap (λ (t : ℕ). names (set current s o) t b p) e ∙ (names-set_same current s o b p low ∙ off)))
-    | inr apart ↦
-        rw (ne_eqb page.stamp s apart) (ap with (names-set_other current s o page.stamp b p apart))
+      | inr apart ↦
+          rw (ne_eqb page.stamp s apart) (ap with (names-set_other current s o page.stamp b p apart))
     ]
 
 -- a block's entries where no page of it is the sector's new one
 pub entries-remapped : (n : ℕ) (current : List (Option PageAddr)) (s : ℕ) (o : Option PageAddr) (b : ℕ) (block : Block) → s < length current → ((p : ℕ) → p < length block.pages → is_page o b p ≡ false) → entries_in n (set current s o) b block ≡ map (forgotten s) (entries_in n current b block)
 entries-remapped n current s o b block low off =
     same_entries n (set current s o) b block (map (forgotten s) (entries_in n current b block))
-      (length-map (entries_in n current b block) (forgotten s) ∙ length-entries n current b block)
-      (λ p d short.
-        entry-remapped current s o b p (page_at n block p) low (off p short)
-          ∙ (ap (forgotten s) (sym (get_or-entries n current b block p d short))
-          ∙ sym (get_or-map (forgotten s) (entries_in n current b block) p d d (omega (arith, length-entries n current b block)))))
+    (length-map (entries_in n current b block) (forgotten s) ∙ length-entries n current b block)
+    (λ p d short.
+    entry-remapped current s o b p (page_at n block p) low (off p short)
+    ∙ (ap (forgotten s) (sym (get_or-entries n current b block p d short))
+    ∙ sym (get_or-map (forgotten s) (entries_in n current b block) p d d (omega (arith, length-entries n current b block)))))
 
 -- a block's page list shows its new page last, and the others as before
 pub page_at-programmed : (n : ℕ) (block : Block) (page : Page) (p : ℕ) → p < length block.pages → page_at n (programmed block page) p ≡ page_at n block p
@@ -86,25 +86,25 @@ entries-programmed n current b block page =
     let g : ℕ → Entry = λ p. entry_of current b p (page_at n block p) in
     let m = length block.pages in
     ap (λ (k : ℕ). map f (range_with_len 0 k)) (length_push block.pages page)
-      ∙ (map-range_with_len_more f 0 m m (omega arith)
-      ∙ (ap (λ (xs : List Entry). xs ++ f m ∷ []) (map_range_same f g m (λ p low. ap (entry_of current b p) (page_at-programmed n block page p low)))
-      ∙ ap (λ (x : Page). map g (range_with_len 0 m) ++ (entry_of current b m x) ∷ []) (page_at-last n block page)))
+    ∙ (map-range_with_len_more f 0 m m (omega arith)
+    ∙ (ap (λ (xs : List Entry). xs ++ f m ∷ []) (map_range_same f g m (λ p low. ap (entry_of current b p) (page_at-programmed n block page p low)))
+    ∙ ap (λ (x : Page). map g (range_with_len 0 m) ++ (entry_of current b m x) ∷ []) (page_at-last n block page)))
 
 -- nothing is forgotten in a block that doesn't have the sector's page
 pub forgotten_elsewhere : (n : ℕ) (current : List (Option PageAddr)) (s b : ℕ) (block : Block) → ((p : ℕ) → p < length block.pages → names current s b p ≡ false) → map (forgotten s) (entries_in n current b block) ≡ entries_in n current b block
 forgotten_elsewhere n current s b block off =
     sym (same_entries n current b block (map (forgotten s) (entries_in n current b block))
-      (length-map (entries_in n current b block) (forgotten s) ∙ length-entries n current b block)
-      (λ p d short.
-        dead_already (page_at n block p) p (off p short)
-          ∙ (ap (forgotten s) (sym (get_or-entries n current b block p d short))
-          ∙ sym (get_or-map (forgotten s) (entries_in n current b block) p d d (omega (arith, length-entries n current b block))))))
+    (length-map (entries_in n current b block) (forgotten s) ∙ length-entries n current b block)
+    (λ p d short.
+    dead_already (page_at n block p) p (off p short)
+    ∙ (ap (forgotten s) (sym (get_or-entries n current b block p d short))
+    ∙ sym (get_or-map (forgotten s) (entries_in n current b block) p d d (omega (arith, length-entries n current b block))))))
   where
     dead_already : (page : Page) (p : ℕ) → names current s b p ≡ false → entry_of current b p page ≡ forgotten s (entry_of current b p page)
     dead_already page p dead = elim (cases_eq page.stamp s) [
-        inl e ↦ rw (eq-eqb page.stamp s e) (ap (λ (t : Bool). let r : Entry = record { sector = page.stamp; live = t } in r) (ap (λ (t : ℕ). names current t b p) e ∙ dead))
+      | inl e ↦ rw (eq-eqb page.stamp s e) (ap (λ (t : Bool). let r : Entry = record { sector = page.stamp; live = t } in r) (ap (λ (t : ℕ). names current t b p) e ∙ dead))
       | inr apart ↦ rw (ne_eqb page.stamp s apart) refl
-      ]
+    ]
 
 -- the block that has it loses that one page
 pub forgotten_here : (n : ℕ) (current : List (Option PageAddr)) (s : ℕ) (at : PageAddr) (block : Block) → get_or current s None ≡ Some at → at.page < length block.pages → (page_at n block at.page).stamp ≡ s → map (forgotten s) (entries_in n current at.block block) ≡ set (entries_in n current at.block block) at.page (record { sector = s; live = false })
@@ -113,22 +113,23 @@ forgotten_here n current s at block named low stamped =
     let dead : Entry = record { sector = s; live = false } in
     let size : length old ≡ length block.pages = length-entries n current at.block block in
     same_lists (map (forgotten s) old) (set old at.page dead) (length-map old (forgotten s) ∙ sym (length-set old at.page dead))
-      (λ p d short.
-        let within : p < length block.pages = omega (arith, size, length-map old (forgotten s)) in
-        get_or-map (forgotten s) old p d d (omega (arith, size))
-          ∙ (ap (forgotten s) (get_or-entries n current at.block block p d within)
-          ∙ elim (cases_eq p at.page) [
-              inl e ↦ gone p e ∙ sym (ap (λ (k : ℕ). get_or (set old at.page dead) k d) e ∙ get_or-set_same old at.page dead d (omega (arith, size)))
-            | inr apart ↦ kept (page_at n block p) p apart ∙ (sym (get_or-entries n current at.block block p d within) ∙ sym (get_or-set_other old at.page p dead d apart))
-            ]))
+    (λ p d short.
+    let within : p < length block.pages = omega (arith, size, length-map old (forgotten s)) in
+    get_or-map (forgotten s) old p d d (omega (arith, size))
+    ∙ (ap (forgotten s) (get_or-entries n current at.block block p d within)
+    ∙ elim (cases_eq p at.page) [
+      | inl e ↦ gone p e ∙ sym (ap (λ (k : ℕ). get_or (set old at.page dead) k d) e ∙ get_or-set_same old at.page dead d (omega (arith, size)))
+      | inr apart ↦ kept (page_at n block p) p apart ∙ (sym (get_or-entries n current at.block block p d within) ∙ sym (get_or-set_other old at.page p dead d apart))
+    ]))
   where
     gone : (p : ℕ) → p ≡ at.page → forgotten s (entry_of current at.block p (page_at n block p)) ≡ (record { sector = s; live = false })
     gone p e =
         let is : (page_at n block p).stamp ≡ s = ap (λ (k : ℕ). (page_at n block k).stamp) e ∙ stamped in
         rw (eq-eqb (page_at n block p).stamp s is) (ap (λ (k : ℕ). let r : Entry = record { sector = k; live = false } in r) is)
+
     kept : (page : Page) (p : ℕ) → p ≢ at.page → forgotten s (entry_of current at.block p page) ≡ entry_of current at.block p page
     kept page p apart = elim (cases_eq page.stamp s) [
-        inl e ↦ rw (eq-eqb page.stamp s e) (ap (λ (t : Bool). let r : Entry = record { sector = page.stamp; live = t } in r)
+      | inl e ↦ rw (eq-eqb page.stamp s e) (ap (λ (t : Bool). let r : Entry = record { sector = page.stamp; live = t } in r)
           (sym (ap (λ (t : ℕ). names current t at.block p) e ∙ (ap (λ (o : Option PageAddr). is_page o at.block p) named ∙ is_page-page at at.block p (λ h. apart (sym h))))))
       | inr other ↦ rw (ne_eqb page.stamp s other) refl
-      ]
+    ]

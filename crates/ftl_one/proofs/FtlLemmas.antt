@@ -20,6 +20,7 @@ use Rattle.ftl_one.specs.Entries.{live_count}
 use Rattle.ftl_one.specs.Store.{geometry_of, sectors_of, entries_of, erases_of, retired_of, counts_of, KeepsBlocks, Puts, Clears, Erases, HasRoom}
 use Rattle.ftl_one.specs.Lawful.{IsLawful, role_in, is_retired}
 use Rattle.ftl_one.specs.Blocks.{block_in, blocks_in, weight}
+use Rattle.ftl_one.specs.Laws.{HasRetired}
 use Rattle.ftl_one.specs.OneFtl.{stock_of}
 use Rattle.ftl_one.proofs.BlocksLemmas.{table, length-table, get_or-table, table_is, table-change, table-map, position_alone, open_of-blocks, free_of-blocks, spare_of-blocks, victim_of-blocks}
 use Rattle.ftl_one.proofs.LawfulLemmas.{closed_else, inside, open≢retired}
@@ -57,9 +58,9 @@ spare_by Retired h = absurd (false≢true h)
 -- where a search finds nothing, no element passes
 pub none_found : {X : Type 0} (p : X → Bool) (xs : List X) (d : X) → position p xs ≡ None → (k : ℕ) → k < length xs → p (get_or xs k d) ≡ false
 none_found p xs d e k low = elim (cases_lt (position_or_len p xs) (length xs)) [
-    inl short ↦ absurd (some_none (position_or_len p xs) (sym (ap (λ (t : Bool). cond t (Some (position_or_len p xs)) None) (lt-ltb (position_or_len p xs) (length xs) short)) ∙ e))
+  | inl short ↦ absurd (some_none (position_or_len p xs) (sym (ap (λ (t : Bool). cond t (Some (position_or_len p xs)) None) (lt-ltb (position_or_len p xs) (length xs) short)) ∙ e))
   | inr past ↦ not-true (p (get_or xs k d)) (prefix_len_passes (λ x. not (p x)) xs k d (omega arith))
-  ]
+]
   where
     some_none : (n : ℕ) → Some n ≡ None → ⊥
     some_none n h = cc
@@ -69,13 +70,14 @@ pub open_of-stock : (f : OneFtl) → open_of (stock_of f).blocks ≡ f.open_bloc
 unfolding stock_of
 open_of-stock f =
     open_of-blocks f.store f.roles.items
-      ∙ position_alone is_open f.roles.items Retired f.open_block
-          (λ k low on. f.lawful.open_is k (open_by (role_in f.roles.items k) on))
-          (λ k e. let is = f.lawful.open_at k e in
-            (omega (arith, f.roles_sized, inside_open f k is), ap is_open is))
+    ∙ position_alone is_open f.roles.items Retired f.open_block
+    (λ k low on. f.lawful.open_is k (open_by (role_in f.roles.items k) on))
+    (λ k e. let is = f.lawful.open_at k e in
+    (omega (arith, f.roles_sized, inside_open f k is), ap is_open is))
   where
     clash : (r : Role) → r ≡ Open → r ≡ Retired → ⊥
     clash r h k = cc
+
     inside_open : (g : OneFtl) (k : ℕ) → role_in g.roles.items k ≡ Open → k < blocks_of (geometry_of g.store)
     inside_open g k is = elim (cases_lt k (blocks_of (geometry_of g.store))) [ inl low ↦ low | inr past ↦ absurd (clash (role_in g.roles.items k) is (g.lawful.outside k past)) ]
 
@@ -99,8 +101,8 @@ parts r e xs = record { role = r; erases = e; entries = xs }
 same_block : (r r' : Role) (e e' : ℕ) (xs xs' : List Entry) → r ≡ r' → e ≡ e' → xs ≡ xs' → parts r e xs ≡ parts r' e' xs'
 same_block r r' e e' xs xs' p q s =
     ap (λ (k : Role). let b : Block = record { role = k; erases = e; entries = xs } in b) p
-      ∙ (ap (λ (k : ℕ). let b : Block = record { role = r'; erases = k; entries = xs } in b) q
-      ∙ ap (λ (k : List Entry). let b : Block = record { role = r'; erases = e'; entries = k } in b) s)
+    ∙ (ap (λ (k : ℕ). let b : Block = record { role = r'; erases = k; entries = xs } in b) q
+    ∙ ap (λ (k : List Entry). let b : Block = record { role = r'; erases = e'; entries = k } in b) s)
 
 -- a block that is closed if it is full, in its parts
 closed-parts : (pages : ℕ) (r : Role) (e : ℕ) (xs : List Entry) → closed_if_full pages (parts r e xs) ≡ parts (cond (eqb (length xs) pages) Closed r) e xs
@@ -117,12 +119,12 @@ blocks-forget old new roles s size gone kept =
     let d : Block = unused Retired in
     let f = block_in old roles in
     table_is (block_in new roles) (length roles) (map (forget s) (table f (length roles))) d
-      (length-map (table f (length roles)) (forget s) ∙ length-table f (length roles))
-      (λ k low.
-        let within : k < blocks_of (geometry_of old) = omega (arith, low, size) in
-        same_block (role_in roles k) (role_in roles k) (erases_of new k) (erases_of old k) (entries_of new k) (map (forgotten s) (entries_of old k)) refl (kept.erases k within) (gone k within)
-          ∙ (ap (forget s) (sym (get_or-table f (length roles) k d low))
-          ∙ sym (get_or-map (forget s) (table f (length roles)) k d d (omega (arith, low, length-table f (length roles))))))
+    (length-map (table f (length roles)) (forget s) ∙ length-table f (length roles))
+    (λ k low.
+    let within : k < blocks_of (geometry_of old) = omega (arith, low, size) in
+    same_block (role_in roles k) (role_in roles k) (erases_of new k) (erases_of old k) (entries_of new k) (map (forgotten s) (entries_of old k)) refl (kept.erases k within) (gone k within)
+    ∙ (ap (forget s) (sym (get_or-table f (length roles) k d low))
+    ∙ sym (get_or-map (forget s) (table f (length roles)) k d d (omega (arith, low, length-table f (length roles))))))
 
 -- the blocks after a page is put, and its block closed if it is full
 pub blocks-put : (old new : Store) (roles roles' : List Role) (b s pages : ℕ) → length roles ≡ blocks_of (geometry_of old) → length roles' ≡ length roles → b < length roles → Puts old new b s → role_in roles' b ≡ cond (eqb (length (entries_of new b)) pages) Closed (role_in roles b) → ((c : ℕ) → c ≢ b → role_in roles' c ≡ role_in roles c) → blocks_in new roles' ≡ change_at (map (forget s) (blocks_in old roles)) b (λ block. closed_if_full pages (with_page s block))
@@ -132,23 +134,23 @@ blocks-put old new roles roles' b s pages size same low puts here there =
     let h : Block → Block = λ block. closed_if_full pages (with_page s block) in
     let more : List Entry = map (forgotten s) (entries_of old b) ++ (record { sector = s; live = true }) ∷ [] in
     ap (λ (n : ℕ). table (block_in new roles') n) same
-      ∙ (table-change (λ c. forget s (f c)) (block_in new roles') (length roles) b h low
-          (same_block (role_in roles' b) (cond (eqb (length more) pages) Closed (role_in roles b)) (erases_of new b) (erases_of old b) (entries_of new b) more
-            (here ∙ ap (λ (xs : List Entry). cond (eqb (length xs) pages) Closed (role_in roles b)) puts.changed) (puts.keeps.erases b (omega (arith, low, size))) puts.changed
-            ∙ sym (closed-parts pages (role_in roles b) (erases_of old b) more))
-          (λ c within apart.
-            same_block (role_in roles' c) (role_in roles c) (erases_of new c) (erases_of old c) (entries_of new c) (map (forgotten s) (entries_of old c))
-              (there c apart) (puts.keeps.erases c (omega (arith, within, size))) (puts.others c apart (omega (arith, within, size))))
-      ∙ ap (λ (xs : List Block). change_at xs b h) (table-map f (length roles) (forget s)))
+    ∙ (table-change (λ c. forget s (f c)) (block_in new roles') (length roles) b h low
+    (same_block (role_in roles' b) (cond (eqb (length more) pages) Closed (role_in roles b)) (erases_of new b) (erases_of old b) (entries_of new b) more
+    (here ∙ ap (λ (xs : List Entry). cond (eqb (length xs) pages) Closed (role_in roles b)) puts.changed) (puts.keeps.erases b (omega (arith, low, size))) puts.changed
+    ∙ sym (closed-parts pages (role_in roles b) (erases_of old b) more))
+    (λ c within apart.
+    same_block (role_in roles' c) (role_in roles c) (erases_of new c) (erases_of old c) (entries_of new c) (map (forgotten s) (entries_of old c))
+    (there c apart) (puts.keeps.erases c (omega (arith, within, size))) (puts.others c apart (omega (arith, within, size))))
+    ∙ ap (λ (xs : List Block). change_at xs b h) (table-map f (length roles) (forget s)))
 
 -- the blocks after one of them gets another role
 pub blocks-role : (s : Store) (roles roles' : List Role) (b : ℕ) (r : Role) → length roles' ≡ length roles → b < length roles → role_in roles' b ≡ r → ((c : ℕ) → c ≢ b → role_in roles' c ≡ role_in roles c) → blocks_in s roles' ≡ change_at (blocks_in s roles) b (λ block. record block { role = r })
 unfolding blocks_in
 blocks-role s roles roles' b r same low here there =
     ap (λ (n : ℕ). table (block_in s roles') n) same
-      ∙ table-change (block_in s roles) (block_in s roles') (length roles) b (λ (block : Block). record block { role = r }) low
-          (ap (λ (k : Role). let x : Block = record { role = k; erases = erases_of s b; entries = entries_of s b } in x) here)
-          (λ c within apart. ap (λ (k : Role). let x : Block = record { role = k; erases = erases_of s c; entries = entries_of s c } in x) (there c apart))
+    ∙ table-change (block_in s roles) (block_in s roles') (length roles) b (λ (block : Block). record block { role = r }) low
+    (ap (λ (k : Role). let x : Block = record { role = k; erases = erases_of s b; entries = entries_of s b } in x) here)
+    (λ c within apart. ap (λ (k : Role). let x : Block = record { role = k; erases = erases_of s c; entries = entries_of s c } in x) (there c apart))
 
 -- the blocks after a collection
 pub blocks-collect : (old mid new : Store) (roles roles' : List Role) (spare victim endurance : ℕ) → length roles ≡ blocks_of (geometry_of old) → length roles' ≡ length roles → spare < length roles → victim < length roles → victim ≢ spare → Clears old mid victim spare → Erases mid new victim → role_in roles' spare ≡ Open → role_in roles' victim ≡ cond (eqb (erases_of old victim + 1) endurance) Retired Spare → ((c : ℕ) → c ≢ spare → c ≢ victim → role_in roles' c ≡ role_in roles c) → blocks_in new roles' ≡ change_at (change_at (blocks_in old roles) spare (filled (get_or (blocks_in old roles) victim (unused Retired)))) victim (emptied endurance)
@@ -162,29 +164,29 @@ blocks-collect old mid new roles roles' spare victim endurance size same spare_i
     let at : (c : ℕ) → c < n → c < blocks_of (geometry_of mid) = λ c low. omega (arith, low, size, ap blocks_of clears.keeps.geometry) in
     let is : (c : ℕ) → c < n → c < blocks_of (geometry_of old) = λ c low. omega (arith, low, size) in
     let first : table g n ≡ change_at (table f n) spare fill =
-      table-change f g n spare fill spare_in (ap (λ (t : Bool). cond t (fill (f spare)) (f spare)) (eq-eqb spare spare refl))
-        (λ c low other. ap (λ (t : Bool). cond t (fill (f c)) (f c)) (ne_eqb c spare other)) in
+    table-change f g n spare fill spare_in (ap (λ (t : Bool). cond t (fill (f spare)) (f spare)) (eq-eqb spare spare refl))
+    (λ c low other. ap (λ (t : Bool). cond t (fill (f c)) (f c)) (ne_eqb c spare other)) in
     ap (λ (k : ℕ). table (block_in new roles') k) same
-      ∙ (table-change g (block_in new roles') n victim (emptied endurance) victim_in
-          (same_block (role_in roles' victim) (cond (eqb (erases_of old victim + 1) endurance) Retired Spare) (erases_of new victim) (erases_of old victim + 1) (entries_of new victim) []
-              done (erases.counted ∙ ap (λ (k : ℕ). k + 1) (clears.keeps.erases victim (is victim victim_in))) erases.emptied
-            ∙ sym (ap (emptied endurance) (ap (λ (t : Bool). cond t (fill (f victim)) (f victim)) (ne_eqb victim spare apart))))
-          (λ c low other. elim (cases_eq c spare) [
-              inl e ↦ subst (λ (k : ℕ). block_in new roles' k ≡ g k) (sym e)
-                (same_block (role_in roles' spare) Open (erases_of new spare) (erases_of old spare) (entries_of new spare) (entries_of old spare ++ live_entries (entries_of old victim))
-                    opened
-                    (erases.erases spare (λ h. apart (sym h)) (at spare spare_in) ∙ clears.keeps.erases spare (is spare spare_in))
-                    (erases.entries spare (λ h. apart (sym h)) (at spare spare_in) ∙ clears.copied)
-                  ∙ (ap (λ (v : Block). filled v (f spare)) (sym (get_or-table f n victim d victim_in))
-                  ∙ sym (ap (λ (t : Bool). cond t (fill (f spare)) (f spare)) (eq-eqb spare spare refl))))
-            | inr another ↦
-                same_block (role_in roles' c) (role_in roles c) (erases_of new c) (erases_of old c) (entries_of new c) (entries_of old c)
-                    (others c another other)
-                    (erases.erases c other (at c low) ∙ clears.keeps.erases c (is c low))
-                    (erases.entries c other (at c low) ∙ clears.others c another other (is c low))
-                  ∙ sym (ap (λ (t : Bool). cond t (fill (f c)) (f c)) (ne_eqb c spare another))
-            ])
-      ∙ ap (λ (xs : List Block). change_at xs victim (emptied endurance)) first)
+    ∙ (table-change g (block_in new roles') n victim (emptied endurance) victim_in
+    (same_block (role_in roles' victim) (cond (eqb (erases_of old victim + 1) endurance) Retired Spare) (erases_of new victim) (erases_of old victim + 1) (entries_of new victim) []
+    done (erases.counted ∙ ap (λ (k : ℕ). k + 1) (clears.keeps.erases victim (is victim victim_in))) erases.emptied
+    ∙ sym (ap (emptied endurance) (ap (λ (t : Bool). cond t (fill (f victim)) (f victim)) (ne_eqb victim spare apart))))
+    (λ c low other. elim (cases_eq c spare) [
+      | inl e ↦ subst (λ (k : ℕ). block_in new roles' k ≡ g k) (sym e)
+          (same_block (role_in roles' spare) Open (erases_of new spare) (erases_of old spare) (entries_of new spare) (entries_of old spare ++ live_entries (entries_of old victim))
+          opened
+          (erases.erases spare (λ h. apart (sym h)) (at spare spare_in) ∙ clears.keeps.erases spare (is spare spare_in))
+          (erases.entries spare (λ h. apart (sym h)) (at spare spare_in) ∙ clears.copied)
+          ∙ (ap (λ (v : Block). filled v (f spare)) (sym (get_or-table f n victim d victim_in))
+          ∙ sym (ap (λ (t : Bool). cond t (fill (f spare)) (f spare)) (eq-eqb spare spare refl))))
+      | inr another ↦
+          same_block (role_in roles' c) (role_in roles c) (erases_of new c) (erases_of old c) (entries_of new c) (entries_of old c)
+          (others c another other)
+          (erases.erases c other (at c low) ∙ clears.keeps.erases c (is c low))
+          (erases.entries c other (at c low) ∙ clears.others c another other (is c low))
+          ∙ sym (ap (λ (t : Bool). cond t (fill (f c)) (f c)) (ne_eqb c spare another))
+    ])
+    ∙ ap (λ (xs : List Block). change_at xs victim (emptied endurance)) first)
 
 -- what the blocks weigh
 sum_by-map-same : (w : Block → ℕ) (g : Block → Block) (xs : List Block) → ((x : Block) → w (g x) ≡ w x) → sum_by w (map g xs) ≡ sum_by w xs
@@ -263,7 +265,7 @@ open_room f b e =
     record {
       within = found.0;
       not_retired = f.lawful.usable b found.0 ∙ ap is_retired found.1;
-      room = f.lawful.room b found.1
+      room = f.lawful.room b found.1;
     }
 
 -- a sum over a table is at most its length times the most of its terms
@@ -289,9 +291,9 @@ total_small f =
     let g = geometry_of s in
     let m : ℕ = (pages_of g + 1) * endurance_of g + pages_of g in
     let most = sum_table_le (weight (pages_of g)) (block_in s f.roles.items) (length f.roles.items) m (λ k low.
-      let within : k < blocks_of g = omega (arith, low, f.roles_sized) in
-      let worn = mul-le (pages_of g + 1) (erases_of s k) (pages_of g + 1) (endurance_of g) (omega arith) (erases_within s k within) in
-      omega (arith, worn, entries_within s k within)) in
+    let within : k < blocks_of g = omega (arith, low, f.roles_sized) in
+    let worn = mul-le (pages_of g + 1) (erases_of s k) (pages_of g + 1) (endurance_of g) (omega arith) (erases_within s k within) in
+    omega (arith, worn, entries_within s k within)) in
     let one = mul-le (pages_of g + 1) (endurance_of g) 1025 1000000 (omega (arith, s.die.geometry.in_limits.pages_high)) (omega (arith, s.die.geometry.in_limits.endurance_high)) in
     let all = mul-le (length f.roles.items) m 4096 1025001024 (omega (arith, f.roles_sized, s.die.geometry.in_limits.blocks_high)) (omega (arith, one, s.die.geometry.in_limits.pages_high)) in
     omega (arith, f.bounded, most, all)
@@ -306,3 +308,12 @@ pub marks_now : (f : OneFtl) (was new : List Bool) (b : ℕ) (t : Bool) → new 
 marks_now f was new b t e same =
     let now : new ≡ set f.closed.items b t = e ∙ ap (λ (xs : List Bool). set xs b t) same in
     with_items_is f.closed new (omega (arith, ap (λ (xs : List Bool). length xs) now, length-set f.closed.items b t, f.closed.ok.0)) ∙ now
+
+-- where a block is retired there is no spare
+pub no_spare : (f : OneFtl) → HasRetired (stock_of f) → (spare : ℕ) → spare_of (stock_of f).blocks ≡ Some spare → ⊥
+unfolding stock_of
+no_spare f retired spare e =
+    let b = retired.0 in
+    let low : b < length f.roles.items = omega (arith, retired.1, length-blocks f.store f.roles.items) in
+    let is : role_in f.roles.items b ≡ Retired = ap (λ (x : Block). x.role) (sym (get_or-blocks f.store f.roles.items b (unused Retired) low)) ∙ retired.2 in
+    f.lawful.spare_last spare b (omega (arith, low, f.roles_sized)) (spare_found f spare e).1 is

@@ -54,7 +54,7 @@ module _ (count pages : ℕ) (size : ℕ → ℕ) (retired : ℕ → Bool) (role
         usable = λ b low. kept b low ∙ law.usable b low;
         one_spare = law.one_spare;
         spare_last = law.spare_last;
-        outside = law.outside
+        outside = law.outside;
       }
 
   -- a free block is opened
@@ -64,24 +64,29 @@ module _ (count pages : ℕ) (size : ℕ → ℕ) (retired : ℕ → Bool) (role
         open_is = λ c is. elim (cases_eq c b) [ inl e ↦ ap Some (sym e) | inr apart ↦ absurd (none_some open_block c none (law.open_is c (sym (there c apart) ∙ is))) ];
         open_at = λ c e. ap role' (sym (some_same b c e)) ∙ here;
         room = λ c is. elim (cases_eq c b) [
-            inl e ↦ omega (arith, ap size e, law.unused b low (ap has_pages free), some)
-          | inr apart ↦ law.room c (sym (there c apart) ∙ is) ];
+          | inl e ↦ omega (arith, ap size e, law.unused b low (ap has_pages free), some)
+          | inr apart ↦ law.room c (sym (there c apart) ∙ is)
+        ];
         full = λ c is. elim (cases_eq c b) [
-            inl e ↦ absurd (open≢closed (role' c) (ap role' e ∙ here) is)
-          | inr apart ↦ law.full c (sym (there c apart) ∙ is) ];
+          | inl e ↦ absurd (open≢closed (role' c) (ap role' e ∙ here) is)
+          | inr apart ↦ law.full c (sym (there c apart) ∙ is)
+        ];
         unused = λ c within off. elim (cases_eq c b) [
-            inl e ↦ ap size e ∙ law.unused b low (ap has_pages free)
-          | inr apart ↦ law.unused c within (ap has_pages (sym (there c apart)) ∙ off) ];
+          | inl e ↦ ap size e ∙ law.unused b low (ap has_pages free)
+          | inr apart ↦ law.unused c within (ap has_pages (sym (there c apart)) ∙ off)
+        ];
         usable = λ c within. elim (cases_eq c b) [
-            inl e ↦ law.usable c within ∙ (ap (λ (k : ℕ). is_retired (role k)) e ∙ (ap is_retired free ∙ (ap is_retired (sym here) ∙ ap (λ (k : ℕ). is_retired (role' k)) (sym e))))
-          | inr apart ↦ law.usable c within ∙ ap is_retired (sym (there c apart)) ];
+          | inl e ↦ law.usable c within ∙ (ap (λ (k : ℕ). is_retired (role k)) e ∙ (ap is_retired free ∙ (ap is_retired (sym here) ∙ ap (λ (k : ℕ). is_retired (role' k)) (sym e))))
+          | inr apart ↦ law.usable c within ∙ ap is_retired (sym (there c apart))
+        ];
         one_spare = λ c d first second. law.one_spare c d (spare_before c first) (spare_before d second);
         spare_last = λ c d within first second. law.spare_last c d within (spare_before c first) (retired_before d second);
-        outside = λ c past. elim (cases_eq c b) [ inl e ↦ absurd (omega (arith, low, e)) | inr apart ↦ there c apart ∙ law.outside c past ]
+        outside = λ c past. elim (cases_eq c b) [ inl e ↦ absurd (omega (arith, low, e)) | inr apart ↦ there c apart ∙ law.outside c past ];
       }
     where
       spare_before : (c : ℕ) → role' c ≡ Spare → role c ≡ Spare
       spare_before c is = elim (cases_eq c b) [ inl e ↦ absurd (open≢spare (role' c) (ap role' e ∙ here) is) | inr apart ↦ sym (there c apart) ∙ is ]
+
       retired_before : (c : ℕ) → role' c ≡ Retired → role c ≡ Retired
       retired_before c is = elim (cases_eq c b) [ inl e ↦ absurd (open≢retired (role' c) (ap role' e ∙ here) is) | inr apart ↦ sym (there c apart) ∙ is ]
 
@@ -92,18 +97,21 @@ module _ (count pages : ℕ) (size : ℕ → ℕ) (retired : ℕ → Bool) (role
         open_is = law.open_is;
         open_at = law.open_at;
         room = λ c is. elim (cases_eq c b) [
-            inl e ↦ omega (arith, ap size' e, one, room)
-          | inr apart ↦ omega (arith, there c (inside c (open≢retired (role c) is)) apart, law.room c is) ];
+          | inl e ↦ omega (arith, ap size' e, one, room)
+          | inr apart ↦ omega (arith, there c (inside c (open≢retired (role c) is)) apart, law.room c is)
+        ];
         full = λ c is. elim (cases_eq c b) [
-            inl e ↦ absurd (open≢closed (role c) (ap role e ∙ is_open) is)
-          | inr apart ↦ there c (inside c (closed≢retired (role c) is)) apart ∙ law.full c is ];
+          | inl e ↦ absurd (open≢closed (role c) (ap role e ∙ is_open) is)
+          | inr apart ↦ there c (inside c (closed≢retired (role c) is)) apart ∙ law.full c is
+        ];
         unused = λ c within off. elim (cases_eq c b) [
-            inl e ↦ absurd (on_off (has_pages (role c)) (ap (λ (k : ℕ). has_pages (role k)) e ∙ ap has_pages is_open) off)
-          | inr apart ↦ there c within apart ∙ law.unused c within off ];
+          | inl e ↦ absurd (on_off (has_pages (role c)) (ap (λ (k : ℕ). has_pages (role k)) e ∙ ap has_pages is_open) off)
+          | inr apart ↦ there c within apart ∙ law.unused c within off
+        ];
         usable = λ c within. kept c within ∙ law.usable c within;
         one_spare = law.one_spare;
         spare_last = law.spare_last;
-        outside = law.outside
+        outside = law.outside;
       }
     where
       on_off : (t : Bool) → t ≡ true → t ≡ false → ⊥
@@ -116,30 +124,37 @@ module _ (count pages : ℕ) (size : ℕ → ℕ) (retired : ℕ → Bool) (role
       let was = law.open_is b is_open in
       record {
         open_is = λ c is. elim (cases_eq c b) [
-            inl e ↦ absurd (open≢closed (role' c) is (ap role' e ∙ here))
-          | inr apart ↦ absurd (apart (sym (some_same b c (sym was ∙ law.open_is c (sym (others c apart) ∙ is))))) ];
+          | inl e ↦ absurd (open≢closed (role' c) is (ap role' e ∙ here))
+          | inr apart ↦ absurd (apart (sym (some_same b c (sym was ∙ law.open_is c (sym (others c apart) ∙ is)))))
+        ];
         open_at = λ c e. absurd (none_some None c refl e);
         room = λ c is. elim (cases_eq c b) [
-            inl e ↦ absurd (open≢closed (role' c) is (ap role' e ∙ here))
-          | inr apart ↦ let old = sym (others c apart) ∙ is in omega (arith, there c (inside c (open≢retired (role c) old)) apart, law.room c old) ];
+          | inl e ↦ absurd (open≢closed (role' c) is (ap role' e ∙ here))
+          | inr apart ↦ let old = sym (others c apart) ∙ is in omega (arith, there c (inside c (open≢retired (role c) old)) apart, law.room c old)
+        ];
         full = λ c is. elim (cases_eq c b) [
-            inl e ↦ ap size' e ∙ last
-          | inr apart ↦ let old = sym (others c apart) ∙ is in there c (inside c (closed≢retired (role c) old)) apart ∙ law.full c old ];
+          | inl e ↦ ap size' e ∙ last
+          | inr apart ↦ let old = sym (others c apart) ∙ is in there c (inside c (closed≢retired (role c) old)) apart ∙ law.full c old
+        ];
         unused = λ c within off. elim (cases_eq c b) [
-            inl e ↦ absurd (on_off (has_pages (role' c)) (ap (λ (k : ℕ). has_pages (role' k)) e ∙ ap has_pages here) off)
-          | inr apart ↦ there c within apart ∙ law.unused c within (ap has_pages (sym (others c apart)) ∙ off) ];
+          | inl e ↦ absurd (on_off (has_pages (role' c)) (ap (λ (k : ℕ). has_pages (role' k)) e ∙ ap has_pages here) off)
+          | inr apart ↦ there c within apart ∙ law.unused c within (ap has_pages (sym (others c apart)) ∙ off)
+        ];
         usable = λ c within. kept c within ∙ (law.usable c within ∙ elim (cases_eq c b) [
-            inl e ↦ ap (λ (k : ℕ). is_retired (role k)) e ∙ (ap is_retired is_open ∙ (ap is_retired (sym here) ∙ ap (λ (k : ℕ). is_retired (role' k)) (sym e)))
-          | inr apart ↦ ap is_retired (sym (others c apart)) ]);
+          | inl e ↦ ap (λ (k : ℕ). is_retired (role k)) e ∙ (ap is_retired is_open ∙ (ap is_retired (sym here) ∙ ap (λ (k : ℕ). is_retired (role' k)) (sym e)))
+          | inr apart ↦ ap is_retired (sym (others c apart))
+        ]);
         one_spare = λ c d first second. law.one_spare c d (spare_before c first) (spare_before d second);
         spare_last = λ c d within first second. law.spare_last c d within (spare_before c first) (retired_before d second);
-        outside = λ c past. elim (cases_eq c b) [ inl e ↦ absurd (omega (arith, b_in, e)) | inr apart ↦ others c apart ∙ law.outside c past ]
+        outside = λ c past. elim (cases_eq c b) [ inl e ↦ absurd (omega (arith, b_in, e)) | inr apart ↦ others c apart ∙ law.outside c past ];
       }
     where
       on_off : (t : Bool) → t ≡ true → t ≡ false → ⊥
       on_off t h k = cc
+
       spare_before : (c : ℕ) → role' c ≡ Spare → role c ≡ Spare
       spare_before c is = elim (cases_eq c b) [ inl e ↦ absurd (closed≢spare (role' c) (ap role' e ∙ here) is) | inr apart ↦ sym (others c apart) ∙ is ]
+
       retired_before : (c : ℕ) → role' c ≡ Retired → role c ≡ Retired
       retired_before c is = elim (cases_eq c b) [ inl e ↦ absurd (closed≢retired (role' c) (ap role' e ∙ here) is) | inr apart ↦ sym (others c apart) ∙ is ]
 
@@ -148,60 +163,80 @@ module _ (count pages : ℕ) (size : ℕ → ℕ) (retired : ℕ → Bool) (role
   lawful-collect size' retired' role' spare victim failed none is_spare is_closed room empty there marked kept opened done others =
       record {
         open_is = λ c is. elim (cases_eq c spare) [
-            inl e ↦ ap Some (sym e)
+          | inl e ↦ ap Some (sym e)
           | inr apart ↦ elim (cases_eq c victim) [
-              inl e ↦ absurd (not_open failed (sym done ∙ (ap role' (sym e) ∙ is)))
-            | inr other ↦ absurd (none_some open_block c none (law.open_is c (sym (others c apart other) ∙ is))) ] ];
+            | inl e ↦ absurd (not_open failed (sym done ∙ (ap role' (sym e) ∙ is)))
+            | inr other ↦ absurd (none_some open_block c none (law.open_is c (sym (others c apart other) ∙ is)))
+          ]
+        ];
         open_at = λ c e. ap role' (sym (some_same spare c e)) ∙ opened;
         room = λ c is. elim (cases_eq c spare) [
-            inl e ↦ omega (arith, ap size' e, room)
+          | inl e ↦ omega (arith, ap size' e, room)
           | inr apart ↦ elim (cases_eq c victim) [
-              inl e ↦ absurd (not_open failed (sym done ∙ (ap role' (sym e) ∙ is)))
-            | inr other ↦ absurd (none_some open_block c none (law.open_is c (sym (others c apart other) ∙ is))) ] ];
+            | inl e ↦ absurd (not_open failed (sym done ∙ (ap role' (sym e) ∙ is)))
+            | inr other ↦ absurd (none_some open_block c none (law.open_is c (sym (others c apart other) ∙ is)))
+          ]
+        ];
         full = λ c is. elim (cases_eq c spare) [
-            inl e ↦ absurd (open≢closed (role' c) (ap role' e ∙ opened) is)
+          | inl e ↦ absurd (open≢closed (role' c) (ap role' e ∙ opened) is)
           | inr apart ↦ elim (cases_eq c victim) [
-              inl e ↦ absurd (not_closed failed (sym done ∙ (ap role' (sym e) ∙ is)))
-            | inr other ↦ let old = sym (others c apart other) ∙ is in there c (inside c (closed≢retired (role c) old)) apart other ∙ law.full c old ] ];
+            | inl e ↦ absurd (not_closed failed (sym done ∙ (ap role' (sym e) ∙ is)))
+            | inr other ↦ let old = sym (others c apart other) ∙ is in there c (inside c (closed≢retired (role c) old)) apart other ∙ law.full c old
+          ]
+        ];
         unused = λ c within off. elim (cases_eq c spare) [
-            inl e ↦ absurd (on_off (has_pages (role' c)) (ap (λ (k : ℕ). has_pages (role' k)) e ∙ ap has_pages opened) off)
+          | inl e ↦ absurd (on_off (has_pages (role' c)) (ap (λ (k : ℕ). has_pages (role' k)) e ∙ ap has_pages opened) off)
           | inr apart ↦ elim (cases_eq c victim) [
-              inl e ↦ ap size' e ∙ empty
-            | inr other ↦ there c within apart other ∙ law.unused c within (ap has_pages (sym (others c apart other)) ∙ off) ] ];
+            | inl e ↦ ap size' e ∙ empty
+            | inr other ↦ there c within apart other ∙ law.unused c within (ap has_pages (sym (others c apart other)) ∙ off)
+          ]
+        ];
         usable = λ c within. elim (cases_eq c victim) [
-            inl e ↦ ap retired' e ∙ (marked ∙ (mark failed ∙ (ap is_retired (sym done) ∙ ap (λ (k : ℕ). is_retired (role' k)) (sym e))))
+          | inl e ↦ ap retired' e ∙ (marked ∙ (mark failed ∙ (ap is_retired (sym done) ∙ ap (λ (k : ℕ). is_retired (role' k)) (sym e))))
           | inr other ↦ kept c within other ∙ (law.usable c within ∙ elim (cases_eq c spare) [
-              inl e ↦ ap (λ (k : ℕ). is_retired (role k)) e ∙ (ap is_retired is_spare ∙ (ap is_retired (sym opened) ∙ ap (λ (k : ℕ). is_retired (role' k)) (sym e)))
-            | inr apart ↦ ap is_retired (sym (others c apart other)) ]) ];
+            | inl e ↦ ap (λ (k : ℕ). is_retired (role k)) e ∙ (ap is_retired is_spare ∙ (ap is_retired (sym opened) ∙ ap (λ (k : ℕ). is_retired (role' k)) (sym e)))
+            | inr apart ↦ ap is_retired (sym (others c apart other))
+          ])
+        ];
         one_spare = λ c d first second. spare_now c first ∙ sym (spare_now d second);
         spare_last = λ c d within first second.
-          let v = spare_now c first in
-          elim (cases_eq d spare) [
-            inl e ↦ open≢retired (role' d) (ap role' e ∙ opened) second
-          | inr apart ↦ elim (cases_eq d victim) [
-              inl e ↦ spare≢retired (role' d) (ap role' (e ∙ sym v) ∙ first) second
-            | inr other ↦ law.spare_last spare d within is_spare (sym (others d apart other) ∙ second) ] ];
+            let v = spare_now c first in
+            elim (cases_eq d spare) [
+              | inl e ↦ open≢retired (role' d) (ap role' e ∙ opened) second
+              | inr apart ↦ elim (cases_eq d victim) [
+                | inl e ↦ spare≢retired (role' d) (ap role' (e ∙ sym v) ∙ first) second
+                | inr other ↦ law.spare_last spare d within is_spare (sym (others d apart other) ∙ second)
+              ]
+            ];
         outside = λ c past. elim (cases_eq c spare) [
-            inl e ↦ absurd (omega (arith, inside spare (spare≢retired (role spare) is_spare), e))
+          | inl e ↦ absurd (omega (arith, inside spare (spare≢retired (role spare) is_spare), e))
           | inr apart ↦ elim (cases_eq c victim) [
-              inl e ↦ absurd (omega (arith, inside victim (closed≢retired (role victim) is_closed), e))
-            | inr other ↦ others c apart other ∙ law.outside c past ] ]
+            | inl e ↦ absurd (omega (arith, inside victim (closed≢retired (role victim) is_closed), e))
+            | inr other ↦ others c apart other ∙ law.outside c past
+          ]
+        ];
       }
     where
       on_off : (t : Bool) → t ≡ true → t ≡ false → ⊥
       on_off t h k = cc
+
       not_open : (t : Bool) → cond t Retired Spare ≡ Open → ⊥
       not_open true h = open≢retired Open refl (sym h)
       not_open false h = open≢spare Open refl (sym h)
+
       not_closed : (t : Bool) → cond t Retired Spare ≡ Closed → ⊥
       not_closed true h = closed≢retired Closed refl (sym h)
       not_closed false h = closed≢spare Closed refl (sym h)
+
       mark : (t : Bool) → t ≡ is_retired (cond t Retired Spare)
       mark true = refl
       mark false = refl
+
       spare_now : (c : ℕ) → role' c ≡ Spare → c ≡ victim
       spare_now c is = elim (cases_eq c spare) [
-          inl e ↦ absurd (open≢spare (role' c) (ap role' e ∙ opened) is)
+        | inl e ↦ absurd (open≢spare (role' c) (ap role' e ∙ opened) is)
         | inr apart ↦ elim (cases_eq c victim) [
-            inl e ↦ e
-          | inr other ↦ absurd (apart (law.one_spare c spare (sym (others c apart other) ∙ is) is_spare)) ] ]
+          | inl e ↦ e
+          | inr other ↦ absurd (apart (law.one_spare c spare (sym (others c apart other) ∙ is) is_spare))
+        ]
+      ]

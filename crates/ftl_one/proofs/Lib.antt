@@ -9,3 +9,4 @@ pub mod LawfulLemmas
 pub mod FtlLemmas
 pub mod CollectLemmas
 pub mod NewLemmas
+pub mod LawLemmas

@@ -35,12 +35,12 @@ past n k high = get_or_past (roles_new n) k Retired (omega (arith, high, length-
 -- what holds of each role
 each : (n : ℕ) (P : Role → Type 0) → P Free → P Spare → P Retired → (k : ℕ) → P (role_in (roles_new n) k)
 each n P free spare retired k = elim (cases_order k n) [
-    inl e ↦ subst P (sym (ap (role_in (roles_new n)) e ∙ spare-last n)) spare
+  | inl e ↦ subst P (sym (ap (role_in (roles_new n)) e ∙ spare-last n)) spare
   | inr o ↦ elim o [
-      inl low ↦ subst P (sym (free-below n k low)) free
+    | inl low ↦ subst P (sym (free-below n k low)) free
     | inr high ↦ subst P (sym (past n k high)) retired
-    ]
   ]
+]
 
 free≢spare : Free ≡ Spare → ⊥
 free≢spare h = cc
@@ -50,12 +50,12 @@ retired≢spare h = cc
 
 only_spare : (n k : ℕ) → role_in (roles_new n) k ≡ Spare → k ≡ n
 only_spare n k is = elim (cases_order k n) [
-    inl e ↦ e
+  | inl e ↦ e
   | inr o ↦ elim o [
-      inl low ↦ absurd (free≢spare (sym (free-below n k low) ∙ is))
+    | inl low ↦ absurd (free≢spare (sym (free-below n k low) ∙ is))
     | inr high ↦ absurd (retired≢spare (sym (past n k high) ∙ is))
-    ]
   ]
+]
 
 pub lawful-new : (n pages : ℕ) (size : ℕ → ℕ) (retired : ℕ → Bool) → ((b : ℕ) → b < n + 1 → size b ≡ 0) → ((b : ℕ) → b < n + 1 → retired b ≡ false) → IsLawful (n + 1) pages size retired (role_in (roles_new n)) None
 lawful-new n pages size retired empty usable =
@@ -66,37 +66,44 @@ lawful-new n pages size retired empty usable =
       full = λ b is. absurd (each n (λ r. r ≡ Closed → ⊥) (λ h. a2 h) (λ h. c2 h) (λ h. d2 h) b is);
       unused = λ b low off. empty b low;
       usable = λ b low. usable b low ∙ elim (cases_order b n) [
-          inl e ↦ ap is_retired (sym (ap (role_in (roles_new n)) e ∙ spare-last n))
+        | inl e ↦ ap is_retired (sym (ap (role_in (roles_new n)) e ∙ spare-last n))
         | inr o ↦ elim o [
-            inl below ↦ ap is_retired (sym (free-below n b below))
+          | inl below ↦ ap is_retired (sym (free-below n b below))
           | inr high ↦ absurd (omega arith)
-          ]
-        ];
+        ]
+      ];
       one_spare = λ b k first second. only_spare n b first ∙ sym (only_spare n k second);
       spare_last = λ b k low first second. elim (cases_order k n) [
-          inl e ↦ retired≢spare (sym second ∙ (ap (role_in (roles_new n)) e ∙ spare-last n))
+        | inl e ↦ retired≢spare (sym second ∙ (ap (role_in (roles_new n)) e ∙ spare-last n))
         | inr o ↦ elim o [
-            inl below ↦ free_retired (sym (free-below n k below) ∙ second)
+          | inl below ↦ free_retired (sym (free-below n k below) ∙ second)
           | inr high ↦ omega (arith, high, low)
-          ]
-        ];
-      outside = λ b high. past n b (omega arith)
+        ]
+      ];
+      outside = λ b high. past n b (omega arith);
     }
   where
     a : Free ≡ Open → ⊥
     a h = cc
+
     c : Spare ≡ Open → ⊥
     c h = cc
+
     d : Retired ≡ Open → ⊥
     d h = cc
+
     a2 : Free ≡ Closed → ⊥
     a2 h = cc
+
     c2 : Spare ≡ Closed → ⊥
     c2 h = cc
+
     d2 : Retired ≡ Closed → ⊥
     d2 h = cc
+
     free_retired : Free ≡ Retired → ⊥
     free_retired h = cc
+
     none_some : (b : ℕ) → None ≡ Some b → ⊥
     none_some b h = cc
 
@@ -115,16 +122,16 @@ blocks_new s g n size new =
     let xs : List Block = replicate n (unused Free) ++ unused Spare ∷ [] in
     let d : Block = unused Retired in
     table_is (block_in s (roles_new n)) (length (roles_new n)) xs d
-      (length_push (replicate n (unused Free)) (unused Spare) ∙ (ap (λ (k : ℕ). k + 1) (length-replicate n (unused Free)) ∙ sym (length-roles_new n)))
-      (λ k low.
-        let within : k < blocks_of g = omega (arith, low, size, length-roles_new n) in
-        let by : Role → ℕ → List Entry → Block = λ r e es. record { role = r; erases = e; entries = es } in
-        let parts : block_in s (roles_new n) k ≡ unused (role_in (roles_new n) k) =
-          ap (λ (e : ℕ). by (role_in (roles_new n) k) e (entries_of s k)) (new.erases k within) ∙ ap (by (role_in (roles_new n) k) 0) (new.entries k within) in
-        elim (cases_order k n) [
-          inl e ↦ parts ∙ (ap unused (ap (role_in (roles_new n)) e ∙ spare-last n) ∙ sym (ap (λ (i : ℕ). get_or xs i d) e ∙ get_or_push (replicate n (unused Free)) (unused Spare) d n (length-replicate n (unused Free))))
-        | inr o ↦ elim o [
-            inl below ↦ parts ∙ (ap unused (free-below n k below) ∙ sym (get_or_append_left (replicate n (unused Free)) (unused Spare ∷ []) d k (omega (arith, below, length-replicate n (unused Free))) ∙ get_or-replicate n k (unused Free) d below))
-          | inr high ↦ absurd (omega (arith, high, low, length-roles_new n))
-          ]
-        ])
+    (length_push (replicate n (unused Free)) (unused Spare) ∙ (ap (λ (k : ℕ). k + 1) (length-replicate n (unused Free)) ∙ sym (length-roles_new n)))
+    (λ k low.
+    let within : k < blocks_of g = omega (arith, low, size, length-roles_new n) in
+    let by : Role → ℕ → List Entry → Block = λ r e es. record { role = r; erases = e; entries = es } in
+    let parts : block_in s (roles_new n) k ≡ unused (role_in (roles_new n) k) =
+    ap (λ (e : ℕ). by (role_in (roles_new n) k) e (entries_of s k)) (new.erases k within) ∙ ap (by (role_in (roles_new n) k) 0) (new.entries k within) in
+    elim (cases_order k n) [
+      | inl e ↦ parts ∙ (ap unused (ap (role_in (roles_new n)) e ∙ spare-last n) ∙ sym (ap (λ (i : ℕ). get_or xs i d) e ∙ get_or_push (replicate n (unused Free)) (unused Spare) d n (length-replicate n (unused Free))))
+      | inr o ↦ elim o [
+        | inl below ↦ parts ∙ (ap unused (free-below n k below) ∙ sym (get_or_append_left (replicate n (unused Free)) (unused Spare ∷ []) d k (omega (arith, below, length-replicate n (unused Free))) ∙ get_or-replicate n k (unused Free) d below))
+        | inr high ↦ absurd (omega (arith, high, low, length-roles_new n))
+      ]
+    ])

@@ -43,13 +43,13 @@ module _ (old : Store) (die : Die) (source at : PageAddr) (live : List ℕ) (ins
   pub relocate-copied : entries_in (page_bytes_of (die_geometry_of die)) (set old.current.items (page_of old source).stamp (Some at)) at.block (block_of die at.block) ≡ entries_of old at.block ++ (record { sector = (page_of old source).stamp; live = true }) ∷ []
   relocate-copied =
       put-changed old die at (page_of old source) live (stamp_below old source inside short) next changes counts
-        ∙ ap (λ (xs : List Entry). xs ++ (record { sector = (page_of old source).stamp; live = true }) ∷ []) (elsewhere at.block (λ e. apart (sym e)))
+      ∙ ap (λ (xs : List Entry). xs ++ (record { sector = (page_of old source).stamp; live = true }) ∷ []) (elsewhere at.block (λ e. apart (sym e)))
 
   pub relocate-dead : entries_in (page_bytes_of (die_geometry_of die)) (set old.current.items (page_of old source).stamp (Some at)) source.block (block_of die source.block) ≡ set (entries_of old source.block) source.page (record { sector = (page_of old source).stamp; live = false })
   unfolding entries_of
   relocate-dead =
       put-others old die at (page_of old source) live (stamp_below old source inside short) next changes counts source.block apart inside
-        ∙ forgotten_here (size_of old) old.current.items (page_of old source).stamp source (block_of old.die source.block) (names_live old source short alive) (omega (arith, short, length-entries_of old source.block)) refl
+      ∙ forgotten_here (size_of old) old.current.items (page_of old source).stamp source (block_of old.die source.block) (names_live old source short alive) (omega (arith, short, length-entries_of old source.block)) refl
 
   pub relocate-others : (c : ℕ) → c ≢ at.block → c ≢ source.block → c < blocks_of (geometry_of old) → entries_in (page_bytes_of (die_geometry_of die)) (set old.current.items (page_of old source).stamp (Some at)) c (block_of die c) ≡ entries_of old c
   relocate-others c first second low =
@@ -60,6 +60,6 @@ module _ (old : Store) (die : Die) (source at : PageAddr) (live : List ℕ) (ins
   relocate-sectors =
       let low = stamp_below old source inside short in
       let held : get_or (sectors_of old) (page_of old source).stamp None ≡ Some (page_of old source).value =
-        sector-at (size_of old) (block_of old.die) old.current.items (page_of old source).stamp (Some source) (omega (arith, low, old.mapped.current_size)) (names_live old source short alive) in
+      sector-at (size_of old) (block_of old.die) old.current.items (page_of old source).stamp (Some source) (omega (arith, low, old.mapped.current_size)) (names_live old source short alive) in
       put-sectors old die at (page_of old source) live low next changes counts
-        ∙ set_as_is (sectors_of old) (page_of old source).stamp (Some (page_of old source).value) None held
+      ∙ set_as_is (sectors_of old) (page_of old source).stamp (Some (page_of old source).value) None held

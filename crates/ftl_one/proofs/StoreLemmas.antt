@@ -50,7 +50,7 @@ next_of_block s at b room same next =
     record {
       usable = usable_block s at.block low off;
       next = omega (arith, next, size, length-entries_of s at.block);
-      within = omega (arith, next, room.room)
+      within = omega (arith, next, room.room);
     }
 
 -- the store's count of a block is that of its entries
@@ -99,39 +99,39 @@ module _ (old : Store) (die : Die) (at : PageAddr) (page : Page) (live : List �
   put-mapped =
       let g = die_geometry_of old.die in
       subst (λ (h : Geometry). IsMapped (page_bytes_of h) (blocks_of h) (sector_count_of h) (block_of die) (set old.current.items page.stamp (Some at)) live) (sym changes.geometry)
-        (mapped-put (page_bytes_of g) (blocks_of g) (sector_count_of g) (block_of old.die) (block_of die) old.current.items old.live.items live old.mapped at page low next.usable.within next.next next.usable.not_retired becomes counts)
+      (mapped-put (page_bytes_of g) (blocks_of g) (sector_count_of g) (block_of old.die) (block_of die) old.current.items old.live.items live old.mapped at page low next.usable.within next.next next.usable.not_retired becomes counts)
 
   pub put-sectors : sectors_in (page_bytes_of (die_geometry_of die)) (block_of die) (set old.current.items page.stamp (Some at)) ≡ set (sectors_of old) page.stamp (Some page.value)
   unfolding sectors_of
   put-sectors =
       let g = die_geometry_of old.die in
       ap (λ (h : Geometry). sectors_in (page_bytes_of h) (block_of die) (set old.current.items page.stamp (Some at))) changes.geometry
-        ∙ sectors-put (page_bytes_of g) (blocks_of g) (sector_count_of g) (block_of old.die) (block_of die) old.current.items old.live.items live old.mapped at page low next.usable.within next.next next.usable.not_retired becomes counts
+      ∙ sectors-put (page_bytes_of g) (blocks_of g) (sector_count_of g) (block_of old.die) (block_of die) old.current.items old.live.items live old.mapped at page low next.usable.within next.next next.usable.not_retired becomes counts
 
   pub put-changed : entries_in (page_bytes_of (die_geometry_of die)) (set old.current.items page.stamp (Some at)) at.block (block_of die at.block) ≡ map (forgotten page.stamp) (entries_of old at.block) ++ (record { sector = page.stamp; live = true }) ∷ []
   unfolding entries_of
   put-changed =
       let g = die_geometry_of old.die in
       ap (λ (h : Geometry). entries_in (page_bytes_of h) (set old.current.items page.stamp (Some at)) at.block (block_of die at.block)) changes.geometry
-        ∙ entries-put (page_bytes_of g) (blocks_of g) (sector_count_of g) (block_of old.die) (block_of die) old.current.items old.live.items live old.mapped at page low next.usable.within next.next next.usable.not_retired becomes counts
+      ∙ entries-put (page_bytes_of g) (blocks_of g) (sector_count_of g) (block_of old.die) (block_of die) old.current.items old.live.items live old.mapped at page low next.usable.within next.next next.usable.not_retired becomes counts
 
   pub put-others : (c : ℕ) → c ≢ at.block → c < blocks_of (geometry_of old) → entries_in (page_bytes_of (die_geometry_of die)) (set old.current.items page.stamp (Some at)) c (block_of die c) ≡ map (forgotten page.stamp) (entries_of old c)
   unfolding entries_of
   put-others c apart inside =
       let g = die_geometry_of old.die in
       ap (λ (h : Geometry). entries_in (page_bytes_of h) (set old.current.items page.stamp (Some at)) c (block_of die c)) changes.geometry
-        ∙ entries-put_other (page_bytes_of g) (blocks_of g) (sector_count_of g) (block_of old.die) (block_of die) old.current.items old.live.items live old.mapped at page low next.usable.within next.next next.usable.not_retired becomes counts c apart inside
+      ∙ entries-put_other (page_bytes_of g) (blocks_of g) (sector_count_of g) (block_of old.die) (block_of die) old.current.items old.live.items live old.mapped at page low next.usable.within next.next next.usable.not_retired becomes counts c apart inside
 
   pub put-erases : (c : ℕ) → c < blocks_of (geometry_of old) → (block_of die c).erases ≡ erases_of old c
   unfolding erases_of
   put-erases c inside = elim (cases_eq c at.block) [
-      inl e ↦ subst (λ (k : ℕ). (block_of die k).erases ≡ (block_of old.die k).erases) (sym e) (ap (λ (k : Block). k.erases) changes.changed)
+    | inl e ↦ subst (λ (k : ℕ). (block_of die k).erases ≡ (block_of old.die k).erases) (sym e) (ap (λ (k : Block). k.erases) changes.changed)
     | inr apart ↦ ap (λ (k : Block). k.erases) (changes.others c apart inside)
-    ]
+  ]
 
   pub put-retired : (c : ℕ) → c < blocks_of (geometry_of old) → (block_of die c).retired ≡ retired_of old c
   unfolding retired_of
   put-retired c inside = elim (cases_eq c at.block) [
-      inl e ↦ subst (λ (k : ℕ). (block_of die k).retired ≡ (block_of old.die k).retired) (sym e) (ap (λ (k : Block). k.retired) changes.changed)
+    | inl e ↦ subst (λ (k : ℕ). (block_of die k).retired ≡ (block_of old.die k).retired) (sym e) (ap (λ (k : Block). k.retired) changes.changed)
     | inr apart ↦ ap (λ (k : Block). k.retired) (changes.others c apart inside)
-    ]
+  ]

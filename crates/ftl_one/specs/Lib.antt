@@ -1,6 +1,7 @@
 -- What public contracts rest on.
 pub mod Stock
 pub mod OneFtl
+pub mod Laws
 -- How the layer keeps its pages and roles: internal.
 pub mod Entries
 pub mod Store

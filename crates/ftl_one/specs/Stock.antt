@@ -100,17 +100,17 @@ filled victim spare = record spare { role = Open; entries = spare.entries ++ liv
 -- a victim after its erase: it is the spare, or retired by the last erase of its endurance
 abbrev pub emptied : ℕ → Block → Block
 emptied endurance victim =
-  record { role = (if victim.erases + 1 == endurance then Retired else Spare); erases = victim.erases + 1; entries = [] }
+    record { role = (if victim.erases + 1 == endurance then Retired else Spare); erases = victim.erases + 1; entries = [] }
 
 -- a collection: the victim's live pages are copied into the spare, and the victim is erased
 abbrev pub collected : ℕ → Stock → ℕ → ℕ → Stock
 collected endurance stock spare victim =
-  let taken = slice_index_or stock.blocks victim (unused Retired) in
-  record stock {
-    blocks = change_at (change_at stock.blocks spare (filled taken)) victim (emptied endurance);
-    copies = stock.copies + live_of taken;
-    erases = stock.erases + 1
-  }
+    let taken = slice_index_or stock.blocks victim (unused Retired) in
+    record stock {
+      blocks = change_at (change_at stock.blocks spare (filled taken)) victim (emptied endurance);
+      copies = stock.copies + live_of taken;
+      erases = stock.erases + 1;
+    }
 
 -- a collection by the greedy choice, where a block is closed
 abbrev pub collect : ℕ → Stock → ℕ → Option ℕ → Option Stock
@@ -135,10 +135,10 @@ ready endurance stock = ready_by endurance stock (open_of stock.blocks) (free_of
 -- a page of the sector is programmed in the open block, and its old page is dead; a full block is closed at once
 abbrev pub write_into : ℕ → ℕ → Stock → Option ℕ → Option Stock
 write_into pages sector stock (Some b) =
-  Some (record stock {
-    blocks = change_at (map (forget sector) stock.blocks) b (λ block. closed_if_full pages (with_page sector block));
-    programs = stock.programs + 1
-  })
+    Some (record stock {
+      blocks = change_at (map (forget sector) stock.blocks) b (λ block. closed_if_full pages (with_page sector block));
+      programs = stock.programs + 1;
+    })
 write_into pages sector stock None = None
 
 abbrev pub write_of : ℕ → ℕ → Stock → Option Stock

@@ -14,7 +14,7 @@ pub fn copy_page(die: &mut Die, page: &mut [u8], sector: u32, from: PageAddr, to
     requires room { length page.old ≡ page_bytes_of (geometry_of die.old) }
     ensures { ChangesBlock die.old die.new to.block
         (programmed (block_of die.old to.block)
-          (page_at (page_bytes_of (geometry_of die.old)) (block_of die.old from.block) from.page)) }
+        (page_at (page_bytes_of (geometry_of die.old)) (block_of die.old from.block) from.page)) }
 {
     let geometry = die.geometry();
     if geometry.lun_of(from.block) == geometry.lun_of(to.block) {

@@ -11,3 +11,6 @@ mod store;
 
 pub use one_ftl::{Counts, OneFtl, WornOut};
 pub use role::Role;
+
+#[cfg(test)]
+mod tests;

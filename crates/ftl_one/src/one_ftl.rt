@@ -42,7 +42,8 @@ pub struct OneFtl {
 }
 
 impl OneFtl {
-    ghost use Rattle.std.specs.Prelude.{[], IfOk, IfSome, IfNone, OnOk, OnErr, ◌^◌};
+    ghost use Rattle.ftl_one.specs.Laws.{CollectsAtMostOne, ErasesNothing, HasRetired};
+    ghost use Rattle.std.specs.Prelude.{◌≢◌, [], IfOk, IfSome, IfNone, OnOk, OnErr, ◌^◌};
     ghost use Rattle.geometry.specs.Sectors.{sector_at, was_of, Answers};
     ghost use Rattle.geometry.specs.History.{Write, Trim, step, after};
     ghost use Rattle.ftl_one.specs.OneFtl.{geometry_of, sectors_of, stock_of};
@@ -95,6 +96,14 @@ impl OneFtl {
         ensures worn { OnErr result (next (geometry_of self.old) (stock_of self.old) (Write 0 sector bytes.now) ≡ None) }
         ensures same_array { OnErr result (sectors_of self.new ≡ sectors_of self.old) }
         ensures same_stock { OnErr result (stock_of self.new ≡ stock_of self.old) }
+
+        // Whatever is relocated or erased, no other sector changes; a write that succeeds is one program.
+        ensures others { (s : ℕ) → s ≢ sector → sector_at (sectors_of self.new) s ≡ sector_at (sectors_of self.old) s }
+        ensures programs { OnOk result ((stock_of self.new).programs ≡ (stock_of self.old).programs + 1) }
+
+        // At most one block is collected, a closed one with the fewest live pages, and none after a failed erase.
+        ensures collection { CollectsAtMostOne (stock_of self.old) (stock_of self.new) }
+        ensures after_failure { HasRetired (stock_of self.old) → ErasesNothing (stock_of self.old) (stock_of self.new) }
     {
         let Some(block) = self.make_ready() else {
             return Err(WornOut);

@@ -25,11 +25,7 @@ pub fn hand_over(roles: &mut [Role], closed: &mut [bool], spare: u32, victim: u3
     ensures roles { roles.new ≡ slice_set (slice_set roles.old spare Open) victim (if failed then Retired else Spare) }
     ensures closed { closed.new ≡ slice_set (slice_set closed.old spare false) victim false }
 {
-    let role = if failed {
-        Role::Retired
-    } else {
-        Role::Spare
-    };
+    let role = if failed { Role::Retired } else { Role::Spare };
     assign(roles, closed, spare, Role::Open);
     assign(roles, closed, victim, role);
 }

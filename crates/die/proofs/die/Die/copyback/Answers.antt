@@ -60,7 +60,7 @@ invariant_of-self c =
       bytes_sized = (the_bytes at_end).size ∙ d.bytes_sized;
       stamps_sized = length-set d.stamps.items c.place_of-place.result c.index.result.now ∙ d.stamps_sized;
       states_sized = length-set d.states.items c.args.to.block (counted s) ∙ d.states_sized;
-      sound = sound-set d c.args.to.block (counted s) c.requires.next.usable.within (sound-counted d c.args.to s c.requires.next (the_state at_end))
+      sound = sound-set d c.args.to.block (counted s) c.requires.next.usable.within (sound-counted d c.args.to s c.requires.next (the_state at_end));
     }
 
 -- the page that is copied, as the storage has it
@@ -73,8 +73,8 @@ the_page c =
     let stamp = get_or_read d.stamps.items c.place_of-source.result c.index.result.now (omega (arith, c.place_of-source.ensures.within, d.stamps_sized)) c.index.ensures 0 in
     let place : ℕ = c.args.from.block * pages_of d.geometry + c.args.from.page in
     ap (λ (k : ℕ). page c.place_of-source.result k) stamp
-      ∙ (ap (λ (k : ℕ). page k (get_or d.stamps.items k 0)) c.place_of-source.ensures.value
-      ∙ sym (page-stored d c.args.from.block c.args.from.page c.requires.source.programmed))
+    ∙ (ap (λ (k : ℕ). page k (get_or d.stamps.items k 0)) c.place_of-source.ensures.value
+    ∙ sym (page-stored d c.args.from.block c.args.from.page c.requires.source.programmed))
 
 pub returns-clause-changes : goal.returns-clause-changes
 returns-clause-changes c =

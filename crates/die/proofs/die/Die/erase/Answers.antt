@@ -26,7 +26,7 @@ invariant_of-self c =
       bytes_sized = d.bytes_sized;
       stamps_sized = d.stamps_sized;
       states_sized = length-set d.states.items c.args.block (wiped (endurance_of d.geometry) s) ∙ d.states_sized;
-      sound = sound-set d c.args.block (wiped (endurance_of d.geometry) s) c.requires.within (sound-wiped d c.args.block s c.requires e)
+      sound = sound-set d c.args.block (wiped (endurance_of d.geometry) s) c.requires.within (sound-wiped d c.args.block s c.requires e);
     })
 
 pub returns-clause-status : goal.returns-clause-status
@@ -48,5 +48,5 @@ returns-clause-changes c =
     record {
       changed = ap (λ (E : ℕ). by E c.args.block) c.endurance-endurance.ensures.value ∙ w.0;
       others = λ k apart low. ap (λ (E : ℕ). by E k) c.endurance-endurance.ensures.value ∙ w.1 k apart;
-      geometry = refl
+      geometry = refl;
     }

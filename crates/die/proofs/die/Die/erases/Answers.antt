@@ -6,7 +6,7 @@ use Rattle.die.proofs.die.Die.erases.Goals as goal
 pub returns-clause-value : goal.returns-clause-value
 returns-clause-value c =
     ap (λ (s : BlockState). s.erases) (state_read c.args.self.now c.args.block c.index.result.now c.requires c.index.ensures)
-      ∙ sym (erases-block c.args.self.now c.args.block)
+    ∙ sym (erases-block c.args.self.now c.args.block)
 
 pub returns-clause-usable : goal.returns-clause-usable
 returns-clause-usable c =

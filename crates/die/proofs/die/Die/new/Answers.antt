@@ -12,8 +12,8 @@ use Rattle.die.proofs.die.Die.new.Goals as goal
 pub returns : goal.returns
 unfolding block_of block_in
 returns c = record {
-    geometry = refl;
-    blocks = λ b low.
+  geometry = refl;
+  blocks = λ b low.
       let g = c.args.geometry.now in
       let states = c.in_ok-vec-3.field-0.items in
       let fresh : states ≡ replicate c.blocks-blocks.result unused = c.in_ok-vec-3.ensures.items_if_clones_equal (λ y h. search rules) in
@@ -21,6 +21,7 @@ returns c = record {
       let by : BlockState → Block = λ t. record {
         pages = map (λ p. stored (page_bytes_of g) c.in_ok-vec.field-0.items c.in_ok-vec-2.field-0.items (b * pages_of g + p)) (range_with_len 0 t.next);
         erases = t.erases;
-        retired = t.retired } in
-      ap by state
+        retired = t.retired;
+      } in
+      ap by state;
 }

@@ -6,7 +6,7 @@ use Rattle.die.proofs.die.Die.next.Goals as goal
 pub returns-clause-value : goal.returns-clause-value
 returns-clause-value c =
     ap (λ (s : BlockState). s.next) (state_read c.args.self.now c.args.block c.index.result.now c.requires c.index.ensures)
-      ∙ sym (length-block c.args.self.now c.args.block)
+    ∙ sym (length-block c.args.self.now c.args.block)
 
 pub returns-clause-within : goal.returns-clause-within
 returns-clause-within c =

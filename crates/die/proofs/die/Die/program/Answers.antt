@@ -34,9 +34,10 @@ the_bytes c =
     let d = c.args.self.now in
     let was = c.deref_mut.ensures.value in
     let sized : length c.put_page.new.bytes ≡ vec_len d.bytes = omega (arith, c.put_page.ensures.size, ap (λ (xs : List ℕ). length xs) was, d.bytes.ok.0) in
-    let by_size = subst (λ (n : ℕ). PutsSlot n c.deref_mut.result.now c.put_page.new.bytes c.place_of-place.result c.args.bytes.now) c.requires.size c.put_page.ensures in
-    (with_items_is d.bytes c.put_page.new.bytes sized,
-     subst (λ (xs : List ℕ). PutsSlot (page_bytes_of d.geometry) xs c.put_page.new.bytes c.place_of-place.result c.args.bytes.now) was by_size)
+    let by_size = subst (λ (n : ℕ). PutsSlot n c.deref_mut.result.now c.put_page.new.bytes c.place_of-place.result c.args.bytes.now) c.requires.size c.put_page.ensures in (
+      with_items_is d.bytes c.put_page.new.bytes sized,
+      subst (λ (xs : List ℕ). PutsSlot (page_bytes_of d.geometry) xs c.put_page.new.bytes c.place_of-place.result c.args.bytes.now) was by_size,
+    )
 
 pub invariant_of-self : goal.invariant_of-self
 invariant_of-self c =
@@ -49,7 +50,7 @@ invariant_of-self c =
       bytes_sized = ap (λ (xs : List ℕ). length xs) b.0 ∙ (b.1.size ∙ d.bytes_sized);
       stamps_sized = length-set d.stamps.items c.place_of-place.result c.from.result ∙ d.stamps_sized;
       states_sized = length-set d.states.items c.args.at.block (counted s) ∙ d.states_sized;
-      sound = sound-set d c.args.at.block (counted s) c.requires.next.usable.within (sound-counted d c.args.at s c.requires.next e)
+      sound = sound-set d c.args.at.block (counted s) c.requires.next.usable.within (sound-counted d c.args.at s c.requires.next e);
     }
 
 pub returns-clause-changes : goal.returns-clause-changes

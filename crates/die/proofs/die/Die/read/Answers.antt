@@ -52,7 +52,7 @@ the_page c =
     let d = c.args.self.now in
     let within : c.args.at.page < length (block_of d c.args.at.block).pages = omega (arith, the_next d c.args.at.block c.index.result.now c.requires.usable.within c.index.ensures) in
     page-stored d c.args.at.block c.args.at.page within
-      ∙ ap (λ (k : ℕ). stored (page_bytes_of d.geometry) d.bytes.items d.stamps.items k) (sym c.place_of-place.ensures.value)
+    ∙ ap (λ (k : ℕ). stored (page_bytes_of d.geometry) d.bytes.items d.stamps.items k) (sym c.place_of-place.ensures.value)
 
 pub returns-clause-value : goal.returns-clause-value
 unfolding stored
@@ -60,9 +60,9 @@ returns-clause-value c =
     let at_end = (goal.at.returns-clause-value c).After-get_page in
     let d = c.args.self.now in
     c.get_page.ensures
-      ∙ (ap (λ (n : ℕ). slot n c.deref.result.now c.place_of-place.result) c.requires.room
-      ∙ (ap (λ (xs : List ℕ). slot (page_bytes_of d.geometry) xs c.place_of-place.result) c.deref.ensures.value
-      ∙ ap (λ (p : Page). p.value) (sym (the_page at_end))))
+    ∙ (ap (λ (n : ℕ). slot n c.deref.result.now c.place_of-place.result) c.requires.room
+    ∙ (ap (λ (xs : List ℕ). slot (page_bytes_of d.geometry) xs c.place_of-place.result) c.deref.ensures.value
+    ∙ ap (λ (p : Page). p.value) (sym (the_page at_end))))
 
 pub returns-clause-stamp : goal.returns-clause-stamp
 unfolding stored
@@ -70,4 +70,4 @@ returns-clause-stamp c =
     let at_end = (goal.at.returns-clause-stamp c).After-get_page in
     let d = c.args.self.now in
     get_or_read d.stamps.items c.place_of-place.result c.index-2.result.now (omega (arith, c.place_of-place.ensures.within, d.stamps_sized)) c.index-2.ensures 0
-      ∙ ap (λ (p : Page). p.stamp) (sym (the_page at_end))
+    ∙ ap (λ (p : Page). p.stamp) (sym (the_page at_end))

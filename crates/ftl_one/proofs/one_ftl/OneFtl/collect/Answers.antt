@@ -29,13 +29,13 @@ use Rattle.ftl_one.proofs.one_ftl.OneFtl.collect.Goals.{In-Some, After-hand_over
 pub unreachable-requires : goal.unreachable-requires
 unreachable-requires c =
     one_closed c.args.self.now c.args.spare c.requires.none c.requires.no_free c.requires.spare
-      (λ b is. c.in_default.ensures.none b (ap (λ (xs : List Bool). get_or xs b false) c.deref.ensures.value ∙ is))
+    (λ b is. c.in_default.ensures.none b (ap (λ (xs : List Bool). get_or xs b false) c.deref.ensures.value ∙ is))
 
 -- the victim is the greedy choice
 the_best : (c : In-Some) → IsGreedy (counts_of c.args.self.now.store) c.args.self.now.closed.items c.in-Some.victim
 the_best c =
     subst (λ (xs : List ℕ). IsGreedy xs c.args.self.now.closed.items c.in-Some.victim) c.live.ensures.value
-      (subst (λ (xs : List Bool). IsGreedy c.live.result.now xs c.in-Some.victim) c.deref.ensures.value c.in-Some.ensures.best)
+    (subst (λ (xs : List Bool). IsGreedy c.live.result.now xs c.in-Some.victim) c.deref.ensures.value c.in-Some.ensures.best)
 
 pub clear-copies-requires-clause-room : goal.clear-copies-requires-clause-room
 clear-copies-requires-clause-room c =
@@ -93,9 +93,9 @@ marks_after c =
     let f = c.args.self.now in
     let v = c.in-Some.victim in
     map-set is_closed (set f.roles.items c.args.spare Open) v (after_erase c.erase-failed.result)
-      ∙ (ap (λ (t : Bool). set (map is_closed (set f.roles.items c.args.spare Open)) v t) (not_closed c.erase-failed.result)
-      ∙ (ap (λ (xs : List Bool). set xs v false) (map-set is_closed f.roles.items c.args.spare Open)
-      ∙ ap (λ (xs : List Bool). set (set xs c.args.spare false) v false) (sym f.closed_marks)))
+    ∙ (ap (λ (t : Bool). set (map is_closed (set f.roles.items c.args.spare Open)) v t) (not_closed c.erase-failed.result)
+    ∙ (ap (λ (xs : List Bool). set xs v false) (map-set is_closed f.roles.items c.args.spare Open)
+    ∙ ap (λ (xs : List Bool). set (set xs c.args.spare false) v false) (sym f.closed_marks)))
 
 -- whether the erase fails, by the victim's erases before
 the_failure : (c : After-hand_over) → c.in-Some.victim < blocks_of (pages.geometry_of c.args.self.now.store) → c.erase-failed.result ≡ eqb (pages.erases_of c.args.self.now.store c.in-Some.victim + 1) (endurance_of (pages.geometry_of c.args.self.now.store))
@@ -103,8 +103,8 @@ the_failure c low =
     let v = c.in-Some.victim in
     let f = c.args.self.now in
     c.erase-failed.ensures.failed
-      ∙ (ap (λ (n : ℕ). eqb (n + 1) (endurance_of (pages.geometry_of c.clear-copies.new.self))) (c.clear-copies.ensures.clears.keeps.erases v low)
-      ∙ ap (λ (h : Geometry). eqb (pages.erases_of f.store v + 1) (endurance_of h)) c.clear-copies.ensures.clears.keeps.geometry)
+    ∙ (ap (λ (n : ℕ). eqb (n + 1) (endurance_of (pages.geometry_of c.clear-copies.new.self))) (c.clear-copies.ensures.clears.keeps.erases v low)
+    ∙ ap (λ (h : Geometry). eqb (pages.erases_of f.store v + 1) (endurance_of h)) c.clear-copies.ensures.clears.keeps.geometry)
 
 -- the roles, place by place
 role_victim : (c : After-hand_over) → c.in-Some.victim < length c.args.self.now.roles.items → role_in (roles_after c) c.in-Some.victim ≡ after_erase c.erase-failed.result
@@ -116,13 +116,13 @@ role_spare : (c : After-hand_over) → c.args.spare < length c.args.self.now.rol
 role_spare c low apart =
     let f = c.args.self.now in
     get_or-set_other (set f.roles.items c.args.spare Open) c.in-Some.victim c.args.spare (after_erase c.erase-failed.result) Retired (λ e. apart (sym e))
-      ∙ get_or-set_same f.roles.items c.args.spare Open Retired low
+    ∙ get_or-set_same f.roles.items c.args.spare Open Retired low
 
 role_others : (c : After-hand_over) → (b : ℕ) → b ≢ c.args.spare → b ≢ c.in-Some.victim → role_in (roles_after c) b ≡ role_in c.args.self.now.roles.items b
 role_others c b first second =
     let f = c.args.self.now in
     get_or-set_other (set f.roles.items c.args.spare Open) c.in-Some.victim b (after_erase c.erase-failed.result) Retired second
-      ∙ get_or-set_other f.roles.items c.args.spare b Open Retired first
+    ∙ get_or-set_other f.roles.items c.args.spare b Open Retired first
 
 roles-size : (c : After-hand_over) → length (roles_after c) ≡ length c.args.self.now.roles.items
 roles-size c =
@@ -139,8 +139,8 @@ the_blocks c is =
     let v_in : v < length f.roles.items = omega (arith, low, f.roles_sized) in
     let s_in : c.args.spare < length f.roles.items = omega (arith, spare_within f c.args.spare c.requires.none c.requires.no_free c.requires.spare, f.roles_sized) in
     blocks-collect f.store c.clear-copies.new.self c.erase-failed.new.self f.roles.items (roles_after c) c.args.spare v (endurance_of (pages.geometry_of f.store)) f.roles_sized (roles-size c) s_in v_in apart
-      c.clear-copies.ensures.clears c.erase-failed.ensures.erases (role_spare c s_in apart)
-      (role_victim c v_in ∙ ap after_erase (the_failure c low)) (role_others c)
+    c.clear-copies.ensures.clears c.erase-failed.ensures.erases (role_spare c s_in apart)
+    (role_victim c v_in ∙ ap after_erase (the_failure c low)) (role_others c)
 
 -- the geometry is as before
 the_geometry : (c : After-hand_over) → pages.geometry_of c.erase-failed.new.self ≡ pages.geometry_of c.args.self.now.store
@@ -171,22 +171,22 @@ invariant_of-self c =
     let roles = the_roles at_end in
     let failed : pages.retired_of new v ≡ c.erase-failed.result = c.erase-failed.ensures.erases.retired ∙ sym c.erase-failed.ensures.failed in
     let law = law_after f spare c.requires.none c.requires.no_free c.requires.spare c.clear-copies.new.self new v c.erase-failed.result (role_in (roles_after at_end)) best c.clear-copies.ensures.clears c.erase-failed.ensures.erases failed
-      (role_spare at_end s_in apart) (role_victim at_end v_in) (role_others at_end) in
+    (role_spare at_end s_in apart) (role_victim at_end v_in) (role_others at_end) in
     let full : length (get_or (blocks_in f.store f.roles.items) v (unused Retired)).entries ≡ pages_of g =
-      ap (λ (b : Block). length b.entries) (get_or-blocks f.store f.roles.items v (unused Retired) v_in) ∙ f.lawful.full v (victim_role f spare c.requires.none c.requires.no_free c.requires.spare v best.is_closed) in
+    ap (λ (b : Block). length b.entries) (get_or-blocks f.store f.roles.items v (unused Retired) v_in) ∙ f.lawful.full v (victim_role f spare c.requires.none c.requires.no_free c.requires.spare v best.is_closed) in
     let size = length-blocks f.store f.roles.items in
     let heavy = ap (sum_by (weight (pages_of g))) (the_blocks at_end best.is_closed)
-      ∙ weight-collect (pages_of g) (endurance_of g) spare v (blocks_in f.store f.roles.items) (omega (arith, s_in, size)) (omega (arith, v_in, size)) apart full in
+    ∙ weight-collect (pages_of g) (endurance_of g) spare v (blocks_in f.store f.roles.items) (omega (arith, s_in, size)) (omega (arith, v_in, size)) apart full in
     let copies = the_copies at_end best.is_closed in
     record {
       one_thread = ap hosts_of same ∙ f.one_thread;
       roles_sized = ap (λ (xs : List Role). length xs) roles ∙ (roles-size at_end ∙ (f.roles_sized ∙ ap blocks_of (sym same)));
       closed_marks = the_marks at_end ∙ (sym (marks_after at_end) ∙ ap (map is_closed) (sym roles));
       lawful = subst (λ (h : Geometry). IsLawful (blocks_of h) (pages_of h) (λ k. length (pages.entries_of new k)) (pages.retired_of new) (role_in (with_items f.roles c.hand_over.new.roles).items) (Some spare)) (sym same)
-        (subst (λ (xs : List Role). IsLawful (blocks_of g) (pages_of g) (λ k. length (pages.entries_of new k)) (pages.retired_of new) (role_in xs) (Some spare)) (sym roles) law);
+          (subst (λ (xs : List Role). IsLawful (blocks_of g) (pages_of g) (λ k. length (pages.entries_of new k)) (pages.retired_of new) (role_in xs) (Some spare)) (sym roles) law);
       bounded = subst (λ (h : Geometry). f.counts.programs + (f.counts.copies + c.from.result) + (f.counts.erases + 1) ≤ sum_by (weight (pages_of h)) (blocks_in new (with_items f.roles c.hand_over.new.roles).items)) (sym same)
-        (subst (λ (xs : List Role). f.counts.programs + (f.counts.copies + c.from.result) + (f.counts.erases + 1) ≤ sum_by (weight (pages_of g)) (blocks_in new xs)) (sym roles)
-          (omega (arith, heavy, copies, f.bounded)))
+          (subst (λ (xs : List Role). f.counts.programs + (f.counts.copies + c.from.result) + (f.counts.erases + 1) ≤ sum_by (weight (pages_of g)) (blocks_in new xs)) (sym roles)
+          (omega (arith, heavy, copies, f.bounded)));
     }
 
 pub returns-clause-geometry : goal.returns-clause-geometry
@@ -208,10 +208,10 @@ returns-clause-stock c =
     let k : Stock = record { blocks = blocks_in f.store f.roles.items; programs = f.counts.programs; copies = f.counts.copies; erases = f.counts.erases } in
     let by : List Block → ℕ → Stock = λ blocks copies. record { blocks = blocks; programs = f.counts.programs; copies = f.counts.copies + copies; erases = f.counts.erases + 1 } in
     let chosen : victim_of (blocks_in f.store f.roles.items) ≡ Some v =
-      victim_of-stock f ∙ (ap (λ (xs : List ℕ). greedy_of xs f.closed.items) (sym c.live.ensures.value) ∙ (ap (greedy_of c.live.result.now) (sym c.deref.ensures.value) ∙ (sym c.greedy.ensures.value ∙ c.in-Some.is))) in
+    victim_of-stock f ∙ (ap (λ (xs : List ℕ). greedy_of xs f.closed.items) (sym c.live.ensures.value) ∙ (ap (greedy_of c.live.result.now) (sym c.deref.ensures.value) ∙ (sym c.greedy.ensures.value ∙ c.in-Some.is))) in
     ap (λ (o : Option ℕ). collect E k c.args.spare o) chosen
-      ∙ (ap (λ (xs : List Block). Some (by xs (live_of (get_or (blocks_in f.store f.roles.items) v (unused Retired))))) (sym (the_blocks at_end best.is_closed) ∙ ap (blocks_in c.erase-failed.new.self) (sym (the_roles at_end)))
-      ∙ ap (λ (n : ℕ). Some (by (blocks_in c.erase-failed.new.self (with_items f.roles c.hand_over.new.roles).items) n)) (the_copies at_end best.is_closed))
+    ∙ (ap (λ (xs : List Block). Some (by xs (live_of (get_or (blocks_in f.store f.roles.items) v (unused Retired))))) (sym (the_blocks at_end best.is_closed) ∙ ap (blocks_in c.erase-failed.new.self) (sym (the_roles at_end)))
+    ∙ ap (λ (n : ℕ). Some (by (blocks_in c.erase-failed.new.self (with_items f.roles c.hand_over.new.roles).items) n)) (the_copies at_end best.is_closed))
 
 pub returns-clause-opened : goal.returns-clause-opened
 returns-clause-opened c = open_of-stock _

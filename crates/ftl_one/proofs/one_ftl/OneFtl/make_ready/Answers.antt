@@ -22,8 +22,8 @@ use Rattle.ftl_one.proofs.one_ftl.OneFtl.make_ready.Goals as goal
 ready_is : (E : ℕ) (k : Stock) (o f s : Option ℕ) → open_of k.blocks ≡ o → free_of k.blocks ≡ f → spare_of k.blocks ≡ s → ready E k ≡ ready_by E k o f s
 ready_is E k o f s p q r =
     ap (λ (x : Option ℕ). ready_by E k x (free_of k.blocks) (spare_of k.blocks)) p
-      ∙ (ap (λ (x : Option ℕ). ready_by E k o x (spare_of k.blocks)) q
-      ∙ ap (λ (x : Option ℕ). ready_by E k o f x) r)
+    ∙ (ap (λ (x : Option ℕ). ready_by E k o x (spare_of k.blocks)) q
+    ∙ ap (λ (x : Option ℕ). ready_by E k o f x) r)
 
 pub returns-in-Some-clause-ready : goal.returns-in-Some-clause-ready
 returns-in-Some-clause-ready c =
@@ -44,19 +44,19 @@ pub returns-in-Some-lowest_free-clause-ready : goal.returns-in-Some-lowest_free-
 returns-in-Some-lowest_free-clause-ready c =
     let k = stock_of c.args.self.now in
     ready_is (endurance_of (geometry_of c.args.self.now)) k None (Some c.in-Some-lowest_free.block) (spare_of k.blocks)
-      (open_of-stock c.args.self.now ∙ c.in_default.is)
-      (free_of-stock c.args.self.now ∙ (ap (position is_free) (sym c.deref.ensures.value) ∙ (sym c.lowest_free.ensures ∙ c.in-Some-lowest_free.is)))
-      refl
-      ∙ ap Some (sym c.open.ensures.stock)
+    (open_of-stock c.args.self.now ∙ c.in_default.is)
+    (free_of-stock c.args.self.now ∙ (ap (position is_free) (sym c.deref.ensures.value) ∙ (sym c.lowest_free.ensures ∙ c.in-Some-lowest_free.is)))
+    refl
+    ∙ ap Some (sym c.open.ensures.stock)
 
 pub returns-in_err-spare-clause-none : goal.returns-in_err-spare-clause-none
 returns-in_err-spare-clause-none c =
     let k = stock_of c.args.self.now in
     rw c.from_residual.ensures
-      (ready_is (endurance_of (geometry_of c.args.self.now)) k None None None
-        (open_of-stock c.args.self.now ∙ c.in_default.is)
-        (free_of-stock c.args.self.now ∙ (ap (position is_free) (sym c.deref.ensures.value) ∙ (sym c.lowest_free.ensures ∙ c.in_default-lowest_free.is)))
-        (spare_of-stock c.args.self.now ∙ (ap (position is_spare) (sym c.deref-2.ensures.value) ∙ (sym c.spare_in.ensures ∙ c.in_err-spare.was))))
+    (ready_is (endurance_of (geometry_of c.args.self.now)) k None None None
+    (open_of-stock c.args.self.now ∙ c.in_default.is)
+    (free_of-stock c.args.self.now ∙ (ap (position is_free) (sym c.deref.ensures.value) ∙ (sym c.lowest_free.ensures ∙ c.in_default-lowest_free.is)))
+    (spare_of-stock c.args.self.now ∙ (ap (position is_spare) (sym c.deref-2.ensures.value) ∙ (sym c.spare_in.ensures ∙ c.in_err-spare.was))))
 
 pub collect-requires-clause-none : goal.collect-requires-clause-none
 collect-requires-clause-none c = open_of-stock c.args.self.now ∙ c.in_default.is
@@ -73,7 +73,7 @@ pub returns-clause-ready : goal.returns-clause-ready
 returns-clause-ready c =
     let k = stock_of c.args.self.now in
     ready_is (endurance_of (geometry_of c.args.self.now)) k None None (Some c.in_ok-spare.field-0)
-      (open_of-stock c.args.self.now ∙ c.in_default.is)
-      (free_of-stock c.args.self.now ∙ (ap (position is_free) (sym c.deref.ensures.value) ∙ (sym c.lowest_free.ensures ∙ c.in_default-lowest_free.is)))
-      (spare_of-stock c.args.self.now ∙ (ap (position is_spare) (sym c.deref-2.ensures.value) ∙ (sym c.spare_in.ensures ∙ c.in_ok-spare.was)))
-      ∙ c.collect.ensures.stock
+    (open_of-stock c.args.self.now ∙ c.in_default.is)
+    (free_of-stock c.args.self.now ∙ (ap (position is_free) (sym c.deref.ensures.value) ∙ (sym c.lowest_free.ensures ∙ c.in_default-lowest_free.is)))
+    (spare_of-stock c.args.self.now ∙ (ap (position is_spare) (sym c.deref-2.ensures.value) ∙ (sym c.spare_in.ensures ∙ c.in_ok-spare.was)))
+    ∙ c.collect.ensures.stock

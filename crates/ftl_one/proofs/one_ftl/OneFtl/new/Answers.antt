@@ -48,14 +48,14 @@ invariant_of-result c =
     let same = c.in_ok-store.ensures.geometry in
     let within : (b : ℕ) → b < n + 1 → b < blocks_of c.args.geometry.now = λ b low. omega (arith, low, the_count c, c.blocks-blocks.ensures.value) in
     let law = lawful-new n (pages_of (pages.geometry_of s)) (λ b. length (pages.entries_of s b)) (pages.retired_of s)
-      (λ b low. ap (λ (xs : List Entry). length xs) (new.entries b (within b low))) (λ b low. new.retired b (within b low)) in
+    (λ b low. ap (λ (xs : List Entry). length xs) (new.entries b (within b low))) (λ b low. new.retired b (within b low)) in
     record {
       one_thread = ap hosts_of same ∙ c.requires;
       roles_sized = ap (λ (xs : List Role). length xs) (the_roles c) ∙ (length-roles_new n ∙ sym (the_size c));
       closed_marks = the_marks c ∙ (sym (marks_new n) ∙ ap (map is_closed) (sym (the_roles c)));
       lawful = subst (λ (xs : List Role). IsLawful (blocks_of (pages.geometry_of s)) (pages_of (pages.geometry_of s)) (λ b. length (pages.entries_of s b)) (pages.retired_of s) (role_in xs) None) (sym (the_roles c))
-        (subst (λ (k : ℕ). IsLawful k (pages_of (pages.geometry_of s)) (λ b. length (pages.entries_of s b)) (pages.retired_of s) (role_in (roles_new n)) None) (sym (the_size c)) law);
-      bounded = omega arith
+          (subst (λ (k : ℕ). IsLawful k (pages_of (pages.geometry_of s)) (λ b. length (pages.entries_of s b)) (pages.retired_of s) (role_in (roles_new n)) None) (sym (the_size c)) law);
+      bounded = omega arith;
     }
 
 pub returns-clause-geometry : goal.returns-clause-geometry
@@ -76,5 +76,5 @@ returns-clause-stock c =
     let size : blocks_of g ≡ n + 1 = sym c.blocks-blocks.ensures.value ∙ the_count at_end in
     let less : n ≡ blocks_of g - 1 = omega (arith, size) in
     ap (λ (xs : List Role). by (blocks_in c.in_ok-store.store xs)) (the_roles at_end)
-      ∙ (ap by (blocks_new c.in_ok-store.store g n size c.in_ok-store.ensures)
-      ∙ ap (λ (k : ℕ). by (replicate k (unused Free) ++ unused Spare ∷ [])) less)
+    ∙ (ap by (blocks_new c.in_ok-store.store g n size c.in_ok-store.ensures)
+    ∙ ap (λ (k : ℕ). by (replicate k (unused Free) ++ unused Spare ∷ [])) less)

@@ -60,16 +60,16 @@ invariant_of-self c =
     let new = set f.roles.items b Open in
     let found = free_found f b c.requires.free in
     let law = lawful-open (blocks_of g) (pages_of g) (λ k. length (pages.entries_of s k)) (pages.retired_of s) (role_in f.roles.items) f.open_block f.lawful (role_in new) b
-      (omega (arith, s.die.geometry.in_limits.pages_low)) (omega (arith, found.0, f.roles_sized)) (sym (open_of-stock f) ∙ c.requires.none) found.1
-      (get_or-set_same f.roles.items b Open Retired found.0) (λ k apart. get_or-set_other f.roles.items b k Open Retired apart) in
+    (omega (arith, s.die.geometry.in_limits.pages_low)) (omega (arith, found.0, f.roles_sized)) (sym (open_of-stock f) ∙ c.requires.none) found.1
+    (get_or-set_same f.roles.items b Open Retired found.0) (λ k apart. get_or-set_other f.roles.items b k Open Retired apart) in
     let heavy : sum_by (weight (pages_of g)) (blocks_in s new) ≡ sum_by (weight (pages_of g)) (blocks_in s f.roles.items) =
-      ap (sum_by (weight (pages_of g))) (the_blocks at_end) ∙ weight-role (pages_of g) b Open (blocks_in s f.roles.items) (omega (arith, found.0, length-blocks s f.roles.items)) in
+    ap (sum_by (weight (pages_of g))) (the_blocks at_end) ∙ weight-role (pages_of g) b Open (blocks_in s f.roles.items) (omega (arith, found.0, length-blocks s f.roles.items)) in
     record {
       one_thread = f.one_thread;
       roles_sized = ap (λ (xs : List Role). length xs) roles ∙ (length-set f.roles.items b Open ∙ f.roles_sized);
       closed_marks = the_marks at_end ∙ (ap (λ (xs : List Bool). set xs b false) f.closed_marks ∙ (sym (map-set is_closed f.roles.items b Open) ∙ ap (map is_closed) (sym roles)));
       lawful = subst (λ (xs : List Role). IsLawful (blocks_of g) (pages_of g) (λ k. length (pages.entries_of s k)) (pages.retired_of s) (role_in xs) (Some b)) (sym roles) law;
-      bounded = subst (λ (xs : List Role). f.counts.programs + f.counts.copies + f.counts.erases ≤ sum_by (weight (pages_of g)) (blocks_in s xs)) (sym roles) (omega (arith, heavy, f.bounded))
+      bounded = subst (λ (xs : List Role). f.counts.programs + f.counts.copies + f.counts.erases ≤ sum_by (weight (pages_of g)) (blocks_in s xs)) (sym roles) (omega (arith, heavy, f.bounded));
     }
 
 pub returns-clause-geometry : goal.returns-clause-geometry

@@ -31,16 +31,16 @@ invariant_of-self c =
     let same = c.forget.ensures.keeps.geometry in
     let blocks = blocks-forget f.store s f.roles.items c.args.sector f.roles_sized c.forget.ensures.entries c.forget.ensures.keeps in
     let heavy : sum_by (weight (pages_of g)) (blocks_in s f.roles.items) ≡ sum_by (weight (pages_of g)) (blocks_in f.store f.roles.items) =
-      ap (sum_by (weight (pages_of g))) blocks ∙ weight-forget (pages_of g) c.args.sector (blocks_in f.store f.roles.items) in
+    ap (sum_by (weight (pages_of g))) blocks ∙ weight-forget (pages_of g) c.args.sector (blocks_in f.store f.roles.items) in
     let law = lawful-same (blocks_of g) (pages_of g) (λ b. length (pages.entries_of f.store b)) (pages.retired_of f.store) (role_in f.roles.items) f.open_block f.lawful (λ b. length (pages.entries_of s b)) (pages.retired_of s)
-      (λ b low. ap (λ (xs : List Entry). length xs) (c.forget.ensures.entries b low) ∙ length-map (pages.entries_of f.store b) (forgotten c.args.sector))
-      c.forget.ensures.keeps.retired in
+    (λ b low. ap (λ (xs : List Entry). length xs) (c.forget.ensures.entries b low) ∙ length-map (pages.entries_of f.store b) (forgotten c.args.sector))
+    c.forget.ensures.keeps.retired in
     record {
       one_thread = ap hosts_of same ∙ f.one_thread;
       roles_sized = f.roles_sized ∙ ap blocks_of (sym same);
       closed_marks = f.closed_marks;
       lawful = subst (λ (h : Geometry). IsLawful (blocks_of h) (pages_of h) (λ b. length (pages.entries_of s b)) (pages.retired_of s) (role_in f.roles.items) f.open_block) (sym same) law;
-      bounded = subst (λ (h : Geometry). f.counts.programs + f.counts.copies + f.counts.erases ≤ sum_by (weight (pages_of h)) (blocks_in s f.roles.items)) (sym same) (omega (arith, heavy, f.bounded))
+      bounded = subst (λ (h : Geometry). f.counts.programs + f.counts.copies + f.counts.erases ≤ sum_by (weight (pages_of h)) (blocks_in s f.roles.items)) (sym same) (omega (arith, heavy, f.bounded));
     }
 
 pub returns-clause-geometry : goal.returns-clause-geometry

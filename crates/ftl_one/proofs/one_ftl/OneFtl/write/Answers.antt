@@ -18,6 +18,11 @@ use Rattle.ftl_one.proofs.LawfulLemmas.{lawful-same, lawful-open, lawful-put, la
 use Rattle.ftl_one.proofs.FtlLemmas.{free_by, open_by, closed_by, spare_by, none_found, open_of-stock, free_of-stock, spare_of-stock, victim_of-stock, blocks-forget, blocks-put, blocks-role, blocks-collect, weight-forget, weight-put, weight-role, weight-collect}
 use Rattle.std.specs.Option.{option_and_then}
 use Rattle.ftl_one.proofs.one_ftl.OneFtl.write.Goals as goal
+use Rattle.ftl_one.proofs.one_ftl.OneFtl.write.Goals.{After-write_into}
+use Rattle.geometry.specs.Sectors.{Sector}
+use Rattle.ftl_one.specs.Laws.{ErasesNothing}
+use Rattle.ftl_one.proofs.FtlLemmas.{no_spare}
+use Rattle.ftl_one.proofs.LawLemmas.{nothing_same, write-does, write-programs}
 
 -- a write that finds a block ready, and one that doesn't
 next_is : (g : Geometry) (k : Stock) (s : ℕ) (v : List ℕ) (r : Option Stock) → ready (endurance_of g) k ≡ r → next g k (Write 0 s v) ≡ option_and_then (write_of (pages_of g) s) r
@@ -33,4 +38,53 @@ returns-clause-stock c =
     let g = geometry_of c.args.self.now in
     let mid = stock_of c.make_ready.new.self in
     next_is g (stock_of c.args.self.now) c.args.sector c.args.bytes.now (Some mid) c.in-Some.ensures.ready
-      ∙ (ap (λ (h : Geometry). write_of (pages_of h) c.args.sector mid) (sym c.in-Some.ensures.geometry) ∙ c.write_into.ensures.stock)
+    ∙ (ap (λ (h : Geometry). write_of (pages_of h) c.args.sector mid) (sym c.in-Some.ensures.geometry) ∙ c.write_into.ensures.stock)
+
+pub returns-in_default-clause-others : goal.returns-in_default-clause-others
+returns-in_default-clause-others c = λ s apart. ap (λ (xs : List Sector). get_or xs s None) c.in_default.ensures.sectors
+
+pub returns-in_default-clause-collection : goal.returns-in_default-clause-collection
+returns-in_default-clause-collection c =
+    let k = stock_of c.args.self.now in
+    inl (subst (ErasesNothing k) (sym c.in_default.ensures.same) (nothing_same k))
+
+pub returns-in_default-clause-after_failure : goal.returns-in_default-clause-after_failure
+returns-in_default-clause-after_failure c =
+    let k = stock_of c.args.self.now in
+    λ _. subst (ErasesNothing k) (sym c.in_default.ensures.same) (nothing_same k)
+
+pub returns-clause-others : goal.returns-clause-others
+returns-clause-others c = λ s apart.
+    let mid = sectors_of c.make_ready.new.self in
+    ap (λ (xs : List Sector). get_or xs s None) c.write_into.ensures.array
+    ∙ (get_or-set_other mid c.args.sector s (Some c.args.bytes.now) None apart
+    ∙ ap (λ (xs : List Sector). get_or xs s None) c.in-Some.ensures.sectors)
+
+-- what the definition of the stock says of the call
+the_next : (c : After-write_into) → option_and_then (write_of (pages_of (geometry_of c.args.self.now)) c.args.sector) (ready (endurance_of (geometry_of c.args.self.now)) (stock_of c.args.self.now)) ≡ Some (stock_of c.write_into.new.self)
+the_next c =
+    let g = geometry_of c.args.self.now in
+    let mid = stock_of c.make_ready.new.self in
+    ap (option_and_then (write_of (pages_of g) c.args.sector)) c.in-Some.ensures.ready
+    ∙ (ap (λ (h : Geometry). write_of (pages_of h) c.args.sector mid) (sym c.in-Some.ensures.geometry) ∙ c.write_into.ensures.stock)
+
+pub returns-clause-programs : goal.returns-clause-programs
+returns-clause-programs c =
+    let g = geometry_of c.args.self.now in
+    write-programs (pages_of g) (endurance_of g) c.args.sector (stock_of c.args.self.now) (stock_of c.write_into.new.self) (the_next (goal.at.returns-clause-programs c).After-write_into)
+
+pub returns-clause-collection : goal.returns-clause-collection
+returns-clause-collection c =
+    let g = geometry_of c.args.self.now in
+    elim (write-does (pages_of g) (endurance_of g) c.args.sector (stock_of c.args.self.now) (stock_of c.write_into.new.self) (the_next (goal.at.returns-clause-collection c).After-write_into)) [
+      | inl nothing ↦ inl nothing
+      | inr one ↦ inr (one.0, one.3)
+    ]
+
+pub returns-clause-after_failure : goal.returns-clause-after_failure
+returns-clause-after_failure c = λ retired.
+    let g = geometry_of c.args.self.now in
+    elim (write-does (pages_of g) (endurance_of g) c.args.sector (stock_of c.args.self.now) (stock_of c.write_into.new.self) (the_next (goal.at.returns-clause-after_failure c).After-write_into)) [
+      | inl nothing ↦ nothing
+      | inr one ↦ absurd (no_spare c.args.self.now retired one.1 one.2)
+    ]

@@ -56,8 +56,8 @@ the_size : (c : After-put-was) → length (pages.entries_of c.put-was.new.self c
 the_size c =
     let old = pages.entries_of c.args.self.now.store c.args.block in
     ap (λ (xs : List Entry). length xs) c.put-was.ensures.puts.changed
-      ∙ (length_push (map (forgotten c.args.sector) old) (record { sector = c.args.sector; live = true })
-      ∙ ap (λ (n : ℕ). n + 1) (length-map old (forgotten c.args.sector)))
+    ∙ (length_push (map (forgotten c.args.sector) old) (record { sector = c.args.sector; live = true })
+    ∙ ap (λ (n : ℕ). n + 1) (length-map old (forgotten c.args.sector)))
 
 other_sizes : (c : After-put-was) → (b : ℕ) → b < blocks_of (pages.geometry_of c.args.self.now.store) → b ≢ c.args.block → length (pages.entries_of c.put-was.new.self b) ≡ length (pages.entries_of c.args.self.now.store b)
 other_sizes c b low apart =
@@ -72,17 +72,17 @@ the_blocks : (c : After-is_full) (roles : List Role) → length roles ≡ length
 the_blocks c roles same here there =
     let f = c.args.self.now in
     blocks-put f.store c.put-was.new.self f.roles.items roles c.args.block c.args.sector (pages_of (pages.geometry_of f.store)) f.roles_sized same
-      (omega (arith, (open_found f c.args.block c.requires.opened).0, f.roles_sized)) c.put-was.ensures.puts
-      (here ∙ ap (λ (t : Bool). cond t Closed (role_in f.roles.items c.args.block)) (the_test c)) there
+    (omega (arith, (open_found f c.args.block c.requires.opened).0, f.roles_sized)) c.put-was.ensures.puts
+    (here ∙ ap (λ (t : Bool). cond t Closed (role_in f.roles.items c.args.block)) (the_test c)) there
 
 the_weight : (c : After-is_full) (roles : List Role) → length roles ≡ length c.args.self.now.roles.items → role_in roles c.args.block ≡ cond c.is_full.result Closed (role_in c.args.self.now.roles.items c.args.block) → ((b : ℕ) → b ≢ c.args.block → role_in roles b ≡ role_in c.args.self.now.roles.items b) → c.args.self.now.counts.programs + 1 + c.args.self.now.counts.copies + c.args.self.now.counts.erases ≤ sum_by (weight (pages_of (pages.geometry_of c.put-was.new.self))) (blocks_in c.put-was.new.self roles)
 the_weight c roles same here there =
     let f = c.args.self.now in
     let g = pages.geometry_of f.store in
     let heavy = ap (sum_by (weight (pages_of g))) (the_blocks c roles same here there)
-      ∙ weight-put (pages_of g) c.args.sector c.args.block (blocks_in f.store f.roles.items) (omega (arith, (open_found f c.args.block c.requires.opened).0, f.roles_sized, length-blocks f.store f.roles.items)) in
+    ∙ weight-put (pages_of g) c.args.sector c.args.block (blocks_in f.store f.roles.items) (omega (arith, (open_found f c.args.block c.requires.opened).0, f.roles_sized, length-blocks f.store f.roles.items)) in
     subst (λ (h : Geometry). f.counts.programs + 1 + f.counts.copies + f.counts.erases ≤ sum_by (weight (pages_of h)) (blocks_in c.put-was.new.self roles)) (sym c.put-was.ensures.puts.keeps.geometry)
-      (omega (arith, heavy, f.bounded))
+    (omega (arith, heavy, f.bounded))
 
 pub invariant_of-self : goal.invariant_of-self
 invariant_of-self c =
@@ -100,7 +100,7 @@ invariant_of-self c =
     let there : (k : ℕ) → k ≢ b → role_in new k ≡ role_in f.roles.items k = λ k apart. get_or-set_other f.roles.items b k Closed Retired apart in
     let last : length (pages.entries_of s b) ≡ pages_of g = eqb-true (length (pages.entries_of s b)) (pages_of g) (sym (the_test full) ∙ c.if-is_full.true) in
     let law = lawful-close (blocks_of g) (pages_of g) (λ k. length (pages.entries_of f.store k)) (pages.retired_of f.store) (role_in f.roles.items) f.open_block f.lawful
-      (λ k. length (pages.entries_of s k)) (pages.retired_of s) (role_in new) b found.1 last (other_sizes put) c.put-was.ensures.puts.keeps.retired here there in
+    (λ k. length (pages.entries_of s k)) (pages.retired_of s) (role_in new) b found.1 last (other_sizes put) c.put-was.ensures.puts.keeps.retired here there in
     let roles = roles_now f c.deref_mut.result.now c.assign.new.roles b Closed c.assign.ensures.roles c.deref_mut.ensures.value in
     let marks = marks_now f c.deref_mut-then-is_full.result.now c.assign.new.closed b true c.assign.ensures.closed c.deref_mut-then-is_full.ensures.value in
     record {
@@ -108,9 +108,9 @@ invariant_of-self c =
       roles_sized = ap (λ (xs : List Role). length xs) roles ∙ (length-set f.roles.items b Closed ∙ (f.roles_sized ∙ ap blocks_of (sym same)));
       closed_marks = marks ∙ (ap (λ (xs : List Bool). set xs b true) f.closed_marks ∙ (sym (map-set is_closed f.roles.items b Closed) ∙ ap (map is_closed) (sym roles)));
       lawful = subst (λ (h : Geometry). IsLawful (blocks_of h) (pages_of h) (λ k. length (pages.entries_of s k)) (pages.retired_of s) (role_in (with_items f.roles c.assign.new.roles).items) None) (sym same)
-        (subst (λ (xs : List Role). IsLawful (blocks_of g) (pages_of g) (λ k. length (pages.entries_of s k)) (pages.retired_of s) (role_in xs) None) (sym roles) law);
+          (subst (λ (xs : List Role). IsLawful (blocks_of g) (pages_of g) (λ k. length (pages.entries_of s k)) (pages.retired_of s) (role_in xs) None) (sym roles) law);
       bounded = subst (λ (xs : List Role). f.counts.programs + 1 + f.counts.copies + f.counts.erases ≤ sum_by (weight (pages_of (pages.geometry_of s))) (blocks_in s xs)) (sym roles)
-        (the_weight full new (length-set f.roles.items b Closed) (here ∙ ap (λ (t : Bool). cond t Closed (role_in f.roles.items b)) (sym c.if-is_full.true)) there)
+          (the_weight full new (length-set f.roles.items b Closed) (here ∙ ap (λ (t : Bool). cond t Closed (role_in f.roles.items b)) (sym c.if-is_full.true)) there);
     }
 
 pub invariant_of-self-else-is_full : goal.invariant_of-self-else-is_full
@@ -125,15 +125,15 @@ invariant_of-self-else-is_full c =
     let found = open_found f b c.requires.opened in
     let left = eqb-false (length (pages.entries_of s b)) (pages_of g) (sym (the_test full) ∙ c.if-is_full.false) in
     let room : length (pages.entries_of f.store b) + 1 < pages_of g =
-      omega (arith, the_size put, left, entries_within s b (omega (arith, found.0, ap blocks_of same)), ap pages_of same) in
+    omega (arith, the_size put, left, entries_within s b (omega (arith, found.0, ap blocks_of same)), ap pages_of same) in
     let law = lawful-put (blocks_of g) (pages_of g) (λ k. length (pages.entries_of f.store k)) (pages.retired_of f.store) (role_in f.roles.items) f.open_block f.lawful
-      (λ k. length (pages.entries_of s k)) (pages.retired_of s) b found.1 (the_size put) room (other_sizes put) c.put-was.ensures.puts.keeps.retired in
+    (λ k. length (pages.entries_of s k)) (pages.retired_of s) b found.1 (the_size put) room (other_sizes put) c.put-was.ensures.puts.keeps.retired in
     record {
       one_thread = ap hosts_of same ∙ f.one_thread;
       roles_sized = f.roles_sized ∙ ap blocks_of (sym same);
       closed_marks = f.closed_marks;
       lawful = subst (λ (h : Geometry). IsLawful (blocks_of h) (pages_of h) (λ k. length (pages.entries_of s k)) (pages.retired_of s) (role_in f.roles.items) f.open_block) (sym same) law;
-      bounded = the_weight full f.roles.items refl (ap (λ (t : Bool). cond t Closed (role_in f.roles.items b)) (sym c.if-is_full.false)) (λ k apart. refl)
+      bounded = the_weight full f.roles.items refl (ap (λ (t : Bool). cond t Closed (role_in f.roles.items b)) (sym c.if-is_full.false)) (λ k apart. refl);
     }
 
 pub returns-then-is_full-clause-geometry : goal.returns-then-is_full-clause-geometry
@@ -155,7 +155,7 @@ the_stock c blocks e =
     let f = c.args.self.now in
     let by : List Block → Stock = λ xs. record { blocks = xs; programs = f.counts.programs + 1; copies = f.counts.copies; erases = f.counts.erases } in
     ap (λ (o : Option ℕ). write_into (pages_of (pages.geometry_of f.store)) c.args.sector (record { blocks = blocks_in f.store f.roles.items; programs = f.counts.programs; copies = f.counts.copies; erases = f.counts.erases }) o) c.requires.opened
-      ∙ ap (λ (xs : List Block). Some (by xs)) (sym e)
+    ∙ ap (λ (xs : List Block). Some (by xs)) (sym e)
 
 pub returns-then-is_full-clause-stock : goal.returns-then-is_full-clause-stock
 unfolding stock_of
@@ -166,10 +166,10 @@ returns-then-is_full-clause-stock c =
     let low : b < length f.roles.items = omega (arith, (open_found f b c.requires.opened).0, f.roles_sized) in
     let new = set f.roles.items b Closed in
     the_stock full (blocks_in c.put-was.new.self (with_items f.roles c.assign.new.roles).items)
-      (ap (blocks_in c.put-was.new.self) (roles_now f c.deref_mut.result.now c.assign.new.roles b Closed c.assign.ensures.roles c.deref_mut.ensures.value)
-        ∙ the_blocks full new (length-set f.roles.items b Closed)
-            (get_or-set_same f.roles.items b Closed Retired low ∙ ap (λ (t : Bool). cond t Closed (role_in f.roles.items b)) (sym c.if-is_full.true))
-            (λ k apart. get_or-set_other f.roles.items b k Closed Retired apart))
+    (ap (blocks_in c.put-was.new.self) (roles_now f c.deref_mut.result.now c.assign.new.roles b Closed c.assign.ensures.roles c.deref_mut.ensures.value)
+    ∙ the_blocks full new (length-set f.roles.items b Closed)
+    (get_or-set_same f.roles.items b Closed Retired low ∙ ap (λ (t : Bool). cond t Closed (role_in f.roles.items b)) (sym c.if-is_full.true))
+    (λ k apart. get_or-set_other f.roles.items b k Closed Retired apart))
 
 pub returns-else-is_full-clause-geometry : goal.returns-else-is_full-clause-geometry
 unfolding geometry_of
@@ -189,4 +189,4 @@ returns-else-is_full-clause-stock c =
     let f = c.args.self.now in
     let full = (goal.at.returns-else-is_full-clause-stock c).After-is_full in
     the_stock full (blocks_in c.put-was.new.self f.roles.items)
-      (the_blocks full f.roles.items refl (ap (λ (t : Bool). cond t Closed (role_in f.roles.items c.args.block)) (sym c.if-is_full.false)) (λ k apart. refl))
+    (the_blocks full f.roles.items refl (ap (λ (t : Bool). cond t Closed (role_in f.roles.items c.args.block)) (sym c.if-is_full.false)) (λ k apart. refl))

@@ -28,7 +28,7 @@ invariant_of-self c =
     record {
       page_sized = s.page_sized ∙ ap page_bytes_of (sym changes.geometry);
       mapped = subst (λ (h : Geometry). IsMapped (page_bytes_of h) (blocks_of h) (sector_count_of h) (block_of die) s.current.items s.live.items) (sym changes.geometry)
-        (mapped-erase (page_bytes_of g) (blocks_of g) (sector_count_of g) (endurance_of g) (block_of s.die) (block_of die) s.current.items s.live.items s.mapped c.args.block c.requires.block c.requires.dead (record { changed = changes.changed; others = changes.others }))
+          (mapped-erase (page_bytes_of g) (blocks_of g) (sector_count_of g) (endurance_of g) (block_of s.die) (block_of die) s.current.items s.live.items s.mapped c.args.block c.requires.block c.requires.dead (record { changed = changes.changed; others = changes.others }));
     }
 
 pub returns-clause-failed : goal.returns-clause-failed
@@ -54,6 +54,6 @@ returns-clause-erases c =
       erases = λ b apart low. ap (λ (k : Block). k.erases) (changes.others b apart low);
       others = λ b apart low. ap (λ (k : Block). k.retired) (changes.others b apart low);
       sectors = ap (λ (h : Geometry). sectors_in (page_bytes_of h) (block_of die) s.current.items) changes.geometry
-        ∙ sectors-erase (page_bytes_of g) (blocks_of g) (sector_count_of g) (endurance_of g) (block_of s.die) (block_of die) s.current.items s.live.items s.mapped c.args.block c.requires.block c.requires.dead becomes;
-      geometry = changes.geometry
+          ∙ sectors-erase (page_bytes_of g) (blocks_of g) (sector_count_of g) (endurance_of g) (block_of s.die) (block_of die) s.current.items s.live.items s.mapped c.args.block c.requires.block c.requires.dead becomes;
+      geometry = changes.geometry;
     }

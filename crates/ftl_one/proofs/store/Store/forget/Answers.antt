@@ -32,7 +32,7 @@ recount-requires-clause-counted c =
 the_counts : (c : After-recount) → get_or c.args.self.now.current.items c.args.sector None ≡ c.take-was.result → Recounts c.args.self.now.live.items c.recount.new.counts (get_or c.args.self.now.current.items c.args.sector None) None
 the_counts c was =
     subst (λ (o : Option PageAddr). Recounts c.args.self.now.live.items c.recount.new.counts o None) (sym was)
-      (subst (λ (xs : List ℕ). Recounts xs c.recount.new.counts c.take-was.result None) c.deref_mut.ensures.value c.recount.ensures)
+    (subst (λ (xs : List ℕ). Recounts xs c.recount.new.counts c.take-was.result None) c.deref_mut.ensures.value c.recount.ensures)
 
 pub invariant_of-self : goal.invariant_of-self
 invariant_of-self c =
@@ -45,7 +45,7 @@ invariant_of-self c =
     record {
       page_sized = s.page_sized;
       mapped = subst (λ (o : Option PageAddr). P o (with_items s.live c.recount.new.counts).items) (sym c.take-was.ensures.after)
-        (subst (λ (xs : List ℕ). P None xs) (sym (recounted s c.recount.new.counts (get_or s.current.items c.args.sector None) None counts)) mapped)
+          (subst (λ (xs : List ℕ). P None xs) (sym (recounted s c.recount.new.counts (get_or s.current.items c.args.sector None) None counts)) mapped);
     }
 
 pub returns-clause-answer : goal.returns-clause-answer
@@ -59,7 +59,7 @@ returns-clause-sectors c =
     let s = c.args.self.now in
     let n = page_bytes_of (die_geometry_of s.die) in
     ap (λ (o : Option PageAddr). sectors_in n (block_of s.die) (set s.current.items c.args.sector o)) c.take-was.ensures.after
-      ∙ sectors-set n (block_of s.die) s.current.items c.args.sector None
+    ∙ sectors-set n (block_of s.die) s.current.items c.args.sector None
 
 pub returns-clause-entries : goal.returns-clause-entries
 unfolding entries_of
@@ -68,7 +68,7 @@ returns-clause-entries c =
     let s = c.args.self.now in
     let g = die_geometry_of s.die in
     ap (λ (o : Option PageAddr). entries_in (page_bytes_of g) (set s.current.items c.args.sector o) b (block_of s.die b)) c.take-was.ensures.after
-      ∙ entries-forget (page_bytes_of g) (blocks_of g) (sector_count_of g) (block_of s.die) s.current.items s.live.items s.mapped c.args.sector b c.requires
+    ∙ entries-forget (page_bytes_of g) (blocks_of g) (sector_count_of g) (block_of s.die) s.current.items s.live.items s.mapped c.args.sector b c.requires
 
 pub returns-clause-keeps : goal.returns-clause-keeps
 unfolding erases_of retired_of

@@ -8,4 +8,4 @@ pub returns : goal.returns
 returns c =
     let s = c.args.self.now in
     ap (λ (k : ℕ). eqb k c.pages.result) (c.next.ensures.value ∙ sym (length-entries_of s c.args.block))
-      ∙ ap (λ (k : ℕ). eqb (length (entries_of s c.args.block)) k) (c.pages.ensures.value ∙ ap pages_of c.geometry.ensures)
+    ∙ ap (λ (k : ℕ). eqb (length (entries_of s c.args.block)) k) (c.pages.ensures.value ∙ ap pages_of c.geometry.ensures)

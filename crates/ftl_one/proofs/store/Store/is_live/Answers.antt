@@ -31,8 +31,8 @@ returns c =
     let page = page_at (size_of s) (block_of s.die at.block) at.page in
     let low : page.stamp < length s.current.items = omega (arith, s.mapped.current_size, s.mapped.stamps at.block at.page c.requires.block (omega (arith, c.requires.page, length-entries_of s at.block))) in
     let named : c.index.result.now ≡ get_or s.current.items page.stamp None =
-      get_or_read s.current.items c.stamp.result c.index.result.now (omega (arith, low, c.stamp.ensures)) c.index.ensures None ∙ ap (λ (k : ℕ). get_or s.current.items k None) c.stamp.ensures in
+    get_or_read s.current.items c.stamp.result c.index.result.now (omega (arith, low, c.stamp.ensures)) c.index.ensures None ∙ ap (λ (k : ℕ). get_or s.current.items k None) c.stamp.ensures in
     c.eq.ensures
-      ∙ (the_eq at c.index.result.now
-      ∙ (ap (λ (o : Option PageAddr). is_page o at.block at.page) named
-      ∙ ap (λ (e : Entry). e.live) (sym (get_or-entries_of s at.block at.page (record { sector = 0; live = false }) c.requires.page))))
+    ∙ (the_eq at c.index.result.now
+    ∙ (ap (λ (o : Option PageAddr). is_page o at.block at.page) named
+    ∙ ap (λ (e : Entry). e.live) (sym (get_or-entries_of s at.block at.page (record { sector = 0; live = false }) c.requires.page))))

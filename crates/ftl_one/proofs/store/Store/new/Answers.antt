@@ -18,9 +18,9 @@ use Rattle.ftl_one.proofs.store.Store.new.Goals.{In_ok-vec-3}
 
 none_anywhere : (n s : ℕ) → get_or (replicate n (let o : Option PageAddr = None in o)) s None ≡ None
 none_anywhere n s = elim (cases_lt s n) [
-    inl low ↦ get_or-replicate n s None None low
+  | inl low ↦ get_or-replicate n s None None low
   | inr past ↦ get_or_past (replicate n None) s None (omega (arith, past, length-replicate n (let o : Option PageAddr = None in o)))
-  ]
+]
 
 sum_by-nothing : {X : Type 0} (f : X → ℕ) (n : ℕ) (x : X) → f x ≡ 0 → sum_by f (replicate n x) ≡ 0
 sum_by-nothing f zero x e = refl
@@ -49,7 +49,7 @@ mapped_new n count sectors B fresh =
       named = λ s at e. absurd (none_some at (sym (none_anywhere sectors s) ∙ e));
       stamps = λ b p low short. absurd (omega (arith, ap (λ (k : Block). length k.pages) (fresh b low)));
       counts = λ b low. get_or-replicate count b 0 0 low ∙ sym (ap live_count (no_entries n (replicate sectors None) b (B b) (fresh b low)));
-      total = sum_by-nothing (λ (k : ℕ). k) count 0 refl ∙ sym (sum_by-nothing (λ (o : Option PageAddr). cond (is_some o) 1 0) sectors None refl)
+      total = sum_by-nothing (λ (k : ℕ). k) count 0 refl ∙ sym (sum_by-nothing (λ (o : Option PageAddr). cond (is_some o) 1 0) sectors None refl);
     }
   where
     none_some : (at : PageAddr) → None ≡ Some at → ⊥
@@ -66,9 +66,9 @@ invariant_of-result c =
     record {
       page_sized = omega (arith, c.in_ok-vec-3.ensures.len, c.in_ok-vec-3.field-0.ok.0, c.page_bytes.ensures, ap page_bytes_of same);
       mapped = subst (λ (h : Geometry). P h c.in_ok-vec.field-0.items c.in_ok-vec-2.field-0.items) (sym same)
-        (subst (λ (o : List (Option PageAddr)). P g o c.in_ok-vec-2.field-0.items) (sym current)
-        (subst (λ (xs : List ℕ). P g (replicate (sector_count_of g) None) xs) (sym live)
-        (mapped_new (page_bytes_of g) (blocks_of g) (sector_count_of g) (block_of die) c.in_ok-new.ensures.blocks)))
+          (subst (λ (o : List (Option PageAddr)). P g o c.in_ok-vec-2.field-0.items) (sym current)
+          (subst (λ (xs : List ℕ). P g (replicate (sector_count_of g) None) xs) (sym live)
+          (mapped_new (page_bytes_of g) (blocks_of g) (sector_count_of g) (block_of die) c.in_ok-new.ensures.blocks)));
     }
 
 pub returns : goal.returns
@@ -83,5 +83,5 @@ returns c =
       sectors = ap (map f) current ∙ map-replicate f (sector_count_of g) None;
       entries = λ b low. no_entries (page_bytes_of (die_geometry_of die)) c.in_ok-vec.field-0.items b (block_of die b) (c.in_ok-new.ensures.blocks b low);
       erases = λ b low. ap (λ (k : Block). k.erases) (c.in_ok-new.ensures.blocks b low);
-      retired = λ b low. ap (λ (k : Block). k.retired) (c.in_ok-new.ensures.blocks b low)
+      retired = λ b low. ap (λ (k : Block). k.retired) (c.in_ok-new.ensures.blocks b low);
     }

@@ -51,7 +51,7 @@ recount-requires-clause-room c =
 the_counts : (c : After-recount) → get_or c.args.self.now.current.items c.args.sector None ≡ c.replace-was.result → Recounts c.args.self.now.live.items c.recount.new.counts (get_or c.args.self.now.current.items c.args.sector None) (Some c.next_page-at.result)
 the_counts c was =
     subst (λ (o : Option PageAddr). Recounts c.args.self.now.live.items c.recount.new.counts o (Some c.next_page-at.result)) (sym was)
-      (subst (λ (xs : List ℕ). Recounts xs c.recount.new.counts c.replace-was.result (Some c.next_page-at.result)) c.deref_mut.ensures.value c.recount.ensures)
+    (subst (λ (xs : List ℕ). Recounts xs c.recount.new.counts c.replace-was.result (Some c.next_page-at.result)) c.deref_mut.ensures.value c.recount.ensures)
 
 -- the page that is put
 abbrev the_page : After-recount → Page
@@ -71,7 +71,7 @@ invariant_of-self c =
     record {
       page_sized = s.page_sized ∙ ap page_bytes_of (sym c.program.ensures.changes.geometry);
       mapped = subst (λ (o : Option PageAddr). P o (with_items s.live c.recount.new.counts).items) (sym c.replace-was.ensures.after)
-        (subst (λ (xs : List ℕ). P (Some at) xs) (sym (recounted s c.recount.new.counts (get_or s.current.items c.args.sector None) (Some at) counts)) mapped)
+          (subst (λ (xs : List ℕ). P (Some at) xs) (sym (recounted s c.recount.new.counts (get_or s.current.items c.args.sector None) (Some at) counts)) mapped);
     }
 
 pub returns-clause-answer : goal.returns-clause-answer
@@ -88,7 +88,7 @@ returns-clause-sectors c =
     let next = the_next (goal.at.returns-clause-sectors c).After-next_page-at in
     let die = c.program.new.self in
     ap (λ (o : Option PageAddr). sectors_in (page_bytes_of (die_geometry_of die)) (block_of die) (set s.current.items c.args.sector o)) c.replace-was.ensures.after
-      ∙ put-sectors s die c.next_page-at.result (the_page at_end) c.recount.new.counts c.requires.sector next c.program.ensures.changes (the_counts at_end was)
+    ∙ put-sectors s die c.next_page-at.result (the_page at_end) c.recount.new.counts c.requires.sector next c.program.ensures.changes (the_counts at_end was)
 
 pub returns-clause-puts : goal.returns-clause-puts
 unfolding entries_of erases_of retired_of
@@ -107,6 +107,6 @@ returns-clause-puts c =
       keeps = record {
         geometry = c.program.ensures.changes.geometry;
         erases = put-erases s die at (the_page at_end) c.recount.new.counts c.requires.sector next c.program.ensures.changes counts;
-        retired = put-retired s die at (the_page at_end) c.recount.new.counts c.requires.sector next c.program.ensures.changes counts
-      }
+        retired = put-retired s die at (the_page at_end) c.recount.new.counts c.requires.sector next c.program.ensures.changes counts;
+      };
     })

@@ -65,7 +65,7 @@ the_counts c =
     let s = c.args.self.now in
     let named = names_live s c.args.source c.requires.source_page c.requires.live in
     subst (λ (o : Option PageAddr). Recounts s.live.items c.recount.new.counts o (Some c.next_page-to.result)) (sym named)
-      (subst (λ (xs : List ℕ). Recounts xs c.recount.new.counts (Some c.args.source) (Some c.next_page-to.result)) c.deref_mut-2.ensures.value c.recount.ensures)
+    (subst (λ (xs : List ℕ). Recounts xs c.recount.new.counts (Some c.args.source) (Some c.next_page-to.result)) c.deref_mut-2.ensures.value c.recount.ensures)
 
 pub invariant_of-self : goal.invariant_of-self
 invariant_of-self c =
@@ -80,11 +80,11 @@ invariant_of-self c =
     let mapped = put-mapped s die at page c.recount.new.counts (stamp_below s c.args.source c.requires.source_block c.requires.source_page) next c.copy_page.ensures counts in
     let P : ℕ → List ℕ → Type 0 = λ k xs. IsMapped (page_bytes_of g) (blocks_of g) (sector_count_of g) (block_of die) (set s.current.items k (Some at)) xs in
     let buffer : (with_items s.page c.copy_page.new.page).items ≡ c.copy_page.new.page =
-      with_items_is s.page c.copy_page.new.page (omega (arith, c.copy_page.auto.page, c.deref_mut.ensures.len)) in
+    with_items_is s.page c.copy_page.new.page (omega (arith, c.copy_page.auto.page, c.deref_mut.ensures.len)) in
     record {
       page_sized = ap (λ (xs : List ℕ). length xs) buffer ∙ (c.copy_page.auto.page ∙ (ap (λ (xs : List ℕ). length xs) c.deref_mut.ensures.value ∙ (s.page_sized ∙ ap page_bytes_of (sym c.copy_page.ensures.geometry))));
       mapped = subst (λ (k : ℕ). P k (with_items s.live c.recount.new.counts).items) (sym c.stamp-sector.ensures)
-        (subst (λ (xs : List ℕ). P page.stamp xs) (sym (recounted s c.recount.new.counts (get_or s.current.items page.stamp None) (Some at) counts)) mapped)
+          (subst (λ (xs : List ℕ). P page.stamp xs) (sym (recounted s c.recount.new.counts (get_or s.current.items page.stamp None) (Some at) counts)) mapped);
     }
 
 pub returns : goal.returns
@@ -110,6 +110,6 @@ returns c =
       keeps = record {
         geometry = c.copy_page.ensures.geometry;
         erases = put-erases s die at page live low next c.copy_page.ensures counts;
-        retired = put-retired s die at page live low next c.copy_page.ensures counts
-      }
+        retired = put-retired s die at page live low next c.copy_page.ensures counts;
+      };
     })

@@ -1,0 +1,17 @@
+pub mod Points
+pub mod Values
+pub mod Owning
+pub mod Frames
+pub mod Places
+pub mod Assembly
+pub mod Still
+pub mod PinSteps
+pub mod OwnSteps
+pub mod PageSteps
+pub mod MapSteps
+pub mod Opening
+pub mod Parts
+pub mod Splitting
+pub mod Notes
+pub mod ReaderSteps
+pub mod Steps

@@ -1,0 +1,347 @@
+-- The moves of notes: lend, take in, give back, come home.
+use Rattle.std.proofs.Common.{◌≡◌, ◌≢◌, ℕ, ◌⊎◌, inl, inr, ⊎_elim, Bool, true, false, List, [], Option, None, Some, length, set, sym, refl, ap, ◌∙◌, subst, arith}
+use mathlib.Core.Option.{some, some-injective}
+use mathlib.Core.Logic.{dite}
+use native.Mathlib.Decide.{ℕ_discrete}
+use lib.ListN.{get_elem?}
+use Rattle.atomic_table.specs.Table.{Splits, Joins}
+use Rattle.atomic_table.proofs.Lists.{at_set, set_else}
+use Rattle.geometry.proofs.Histories.{Begins-refl}
+use Rattle.geometry.specs.Limits.{Numbers}
+use Rattle.flash_rule.specs.declared.facts.Name.{Name}
+use Rattle.flash_rule.specs.declared.facts.Name.TheVariants.{Pass, Broom}
+use Rattle.flash_rule.specs.declared.facts.Role.{Role}
+use Rattle.flash_rule.specs.declared.facts.Role.TheVariants.{Dealer, Player, Note}
+use Rattle.flash_rule.specs.declared.facts.Owned.{Owned}
+use Rattle.flash_rule.specs.declared.facts.Pin.{Pin}
+use Rattle.flash_rule.specs.declared.facts.Pin.TheVariants.{Clear}
+use Rattle.flash_rule.specs.declared.carried.Carried.{Carried}
+use Rattle.flash_rule.specs.declared.view.View.{View}
+use Rattle.flash_rule.specs.Views.{one_if, is_pass, is_live_role, may_own, pin_is_on, pins_on, weight, role_weight, owned_at, same_name}
+use Rattle.std.specs.Prelude.{if◌then◌else◌}
+use Rattle.flash_rule.specs.World.{World, put_name}
+use Rattle.flash_rule.specs.Rule.{LawfulBlock, LawfulCopy, LawfulKnowledge, LawfulView, Lawful, IsDealt}
+use Rattle.flash_rule.specs.Onward.{Onward}
+use Rattle.flash_rule.specs.Seats.{Ruled, newcomer, name_of, carried, lender, lent_note, host_of, giver, given_note, home, gone}
+use Rattle.flash_rule.proofs.Points.{total_set}
+use Rattle.flash_rule.proofs.Owning.{some_same, none_some}
+use Rattle.flash_rule.proofs.Frames.{counted, others, knowledge_kept, copy_kept}
+use Rattle.flash_rule.proofs.Assembly.{owner_kept}
+use Rattle.flash_rule.proofs.Parts.{PartKept}
+use Rattle.flash_rule.proofs.Still.{pin_stays}
+use Rattle.flash_rule.proofs.Splitting.{split, current_kept, name_here, name_else, player_same}
+
+-- the table with one badge moved
+abbrev pub badged : World → Name → ℕ → World
+badged g n seat = record g { badge = put_name g.badge n seat }
+
+-- the badge was with one of the two seats
+pub badge_moves : (z : Numbers) (g : World) (id other : ℕ) (n : Name) (seat : ℕ) → (g.badge n ≡ id) ⊎ (g.badge n ≡ other) → Onward z g (badged g n seat) id other
+badge_moves z g id other n seat was =
+    record {
+      history = Begins-refl g.history;
+      calls = λ t _. refl;
+      seat = λ m dealt. (refl, as_dealt m dealt);
+      pins = λ b _. pin_stays (g.pins b);
+      owned = λ b _ _ _. record { owner = refl; phase = refl; generation = refl; written = refl; pages = λ p i. refl };
+      pages = λ b p i _ _ _. refl;
+      named = λ s m is. inl is;
+      programmer = λ m _. refl;
+      eraser = λ b k _. refl;
+      dealer = λ _. (refl, refl);
+      badge = λ m _ apart apart'. name_else g.badge n seat m (λ same. ⊎_elim (λ e. apart (ap g.badge same ∙ e)) (λ e. apart' (ap g.badge same ∙ e)) was);
+    }
+  where
+    as_dealt : (m : Name) → IsDealt g m → IsDealt (badged g n seat) m
+    as_dealt (Pass t) low = low
+    as_dealt (Broom i) low = low
+
+pub as_dealt : (g : World) (n : Name) (seat : ℕ) (m : Name) → IsDealt g m → IsDealt (badged g n seat) m
+as_dealt g n seat (Pass t) low = low
+as_dealt g n seat (Broom i) low = low
+
+name_is : (r : Role) (n : Name) → r ≡ Player n → name_of r ≡ n
+name_is r n is = ap name_of is
+
+-- a new note: the badge of n, and copies of a player's lists
+note_lawful : (z : Numbers) (g : World) (seat : ℕ) (v : View) (owner n : Name) → v.numbers ≡ z → v.role ≡ Player owner → LawfulKnowledge z g v → g.badge n ≡ seat → IsDealt g n
+    → LawfulView z g seat (record (newcomer v.numbers Note) { guest = Some n; copy = Some (carried v) })
+note_lawful z g seat v owner n numbers role knows here dealt =
+    let of_is : owner ≡ name_of v.role = sym (name_is v.role owner role) in
+    record {
+      kind = record {
+        numbers = λ _. numbers;
+        known = λ is. absurd (cc);
+        opens = λ is. absurd (cc);
+        unpinned = λ _. refl;
+        idle = λ _. (refl, refl, refl, refl);
+        owns_none = λ _. refl;
+      };
+      knowledge = record {
+        seen = (g.history, refl);
+        pin = tt;
+        known = λ b _. omega arith;
+        programs = λ m is. absurd (cc);
+        erases = λ m is. absurd (cc);
+        copy = λ c is.
+            subst (λ (c : Carried). LawfulCopy z g Note c) (some_same (carried v) c is)
+            (record {
+              seen = knows.seen;
+              programs = knows.programs (name_of v.role) (role ∙ ap Player of_is);
+              erases = knows.erases (name_of v.role) (role ∙ ap Player of_is);
+              other = λ e. absurd (cc);
+            });
+      };
+      holding = record {
+        name = λ m is. absurd (cc);
+        calls = λ t is. absurd (cc);
+        owned = λ b o is. absurd (none_some o is);
+        work = λ w is. absurd (none_some w is);
+        source = λ x is. absurd (none_some x is);
+        whole = λ is. absurd (cc);
+        guest = λ m is. let same : n ≡ m = some_same n m is in let P : Name → Type 0 = λ m. (g.badge m ≡ seat) × IsDealt g m in let now : P n = (here, dealt) in subst P same now;
+        dealer = λ is. absurd (cc);
+      };
+    }
+
+player_live : (r : Role) (n : Name) → r ≡ Player n → is_live_role r ≡ true
+player_live r n is = ap is_live_role is
+
+module _ (part : Numbers → World → Type 0) (z : Numbers) (kept : PartKept part z) (id : ℕ) (v : View) (n : Name) (role : v.role ≡ Player n) where
+  -- LEND
+  pub lends : v.whole ≡ true → v.guest ≡ None → Splits (Ruled part z) id v (lender v) (lent_note v)
+  lends whole alone s (g, fits, law, stage) at =
+      let vs = s.views in
+      let h = law.views id v at in
+      let kind = h.kind in
+      let numbers : v.numbers ≡ z = kind.numbers (player_live v.role n role) in
+      let new : ℕ = length vs in
+      let g' : World = badged g n new in
+      let named = h.holding.name n role in
+      let was : g.badge n ≡ id = h.holding.whole whole n role in
+      let on : Onward z g g' id id = badge_moves z g id id n new (inl was) in
+      let knows = knowledge_kept z g g' id id on v (λ b is below. counted vs law id v at b is below) h.knowledge in
+      let holds = h.holding in
+      let own : LawfulView z g' id (lender v) = record {
+        kind = record { numbers = kind.numbers; known = kind.known; opens = kind.opens; unpinned = kind.unpinned; idle = kind.idle; owns_none = kind.owns_none };
+        knowledge = record { seen = knows.seen; pin = knows.pin; known = knows.known; programs = knows.programs; erases = knows.erases; copy = knows.copy };
+        holding = record {
+          name = λ m is. let k = holds.name m is in (k.0, as_dealt g n new m k.1);
+          calls = holds.calls;
+          owned = λ b o is. let k = holds.owned b o is in record { block = k.block; low = k.low; owner = k.owner; owned = k.owned; phase = k.phase; generation = k.generation; written = k.written; rest = k.rest; dead = k.dead; clean = k.clean };
+          work = λ w is. let k = holds.work w is in record { entry = k.entry; own = k.own; opened = k.opened; generation = k.generation; page = k.page; counted = k.counted; short = k.short; full = k.full; stands = k.stands };
+          source = λ x is. let k = holds.source x is in record { entry = k.entry; own = k.own; victim = k.victim; generation = k.generation; page = k.page; written = k.written; stamp = k.stamp; value = k.value };
+          whole = λ is. absurd (cc);
+          guest = λ m is. absurd (none_some m (sym alone ∙ is));
+          dealer = λ is. let e : Player n ≡ Dealer = sym role ∙ is in absurd (cc);
+        };
+      } in
+      let added : LawfulView z g' new (lent_note v) =
+      subst (λ (m : Name). LawfulView z g' new (record (newcomer v.numbers Note) { guest = Some m; copy = Some (carried v) })) (sym (name_is v.role n role))
+      (note_lawful z g' new v n n numbers role knows (name_here g.badge n new) (as_dealt g n new n named.1)) in (
+        g',
+        fits,
+        split z g g' vs id v (lender v) (lent_note v) law at refl refl refl on refl refl own added (λ b. refl) refl refl (omega arith) (omega arith) law.dealt (λ s low. current_kept z g g' s refl refl refl refl (law.sectors s low)),
+        kept.same g g' (λ b. refl) stage,
+      )
+
+  -- GIVE BACK
+  pub gives : (m : Name) → v.guest ≡ Some m → ¬ (v.role ≡ Player m) → Splits (Ruled part z) id v (giver v) (given_note v)
+  gives m guest apart s (g, fits, law, stage) at =
+      let vs = s.views in
+      let h = law.views id v at in
+      let kind = h.kind in
+      let numbers : v.numbers ≡ z = kind.numbers (player_live v.role n role) in
+      let new : ℕ = length vs in
+      let g' : World = badged g m new in
+      let was = h.holding.guest m guest in
+      let on : Onward z g g' id id = badge_moves z g id id m new (inl was.0) in
+      let knows = knowledge_kept z g g' id id on v (λ b is below. counted vs law id v at b is below) h.knowledge in
+      let holds = h.holding in
+      let own : LawfulView z g' id (giver v) = record {
+        kind = record { numbers = kind.numbers; known = kind.known; opens = kind.opens; unpinned = kind.unpinned; idle = kind.idle; owns_none = kind.owns_none };
+        knowledge = record { seen = knows.seen; pin = knows.pin; known = knows.known; programs = knows.programs; erases = knows.erases; copy = knows.copy };
+        holding = record {
+          name = λ k is. let t = holds.name k is in (t.0, as_dealt g m new k t.1);
+          calls = holds.calls;
+          owned = λ b o is. let k = holds.owned b o is in record { block = k.block; low = k.low; owner = k.owner; owned = k.owned; phase = k.phase; generation = k.generation; written = k.written; rest = k.rest; dead = k.dead; clean = k.clean };
+          work = λ w is. let k = holds.work w is in record { entry = k.entry; own = k.own; opened = k.opened; generation = k.generation; page = k.page; counted = k.counted; short = k.short; full = k.full; stands = k.stands };
+          source = λ x is. let k = holds.source x is in record { entry = k.entry; own = k.own; victim = k.victim; generation = k.generation; page = k.page; written = k.written; stamp = k.stamp; value = k.value };
+          whole = λ is k role'. name_else g.badge m new k (λ same. apart (role' ∙ ap Player same)) ∙ holds.whole is k role';
+          guest = λ k is. absurd (none_some k is);
+          dealer = λ is. let e : Player n ≡ Dealer = sym role ∙ is in absurd (cc);
+        };
+      } in
+      let added : LawfulView z g' new (given_note v) =
+      subst (λ (x : Option Name). LawfulView z g' new (record (newcomer v.numbers Note) { guest = x; copy = Some (carried v) })) (sym guest)
+      (note_lawful z g' new v n m numbers role knows (name_here g.badge m new) (as_dealt g m new m was.1)) in (
+        g',
+        fits,
+        split z g g' vs id v (giver v) (given_note v) law at refl refl refl on refl refl own added (λ b. refl) refl refl (omega arith) (omega arith) law.dealt (λ s low. current_kept z g g' s refl refl refl refl (law.sectors s low)),
+        kept.same g g' (λ b. refl) stage,
+      )
+
+-- a badge put where it is said to be
+stays_with : (f : Name → ℕ) (m : Name) (id : ℕ) (x : Name) → f x ≡ id → put_name f m id x ≡ id
+stays_with f m id x is = by_test (same_name x m) where
+  by_test : (t : Bool) → (if t then id else f x) ≡ id
+  by_test true = refl
+  by_test false = is
+
+-- ---- a note is joined into a player's seat
+gone_lawful : (z : Numbers) (g : World) (seat : ℕ) → LawfulView z g seat gone
+gone_lawful z g seat =
+    record {
+      kind = record { numbers = λ is. absurd (cc); known = λ is. absurd (cc); opens = λ is. absurd (cc); unpinned = λ _. refl; idle = λ _. (refl, refl, refl, refl); owns_none = λ _. refl };
+      knowledge = record { seen = (g.history, refl); pin = tt; known = λ b _. omega arith; programs = λ m is. absurd (cc); erases = λ m is. absurd (cc); copy = λ c is. absurd (none_some c is) };
+      holding = record {
+        name = λ m is. absurd (cc);
+        calls = λ t is. absurd (cc);
+        owned = λ b o is. absurd (none_some o is);
+        work = λ w is. absurd (none_some w is);
+        source = λ x is. absurd (none_some x is);
+        whole = λ is. absurd (cc);
+        guest = λ m is. absurd (none_some m is);
+        dealer = λ is. absurd (cc);
+      };
+    }
+
+module _ (z : Numbers) (g : World) (vs : List View) (id other : ℕ) (v w u : View) (n : Name) (law : Lawful z g vs) (at : get_elem? vs id ≡ some v) (apart : ¬ (other ≡ id)) (there : get_elem? vs other ≡ some w) (note : w.role ≡ Note) where
+  note_owns : w.owns ≡ []
+  note_owns = (law.views other w there).kind.owns_none (ap may_own note)
+
+  note_clear : w.pin ≡ Clear
+  note_clear = (law.views other w there).kind.unpinned (ap is_pass note)
+
+  join_block : (b : ℕ) → LawfulBlock z g vs b → pins_on b u ≡ pins_on b v → u.owns ≡ v.owns → LawfulBlock z (badged g n id) (set (set vs id u) other gone) b
+  join_block b block same owns =
+      let there' : get_elem? (set vs id u) other ≡ some w = set_else vs id other u apart ∙ there in
+      let t = total_set (pins_on b) vs id v u at in
+      let t' = total_set (pins_on b) (set vs id u) other w gone there' in
+      let none : pins_on b w ≡ 0 = ap (λ (p : Pin). one_if (pin_is_on b p)) note_clear in
+      let readers = block.readers in
+      record {
+        readers = omega arith;
+        written = block.written;
+        generation = block.generation;
+        free = block.free;
+        rest = block.rest;
+        owner = λ owned.
+            let k = owner_kept z g g vs id v u b at block owned refl (λ o is. (o, ap (λ (x : List Owned). owned_at b x) owns ∙ is)) in
+            dite (ℕ_discrete (g.owner b) other)
+            (λ is.
+            let its : k.0 ≡ w = some-injective k.0 w (sym k.2 ∙ (ap (λ j. get_elem? (set vs id u) j) is ∙ there')) in
+            let e : None ≡ Some k.1 = sym (ap (λ (x : List Owned). owned_at b x) note_owns) ∙ (ap (λ (x : View). owned_at b x.owns) (sym its) ∙ k.3) in absurd (none_some k.1 e))
+            (λ unlike. (k.0, k.1, set_else (set vs id u) other (g.owner b) gone unlike ∙ k.2, k.3));
+      }
+
+  pub join : (g.badge n ≡ id) ⊎ (g.badge n ≡ other) → LawfulView z (badged g n id) id u → ((b : ℕ) → pins_on b u ≡ pins_on b v) → u.owns ≡ v.owns → weight z u ≡ weight z v → Lawful z (badged g n id) (set (set vs id u) other gone)
+  join was own same owns weighs =
+      let g' = badged g n id in
+      let on : Onward z g g' id other = badge_moves z g id other n id was in
+      let there' : get_elem? (set vs id u) other ≡ some w = set_else vs id other u apart ∙ there in
+      record {
+        limits = law.limits;
+        sectors = λ s low. current_kept z g g' s refl refl refl refl (law.sectors s low);
+        blocks = λ b low. join_block b (law.blocks b low) (same b) owns;
+        views = λ j x is.
+            ⊎_elim
+            (λ (t : (j ≡ other) × (gone ≡ x)). let P : ℕ × View → Type 0 = λ y. LawfulView z g' y.0 y.1 in subst P (λ i. (sym t.0 i, t.1 i)) (gone_lawful z g' other))
+            (λ (t : (j ≢ other) × (get_elem? (set vs id u) j ≡ some x)). ⊎_elim
+            (λ (k : (j ≡ id) × (u ≡ x)). let P : ℕ × View → Type 0 = λ y. LawfulView z g' y.0 y.1 in subst P (λ i. (sym k.0 i, k.1 i)) own)
+            (λ (k : (j ≢ id) × (get_elem? vs j ≡ some x)). others z g g' id other on vs law j x k.0 t.0 k.1) (at_set vs id j u x t.1))
+            (at_set (set vs id u) other j gone x is);
+        strangers = law.strangers;
+        seats = (let s = total_set (weight z) vs id v u at in let t = total_set (weight z) (set vs id u) other w gone there' in let e = law.seats in let none : weight z w ≡ 0 = ap (λ r. role_weight z.hosts r w.passes) note in omega arith);
+        dealt = law.dealt;
+      }
+
+module _ (part : Numbers → World → Type 0) (z : Numbers) (kept : PartKept part z) (id other : ℕ) (v w : View) (n m : Name) (c : Carried) (role : v.role ≡ Player n) (note : w.role ≡ Note) (guest : w.guest ≡ Some m) (copy : w.copy ≡ Some c) where
+  -- TAKE IN
+  pub takes_in : v.whole ≡ true → c.of ≡ m → Joins (Ruled part z) id v other w (host_of v w) gone
+  takes_in whole of_is s (g, fits, law, stage) at apart there =
+      let vs = s.views in
+      let there' : get_elem? vs other ≡ some w = sym (set_else vs id other (host_of v w) apart) ∙ there in
+      let h = law.views id v at in
+      let k = law.views other w there' in
+      let g' : World = badged g m id in
+      let was = k.holding.guest m guest in
+      let mine : g.badge n ≡ id = h.holding.whole whole n role in
+      let names : ¬ (n ≡ m) = λ e. apart (sym was.0 ∙ (ap g.badge (sym e) ∙ mine)) in
+      let on : Onward z g g' id other = badge_moves z g id other m id (inr was.0) in
+      let knows = knowledge_kept z g g' id other on v (λ b is below. counted vs law id v at b is below) h.knowledge in
+      let kind = h.kind in
+      let holds = h.holding in
+      let own : LawfulView z g' id (host_of v w) = record {
+        kind = record { numbers = kind.numbers; known = kind.known; opens = kind.opens; unpinned = kind.unpinned; idle = kind.idle; owns_none = kind.owns_none };
+        knowledge = record {
+          seen = knows.seen;
+          pin = knows.pin;
+          known = knows.known;
+          programs = knows.programs;
+          erases = knows.erases;
+          copy = λ d is.
+              let old = k.knowledge.copy c copy in
+              let new : LawfulCopy z g' w.role c = copy_kept z g g' id other on w.role c old in
+              let same : c ≡ d = some_same c d (sym copy ∙ is) in
+              subst (λ (d : Carried). LawfulCopy z g' v.role d) same
+              (record { seen = new.seen; programs = new.programs; erases = new.erases; other = λ e. names (player_same n m (sym role ∙ (e ∙ ap Player of_is))) });
+        };
+        holding = record {
+          name = λ x is. let t = holds.name x is in (t.0, as_dealt g m id x t.1);
+          calls = holds.calls;
+          owned = λ b o is. let k = holds.owned b o is in record { block = k.block; low = k.low; owner = k.owner; owned = k.owned; phase = k.phase; generation = k.generation; written = k.written; rest = k.rest; dead = k.dead; clean = k.clean };
+          work = λ x is. let k = holds.work x is in record { entry = k.entry; own = k.own; opened = k.opened; generation = k.generation; page = k.page; counted = k.counted; short = k.short; full = k.full; stands = k.stands };
+          source = λ x is. let k = holds.source x is in record { entry = k.entry; own = k.own; victim = k.victim; generation = k.generation; page = k.page; written = k.written; stamp = k.stamp; value = k.value };
+          whole = λ is x role'. name_else g.badge m id x (λ same. names (player_same n x (sym role ∙ role') ∙ same)) ∙ holds.whole is x role';
+          guest = λ x is.
+              let same : m ≡ x = some_same m x (sym guest ∙ is) in
+              let P : Name → Type 0 = λ x. (g'.badge x ≡ id) × IsDealt g' x in
+              let now : P m = (name_here g.badge m id, as_dealt g m id m was.1) in subst P same now;
+          dealer = λ is. let e : Player n ≡ Dealer = sym role ∙ is in absurd (cc);
+        };
+      } in
+      (g', fits, join z g vs id other v w (host_of v w) m law at apart there' note (inr was.0) own (λ b. refl) refl refl, kept.same g g' (λ b. refl) stage)
+
+  -- COME HOME
+  pub comes_home : m ≡ n → ¬ (v.role ≡ Player c.of) → Joins (Ruled part z) id v other w (home v w) gone
+  comes_home mine unlike s (g, fits, law, stage) at apart there =
+      let vs = s.views in
+      let there' : get_elem? vs other ≡ some w = sym (set_else vs id other (home v w) apart) ∙ there in
+      let h = law.views id v at in
+      let k = law.views other w there' in
+      let g' : World = badged g m id in
+      let was = k.holding.guest m guest in
+      let on : Onward z g g' id other = badge_moves z g id other m id (inr was.0) in
+      let knows = knowledge_kept z g g' id other on v (λ b is below. counted vs law id v at b is below) h.knowledge in
+      let kind = h.kind in
+      let holds = h.holding in
+      let own : LawfulView z g' id (home v w) = record {
+        kind = record { numbers = kind.numbers; known = kind.known; opens = kind.opens; unpinned = kind.unpinned; idle = kind.idle; owns_none = kind.owns_none };
+        knowledge = record {
+          seen = knows.seen;
+          pin = knows.pin;
+          known = knows.known;
+          programs = knows.programs;
+          erases = knows.erases;
+          copy = λ d is.
+              let old = k.knowledge.copy c copy in
+              let new : LawfulCopy z g' w.role c = copy_kept z g g' id other on w.role c old in
+              let same : c ≡ d = some_same c d (sym copy ∙ is) in
+              subst (λ (d : Carried). LawfulCopy z g' v.role d) same (record { seen = new.seen; programs = new.programs; erases = new.erases; other = unlike });
+        };
+        holding = record {
+          name = λ x is. let t = holds.name x is in (t.0, as_dealt g m id x t.1);
+          calls = holds.calls;
+          owned = λ b o is. let k = holds.owned b o is in record { block = k.block; low = k.low; owner = k.owner; owned = k.owned; phase = k.phase; generation = k.generation; written = k.written; rest = k.rest; dead = k.dead; clean = k.clean };
+          work = λ x is. let k = holds.work x is in record { entry = k.entry; own = k.own; opened = k.opened; generation = k.generation; page = k.page; counted = k.counted; short = k.short; full = k.full; stands = k.stands };
+          source = λ x is. let k = holds.source x is in record { entry = k.entry; own = k.own; victim = k.victim; generation = k.generation; page = k.page; written = k.written; stamp = k.stamp; value = k.value };
+          whole = λ _ x role'.
+              let same : m ≡ x = mine ∙ player_same n x (sym role ∙ role') in
+              let P : Name → Type 0 = λ x. g'.badge x ≡ id in
+              let now : P m = name_here g.badge m id in subst P same now;
+          guest = λ x is. let t = holds.guest x is in (stays_with g.badge m id x t.0, as_dealt g m id x t.1);
+          dealer = λ is. let e : Player n ≡ Dealer = sym role ∙ is in absurd (cc);
+        };
+      } in
+      (g', fits, join z g vs id other v w (home v w) m law at apart there' note (inr was.0) own (λ b. refl) refl refl, kept.same g g' (λ b. refl) stage)

@@ -1,0 +1,212 @@
+-- The table at the start meets the rule.
+use Rattle.std.proofs.Common.{◌≡◌, ℕ, zero, suc, ◌*◌, ◌+◌, ◌-◌, ◌<◌, ◌≤◌, eq-eqb, ne_eqb, true, false, List, [], ◌∷◌, ◌++◌, None, Some, length, replicate, sym, refl, ap, ◌∙◌, subst, arith, length-append}
+use Rattle.std.proofs.lemmas.List.{length-replicate}
+use Rattle.std.proofs.Math.ListN.{get_or}
+use Rattle.std.specs.Prelude.{if◌then◌else◌, nat_lt}
+use mathlib.Core.Option.{some, some-injective, some-ne-none}
+use mathlib.Core.Logic.{dite}
+use native.Mathlib.Decide.{ℕ_discrete, dec_lt}
+use lib.ListN.{get_elem?}
+use Rattle.atomic_table.specs.Table.{opening}
+use Rattle.geometry.proofs.Histories.{Begins-refl, held_at_first}
+use Rattle.geometry.specs.Limits.{Numbers, IsWithinLimits}
+use Rattle.geometry.specs.PinWords.{phase_bits}
+use Rattle.geometry.specs.TableOrder.{pin_index, page_index}
+use Rattle.geometry.specs.declared.pin_word.PinWord.{PinWord}
+use Rattle.geometry.specs.declared.pin_word.Phase.TheVariants.{Free, Open}
+use Rattle.flash_rule.specs.declared.facts.Owned.{Owned}
+use Rattle.flash_rule.specs.declared.view.View.{View}
+use Rattle.flash_rule.specs.Views.{owned_at}
+use Rattle.flash_rule.specs.World.{World, Fits, is_owned, is_early, blank_word}
+use Rattle.flash_rule.specs.Rule.{LawfulBlock, LawfulOwned, LawfulView, Lawful, IsEarly}
+use Rattle.flash_rule.specs.Seats.{Ruled, spares, dealer, opening_words}
+use Rattle.flash_rule.proofs.Owning.{none_some, some_same}
+use Rattle.flash_rule.proofs.Places.{row_within}
+use Rattle.std.proofs.lemmas.Bool.Decides.{nat_tests}
+
+front : (xs ys : List ℕ) (k : ℕ) → k < length xs → get_or (xs ++ ys) k 0 ≡ get_or xs k 0
+front [] ys k low = absurd (omega arith)
+front (x ∷ xs) ys zero low = refl
+front (x ∷ xs) ys (suc k) low = front xs ys k (omega arith)
+
+back : (xs ys : List ℕ) (k j : ℕ) → k ≡ length xs + j → get_or (xs ++ ys) k 0 ≡ get_or ys j 0
+back [] ys k j is = ap (λ i. get_or ys i 0) (omega arith)
+back (x ∷ xs) ys zero j is = absurd (omega arith)
+back (x ∷ xs) ys (suc k) j is = back xs ys k j (omega arith)
+
+same_all : (n x k : ℕ) → k < n → get_or (replicate n x) k 0 ≡ x
+same_all zero x k low = absurd (omega arith)
+same_all (suc n) x zero low = refl
+same_all (suc n) x (suc k) low = same_all n x k (omega arith)
+
+abbrev spare : ℕ → Owned
+spare b = record { block = b; phase = Open; generation = 0; written = 0 }
+
+spare_is : (n from b : ℕ) (o : Owned) → owned_at b (spares n from) ≡ Some o → (from ≤ b) × (b < from + n) × (spare b ≡ o)
+spare_is zero from b o is = absurd (none_some o is)
+spare_is (suc n) from b o is = dite (ℕ_discrete from b)
+    (λ same.
+    let here : owned_at b (spares (suc n) from) ≡ Some (spare from) = rw (eq-eqb from b same) refl in
+    let e : spare from ≡ o = some_same (spare from) o (sym here ∙ is) in (omega arith, omega arith, ap spare (sym same) ∙ e))
+    (λ other.
+    let there : owned_at b (spares (suc n) from) ≡ owned_at b (spares n (from + 1)) = rw (ne_eqb from b other) refl in
+    let r = spare_is n (from + 1) b o (sym there ∙ is) in
+    let low = r.0 in
+    let high = r.1 in (omega arith, omega arith, r.2))
+
+spare_at : (n from b : ℕ) → from ≤ b → b < from + n → owned_at b (spares n from) ≡ Some (spare b)
+spare_at zero from b low high = absurd (omega arith)
+spare_at (suc n) from b low high = dite (ℕ_discrete from b)
+    (λ same. rw (eq-eqb from b same) (ap (λ k. Some (spare k)) same))
+    (λ other. rw (ne_eqb from b other) (spare_at n (from + 1) b (omega arith) (omega arith)))
+
+module _ (z : Numbers) (limits : IsWithinLimits z) where
+  enough : z.brooms ≤ z.blocks
+  enough = dite (ℕ_discrete z.hosts 0) (λ none. let e = limits.lone none in omega arith) (λ some_host. let e = limits.shared_blocks (omega arith) in omega arith)
+
+  opening_pin : ℕ → PinWord
+  opening_pin b = record { readers = 0; phase = if nat_lt b (z.blocks - z.brooms) then Free else Open; written = 0; generation = 0 }
+
+  abbrev opening_world : World
+  opening_world =
+      record {
+        history = [];
+        map = λ s. None;
+        pins = opening_pin;
+        pages = λ b p i. blank_word;
+        owner = λ b. 0;
+        passes = 0;
+        brooms = 0;
+        seat = λ n. 0;
+        programmer = λ b p g. None;
+        eraser = λ b g. None;
+        badge = λ n. 0;
+      }
+
+  phase_low : (b : ℕ) → b < z.blocks - z.brooms → (opening_pin b).phase ≡ Free
+  unfolding opening_pin
+  phase_low b low = grind (arith, nat_tests)
+
+  phase_high : (b : ℕ) → ¬ (b < z.blocks - z.brooms) → (opening_pin b).phase ≡ Open
+  unfolding opening_pin
+  phase_high b high = grind (arith, nat_tests)
+
+  blank_pin : (b : ℕ) → ((opening_pin b).readers ≡ 0) × ((opening_pin b).written ≡ 0) × ((opening_pin b).generation ≡ 0)
+  unfolding opening_pin
+  blank_pin b = (refl, refl, refl)
+
+  opening_fits : Fits z opening_world.map opening_world.pins opening_world.pages (opening_words z)
+  opening_fits =
+      let e = enough in
+      let maps : List ℕ = replicate z.sectors 0 in
+      let frees : List ℕ = replicate (z.blocks - z.brooms) (phase_bits Free) in
+      let opens : List ℕ = replicate z.brooms (phase_bits Open) in
+      let pages : List ℕ = replicate (z.blocks * z.pages * (z.words + 1)) blank_word in
+      let l1 : length maps ≡ z.sectors = length-replicate z.sectors 0 in
+      let l2 : length frees ≡ z.blocks - z.brooms = length-replicate (z.blocks - z.brooms) (phase_bits Free) in
+      let l3 : length opens ≡ z.brooms = length-replicate z.brooms (phase_bits Open) in
+      let l4 : length pages ≡ z.blocks * z.pages * (z.words + 1) = length-replicate (z.blocks * z.pages * (z.words + 1)) blank_word in
+      let l5 : length (frees ++ opens) ≡ length frees + length opens = length-append frees opens in
+      let l6 : length (maps ++ (frees ++ opens)) ≡ length maps + length (frees ++ opens) = length-append maps (frees ++ opens) in
+      let l7 : length ((maps ++ (frees ++ opens)) ++ pages) ≡ length (maps ++ (frees ++ opens)) + length pages = length-append (maps ++ (frees ++ opens)) pages in
+      record {
+        size = omega arith;
+        sectors = λ s low. front (maps ++ (frees ++ opens)) pages s (omega arith) ∙ (front maps (frees ++ opens) s (omega arith) ∙ same_all z.sectors 0 s low);
+        blocks = λ b low.
+            front (maps ++ (frees ++ opens)) pages (pin_index z b) (omega arith)
+            ∙ (back maps (frees ++ opens) (pin_index z b) b (omega arith)
+            ∙ dite (dec_lt b (z.blocks - z.brooms))
+            (λ below. front frees opens b (omega arith) ∙ (same_all (z.blocks - z.brooms) (phase_bits Free) b below
+            ∙ (let p = blank_pin b in let r = p.0 in let w = p.1 in let g = p.2 in let f : phase_bits (opening_pin b).phase ≡ phase_bits Free = ap phase_bits (phase_low b below) in omega arith)))
+            (λ above.
+            let j : ℕ = b - (z.blocks - z.brooms) in
+            back frees opens b j (omega arith) ∙ (same_all z.brooms (phase_bits Open) j (omega arith)
+            ∙ (let p = blank_pin b in let r = p.0 in let w = p.1 in let g = p.2 in let f : phase_bits (opening_pin b).phase ≡ phase_bits Open = ap phase_bits (phase_high b above) in omega arith))));
+        pages = λ b p i b_low p_low i_low.
+            let j : ℕ = (b * z.pages + p) * (z.words + 1) + i in
+            let r = row_within b z.blocks z.pages p b_low p_low in
+            let t = row_within (b * z.pages + p) (z.blocks * z.pages) (z.words + 1) i r (omega arith) in
+            back (maps ++ (frees ++ opens)) pages (page_index z b p + i) j (omega arith) ∙ same_all (z.blocks * z.pages * (z.words + 1)) blank_word j t;
+      }
+
+  opening_block : (b : ℕ) → b < z.blocks → LawfulBlock z opening_world (dealer z ∷ []) b
+  opening_block b low =
+      let p = blank_pin b in
+      let generation = p.2 in
+      let endurance = limits.endurance_low in
+      let e = enough in
+      record {
+        readers = p.0;
+        written = (let w = p.1 in omega arith);
+        generation = omega arith;
+        free = λ _. p.1;
+        rest = λ _ q from below i most. refl;
+        owner = λ owned. dite (dec_lt b (z.blocks - z.brooms))
+            (λ below. let no : true ≡ false = sym owned ∙ ap is_owned (phase_low b below) in absurd (cc))
+            (λ above. (dealer z, spare b, refl, spare_at z.brooms (z.blocks - z.brooms) b (omega arith) (omega arith)));
+      }
+
+  opening_owned : (b : ℕ) (o : Owned) → owned_at b (dealer z).owns ≡ Some o → LawfulOwned z opening_world 0 None 0 0 b o
+  opening_owned b o is =
+      let r = spare_is z.brooms (z.blocks - z.brooms) b o is in
+      let e = enough in
+      let low = r.0 in
+      let high = r.1 in
+      let p = blank_pin b in
+      let phase : (opening_pin b).phase ≡ Open = phase_high b (λ h. absurd (omega arith)) in
+      let here : LawfulOwned z opening_world 0 None 0 0 b (spare b) = record {
+        block = refl;
+        low = omega arith;
+        owner = refl;
+        owned = refl;
+        phase = phase;
+        generation = p.2;
+        written = p.1;
+        rest = λ _ q _ _ _ i _. refl;
+        dead = λ is. absurd (cc);
+        clean = λ is. absurd (cc);
+      } in
+      subst (λ (o : Owned). LawfulOwned z opening_world 0 None 0 0 b o) r.2 here
+
+  opening_view : LawfulView z opening_world 0 (dealer z)
+  opening_view =
+      record {
+        kind = record { numbers = λ _. refl; known = λ is. absurd (cc); opens = λ is. absurd (cc); unpinned = λ _. refl; idle = λ _. (refl, refl, refl, refl); owns_none = λ is. absurd (cc) };
+        knowledge = record { seen = Begins-refl []; pin = tt; known = λ b _. omega arith; programs = λ n is. absurd (cc); erases = λ n is. absurd (cc); copy = λ c is. absurd (none_some c is) };
+        holding = record {
+          name = λ n is. absurd (cc);
+          calls = λ t is. absurd (cc);
+          owned = opening_owned;
+          work = λ w is. absurd (none_some w is);
+          source = λ x is. absurd (none_some x is);
+          whole = λ is. absurd (cc);
+          guest = λ n is. absurd (none_some n is);
+          dealer = λ _. (refl, refl, refl);
+        };
+      }
+
+  opening_lawful : Lawful z opening_world (dealer z ∷ [])
+  opening_lawful =
+      record {
+        limits = limits;
+        sectors = λ s low. record { empty = λ _. held_at_first z.sectors s; named = λ m is. absurd (none_some m is) };
+        blocks = opening_block;
+        views = only;
+        strangers = λ t _. refl;
+        seats = omega arith;
+        dealt = omega arith;
+      }
+    where
+      only : (id : ℕ) (v : View) → get_elem? (dealer z ∷ []) id ≡ some v → LawfulView z opening_world id v
+      only zero v is = subst (λ (v : View). LawfulView z opening_world 0 v) (some-injective (dealer z) v is) opening_view
+      only (suc id) v is = absurd (some-ne-none v (sym is))
+
+  opening_early : IsEarly z opening_world
+  opening_early = record {
+    phase = λ b low. dite (dec_lt b (z.blocks - z.brooms)) (λ below. ap is_early (phase_low b below)) (λ above. ap is_early (phase_high b above));
+    generation = λ b low. (blank_pin b).2;
+  }
+
+  -- the table of these words, with the dealer's seat alone, meets the rule
+  pub opening_ruled : Ruled IsEarly z (opening (opening_words z) [] (dealer z))
+  opening_ruled = (opening_world, opening_fits, opening_lawful, opening_early)

@@ -1,0 +1,303 @@
+-- The owner's steps on the pin word of an open block: count and close.
+use Rattle.std.proofs.Common.{◌≡◌, ◌≢◌, ℕ, ◌+◌, ◌<◌, ◌≤◌, ◌⊎◌, inl, inr, ⊎_elim, true, false, List, [], ◌∷◌, ◌++◌, Option, None, Some, length, set, slice_get, sym, refl, ap, ◌∙◌, subst, arith}
+use mathlib.Core.Option.{some}
+use mathlib.Core.Logic.{dite}
+use native.Mathlib.Decide.{ℕ_discrete}
+use lib.ListN.{get_elem?}
+use Rattle.geometry.specs.Limits.{Numbers}
+use Rattle.geometry.specs.declared.map_word.MapWord.{MapWord}
+use Rattle.geometry.specs.declared.pin_word.PinWord.{PinWord}
+use Rattle.geometry.specs.declared.pin_word.Phase.TheVariants.{Free, Open, Closed, Victim}
+use Rattle.flash_rule.specs.declared.facts.Owned.{Owned}
+use Rattle.flash_rule.specs.declared.facts.Name.{Name}
+use Rattle.flash_rule.specs.declared.facts.Role.{Role}
+use Rattle.flash_rule.specs.declared.facts.Role.TheVariants.{Dealer, Player, Note, Gone}
+use Rattle.flash_rule.specs.declared.facts.Work.{Work}
+use Rattle.flash_rule.specs.declared.view.View.{View}
+use Rattle.flash_rule.specs.Views.{is_player, may_own, pins_on, owned_at, without, with_owned}
+use Rattle.flash_rule.specs.World.{World, put, is_owned, is_intact, is_still, half_cycle}
+use Rattle.flash_rule.specs.Rule.{IsProgrammed, IsFilling, LawfulKind, LawfulOwned, LawfulWork, LawfulView, Lawful}
+use Rattle.flash_rule.specs.Onward.{Onward}
+use Rattle.flash_rule.specs.Plays.{next_page}
+use Rattle.flash_rule.proofs.Points.{put_here, total_set}
+use Rattle.flash_rule.proofs.Owning.{some_same, none_some, with_here, with_else, without_here, without_else, get_last, put3, put3_here, put3_else}
+use Rattle.flash_rule.proofs.Frames.{counted, knowledge_kept}
+use Rattle.flash_rule.proofs.PinSteps.{moved, pin_moves, pin_moved, moved_else, seat_set}
+
+-- a seat with work is a player's
+player_of : (r : Role) → is_player r ≡ true → (n : Name) × (r ≡ Player n)
+player_of (Player n) is = (n, refl)
+player_of Dealer is = absurd (cc)
+player_of Note is = absurd (cc)
+player_of Gone is = absurd (cc)
+
+idle_or_player : (r : Role) → (is_player r ≡ true) ⊎ (is_player r ≡ false)
+idle_or_player (Player n) = inl refl
+idle_or_player Dealer = inr refl
+idle_or_player Note = inr refl
+idle_or_player Gone = inr refl
+
+pub worker : (z : Numbers) (v : View) (x : Work) → LawfulKind z v → v.work ≡ Some x → (n : Name) × (v.role ≡ Player n)
+worker z v x kind is = ⊎_elim (λ p. player_of v.role p) (λ idle. absurd (none_some x (sym (kind.idle idle).0 ∙ is))) (idle_or_player v.role)
+
+module _ (z : Numbers) (g : World) (vs : List View) (id : ℕ) (v : View) (o : Owned) (law : Lawful z g vs) (at : get_elem? vs id ≡ some v) (own : owned_at o.block v.owns ≡ Some o) (opened : o.phase ≡ Open) where
+  entry : LawfulOwned z g id v.work v.cleared v.wiped o.block o
+  entry = (law.views id v at).holding.owned o.block o own
+
+  pub own_low : o.block < z.blocks
+  own_low = entry.low
+
+  pub is_open : (g.pins o.block).phase ≡ Open
+  is_open = entry.phase ∙ opened
+
+  -- ---- count
+  module _ (x : Work) (doing : v.work ≡ Some x) (page : x.page ≡ next_page o) (full : length x.words ≡ z.words + 1) where
+    abbrev pub more : Owned
+    more = record o { written = o.written + 1 }
+
+    abbrev pub counter : View
+    counter = record v { programs = v.programs ++ x.page ∷ []; owns = with_owned more v.owns }
+
+    abbrev pub counted_state : PinWord
+    counted_state = record (g.pins o.block) { written = (g.pins o.block).written + 1 }
+
+    abbrev pub programmed : Name → ℕ → ℕ → ℕ → Option (Name × ℕ)
+    programmed n = put3 g.programmer o.block o.written o.generation (Some (n, length v.programs))
+
+    abbrev pub count_world : Name → World
+    count_world n = moved g o.block counted_state id (programmed n)
+
+    -- the page is below the end of its block
+    pub page_room : o.written < z.pages
+    page_room = let w = (law.views id v at).holding.work x doing in let low = w.page in let e : x.page.page ≡ o.written = ap (λ (m : MapWord). m.page) page in omega arith
+
+    pub counts_page : (n : Name) → v.role ≡ Player n → Lawful z (count_world n) (set vs id counter)
+    counts_page n role =
+        let h = law.views id v at in
+        let b = o.block in
+        let q = counted_state in
+        let kind = h.kind in
+        let holds = h.holding in
+        let block = law.blocks b own_low in
+        let mine = entry in
+        let room = page_room in
+        let g' = count_world n in
+        let here : put g.pins b q b ≡ q = put_here g.pins b q in
+        let written_is : (g.pins b).written ≡ o.written = mine.written in
+        let generation_is : (g.pins b).generation ≡ o.generation = mine.generation in
+        let on : Onward z g g' id id = pin_moves z g id b q id (programmed n)
+        (record {
+          generation = omega arith;
+          age = omega arith;
+          written = λ _. omega arith;
+          held = λ _ intact. (refl, intact);
+          was = λ _ intact _. intact;
+          free = λ _ free. free;
+        })
+        (λ other _. absurd (other mine.owner))
+        (λ m done. put3_else g.programmer b o.written o.generation (Some (n, length v.programs)) m.block m.page m.generation (λ same.
+        let P : ℕ → Type 0 = λ c. IsProgrammed (g.pins c) m in
+        let done' : P b = subst P same.0 done in
+        let e1 = same.1 in
+        let e2 = same.2 in
+        ⊎_elim (λ (older : m.generation < (g.pins b).generation). absurd (omega arith)) (λ (h : (m.generation ≡ (g.pins b).generation) × (m.page < (g.pins b).written)). let l = h.1 in absurd (omega arith)) done')) in
+        let knows = knowledge_kept z g g' id id on v (λ c is below. counted vs law id v at c is below) h.knowledge in
+        let page_block : x.page.block ≡ b = ap (λ (m : MapWord). m.block) page in
+        let page_page : x.page.page ≡ o.written = ap (λ (m : MapWord). m.page) page in
+        let page_generation : x.page.generation ≡ o.generation = ap (λ (m : MapWord). m.generation) page in
+        let now : LawfulOwned z g' id v.work v.cleared v.wiped b more = record {
+          block = refl;
+          low = own_low;
+          owner = put_here g.owner b id;
+          owned = mine.owned;
+          phase = ap (λ (p : PinWord). p.phase) here ∙ mine.phase;
+          generation = ap (λ (p : PinWord). p.generation) here ∙ mine.generation;
+          written = ap (λ (p : PinWord). p.written) here ∙ ap (λ k. k + 1) mine.written;
+          rest = λ is p from below not. mine.rest is p (omega arith) below not;
+          dead = mine.dead;
+          clean = mine.clean;
+        } in
+        let same_entry : (c : ℕ) (e : Owned) → c ≡ b → owned_at c (with_owned more v.owns) ≡ Some e → more ≡ e = λ c e same owns.
+        some_same more e (sym (with_here more v.owns) ∙ (ap (λ j. owned_at j (with_owned more v.owns)) (sym same) ∙ owns)) in
+        let mine_after : LawfulView z g' id counter = record {
+          kind = record {
+            numbers = kind.numbers;
+            known = kind.known;
+            opens = λ is c e owns. dite (ℕ_discrete c b)
+                (λ same. sym (ap (λ (x : Owned). x.phase) (same_entry c e same owns)) ∙ opened)
+                (λ unlike. kind.opens is c e (sym (with_else more c v.owns unlike) ∙ owns));
+            unpinned = kind.unpinned;
+            idle = λ is. let no : true ≡ false = sym (ap is_player role) ∙ is in absurd (cc);
+            owns_none = λ is. let no : true ≡ false = sym (ap may_own role) ∙ is in absurd (cc);
+          };
+          knowledge = record {
+            seen = knows.seen;
+            pin = knows.pin;
+            known = knows.known;
+            programs = λ n' role' k m is.
+                ⊎_elim (λ (old : slice_get v.programs k ≡ Some m). knows.programs n' role' k m old)
+                (λ (new : (k ≡ length v.programs) × (x.page ≡ m)).
+                let same_name : n ≡ n' = player_same n n' (sym role ∙ role') in
+                let m_block : m.block ≡ b = sym (ap (λ (m : MapWord). m.block) new.1) ∙ page_block in
+                let m_page : m.page ≡ o.written = sym (ap (λ (m : MapWord). m.page) new.1) ∙ page_page in
+                let m_generation : m.generation ≡ o.generation = sym (ap (λ (m : MapWord). m.generation) new.1) ∙ page_generation in
+                let Q : ℕ → Type 0 = λ c. (c < z.blocks) × IsProgrammed (put g.pins b q c) m × (programmed n c m.page m.generation ≡ Some (n', k)) in
+                let e : put3 g.programmer b o.written o.generation (Some (n, length v.programs)) b o.written o.generation ≡ Some (n, length v.programs) = put3_here g.programmer b o.written o.generation (Some (n, length v.programs)) in
+                let at_b : Q b = (
+                  own_low,
+                  subst (λ (p : PinWord). IsProgrammed p m) (sym here) (inr (m_generation ∙ sym generation_is, omega arith)),
+                  ap (λ i. programmed n b i m.generation) m_page ∙ (ap (λ i. programmed n b o.written i) m_generation ∙ (e ∙ λ i. Some (same_name i, sym new.0 i))),
+                ) in
+                subst Q (sym m_block) at_b)
+                (get_last v.programs x.page m k is);
+            erases = knows.erases;
+            copy = knows.copy;
+          };
+          holding = record {
+            name = holds.name;
+            calls = holds.calls;
+            owned = λ c e owns. dite (ℕ_discrete c b)
+                (λ same. let P : ℕ × Owned → Type 0 = λ x. LawfulOwned z g' id v.work v.cleared v.wiped x.0 x.1 in subst P (λ i. (sym same i, same_entry c e same owns i)) now)
+                (λ unlike. moved_else z g vs id v counter b q id (programmed n) law at v.work v.work v.cleared v.wiped c e unlike (λ p _ f. f) (holds.owned c e (sym (with_else more c v.owns unlike) ∙ owns)));
+            work = λ y is.
+                let k = holds.work x doing in
+                let same : x ≡ y = some_same x y (sym doing ∙ is) in
+                subst (λ (y : Work). LawfulWork z g' (with_owned more v.owns) y) same
+                (record {
+                  entry = more;
+                  own = ap (λ c. owned_at c (with_owned more v.owns)) page_block ∙ with_here more v.owns;
+                  opened = opened;
+                  generation = sym page_generation;
+                  page = k.page;
+                  counted = inl (omega arith);
+                  short = k.short;
+                  full = λ _. full;
+                  stands = k.stands;
+                });
+            source = λ y is.
+                let k = holds.source y is in
+                let unlike : y.page.block ≢ b = λ same.
+                let P : ℕ → Type 0 = λ c. owned_at c v.owns ≡ Some k.entry in
+                let e : o ≡ k.entry = some_same o k.entry (sym own ∙ subst P same k.own) in
+                let f : Open ≡ Victim = sym opened ∙ (ap (λ (x : Owned). x.phase) e ∙ k.victim) in absurd (cc) in
+                record {
+                  entry = k.entry;
+                  own = with_else more y.page.block v.owns unlike ∙ k.own;
+                  victim = k.victim;
+                  generation = k.generation;
+                  page = k.page;
+                  written = k.written;
+                  stamp = k.stamp;
+                  value = k.value;
+                };
+            whole = holds.whole;
+            guest = holds.guest;
+            dealer = holds.dealer;
+          };
+        } in
+        pin_moved z g vs id v counter b q id (programmed n) law at on mine_after
+        (λ named. (refl, named, omega arith))
+        (record {
+          readers = (let e : (put g.pins b q b).readers ≡ (g.pins b).readers = ap (λ (p : PinWord). p.readers) here in let r = block.readers in let t = total_set (pins_on b) vs id v counter at in omega arith);
+          written = (let e : (put g.pins b q b).written ≡ (g.pins b).written + 1 = ap (λ (p : PinWord). p.written) here in omega arith);
+          generation = (let e : (put g.pins b q b).generation ≡ (g.pins b).generation = ap (λ (p : PinWord). p.generation) here in let r = block.generation in omega arith);
+          free = λ is. let e : Open ≡ Free = sym is_open ∙ (sym (ap (λ (p : PinWord). p.phase) here) ∙ is) in absurd (cc);
+          rest = λ is. let e : false ≡ true = sym (ap is_still is_open) ∙ (sym (ap (λ (p : PinWord). is_still p.phase) here) ∙ is) in absurd (cc);
+          owner = λ _. (counter, more, ap (λ j. get_elem? (set vs id counter) j) (put_here g.owner b id) ∙ seat_set vs id v counter at, with_here more v.owns);
+        })
+        (λ c _. refl) (λ c unlike e is. (e, with_else more c v.owns unlike ∙ is)) refl
+      where
+        player_same : (n m : Name) → Player n ≡ Player m → n ≡ m
+        player_same n m e = cc
+
+  -- ---- close
+  abbrev pub closer : View
+  closer = record v { owns = without o.block v.owns; work = None }
+
+  abbrev pub closed_state : PinWord
+  closed_state = record (g.pins o.block) { phase = Closed }
+
+  abbrev pub close_world : World
+  close_world = moved g o.block closed_state id g.programmer
+
+  pub closes : ((w : Work) (e : Owned) → v.work ≡ Some w → owned_at w.page.block v.owns ≡ Some e → w.page.page < e.written) → Lawful z close_world (set vs id closer)
+  closes settled =
+      let h = law.views id v at in
+      let b = o.block in
+      let q = closed_state in
+      let kind = h.kind in
+      let holds = h.holding in
+      let block = law.blocks b own_low in
+      let mine = entry in
+      let g' = close_world in
+      let here : put g.pins b q b ≡ q = put_here g.pins b q in
+      let phase_is = is_open in
+      let on : Onward z g g' id id = pin_moves z g id b q id g.programmer
+      (record {
+        generation = omega arith;
+        age = (let e : half_cycle (g.pins b).phase ≡ 0 = ap half_cycle phase_is in omega arith);
+        written = λ _. omega arith;
+        held = λ _ intact. (refl, refl);
+        was = λ _ _ _. ap is_intact phase_is;
+        free = λ _ is. absurd (cc);
+      })
+      (λ other _. absurd (other mine.owner)) (λ m _. refl) in
+      let knows = knowledge_kept z g g' id id on v (λ c is below. counted vs law id v at c is below) h.knowledge in
+      let elsewhere : (c : ℕ) (e : Owned) → owned_at c (without b v.owns) ≡ Some e → c ≢ b = λ c e owns same.
+      absurd (none_some e (sym (without_here b v.owns) ∙ (ap (λ j. owned_at j (without b v.owns)) (sym same) ∙ owns))) in
+      let not_filling : (c p : ℕ) (e : Owned) → owned_at c v.owns ≡ Some e → e.written ≤ p → IsFilling v.work c p → ⊥ = λ c p e owns from f.
+      let P : ℕ → Type 0 = λ c. owned_at c v.owns ≡ Some e in
+      let s = settled f.work e f.is (subst P (sym f.block) owns) in
+      let l = f.page in absurd (omega arith) in
+      let after : LawfulView z g' id closer = record {
+        kind = record {
+          numbers = kind.numbers;
+          known = kind.known;
+          opens = λ is c e owns. kind.opens is c e (sym (without_else b c v.owns (elsewhere c e owns)) ∙ owns);
+          unpinned = kind.unpinned;
+          idle = λ is. let i = kind.idle is in (refl, i.1, i.2, i.3);
+          owns_none = λ is. ap (λ l. without b l) (kind.owns_none is);
+        };
+        knowledge = record { seen = knows.seen; pin = knows.pin; known = knows.known; programs = knows.programs; erases = knows.erases; copy = knows.copy };
+        holding = record {
+          name = holds.name;
+          calls = holds.calls;
+          owned = λ c e owns.
+              let unlike = elsewhere c e owns in
+              let was = sym (without_else b c v.owns unlike) ∙ owns in
+              moved_else z g vs id v closer b q id g.programmer law at v.work None v.cleared v.wiped c e unlike (λ p from f. absurd (not_filling c p e was from f)) (holds.owned c e was);
+          work = λ y is. absurd (none_some y is);
+          source = λ y is.
+              let k = holds.source y is in
+              let unlike : y.page.block ≢ b = λ same.
+              let P : ℕ → Type 0 = λ c. owned_at c v.owns ≡ Some k.entry in
+              let e : o ≡ k.entry = some_same o k.entry (sym own ∙ subst P same k.own) in
+              let f : Open ≡ Victim = sym opened ∙ (ap (λ (x : Owned). x.phase) e ∙ k.victim) in absurd (cc) in
+              record {
+                entry = k.entry;
+                own = without_else b y.page.block v.owns unlike ∙ k.own;
+                victim = k.victim;
+                generation = k.generation;
+                page = k.page;
+                written = k.written;
+                stamp = k.stamp;
+                value = k.value;
+              };
+          whole = holds.whole;
+          guest = holds.guest;
+          dealer = holds.dealer;
+        };
+      } in
+      pin_moved z g vs id v closer b q id g.programmer law at on after
+      (λ named. (refl, refl, omega arith))
+      (record {
+        readers = (let e : (put g.pins b q b).readers ≡ (g.pins b).readers = ap (λ (p : PinWord). p.readers) here in let r = block.readers in let t = total_set (pins_on b) vs id v closer at in omega arith);
+        written = (let e : (put g.pins b q b).written ≡ (g.pins b).written = ap (λ (p : PinWord). p.written) here in let r = block.written in omega arith);
+        generation = (let e : (put g.pins b q b).generation ≡ (g.pins b).generation = ap (λ (p : PinWord). p.generation) here in let r = block.generation in omega arith);
+        free = λ is. let e : Closed ≡ Free = sym (ap (λ (p : PinWord). p.phase) here) ∙ is in absurd (cc);
+        rest = λ _ p from below.
+            let e : (put g.pins b q b).written ≡ (g.pins b).written = ap (λ (p : PinWord). p.written) here in
+            let m = mine.written in mine.rest opened p (omega arith) below (λ f. not_filling b p o own (omega arith) f);
+        owner = λ is. let e : false ≡ true = sym (ap (λ (p : PinWord). is_owned p.phase) here) ∙ is in absurd (cc);
+      })
+      (λ c _. refl) (λ c unlike e is. (e, without_else b c v.owns unlike ∙ is)) refl

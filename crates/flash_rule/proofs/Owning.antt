@@ -1,0 +1,81 @@
+-- The blocks that a seat owns, one entry changed; and what an owned block keeps while another one changes.
+use Rattle.std.proofs.Common.{◌≡◌, ◌≢◌, ℕ, zero, suc, ◌≤◌, ◌⊎◌, inl, inr, ⊎_elim, eq-eqb, ne_eqb, List, [], ◌∷◌, ◌++◌, Option, None, Some, length, slice_get, sym, refl, ap, ◌∙◌}
+use mathlib.Core.Logic.{dite}
+use native.Mathlib.Decide.{ℕ_discrete}
+use Rattle.geometry.specs.Limits.{Numbers}
+use Rattle.geometry.specs.declared.map_word.MapWord.{MapWord}
+use Rattle.geometry.specs.declared.pin_word.PinWord.{PinWord}
+use Rattle.flash_rule.specs.declared.facts.Owned.{Owned}
+use Rattle.flash_rule.specs.declared.facts.Work.{Work}
+use Rattle.flash_rule.specs.Views.{owned_at, without, with_owned}
+use Rattle.flash_rule.specs.World.{World, put}
+use Rattle.flash_rule.specs.Rule.{IsFilling, LawfulOwned}
+use Rattle.flash_rule.proofs.Points.{eq_self}
+
+pub some_same : {X : Type 0} (x y : X) → Some x ≡ Some y → x ≡ y
+some_same x y e = cc
+
+pub none_some : {X : Type 0} (x : X) → ¬ (None ≡ Some x)
+none_some x e = absurd (cc)
+
+pub without_here : (b : ℕ) (os : List Owned) → owned_at b (without b os) ≡ None
+without_here b [] = refl
+without_here b (o ∷ os) =
+    let there = without_here b os in
+    dite (ℕ_discrete o.block b) (λ same. rw (eq-eqb o.block b same) there) (λ other. rw (ne_eqb o.block b other) (rw (ne_eqb o.block b other) there))
+
+pub without_else : (b c : ℕ) (os : List Owned) → c ≢ b → owned_at c (without b os) ≡ owned_at c os
+without_else b c [] apart = refl
+without_else b c (o ∷ os) apart =
+    let there = without_else b c os apart in
+    dite (ℕ_discrete o.block b)
+    (λ same. rw (eq-eqb o.block b same) (rw (ne_eqb o.block c (λ e. apart (sym e ∙ same))) there))
+    (λ other. rw (ne_eqb o.block b other) (dite (ℕ_discrete o.block c) (λ same. rw (eq-eqb o.block c same) refl) (λ unlike. rw (ne_eqb o.block c unlike) there)))
+
+pub with_here : (o : Owned) (os : List Owned) → owned_at o.block (with_owned o os) ≡ Some o
+with_here o os = rw (eq_self o.block) refl
+
+pub with_else : (o : Owned) (c : ℕ) (os : List Owned) → c ≢ o.block → owned_at c (with_owned o os) ≡ owned_at c os
+with_else o c os apart = rw (ne_eqb o.block c (λ e. apart (sym e))) (without_else o.block c os apart)
+
+pub get_last : {X : Type 0} (xs : List X) (x y : X) (k : ℕ) → slice_get (xs ++ x ∷ []) k ≡ Some y → (slice_get xs k ≡ Some y) ⊎ ((k ≡ length xs) × (x ≡ y))
+get_last [] x y zero e = inr (refl, some_same x y e)
+get_last [] x y (suc k) e = absurd (none_some y e)
+get_last (z ∷ xs) x y zero e = inl e
+get_last (z ∷ xs) x y (suc k) e = ⊎_elim (λ h. inl h) (λ h. inr (ap suc h.0, h.1)) (get_last xs x y k e)
+
+-- a function of three numbers with one value replaced
+pub put3 : {X : Type 0} → (ℕ → ℕ → ℕ → X) → ℕ → ℕ → ℕ → X → ℕ → ℕ → ℕ → X
+put3 f a b c x = put f a (put (f a) b (put (f a b) c x))
+
+pub put3_here : {X : Type 0} (f : ℕ → ℕ → ℕ → X) (a b c : ℕ) (x : X) → put3 f a b c x a b c ≡ x
+unfolding put3
+put3_here f a b c x = rw (eq_self a) (rw (eq_self b) (rw (eq_self c) refl))
+
+pub put3_else : {X : Type 0} (f : ℕ → ℕ → ℕ → X) (a b c : ℕ) (x : X) (i j k : ℕ) → ¬ ((i ≡ a) × (j ≡ b) × (k ≡ c)) → put3 f a b c x i j k ≡ f i j k
+unfolding put3
+put3_else f a b c x i j k apart =
+    dite (ℕ_discrete i a)
+    (λ p. dite (ℕ_discrete j b)
+    (λ q. dite (ℕ_discrete k c) (λ r. absurd (apart (p, q, r))) (λ r. rw (eq-eqb i a p) (rw (eq-eqb j b q) (rw (ne_eqb k c r) (λ t. f (sym p t) (sym q t) k)))))
+    (λ q. rw (eq-eqb i a p) (rw (ne_eqb j b q) (λ t. f (sym p t) j k))))
+    (λ p. rw (ne_eqb i a p) refl)
+
+-- An owned block that the step doesn't concern
+pub owned_else : (z : Numbers) (g g' : World) (id : ℕ) (doing doing' : Option Work) (cleared wiped b : ℕ) (o : Owned) → g'.pins b ≡ g.pins b → g'.owner b ≡ g.owner b
+    → ((p i : ℕ) → g'.pages b p i ≡ g.pages b p i) → ((s : ℕ) (m : MapWord) → g'.map s ≡ Some m → m.block ≡ b → (g.map s ≡ Some m) ⊎ (g.owner b ≢ id))
+    → ((p : ℕ) → o.written ≤ p → IsFilling doing b p → IsFilling doing' b p)
+    → LawfulOwned z g id doing cleared wiped b o → LawfulOwned z g' id doing' cleared wiped b o
+owned_else z g g' id doing doing' cleared wiped b o pin owner pages named filling h =
+    record {
+      block = h.block;
+      low = h.low;
+      owner = owner ∙ h.owner;
+      owned = h.owned;
+      phase = ap (λ (p : PinWord). p.phase) pin ∙ h.phase;
+      generation = ap (λ (p : PinWord). p.generation) pin ∙ h.generation;
+      written = ap (λ (p : PinWord). p.written) pin ∙ h.written;
+      rest = λ opened p from below not i most. pages p i ∙ h.rest opened p from below (λ f. not (filling p from f)) i most;
+      dead = λ victim p s low in_range is. ⊎_elim (λ (t : g.map s ≡ _). h.dead victim p s low in_range t) (λ (t : g.owner b ≢ id). t h.owner) (named s _ is refl);
+      clean = λ erasing p i low most below. pages p i ∙ h.clean erasing p i low most below;
+    }

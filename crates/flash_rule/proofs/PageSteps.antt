@@ -1,0 +1,260 @@
+-- Steps on page words: put and get.
+use Rattle.std.proofs.Common.{◌≡◌, ◌≢◌, ℕ, zero, suc, ◌<◌, ◌≤◌, inl, inr, ⊎_elim, eq-eqb, ne_eqb, true, false, List, [], ◌∷◌, ◌++◌, Option, None, Some, length, set, sym, refl, ap, ◌∙◌, subst, arith, length-append}
+use Rattle.std.proofs.Math.ListN.{get_or}
+use mathlib.Core.Option.{some}
+use mathlib.Core.Logic.{dite}
+use native.Mathlib.Decide.{ℕ_discrete}
+use lib.ListN.{get_elem?}
+use Rattle.geometry.proofs.Histories.{Begins-refl}
+use Rattle.geometry.specs.Limits.{Numbers}
+use Rattle.geometry.specs.declared.map_word.MapWord.{MapWord}
+use Rattle.geometry.specs.declared.pin_word.PinWord.{PinWord}
+use Rattle.geometry.specs.declared.pin_word.Phase.TheVariants.{Free, Open, Closed, Victim, Drained, Erasing, Retired}
+use Rattle.geometry.specs.declared.pin_word.Phase.{Phase}
+use Rattle.flash_rule.specs.declared.facts.Pin.{Pin}
+use Rattle.flash_rule.specs.declared.facts.Owned.{Owned}
+use Rattle.flash_rule.specs.declared.facts.Pin.TheVariants.{Candidate, Accepted}
+use Rattle.flash_rule.specs.declared.facts.Work.{Work}
+use Rattle.flash_rule.specs.declared.view.View.{View}
+use Rattle.flash_rule.specs.Views.{is_player, owned_at}
+use Rattle.flash_rule.specs.World.{World, put_word, is_intact, is_still, is_early, data_word}
+use Rattle.flash_rule.specs.Rule.{IsFilling, LawfulOwned, LawfulWork, LawfulView, Lawful, IsEarly, LawfulPin}
+use Rattle.flash_rule.specs.Onward.{Onward}
+use Rattle.flash_rule.specs.Plays.{next_page, words_in, SettledBut}
+use Rattle.flash_rule.proofs.Points.{eq_self}
+use Rattle.flash_rule.proofs.Owning.{some_same}
+use Rattle.flash_rule.proofs.Frames.{counted, knowledge_kept}
+use Rattle.flash_rule.proofs.Assembly.{assembled, block_kept, sector_kept}
+use Rattle.flash_rule.proofs.Still.{pin_stays}
+
+pub word_here : (f : ℕ → ℕ → ℕ → ℕ) (b p i x : ℕ) → put_word f b p i x b p i ≡ x
+word_here f b p i x = rw (eq_self b) (rw (eq_self p) (rw (eq_self i) refl))
+
+pub word_else : (f : ℕ → ℕ → ℕ → ℕ) (b p i x c q j : ℕ) → ¬ ((c ≡ b) × (q ≡ p) × (j ≡ i)) → put_word f b p i x c q j ≡ f c q j
+word_else f b p i x c q j apart =
+    dite (ℕ_discrete c b)
+    (λ k. dite (ℕ_discrete q p)
+    (λ l. dite (ℕ_discrete j i) (λ m. absurd (apart (k, l, m))) (λ m. rw (eq-eqb c b k) (rw (eq-eqb q p l) (rw (ne_eqb j i m) (λ t. f (sym k t) (sym l t) j)))))
+    (λ l. rw (eq-eqb c b k) (rw (ne_eqb q p l) (λ t. f (sym k t) q j))))
+    (λ k. rw (ne_eqb c b k) refl)
+
+get_front : (xs ys : List ℕ) (k : ℕ) → k < length xs → get_or (xs ++ ys) k 0 ≡ get_or xs k 0
+get_front [] ys k low = absurd (omega arith)
+get_front (x ∷ xs) ys zero low = refl
+get_front (x ∷ xs) ys (suc k) low = get_front xs ys k (omega arith)
+
+get_end : (xs : List ℕ) (y k : ℕ) → k ≡ length xs → get_or (xs ++ y ∷ []) k 0 ≡ y
+get_end [] y zero is = refl
+get_end [] y (suc k) is = absurd (omega arith)
+get_end (x ∷ xs) y zero is = absurd (omega arith)
+get_end (x ∷ xs) y (suc k) is = get_end xs y k (omega arith)
+
+-- the words put so far into the next page stand in it
+words_stand : (z : Numbers) (g : World) (owns : List Owned) (doing : Option Work) (o : Owned) → ((w : Work) → doing ≡ Some w → LawfulWork z g owns w) → (j : ℕ) → j < length (words_in doing o)
+    → g.pages o.block o.written j ≡ get_or (words_in doing o) j 0
+words_stand z g owns None o lawful j low = absurd (omega arith)
+words_stand z g owns (Some w) o lawful j low =
+    dite (ℕ_discrete w.page.block o.block)
+    (λ b. dite (ℕ_discrete w.page.page o.written)
+    (λ p.
+    let here : words_in (Some w) o ≡ w.words = rw (eq-eqb w.page.block o.block b) (rw (eq-eqb w.page.page o.written p) refl) in
+    let within : j < length w.words = subst (λ (l : List ℕ). j < length l) here low in
+    ap (λ c. g.pages c o.written j) (sym b) ∙ (ap (λ c. g.pages w.page.block c j) (sym p) ∙ ((lawful w refl).stands j within ∙ ap (λ (l : List ℕ). get_or l j 0) (sym here))))
+    (λ p. let none : words_in (Some w) o ≡ [] = rw (eq-eqb w.page.block o.block b) (rw (ne_eqb w.page.page o.written p) refl) in absurd (nothing j (subst (λ (l : List ℕ). j < length l) none low))))
+    (λ b. let none : words_in (Some w) o ≡ [] = rw (ne_eqb w.page.block o.block b) refl in absurd (nothing j (subst (λ (l : List ℕ). j < length l) none low)))
+  where
+    nothing : (j : ℕ) → j < 0 → ⊥
+    nothing j low = omega arith
+
+module _ (z : Numbers) (g : World) (vs : List View) (id : ℕ) (v : View) (o : Owned) (x : ℕ) (law : Lawful z g vs) (at : get_elem? vs id ≡ some v) (player : is_player v.role ≡ true) (own : owned_at o.block v.owns ≡ Some o) (opened : o.phase ≡ Open) where
+  abbrev pub put_at : ℕ
+  put_at = length (words_in v.work o)
+
+  abbrev pub put_work : Work
+  put_work = record { page = next_page o; words = words_in v.work o ++ x ∷ [] }
+
+  abbrev pub putter : View
+  putter = record v { work = Some put_work }
+
+  abbrev pub put_world : World
+  put_world = record g { pages = put_word g.pages o.block o.written put_at x }
+
+  entry : LawfulOwned z g id v.work v.cleared v.wiped o.block o
+  entry = (law.views id v at).holding.owned o.block o own
+
+  pub puts_word : o.written < z.pages → put_at ≤ z.words → SettledBut v o.block → Lawful z put_world (set vs id putter)
+  puts_word room short settled =
+      let h = law.views id v at in
+      let b = o.block in
+      let p = o.written in
+      let i = put_at in
+      let g' = put_world in
+      let kind = h.kind in
+      let holds = h.holding in
+      let mine = entry in
+      let phase_is : (g.pins b).phase ≡ Open = mine.phase ∙ opened in
+      let else_block : (c q j : ℕ) → c ≢ b → g'.pages c q j ≡ g.pages c q j = λ c q j unlike. word_else g.pages b p i x c q j (λ same. unlike same.0) in
+      let else_page : (c q j : ℕ) → q ≢ p → g'.pages c q j ≡ g.pages c q j = λ c q j unlike. word_else g.pages b p i x c q j (λ same. unlike same.1) in
+      let programmed_stays : (c q j : ℕ) → q < (g.pins c).written → g'.pages c q j ≡ g.pages c q j = λ c q j low.
+      word_else g.pages b p i x c q j (λ same. let P : ℕ → Type 0 = λ c. q < (g.pins c).written in let l : q < (g.pins b).written = subst P same.0 low in let w = mine.written in let e = same.1 in absurd (omega arith)) in
+      let on : Onward z g g' id id = record {
+        history = Begins-refl g.history;
+        calls = λ t _. refl;
+        seat = λ n dealt. (refl, dealt);
+        pins = λ c _. pin_stays (g.pins c);
+        owned = λ c low other owned. record { owner = refl; phase = refl; generation = refl; written = refl; pages = λ q j. else_block c q j (λ same. other (ap g.owner same ∙ mine.owner)) };
+        pages = λ c q j _ _ low. programmed_stays c q j low;
+        named = λ s m is. inl is;
+        programmer = λ m _. refl;
+        eraser = λ c n _. refl;
+        dealer = λ _. (refl, refl);
+        badge = λ n _ _ _. refl;
+      } in
+      let knows = knowledge_kept z g g' id id on v (λ c is below. counted vs law id v at c is below) h.knowledge in
+      let not_filling : (c q : ℕ) (e : Owned) → owned_at c v.owns ≡ Some e → c ≢ b → e.written ≤ q → IsFilling v.work c q → ⊥ = λ c q e owns unlike from f.
+      let P : ℕ → Type 0 = λ c. owned_at c v.owns ≡ Some e in
+      let s = settled f.work e f.is (subst P (sym f.block) owns) (λ same. unlike (sym f.block ∙ same)) in
+      let l = f.page in absurd (omega arith) in
+      let not_filling_later : (q : ℕ) → p ≤ q → q ≢ p → IsFilling v.work b q → ⊥ = λ q from later f.
+      let k = holds.work f.work f.is in
+      let P : ℕ → Type 0 = λ c. owned_at c v.owns ≡ Some o in
+      let same : k.entry ≡ o = some_same k.entry o (sym k.own ∙ subst P (sym f.block) own) in
+      let e : k.entry.written ≡ o.written = ap (λ (y : Owned). y.written) same in
+      let l = f.page in
+      ⊎_elim (λ (t : f.work.page.page < k.entry.written). absurd (omega arith)) (λ (t : f.work.page.page ≡ k.entry.written). absurd (later (omega arith))) k.counted in
+      let now : LawfulOwned z g' id (Some put_work) v.cleared v.wiped b o = record {
+        block = mine.block;
+        low = mine.low;
+        owner = mine.owner;
+        owned = mine.owned;
+        phase = mine.phase;
+        generation = mine.generation;
+        written = mine.written;
+        rest = λ is q from below not.
+            let later : q ≢ p = λ same. not (record { work = put_work; is = refl; block = refl; page = sym same }) in
+            λ j most. else_page b q j later ∙ mine.rest is q from below (λ f. not_filling_later q from later f) j most;
+        dead = mine.dead;
+        clean = λ is. let e : Open ≡ Erasing = sym opened ∙ is in absurd (cc);
+      } in
+      let after : LawfulView z g' id putter = record {
+        kind = record {
+          numbers = kind.numbers;
+          known = kind.known;
+          opens = kind.opens;
+          unpinned = kind.unpinned;
+          idle = λ is. let no : true ≡ false = sym player ∙ is in absurd (cc);
+          owns_none = kind.owns_none;
+        };
+        knowledge = record { seen = knows.seen; pin = knows.pin; known = knows.known; programs = knows.programs; erases = knows.erases; copy = knows.copy };
+        holding = record {
+          name = holds.name;
+          calls = holds.calls;
+          owned = λ c e owns. dite (ℕ_discrete c b)
+              (λ same.
+              let P : ℕ → Type 0 = λ c. owned_at c v.owns ≡ Some e in
+              let same_entry : o ≡ e = some_same o e (sym own ∙ subst P same owns) in
+              let Q : ℕ × Owned → Type 0 = λ y. LawfulOwned z g' id (Some put_work) v.cleared v.wiped y.0 y.1 in subst Q (λ t. (sym same t, same_entry t)) now)
+              (λ unlike.
+              let k = holds.owned c e owns in
+              record {
+                block = k.block;
+                low = k.low;
+                owner = k.owner;
+                owned = k.owned;
+                phase = k.phase;
+                generation = k.generation;
+                written = k.written;
+                rest = λ is q from below _ j most. else_block c q j unlike ∙ k.rest is q from below (λ f. not_filling c q e owns unlike from f) j most;
+                dead = k.dead;
+                clean = λ is q j low most below. else_block c q j unlike ∙ k.clean is q j low most below;
+              });
+          work = λ y is.
+              let same : put_work ≡ y = some_same put_work y is in
+              subst (λ (y : Work). LawfulWork z g' v.owns y) same
+              (record {
+                entry = o;
+                own = own;
+                opened = opened;
+                generation = refl;
+                page = room;
+                counted = inr refl;
+                short = (let l = length-append (words_in v.work o) (x ∷ []) in omega arith);
+                full = λ low. absurd (omega arith);
+                stands = λ j low. dite (ℕ_discrete j i)
+                    (λ last. ap (λ k. put_word g.pages b p i x b p k) last ∙ (word_here g.pages b p i x ∙ sym (get_end (words_in v.work o) x j last)))
+                    (λ other.
+                    let l = length-append (words_in v.work o) (x ∷ []) in
+                    let within : j < length (words_in v.work o) = omega arith in
+                    word_else g.pages b p i x b p j (λ same. other same.2)
+                    ∙ (words_stand z g v.owns v.work o holds.work j within ∙ sym (get_front (words_in v.work o) (x ∷ []) j within)));
+              });
+          source = λ y is.
+              let k = holds.source y is in
+              let unlike : y.page.block ≢ b = λ same.
+              let P : ℕ → Type 0 = λ c. owned_at c v.owns ≡ Some k.entry in
+              let e : o ≡ k.entry = some_same o k.entry (sym own ∙ subst P same k.own) in
+              let f : Open ≡ Victim = sym opened ∙ (ap (λ (x : Owned). x.phase) e ∙ k.victim) in absurd (cc) in
+              record {
+                entry = k.entry;
+                own = k.own;
+                victim = k.victim;
+                generation = k.generation;
+                page = k.page;
+                written = k.written;
+                stamp = else_block y.page.block y.page.page z.words unlike ∙ k.stamp;
+                value = λ value is. let t = k.value value is in ((λ j low. else_block y.page.block y.page.page j unlike ∙ t.0 j low), t.1);
+              };
+          whole = holds.whole;
+          guest = holds.guest;
+          dealer = holds.dealer;
+        };
+      } in
+      assembled z g g' vs id v putter law at on after
+      (λ s low. sector_kept z g g' s (law.sectors s low) refl refl (λ c below named. (refl, named, omega arith, λ q j written. programmed_stays c q j written)))
+      (λ c low. dite (ℕ_discrete c b)
+      (λ same.
+      let block = law.blocks c low in
+      let k = block_kept z g g vs id v putter c at block refl refl (λ q j. refl) refl (λ e is. (e, is)) in
+      record {
+        readers = k.readers;
+        written = k.written;
+        generation = k.generation;
+        free = k.free;
+        rest = λ is. let e : false ≡ true = sym (ap (λ j. is_still (g.pins j).phase) same ∙ ap is_still phase_is) ∙ is in absurd (cc);
+        owner = k.owner;
+      })
+      (λ unlike. block_kept z g g' vs id v putter c at (law.blocks c low) refl refl (λ q j. else_block c q j unlike) refl (λ e is. (e, is))))
+      law.strangers refl law.dealt
+
+-- ---- get
+early_intact : (p : PinWord) → is_early p.phase ≡ true → ¬ (p.phase ≡ Free) → is_intact p.phase ≡ true
+early_intact p early taken = by_phase p.phase early taken where
+  by_phase : (f : Phase) → is_early f ≡ true → ¬ (f ≡ Free) → is_intact f ≡ true
+  by_phase Free early taken = absurd (taken refl)
+  by_phase Open early taken = refl
+  by_phase Closed early taken = refl
+  by_phase Victim early taken = absurd (cc)
+  by_phase Drained early taken = absurd (cc)
+  by_phase Erasing early taken = absurd (cc)
+  by_phase Retired early taken = absurd (cc)
+
+-- before anything is erased, a candidate's page is what it was at the look
+pub gets_candidate : (z : Numbers) (g : World) (vs : List View) (id : ℕ) (v : View) (m : MapWord) (value : List ℕ) → Lawful z g vs → get_elem? vs id ≡ some v → IsEarly z g → v.pin ≡ Candidate m value
+    → (m.block < z.blocks) × (m.page < z.pages) × ((i : ℕ) → i < z.words → g.pages m.block m.page i ≡ data_word value i)
+gets_candidate z g vs id v m value law at early is =
+    let c = subst (λ (p : Pin). LawfulPin z g v.known p) is (law.views id v at).knowledge.pin in
+    let generation = early.generation m.block c.block in
+    let reached = c.reached in
+    let same : (g.pins m.block).generation ≡ m.generation = omega arith in
+    let phase = early_intact (g.pins m.block) (early.phase m.block c.block) (c.taken same) in
+    let k = c.page (record { same = same; phase = phase }) in
+    let low = k.0 in
+    let most = (law.blocks m.block c.block).written in (c.block, omega arith, k.1)
+
+-- an accepted pin's page is what it was at the look
+pub gets_accepted : (z : Numbers) (g : World) (vs : List View) (id : ℕ) (v : View) (m : MapWord) (value : List ℕ) → Lawful z g vs → get_elem? vs id ≡ some v → v.pin ≡ Accepted m value
+    → (m.block < z.blocks) × (m.page < z.pages) × ((i : ℕ) → i < z.words → g.pages m.block m.page i ≡ data_word value i)
+gets_accepted z g vs id v m value law at is =
+    let c = subst (λ (p : Pin). LawfulPin z g v.known p) is (law.views id v at).knowledge.pin in
+    let low = c.written in
+    let most = (law.blocks m.block c.block).written in (c.block, omega arith, c.stands)

@@ -1,0 +1,246 @@
+-- Steps that change one pin word: take, count, close.
+use Rattle.std.proofs.Common.{◌≡◌, ◌≢◌, ℕ, zero, suc, ◌+◌, ◌<◌, ◌≤◌, inl, true, false, List, [], ◌∷◌, ◌++◌, Option, Some, set, sym, refl, ap, ◌∙◌, subst, arith}
+use mathlib.Core.Option.{some, some-ne-none}
+use mathlib.Core.Logic.{dite}
+use native.Mathlib.Decide.{ℕ_discrete}
+use lib.ListN.{get_elem?}
+use Rattle.geometry.specs.Limits.{Numbers}
+use Rattle.geometry.proofs.Histories.{Begins-refl}
+use Rattle.geometry.specs.declared.map_word.MapWord.{MapWord}
+use Rattle.geometry.specs.declared.pin_word.PinWord.{PinWord}
+use Rattle.geometry.specs.declared.pin_word.Phase.{Phase}
+use Rattle.geometry.specs.declared.pin_word.Phase.TheVariants.{Free, Open}
+use Rattle.flash_rule.specs.declared.facts.Owned.{Owned}
+use Rattle.flash_rule.specs.declared.facts.Name.{Name}
+use Rattle.flash_rule.specs.declared.facts.Role.{Role}
+use Rattle.flash_rule.specs.declared.facts.Role.TheVariants.{Dealer, Player, Note, Gone}
+use Rattle.flash_rule.specs.declared.facts.Work.{Work}
+use Rattle.flash_rule.specs.declared.view.View.{View}
+use Rattle.flash_rule.specs.Views.{is_pass, may_own, pins_on, weight, owned_at, with_owned}
+use Rattle.flash_rule.specs.World.{World, put, is_owned, is_intact, is_nameable, is_still, half_cycle}
+use Rattle.flash_rule.specs.Rule.{IsProgrammed, IsFilling, LawfulBlock, LawfulOwned, LawfulView, Lawful}
+use Rattle.flash_rule.specs.Onward.{PinOnward, Untouched, Onward}
+use Rattle.flash_rule.proofs.Points.{put_here, put_else, put_all, total_set}
+use Rattle.flash_rule.proofs.Owning.{some_same, with_here, with_else, owned_else}
+use Rattle.flash_rule.proofs.Frames.{counted, knowledge_kept}
+use Rattle.flash_rule.proofs.Assembly.{assembled, block_kept, sector_kept}
+use Rattle.flash_rule.proofs.Still.{pin_stays, still}
+
+pub seat_set : (vs : List View) (id : ℕ) (v w : View) → get_elem? vs id ≡ some v → get_elem? (set vs id w) id ≡ some w
+seat_set [] id v w at = absurd (some-ne-none v (sym at))
+seat_set (x ∷ xs) zero v w at = refl
+seat_set (x ∷ xs) (suc id) v w at = seat_set xs id v w at
+
+-- the table with one block's state, its owner and the programmers changed
+abbrev pub moved : World → ℕ → PinWord → ℕ → (ℕ → ℕ → ℕ → Option (Name × ℕ)) → World
+moved g b q owner programmer = record g { pins = put g.pins b q; owner = put g.owner b owner; programmer = programmer }
+
+-- ONE PIN WORD CHANGES. The new state is onward of the old one, and as it was but for readers if another seat owns the block
+pub pin_moves : (z : Numbers) (g : World) (id b : ℕ) (q : PinWord) (owner : ℕ) (programmer : ℕ → ℕ → ℕ → Option (Name × ℕ)) → PinOnward (g.pins b) q
+    → (g.owner b ≢ id → is_owned (g.pins b).phase ≡ true → (owner ≡ g.owner b) × (q.phase ≡ (g.pins b).phase) × (q.generation ≡ (g.pins b).generation) × (q.written ≡ (g.pins b).written))
+    → ((m : MapWord) → IsProgrammed (g.pins m.block) m → programmer m.block m.page m.generation ≡ g.programmer m.block m.page m.generation)
+    → Onward z g (moved g b q owner programmer) id id
+pin_moves z g id b q owner programmer on mine listed =
+    record {
+      history = Begins-refl g.history;
+      calls = λ t _. refl;
+      seat = λ n dealt. (refl, dealt);
+      pins = λ c _. put_all g.pins b q (λ c p. PinOnward (g.pins c) p) on (λ c _. pin_stays (g.pins c)) c;
+      owned = λ c low other owned. dite (ℕ_discrete c b)
+          (λ same.
+          let other' : g.owner b ≢ id = λ e. other (ap g.owner same ∙ e) in
+          let owned' : is_owned (g.pins b).phase ≡ true = ap (λ j. is_owned (g.pins j).phase) (sym same) ∙ owned in
+          let m = mine other' owned' in
+          let here : put g.pins b q b ≡ q = put_here g.pins b q in
+          let untouched : Untouched g (moved g b q owner programmer) b = record {
+            owner = put_here g.owner b owner ∙ m.0;
+            phase = ap (λ (p : PinWord). p.phase) here ∙ m.1;
+            generation = ap (λ (p : PinWord). p.generation) here ∙ m.2;
+            written = ap (λ (p : PinWord). p.written) here ∙ m.3;
+            pages = λ p i. refl;
+          } in
+          subst (λ j. Untouched g (moved g b q owner programmer) j) (sym same) untouched)
+          (λ unlike.
+          let here = put_else g.pins b q c unlike in
+          record {
+            owner = put_else g.owner b owner c unlike;
+            phase = ap (λ (p : PinWord). p.phase) here;
+            generation = ap (λ (p : PinWord). p.generation) here;
+            written = ap (λ (p : PinWord). p.written) here;
+            pages = λ p i. refl;
+          });
+      pages = λ c p i _ _ _. refl;
+      named = λ s m is. inl is;
+      programmer = listed;
+      eraser = λ c n _. refl;
+      dealer = λ _. (refl, refl);
+      badge = λ n _ _ _. refl;
+    }
+
+module _ (z : Numbers) (g : World) (vs : List View) (id : ℕ) (v w : View) (b : ℕ) (q : PinWord) (owner : ℕ) (programmer : ℕ → ℕ → ℕ → Option (Name × ℕ)) (law : Lawful z g vs) (at : get_elem? vs id ≡ some v) where
+  -- the rule after a change of one pin word
+  pub pin_moved : Onward z g (moved g b q owner programmer) id id → LawfulView z (moved g b q owner programmer) id w
+      → (is_nameable (g.pins b).phase ≡ true → (q.generation ≡ (g.pins b).generation) × (is_nameable q.phase ≡ true) × ((g.pins b).written ≤ q.written))
+      → LawfulBlock z (moved g b q owner programmer) (set vs id w) b
+      → ((c : ℕ) → c ≢ b → pins_on c w ≡ pins_on c v) → ((c : ℕ) → c ≢ b → (o : Owned) → owned_at c v.owns ≡ Some o → (o' : Owned) × (owned_at c w.owns ≡ Some o'))
+      → weight z w ≡ weight z v → Lawful z (moved g b q owner programmer) (set vs id w)
+  pin_moved on own nameable here counted keeps weighs =
+      let g' = moved g b q owner programmer in
+      assembled z g g' vs id v w law at on own
+      (λ s low. sector_kept z g g' s (law.sectors s low) refl refl (λ c below named.
+      dite (ℕ_discrete c b)
+      (λ same.
+      let P : ℕ → Type 0 = λ j. (((put g.pins b q) j).generation ≡ (g.pins j).generation) × (is_nameable ((put g.pins b q) j).phase ≡ true) × ((g.pins j).written ≤ ((put g.pins b q) j).written)
+      × ((p i : ℕ) → p < (g.pins j).written → g.pages j p i ≡ g.pages j p i) in
+      let n = nameable (ap (λ j. is_nameable (g.pins j).phase) (sym same) ∙ named) in
+      let is = sym (put_here g.pins b q) in
+      let there : P b = subst (λ (x : PinWord). (x.generation ≡ (g.pins b).generation) × (is_nameable x.phase ≡ true) × ((g.pins b).written ≤ x.written) × ((p i : ℕ) → p < (g.pins b).written → g.pages b p i ≡ g.pages b p i)) is (n.0, n.1, n.2, λ p i _. refl) in
+      subst P (sym same) there)
+      (λ unlike.
+      let e = put_else g.pins b q c unlike in
+      (ap (λ (p : PinWord). p.generation) e, ap (λ (p : PinWord). is_nameable p.phase) e ∙ named, (let w = ap (λ (p : PinWord). p.written) e in omega arith), λ p i _. refl))))
+      (λ c low. dite (ℕ_discrete c b)
+      (λ same. subst (λ j. LawfulBlock z g' (set vs id w) j) (sym same) here)
+      (λ unlike. block_kept z g g' vs id v w c at (law.blocks c low) (put_else g.pins b q c unlike) (put_else g.owner b owner c unlike) (λ p i. refl) (counted c unlike) (keeps c unlike)))
+      law.strangers weighs law.dealt
+
+  -- an owned block other than the one that changes
+  pub moved_else : (doing doing' : Option Work) (cleared wiped c : ℕ) (o : Owned) → c ≢ b → ((p : ℕ) → o.written ≤ p → IsFilling doing c p → IsFilling doing' c p)
+      → LawfulOwned z g id doing cleared wiped c o → LawfulOwned z (moved g b q owner programmer) id doing' cleared wiped c o
+  moved_else doing doing' cleared wiped c o unlike filling h =
+      owned_else z g (moved g b q owner programmer) id doing doing' cleared wiped c o (put_else g.pins b q c unlike) (put_else g.owner b owner c unlike) (λ p i. refl) (λ s m is _. inl is) filling h
+
+-- ---- take
+free_not : (f : Phase) → f ≡ Free → is_owned f ≡ true → ⊥
+free_not f free is = let e : is_owned f ≡ false = ap is_owned free in let no : true ≡ false = sym is ∙ e in absurd (cc)
+
+module _ (z : Numbers) (g : World) (vs : List View) (id : ℕ) (v : View) (b : ℕ) (law : Lawful z g vs) (at : get_elem? vs id ≡ some v) (pass : is_pass v.role ≡ true) (low : b < z.blocks) where
+  abbrev pub newly_owned : Owned
+  newly_owned = record { block = b; phase = Open; generation = (g.pins b).generation; written = 0 }
+
+  abbrev pub taken_state : PinWord
+  taken_state = record (g.pins b) { phase = Open }
+
+  abbrev pub taker : View
+  taker = record v { taken = v.taken + 1; owns = with_owned newly_owned v.owns }
+
+  abbrev pub taken : World
+  taken = moved g b taken_state id g.programmer
+
+  -- a block that was found free is the pass's
+  pub takes : (g.pins b).phase ≡ Free → Lawful z taken (set vs id taker)
+  takes free =
+      let h = law.views id v at in
+      let kind = h.kind in
+      let holds = h.holding in
+      let block = law.blocks b low in
+      let is_free : is_owned (g.pins b).phase ≡ false = ap is_owned free in
+      let not_owned : is_owned (g.pins b).phase ≡ true → ⊥ = λ is. free_not (g.pins b).phase free is in
+      let here : put g.pins b taken_state b ≡ taken_state = put_here g.pins b taken_state in
+      let not_mine : (c : ℕ) (o : Owned) → owned_at c v.owns ≡ Some o → c ≢ b = λ c o is same.
+      let k = holds.owned c o is in not_owned (ap (λ j. is_owned (g.pins j).phase) (sym same) ∙ (ap is_owned k.phase ∙ k.owned)) in
+      let on : Onward z g taken id id = pin_moves z g id b taken_state id g.programmer
+      (record {
+        generation = omega arith;
+        age = (let e : half_cycle (g.pins b).phase ≡ 0 = ap half_cycle free in omega arith);
+        written = λ _. omega arith;
+        held = λ _ intact. let no : true ≡ false = sym intact ∙ ap is_intact free in absurd (cc);
+        was = λ _ _ not. absurd (not free);
+        free = λ _ is. absurd (cc);
+      })
+      (λ _ is. absurd (not_owned is)) (λ m _. refl) in
+      let knows = knowledge_kept z g taken id id on v (λ c is below. counted vs law id v at c is below) h.knowledge in
+      let fresh : LawfulOwned z taken id v.work v.cleared v.wiped b newly_owned = record {
+        block = refl;
+        low = low;
+        owner = put_here g.owner b id;
+        owned = refl;
+        phase = ap (λ (p : PinWord). p.phase) here;
+        generation = ap (λ (p : PinWord). p.generation) here;
+        written = ap (λ (p : PinWord). p.written) here ∙ block.free free;
+        rest = λ _ p from below _. block.rest (ap is_still free) p (let e = block.free free in omega arith) below;
+        dead = λ is. absurd (cc);
+        clean = λ is. absurd (cc);
+      } in
+      let own : LawfulView z taken id taker = record {
+        kind = record {
+          numbers = kind.numbers;
+          known = kind.known;
+          opens = λ is c o owns. dite (ℕ_discrete c b)
+              (λ same. let e : newly_owned ≡ o = some_same newly_owned o (sym (with_here newly_owned v.owns) ∙ (ap (λ j. owned_at j (with_owned newly_owned v.owns)) (sym same) ∙ owns)) in sym (ap (λ (x : Owned). x.phase) e))
+              (λ unlike. kind.opens is c o (sym (with_else newly_owned c v.owns unlike) ∙ owns));
+          unpinned = kind.unpinned;
+          idle = kind.idle;
+          owns_none = λ is. let no : true ≡ false = sym (pass_may_own v.role pass) ∙ is in absurd (cc);
+        };
+        knowledge = record { seen = knows.seen; pin = knows.pin; known = knows.known; programs = knows.programs; erases = knows.erases; copy = knows.copy };
+        holding = record {
+          name = holds.name;
+          calls = holds.calls;
+          owned = λ c o owns. dite (ℕ_discrete c b)
+              (λ same.
+              let e : newly_owned ≡ o = some_same newly_owned o (sym (with_here newly_owned v.owns) ∙ (ap (λ j. owned_at j (with_owned newly_owned v.owns)) (sym same) ∙ owns)) in
+              let P : ℕ × Owned → Type 0 = λ x. LawfulOwned z taken id v.work v.cleared v.wiped x.0 x.1 in subst P (λ i. (sym same i, e i)) fresh)
+              (λ unlike. moved_else z g vs id v taker b taken_state id g.programmer law at v.work v.work v.cleared v.wiped c o unlike (λ p _ f. f) (holds.owned c o (sym (with_else newly_owned c v.owns unlike) ∙ owns)));
+          work = λ x is.
+              let k = holds.work x is in
+              record {
+                entry = k.entry;
+                own = with_else newly_owned x.page.block v.owns (not_mine x.page.block k.entry k.own) ∙ k.own;
+                opened = k.opened;
+                generation = k.generation;
+                page = k.page;
+                counted = k.counted;
+                short = k.short;
+                full = k.full;
+                stands = k.stands;
+              };
+          source = λ x is.
+              let k = holds.source x is in
+              record {
+                entry = k.entry;
+                own = with_else newly_owned x.page.block v.owns (not_mine x.page.block k.entry k.own) ∙ k.own;
+                victim = k.victim;
+                generation = k.generation;
+                page = k.page;
+                written = k.written;
+                stamp = k.stamp;
+                value = k.value;
+              };
+          whole = holds.whole;
+          guest = holds.guest;
+          dealer = holds.dealer;
+        };
+      } in
+      pin_moved z g vs id v taker b taken_state id g.programmer law at on own
+      (λ named. let no : true ≡ false = sym named ∙ ap is_nameable free in absurd (cc))
+      (record {
+        readers = (let e : (put g.pins b taken_state b).readers ≡ (g.pins b).readers = ap (λ (p : PinWord). p.readers) here in let r = block.readers in let t = total_set (pins_on b) vs id v taker at in omega arith);
+        written = (let e : (put g.pins b taken_state b).written ≡ (g.pins b).written = ap (λ (p : PinWord). p.written) here in let r = block.written in omega arith);
+        generation = (let e : (put g.pins b taken_state b).generation ≡ (g.pins b).generation = ap (λ (p : PinWord). p.generation) here in let r = block.generation in omega arith);
+        free = λ is. let e : Open ≡ Free = sym (ap (λ (p : PinWord). p.phase) here) ∙ is in absurd (cc);
+        rest = λ is. let e : is_still Open ≡ true = sym (ap (λ (p : PinWord). is_still p.phase) here) ∙ is in absurd (cc);
+        owner = λ _. (taker, newly_owned, ap (λ j. get_elem? (set vs id taker) j) (put_here g.owner b id) ∙ seat_set vs id v taker at, with_here newly_owned v.owns);
+      })
+      (λ c _. refl) (λ c unlike o is. (o, with_else newly_owned c v.owns unlike ∙ is)) refl
+    where
+      pass_may_own : (r : Role) → is_pass r ≡ true → may_own r ≡ true
+      pass_may_own (Player n) is = refl
+      pass_may_own Dealer is = refl
+      pass_may_own Note is = absurd (cc)
+      pass_may_own Gone is = absurd (cc)
+
+  -- and another one stays as it was
+  pub denied : Lawful z g (set vs id (record v { denied = v.denied ++ b ∷ [] }))
+  denied =
+      let h = law.views id v at in
+      let kind = h.kind in
+      let knows = h.knowledge in
+      let holds = h.holding in
+      still z g vs id v (record v { denied = v.denied ++ b ∷ [] }) law at
+      (record {
+        kind = record { numbers = kind.numbers; known = kind.known; opens = kind.opens; unpinned = kind.unpinned; idle = kind.idle; owns_none = kind.owns_none };
+        knowledge = record { seen = knows.seen; pin = knows.pin; known = knows.known; programs = knows.programs; erases = knows.erases; copy = knows.copy };
+        holding = record { name = holds.name; calls = holds.calls; owned = holds.owned; work = holds.work; source = holds.source; whole = holds.whole; guest = holds.guest; dealer = holds.dealer };
+      })
+      (λ c. refl) refl refl

@@ -1,0 +1,240 @@
+-- Seats that are split off another and joined into one: passes dealt, and the moves of notes.
+use Rattle.std.proofs.Common.{◌≡◌, ◌≢◌, ℕ, zero, suc, ◌+◌, ◌-◌, ◌<◌, ◌≤◌, ◌⊎◌, inl, inr, ⊎_elim, ne_eqb, true, false, List, [], ◌∷◌, ◌++◌, Some, length, set, replicate, slice_get, sym, refl, ap, ◌∙◌, subst, arith, length-set}
+use Rattle.std.proofs.lemmas.List.{length-replicate}
+use Rattle.std.proofs.Math.ListN.{get_or}
+use mathlib.Core.Option.{some, some-injective, some-ne-none}
+use lib.ListN.{get_elem?}
+use Rattle.atomic_table.specs.Table.{Splits}
+use Rattle.atomic_table.proofs.Lists.{at_set, at_longer}
+use Rattle.geometry.proofs.Histories.{Begins-refl}
+use Rattle.geometry.specs.Limits.{Numbers}
+use Rattle.geometry.specs.declared.pin_word.PinWord.{PinWord}
+use Rattle.flash_rule.specs.declared.facts.Name.{Name}
+use Rattle.flash_rule.specs.declared.facts.Name.TheVariants.{Pass, Broom}
+use Rattle.flash_rule.specs.declared.facts.Role.TheVariants.{Dealer, Player}
+use Rattle.flash_rule.specs.declared.facts.Owned.{Owned}
+use Rattle.flash_rule.specs.declared.facts.Pin.{Pin}
+use Rattle.flash_rule.specs.declared.facts.Pin.TheVariants.{Clear}
+use Rattle.flash_rule.specs.declared.view.View.{View}
+use Rattle.flash_rule.specs.Views.{one_if, total, is_player, is_live_role, pin_is_on, pins_on, weight, role_weight, owned_at, calls_of, same_name}
+use Rattle.flash_rule.specs.World.{World, put_name, is_owned, is_still, is_nameable}
+use Rattle.geometry.specs.History.{held}
+use Rattle.geometry.specs.declared.pin_word.Phase.TheVariants.{Free}
+use Rattle.flash_rule.specs.Rule.{LawfulSector, LawfulBlock, LawfulView, Lawful, IsDealt}
+use Rattle.flash_rule.specs.Onward.{Onward}
+use Rattle.flash_rule.specs.Seats.{Ruled, new_pass, dealt_pass}
+use Rattle.flash_rule.proofs.Points.{total_set, eq_self}
+use Rattle.flash_rule.proofs.Owning.{none_some}
+use Rattle.flash_rule.proofs.Frames.{counted, others, knowledge_kept}
+use Rattle.flash_rule.proofs.Assembly.{owner_kept, sector_kept}
+use Rattle.flash_rule.proofs.Parts.{PartKept}
+use Rattle.flash_rule.proofs.Still.{pin_stays}
+
+at_end : {X : Type 0} (xs : List X) (x y : X) (j : ℕ) → get_elem? (xs ++ x ∷ []) j ≡ some y → (get_elem? xs j ≡ some y) ⊎ ((j ≡ length xs) × (x ≡ y))
+at_end [] x y zero e = inr (refl, some-injective x y e)
+at_end [] x y (suc j) e = absurd (some-ne-none y (sym e))
+at_end (z ∷ xs) x y zero e = inl e
+at_end (z ∷ xs) x y (suc j) e = ⊎_elim (λ h. inl h) (λ h. inr (ap suc h.0, h.1)) (at_end xs x y j e)
+
+total_end : (f : View → ℕ) (vs : List View) (v : View) → total f (vs ++ v ∷ []) ≡ total f vs + f v
+total_end f [] v = omega arith
+total_end f (x ∷ vs) v = let r = total_end f vs v in omega arith
+
+seat_low : (vs : List View) (id : ℕ) (v : View) → get_elem? vs id ≡ some v → id < length vs
+seat_low [] id v at = absurd (some-ne-none v (sym at))
+seat_low (x ∷ vs) zero v at = omega arith
+seat_low (x ∷ vs) (suc id) v at = let r = seat_low vs id v at in omega arith
+
+-- ---- names
+name_self : (n : Name) → same_name n n ≡ true
+name_self (Pass t) = eq_self t
+name_self (Broom i) = eq_self i
+
+names_apart : (n m : Name) → ¬ (n ≡ m) → same_name n m ≡ false
+names_apart (Pass t) (Pass u) apart = ne_eqb t u (λ e. apart (ap Pass e))
+names_apart (Pass t) (Broom j) apart = refl
+names_apart (Broom i) (Pass u) apart = refl
+names_apart (Broom i) (Broom j) apart = ne_eqb i j (λ e. apart (ap Broom e))
+
+pub name_here : (f : Name → ℕ) (n : Name) (x : ℕ) → put_name f n x n ≡ x
+name_here f n x = rw (name_self n) refl
+
+pub name_else : (f : Name → ℕ) (n : Name) (x : ℕ) (m : Name) → ¬ (m ≡ n) → put_name f n x m ≡ f m
+name_else f n x m apart = rw (names_apart m n apart) refl
+
+pub player_same : (n m : Name) → Player n ≡ Player m → n ≡ m
+player_same n m e = cc
+
+pass_same : (t u : ℕ) → Player (Pass t) ≡ Player (Pass u) → t ≡ u
+pass_same t u e = cc
+
+broom_or_pass : (u t : ℕ) → Pass u ≡ Pass t → u ≡ t
+broom_or_pass u t e = cc
+
+alike : (n b c : ℕ) → get_or (replicate n c) b c ≡ c
+alike zero b c = refl
+alike (suc n) zero c = refl
+alike (suc n) (suc b) c = alike n b c
+
+pub nothing : {X : Type 0} (k : ℕ) (x : X) → slice_get [] k ≡ Some x → ⊥
+nothing zero x e = none_some x e
+nothing (suc k) x e = none_some x e
+
+fresh_name : (g : World) (t : ℕ) → g.passes ≤ t → (m : Name) → IsDealt g m → ¬ (m ≡ Pass t)
+fresh_name g t high (Pass u) low e = let same : u ≡ t = broom_or_pass u t e in absurd (omega arith)
+fresh_name g t high (Broom j) low e = absurd (cc)
+
+dealt_more : (g : World) (f h : Name → ℕ) (m : Name) → IsDealt g m → IsDealt (record g { passes = g.passes + 1; seat = f; badge = h }) m
+dealt_more g f h (Pass u) low = omega arith
+dealt_more g f h (Broom j) low = low
+
+-- a page that a map word may name is named still where map, states, pages and history are the same
+pub current_kept : (z : Numbers) (g g' : World) (s : ℕ) → g'.map ≡ g.map → g'.pins ≡ g.pins → g'.pages ≡ g.pages → g'.history ≡ g.history → LawfulSector z g s → LawfulSector z g' s
+current_kept z g g' s map pins pages history h =
+    sector_kept z g g' s h (ap (λ f. f s) map) (ap (λ l. held z.sectors l s) history)
+    (λ b low named. (
+      ap (λ (f : ℕ → PinWord). (f b).generation) pins,
+      ap (λ (f : ℕ → PinWord). is_nameable (f b).phase) pins ∙ named,
+      (let e : (g'.pins b).written ≡ (g.pins b).written = ap (λ (f : ℕ → PinWord). (f b).written) pins in omega arith),
+      λ p i _. ap (λ f. f b p i) pages,
+    ))
+
+-- ---- a seat is split: nothing of the table changes but who is who
+module _ (z : Numbers) (g g' : World) (vs : List View) (id : ℕ) (v l r : View) (law : Lawful z g vs) (at : get_elem? vs id ≡ some v) (pins : g'.pins ≡ g.pins) (owner : g'.owner ≡ g.owner) (pages : g'.pages ≡ g.pages) where
+  split_block : (b : ℕ) → LawfulBlock z g vs b → pins_on b l ≡ pins_on b v → r.pin ≡ Clear → l.owns ≡ v.owns → LawfulBlock z g' (set vs id l ++ r ∷ []) b
+  split_block b block same clear owns =
+      let t = total_set (pins_on b) vs id v l at in
+      let e = total_end (pins_on b) (set vs id l) r in
+      let none : pins_on b r ≡ 0 = ap (λ (p : Pin). one_if (pin_is_on b p)) clear in
+      let readers = block.readers in
+      let now : LawfulBlock z g (set vs id l ++ r ∷ []) b = record {
+        readers = omega arith;
+        written = block.written;
+        generation = block.generation;
+        free = block.free;
+        rest = block.rest;
+        owner = λ owned.
+            let k = owner_kept z g g vs id v l b at block owned refl (λ o is. (o, ap (λ (x : List Owned). owned_at b x) owns ∙ is)) in
+            (k.0, k.1, at_longer (set vs id l) (r ∷ []) (g.owner b) k.0 k.2, k.3);
+      } in
+      record {
+        readers = ap (λ (f : ℕ → PinWord). (f b).readers) pins ∙ now.readers;
+        written = subst (λ (f : ℕ → PinWord). (f b).written ≤ z.pages) (sym pins) now.written;
+        generation = subst (λ (f : ℕ → PinWord). (f b).generation < z.endurance) (sym pins) now.generation;
+        free = subst (λ (f : ℕ → PinWord). (f b).phase ≡ Free → (f b).written ≡ 0) (sym pins) now.free;
+        rest = λ still p from below i most. ap (λ f. f b p i) pages ∙ now.rest (ap (λ (f : ℕ → PinWord). is_still (f b).phase) (sym pins) ∙ still) p (subst (λ (f : ℕ → PinWord). (f b).written ≤ p) pins from) below i most;
+        owner = λ owned.
+            let k = now.owner (ap (λ (f : ℕ → PinWord). is_owned (f b).phase) (sym pins) ∙ owned) in
+            (k.0, k.1, ap (λ f. get_elem? (set vs id l ++ r ∷ []) (f b)) owner ∙ k.2, k.3);
+      }
+
+  pub split : Onward z g g' id id → g'.map ≡ g.map → g'.history ≡ g.history → LawfulView z g' id l → LawfulView z g' (length vs) r → ((b : ℕ) → pins_on b l ≡ pins_on b v) → r.pin ≡ Clear → l.owns ≡ v.owns
+      → weight z l + weight z r ≡ weight z v → g.passes ≤ g'.passes → g'.passes ≤ z.hosts → ((s : ℕ) → s < z.sectors → LawfulSector z g' s) → Lawful z g' (set vs id l ++ r ∷ [])
+  split on maps history own new same clear owns weighs more dealt sectors =
+      record {
+        limits = law.limits;
+        sectors = sectors;
+        blocks = λ b low. split_block b (law.blocks b low) (same b) clear owns;
+        views = λ j u is.
+            ⊎_elim
+            (λ (old : get_elem? (set vs id l) j ≡ some u). ⊎_elim
+            (λ (t : (j ≡ id) × (l ≡ u)). let P : ℕ × View → Type 0 = λ x. LawfulView z g' x.0 x.1 in subst P (λ i. (sym t.0 i, t.1 i)) own)
+            (λ (t : (j ≢ id) × (get_elem? vs j ≡ some u)). others z g g' id id on vs law j u t.0 t.0 t.1) (at_set vs id j l u old))
+            (λ (last : (j ≡ length (set vs id l)) × (r ≡ u)).
+            let P : ℕ × View → Type 0 = λ x. LawfulView z g' x.0 x.1 in
+            let place : length vs ≡ j = sym (last.0 ∙ length-set vs id l) in subst P (λ i. (place i, last.1 i)) new)
+            (at_end (set vs id l) r u j is);
+        strangers = λ t free. ap (calls_of t) history ∙ law.strangers t (omega arith);
+        seats = (let s = total_set (weight z) vs id v l at in let t = total_end (weight z) (set vs id l) r in let e = law.seats in omega arith);
+        dealt = dealt;
+      }
+
+module _ (part : Numbers → World → Type 0) (z : Numbers) (kept : PartKept part z) (id : ℕ) (v : View) where
+  -- DEAL. The dealer hands out the next pass
+  pub deals_pass : v.role ≡ Dealer → v.passes < v.numbers.hosts → Splits (Ruled part z) id v (dealt_pass v) (new_pass v)
+  deals_pass role room s (g, fits, law, stage) at =
+      let vs = s.views in
+      let h = law.views id v at in
+      let kind = h.kind in
+      let numbers : v.numbers ≡ z = kind.numbers (ap is_live_role role) in
+      let hosts : v.numbers.hosts ≡ z.hosts = ap (λ (y : Numbers). y.hosts) numbers in
+      let d = h.holding.dealer role in
+      let passes_is = d.1 in
+      let n : Name = Pass v.passes in
+      let new : ℕ = length vs in
+      let g' : World = record g { passes = g.passes + 1; seat = put_name g.seat n new; badge = put_name g.badge n new } in
+      let not_yet : (m : Name) → IsDealt g m → ¬ (m ≡ n) = fresh_name g v.passes (omega arith) in
+      let still_dealt : (m : Name) → IsDealt g m → IsDealt g' m = dealt_more g (put_name g.seat n new) (put_name g.badge n new) in
+      let on : Onward z g g' id id = record {
+        history = Begins-refl g.history;
+        calls = λ t _. refl;
+        seat = λ m dealt. (name_else g.seat n new m (not_yet m dealt), still_dealt m dealt);
+        pins = λ b _. pin_stays (g.pins b);
+        owned = λ b _ _ _. record { owner = refl; phase = refl; generation = refl; written = refl; pages = λ p i. refl };
+        pages = λ b p i _ _ _. refl;
+        named = λ s m is. inl is;
+        programmer = λ m _. refl;
+        eraser = λ b k _. refl;
+        dealer = λ apart. absurd (apart d.0);
+        badge = λ m dealt _ _. name_else g.badge n new m (not_yet m dealt);
+      } in
+      let knows = knowledge_kept z g g' id id on v (λ b is below. counted vs law id v at b is below) h.knowledge in
+      let not_player : (m : Name) → v.role ≡ Player m → ⊥ = λ m is. let e : Dealer ≡ Player m = sym role ∙ is in absurd (cc) in
+      let holds = h.holding in
+      let own : LawfulView z g' id (dealt_pass v) = record {
+        kind = record { numbers = kind.numbers; known = kind.known; opens = kind.opens; unpinned = kind.unpinned; idle = kind.idle; owns_none = kind.owns_none };
+        knowledge = record { seen = knows.seen; pin = knows.pin; known = knows.known; programs = knows.programs; erases = knows.erases; copy = knows.copy };
+        holding = record {
+          name = λ m is. absurd (not_player m is);
+          calls = λ t is. absurd (not_player (Pass t) is);
+          owned = λ b o is.
+              let k = holds.owned b o is in
+              record { block = k.block; low = k.low; owner = k.owner; owned = k.owned; phase = k.phase; generation = k.generation; written = k.written; rest = k.rest; dead = k.dead; clean = k.clean };
+          work = λ w is. absurd (none_some w (sym (kind.idle (ap is_player role)).0 ∙ is));
+          source = λ x is. absurd (none_some x (sym (kind.idle (ap is_player role)).1 ∙ is));
+          whole = λ _ m is. absurd (not_player m is);
+          guest = λ m is. let k = holds.guest m is in (name_else g.badge n new m (not_yet m k.1) ∙ k.0, still_dealt m k.1);
+          dealer = λ _. (d.0, ap (λ k. k + 1) d.1, d.2);
+        };
+      } in
+      let added : LawfulView z g' new (new_pass v) = record {
+        kind = record {
+          numbers = λ _. numbers;
+          known = λ _. length-replicate v.numbers.blocks 0 ∙ ap (λ (y : Numbers). y.blocks) numbers;
+          opens = λ _ b o is. absurd (none_some o is);
+          unpinned = λ is. absurd (cc);
+          idle = λ is. absurd (cc);
+          owns_none = λ is. absurd (cc);
+        };
+        knowledge = record {
+          seen = (g.history, refl);
+          pin = tt;
+          known = λ b _. let e = alike v.numbers.blocks b 0 in omega arith;
+          programs = λ m is k x at. absurd (nothing k x at);
+          erases = λ m is k x at. absurd (nothing k x at);
+          copy = λ c is. absurd (none_some c is);
+        };
+        holding = record {
+          name = λ m is.
+              let same : n ≡ m = player_same n m is in
+              let P : Name → Type 0 = λ m. (g'.seat m ≡ new) × IsDealt g' m in
+              let here : P n = (name_here g.seat n new, omega arith) in subst P same here;
+          calls = λ t is.
+              let same : v.passes ≡ t = pass_same v.passes t is in (ap (λ k. calls_of k g.history) (sym same) ∙ law.strangers v.passes (omega arith), refl);
+          owned = λ b o is. absurd (none_some o is);
+          work = λ w is. absurd (none_some w is);
+          source = λ x is. absurd (none_some x is);
+          whole = λ _ m is. let same : n ≡ m = player_same n m is in let P : Name → Type 0 = λ m. g'.badge m ≡ new in let here : P n = name_here g.badge n new in subst P same here;
+          guest = λ m is. absurd (none_some m is);
+          dealer = λ is. absurd (cc);
+        };
+      } in
+      let weighs : weight z (dealt_pass v) + 1 ≡ weight z v =
+      let a : weight z (dealt_pass v) ≡ z.hosts - (v.passes + 1) = ap (λ r. role_weight z.hosts r (v.passes + 1)) role in
+      let b : weight z v ≡ z.hosts - v.passes = ap (λ r. role_weight z.hosts r v.passes) role in omega arith in (
+        g',
+        fits,
+        split z g g' vs id v (dealt_pass v) (new_pass v) law at refl refl refl on refl refl own added (λ b. refl) refl refl weighs (omega arith) (omega arith)
+            (λ s low. current_kept z g g' s refl refl refl refl (law.sectors s low)),
+        kept.same g g' (λ b. refl) stage,
+      )

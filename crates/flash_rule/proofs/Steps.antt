@@ -1,0 +1,348 @@
+-- Each kind of step of a pass, as the table asks for it: whatever the table is, the step keeps the rule and tells what it says.
+use Rattle.std.proofs.Common.{◌≡◌, ℕ, ◌+◌, ◌%◌, ◌^◌, ◌<◌, ◌≤◌, ◌⊎◌, inl, inr, ⊎_elim, true, List, [], ◌∷◌, ◌++◌, Option, None, Some, length, set, sym, refl, ap, ◌∙◌, subst, arith}
+use Rattle.std.proofs.Math.ListN.{get_or}
+use Rattle.std.specs.Int.Bits.{bit_or}
+use mathlib.Core.Option.{some, none}
+use lib.ListN.{get_elem?}
+use Rattle.atomic_table.specs.Table.{Act, Valid, step, keeps, stepped, carried_after, Allows}
+use Rattle.atomic_table.proofs.Lists.{set_again}
+use mathlib.Core.Logic.{dite}
+use native.Mathlib.Decide.{ℕ_discrete}
+use Rattle.geometry.specs.History.{Call, Write, Trim}
+use Rattle.geometry.specs.Sectors.{was_of}
+use Rattle.geometry.specs.declared.answer.Was.{Was}
+use Rattle.geometry.specs.declared.answer.Was.TheVariants.{Empty, Written}
+use Rattle.geometry.specs.Limits.{Numbers}
+use Rattle.geometry.specs.MapWords.{map_word, FitsMap}
+use Rattle.geometry.specs.PinWords.{pin_word, FitsPin}
+use Rattle.geometry.specs.TableOrder.{pin_index, page_index}
+use Rattle.geometry.specs.declared.map_word.MapWord.{MapWord}
+use Rattle.geometry.specs.declared.pin_word.PinWord.{PinWord}
+use Rattle.geometry.specs.declared.pin_word.Phase.{Phase}
+use Rattle.geometry.specs.declared.pin_word.Phase.TheVariants.{Free, Open, Closed, Victim, Drained, Erasing, Retired}
+use Rattle.geometry.specs.declared.pin_word.TheConstants.{TAKEN, NEXT_PHASE, PAGE_WRITTEN}
+use Rattle.flash_rule.specs.declared.facts.Role.{Role}
+use Rattle.flash_rule.specs.declared.facts.Role.TheVariants.{Dealer, Player, Note, Gone}
+use Rattle.flash_rule.specs.declared.facts.Owned.{Owned}
+use Rattle.flash_rule.specs.declared.facts.Pin.TheVariants.{Candidate, Accepted}
+use Rattle.flash_rule.specs.declared.facts.Work.{Work}
+use Rattle.flash_rule.specs.declared.view.View.{View}
+use Rattle.flash_rule.specs.Views.{is_pass, is_player, is_live_role, owned_at, without, with_owned}
+use Rattle.flash_rule.specs.World.{World, Fits, sector_word}
+use Rattle.flash_rule.specs.Rule.{Lawful, IsEarly}
+use Rattle.flash_rule.specs.Seats.{Ruled}
+use Rattle.flash_rule.specs.Plays.{Sitter, Looked, Placed, Took, CanPlace, CanPut, CanCount, CanClose, words_in, next_page, look_told, write_told, trim_told, take_told, put_told, get_told, pinned_told, Called, count_told, close_told, is_unpinned}
+use Rattle.geometry.proofs.PinBits.{adds, next_phase, counts, takes_free, takes_taken, map_same}
+use Rattle.flash_rule.proofs.Places.{fits_load, fits_pin, fits_map, fits_page, pin_within, page_within, page_same}
+use Rattle.flash_rule.proofs.Owning.{some_same}
+use Rattle.flash_rule.proofs.Parts.{PartKept}
+use Rattle.flash_rule.proofs.Assembly.{state_fits}
+use Rattle.flash_rule.proofs.Still.{look_empty, look_named, pass_of}
+use Rattle.flash_rule.proofs.PinSteps.{takes, taken, denied, taken_state, taker}
+use Rattle.flash_rule.proofs.OwnSteps.{counts_page, closes, worker, own_low, is_open, counter, count_world, counted_state, closer, close_world, closed_state}
+use Rattle.flash_rule.proofs.PageSteps.{puts_word, putter, put_world, gets_candidate, gets_accepted}
+use Rattle.flash_rule.proofs.MapSteps.{trims, writes, placed, placer, place_world, pass_same}
+use Rattle.flash_rule.proofs.Values.{value_same}
+use Rattle.flash_rule.proofs.Points.{put_here}
+
+player_live : (r : Role) → is_player r ≡ true → is_live_role r ≡ true
+player_live (Player n) is = refl
+player_live Dealer is = absurd (cc)
+player_live Note is = absurd (cc)
+player_live Gone is = absurd (cc)
+
+pass_player : (r : Role) → is_pass r ≡ true → is_player r ≡ true
+pass_player (Player n) is = refl
+pass_player Dealer is = absurd (cc)
+pass_player Note is = absurd (cc)
+pass_player Gone is = absurd (cc)
+
+free_or_not : (f : Phase) → (f ≡ Free) ⊎ (¬ (f ≡ Free))
+free_or_not Free = inl refl
+free_or_not Open = inr (λ e. absurd (cc))
+free_or_not Closed = inr (λ e. absurd (cc))
+free_or_not Victim = inr (λ e. absurd (cc))
+free_or_not Drained = inr (λ e. absurd (cc))
+free_or_not Erasing = inr (λ e. absurd (cc))
+free_or_not Retired = inr (λ e. absurd (cc))
+
+module _ (part : Numbers → World → Type 0) (z : Numbers) (kept : PartKept part z) (slots id : ℕ) (me : Sitter) where
+  numbers_now : (g : World) (vs : List View) → Lawful z g vs → get_elem? vs id ≡ some me.0 → is_player me.0.role ≡ true → me.0.numbers ≡ z
+  numbers_now g vs law at player = (law.views id me.0 at).kind.numbers (player_live me.0.role player)
+
+  -- ---- look
+  look_any : (g : World) (vs : List View) (s : ℕ) → Lawful z g vs → get_elem? vs id ≡ some me.0 → is_pass me.0.role ≡ true → is_unpinned me.0.pin ≡ true → s < z.sectors
+      → (x : Option MapWord) → g.map s ≡ x → (w : View) × Lawful z g (set vs id w) × Looked me.0 s (sector_word x) w
+  look_any g vs s law at pass unpinned low None is = look_empty z g vs id me.0 s law at pass unpinned is low
+  look_any g vs s law at pass unpinned low (Some m) is = look_named z g vs id me.0 s law at pass unpinned m is low
+
+  -- a pass with nothing pinned looks at a sector
+  pub look_allowed : (s : ℕ) → is_pass me.0.role ≡ true → is_unpinned me.0.pin ≡ true → s < z.sectors → Allows (Ruled part z) slots id me s (λ n. n) (look_told (step slots s 0 0 none) me)
+  look_allowed s pass unpinned low t (g, fits, law, stage) _ at _ =
+      let h = look_any g t.views s law at pass unpinned low (g.map s) refl in
+      let found : get_or t.words s 0 ≡ sector_word (g.map s) = fits.sectors s low in (
+        h.0,
+        keeps,
+        tt,
+        (g, fits_load z g.map g.pins g.pages t.words fits s (omega arith), h.1, stage),
+        (refl, subst (λ n. Looked me.0 s n h.0) (sym found) h.2),
+      )
+
+  -- ---- place
+  -- a pass trims a sector
+  pub trim_allowed : (s : ℕ) → is_pass me.0.role ≡ true → s < z.sectors → Allows (Ruled part z) slots id me s (λ _. 0) (trim_told (step slots s 0 0 none) me)
+  trim_allowed s pass low t (g, fits, law, stage) _ at _ =
+      let is = pass_of me.0.role pass in
+      let by : ℕ = is.0 in
+      let n : ℕ = get_or t.words s 0 in
+      let found : n ≡ sector_word (g.map s) = fits.sectors s low in
+      let w : View = placer z g t.views id me.0 by s (Trim by s) None law at is.1 refl in
+      let told : Placed me.0 (Trim by s) s n w = placed z g t.views id me.0 by s (Trim by s) None law at is.1 refl (law.sectors s low) n found in
+      let after : World = place_world z g t.views id me.0 by s (Trim by s) None law at is.1 refl in (
+        w,
+        keeps,
+        tt,
+        (after, fits_map z g.map g.pins g.pages t.words fits s None low, trims z g t.views id me.0 by s law at is.1 low, kept.same g after (λ b. refl) stage),
+        (refl, λ u role. subst (λ (k : ℕ). Placed me.0 (Trim k s) s n w) (pass_same by u (sym is.1 ∙ role)) told),
+      )
+
+  -- a pass writes a sector, whose new page it has filled and counted
+  pub write_allowed : (s word : ℕ) (m : MapWord) (value : List ℕ) → is_pass me.0.role ≡ true → s < z.sectors → word ≡ map_word m → FitsMap m → CanPlace me.0 s m value
+      → Allows (Ruled part z) slots id me s (λ _. word) (write_told (step slots s word 0 none) me)
+  write_allowed s word m value pass low packed fitting can t (g, fits, law, stage) _ at _ =
+      let is = pass_of me.0.role pass in
+      let by : ℕ = is.0 in
+      let n : ℕ = get_or t.words s 0 in
+      let found : n ≡ sector_word (g.map s) = fits.sectors s low in
+      let w : View = placer z g t.views id me.0 by s (Write by s value) (Some m) law at is.1 refl in
+      let told : Placed me.0 (Write by s value) s n w = placed z g t.views id me.0 by s (Write by s value) (Some m) law at is.1 refl (law.sectors s low) n found in
+      let after : World = place_world z g t.views id me.0 by s (Write by s value) (Some m) law at is.1 refl in (
+        w,
+        keeps,
+        tt,
+        (
+          after,
+          subst (λ x. Fits z after.map g.pins g.pages (set t.words s x)) (sym packed) (fits_map z g.map g.pins g.pages t.words fits s (Some m) low),
+          writes z g t.views id me.0 by s law at is.1 low m value can,
+          kept.same g after (λ b. refl) stage,
+        ),
+        (
+          refl,
+          λ u m' value' role first fitting' can'.
+              let same : m ≡ m' = map_same m m' fitting fitting' (sym packed ∙ first) in
+              let words : me.0.numbers.words ≡ z.words = ap (λ (y : Numbers). y.words) (numbers_now g t.views law at (pass_player me.0.role pass)) in
+              let works : can.work ≡ can'.work = some_same can.work can'.work (sym can.is ∙ can'.is) in
+              let values : value ≡ value' = value_same me.0.numbers value value' can.whole can'.whole (λ i low. sym (can.words i low) ∙ (ap (λ (x : Work). get_or x.words i 0) works ∙ can'.words i low)) in
+              subst (λ (x : ℕ × List ℕ). Placed me.0 (Write x.0 s x.1) s n w) (λ i. (pass_same by u (sym is.1 ∙ role) i, values i)) told,
+        ),
+      )
+
+  -- ---- take
+  -- a pass sets the taking bit of a block
+  pub take_allowed : (b : ℕ) → is_pass me.0.role ≡ true → b < z.blocks → Allows (Ruled part z) slots id me (pin_index z b) (λ n. bit_or n TAKEN) (take_told (step slots (pin_index z b) TAKEN 0 none) me)
+  take_allowed b pass low t (g, fits, law, stage) _ at _ =
+      let p : PinWord = g.pins b in
+      let k : ℕ = pin_index z b in
+      let n : ℕ = get_or t.words k 0 in
+      let found : n ≡ pin_word p = fits.blocks b low in
+      let fitting = state_fits z g t.views law b low in
+      let numbers = numbers_now g t.views law at (pass_player me.0.role pass) in
+      let same_block : (c : ℕ) → k ≡ pin_index me.0.numbers c → b ≡ c = λ c is. let e : me.0.numbers.sectors ≡ z.sectors = ap (λ (y : Numbers). y.sectors) numbers in omega arith in
+      ⊎_elim
+      (λ (free : p.phase ≡ Free).
+      let w : View = taker z g t.views id me.0 b law at pass low in
+      let q : PinWord = taken_state z g t.views id me.0 b law at pass low in
+      let now : bit_or n TAKEN ≡ pin_word q = ap (λ x. bit_or x TAKEN) found ∙ takes_free p fitting free in
+      let after : World = taken z g t.views id me.0 b law at pass low in
+      let told : Took me.0 b n w = record { state = p; fits = fitting; found = found; free = λ _. refl; denied = λ not. absurd (not free) } in
+      let answer : (w : View) × (a : Act (Unit {0})) × Valid t.homes me.1 a × Ruled part z (stepped t k (bit_or n TAKEN) id me.1 w a) × take_told (step slots k TAKEN 0 none) me n (w, carried_after me.1 a) = (
+        w,
+        keeps,
+        tt,
+        (after, subst (λ x. Fits z g.map after.pins g.pages (set t.words k x)) (sym now) (fits_pin z g.map g.pins g.pages t.words fits b q low), takes z g t.views id me.0 b law at pass low free, kept.pin g b q id g.programmer low (inl refl) refl stage),
+        (refl, λ c _ is. subst (λ (j : ℕ). Took me.0 j n w) (same_block c is) told),
+      ) in answer)
+      (λ (not : ¬ (p.phase ≡ Free)).
+      let w : View = record me.0 { denied = me.0.denied ++ b ∷ [] } in
+      let now : bit_or n TAKEN ≡ n = ap (λ x. bit_or x TAKEN) found ∙ (takes_taken p fitting not ∙ sym found) in
+      let told : Took me.0 b n w = record { state = p; fits = fitting; found = found; free = λ free. absurd (not free); denied = λ _. refl } in
+      let answer : (w : View) × (a : Act (Unit {0})) × Valid t.homes me.1 a × Ruled part z (stepped t k (bit_or n TAKEN) id me.1 w a) × take_told (step slots k TAKEN 0 none) me n (w, carried_after me.1 a) = (
+        w,
+        keeps,
+        tt,
+        (g, subst (λ x. Fits z g.map g.pins g.pages (set t.words k x)) (sym now) (fits_load z g.map g.pins g.pages t.words fits k (pin_within z b low)), denied z g t.views id me.0 b law at pass low, stage),
+        (refl, λ c _ is. subst (λ (j : ℕ). Took me.0 j n w) (same_block c is) told),
+      ) in answer)
+      (free_or_not p.phase)
+
+  -- ---- put
+  -- the owner of an open block puts the next word of its first page not written
+  pub put_allowed : (o : Owned) (x : ℕ) → is_player me.0.role ≡ true → me.0.numbers ≡ z → CanPut me.0 o
+      → Allows (Ruled part z) slots id me (page_index z o.block o.written + length (words_in me.0.work o)) (λ _. x)
+      (λ _. put_told (step slots (page_index z o.block o.written + length (words_in me.0.work o)) x 0 none) me x)
+  put_allowed o x player numbers can t (g, fits, law, stage) _ at _ =
+      let i : ℕ = length (words_in me.0.work o) in
+      let pages : me.0.numbers.pages ≡ z.pages = ap (λ (y : Numbers). y.pages) numbers in
+      let words : me.0.numbers.words ≡ z.words = ap (λ (y : Numbers). y.words) numbers in
+      let room : o.written < z.pages = let r = can.room in omega arith in
+      let short : i ≤ z.words = let r = can.short in omega arith in
+      let w : View = putter z g t.views id me.0 o x law at player can.own can.opened in
+      let after : World = put_world z g t.views id me.0 o x law at player can.own can.opened in (
+        w,
+        keeps,
+        tt,
+        (
+          after,
+          fits_page z g.map g.pins g.pages t.words fits o.block o.written i x (own_low z g t.views id me.0 o law at can.own can.opened) room short,
+          puts_word z g t.views id me.0 o x law at player can.own can.opened room short can.settled,
+          kept.same g after (λ b. refl) stage,
+        ),
+        (
+          refl,
+          λ o' can' is.
+              let room' : o'.written < z.pages = let r = can'.room in omega arith in
+              let short' : length (words_in me.0.work o') ≤ z.words = let r = can'.short in omega arith in
+              let is' : page_index z o.block o.written + i ≡ page_index z o'.block o'.written + length (words_in me.0.work o') =
+              is ∙ ap (λ (y : Numbers). page_index y o'.block o'.written + length (words_in me.0.work o')) numbers in
+              let blocks = (page_same z o.block o.written i o'.block o'.written (length (words_in me.0.work o')) room room' short short' is').0 in
+              let same : o ≡ o' = some_same o o' (sym can.own ∙ (ap (λ c. owned_at c me.0.owns) blocks ∙ can'.own)) in
+              ap (λ (y : Owned). record me.0 { work = Some (record { page = next_page y; words = words_in me.0.work y ++ x ∷ [] }) }) same,
+        ),
+      )
+
+  -- ---- count
+  -- the owner of an open block counts the page that it has filled
+  pub count_allowed : (o : Owned) (x : Work) → is_player me.0.role ≡ true → me.0.numbers ≡ z → CanCount me.0 o x
+      → Allows (Ruled part z) slots id me (pin_index z o.block) (λ n. (n + PAGE_WRITTEN) % 2 ^ 64) (count_told (step slots (pin_index z o.block) PAGE_WRITTEN 0 none) me)
+  count_allowed o x player numbers can t (g, fits, law, stage) _ at _ =
+      let h = law.views id me.0 at in
+      let name = worker z me.0 x h.kind can.is in
+      let full : length x.words ≡ z.words + 1 = can.full ∙ ap (λ (y : Numbers). y.words + 1) numbers in
+      let low = own_low z g t.views id me.0 o law at can.own can.opened in
+      let p : PinWord = g.pins o.block in
+      let k : ℕ = pin_index z o.block in
+      let n : ℕ = get_or t.words k 0 in
+      let found : n ≡ pin_word p = fits.blocks o.block low in
+      let q : PinWord = counted_state z g t.views id me.0 o law at can.own can.opened x can.is can.page full in
+      let w : View = counter z g t.views id me.0 o law at can.own can.opened x can.is can.page full in
+      let after : World = count_world z g t.views id me.0 o law at can.own can.opened x can.is can.page full name.0 in
+      let lawful = counts_page z g t.views id me.0 o law at can.own can.opened x can.is can.page full name.0 name.1 in
+      let fitting : FitsPin q = subst FitsPin (put_here g.pins o.block q) (state_fits z after (set t.views id w) lawful o.block low) in
+      let now : (n + PAGE_WRITTEN) % 2 ^ 64 ≡ pin_word q = ap (λ (y : ℕ). (y + PAGE_WRITTEN) % 2 ^ 64) found ∙ adds p q PAGE_WRITTEN fitting (counts p) in (
+        w,
+        keeps,
+        tt,
+        (
+          after,
+          subst (λ y. Fits z g.map after.pins g.pages (set t.words k y)) (sym now) (fits_pin z g.map g.pins g.pages t.words fits o.block q low),
+          lawful,
+          kept.pin g o.block q id after.programmer low (inr refl) refl stage,
+        ),
+        (
+          refl,
+          λ o' x' can' is.
+              let sectors : me.0.numbers.sectors ≡ z.sectors = ap (λ (y : Numbers). y.sectors) numbers in
+              let blocks : o.block ≡ o'.block = omega arith in
+              let same : o ≡ o' = some_same o o' (sym can.own ∙ (ap (λ c. owned_at c me.0.owns) blocks ∙ can'.own)) in
+              let works : x ≡ x' = some_same x x' (sym can.is ∙ can'.is) in
+              λ i. record me.0 { programs = me.0.programs ++ (works i).page ∷ []; owns = with_owned (record (same i) { written = (same i).written + 1 }) me.0.owns },
+        ),
+      )
+
+  -- ---- close
+  -- the owner of an open block gives it up, with nothing uncounted
+  pub close_allowed : (o : Owned) → is_player me.0.role ≡ true → me.0.numbers ≡ z → CanClose me.0 o
+      → Allows (Ruled part z) slots id me (pin_index z o.block) (λ n. (n + NEXT_PHASE) % 2 ^ 64) (close_told (step slots (pin_index z o.block) NEXT_PHASE 0 none) me)
+  close_allowed o player numbers can t (g, fits, law, stage) _ at _ =
+      let low = own_low z g t.views id me.0 o law at can.own can.opened in
+      let p : PinWord = g.pins o.block in
+      let k : ℕ = pin_index z o.block in
+      let n : ℕ = get_or t.words k 0 in
+      let found : n ≡ pin_word p = fits.blocks o.block low in
+      let q : PinWord = closed_state z g t.views id me.0 o law at can.own can.opened in
+      let w : View = closer z g t.views id me.0 o law at can.own can.opened in
+      let after : World = close_world z g t.views id me.0 o law at can.own can.opened in
+      let lawful = closes z g t.views id me.0 o law at can.own can.opened can.settled in
+      let fitting : FitsPin q = subst FitsPin (put_here g.pins o.block q) (state_fits z after (set t.views id w) lawful o.block low) in
+      let now : (n + NEXT_PHASE) % 2 ^ 64 ≡ pin_word q =
+      ap (λ (y : ℕ). (y + NEXT_PHASE) % 2 ^ 64) found ∙ adds p q NEXT_PHASE fitting (next_phase p Open Closed (is_open z g t.views id me.0 o law at can.own can.opened) refl) in (
+        w,
+        keeps,
+        tt,
+        (
+          after,
+          subst (λ y. Fits z g.map after.pins g.pages (set t.words k y)) (sym now) (fits_pin z g.map g.pins g.pages t.words fits o.block q low),
+          lawful,
+          kept.pin g o.block q id g.programmer low (inl refl) refl stage,
+        ),
+        (
+          refl,
+          λ o' can' is.
+              let sectors : me.0.numbers.sectors ≡ z.sectors = ap (λ (y : Numbers). y.sectors) numbers in
+              let blocks : o.block ≡ o'.block = omega arith in ap (λ (c : ℕ). record me.0 { owns = without c me.0.owns; work = None }) blocks,
+        ),
+      )
+
+-- ---- get
+-- before anything is erased, a pass reads its candidate's page
+pub get_allowed : (z : Numbers) (slots id : ℕ) (me : Sitter) (m : MapWord) (value : List ℕ) (i : ℕ) → is_pass me.0.role ≡ true → me.0.numbers ≡ z → me.0.pin ≡ Candidate m value → m.block < z.blocks → m.page < z.pages → i < z.words
+    → Allows (Ruled IsEarly z) slots id me (page_index z m.block m.page + i) (λ n. n) (get_told (step slots (page_index z m.block m.page + i) 0 0 none) me)
+get_allowed z slots id me m value i pass numbers pin block page low t (g, fits, law, stage) _ at _ =
+    let k : ℕ = page_index z m.block m.page + i in
+    let n : ℕ = get_or t.words k 0 in
+    let c = gets_candidate z g t.views id me.0 m value law at stage pin in
+    let found : n ≡ g.pages m.block m.page i = fits.pages m.block m.page i block page (omega arith) in (
+      me.0,
+      keeps,
+      tt,
+      (
+        g,
+        fits_load z g.map g.pins g.pages t.words fits k (page_within z m.block m.page i block page (omega arith)),
+        subst (λ vs. Lawful z g vs) (sym (set_again t.views id me.0 at)) law,
+        stage,
+      ),
+      (
+        refl,
+        λ m' value' i' pin' low' is.
+            let both : Candidate m value ≡ Candidate m' value' = sym pin ∙ pin' in
+            let d = gets_candidate z g t.views id me.0 m' value' law at stage pin' in
+            let words : me.0.numbers.words ≡ z.words = ap (λ (y : Numbers). y.words) numbers in
+            let is' : k ≡ page_index z m'.block m'.page + i' = is ∙ ap (λ (y : Numbers). page_index y m'.block m'.page + i') numbers in
+            let s = page_same z m.block m.page i m'.block m'.page i' page d.1 (omega arith) (omega arith) is' in
+            found ∙ ((λ j. g.pages (s.0 j) (s.1 j) (s.2 j)) ∙ d.2 i' (omega arith)),
+      ),
+    )
+
+-- a pass reads the page of its accepted pin
+pub get_pinned_allowed : (part : Numbers → World → Type 0) (z : Numbers) (slots id : ℕ) (me : Sitter) (m : MapWord) (value : List ℕ) (i : ℕ) → me.0.numbers ≡ z → me.0.pin ≡ Accepted m value → m.block < z.blocks → m.page < z.pages → i < z.words
+    → Allows (Ruled part z) slots id me (page_index z m.block m.page + i) (λ n. n) (pinned_told (step slots (page_index z m.block m.page + i) 0 0 none) me)
+get_pinned_allowed part z slots id me m value i numbers pin block page low t (g, fits, law, stage) _ at _ =
+    let k : ℕ = page_index z m.block m.page + i in
+    let n : ℕ = get_or t.words k 0 in
+    let found : n ≡ g.pages m.block m.page i = fits.pages m.block m.page i block page (omega arith) in (
+      me.0,
+      keeps,
+      tt,
+      (g, fits_load z g.map g.pins g.pages t.words fits k (page_within z m.block m.page i block page (omega arith)), subst (λ vs. Lawful z g vs) (sym (set_again t.views id me.0 at)) law, stage),
+      (
+        refl,
+        λ m' value' i' pin' low' is.
+            let d = gets_accepted z g t.views id me.0 m' value' law at pin' in
+            let words : me.0.numbers.words ≡ z.words = ap (λ (y : Numbers). y.words) numbers in
+            let is' : k ≡ page_index z m'.block m'.page + i' = is ∙ ap (λ (y : Numbers). page_index y m'.block m'.page + i') numbers in
+            let s = page_same z m.block m.page i m'.block m'.page i' page d.1 (omega arith) (omega arith) is' in
+            found ∙ ((λ j. g.pages (s.0 j) (s.1 j) (s.2 j)) ∙ d.2 i' (omega arith)),
+      ),
+    )
+
+-- the answer of a call, from the word that was swapped out
+pub called : (v : View) (c : Call) (s n : ℕ) (answer : Was) (w : View) → Placed v c s n w → (n ≡ 0 → answer ≡ Empty) → (¬ (n ≡ 0) → answer ≡ Written) → Called v c s answer w
+called v c s n answer w h empty written =
+    record {
+      changed = h.changed;
+      before = h.before;
+      later = h.later;
+      now = h.now;
+      answered = dite (ℕ_discrete n 0) (λ none. empty none ∙ ap was_of (sym (h.empty none))) (λ not. let k = h.written not in written not ∙ ap was_of (sym k.1));
+      own = h.own;
+    }

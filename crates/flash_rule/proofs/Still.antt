@@ -1,0 +1,273 @@
+-- A step that changes no word: the looks of a pass.
+use Rattle.std.proofs.Common.{◌≡◌, ◌≢◌, ℕ, zero, suc, ◌*◌, ◌+◌, ◌<◌, ◌≤◌, inl, true, false, List, [], ◌∷◌, Option, None, Some, length, set, sym, refl, ap, ◌∙◌, subst, arith, length-set, suc-mul}
+use Rattle.std.proofs.Math.ListN.{get_or}
+use Rattle.std.proofs.lemmas.List.{get_or-set_same, get_or-set_other}
+use mathlib.Core.Option.{some}
+use mathlib.Core.Logic.{dite}
+use native.Mathlib.Decide.{ℕ_discrete}
+use lib.ListN.{get_elem?}
+use Rattle.geometry.specs.History.{Begins, held}
+use Rattle.geometry.specs.Limits.{Numbers}
+use Rattle.geometry.proofs.Histories.{Begins-refl}
+use Rattle.geometry.specs.MapWords.{map_word, FitsMap}
+use Rattle.geometry.specs.declared.map_word.MapWord.{MapWord}
+use Rattle.geometry.specs.declared.pin_word.PinWord.{PinWord}
+use Rattle.geometry.specs.declared.pin_word.Phase.{Phase}
+use Rattle.geometry.specs.declared.pin_word.Phase.TheVariants.{Free, Open, Closed, Victim, Drained, Erasing, Retired}
+use Rattle.flash_rule.specs.declared.facts.Name.{Name}
+use Rattle.flash_rule.specs.declared.facts.Name.TheVariants.{Pass, Broom}
+use Rattle.flash_rule.specs.declared.facts.Role.{Role}
+use Rattle.flash_rule.specs.declared.facts.Role.TheVariants.{Dealer, Player, Note, Gone}
+use Rattle.flash_rule.specs.declared.facts.Pin.{Pin}
+use Rattle.flash_rule.specs.declared.facts.Pin.TheVariants.{Clear, Candidate, Accepted, Stray}
+use Rattle.flash_rule.specs.declared.carried.Carried.{Carried}
+use Rattle.flash_rule.specs.declared.view.View.{View}
+use Rattle.flash_rule.specs.Views.{one_if, is_pass, is_live_role, pin_is_on, pins_on, weight, owned_at, calls_of, sum_of}
+use Rattle.flash_rule.specs.World.{World, is_nameable, age_of, half_cycle}
+use Rattle.flash_rule.specs.Rule.{IsCurrent, LawfulKind, LawfulKnowledge, LawfulPin, LawfulView, LawfulCopy, Lawful, IsValue}
+use Rattle.flash_rule.specs.Onward.{PinOnward, Onward}
+use Rattle.flash_rule.specs.Plays.{Looked, Met, Disjoint, is_unpinned}
+use Rattle.flash_rule.proofs.Assembly.{assembled, block_kept}
+
+pub pin_stays : (p : PinWord) → PinOnward p p
+pin_stays p = record { generation = omega arith; age = omega arith; written = λ _. omega arith; held = λ _ intact. (refl, intact); was = λ _ intact _. intact; free = λ _ free. free }
+
+pub all_stays : (z : Numbers) (g : World) (id other : ℕ) → Onward z g g id other
+all_stays z g id other =
+    record {
+      history = Begins-refl g.history;
+      calls = λ t _. refl;
+      seat = λ n dealt. (refl, dealt);
+      pins = λ b _. pin_stays (g.pins b);
+      owned = λ b _ _ _. record { owner = refl; phase = refl; generation = refl; written = refl; pages = λ p i. refl };
+      pages = λ b p i _ _ _. refl;
+      named = λ s m is. inl is;
+      programmer = λ m _. refl;
+      eraser = λ b n _. refl;
+      dealer = λ _. (refl, refl);
+      badge = λ n _ _ _. refl;
+    }
+
+-- a seat that keeps its blocks and its pinned block
+pub still : (z : Numbers) (g : World) (vs : List View) (id : ℕ) (v w : View) → Lawful z g vs → get_elem? vs id ≡ some v → LawfulView z g id w
+    → ((b : ℕ) → pins_on b w ≡ pins_on b v) → w.owns ≡ v.owns → weight z w ≡ weight z v → Lawful z g (set vs id w)
+still z g vs id v w law at own counted owns weighs =
+    assembled z g g vs id v w law at (all_stays z g id id) own law.sectors
+    (λ b low. block_kept z g g vs id v w b at (law.blocks b low) refl refl (λ p i. refl) (counted b) (λ o is. (o, ap (λ l. owned_at b l) owns ∙ is)))
+    law.strangers weighs law.dealt
+
+-- sums of lists of numbers
+pub sum_set : (l : List ℕ) (k x : ℕ) → k < length l → sum_of (set l k x) + get_or l k 0 ≡ sum_of l + x
+sum_set [] k x low = absurd (omega arith)
+sum_set (y ∷ l) zero x low = omega arith
+sum_set (y ∷ l) (suc k) x low = let r = sum_set l k x (omega arith) in omega arith
+
+pub sum_below : (l : List ℕ) (c : ℕ) → ((k : ℕ) → k < length l → get_or l k 0 ≤ c) → sum_of l ≤ length l * c
+sum_below [] c h = omega arith
+sum_below (y ∷ l) c h = let a = h 0 (omega arith) in let b = sum_below l c (λ k low. h (suc k) (omega arith)) in let e = suc-mul (length l) c in omega arith
+
+-- in phases in which a block can be named its age is twice its generation
+pub named_age : (p : PinWord) → is_nameable p.phase ≡ true → age_of p ≡ 2 * p.generation
+named_age p is = by_phase p.phase is where
+  by_phase : (f : Phase) → is_nameable f ≡ true → 2 * p.generation + half_cycle f ≡ 2 * p.generation
+  by_phase Free is = omega arith
+  by_phase Open is = omega arith
+  by_phase Closed is = omega arith
+  by_phase Victim is = omega arith
+  by_phase Drained is = omega arith
+  by_phase Erasing is = absurd (cc)
+  by_phase Retired is = absurd (cc)
+
+pub age_low : (z : Numbers) (g : World) (vs : List View) → Lawful z g vs → (b : ℕ) → b < z.blocks → age_of (g.pins b) ≤ 2 * z.endurance
+age_low z g vs law b low = by_phase (g.pins b).phase where
+  by_phase : (f : Phase) → 2 * (g.pins b).generation + half_cycle f ≤ 2 * z.endurance
+  by_phase Free = let r = (law.blocks b low).generation in omega arith
+  by_phase Open = let r = (law.blocks b low).generation in omega arith
+  by_phase Closed = let r = (law.blocks b low).generation in omega arith
+  by_phase Victim = let r = (law.blocks b low).generation in omega arith
+  by_phase Drained = let r = (law.blocks b low).generation in omega arith
+  by_phase Erasing = let r = (law.blocks b low).generation in omega arith
+  by_phase Retired = let r = (law.blocks b low).generation in omega arith
+
+pub pass_of : (r : Role) → is_pass r ≡ true → (t : ℕ) × (r ≡ Player (Pass t))
+pass_of (Player (Pass t)) is = (t, refl)
+pass_of (Player (Broom i)) is = absurd (cc)
+pass_of Dealer is = absurd (cc)
+pass_of Note is = absurd (cc)
+pass_of Gone is = absurd (cc)
+
+pub pass_numbers : (z : Numbers) (v : View) → LawfulKind z v → is_pass v.role ≡ true → v.numbers ≡ z
+pass_numbers z v kind is = let t = pass_of v.role is in kind.numbers (ap is_live_role t.1)
+
+-- the player of the copies is another one, so no page and no erase is in both lists
+pub met : (z : Numbers) (g : World) (v : View) (n : Name) (c : Carried) → v.role ≡ Player n → LawfulKnowledge z g v → LawfulCopy z g v.role c
+    → Begins c.seen g.history × Disjoint v.programs c.programs × Disjoint v.erases c.erases
+met z g v n c role h copy = (
+  copy.seen,
+  (λ j k m here there.
+      let a = (h.programs n role j m here).2 in
+      let b = (copy.programs k m there).2 in
+      copy.other (role ∙ ap Player (same_first n j c.of k (sym a ∙ b)))),
+  (λ j k x here there.
+      let a = (h.erases n role j x here).2 in
+      let b = (copy.erases k x there).2 in
+      copy.other (role ∙ ap Player (same_first n j c.of k (sym a ∙ b)))),
+)
+  where
+    first_or : Name → Option (Name × ℕ) → Name
+    first_or d None = d
+    first_or d (Some x) = x.0
+
+    some_pair : Name → ℕ → Option (Name × ℕ)
+    some_pair a j = Some (a, j)
+
+    same_first : (a : Name) (j : ℕ) (b : Name) (k : ℕ) → some_pair a j ≡ some_pair b k → a ≡ b
+    same_first a j b k e = ap (first_or a) e
+
+module _ (z : Numbers) (g : World) (vs : List View) (id : ℕ) (v : View) (s : ℕ) (law : Lawful z g vs) (at : get_elem? vs id ≡ some v) (pass : is_pass v.role ≡ true) (unpinned : is_unpinned v.pin ≡ true) where
+  abbrev looking : Pin → List ℕ → View
+  looking pin known = record v { seen = g.history; looks = v.looks + 1; pin = pin; known = known }
+
+  no_pin : (pin : Pin) → is_unpinned pin ≡ true → (b : ℕ) → one_if (pin_is_on b pin) ≡ 0
+  no_pin Clear is b = refl
+  no_pin (Candidate m value) is b = refl
+  no_pin (Accepted m value) is b = absurd (cc)
+  no_pin (Stray c) is b = absurd (cc)
+
+  looking_lawful : (pin : Pin) (known : List ℕ) → is_unpinned pin ≡ true → LawfulPin z g known pin → length known ≡ z.blocks → ((b : ℕ) → b < z.blocks → get_or known b 0 ≤ age_of (g.pins b))
+      → Lawful z g (set vs id (looking pin known))
+  looking_lawful pin known free lawful long ages =
+      let h = law.views id v at in
+      let w : View = looking pin known in
+      let kind = h.kind in
+      let knows = h.knowledge in
+      let holds = h.holding in
+      still z g vs id v w law at
+      (record {
+        kind = record { numbers = kind.numbers; known = λ _. long; opens = kind.opens; unpinned = λ not. let no : true ≡ false = sym pass ∙ not in absurd (cc); idle = kind.idle; owns_none = kind.owns_none };
+        knowledge = record { seen = Begins-refl g.history; pin = lawful; known = ages; programs = knows.programs; erases = knows.erases; copy = knows.copy };
+        holding = record {
+          name = holds.name;
+          calls = λ t is. let c = (holds.calls t is).0 in (c, c);
+          owned = holds.owned;
+          work = holds.work;
+          source = holds.source;
+          whole = holds.whole;
+          guest = holds.guest;
+          dealer = holds.dealer;
+        };
+      })
+      (λ b. no_pin pin free b ∙ sym (no_pin v.pin unpinned b)) refl refl
+
+  own_calls : (t : ℕ) → v.role ≡ Player (Pass t) → calls_of t g.history ≡ v.mine
+  own_calls t is = ((law.views id v at).holding.calls t is).0
+
+  met_now : v.numbers ≡ z → (w : View) → w.role ≡ v.role → w.seen ≡ g.history → w.programs ≡ v.programs → w.erases ≡ v.erases → (c : Carried) → v.copy ≡ Some c → Met w c
+  met_now same w role seen programs erases c is =
+      let h = law.views id v at in
+      let t = pass_of v.role pass in
+      let m = met z g v (Pass t.0) c t.1 h.knowledge (h.knowledge.copy c is) in
+      record {
+        other = λ e. (h.knowledge.copy c is).other (sym role ∙ e);
+        seen = subst (λ l. Begins c.seen l) (sym seen) m.0;
+        programs = subst (λ l. Disjoint l c.programs) (sym programs) m.1;
+        erases = subst (λ l. Disjoint l c.erases) (sym erases) m.2;
+      }
+
+  known_bounded : (known : List ℕ) → length known ≡ z.blocks → ((b : ℕ) → b < z.blocks → get_or known b 0 ≤ age_of (g.pins b)) → sum_of known ≤ z.blocks * (2 * z.endurance)
+  known_bounded known long ages =
+      let each : (k : ℕ) → k < length known → get_or known k 0 ≤ 2 * z.endurance = λ k low. let below : k < z.blocks = omega arith in let a = ages k below in let b = age_low z g vs law k below in omega arith in
+      let s = sum_below known (2 * z.endurance) each in let e : length known * (2 * z.endurance) ≡ z.blocks * (2 * z.endurance) = ap (λ k. k * (2 * z.endurance)) long in omega arith
+
+  -- the look, by what the map word names
+  pub look_empty : g.map s ≡ None → s < z.sectors → (w : View) × Lawful z g (set vs id w) × Looked v s 0 w
+  look_empty is low =
+      let h = law.views id v at in
+      let same = pass_numbers z v h.kind pass in
+      let long = h.kind.known pass in
+      let w : View = looking Clear v.known in (
+        w,
+        looking_lawful Clear v.known refl tt long h.knowledge.known,
+        record {
+          changed = refl;
+          later = h.knowledge.seen;
+          own = own_calls;
+          empty = λ _. (ap (λ (y : Numbers). held y.sectors g.history s) same ∙ (law.sectors s low).empty is, refl, refl);
+          named = λ not. absurd (not refl);
+          rises = omega arith;
+          bounded = let b = known_bounded v.known long h.knowledge.known in let e : v.numbers.blocks * (2 * v.numbers.endurance) ≡ z.blocks * (2 * z.endurance) = ap (λ (y : Numbers). y.blocks * (2 * y.endurance)) same in omega arith;
+          met = met_now same w refl refl refl refl;
+        },
+      )
+
+  pub map_fits : (m : MapWord) → IsCurrent z g s m → FitsMap m × (m.page < z.pages)
+  map_fits m c =
+      let b = law.blocks m.block c.block in
+      let a1 = law.limits.blocks_high in
+      let a2 = law.limits.pages_high in
+      let a3 = law.limits.endurance_high in
+      let a4 = c.block in
+      let a5 = c.written in
+      let a6 = b.written in
+      let a7 = b.generation in
+      let a8 = c.same in (record { generation = omega arith; block = omega arith; page = omega arith }, omega arith)
+
+  pub look_named : (m : MapWord) → g.map s ≡ Some m → s < z.sectors → (w : View) × Lawful z g (set vs id w) × Looked v s (map_word m) w
+  look_named m is low =
+      let h = law.views id v at in
+      let same = pass_numbers z v h.kind pass in
+      let long = h.kind.known pass in
+      let c = (law.sectors s low).named m is in
+      let known = set v.known m.block (2 * m.generation) in
+      let in_range : m.block < length v.known = let l = c.block in omega arith in
+      let long' : length known ≡ z.blocks = length-set v.known m.block (2 * m.generation) ∙ long in
+      let age : age_of (g.pins m.block) ≡ 2 * m.generation = named_age (g.pins m.block) c.phase ∙ ap (λ k. 2 * k) c.same in
+      let here : get_or known m.block 0 ≡ 2 * m.generation = get_or-set_same v.known m.block (2 * m.generation) 0 in_range in
+      let ages : (b : ℕ) → b < z.blocks → get_or known b 0 ≤ age_of (g.pins b) = λ b below.
+      dite (ℕ_discrete b m.block)
+      (λ e. subst (λ j. get_or known j 0 ≤ age_of (g.pins j)) (sym e) (omega arith))
+      (λ ne. let other = get_or-set_other v.known m.block b (2 * m.generation) 0 ne in let k = h.knowledge.known b below in omega arith) in
+      let fits = map_fits m c in
+      let w : View = looking (Candidate m c.value) known in
+      let bigger : map_word m ≢ 0 = λ e. absurd (omega arith) in (
+        w,
+        looking_lawful (Candidate m c.value) known refl
+            (record {
+              block = c.block;
+              reached = let e = c.same in omega arith;
+              taken = λ _ free. nameable_taken (g.pins m.block).phase c.phase free;
+              page = λ _. (c.written, c.stands);
+              whole = c.whole;
+              age = here;
+            }) long' ages,
+        record {
+          changed = refl;
+          later = h.knowledge.seen;
+          own = own_calls;
+          empty = λ none. absurd (bigger none);
+          named = λ _. (
+            m,
+            c.value,
+            refl,
+            fits.0,
+            ap (λ (y : Numbers). held y.sectors g.history s) same ∙ c.here,
+            subst (λ (y : Numbers). IsValue y c.value) (sym same) c.whole,
+            refl,
+            refl,
+            (let e : v.numbers.blocks ≡ z.blocks = ap (λ (y : Numbers). y.blocks) same in let l = c.block in omega arith),
+            (let e : v.numbers.pages ≡ z.pages = ap (λ (y : Numbers). y.pages) same in let l = fits.1 in omega arith),
+          );
+          rises = let k = h.knowledge.known m.block c.block in let t = sum_set v.known m.block (2 * m.generation) in_range in omega arith;
+          bounded = let b = known_bounded known long' ages in let e : v.numbers.blocks * (2 * v.numbers.endurance) ≡ z.blocks * (2 * z.endurance) = ap (λ (y : Numbers). y.blocks * (2 * y.endurance)) same in omega arith;
+          met = met_now same w refl refl refl refl;
+        },
+      )
+    where
+      nameable_taken : (f : Phase) → is_nameable f ≡ true → ¬ (f ≡ Free)
+      nameable_taken Free is e = absurd (cc)
+      nameable_taken Open is e = absurd (cc)
+      nameable_taken Closed is e = absurd (cc)
+      nameable_taken Victim is e = absurd (cc)
+      nameable_taken Drained is e = absurd (cc)
+      nameable_taken Erasing is e = absurd (cc)
+      nameable_taken Retired is e = absurd (cc)

@@ -1,0 +1,9 @@
+-- What the contracts of the steps rest on.
+pub mod Views
+pub mod World
+pub mod Rule
+pub mod Plays
+pub mod Seats
+-- Internal: how a view is kept, and what a step leaves to the other seats.
+pub mod Codes
+pub mod Onward

@@ -1,0 +1,45 @@
+-- What a step may do to the table, as the seats that don't make it see it.
+use Rattle.std.specs.Prelude.{◌≡◌, ℕ, ◌*◌, ◌<◌, ◌≤◌, ◌⊎◌, true, Some}
+use Rattle.geometry.specs.History.{Begins}
+use Rattle.geometry.specs.Limits.{Numbers}
+use Rattle.geometry.specs.declared.map_word.MapWord.{MapWord}
+use Rattle.geometry.specs.declared.pin_word.PinWord.{PinWord}
+use Rattle.geometry.specs.declared.pin_word.Phase.TheVariants.{Free}
+use Rattle.flash_rule.specs.declared.facts.Name.{Name}
+use Rattle.flash_rule.specs.declared.facts.Name.TheVariants.{Pass}
+use Rattle.flash_rule.specs.Views.{calls_of}
+use Rattle.flash_rule.specs.World.{World, is_owned, is_intact, age_of}
+use Rattle.flash_rule.specs.Rule.{IsProgrammed, IsDealt}
+
+-- A block's state goes on: it gets no younger, loses no written page within a generation, stays intact while it has readers, is
+-- intact only if it was or was taken when free, and gets free only with a new generation
+pub record PinOnward (p q : PinWord) : Type 0 where
+  pub generation : p.generation ≤ q.generation
+  pub age : age_of p ≤ age_of q
+  pub written : q.generation ≡ p.generation → p.written ≤ q.written
+  pub held : 0 < p.readers → is_intact p.phase ≡ true → (q.generation ≡ p.generation) × (is_intact q.phase ≡ true)
+  pub was : q.generation ≡ p.generation → is_intact q.phase ≡ true → ¬ (p.phase ≡ Free) → is_intact p.phase ≡ true
+  pub free : q.generation ≡ p.generation → q.phase ≡ Free → p.phase ≡ Free
+
+-- A block stays as it was, but for its readers
+pub record Untouched (g g' : World) (b : ℕ) : Type 0 where
+  pub owner : g'.owner b ≡ g.owner b
+  pub phase : (g'.pins b).phase ≡ (g.pins b).phase
+  pub generation : (g'.pins b).generation ≡ (g.pins b).generation
+  pub written : (g'.pins b).written ≡ (g.pins b).written
+  pub pages : (p i : ℕ) → g'.pages b p i ≡ g.pages b p i
+
+-- A step of one seat, or of two where one is joined into the other, adds to the history calls of that seat alone, moves each block
+-- onward, leaves the blocks of others and the pages that can be read, names pages of its own blocks alone, and forgets nothing
+pub record Onward (z : Numbers) (g g' : World) (id other : ℕ) : Type 0 where
+  pub history : Begins g.history g'.history
+  pub calls : (t : ℕ) → ¬ (g.seat (Pass t) ≡ id) → calls_of t g'.history ≡ calls_of t g.history
+  pub seat : (n : Name) → IsDealt g n → (g'.seat n ≡ g.seat n) × IsDealt g' n
+  pub pins : (b : ℕ) → b < z.blocks → PinOnward (g.pins b) (g'.pins b)
+  pub owned : (b : ℕ) → b < z.blocks → ¬ (g.owner b ≡ id) → is_owned (g.pins b).phase ≡ true → Untouched g g' b
+  pub pages : (b p i : ℕ) → b < z.blocks → is_intact (g.pins b).phase ≡ true → p < (g.pins b).written → g'.pages b p i ≡ g.pages b p i
+  pub named : (s : ℕ) (m : MapWord) → g'.map s ≡ Some m → (g.map s ≡ Some m) ⊎ (g.owner m.block ≡ id)
+  pub programmer : (m : MapWord) → IsProgrammed (g.pins m.block) m → g'.programmer m.block m.page m.generation ≡ g.programmer m.block m.page m.generation
+  pub eraser : (b n : ℕ) → 2 * n < age_of (g.pins b) → g'.eraser b n ≡ g.eraser b n
+  pub dealer : ¬ (id ≡ 0) → (g'.passes ≡ g.passes) × (g'.brooms ≡ g.brooms)
+  pub badge : (n : Name) → IsDealt g n → ¬ (g.badge n ≡ id) → ¬ (g.badge n ≡ other) → g'.badge n ≡ g.badge n

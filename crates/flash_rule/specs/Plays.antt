@@ -1,0 +1,204 @@
+-- What each kind of step asks of the seat that makes it, and what it tells: the change of that seat's view.
+use Rattle.std.specs.Prelude.{◌≡◌, ℕ, ◌+◌, ◌*◌, ◌<◌, ◌≤◌, ◌==◌, ◌&&◌, Bool, true, false, List, [], ◌∷◌, ◌++◌, Option, None, Some, if◌then◌else◌, length, slice_get, slice_set, slice_index}
+use Rattle.atomic_table.specs.Table.{Step, Me}
+use Rattle.geometry.specs.History.{Call, Write, Trim, held, was, Begins}
+use Rattle.geometry.specs.declared.answer.Was.{Was}
+use Rattle.geometry.specs.MapWords.{map_word, FitsMap}
+use Rattle.geometry.specs.PinWords.{pin_word, FitsPin}
+use Rattle.geometry.specs.TableOrder.{pin_index, page_index}
+use Rattle.geometry.specs.declared.map_word.MapWord.{MapWord}
+use Rattle.geometry.specs.declared.pin_word.PinWord.{PinWord}
+use Rattle.geometry.specs.declared.pin_word.Phase.TheVariants.{Free, Open}
+use Rattle.flash_rule.specs.declared.facts.Name.TheVariants.{Pass}
+use Rattle.flash_rule.specs.declared.facts.Role.TheVariants.{Player}
+use Rattle.flash_rule.specs.declared.facts.Owned.{Owned}
+use Rattle.flash_rule.specs.declared.facts.Pin.{Pin}
+use Rattle.flash_rule.specs.declared.facts.Pin.TheVariants.{Clear, Candidate, Accepted, Stray}
+use Rattle.flash_rule.specs.declared.facts.Work.{Work}
+use Rattle.flash_rule.specs.declared.carried.Carried.{Carried}
+use Rattle.flash_rule.specs.declared.view.View.{View}
+use Rattle.flash_rule.specs.Views.{owned_at, without, with_owned, calls_of, sum_of}
+use Rattle.flash_rule.specs.World.{data_word, Intact}
+use Rattle.flash_rule.specs.Rule.{IsValue}
+
+-- a seat that steps on this table: its view, and the slots that it holds, which are none
+abbrev pub Sitter : Type 0
+Sitter = Me (Unit {0}) View
+
+-- a pass that has nothing pinned
+abbrev pub is_unpinned : Pin → Bool
+is_unpinned Clear = true
+is_unpinned (Candidate m value) = true
+is_unpinned (Accepted m value) = false
+is_unpinned (Stray b) = false
+
+-- the two lists share no entry
+abbrev pub Disjoint : {X : Type 0} → List X → List X → Type 0
+Disjoint {X} xs ys = (j k : ℕ) (x : X) → slice_get xs j ≡ Some x → ¬ (slice_get ys k ≡ Some x)
+
+-- the copies are of another player, the history that was seen begins with the copied one, and that player programmed and erased nothing that this one did
+pub record Met (w : View) (c : Carried) : Type 0 where
+  pub other : ¬ (w.role ≡ Player c.of)
+  pub seen : Begins c.seen w.seen
+  pub programs : Disjoint w.programs c.programs
+  pub erases : Disjoint w.erases c.erases
+
+-- LOOK. The pass sees the history of this moment. The word found is 0 where the sector is empty after it, and else names a page with the
+-- sector's value, which is now a candidate
+pub record Looked (v : View) (s n : ℕ) (w : View) : Type 0 where
+  pub changed : w ≡ record v { seen = w.seen; looks = v.looks + 1; pin = w.pin; known = w.known }
+  pub later : Begins v.seen w.seen
+  pub own : (t : ℕ) → v.role ≡ Player (Pass t) → calls_of t w.seen ≡ w.mine
+  pub empty : n ≡ 0 → (held v.numbers.sectors w.seen s ≡ None) × (w.pin ≡ Clear) × (w.known ≡ v.known)
+  pub named : ¬ (n ≡ 0) → (m : MapWord) × (value : List ℕ) × (n ≡ map_word m) × FitsMap m × (held v.numbers.sectors w.seen s ≡ Some value) × IsValue v.numbers value
+      × (w.pin ≡ Candidate m value) × (w.known ≡ slice_set v.known m.block (2 * m.generation)) × (m.block < v.numbers.blocks) × (m.page < v.numbers.pages)
+  pub rises : sum_of v.known ≤ sum_of w.known
+  pub bounded : sum_of w.known ≤ v.numbers.blocks * (2 * v.numbers.endurance)
+  pub met : (c : Carried) → v.copy ≡ Some c → Met w c
+
+abbrev pub look_told : Step (Unit {0}) → Sitter → ℕ → Sitter → Type 0
+look_told st me n after = (after.1 ≡ me.1) × Looked me.0 st.word n after.0
+
+-- PLACE. The pass sees the history of this moment followed by its call; the word swapped out tells what the sector was before
+pub record Placed (v : View) (c : Call) (s n : ℕ) (w : View) : Type 0 where
+  pub changed : w ≡ record v { seen = w.seen; mine = v.mine ++ c ∷ [] }
+  pub before : List Call
+  pub later : Begins v.seen before
+  pub now : w.seen ≡ before ++ c ∷ []
+  pub empty : n ≡ 0 → held v.numbers.sectors before s ≡ None
+  pub written : ¬ (n ≡ 0) → (value : List ℕ) × (held v.numbers.sectors before s ≡ Some value)
+  pub own : (t : ℕ) → v.role ≡ Player (Pass t) → calls_of t w.seen ≡ w.mine
+
+-- The pass has filled and counted a page with this value and this sector's stamp
+pub record CanPlace (v : View) (s : ℕ) (m : MapWord) (value : List ℕ) : Type 0 where
+  pub work : Work
+  pub entry : Owned
+  pub is : v.work ≡ Some work
+  pub page : work.page ≡ m
+  pub own : owned_at m.block v.owns ≡ Some entry
+  pub counted : m.page < entry.written
+  pub whole : IsValue v.numbers value
+  pub words : (i : ℕ) → i < v.numbers.words → slice_index work.words i ≡ data_word value i
+  pub stamp : slice_index work.words v.numbers.words ≡ s
+
+abbrev pub write_told : Step (Unit {0}) → Sitter → ℕ → Sitter → Type 0
+write_told st me n after =
+    (after.1 ≡ me.1)
+    × ((t : ℕ) (m : MapWord) (value : List ℕ) → me.0.role ≡ Player (Pass t) → st.first ≡ map_word m → FitsMap m → CanPlace me.0 st.word m value → Placed me.0 (Write t st.word value) st.word n after.0)
+
+abbrev pub trim_told : Step (Unit {0}) → Sitter → ℕ → Sitter → Type 0
+trim_told st me n after = (after.1 ≡ me.1) × ((t : ℕ) → me.0.role ≡ Player (Pass t) → Placed me.0 (Trim t st.word) st.word n after.0)
+
+-- TAKE. A block found free is now the pass's, open and with nothing written; another one is as it was
+pub record Took (v : View) (b n : ℕ) (w : View) : Type 0 where
+  pub state : PinWord
+  pub fits : FitsPin state
+  pub found : n ≡ pin_word state
+  pub free : state.phase ≡ Free → w ≡ record v { taken = v.taken + 1; owns = with_owned (record { block = b; phase = Open; generation = state.generation; written = 0 }) v.owns }
+  pub denied : ¬ (state.phase ≡ Free) → w ≡ record v { denied = v.denied ++ b ∷ [] }
+
+abbrev pub take_told : Step (Unit {0}) → Sitter → ℕ → Sitter → Type 0
+take_told st me n after = (after.1 ≡ me.1) × ((b : ℕ) → b < me.0.numbers.blocks → st.word ≡ pin_index me.0.numbers b → Took me.0 b n after.0)
+
+-- the first page not written of an owned block, in its generation
+abbrev pub next_page : Owned → MapWord
+next_page o = record { generation = o.generation; block = o.block; page = o.written }
+
+-- the words put so far into that page
+abbrev pub words_in : Option Work → Owned → List ℕ
+words_in None o = []
+words_in (Some w) o = if w.page.block == o.block && w.page.page == o.written then w.words else []
+
+-- The work, if there is one, is counted, but for a page of this block
+abbrev pub SettledBut : View → ℕ → Type 0
+SettledBut v b = (w : Work) (e : Owned) → v.work ≡ Some w → owned_at w.page.block v.owns ≡ Some e → ¬ (w.page.block ≡ b) → w.page.page < e.written
+
+-- The work, if there is one, is counted
+abbrev pub IsSettled : View → Type 0
+IsSettled v = (w : Work) (e : Owned) → v.work ≡ Some w → owned_at w.page.block v.owns ≡ Some e → w.page.page < e.written
+
+-- PUT WORD. The next word of the first page not written of an own open block
+pub record CanPut (v : View) (o : Owned) : Type 0 where
+  pub own : owned_at o.block v.owns ≡ Some o
+  pub opened : o.phase ≡ Open
+  pub room : o.written < v.numbers.pages
+  pub short : length (words_in v.work o) ≤ v.numbers.words
+  pub settled : SettledBut v o.block
+
+abbrev pub put_told : Step (Unit {0}) → Sitter → ℕ → Sitter → Type 0
+put_told st me n after =
+    (after.1 ≡ me.1)
+    × ((o : Owned) → CanPut me.0 o → st.word ≡ page_index me.0.numbers o.block o.written + length (words_in me.0.work o)
+    → after.0 ≡ record me.0 { work = Some (record { page = next_page o; words = words_in me.0.work o ++ st.first ∷ [] }) })
+
+-- GET WORD. A word of the candidate's page is the value's; the view stays
+abbrev pub get_told : Step (Unit {0}) → Sitter → ℕ → Sitter → Type 0
+get_told st me n after =
+    (after ≡ me)
+    × ((m : MapWord) (value : List ℕ) (i : ℕ) → me.0.pin ≡ Candidate m value → i < me.0.numbers.words → st.word ≡ page_index me.0.numbers m.block m.page + i → n ≡ data_word value i)
+
+-- the same of an accepted pin's page
+abbrev pub pinned_told : Step (Unit {0}) → Sitter → ℕ → Sitter → Type 0
+pinned_told st me n after =
+    (after ≡ me)
+    × ((m : MapWord) (value : List ℕ) (i : ℕ) → me.0.pin ≡ Accepted m value → i < me.0.numbers.words → st.word ≡ page_index me.0.numbers m.block m.page + i → n ≡ data_word value i)
+
+-- COUNT. The page that was filled is programmed: the block has one page more written
+pub record CanCount (v : View) (o : Owned) (w : Work) : Type 0 where
+  pub own : owned_at o.block v.owns ≡ Some o
+  pub opened : o.phase ≡ Open
+  pub is : v.work ≡ Some w
+  pub page : w.page ≡ next_page o
+  pub full : length w.words ≡ v.numbers.words + 1
+
+abbrev pub count_told : Step (Unit {0}) → Sitter → ℕ → Sitter → Type 0
+count_told st me n after =
+    (after.1 ≡ me.1)
+    × ((o : Owned) (w : Work) → CanCount me.0 o w → st.word ≡ pin_index me.0.numbers o.block
+    → after.0 ≡ record me.0 { programs = me.0.programs ++ w.page ∷ []; owns = with_owned (record o { written = o.written + 1 }) me.0.owns })
+
+-- CLOSE. The block is nobody's from now on; nothing uncounted is left
+pub record CanClose (v : View) (o : Owned) : Type 0 where
+  pub own : owned_at o.block v.owns ≡ Some o
+  pub opened : o.phase ≡ Open
+  pub settled : IsSettled v
+
+abbrev pub close_told : Step (Unit {0}) → Sitter → ℕ → Sitter → Type 0
+close_told st me n after =
+    (after.1 ≡ me.1)
+    × ((o : Owned) → CanClose me.0 o → st.word ≡ pin_index me.0.numbers o.block → after.0 ≡ record me.0 { owns = without o.block me.0.owns; work = None })
+
+-- PIN. The candidate is accepted where the block is intact in its generation, else the pin is stray. The block's age is known
+pub record Pinned (v : View) (m : MapWord) (value : List ℕ) (n : ℕ) (w : View) : Type 0 where
+  pub state : PinWord
+  pub fits : FitsPin state
+  pub found : n ≡ pin_word state
+  pub changed : w ≡ record v { pin = w.pin; known = w.known }
+  pub accepted : Intact state m.generation → (w.pin ≡ Accepted m value) × (w.known ≡ v.known)
+  pub stray : ¬ Intact state m.generation → (w.pin ≡ Stray m.block) × (sum_of v.known < sum_of w.known)
+  pub rises : sum_of v.known ≤ sum_of w.known
+  pub bounded : sum_of w.known ≤ v.numbers.blocks * (2 * v.numbers.endurance)
+
+abbrev pub pin_told : Step (Unit {0}) → Sitter → ℕ → Sitter → Type 0
+pin_told st me n after =
+    (after.1 ≡ me.1) × ((m : MapWord) (value : List ℕ) → me.0.pin ≡ Candidate m value → st.word ≡ pin_index me.0.numbers m.block → Pinned me.0 m value n after.0)
+
+-- the block that a pin is on
+abbrev pub IsOn : Pin → ℕ → Type 0
+IsOn Clear b = ⊥
+IsOn (Candidate m value) b = ⊥
+IsOn (Accepted m value) b = m.block ≡ b
+IsOn (Stray c) b = c ≡ b
+
+-- UNPIN. An accepted or stray pin is given back
+abbrev pub unpin_told : Step (Unit {0}) → Sitter → ℕ → Sitter → Type 0
+unpin_told st me n after = (after.1 ≡ me.1) × ((b : ℕ) → IsOn me.0.pin b → st.word ≡ pin_index me.0.numbers b → after.0 ≡ record me.0 { pin = Clear })
+
+-- CALL. The pass sees a history that begins with all that it had seen, followed by its call; the answer is what the sector was before it
+pub record Called (v : View) (c : Call) (s : ℕ) (answer : Was) (w : View) : Type 0 where
+  pub changed : w ≡ record v { seen = w.seen; mine = v.mine ++ c ∷ [] }
+  pub before : List Call
+  pub later : Begins v.seen before
+  pub now : w.seen ≡ before ++ c ∷ []
+  pub answered : answer ≡ was v.numbers.sectors before s
+  pub own : (t : ℕ) → v.role ≡ Player (Pass t) → calls_of t w.seen ≡ w.mine

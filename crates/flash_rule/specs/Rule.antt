@@ -1,0 +1,203 @@
+-- The rule of the shared table: the lawful map, the lawful pins, the lawful blocks, dead pages, ages, and what was programmed and erased listed once.
+use Rattle.std.specs.Prelude.{◌≡◌, ℕ, ◌+◌, ◌*◌, ◌^◌, ◌<◌, ◌≤◌, ◌⊎◌, true, false, List, [], Option, None, Some, length, slice_index, slice_get}
+use mathlib.Core.Option.{some}
+use lib.ListN.{get_elem?}
+use Rattle.geometry.specs.History.{held, Begins}
+use Rattle.geometry.specs.Limits.{Numbers, IsWithinLimits}
+use Rattle.geometry.specs.declared.limits.TheConstants.{WORD_BYTES}
+use Rattle.geometry.specs.declared.map_word.MapWord.{MapWord}
+use Rattle.geometry.specs.declared.pin_word.PinWord.{PinWord}
+use Rattle.geometry.specs.declared.pin_word.Phase.TheVariants.{Free, Open, Victim, Erasing}
+use Rattle.flash_rule.specs.declared.facts.Name.{Name}
+use Rattle.flash_rule.specs.declared.facts.Name.TheVariants.{Pass, Broom}
+use Rattle.flash_rule.specs.declared.facts.Role.{Role}
+use Rattle.flash_rule.specs.declared.facts.Role.TheVariants.{Dealer, Player}
+use Rattle.flash_rule.specs.declared.facts.Owned.{Owned}
+use Rattle.flash_rule.specs.declared.facts.Pin.{Pin}
+use Rattle.flash_rule.specs.declared.facts.Pin.TheVariants.{Clear, Candidate, Accepted, Stray}
+use Rattle.flash_rule.specs.declared.facts.Work.{Work}
+use Rattle.flash_rule.specs.declared.facts.Source.{Source}
+use Rattle.flash_rule.specs.declared.facts.Cycle.{Cycle}
+use Rattle.flash_rule.specs.declared.carried.Carried.{Carried}
+use Rattle.flash_rule.specs.declared.view.View.{View}
+use Rattle.flash_rule.specs.Views.{total, is_pass, is_player, is_live_role, may_own, weight, pins_on, owned_at, calls_of}
+use Rattle.flash_rule.specs.World.{World, is_owned, is_nameable, is_still, is_early, age_of, Intact, HoldsValue, IsBlank, blank_word}
+
+-- A value has the bytes of one page
+pub record IsValue (z : Numbers) (value : List ℕ) : Type 0 where
+  pub long : length value ≡ WORD_BYTES * z.words
+  pub bytes : (k : ℕ) → slice_index value k < 2 ^ 8
+
+-- The sector's map word names this page: it holds the sector's value and its stamp, it is written, and its block is in the
+-- generation named, in use and not drained
+pub record IsCurrent (z : Numbers) (g : World) (s : ℕ) (m : MapWord) : Type 0 where
+  pub value : List ℕ
+  pub here : held z.sectors g.history s ≡ Some value
+  pub block : m.block < z.blocks
+  pub same : (g.pins m.block).generation ≡ m.generation
+  pub phase : is_nameable (g.pins m.block).phase ≡ true
+  pub written : m.page < (g.pins m.block).written
+  pub stands : HoldsValue z (g.pages m.block m.page) value
+  pub whole : IsValue z value
+  pub stamp : g.pages m.block m.page z.words ≡ s
+
+-- LAWFUL MAP. A sector that no map word maps is empty after the history, and a mapped one names the page that holds its value
+pub record LawfulSector (z : Numbers) (g : World) (s : ℕ) : Type 0 where
+  pub empty : g.map s ≡ None → held z.sectors g.history s ≡ None
+  pub named : (m : MapWord) → g.map s ≡ Some m → IsCurrent z g s m
+
+-- LAWFUL BLOCKS, seen from the block. As many readers are counted as passes have an accepted or stray pin on the block; pages
+-- written and generation are in range, and a free block has none written; where nobody fills a page, those not written are
+-- all ones; and a block that is open, victim or erasing stands among the blocks of its owner
+pub record LawfulBlock (z : Numbers) (g : World) (vs : List View) (b : ℕ) : Type 0 where
+  pub readers : (g.pins b).readers ≡ total (pins_on b) vs
+  pub written : (g.pins b).written ≤ z.pages
+  pub generation : (g.pins b).generation < z.endurance
+  pub free : (g.pins b).phase ≡ Free → (g.pins b).written ≡ 0
+  pub rest : is_still (g.pins b).phase ≡ true → (p : ℕ) → (g.pins b).written ≤ p → p < z.pages → IsBlank z (g.pages b p)
+  pub owner : is_owned (g.pins b).phase ≡ true → (v : View) × (o : Owned) × (get_elem? vs (g.owner b) ≡ some v) × (owned_at b v.owns ≡ Some o)
+
+-- A page was programmed in its block's generation, or in an earlier one
+abbrev pub IsProgrammed : PinWord → MapWord → Type 0
+IsProgrammed p m = (m.generation < p.generation) ⊎ ((m.generation ≡ p.generation) × (m.page < p.written))
+
+-- PROGRAMS, LISTED ONCE. Each entry of the player's list is a page that was programmed, and the page's one programmer is this player, by this entry
+abbrev pub Programs : Numbers → World → Name → List MapWord → Type 0
+Programs z g n list =
+    (k : ℕ) (m : MapWord) → slice_get list k ≡ Some m
+    → (m.block < z.blocks) × IsProgrammed (g.pins m.block) m × (g.programmer m.block m.page m.generation ≡ Some (n, k))
+
+-- ERASES, LISTED ONCE. Each entry is a generation of a block that is over or being ended, and its one eraser is this player, by this entry
+abbrev pub Erases : Numbers → World → Name → List Cycle → Type 0
+Erases z g n list =
+    (k : ℕ) (c : Cycle) → slice_get list k ≡ Some c
+    → (c.block < z.blocks) × (2 * c.generation < age_of (g.pins c.block)) × (g.eraser c.block c.generation ≡ Some (n, k))
+
+-- LAWFUL PINS. An accepted pin's block is intact in its generation and its page holds the value. A candidate's block is in no earlier
+-- generation, isn't free in that one, and where it is intact in it the page holds the value; the age known of it is just that of the look
+pub record IsAccepted (z : Numbers) (g : World) (m : MapWord) (value : List ℕ) : Type 0 where
+  pub block : m.block < z.blocks
+  pub intact : Intact (g.pins m.block) m.generation
+  pub written : m.page < (g.pins m.block).written
+  pub stands : HoldsValue z (g.pages m.block m.page) value
+  pub whole : IsValue z value
+
+pub record IsCandidate (z : Numbers) (g : World) (known : List ℕ) (m : MapWord) (value : List ℕ) : Type 0 where
+  pub block : m.block < z.blocks
+  pub reached : m.generation ≤ (g.pins m.block).generation
+  pub taken : (g.pins m.block).generation ≡ m.generation → ¬ ((g.pins m.block).phase ≡ Free)
+  pub page : Intact (g.pins m.block) m.generation → (m.page < (g.pins m.block).written) × HoldsValue z (g.pages m.block m.page) value
+  pub whole : IsValue z value
+  pub age : slice_index known m.block ≡ 2 * m.generation
+
+abbrev pub LawfulPin : Numbers → World → List ℕ → Pin → Type 0
+LawfulPin z g known Clear = Unit {0}
+LawfulPin z g known (Candidate m value) = IsCandidate z g known m value
+LawfulPin z g known (Accepted m value) = IsAccepted z g m value
+LawfulPin z g known (Stray b) = b < z.blocks
+
+-- NOTES. The copied lists begin lists of the player that they are of, and that player is another one
+pub record LawfulCopy (z : Numbers) (g : World) (role : Role) (c : Carried) : Type 0 where
+  pub seen : Begins c.seen g.history
+  pub programs : Programs z g c.of c.programs
+  pub erases : Erases z g c.of c.erases
+  pub other : ¬ (role ≡ Player c.of)
+
+-- What a view says by itself, whatever the table is: the table's numbers, and which fields its role uses
+pub record LawfulKind (z : Numbers) (v : View) : Type 0 where
+  pub numbers : is_live_role v.role ≡ true → v.numbers ≡ z
+  pub known : is_pass v.role ≡ true → length v.known ≡ z.blocks
+  pub opens : is_pass v.role ≡ true → (b : ℕ) (o : Owned) → owned_at b v.owns ≡ Some o → o.phase ≡ Open
+  pub unpinned : is_pass v.role ≡ false → v.pin ≡ Clear
+  pub idle : is_player v.role ≡ false → (v.work ≡ None) × (v.source ≡ None) × (v.programs ≡ []) × (v.erases ≡ [])
+  pub owns_none : may_own v.role ≡ false → v.owns ≡ []
+
+-- What a view knows: it has seen a beginning of the history, its pin is lawful, no block is younger than known, and its lists and copies are lawful
+pub record LawfulKnowledge (z : Numbers) (g : World) (v : View) : Type 0 where
+  pub seen : Begins v.seen g.history
+  pub pin : LawfulPin z g v.known v.pin
+  pub known : (b : ℕ) → b < z.blocks → slice_index v.known b ≤ age_of (g.pins b)
+  pub programs : (n : Name) → v.role ≡ Player n → Programs z g n v.programs
+  pub erases : (n : Name) → v.role ≡ Player n → Erases z g n v.erases
+  pub copy : (c : Carried) → v.copy ≡ Some c → LawfulCopy z g v.role c
+
+-- The page that the seat is filling, which isn't counted yet
+pub record IsFilling (doing : Option Work) (b p : ℕ) : Type 0 where
+  pub work : Work
+  pub is : doing ≡ Some work
+  pub block : work.page.block ≡ b
+  pub page : work.page.page ≡ p
+
+-- LAWFUL BLOCKS AND DEAD PAGES, seen from the owner. The block is the seat's alone, in the phase and generation and with the pages
+-- written that the seat knows. Pages of an open block that are neither written nor being filled are all ones; no map word
+-- names a cleared page of a victim; the words of an erasing block are all ones as far as it was wiped
+pub record LawfulOwned (z : Numbers) (g : World) (id : ℕ) (doing : Option Work) (cleared wiped : ℕ) (b : ℕ) (o : Owned) : Type 0 where
+  pub block : o.block ≡ b
+  pub low : b < z.blocks
+  pub owner : g.owner b ≡ id
+  pub owned : is_owned o.phase ≡ true
+  pub phase : (g.pins b).phase ≡ o.phase
+  pub generation : (g.pins b).generation ≡ o.generation
+  pub written : (g.pins b).written ≡ o.written
+  pub rest : o.phase ≡ Open → (p : ℕ) → o.written ≤ p → p < z.pages → ¬ IsFilling doing b p → IsBlank z (g.pages b p)
+  pub dead : o.phase ≡ Victim → (p s : ℕ) → p < cleared → s < z.sectors → ¬ (g.map s ≡ Some (record { generation = o.generation; block = b; page = p }))
+  pub clean : o.phase ≡ Erasing → (p i : ℕ) → p < z.pages → i ≤ z.words → p * (z.words + 1) + i < wiped → g.pages b p i ≡ blank_word
+
+-- WORK. Its page is of an own open block in its generation. It is counted, with all its words, or it is the first page not written. Its words stand in the page
+pub record LawfulWork (z : Numbers) (g : World) (owns : List Owned) (w : Work) : Type 0 where
+  pub entry : Owned
+  pub own : owned_at w.page.block owns ≡ Some entry
+  pub opened : entry.phase ≡ Open
+  pub generation : entry.generation ≡ w.page.generation
+  pub page : w.page.page < z.pages
+  pub counted : (w.page.page < entry.written) ⊎ (w.page.page ≡ entry.written)
+  pub short : length w.words ≤ z.words + 1
+  pub full : w.page.page < entry.written → length w.words ≡ z.words + 1
+  pub stands : (i : ℕ) → i < length w.words → g.pages w.page.block w.page.page i ≡ slice_index w.words i
+
+-- SOURCE. It is the first page not cleared of an own victim in its generation, written, with this stamp and this value
+pub record LawfulSource (z : Numbers) (g : World) (owns : List Owned) (cleared : ℕ) (x : Source) : Type 0 where
+  pub entry : Owned
+  pub own : owned_at x.page.block owns ≡ Some entry
+  pub victim : entry.phase ≡ Victim
+  pub generation : entry.generation ≡ x.page.generation
+  pub page : x.page.page ≡ cleared
+  pub written : x.page.page < entry.written
+  pub stamp : g.pages x.page.block x.page.page z.words ≡ x.stamp
+  pub value : (value : List ℕ) → x.value ≡ Some value → HoldsValue z (g.pages x.page.block x.page.page) value × IsValue z value
+
+-- A player of this number has been handed out
+abbrev pub IsDealt : World → Name → Type 0
+IsDealt g (Pass t) = t < g.passes
+IsDealt g (Broom i) = i < g.brooms
+
+-- What is a seat's alone: its name, its calls in the history, its blocks, its work, its source and its badges
+pub record LawfulHolding (z : Numbers) (g : World) (id : ℕ) (v : View) : Type 0 where
+  pub name : (n : Name) → v.role ≡ Player n → (g.seat n ≡ id) × IsDealt g n
+  pub calls : (t : ℕ) → v.role ≡ Player (Pass t) → (calls_of t g.history ≡ v.mine) × (calls_of t v.seen ≡ v.mine)
+  pub owned : (b : ℕ) (o : Owned) → owned_at b v.owns ≡ Some o → LawfulOwned z g id v.work v.cleared v.wiped b o
+  pub work : (w : Work) → v.work ≡ Some w → LawfulWork z g v.owns w
+  pub source : (x : Source) → v.source ≡ Some x → LawfulSource z g v.owns v.cleared x
+  pub whole : v.whole ≡ true → (n : Name) → v.role ≡ Player n → g.badge n ≡ id
+  pub guest : (n : Name) → v.guest ≡ Some n → (g.badge n ≡ id) × IsDealt g n
+  pub dealer : v.role ≡ Dealer → (id ≡ 0) × (v.passes ≡ g.passes) × (v.brooms ≡ g.brooms)
+
+pub record LawfulView (z : Numbers) (g : World) (id : ℕ) (v : View) : Type 0 where
+  pub kind : LawfulKind z v
+  pub knowledge : LawfulKnowledge z g v
+  pub holding : LawfulHolding z g id v
+
+-- The rule, over the sectors, the blocks and the seats. Passes not handed out yet have no calls, and the seats stand for as many passes as there are hosts
+pub record Lawful (z : Numbers) (g : World) (vs : List View) : Type 0 where
+  pub limits : IsWithinLimits z
+  pub sectors : (s : ℕ) → s < z.sectors → LawfulSector z g s
+  pub blocks : (b : ℕ) → b < z.blocks → LawfulBlock z g vs b
+  pub views : (id : ℕ) (v : View) → get_elem? vs id ≡ some v → LawfulView z g id v
+  pub strangers : (t : ℕ) → g.passes ≤ t → calls_of t g.history ≡ []
+  pub seats : total (weight z) vs ≡ z.hosts
+  pub dealt : g.passes ≤ z.hosts
+
+-- Before anything is drained or erased, every block is free, open or closed, in generation 0
+pub record IsEarly (z : Numbers) (g : World) : Type 0 where
+  pub phase : (b : ℕ) → b < z.blocks → is_early (g.pins b).phase ≡ true
+  pub generation : (b : ℕ) → b < z.blocks → (g.pins b).generation ≡ 0

@@ -1,0 +1,117 @@
+-- The views that the dealer hands out, and the rule as the table has it.
+use Rattle.std.specs.Prelude.{ℕ, zero, suc, ◌+◌, ◌-◌, ◌*◌, false, true, List, [], ◌∷◌, ◌++◌, None, Some, replicate}
+use Rattle.atomic_table.specs.Table.{State}
+use Rattle.geometry.specs.Limits.{Numbers}
+use Rattle.geometry.specs.PinWords.{phase_bits}
+use Rattle.geometry.specs.declared.pin_word.Phase.TheVariants.{Free, Open}
+use Rattle.flash_rule.specs.declared.facts.Name.{Name}
+use Rattle.flash_rule.specs.declared.facts.Name.TheVariants.{Pass}
+use Rattle.flash_rule.specs.declared.facts.Role.{Role}
+use Rattle.flash_rule.specs.declared.facts.Role.TheVariants.{Dealer, Player, Note, Gone}
+use Rattle.flash_rule.specs.declared.facts.Owned.{Owned}
+use Rattle.flash_rule.specs.declared.facts.Pin.TheVariants.{Clear}
+use Rattle.flash_rule.specs.declared.carried.Carried.{Carried}
+use Rattle.flash_rule.specs.declared.view.View.{View}
+use Rattle.flash_rule.specs.World.{World, Fits, blank_word}
+use Rattle.flash_rule.specs.Rule.{Lawful}
+
+-- the rule, in a part of the device that has a clause of its own: there is a state that the words fit, and it is lawful with all seats
+abbrev pub Ruled : (Numbers → World → Type 0) → Numbers → State (Unit {0}) View → Type 0
+Ruled part z s = (g : World) × Fits z g.map g.pins g.pages s.words × Lawful z g s.views × part z g
+
+-- the clause of a part that has none
+abbrev pub Whole : Numbers → World → Type 0
+Whole z g = Unit {0}
+
+-- a seat in a role, that knows nothing yet
+abbrev pub newcomer : Numbers → Role → View
+newcomer z role =
+    record {
+      role = role;
+      numbers = z;
+      seen = [];
+      mine = [];
+      looks = 0;
+      pin = Clear;
+      known = [];
+      taken = 0;
+      denied = [];
+      owns = [];
+      work = None;
+      programs = [];
+      erases = [];
+      cleared = 0;
+      source = None;
+      wiped = 0;
+      loaded = [];
+      named = [];
+      lost = [];
+      moves = 0;
+      drains = [];
+      busy = [];
+      stale = [];
+      passes = 0;
+      brooms = 0;
+      whole = false;
+      guest = None;
+      copy = None;
+    }
+
+-- so many open blocks with nothing written, from one on
+abbrev pub spares : ℕ → ℕ → List Owned
+spares zero from = []
+spares (suc n) from = record { block = from; phase = Open; generation = 0; written = 0 } ∷ spares n (from + 1)
+
+-- the dealer owns the brooms' spares, which are the last blocks, until it hands them out
+abbrev pub dealer : Numbers → View
+dealer z = record (newcomer z Dealer) { owns = spares z.brooms (z.blocks - z.brooms) }
+
+-- a pass has the next number
+abbrev pub new_pass : View → View
+new_pass v = record (newcomer v.numbers (Player (Pass v.passes))) { known = replicate v.numbers.blocks 0; whole = true }
+
+abbrev pub dealt_pass : View → View
+dealt_pass v = record v { passes = v.passes + 1 }
+
+-- the words at the start: no sector is mapped, all blocks are free but the spares, which are open, and all pages are all ones
+abbrev pub opening_words : Numbers → List ℕ
+opening_words z =
+    (replicate z.sectors 0 ++ (replicate (z.blocks - z.brooms) (phase_bits Free) ++ replicate z.brooms (phase_bits Open)))
+    ++ replicate (z.blocks * z.pages * (z.words + 1)) blank_word
+
+-- the player of a role; only a player's is asked for
+abbrev pub name_of : Role → Name
+name_of (Player n) = n
+name_of Dealer = Pass 0
+name_of Note = Pass 0
+name_of Gone = Pass 0
+
+-- copies of a player's lists
+abbrev pub carried : View → Carried
+carried v = record { of = name_of v.role; seen = v.seen; programs = v.programs; erases = v.erases }
+
+-- LEND. A player's badge goes with a note that carries copies of its lists
+abbrev pub lender : View → View
+lender v = record v { whole = false }
+
+abbrev pub lent_note : View → View
+lent_note v = record (newcomer v.numbers Note) { guest = Some (name_of v.role); copy = Some (carried v) }
+
+-- TAKE IN. A player that has its own badge takes in a note with the badge and copies of another one
+abbrev pub host_of : View → View → View
+host_of v note = record v { guest = note.guest; copy = note.copy }
+
+-- GIVE BACK. The other's badge goes with a note that carries copies of this player's lists
+abbrev pub giver : View → View
+giver v = record v { guest = None }
+
+abbrev pub given_note : View → View
+given_note v = record (newcomer v.numbers Note) { guest = v.guest; copy = Some (carried v) }
+
+-- COME HOME. A player takes in its own badge with copies of the other's lists
+abbrev pub home : View → View → View
+home v note = record v { whole = true; copy = note.copy }
+
+-- what is left of a seat that was joined into another
+abbrev pub gone : View
+gone = newcomer (record { luns = 0; blocks = 0; pages = 0; words = 0; sectors = 0; endurance = 0; hosts = 0; brooms = 0 }) Gone

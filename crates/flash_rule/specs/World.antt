@@ -1,0 +1,144 @@
+-- What the words and all seats of the table stand for. It exists in the rule alone, which says that there is one that the words fit.
+use Rattle.std.specs.Prelude.{◌≡◌, ℕ, ◌+◌, ◌*◌, ◌<◌, ◌≤◌, ◌==◌, Bool, true, false, List, Option, None, Some, if◌then◌else◌, length, slice_index}
+use Rattle.geometry.specs.History.{Call}
+use Rattle.geometry.specs.Limits.{Numbers, table_words_of}
+use Rattle.geometry.specs.PageBytes.{word_of}
+use Rattle.geometry.specs.MapWords.{map_word}
+use Rattle.geometry.specs.PinWords.{pin_word}
+use Rattle.geometry.specs.TableOrder.{pin_index, page_index}
+use Rattle.geometry.specs.declared.map_word.MapWord.{MapWord}
+use Rattle.geometry.specs.declared.pin_word.PinWord.{PinWord}
+use Rattle.geometry.specs.declared.pin_word.Phase.{Phase}
+use Rattle.geometry.specs.declared.pin_word.Phase.TheVariants.{Free, Open, Closed, Victim, Drained, Erasing, Retired}
+use Rattle.flash_rule.specs.declared.facts.Name.{Name}
+use Rattle.flash_rule.specs.Views.{same_name}
+
+pub record World : Type 0 where
+  -- the calls so far
+  pub history : List Call
+  -- the page that a sector's map word names
+  pub map : ℕ → Option MapWord
+  -- the state of a block
+  pub pins : ℕ → PinWord
+  -- the words of a page, by block, page and place
+  pub pages : ℕ → ℕ → ℕ → ℕ
+  -- the seat that owns a block, where one does
+  pub owner : ℕ → ℕ
+  -- how many passes and brooms have been handed out, and the seat of each
+  pub passes : ℕ
+  pub brooms : ℕ
+  pub seat : Name → ℕ
+  -- who programmed a page in a generation, and as which of its programs: by block, page and generation
+  pub programmer : ℕ → ℕ → ℕ → Option (Name × ℕ)
+  -- who erased a block in a generation, and as which of its erases
+  pub eraser : ℕ → ℕ → Option (Name × ℕ)
+  -- the seat where a player's badge is
+  pub badge : Name → ℕ
+
+-- a function with one value replaced
+abbrev pub put : {X : Type 0} → (ℕ → X) → ℕ → X → ℕ → X
+put f k x j = if j == k then x else f j
+
+abbrev pub put_name : (Name → ℕ) → Name → ℕ → Name → ℕ
+put_name f n x m = if same_name m n then x else f m
+
+-- the pages with one word replaced
+abbrev pub put_word : (ℕ → ℕ → ℕ → ℕ) → ℕ → ℕ → ℕ → ℕ → ℕ → ℕ → ℕ → ℕ
+put_word pages b p i x = put pages b (put (pages b) p (put (pages b p) i x))
+
+-- the phases in which a block has an owner
+abbrev pub is_owned : Phase → Bool
+is_owned Free = false
+is_owned Open = true
+is_owned Closed = false
+is_owned Victim = true
+is_owned Drained = false
+is_owned Erasing = true
+is_owned Retired = false
+
+-- the phases in which the written pages of a block can be read
+abbrev pub is_intact : Phase → Bool
+is_intact Free = false
+is_intact Open = true
+is_intact Closed = true
+is_intact Victim = true
+is_intact Drained = true
+is_intact Erasing = false
+is_intact Retired = false
+
+-- the phases in which a map word may name a page of a block
+abbrev pub is_nameable : Phase → Bool
+is_nameable Free = false
+is_nameable Open = true
+is_nameable Closed = true
+is_nameable Victim = true
+is_nameable Drained = false
+is_nameable Erasing = false
+is_nameable Retired = false
+
+-- the phases in which nobody fills a page, and no page is being erased
+abbrev pub is_still : Phase → Bool
+is_still Free = true
+is_still Open = false
+is_still Closed = true
+is_still Victim = true
+is_still Drained = true
+is_still Erasing = false
+is_still Retired = false
+
+-- the phases of the part without draining
+abbrev pub is_early : Phase → Bool
+is_early Free = true
+is_early Open = true
+is_early Closed = true
+is_early Victim = false
+is_early Drained = false
+is_early Erasing = false
+is_early Retired = false
+
+-- what the phase adds to twice the generation
+abbrev pub half_cycle : Phase → ℕ
+half_cycle Free = 0
+half_cycle Open = 0
+half_cycle Closed = 0
+half_cycle Victim = 0
+half_cycle Drained = 0
+half_cycle Erasing = 1
+half_cycle Retired = 1
+
+-- the age of a block, which no step lowers
+abbrev pub age_of : PinWord → ℕ
+age_of p = 2 * p.generation + half_cycle p.phase
+
+-- the block is in this generation, with its written pages to be read
+pub record Intact (p : PinWord) (generation : ℕ) : Type 0 where
+  pub same : p.generation ≡ generation
+  pub phase : is_intact p.phase ≡ true
+
+-- word i of a value, which is the bytes of a page
+unfoldable pub data_word : List ℕ → ℕ → ℕ
+data_word value i = word_of value i
+
+-- a page holds a value where its data words are the value's
+abbrev pub HoldsValue : Numbers → (ℕ → ℕ) → List ℕ → Type 0
+HoldsValue z page value = (i : ℕ) → i < z.words → page i ≡ data_word value i
+
+-- a page word that nobody has written since the last erase
+abbrev pub blank_word : ℕ
+blank_word = 18446744073709551615
+
+-- a page is blank where its words and its stamp are all ones
+abbrev pub IsBlank : Numbers → (ℕ → ℕ) → Type 0
+IsBlank z page = (i : ℕ) → i ≤ z.words → page i ≡ blank_word
+
+-- the map word of a sector that no page holds is 0
+abbrev pub sector_word : Option MapWord → ℕ
+sector_word None = 0
+sector_word (Some m) = map_word m
+
+-- the words are those of the map, of the pins and of the pages, each at its place
+pub record Fits (z : Numbers) (m : ℕ → Option MapWord) (q : ℕ → PinWord) (r : ℕ → ℕ → ℕ → ℕ) (words : List ℕ) : Type 0 where
+  pub size : length words ≡ table_words_of z.blocks z.pages z.words z.sectors
+  pub sectors : (s : ℕ) → s < z.sectors → slice_index words s ≡ sector_word (m s)
+  pub blocks : (b : ℕ) → b < z.blocks → slice_index words (pin_index z b) ≡ pin_word (q b)
+  pub pages : (b p i : ℕ) → b < z.blocks → p < z.pages → i ≤ z.words → slice_index words (page_index z b p + i) ≡ r b p i

@@ -1,0 +1,22 @@
+//! The rule of the shared table: what every seat knows, and what holds of the words and all seats between any two steps.
+#![tactic(auto)]
+
+mod carried;
+mod facts;
+mod plays;
+mod rule;
+mod view;
+
+pub use carried::Carried;
+pub use facts::{Cycle, Name, Owned, Pin, Role, Source, Work};
+pub use plays::{
+    AddReader, Close, ComeHome, Count, DealPass, GetPinned, GetWord, GiveBack, Lend, Look,
+    PlaceTrim, PlaceWrite, PutWord, Take, TakeIn, TakeReader,
+};
+pub use rule::WithoutErasing;
+pub use view::View;
+
+#[cfg(test)]
+mod model;
+#[cfg(test)]
+mod tests;

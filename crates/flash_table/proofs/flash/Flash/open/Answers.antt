@@ -1,0 +1,75 @@
+use Rattle.std.proofs.Common.{◌≡◌, ℕ, zero, suc, List, [], Some, length, slice_get, sym, refl, ap, ◌∙◌, subst, arith}
+use Rattle.atomic_table.specs.Table.{opening}
+use Rattle.geometry.specs.Geometry.{numbers_of}
+use Rattle.geometry.specs.Limits.{Numbers}
+use Rattle.flash_rule.specs.declared.view.View.{View}
+use Rattle.flash_rule.specs.Rule.{IsEarly}
+use Rattle.flash_rule.specs.Seats.{Ruled, dealer}
+use Rattle.flash_rule.proofs.Opening.{opening_ruled}
+use Rattle.flash_rule.proofs.Owning.{none_some}
+use Rattle.flash_table.specs.declared.pass.Pass.{Pass}
+use Rattle.flash_table.proofs.Dealing.{deal_here, deals_next}
+use Rattle.flash_table.proofs.flash.Flash.open.Goals as goal
+
+pub of_words-requires : goal.of_words-requires
+of_words-requires c =
+    let z : Numbers = numbers_of c.args.geometry.now in
+    let P : List ℕ → Type 0 = λ words. Ruled IsEarly z (opening words [] (dealer z)) in
+    subst P (sym (c.deref.ensures.value ∙ c.in_ok-words.ensures)) (opening_ruled z c.args.geometry.now.in_limits)
+
+nothing : (k : ℕ) (p : Pass) → ¬ (slice_get [] k ≡ Some p)
+nothing zero p e = none_some p e
+nothing (suc k) p e = none_some p e
+
+pub loop-init : goal.loop-init
+loop-init c =
+    let t = c.in_ok-table.ensures in
+    let first = ap (λ x. x.0) t.4 in (
+      record {
+        table = t.2;
+        role = ap (λ (v : View). v.role) first;
+        count = ap (λ (v : View). v.passes) first;
+        numbers = ap (λ (v : View). v.numbers) first;
+        long = ap (length {A = Pass}) c.in_ok-passes.ensures.items;
+        each = λ k p is. absurd (nothing k p (ap (λ l. slice_get l k) (sym c.in_ok-passes.ensures.items) ∙ is));
+      },
+      c.in_ok-passes.ensures.capacity,
+    )
+
+pub split_seat-seat-requires : goal.split_seat-seat-requires
+split_seat-seat-requires c =
+    let h = c.loop.invariant.0 in
+    let t = c.in_ok-table.ensures in
+    let some_sector = c.args.geometry.now.in_limits.sectors_low in
+    let below = c.loop-test.true in
+    let hosts = c.hosts-hosts.ensures.value in
+    let z : Numbers = numbers_of c.args.geometry.now in
+    let size =
+    t.0 ∙ (ap (length {A = ℕ}) (c.deref.ensures.value ∙ c.in_ok-words.ensures) ∙ (opening_ruled z c.args.geometry.now.in_limits).1.size) in
+    let same : numbers_of c.in_ok-table.table.shared.key ≡ numbers_of c.args.geometry.now = ap numbers_of t.5 in
+    let count = h.count in
+    let theirs : c.loop.dealer.me.0.numbers.hosts ≡ (numbers_of c.args.geometry.now).hosts = ap (λ (y : Numbers). y.hosts) h.numbers in
+    (h.table, omega arith, deal_here (numbers_of c.args.geometry.now) (numbers_of c.in_ok-table.table.shared.key) same c.loop.dealer.id c.loop.dealer.me.0 h.role (omega arith))
+
+pub push_reserved-requires : goal.push_reserved-requires
+push_reserved-requires c =
+    let long = c.loop.invariant.0.long in
+    let room = c.loop.invariant.1 in
+    let below = c.loop-test.true in
+    let is = c.loop.passes.ok.0 in omega arith
+
+pub loop-preserved : goal.loop-preserved
+loop-preserved c =
+    let s = c.split_seat-seat.ensures in
+    let next = deals_next _ c.loop.dealer c.split_seat-seat.new.seat c.loop.passes.items _ c.loop.counter c.loop.invariant.0 s.0 (ap (λ x. x.0) s.2) s.3 (ap (λ x. x.0) s.4) refl in
+    (rw c.push_reserved.ensures.items next, (let e = c.push_reserved.ensures.capacity in let r = c.loop.invariant.1 in omega arith))
+
+pub returns-clause-count : goal.returns-clause-count
+returns-clause-count c =
+    let long = c.loop.invariant.0.long in
+    let most = c.loop.auto.counter-end in
+    let least = c.loop-test.false in
+    let hosts = c.hosts-hosts.ensures.value in omega arith
+
+pub returns-clause-passes : goal.returns-clause-passes
+returns-clause-passes c = c.loop.invariant.0.each

@@ -1,0 +1,5 @@
+use Rattle.std.proofs.Common.{vec_len}
+use Rattle.flash_table.proofs.tests.a_device_opens_with_a_pass_for_each_host.Given as goal
+
+abbrev pub decreases-loop-pass : goal.decreases-loop-pass
+decreases-loop-pass g l = vec_len l.passes

@@ -1,0 +1,66 @@
+-- What contracts name of a device, of its passes and of notes.
+use Rattle.std.specs.Prelude.{◌≡◌, ℕ, ◌+◌, ◌*◌, ◌<◌, ◌≤◌, true, [], ◌∷◌, ◌++◌, Option, None, Some, replicate}
+use Rattle.geometry.specs.Geometry.{numbers_of}
+use Rattle.geometry.specs.Limits.{Numbers}
+use Rattle.geometry.specs.declared.geometry.Geometry.{Geometry}
+use Rattle.flash_rule.specs.declared.facts.Name.TheVariants.{Pass as APass}
+use Rattle.flash_rule.specs.declared.facts.Role.TheVariants.{Player, Note as ANote}
+use Rattle.flash_rule.specs.declared.view.View.{View}
+use Rattle.flash_rule.specs.declared.facts.Pin.TheVariants.{Stray}
+use Rattle.flash_rule.specs.Views.{is_pass, sum_of}
+use Rattle.flash_rule.specs.Seats.{newcomer}
+use Rattle.flash_table.specs.declared.flash.Flash.{Flash}
+use Rattle.flash_table.specs.declared.pass.Pass.{Pass}
+use Rattle.flash_table.specs.declared.pass.Note.{Note}
+use Rattle.flash_table.specs.declared.pass.OpenBlock.{OpenBlock}
+use Rattle.flash_table.specs.Owning.{owned_of}
+
+abbrev pub geometry_of : Flash → Geometry
+geometry_of f = f.geometry
+
+-- the numbers of the device
+abbrev pub device : Flash → Numbers
+device f = numbers_of f.geometry
+
+-- what a pass knows
+abbrev pub view_of : Pass → View
+view_of p = p.seat.me.0
+
+abbrev pub opened_of : Pass → Option OpenBlock
+opened_of p = p.opened
+
+-- what a note carries
+abbrev pub note_view : Note → View
+note_view n = n.seat.me.0
+
+-- A pass of this device
+pub record IsPassOf (f : Flash) (p : Pass) : Type 0 where
+  pub table : p.seat.table_id ≡ f.table.shared.table_id
+  pub role : is_pass (view_of p).role ≡ true
+  pub numbers : (view_of p).numbers ≡ device f
+
+-- A note of this device
+pub record IsNoteOf (f : Flash) (n : Note) : Type 0 where
+  pub table : n.seat.table_id ≡ f.table.shared.table_id
+  pub role : (note_view n).role ≡ ANote
+
+-- what a pass with this number knows at first
+abbrev pub first_view : Numbers → ℕ → View
+first_view z t = record (newcomer z (Player (APass t))) { known = replicate z.blocks 0; whole = true }
+
+-- A take tells: the block is the pass's, open and with nothing written, in some generation
+pub record Taken (v : View) (block : ℕ) (w : View) (opened : Option OpenBlock) : Type 0 where
+  pub generation : ℕ
+  pub opens : opened ≡ Some (record { block = block; generation = generation; written = 0 })
+  pub changed : w ≡ record v { taken = v.taken + 1; owns = owned_of (record { block = block; generation = generation; written = 0 }) ∷ [] }
+
+-- or it was taken already, and the pass has nothing open
+pub record Denied (v : View) (block : ℕ) (w : View) (opened : Option OpenBlock) : Type 0 where
+  pub nothing : opened ≡ None
+  pub changed : w ≡ record v { denied = v.denied ++ block ∷ [] }
+
+-- A refused pin tells: the pin is stray, and the ages known have grown, within their bound
+pub record Strayed (v : View) (block : ℕ) (w : View) : Type 0 where
+  pub changed : w ≡ record v { pin = Stray block; known = w.known }
+  pub rises : sum_of v.known < sum_of w.known
+  pub bounded : sum_of w.known ≤ v.numbers.blocks * (2 * v.numbers.endurance)

@@ -1,0 +1,4 @@
+-- What public contracts rest on.
+pub mod Flash
+-- Internal: the plain data of a seat beside its view.
+pub mod Owning

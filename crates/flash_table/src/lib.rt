@@ -1,0 +1,17 @@
+//! The shared words of a flash device, the seats of its passes, and the steps that they make.
+#![tactic(auto)]
+
+mod flash;
+mod gate;
+mod notes;
+mod open;
+mod pass;
+mod pins;
+mod steps;
+
+pub use flash::Flash;
+pub use gate::{Gate, NoGate, Point};
+pub use pass::{Note, OpenBlock, Pass};
+
+#[cfg(test)]
+mod tests;

@@ -1,0 +1,38 @@
+use atomic_table::Seat;
+use flash_rule::View;
+
+/// A block that a pass or a broom has open: the number of its pages written, in its generation.
+#[derive(Clone, Copy, Debug, PartialEq, Eq)]
+pub struct OpenBlock {
+    pub block: u32,
+    pub generation: u32,
+    pub written: u32,
+}
+
+/// A host's seat at the table. It crosses threads, and has the block that it writes into.
+pub struct Pass {
+    pub(crate) seat: Seat<(), View>,
+    pub(crate) opened: Option<OpenBlock>,
+    ghost bare: { seat.me.1 ≡ [] },
+    ghost owns: { seat.me.0.owns ≡ owned_list opened },
+}
+
+/// A note on its way from one pass to another. It is to be taken in.
+pub struct Note {
+    pub(crate) seat: Seat<(), View>,
+    ghost bare: { seat.me.1 ≡ [] },
+}
+
+ghost use Rattle.std.specs.Prelude.{◌≡◌, []};
+ghost use Rattle.flash_table.specs.Owning.{owned_list};
+
+impl Pass {
+    ghost use Rattle.flash_table.specs.Flash.{opened_of};
+
+    /// The block that the pass writes into.
+    pub fn opened(&self) -> Option<OpenBlock>
+        ensures { result ≡ opened_of self.now }
+    {
+        self.opened
+    }
+}

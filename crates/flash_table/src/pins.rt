@@ -1,0 +1,88 @@
+//! The steps by which a pass reads: it pins a block, reads the page and takes the pin off.
+ghost use Rattle.std.specs.Prelude.{◌≡◌, ℕ, ◌<◌, List, MatchBool};
+ghost use Rattle.geometry.specs.Geometry.{blocks_of, pages_of, words_of};
+ghost use Rattle.geometry.specs.PinWords.{FitsPin, pin_word};
+ghost use Rattle.geometry.specs.declared.pin_word.PinWord.{PinWord};
+ghost use Rattle.flash_rule.specs.declared.facts.Pin.TheVariants as pin;
+ghost use Rattle.flash_rule.specs.World.{Intact, data_word, is_intact};
+ghost use Rattle.flash_rule.specs.Plays.{IsOn};
+ghost use Rattle.flash_table.specs.Flash.{IsPassOf, Strayed, view_of, geometry_of, opened_of};
+
+use crate::flash::Flash;
+use crate::pass::Pass;
+use flash_rule::{AddReader, GetPinned, TakeReader};
+use geometry::{MapWord, PageAddr, Phase, PinWord, READER, page_word_at, pin_at};
+
+// Whether the written pages of a block can be read.
+fn is_readable(phase: Phase) -> bool
+    ensures { result ≡ is_intact phase }
+{
+    match phase {
+        Phase::Open | Phase::Closed | Phase::Victim | Phase::Drained => true,
+        Phase::Free | Phase::Erasing | Phase::Retired => false,
+    }
+}
+
+// Whether the word says that its block is intact in this generation.
+fn finds_intact(word: u64, generation: u32) -> bool
+    ensures { MatchBool result ((state : PinWord) × FitsPin state × (pin_word state ≡ word) × Intact state generation) ((state : PinWord) → FitsPin state → pin_word state ≡ word → ¬ Intact state generation) }
+{
+    let Some(state) = PinWord::unpack(word) else {
+        return false;
+    };
+    state.generation == generation && is_readable(state.phase)
+}
+
+impl Flash {
+    /// Pins the block of the page that a look has named. It is false where the block isn't any more as it was at the look.
+    pub fn pin(&self, pass: &mut Pass, page: MapWord) -> bool
+        requires pass { IsPassOf self.now pass.old }
+        requires candidate { (value : List ℕ) × ((view_of pass.old).pin ≡ pin.Candidate page value) }
+        requires block { page.block < blocks_of (geometry_of self.now) }
+        ensures told { (value : List ℕ) → (view_of pass.old).pin ≡ pin.Candidate page value → MatchBool result (view_of pass.new ≡ record (view_of pass.old) { pin = pin.Accepted page value }) (Strayed (view_of pass.old) page.block (view_of pass.new)) }
+        ensures pass { IsPassOf self.now pass.new }
+        ensures opened { opened_of pass.new ≡ opened_of pass.old }
+    {
+        let word = pin_at(&self.geometry, page.block);
+        let found = self
+            .table
+            .shared
+            .fetch_add::<AddReader>(&mut pass.seat, word, READER);
+        finds_intact(found, page.generation)
+    }
+
+    /// Takes the pin off its block.
+    pub fn unpin(&self, pass: &mut Pass, block: u32)
+        requires pass { IsPassOf self.now pass.old }
+        requires pinned { IsOn (view_of pass.old).pin block }
+        requires block { block < blocks_of (geometry_of self.now) }
+        ensures told { view_of pass.new ≡ record (view_of pass.old) { pin = pin.Clear } }
+        ensures pass { IsPassOf self.now pass.new }
+        ensures opened { opened_of pass.new ≡ opened_of pass.old }
+    {
+        let word = pin_at(&self.geometry, block);
+        self.table
+            .shared
+            .fetch_sub::<TakeReader>(&mut pass.seat, word, READER);
+    }
+
+    /// Word `i` of the page that is pinned.
+    pub fn pinned_word(&self, pass: &mut Pass, page: MapWord, i: u32) -> u64
+        requires pass { IsPassOf self.now pass.old }
+        requires pinned { (value : List ℕ) × ((view_of pass.old).pin ≡ pin.Accepted page value) }
+        requires block { page.block < blocks_of (geometry_of self.now) }
+        requires page { page.page < pages_of (geometry_of self.now) }
+        requires word { i < words_of (geometry_of self.now) }
+        ensures told { (value : List ℕ) → (view_of pass.old).pin ≡ pin.Accepted page value → result ≡ data_word value i }
+        ensures same { view_of pass.new ≡ view_of pass.old }
+        ensures pass { IsPassOf self.now pass.new }
+        ensures opened { opened_of pass.new ≡ opened_of pass.old }
+    {
+        let addr = PageAddr {
+            block: page.block,
+            page: page.page,
+        };
+        let place = page_word_at(&self.geometry, addr, i);
+        self.table.shared.load::<GetPinned>(&mut pass.seat, place)
+    }
+}

@@ -1,0 +1,209 @@
+//! The steps of a pass, one atomic operation each.
+ghost use Rattle.std.specs.Prelude.{◌≡◌, ℕ, ◌+◌, ◌<◌, ◌≤◌, List, [], ◌∷◌, ◌++◌, true, MatchBool, IfSome, IfNone, length, Some, None};
+ghost use Rattle.geometry.specs.PinWords.{FitsPin, pin_word};
+ghost use Rattle.geometry.specs.declared.pin_word.PinWord.{PinWord};
+ghost use Rattle.geometry.specs.declared.pin_word.Phase.TheVariants as phase;
+ghost use Rattle.geometry.specs.Geometry.{sectors_of, blocks_of, pages_of, words_of};
+ghost use Rattle.geometry.specs.MapWords.{FitsMap};
+ghost use Rattle.geometry.specs.History.{Write, Trim};
+ghost use Rattle.flash_rule.specs.declared.facts.Name.TheVariants as name;
+ghost use Rattle.flash_rule.specs.declared.facts.Role.TheVariants as role;
+ghost use Rattle.flash_rule.specs.declared.facts.Pin.TheVariants as pin;
+ghost use Rattle.flash_rule.specs.declared.facts.Work.{Work};
+ghost use Rattle.flash_rule.specs.World.{sector_word, data_word, is_intact};
+ghost use Rattle.flash_rule.specs.Plays.{Looked, Called, CanPlace, CanPut, CanCount, CanClose, IsOn, words_in, next_page, is_unpinned};
+ghost use Rattle.flash_table.specs.Owning.{owned_of};
+ghost use Rattle.flash_table.specs.Flash.{IsPassOf, Taken, Denied, view_of, geometry_of, opened_of};
+ghost use Rattle.flash_table.specs.declared.pass.OpenBlock.{OpenBlock};
+
+use crate::flash::Flash;
+use crate::pass::{OpenBlock, Pass};
+use flash_rule::{Close, Count, GetWord, Look, PlaceTrim, PlaceWrite, PutWord, Take};
+use geometry::{
+    MapWord, NEXT_PHASE, PAGE_WRITTEN, PageAddr, Phase, PinWord, TAKEN, UNMAPPED, Was,
+    page_word_at, pin_at,
+};
+
+// What a sector was, by the word that a swap found.
+fn was_by(found: u64) -> Was
+    ensures empty { found ≡ UNMAPPED → result ≡ Was.Empty }
+    ensures written { ¬ (found ≡ UNMAPPED) → result ≡ Was.Written }
+{
+    if found == UNMAPPED {
+        Was::Empty
+    } else {
+        Was::Written
+    }
+}
+
+// The generation of a block that the word says is free.
+fn generation_if_free(word: u64) -> Option<u32>
+    ensures some { IfSome result (λ n. (state : PinWord) × FitsPin state × (pin_word state ≡ word) × (state.phase ≡ phase.Free) × (state.generation ≡ n)) }
+    ensures none { IfNone result ((state : PinWord) → FitsPin state → pin_word state ≡ word → ¬ (state.phase ≡ phase.Free)) }
+{
+    let state = PinWord::unpack(word)?;
+    if state.phase == Phase::Free {
+        Some(state.generation)
+    } else {
+        None
+    }
+}
+
+impl Flash {
+    /// The page that a sector's map word names, or `None` for an empty sector.
+    pub fn look(&self, pass: &mut Pass, sector: u32) -> Option<MapWord>
+        requires pass { IsPassOf self.now pass.old }
+        requires unpinned { is_unpinned (view_of pass.old).pin ≡ true }
+        requires sector { sector < sectors_of (geometry_of self.now) }
+        ensures told { Looked (view_of pass.old) sector (sector_word result) (view_of pass.new) }
+        ensures pass { IsPassOf self.now pass.new }
+        ensures opened { opened_of pass.new ≡ opened_of pass.old }
+    {
+        let found = self
+            .table
+            .shared
+            .load::<Look>(&mut pass.seat, sector as usize);
+        MapWord::unpack(found)
+    }
+
+    /// Names a page that the pass has filled and counted as the sector's. The answer is what the sector was.
+    pub fn place_write(&self, pass: &mut Pass, sector: u32, page: MapWord) -> Was
+        requires pass { IsPassOf self.now pass.old }
+        requires sector { sector < sectors_of (geometry_of self.now) }
+        requires page { FitsMap page }
+        requires counted { (value : List ℕ) × CanPlace (view_of pass.old) sector page value }
+        ensures told { (t : ℕ) (value : List ℕ) → (view_of pass.old).role ≡ role.Player (name.Pass t) → CanPlace (view_of pass.old) sector page value → Called (view_of pass.old) (Write t sector value) sector result (view_of pass.new) }
+        ensures pass { IsPassOf self.now pass.new }
+        ensures opened { opened_of pass.new ≡ opened_of pass.old }
+    {
+        let word = page.pack();
+        let found = self
+            .table
+            .shared
+            .swap::<PlaceWrite>(&mut pass.seat, sector as usize, word);
+        was_by(found)
+    }
+
+    /// Empties the sector. The answer is what it was.
+    pub fn place_trim(&self, pass: &mut Pass, sector: u32) -> Was
+        requires pass { IsPassOf self.now pass.old }
+        requires sector { sector < sectors_of (geometry_of self.now) }
+        ensures told { (t : ℕ) → (view_of pass.old).role ≡ role.Player (name.Pass t) → Called (view_of pass.old) (Trim t sector) sector result (view_of pass.new) }
+        ensures pass { IsPassOf self.now pass.new }
+        ensures opened { opened_of pass.new ≡ opened_of pass.old }
+    {
+        let found = self
+            .table
+            .shared
+            .swap::<PlaceTrim>(&mut pass.seat, sector as usize, UNMAPPED);
+        was_by(found)
+    }
+
+    /// Takes a block if it is free, and says whether it did.
+    pub fn take(&self, pass: &mut Pass, block: u32) -> bool
+        requires pass { IsPassOf self.now pass.old }
+        requires nothing_open { opened_of pass.old ≡ None }
+        requires block { block < blocks_of (geometry_of self.now) }
+        ensures told { MatchBool result (Taken (view_of pass.old) block (view_of pass.new) (opened_of pass.new)) (Denied (view_of pass.old) block (view_of pass.new) (opened_of pass.new)) }
+        ensures pass { IsPassOf self.now pass.new }
+    {
+        let word = pin_at(&self.geometry, block);
+        let found = self
+            .table
+            .shared
+            .fetch_or::<Take>(&mut pass.seat, word, TAKEN);
+        match generation_if_free(found) {
+            Some(generation) => {
+                pass.opened = Some(OpenBlock {
+                    block,
+                    generation,
+                    written: 0,
+                });
+                true
+            }
+            None => false,
+        }
+    }
+
+    /// Puts word `i` of the first page not written of the open block; after the data words comes the stamp.
+    pub fn put_word(&self, pass: &mut Pass, i: u32, word: u64)
+        requires pass { IsPassOf self.now pass.old }
+        requires next { (o : OpenBlock) × (opened_of pass.old ≡ Some o) × CanPut (view_of pass.old) (owned_of o) × (i ≡ length (words_in (view_of pass.old).work (owned_of o))) × (o.block < blocks_of (geometry_of self.now)) }
+        ensures told { (o : OpenBlock) → opened_of pass.old ≡ Some o → view_of pass.new ≡ record (view_of pass.old) { work = Some (record { page = next_page (owned_of o); words = words_in (view_of pass.old).work (owned_of o) ++ word ∷ [] }) } }
+        ensures pass { IsPassOf self.now pass.new }
+        ensures opened { opened_of pass.new ≡ opened_of pass.old }
+    {
+        let Some(opened) = pass.opened else {
+            unreachable!()
+        };
+        let addr = PageAddr {
+            block: opened.block,
+            page: opened.written,
+        };
+        let place = page_word_at(&self.geometry, addr, i);
+        self.table
+            .shared
+            .store::<PutWord>(&mut pass.seat, place, word);
+    }
+
+    /// Word `i` of the page that a look has named.
+    pub fn get_word(&self, pass: &mut Pass, page: MapWord, i: u32) -> u64
+        requires pass { IsPassOf self.now pass.old }
+        requires candidate { (value : List ℕ) × ((view_of pass.old).pin ≡ pin.Candidate page value) }
+        requires block { page.block < blocks_of (geometry_of self.now) }
+        requires page { page.page < pages_of (geometry_of self.now) }
+        requires word { i < words_of (geometry_of self.now) }
+        ensures told { (value : List ℕ) → (view_of pass.old).pin ≡ pin.Candidate page value → result ≡ data_word value i }
+        ensures same { view_of pass.new ≡ view_of pass.old }
+        ensures pass { IsPassOf self.now pass.new }
+        ensures opened { opened_of pass.new ≡ opened_of pass.old }
+    {
+        let addr = PageAddr {
+            block: page.block,
+            page: page.page,
+        };
+        let place = page_word_at(&self.geometry, addr, i);
+        self.table.shared.load::<GetWord>(&mut pass.seat, place)
+    }
+
+    /// Counts the page that was filled: from now on it is programmed.
+    pub fn count(&self, pass: &mut Pass)
+        requires pass { IsPassOf self.now pass.old }
+        requires filled { (o : OpenBlock) × (x : Work) × (opened_of pass.old ≡ Some o) × CanCount (view_of pass.old) (owned_of o) x × (o.written < pages_of (geometry_of self.now)) × (o.block < blocks_of (geometry_of self.now)) }
+        ensures told { (o : OpenBlock) (x : Work) → opened_of pass.old ≡ Some o → CanCount (view_of pass.old) (owned_of o) x
+            → view_of pass.new ≡ record (view_of pass.old) { programs = (view_of pass.old).programs ++ x.page ∷ []; owns = owned_of (record o { written = o.written + 1 }) ∷ [] } }
+        ensures opened { (o : OpenBlock) → opened_of pass.old ≡ Some o → opened_of pass.new ≡ Some (record o { written = o.written + 1 }) }
+        ensures pass { IsPassOf self.now pass.new }
+    {
+        let Some(opened) = pass.opened else {
+            unreachable!()
+        };
+        let word = pin_at(&self.geometry, opened.block);
+        self.table
+            .shared
+            .fetch_add::<Count>(&mut pass.seat, word, PAGE_WRITTEN);
+        pass.opened = Some(OpenBlock {
+            block: opened.block,
+            generation: opened.generation,
+            written: opened.written + 1,
+        });
+    }
+
+    /// Gives up the open block, full or not.
+    pub fn close(&self, pass: &mut Pass)
+        requires pass { IsPassOf self.now pass.old }
+        requires settled { (o : OpenBlock) × (opened_of pass.old ≡ Some o) × CanClose (view_of pass.old) (owned_of o) × (o.block < blocks_of (geometry_of self.now)) }
+        ensures told { view_of pass.new ≡ record (view_of pass.old) { owns = []; work = None } }
+        ensures opened { opened_of pass.new ≡ None }
+        ensures pass { IsPassOf self.now pass.new }
+    {
+        let Some(opened) = pass.opened else {
+            unreachable!()
+        };
+        let word = pin_at(&self.geometry, opened.block);
+        self.table
+            .shared
+            .fetch_add::<Close>(&mut pass.seat, word, NEXT_PHASE);
+        pass.opened = None;
+    }
+}
