@@ -2,6 +2,7 @@
 use Rattle.std.proofs.Common.{◌≡◌, inl, inr, ℕ, zero, suc, ◌+◌, ◌<◌, ◌≤◌, Bool, true, false, not, ◌&&◌, ◌||◌, List, [], ◌∷◌, length, get_or, Option, None, Some, sym, ap, ◌∙◌, refl, arith, leb, subst}
 use Rattle.std.specs.List.{zip, position_or_len, list_all}
 use Rattle.std.proofs.lemmas.Bool.{false≢true, le-leb, leb-true, lt-ltb, le-ltb, and_from, and_parts, or_cases, cases_Bool, not-true, and_left, and_right, or_left, or_right, cases_lt, cases_eq, ltb-true}
+use Rattle.std.proofs.lemmas.List.Quantifiers.{position-Some}
 use Rattle.std.proofs.lemmas.List.Sums.{position_or_len_is}
 use Rattle.std.proofs.lemmas.List.{get_or_past}
 use Rattle.geometry.specs.Greedy.{greedy_of, IsClosed, IsGreedy, is_better_than}
@@ -163,3 +164,27 @@ BestBelow-all counts closed b e h =
 pub greedy_of-all : (counts : List ℕ) (closed : List Bool) (best : Option ℕ) → length counts ≡ length closed → BestBelow counts closed (length counts) best → best ≡ greedy_of counts closed
 greedy_of-all counts closed None e h = sym (greedy_of-none counts closed e (λ k is. h k (omega (arith, closed_below closed k is)) is))
 greedy_of-all counts closed (Some b) e h = sym (greedy_of-best counts closed e b (BestBelow-all counts closed b e h))
+
+-- what the definition finds is closed, and no closed place has a smaller count
+module _ (counts : List ℕ) (closed : List Bool) (e : length counts ≡ length closed) (b : ℕ) (found : greedy_of counts closed ≡ Some b) where
+  at_found : chosen (zip counts closed) (get_or (zip counts closed) b (0, false)) ≡ true
+  unfolding greedy_of chosen within
+  at_found = (position-Some (chosen (zip counts closed)) (zip counts closed) b (0, false) found).1
+
+  parts_found : (get_or closed b false ≡ true) × (list_all (within (get_or counts b 0, get_or closed b false)) (zip counts closed) ≡ true)
+  unfolding chosen
+  parts_found =
+      and_parts (get_or closed b false) (list_all (within (get_or counts b 0, get_or closed b false)) (zip counts closed)) (rw (get_or-zip counts closed b e) at at_found)
+
+  pub greedy_of-closed : IsClosed closed b
+  greedy_of-closed = parts_found.0
+
+  pub greedy_of-least : (k : ℕ) → IsClosed closed k → get_or counts b 0 ≤ get_or counts k 0
+  unfolding within
+  greedy_of-least k shut =
+      let below : k < length (zip counts closed) = omega (arith, closed_below closed k shut, length-zip counts closed e) in
+      let at_k = rw (get_or-zip counts closed k e) at (places_from_all (within (get_or counts b 0, get_or closed b false)) (zip counts closed) (0, false) parts_found.1 k below) in
+      elim (or_cases (not (get_or closed k false)) (leb (get_or counts b 0) (get_or counts k 0)) at_k) [
+        | inl off ↦ absurd (false≢true (sym (not-true (get_or closed k false) off) ∙ shut))
+        | inr le ↦ leb-true (get_or counts b 0) (get_or counts k 0) le
+      ]
