@@ -1,0 +1,98 @@
+//! Plays a trace of sector reads, writes and trims: the comparator of the proved program, with the
+//! same formats, options and exit statuses, but for the texts of the command line's help and refusals.
+
+mod answers;
+mod layer;
+mod trace;
+
+use answers::Answers;
+use layer::{Ftl, Geometry};
+use std::io::{self, Read, Write};
+use std::process::ExitCode;
+use trace::{Command, Op};
+
+const MAX_TRACE_BYTES: usize = 268_435_456;
+
+fn main() -> ExitCode {
+    let Some(geometry) = options() else {
+        eprintln!("options: --luns --blocks --pages --words --sectors --endurance");
+        return ExitCode::from(2);
+    };
+    if let Some(fault) = geometry.fault() {
+        eprintln!("geometry: {fault}");
+        return ExitCode::from(2);
+    }
+    let mut text = Vec::new();
+    if io::stdin().take(MAX_TRACE_BYTES as u64 + 1).read_to_end(&mut text).is_err() {
+        eprintln!("line 0: Read");
+        return ExitCode::from(1);
+    }
+    if text.len() > MAX_TRACE_BYTES {
+        eprintln!("line 0: Big");
+        return ExitCode::from(3);
+    }
+    let commands = match trace::parse(&mut text, &geometry) {
+        Ok(commands) => commands,
+        Err((line, kind)) => {
+            eprintln!("line {line}: {kind}");
+            return ExitCode::from(3);
+        }
+    };
+    if play(&text, &commands, &geometry, io::stdout().lock()).is_err() {
+        eprintln!("output: failed");
+        return ExitCode::from(1);
+    }
+    ExitCode::SUCCESS
+}
+
+fn options() -> Option<Geometry> {
+    let mut geometry =
+        Geometry { luns: 1, blocks: 64, pages: 64, words: 64, sectors: 3072, endurance: 1000 };
+    let mut words = std::env::args().skip(1);
+    while let Some(name) = words.next() {
+        let number = words.next()?.parse().ok()?;
+        match name.as_str() {
+            "--luns" => geometry.luns = number,
+            "--blocks" => geometry.blocks = number,
+            "--pages" => geometry.pages = number,
+            "--words" => geometry.words = number,
+            "--sectors" => geometry.sectors = number,
+            "--endurance" => geometry.endurance = number,
+            _ => return None,
+        }
+    }
+    Some(geometry)
+}
+
+fn play(text: &[u8], commands: &[Command], geometry: &Geometry, writer: impl Write) -> io::Result<()> {
+    let mut ftl = Ftl::new(geometry);
+    let mut answers = Answers::new(writer);
+    let was = |written| if written { b"written".as_slice() } else { b"empty".as_slice() };
+    for (i, command) in commands.iter().enumerate() {
+        answers.number(i as u64 + 1, b',');
+        answers.text(command.op.name().as_bytes());
+        answers.text(b",");
+        answers.number(u64::from(command.sector), b',');
+        match command.op {
+            Op::Read => match ftl.read(command.sector) {
+                Some(page) => answers.hex(page),
+                None => answers.text(b"empty"),
+            },
+            Op::Write => match ftl.write(command.sector) {
+                Some((written, page)) => {
+                    trace::decode(&text[command.data()], page);
+                    answers.text(was(written));
+                }
+                None => answers.text(b"worn"),
+            },
+            Op::Trim => answers.text(was(ftl.trim(command.sector))),
+            Op::Meet => answers.text(b"met"),
+        }
+        answers.end_line()?;
+    }
+    answers.text(b"end,");
+    answers.number(ftl.counts.programs, b',');
+    answers.number(ftl.counts.copies, b',');
+    answers.number(ftl.counts.erases, b'\n');
+    answers.flush()
+}
