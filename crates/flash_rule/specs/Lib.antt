@@ -3,6 +3,7 @@ pub mod Views
 pub mod World
 pub mod Rule
 pub mod Plays
+pub mod BroomPlays
 pub mod Seats
 -- Internal: how a view is kept, and what a step leaves to the other seats.
 pub mod Codes

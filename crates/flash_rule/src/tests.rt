@@ -129,6 +129,89 @@ fn two_passes_write_into_blocks_of_their_own(rt: HostRuntime) -> Result<(), Fail
     Ok(())
 }
 
+// The words of a device whose five blocks are all closed and full: write k has the value k and goes to sector 0 and sector 1 in turn,
+// so that page p of block b has the value 2b + p + 1 and the stamp p.
+fn full_device() -> [u64; 27] {
+    [
+        M + 0x4_0000,
+        M + 0x4_0001,
+        0x23_0000,
+        0x23_0000,
+        0x23_0000,
+        0x23_0000,
+        0x23_0000,
+        1,
+        0,
+        2,
+        1,
+        3,
+        0,
+        4,
+        1,
+        5,
+        0,
+        6,
+        1,
+        7,
+        0,
+        8,
+        1,
+        9,
+        0,
+        10,
+        1,
+    ]
+}
+
+fn unpinned<'a>(words: [u64; 27], sectors: [Option<u64>; 2], owned: &'a [u32]) -> Small<'a> {
+    Small {
+        words,
+        sectors,
+        pinned: &[],
+        owned,
+    }
+}
+
+#[test]
+fn ten_writes_fill_a_device_without_brooms(rt: HostRuntime) -> Result<(), Fail> {
+    let mut words = [ONES; 27];
+    for i in 0..7usize {
+        words[i] = 0;
+    }
+    let opened = unpinned(words, [None, None], &[]);
+    assert!(rt; is_lawful(&opened), "open");
+    let mut words = full_device();
+    words[1] = M + 0x3_0001;
+    words[6] = 0x11_0000;
+    words[25] = ONES;
+    words[26] = ONES;
+    let ninth = unpinned(words, [Some(9), Some(8)], &[4]);
+    assert!(rt; is_lawful(&ninth), "the ninth write is placed");
+    words[6] = 0x21_0000;
+    words[25] = 10;
+    words[26] = 1;
+    let counted = unpinned(words, [Some(9), Some(8)], &[4]);
+    assert!(rt; is_lawful(&counted), "the tenth write is counted");
+    let full = unpinned(full_device(), [Some(9), Some(10)], &[]);
+    assert!(rt; is_lawful(&full), "both sectors read as last written");
+    Ok(())
+}
+
+#[test]
+fn a_full_device_has_no_block_for_an_eleventh_write(rt: HostRuntime) -> Result<(), Fail> {
+    let mut words = full_device();
+    words[2] = 0x21_0000;
+    let reopened = unpinned(words, [Some(9), Some(10)], &[]);
+    assert!(rt; !blocks_are_lawful(&reopened), "a closed block is open");
+    let stale = unpinned(full_device(), [Some(7), Some(10)], &[]);
+    assert!(rt; !map_is_lawful(&stale), "sector 0 has an older value");
+    let mut words = full_device();
+    words[0] = 0;
+    let trimmed = unpinned(words, [None, Some(10)], &[]);
+    assert!(rt; is_lawful(&trimmed), "a trim of 0 needs no block");
+    Ok(())
+}
+
 #[test]
 fn a_broken_clause_is_seen(rt: HostRuntime) -> Result<(), Fail> {
     let pages = [(1, 0), BLANK, BLANK, BLANK];
