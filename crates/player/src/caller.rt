@@ -1,31 +1,42 @@
-ghost use Rattle.std.specs.Prelude.{◌≡◌, ◌<◌, length, OnOk};
-ghost use Rattle.geometry.specs.Geometry.{page_bytes_of, sectors_of};
-ghost use Rattle.ftl_one.specs.OneFtl.{geometry_of};
+ghost use Rattle.std.specs.Prelude.{◌≡◌, ◌<◌, length, OnSome};
+ghost use Rattle.geometry.specs.Geometry.{hosts_of, page_bytes_of, sectors_of};
 
-use ftl_one::{OneFtl, WornOut};
+use ftl_one::OneFtl;
+use geometry::Geometry;
+use std::alloc::Global;
 use std::test::Fail;
 
 // What is written to sector 0 reads back, although sector 1 is overwritten and trimmed meanwhile.
-fn reads_back(ftl: &mut OneFtl, page: &[u8], buffer: &mut [u8]) -> Result<(), WornOut>
-    requires sectors { 1 < sectors_of (geometry_of ftl.old) }
-    requires page { length page.now ≡ page_bytes_of (geometry_of ftl.old) }
-    requires buffer { length buffer.old ≡ page_bytes_of (geometry_of ftl.old) }
-    ensures { OnOk result (buffer.new ≡ page.now) }
+fn reads_back(alloc: Global, geometry: &Geometry, page: &[u8], buffer: &mut [u8]) -> Option<()>
+    requires one_thread { hosts_of geometry.now ≡ 0 }
+    requires sectors { 1 < sectors_of geometry.now }
+    requires page { length page.now ≡ page_bytes_of geometry.now }
+    requires buffer { length buffer.old ≡ page_bytes_of geometry.now }
+    ensures { OnSome result (buffer.new ≡ page.now) }
 {
-    ftl.write(0, page)?;
-    buffer.fill(0);
-    ftl.write(1, buffer)?;
+    let Ok(mut ftl) = OneFtl::new(alloc, geometry) else {
+        return None;
+    };
+    let Ok(_) = ftl.write(0, page) else {
+        return None;
+    };
+    let Ok(_) = ftl.write(1, buffer) else {
+        return None;
+    };
     ftl.trim(1);
     ftl.read(0, buffer);
-    Ok(())
+    Some(())
 }
 
 #[test]
 fn a_written_sector_reads_back(rt: HostRuntime) -> Result<(), Fail> {
-    let geometry = geometry::Geometry::new(1, 3, 2, 1, 3, 10, 0, 0)?;
-    let mut ftl = OneFtl::new(rt.alloc(), &geometry)?;
+    let geometry = Geometry::new(1, 3, 2, 1, 3, 10, 0, 0)?;
+    assert_eq!(rt; geometry.hosts(), 0);
+    assert_eq!(rt; geometry.page_bytes(), 8);
+    assert!(rt; geometry.sectors() > 1);
     let mut buffer = [0u8; 8];
-    reads_back(&mut ftl, b"eight by".as_slice(), &mut buffer)?;
+    let done = reads_back(rt.alloc(), &geometry, b"eight by".as_slice(), &mut buffer);
+    assert!(rt; done.is_some());
     assert!(rt; buffer == *b"eight by");
     Ok(())
 }
