@@ -14,7 +14,7 @@ use Rattle.flash_rule.specs.declared.facts.Role.{Role}
 use Rattle.flash_rule.specs.declared.facts.Role.TheVariants.{Dealer, Player, Note, Gone}
 use Rattle.flash_rule.specs.declared.facts.Pin.TheVariants.{Clear}
 use Rattle.flash_rule.specs.declared.view.View.{View}
-use Rattle.flash_rule.specs.Views.{one_if, total, is_pass, pin_is_on, pins_on, weight, role_weight, owned_at, calls_of}
+use Rattle.flash_rule.specs.Views.{one_if, total, is_pass, pin_is_on, pins_on, weight, role_weight, owned_at, AreOfHosts, calls_of}
 use Rattle.flash_rule.specs.World.{World, is_owned, is_nameable, is_still}
 use Rattle.flash_rule.specs.Rule.{LawfulSector, LawfulBlock, LawfulKind, LawfulView, Lawful}
 use Rattle.flash_rule.specs.Onward.{Onward}
@@ -23,12 +23,13 @@ use Rattle.flash_rule.proofs.Frames.{others}
 
 -- The seat with the view v makes a step after which it has the view w, and the table is g' instead of g
 pub assembled : (z : Numbers) (g g' : World) (vs : List View) (id : ℕ) (v w : View) → Lawful z g vs → get_elem? vs id ≡ some v → Onward z g g' id id → LawfulView z g' id w
-    → ((s : ℕ) → s < z.sectors → LawfulSector z g' s) → ((b : ℕ) → b < z.blocks → LawfulBlock z g' (set vs id w) b)
+    → ((s : ℕ) → s < z.sectors → LawfulSector z g' s) → AreOfHosts z g'.history → ((b : ℕ) → b < z.blocks → LawfulBlock z g' (set vs id w) b)
     → ((t : ℕ) → g'.passes ≤ t → calls_of t g'.history ≡ []) → weight z w ≡ weight z v → g'.passes ≤ z.hosts → Lawful z g' (set vs id w)
-assembled z g g' vs id v w law at on own sectors blocks strangers weighs dealt =
+assembled z g g' vs id v w law at on own sectors callers blocks strangers weighs dealt =
     record {
       limits = law.limits;
       sectors = sectors;
+      callers = callers;
       blocks = blocks;
       views = λ j u is.
           ⊎_elim (λ (t : (j ≡ id) × (w ≡ u)). let P : ℕ × View → Type 0 = λ x. LawfulView z g' x.0 x.1 in subst P (λ i. (sym t.0 i, t.1 i)) own)

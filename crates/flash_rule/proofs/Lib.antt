@@ -9,9 +9,11 @@ pub mod PinSteps
 pub mod OwnSteps
 pub mod PageSteps
 pub mod MapSteps
+pub mod Calls
 pub mod Opening
 pub mod Parts
 pub mod Splitting
+pub mod DealingBrooms
 pub mod Notes
 pub mod ReaderSteps
 pub mod Steps

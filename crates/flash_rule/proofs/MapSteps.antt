@@ -1,26 +1,24 @@
--- The step that changes a map word and the history: place.
-use Rattle.std.proofs.Common.{◌≡◌, ◌≢◌, ℕ, ◌<◌, ◌≤◌, ◌⊎◌, inl, inr, eq-eqb, ne_eqb, true, List, [], ◌∷◌, ◌++◌, Option, None, Some, set, sym, refl, ap, ◌∙◌, subst, arith}
-use Rattle.std.proofs.Math.ListN.{get_or}
+-- One map word changes, and the history with it: what a place does.
+use Rattle.std.proofs.Common.{◌≡◌, ◌≢◌, ℕ, ◌<◌, ◌⊎◌, inl, inr, eq-eqb, ne_eqb, true, List, [], ◌∷◌, ◌++◌, Option, None, Some, set, sym, refl, ap, ◌∙◌, subst, arith}
+use Rattle.std.proofs.lemmas.List.Elements.{All-push}
 use mathlib.Core.Option.{some}
 use mathlib.Core.Logic.{dite}
 use native.Mathlib.Decide.{ℕ_discrete}
 use lib.ListN.{get_elem?}
-use Rattle.geometry.specs.History.{Call, Write, Trim, held}
-use Rattle.geometry.proofs.Histories.{Begins-refl, Begins-push, held_written, held_trimmed, held_by_write, held_by_trim}
+use Rattle.geometry.specs.History.{Call, held}
+use Rattle.geometry.proofs.Histories.{Begins-refl, Begins-push}
 use Rattle.geometry.specs.Limits.{Numbers}
 use Rattle.geometry.specs.declared.map_word.MapWord.{MapWord}
 use Rattle.geometry.specs.declared.pin_word.Phase.TheVariants.{Open, Victim}
 use Rattle.flash_rule.specs.declared.facts.Name.TheVariants.{Pass}
 use Rattle.flash_rule.specs.declared.facts.Role.TheVariants.{Dealer, Player}
-use Rattle.flash_rule.specs.declared.facts.Owned.{Owned}
 use Rattle.flash_rule.specs.declared.view.View.{View}
-use Rattle.flash_rule.specs.Views.{is_pass, owned_at, calls_of, caller}
-use Rattle.flash_rule.specs.World.{World, put, is_nameable, sector_word}
-use Rattle.flash_rule.specs.Rule.{IsCurrent, LawfulSector, LawfulView, Lawful, IsValue}
+use Rattle.flash_rule.specs.Views.{is_pass, AreOfHosts, calls_of, caller}
+use Rattle.flash_rule.specs.World.{World, put, sector_word}
+use Rattle.flash_rule.specs.Rule.{LawfulSector, LawfulView, Lawful}
 use Rattle.flash_rule.specs.Onward.{Onward}
-use Rattle.flash_rule.specs.Plays.{CanPlace, Placed}
-use Rattle.flash_rule.proofs.Points.{put_here, put_else, put_all}
-use Rattle.flash_rule.proofs.Owning.{some_same, none_some}
+use Rattle.flash_rule.specs.Plays.{Placed}
+use Rattle.flash_rule.proofs.Points.{put_else, put_all}
 use Rattle.flash_rule.proofs.Frames.{counted, knowledge_kept}
 use Rattle.flash_rule.proofs.Assembly.{assembled, block_kept, sector_kept}
 use Rattle.flash_rule.proofs.Still.{pin_stays, pass_numbers}
@@ -50,6 +48,13 @@ module _ (z : Numbers) (g : World) (vs : List View) (id : ℕ) (v : View) (t s :
   abbrev pub place_world : World
   place_world = record g { history = g.history ++ c ∷ []; map = put g.map s m }
 
+  -- the caller has been handed out, so it is one of the hosts
+  called_by_hosts : AreOfHosts z (g.history ++ c ∷ [])
+  called_by_hosts =
+      let dealt = ((law.views id v at).holding.name (Pass t) role).1 in
+      let room = law.dealt in
+      let low : caller c < z.hosts = let e : caller c ≡ t = by_me in omega arith in All-push (λ c. caller c < z.hosts) g.history c law.callers low
+
   is_a_pass : is_pass v.role ≡ true
   is_a_pass = ap is_pass role
 
@@ -78,7 +83,7 @@ module _ (z : Numbers) (g : World) (vs : List View) (id : ℕ) (v : View) (t s :
       let calls : (u : ℕ) → v.role ≡ Player (Pass u) → calls_of u (g.history ++ c ∷ []) ≡ v.mine ++ c ∷ [] = λ u is.
       let same : t ≡ u = pass_same t u (sym role ∙ is) in calls_here u g.history c (by_me ∙ same) ∙ ap (λ l. l ++ c ∷ []) (holds.calls u is).0 in
       let after : LawfulView z g' id placer = record {
-        kind = record { numbers = kind.numbers; known = kind.known; opens = kind.opens; unpinned = kind.unpinned; idle = kind.idle; owns_none = kind.owns_none };
+        kind = record { numbers = kind.numbers; known = kind.known; opens = kind.opens; unpinned = kind.unpinned; idle = kind.idle; owns_none = kind.owns_none; reclaims = kind.reclaims };
         knowledge = record { seen = Begins-refl (g.history ++ c ∷ []); pin = knows.pin; known = knows.known; programs = knows.programs; erases = knows.erases; copy = knows.copy };
         holding = record {
           name = holds.name;
@@ -122,6 +127,7 @@ module _ (z : Numbers) (g : World) (vs : List View) (id : ℕ) (v : View) (t s :
       (λ u low. dite (ℕ_discrete u s)
       (λ same. subst (λ j. LawfulSector z g' j) (sym same) here)
       (λ unlike. sector_kept z g g' u (law.sectors u low) (put_else g.map s m u unlike) (others u unlike) (λ b _ is. (refl, is, omega arith, λ p i _. refl))))
+      called_by_hosts
       (λ b low. block_kept z g g' vs id v placer b at (law.blocks b low) refl refl (λ p i. refl) refl (λ o is. (o, is)))
       (λ u free. calls_else u g.history c (λ same. let d = named.1 in let e : t ≡ u = sym by_me ∙ same in absurd (omega arith)) ∙ law.strangers u free)
       refl law.dealt
@@ -136,6 +142,7 @@ module _ (z : Numbers) (g : World) (vs : List View) (id : ℕ) (v : View) (t s :
         before = g.history;
         later = h.knowledge.seen;
         now = refl;
+        callers = subst (λ (y : Numbers). AreOfHosts y (g.history ++ c ∷ [])) (sym same) called_by_hosts;
         empty = λ none. ap (λ (y : Numbers). held y.sectors g.history s) same ∙ sector.empty (unnamed (g.map s) (sym found ∙ none));
         written = λ not. let k = is_named (g.map s) (λ e. not (found ∙ e)) in let cur = sector.named k.0 k.1 in (cur.value, ap (λ (y : Numbers). held y.sectors g.history s) same ∙ cur.here);
         own = λ u is. let same : t ≡ u = pass_same t u (sym role ∙ is) in calls_here u g.history c (by_me ∙ same) ∙ ap (λ l. l ++ c ∷ []) (h.holding.calls u is).0;
@@ -148,51 +155,3 @@ module _ (z : Numbers) (g : World) (vs : List View) (id : ℕ) (v : View) (t s :
       is_named : (x : Option MapWord) → ¬ (sector_word x ≡ 0) → (m : MapWord) × (x ≡ Some m)
       is_named None e = absurd (e refl)
       is_named (Some m) e = (m, refl)
-
-module _ (z : Numbers) (g : World) (vs : List View) (id : ℕ) (v : View) (t s : ℕ) (law : Lawful z g vs) (at : get_elem? vs id ≡ some v) (role : v.role ≡ Player (Pass t)) (low : s < z.sectors) where
-  -- a trim empties its sector
-  pub trims : Lawful z (place_world z g vs id v t s (Trim t s) None law at role refl) (set vs id (placer z g vs id v t s (Trim t s) None law at role refl))
-  trims =
-      places z g vs id v t s (Trim t s) None law at role refl (λ n is. absurd (none_some n is)) (λ other unlike. held_by_trim z.sectors g.history t s other unlike)
-      (record {
-        empty = λ _. held_trimmed z.sectors g.history t s low;
-        named = λ n is. absurd (none_some n (sym (put_here g.map s None) ∙ is));
-      })
-
-  -- a write names the page that was filled and counted
-  pub writes : (m : MapWord) (value : List ℕ) → CanPlace v s m value
-      → Lawful z (place_world z g vs id v t s (Write t s value) (Some m) law at role refl) (set vs id (placer z g vs id v t s (Write t s value) (Some m) law at role refl))
-  writes m value can =
-      let h = law.views id v at in
-      let same = pass_numbers z v h.kind (ap is_pass role) in
-      let own = h.holding.owned m.block can.entry can.own in
-      let work = h.holding.work can.work can.is in
-      let block_is : can.work.page.block ≡ m.block = ap (λ (y : MapWord). y.block) can.page in
-      let page_is : can.work.page.page ≡ m.page = ap (λ (y : MapWord). y.page) can.page in
-      let P : ℕ → Type 0 = λ c. owned_at c v.owns ≡ Some work.entry in
-      let entry_is : work.entry ≡ can.entry = some_same work.entry can.entry (sym (subst P block_is work.own) ∙ can.own) in
-      let written_is : work.entry.written ≡ can.entry.written = ap (λ (y : Owned). y.written) entry_is in
-      let low_page = can.counted in
-      let full = work.full (omega arith) in
-      let words_same : v.numbers.words ≡ z.words = ap (λ (y : Numbers). y.words) same in
-      let stands : (i : ℕ) → i ≤ z.words → g.pages m.block m.page i ≡ get_or can.work.words i 0 = λ i most.
-      ap (λ b. g.pages b m.page i) (sym block_is) ∙ (ap (λ p. g.pages can.work.page.block p i) (sym page_is) ∙ work.stands i (omega arith)) in
-      let opened : can.entry.phase ≡ Open = ap (λ (y : Owned). y.phase) (sym entry_is) ∙ work.opened in
-      let current : IsCurrent z (place_world z g vs id v t s (Write t s value) (Some m) law at role refl) s m = record {
-        value = value;
-        here = held_written z.sectors g.history t s value low;
-        block = own.low;
-        same = own.generation ∙ (ap (λ (y : Owned). y.generation) (sym entry_is) ∙ (work.generation ∙ ap (λ (y : MapWord). y.generation) can.page));
-        phase = ap is_nameable (own.phase ∙ opened);
-        written = (let w = own.written in omega arith);
-        stands = λ i below. stands i (omega arith) ∙ can.words i (omega arith);
-        whole = subst (λ (y : Numbers). IsValue y value) same can.whole;
-        stamp = stands z.words (omega arith) ∙ (ap (λ i. get_or can.work.words i 0) (sym words_same) ∙ can.stamp);
-      } in
-      places z g vs id v t s (Write t s value) (Some m) law at role refl
-      (λ n is. ap (λ (y : MapWord). g.owner y.block) (sym (some_same m n is)) ∙ own.owner)
-      (λ other unlike. held_by_write z.sectors g.history t s value other unlike)
-      (record {
-        empty = λ is. absurd (none_some m (sym is ∙ put_here g.map s (Some m)));
-        named = λ n is. subst (λ (n : MapWord). IsCurrent z (place_world z g vs id v t s (Write t s value) (Some m) law at role refl) s n) (some_same m n (sym (put_here g.map s (Some m)) ∙ is)) current;
-      })

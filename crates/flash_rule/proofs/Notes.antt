@@ -76,6 +76,7 @@ note_lawful z g seat v owner n numbers role knows here dealt =
         unpinned = λ _. refl;
         idle = λ _. (refl, refl, refl, refl);
         owns_none = λ _. refl;
+        reclaims = λ b c o e is. absurd (none_some o is);
       };
       knowledge = record {
         seen = (g.history, refl);
@@ -123,7 +124,7 @@ module _ (part : Numbers → World → Type 0) (z : Numbers) (kept : PartKept pa
       let knows = knowledge_kept z g g' id id on v (λ b is below. counted vs law id v at b is below) h.knowledge in
       let holds = h.holding in
       let own : LawfulView z g' id (lender v) = record {
-        kind = record { numbers = kind.numbers; known = kind.known; opens = kind.opens; unpinned = kind.unpinned; idle = kind.idle; owns_none = kind.owns_none };
+        kind = record { numbers = kind.numbers; known = kind.known; opens = kind.opens; unpinned = kind.unpinned; idle = kind.idle; owns_none = kind.owns_none; reclaims = kind.reclaims };
         knowledge = record { seen = knows.seen; pin = knows.pin; known = knows.known; programs = knows.programs; erases = knows.erases; copy = knows.copy };
         holding = record {
           name = λ m is. let k = holds.name m is in (k.0, as_dealt g n new m k.1);
@@ -141,7 +142,7 @@ module _ (part : Numbers → World → Type 0) (z : Numbers) (kept : PartKept pa
       (note_lawful z g' new v n n numbers role knows (name_here g.badge n new) (as_dealt g n new n named.1)) in (
         g',
         fits,
-        split z g g' vs id v (lender v) (lent_note v) law at refl refl refl on refl refl own added (λ b. refl) refl refl (omega arith) (omega arith) law.dealt (λ s low. current_kept z g g' s refl refl refl refl (law.sectors s low)),
+        split z g g' vs id v (lender v) (lent_note v) law at refl refl refl on refl own added (λ b. refl) refl refl (omega arith) (omega arith) law.dealt (λ s low. current_kept z g g' s refl refl refl refl (law.sectors s low)),
         kept.same g g' (λ b. refl) stage,
       )
 
@@ -159,7 +160,7 @@ module _ (part : Numbers → World → Type 0) (z : Numbers) (kept : PartKept pa
       let knows = knowledge_kept z g g' id id on v (λ b is below. counted vs law id v at b is below) h.knowledge in
       let holds = h.holding in
       let own : LawfulView z g' id (giver v) = record {
-        kind = record { numbers = kind.numbers; known = kind.known; opens = kind.opens; unpinned = kind.unpinned; idle = kind.idle; owns_none = kind.owns_none };
+        kind = record { numbers = kind.numbers; known = kind.known; opens = kind.opens; unpinned = kind.unpinned; idle = kind.idle; owns_none = kind.owns_none; reclaims = kind.reclaims };
         knowledge = record { seen = knows.seen; pin = knows.pin; known = knows.known; programs = knows.programs; erases = knows.erases; copy = knows.copy };
         holding = record {
           name = λ k is. let t = holds.name k is in (t.0, as_dealt g m new k t.1);
@@ -177,7 +178,7 @@ module _ (part : Numbers → World → Type 0) (z : Numbers) (kept : PartKept pa
       (note_lawful z g' new v n m numbers role knows (name_here g.badge m new) (as_dealt g m new m was.1)) in (
         g',
         fits,
-        split z g g' vs id v (giver v) (given_note v) law at refl refl refl on refl refl own added (λ b. refl) refl refl (omega arith) (omega arith) law.dealt (λ s low. current_kept z g g' s refl refl refl refl (law.sectors s low)),
+        split z g g' vs id v (giver v) (given_note v) law at refl refl refl on refl own added (λ b. refl) refl refl (omega arith) (omega arith) law.dealt (λ s low. current_kept z g g' s refl refl refl refl (law.sectors s low)),
         kept.same g g' (λ b. refl) stage,
       )
 
@@ -192,7 +193,7 @@ stays_with f m id x is = by_test (same_name x m) where
 gone_lawful : (z : Numbers) (g : World) (seat : ℕ) → LawfulView z g seat gone
 gone_lawful z g seat =
     record {
-      kind = record { numbers = λ is. absurd (cc); known = λ is. absurd (cc); opens = λ is. absurd (cc); unpinned = λ _. refl; idle = λ _. (refl, refl, refl, refl); owns_none = λ _. refl };
+      kind = record { numbers = λ is. absurd (cc); known = λ is. absurd (cc); opens = λ is. absurd (cc); unpinned = λ _. refl; idle = λ _. (refl, refl, refl, refl); owns_none = λ _. refl; reclaims = λ b c o e is. absurd (none_some o is) };
       knowledge = record { seen = (g.history, refl); pin = tt; known = λ b _. omega arith; programs = λ m is. absurd (cc); erases = λ m is. absurd (cc); copy = λ c is. absurd (none_some c is) };
       holding = record {
         name = λ m is. absurd (cc);
@@ -243,6 +244,7 @@ module _ (z : Numbers) (g : World) (vs : List View) (id other : ℕ) (v w u : Vi
       record {
         limits = law.limits;
         sectors = λ s low. current_kept z g g' s refl refl refl refl (law.sectors s low);
+        callers = law.callers;
         blocks = λ b low. join_block b (law.blocks b low) (same b) owns;
         views = λ j x is.
             ⊎_elim
@@ -273,7 +275,7 @@ module _ (part : Numbers → World → Type 0) (z : Numbers) (kept : PartKept pa
       let kind = h.kind in
       let holds = h.holding in
       let own : LawfulView z g' id (host_of v w) = record {
-        kind = record { numbers = kind.numbers; known = kind.known; opens = kind.opens; unpinned = kind.unpinned; idle = kind.idle; owns_none = kind.owns_none };
+        kind = record { numbers = kind.numbers; known = kind.known; opens = kind.opens; unpinned = kind.unpinned; idle = kind.idle; owns_none = kind.owns_none; reclaims = kind.reclaims };
         knowledge = record {
           seen = knows.seen;
           pin = knows.pin;
@@ -317,7 +319,7 @@ module _ (part : Numbers → World → Type 0) (z : Numbers) (kept : PartKept pa
       let kind = h.kind in
       let holds = h.holding in
       let own : LawfulView z g' id (home v w) = record {
-        kind = record { numbers = kind.numbers; known = kind.known; opens = kind.opens; unpinned = kind.unpinned; idle = kind.idle; owns_none = kind.owns_none };
+        kind = record { numbers = kind.numbers; known = kind.known; opens = kind.opens; unpinned = kind.unpinned; idle = kind.idle; owns_none = kind.owns_none; reclaims = kind.reclaims };
         knowledge = record {
           seen = knows.seen;
           pin = knows.pin;

@@ -1,6 +1,7 @@
 -- The table at the start meets the rule.
 use Rattle.std.proofs.Common.{◌≡◌, ℕ, zero, suc, ◌*◌, ◌+◌, ◌-◌, ◌<◌, ◌≤◌, eq-eqb, ne_eqb, true, false, List, [], ◌∷◌, ◌++◌, None, Some, length, replicate, sym, refl, ap, ◌∙◌, subst, arith, length-append}
 use Rattle.std.proofs.lemmas.List.{length-replicate}
+use Rattle.std.proofs.lemmas.List.Elements.{All-nil}
 use Rattle.std.proofs.Math.ListN.{get_or}
 use Rattle.std.specs.Prelude.{if◌then◌else◌, nat_lt}
 use mathlib.Core.Option.{some, some-injective, some-ne-none}
@@ -16,10 +17,10 @@ use Rattle.geometry.specs.declared.pin_word.PinWord.{PinWord}
 use Rattle.geometry.specs.declared.pin_word.Phase.TheVariants.{Free, Open}
 use Rattle.flash_rule.specs.declared.facts.Owned.{Owned}
 use Rattle.flash_rule.specs.declared.view.View.{View}
-use Rattle.flash_rule.specs.Views.{owned_at}
-use Rattle.flash_rule.specs.World.{World, Fits, is_owned, is_early, blank_word}
+use Rattle.flash_rule.specs.Views.{owned_at, caller}
+use Rattle.flash_rule.specs.World.{World, Fits, is_owned, is_early, is_reclaimed, blank_word}
 use Rattle.flash_rule.specs.Rule.{LawfulBlock, LawfulOwned, LawfulView, Lawful, IsEarly}
-use Rattle.flash_rule.specs.Seats.{Ruled, spares, dealer, opening_words}
+use Rattle.flash_rule.specs.Seats.{Ruled, spare, spares, dealer, opening_words}
 use Rattle.flash_rule.proofs.Owning.{none_some, some_same}
 use Rattle.flash_rule.proofs.Places.{row_within}
 use Rattle.std.proofs.lemmas.Bool.Decides.{nat_tests}
@@ -38,9 +39,6 @@ same_all : (n x k : ℕ) → k < n → get_or (replicate n x) k 0 ≡ x
 same_all zero x k low = absurd (omega arith)
 same_all (suc n) x zero low = refl
 same_all (suc n) x (suc k) low = same_all n x k (omega arith)
-
-abbrev spare : ℕ → Owned
-spare b = record { block = b; phase = Open; generation = 0; written = 0 }
 
 spare_is : (n from b : ℕ) (o : Owned) → owned_at b (spares n from) ≡ Some o → (from ≤ b) × (b < from + n) × (spare b ≡ o)
 spare_is zero from b o is = absurd (none_some o is)
@@ -171,7 +169,7 @@ module _ (z : Numbers) (limits : IsWithinLimits z) where
   opening_view : LawfulView z opening_world 0 (dealer z)
   opening_view =
       record {
-        kind = record { numbers = λ _. refl; known = λ is. absurd (cc); opens = λ is. absurd (cc); unpinned = λ _. refl; idle = λ _. (refl, refl, refl, refl); owns_none = λ is. absurd (cc) };
+        kind = record { numbers = λ _. refl; known = λ is. absurd (cc); opens = λ is. absurd (cc); unpinned = λ _. refl; idle = λ _. (refl, refl, refl, refl); owns_none = λ is. absurd (cc); reclaims = λ b c o e is _ busy. absurd (idle b o is busy) };
         knowledge = record { seen = Begins-refl []; pin = tt; known = λ b _. omega arith; programs = λ n is. absurd (cc); erases = λ n is. absurd (cc); copy = λ c is. absurd (none_some c is) };
         holding = record {
           name = λ n is. absurd (cc);
@@ -184,12 +182,16 @@ module _ (z : Numbers) (limits : IsWithinLimits z) where
           dealer = λ _. (refl, refl, refl);
         };
       }
+    where
+      idle : (b : ℕ) (o : Owned) → owned_at b (dealer z).owns ≡ Some o → is_reclaimed o.phase ≡ true → ⊥
+      idle b o is busy = let r = spare_is z.brooms (z.blocks - z.brooms) b o is in let no : false ≡ true = ap (λ (x : Owned). is_reclaimed x.phase) r.2 ∙ busy in absurd (cc)
 
   opening_lawful : Lawful z opening_world (dealer z ∷ [])
   opening_lawful =
       record {
         limits = limits;
         sectors = λ s low. record { empty = λ _. held_at_first z.sectors s; named = λ m is. absurd (none_some m is) };
+        callers = All-nil (λ c. caller c < z.hosts);
         blocks = opening_block;
         views = only;
         strangers = λ t _. refl;

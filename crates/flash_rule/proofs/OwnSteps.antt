@@ -18,9 +18,9 @@ use Rattle.flash_rule.specs.Views.{is_player, may_own, pins_on, owned_at, withou
 use Rattle.flash_rule.specs.World.{World, put, is_owned, is_intact, is_still, half_cycle}
 use Rattle.flash_rule.specs.Rule.{IsProgrammed, IsFilling, LawfulKind, LawfulOwned, LawfulWork, LawfulView, Lawful}
 use Rattle.flash_rule.specs.Onward.{Onward}
-use Rattle.flash_rule.specs.Plays.{next_page}
+use Rattle.flash_rule.specs.Plays.{next_page, IsSettled}
 use Rattle.flash_rule.proofs.Points.{put_here, total_set}
-use Rattle.flash_rule.proofs.Owning.{some_same, none_some, with_here, with_else, without_here, without_else, get_last, put3, put3_here, put3_else}
+use Rattle.flash_rule.proofs.Owning.{some_same, none_some, with_here, with_else, without_here, without_else, one_with_open, one_without, get_last, put3, put3_here, put3_else}
 use Rattle.flash_rule.proofs.Frames.{counted, knowledge_kept}
 use Rattle.flash_rule.proofs.PinSteps.{moved, pin_moves, pin_moved, moved_else, seat_set}
 
@@ -69,7 +69,7 @@ module _ (z : Numbers) (g : World) (vs : List View) (id : ℕ) (v : View) (o : O
 
     -- the page is below the end of its block
     pub page_room : o.written < z.pages
-    page_room = let w = (law.views id v at).holding.work x doing in let low = w.page in let e : x.page.page ≡ o.written = ap (λ (m : MapWord). m.page) page in omega arith
+    page_room = let w = (law.views id v at).holding.work x doing in let low = w.page in let e : x.page.page ≡ (next_page o).page = ap (λ (m : MapWord). m.page) page in omega arith
 
     pub counts_page : (n : Name) → v.role ≡ Player n → Lawful z (count_world n) (set vs id counter)
     counts_page n role =
@@ -129,6 +129,7 @@ module _ (z : Numbers) (g : World) (vs : List View) (id : ℕ) (v : View) (o : O
             unpinned = kind.unpinned;
             idle = λ is. let no : true ≡ false = sym (ap is_player role) ∙ is in absurd (cc);
             owns_none = λ is. let no : true ≡ false = sym (ap may_own role) ∙ is in absurd (cc);
+            reclaims = one_with_open more v.owns opened kind.reclaims;
           };
           knowledge = record {
             seen = knows.seen;
@@ -220,7 +221,7 @@ module _ (z : Numbers) (g : World) (vs : List View) (id : ℕ) (v : View) (o : O
   abbrev pub close_world : World
   close_world = moved g o.block closed_state id g.programmer
 
-  pub closes : ((w : Work) (e : Owned) → v.work ≡ Some w → owned_at w.page.block v.owns ≡ Some e → w.page.page < e.written) → Lawful z close_world (set vs id closer)
+  pub closes : IsSettled v → Lawful z close_world (set vs id closer)
   closes settled =
       let h = law.views id v at in
       let b = o.block in
@@ -257,6 +258,7 @@ module _ (z : Numbers) (g : World) (vs : List View) (id : ℕ) (v : View) (o : O
           unpinned = kind.unpinned;
           idle = λ is. let i = kind.idle is in (refl, i.1, i.2, i.3);
           owns_none = λ is. ap (λ l. without b l) (kind.owns_none is);
+          reclaims = one_without b v.owns kind.reclaims;
         };
         knowledge = record { seen = knows.seen; pin = knows.pin; known = knows.known; programs = knows.programs; erases = knows.erases; copy = knows.copy };
         holding = record {

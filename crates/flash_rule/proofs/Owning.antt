@@ -1,15 +1,16 @@
 -- The blocks that a seat owns, one entry changed; and what an owned block keeps while another one changes.
-use Rattle.std.proofs.Common.{◌≡◌, ◌≢◌, ℕ, zero, suc, ◌≤◌, ◌⊎◌, inl, inr, ⊎_elim, eq-eqb, ne_eqb, List, [], ◌∷◌, ◌++◌, Option, None, Some, length, slice_get, sym, refl, ap, ◌∙◌}
+use Rattle.std.proofs.Common.{◌≡◌, ◌≢◌, ℕ, zero, suc, ◌≤◌, ◌⊎◌, inl, inr, ⊎_elim, eq-eqb, ne_eqb, true, false, List, [], ◌∷◌, ◌++◌, Option, None, Some, length, slice_get, sym, refl, ap, ◌∙◌}
 use mathlib.Core.Logic.{dite}
 use native.Mathlib.Decide.{ℕ_discrete}
 use Rattle.geometry.specs.Limits.{Numbers}
 use Rattle.geometry.specs.declared.map_word.MapWord.{MapWord}
 use Rattle.geometry.specs.declared.pin_word.PinWord.{PinWord}
+use Rattle.geometry.specs.declared.pin_word.Phase.TheVariants.{Open}
 use Rattle.flash_rule.specs.declared.facts.Owned.{Owned}
 use Rattle.flash_rule.specs.declared.facts.Work.{Work}
 use Rattle.flash_rule.specs.Views.{owned_at, without, with_owned}
-use Rattle.flash_rule.specs.World.{World, put}
-use Rattle.flash_rule.specs.Rule.{IsFilling, LawfulOwned}
+use Rattle.flash_rule.specs.World.{World, put, is_reclaimed}
+use Rattle.flash_rule.specs.Rule.{IsFilling, LawfulOwned, ReclaimsOne}
 use Rattle.flash_rule.proofs.Points.{eq_self}
 
 pub some_same : {X : Type 0} (x y : X) → Some x ≡ Some y → x ≡ y
@@ -60,6 +61,38 @@ put3_else f a b c x i j k apart =
     (λ q. dite (ℕ_discrete k c) (λ r. absurd (apart (p, q, r))) (λ r. rw (eq-eqb i a p) (rw (eq-eqb j b q) (rw (ne_eqb k c r) (λ t. f (sym p t) (sym q t) k)))))
     (λ q. rw (eq-eqb i a p) (rw (ne_eqb j b q) (λ t. f (sym p t) j k))))
     (λ p. rw (ne_eqb i a p) refl)
+
+-- ---- at most one block drained or erased
+one_of_fewer : (owns fewer : List Owned) → ((b : ℕ) (o : Owned) → owned_at b fewer ≡ Some o → is_reclaimed o.phase ≡ true → owned_at b owns ≡ Some o) → ReclaimsOne owns → ReclaimsOne fewer
+one_of_fewer owns fewer was one b c o e here there first second = one b c o e (was b o here first) (was c e there second) first second
+
+not_reclaimed : (o : Owned) → o.phase ≡ Open → is_reclaimed o.phase ≡ true → ⊥
+not_reclaimed o opened is = let no : true ≡ false = sym is ∙ ap is_reclaimed opened in absurd (cc)
+
+-- an own block that opens, or another entry of an open one
+pub one_with_open : (o : Owned) (owns : List Owned) → o.phase ≡ Open → ReclaimsOne owns → ReclaimsOne (with_owned o owns)
+one_with_open o owns opened =
+    one_of_fewer owns (with_owned o owns) (λ b e is reclaimed.
+    dite (ℕ_discrete b o.block)
+    (λ same.
+    let its : o ≡ e = some_same o e (sym (with_here o owns) ∙ (ap (λ j. owned_at j (with_owned o owns)) (sym same) ∙ is)) in
+    absurd (not_reclaimed e (sym (ap (λ (x : Owned). x.phase) its) ∙ opened) reclaimed))
+    (λ unlike. sym (with_else o b owns unlike) ∙ is))
+
+-- a block that is given up
+pub one_without : (b : ℕ) (owns : List Owned) → ReclaimsOne owns → ReclaimsOne (without b owns)
+one_without b owns =
+    one_of_fewer owns (without b owns) (λ c o is _.
+    dite (ℕ_discrete c b)
+    (λ same. absurd (none_some o (sym (without_here b owns) ∙ (ap (λ j. owned_at j (without b owns)) (sym same) ∙ is))))
+    (λ unlike. sym (without_else b c owns unlike) ∙ is))
+
+-- a block that a seat at rest claims or condemns
+pub one_at_rest : (o : Owned) (owns : List Owned) → ((b : ℕ) (e : Owned) → owned_at b owns ≡ Some e → e.phase ≡ Open) → ReclaimsOne (with_owned o owns)
+one_at_rest o owns rested b c x y here there first second = only b x here first ∙ sym (only c y there second) where
+  only : (d : ℕ) (e : Owned) → owned_at d (with_owned o owns) ≡ Some e → is_reclaimed e.phase ≡ true → d ≡ o.block
+  only d e is reclaimed =
+      dite (ℕ_discrete d o.block) (λ same. same) (λ unlike. absurd (not_reclaimed e (rested d e (sym (with_else o d owns unlike) ∙ is)) reclaimed))
 
 -- An owned block that the step doesn't concern
 pub owned_else : (z : Numbers) (g g' : World) (id : ℕ) (doing doing' : Option Work) (cleared wiped b : ℕ) (o : Owned) → g'.pins b ≡ g.pins b → g'.owner b ≡ g.owner b

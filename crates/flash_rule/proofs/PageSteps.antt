@@ -1,5 +1,5 @@
 -- Steps on page words: put and get.
-use Rattle.std.proofs.Common.{◌≡◌, ◌≢◌, ℕ, zero, suc, ◌<◌, ◌≤◌, inl, inr, ⊎_elim, eq-eqb, ne_eqb, true, false, List, [], ◌∷◌, ◌++◌, Option, None, Some, length, set, sym, refl, ap, ◌∙◌, subst, arith, length-append}
+use Rattle.std.proofs.Common.{◌≡◌, ◌≢◌, ℕ, zero, suc, ◌*◌, ◌<◌, ◌≤◌, inl, inr, ⊎_elim, eq-eqb, ne_eqb, true, false, List, [], ◌∷◌, ◌++◌, Option, None, Some, length, set, sym, refl, ap, ◌∙◌, subst, arith, length-append}
 use Rattle.std.proofs.Math.ListN.{get_or}
 use mathlib.Core.Option.{some}
 use mathlib.Core.Logic.{dite}
@@ -8,24 +8,26 @@ use lib.ListN.{get_elem?}
 use Rattle.geometry.proofs.Histories.{Begins-refl}
 use Rattle.geometry.specs.Limits.{Numbers}
 use Rattle.geometry.specs.declared.map_word.MapWord.{MapWord}
-use Rattle.geometry.specs.declared.pin_word.PinWord.{PinWord}
-use Rattle.geometry.specs.declared.pin_word.Phase.TheVariants.{Free, Open, Closed, Victim, Drained, Erasing, Retired}
-use Rattle.geometry.specs.declared.pin_word.Phase.{Phase}
+use Rattle.geometry.specs.declared.pin_word.Phase.TheVariants.{Open, Victim, Erasing}
 use Rattle.flash_rule.specs.declared.facts.Pin.{Pin}
 use Rattle.flash_rule.specs.declared.facts.Owned.{Owned}
-use Rattle.flash_rule.specs.declared.facts.Pin.TheVariants.{Candidate, Accepted}
+use Rattle.flash_rule.specs.declared.facts.Name.TheVariants.{Pass, Broom}
+use Rattle.flash_rule.specs.declared.facts.Role.{Role}
+use Rattle.flash_rule.specs.declared.facts.Role.TheVariants.{Dealer, Player, Note, Gone}
+use Rattle.flash_rule.specs.declared.facts.Pin.TheVariants.{Clear, Accepted}
 use Rattle.flash_rule.specs.declared.facts.Work.{Work}
+use Rattle.flash_rule.specs.declared.carried.Carried.{Carried}
 use Rattle.flash_rule.specs.declared.view.View.{View}
-use Rattle.flash_rule.specs.Views.{is_player, owned_at}
-use Rattle.flash_rule.specs.World.{World, put_word, is_intact, is_still, is_early, data_word}
-use Rattle.flash_rule.specs.Rule.{IsFilling, LawfulOwned, LawfulWork, LawfulView, Lawful, IsEarly, LawfulPin}
+use Rattle.flash_rule.specs.Views.{is_pass, is_player, owned_at}
+use Rattle.flash_rule.specs.World.{World, put_word, is_still, age_of, data_word}
+use Rattle.flash_rule.specs.Rule.{IsFilling, LawfulOwned, LawfulWork, LawfulView, Lawful, LawfulPin}
 use Rattle.flash_rule.specs.Onward.{Onward}
-use Rattle.flash_rule.specs.Plays.{next_page, words_in, SettledBut}
+use Rattle.flash_rule.specs.Plays.{next_page, words_in, SettledBut, Spared}
 use Rattle.flash_rule.proofs.Points.{eq_self}
 use Rattle.flash_rule.proofs.Owning.{some_same}
 use Rattle.flash_rule.proofs.Frames.{counted, knowledge_kept}
 use Rattle.flash_rule.proofs.Assembly.{assembled, block_kept, sector_kept}
-use Rattle.flash_rule.proofs.Still.{pin_stays}
+use Rattle.flash_rule.proofs.Still.{pin_stays, pass_of, intact_age, met}
 
 pub word_here : (f : ℕ → ℕ → ℕ → ℕ) (b p i x : ℕ) → put_word f b p i x b p i ≡ x
 word_here f b p i x = rw (eq_self b) (rw (eq_self p) (rw (eq_self i) refl))
@@ -51,16 +53,16 @@ get_end (x ∷ xs) y (suc k) is = get_end xs y k (omega arith)
 
 -- the words put so far into the next page stand in it
 words_stand : (z : Numbers) (g : World) (owns : List Owned) (doing : Option Work) (o : Owned) → ((w : Work) → doing ≡ Some w → LawfulWork z g owns w) → (j : ℕ) → j < length (words_in doing o)
-    → g.pages o.block o.written j ≡ get_or (words_in doing o) j 0
+    → g.pages o.block (next_page o).page j ≡ get_or (words_in doing o) j 0
 words_stand z g owns None o lawful j low = absurd (omega arith)
 words_stand z g owns (Some w) o lawful j low =
     dite (ℕ_discrete w.page.block o.block)
-    (λ b. dite (ℕ_discrete w.page.page o.written)
+    (λ b. dite (ℕ_discrete w.page.page (next_page o).page)
     (λ p.
-    let here : words_in (Some w) o ≡ w.words = rw (eq-eqb w.page.block o.block b) (rw (eq-eqb w.page.page o.written p) refl) in
+    let here : words_in (Some w) o ≡ w.words = rw (eq-eqb w.page.block o.block b) (rw (eq-eqb w.page.page (next_page o).page p) refl) in
     let within : j < length w.words = subst (λ (l : List ℕ). j < length l) here low in
-    ap (λ c. g.pages c o.written j) (sym b) ∙ (ap (λ c. g.pages w.page.block c j) (sym p) ∙ ((lawful w refl).stands j within ∙ ap (λ (l : List ℕ). get_or l j 0) (sym here))))
-    (λ p. let none : words_in (Some w) o ≡ [] = rw (eq-eqb w.page.block o.block b) (rw (ne_eqb w.page.page o.written p) refl) in absurd (nothing j (subst (λ (l : List ℕ). j < length l) none low))))
+    ap (λ c. g.pages c (next_page o).page j) (sym b) ∙ (ap (λ c. g.pages w.page.block c j) (sym p) ∙ ((lawful w refl).stands j within ∙ ap (λ (l : List ℕ). get_or l j 0) (sym here))))
+    (λ p. let none : words_in (Some w) o ≡ [] = rw (eq-eqb w.page.block o.block b) (rw (ne_eqb w.page.page (next_page o).page p) refl) in absurd (nothing j (subst (λ (l : List ℕ). j < length l) none low))))
     (λ b. let none : words_in (Some w) o ≡ [] = rw (ne_eqb w.page.block o.block b) refl in absurd (nothing j (subst (λ (l : List ℕ). j < length l) none low)))
   where
     nothing : (j : ℕ) → j < 0 → ⊥
@@ -77,7 +79,7 @@ module _ (z : Numbers) (g : World) (vs : List View) (id : ℕ) (v : View) (o : O
   putter = record v { work = Some put_work }
 
   abbrev pub put_world : World
-  put_world = record g { pages = put_word g.pages o.block o.written put_at x }
+  put_world = record g { pages = put_word g.pages o.block (next_page o).page put_at x }
 
   entry : LawfulOwned z g id v.work v.cleared v.wiped o.block o
   entry = (law.views id v at).holding.owned o.block o own
@@ -86,7 +88,7 @@ module _ (z : Numbers) (g : World) (vs : List View) (id : ℕ) (v : View) (o : O
   puts_word room short settled =
       let h = law.views id v at in
       let b = o.block in
-      let p = o.written in
+      let p = (next_page o).page in
       let i = put_at in
       let g' = put_world in
       let kind = h.kind in
@@ -144,6 +146,7 @@ module _ (z : Numbers) (g : World) (vs : List View) (id : ℕ) (v : View) (o : O
           unpinned = kind.unpinned;
           idle = λ is. let no : true ≡ false = sym player ∙ is in absurd (cc);
           owns_none = kind.owns_none;
+          reclaims = kind.reclaims;
         };
         knowledge = record { seen = knows.seen; pin = knows.pin; known = knows.known; programs = knows.programs; erases = knows.erases; copy = knows.copy };
         holding = record {
@@ -211,6 +214,7 @@ module _ (z : Numbers) (g : World) (vs : List View) (id : ℕ) (v : View) (o : O
       } in
       assembled z g g' vs id v putter law at on after
       (λ s low. sector_kept z g g' s (law.sectors s low) refl refl (λ c below named. (refl, named, omega arith, λ q j written. programmed_stays c q j written)))
+      law.callers
       (λ c low. dite (ℕ_discrete c b)
       (λ same.
       let block = law.blocks c low in
@@ -227,29 +231,6 @@ module _ (z : Numbers) (g : World) (vs : List View) (id : ℕ) (v : View) (o : O
       law.strangers refl law.dealt
 
 -- ---- get
-early_intact : (p : PinWord) → is_early p.phase ≡ true → ¬ (p.phase ≡ Free) → is_intact p.phase ≡ true
-early_intact p early taken = by_phase p.phase early taken where
-  by_phase : (f : Phase) → is_early f ≡ true → ¬ (f ≡ Free) → is_intact f ≡ true
-  by_phase Free early taken = absurd (taken refl)
-  by_phase Open early taken = refl
-  by_phase Closed early taken = refl
-  by_phase Victim early taken = absurd (cc)
-  by_phase Drained early taken = absurd (cc)
-  by_phase Erasing early taken = absurd (cc)
-  by_phase Retired early taken = absurd (cc)
-
--- before anything is erased, a candidate's page is what it was at the look
-pub gets_candidate : (z : Numbers) (g : World) (vs : List View) (id : ℕ) (v : View) (m : MapWord) (value : List ℕ) → Lawful z g vs → get_elem? vs id ≡ some v → IsEarly z g → v.pin ≡ Candidate m value
-    → (m.block < z.blocks) × (m.page < z.pages) × ((i : ℕ) → i < z.words → g.pages m.block m.page i ≡ data_word value i)
-gets_candidate z g vs id v m value law at early is =
-    let c = subst (λ (p : Pin). LawfulPin z g v.known p) is (law.views id v at).knowledge.pin in
-    let generation = early.generation m.block c.block in
-    let reached = c.reached in
-    let same : (g.pins m.block).generation ≡ m.generation = omega arith in
-    let phase = early_intact (g.pins m.block) (early.phase m.block c.block) (c.taken same) in
-    let k = c.page (record { same = same; phase = phase }) in
-    let low = k.0 in
-    let most = (law.blocks m.block c.block).written in (c.block, omega arith, k.1)
 
 -- an accepted pin's page is what it was at the look
 pub gets_accepted : (z : Numbers) (g : World) (vs : List View) (id : ℕ) (v : View) (m : MapWord) (value : List ℕ) → Lawful z g vs → get_elem? vs id ≡ some v → v.pin ≡ Accepted m value
@@ -258,3 +239,34 @@ gets_accepted z g vs id v m value law at is =
     let c = subst (λ (p : Pin). LawfulPin z g v.known p) is (law.views id v at).knowledge.pin in
     let low = c.written in
     let most = (law.blocks m.block c.block).written in (c.block, omega arith, c.stands)
+
+-- only a pass has pinned a page
+pins_by_pass : (r : Role) (pin : Pin) (m : MapWord) (value : List ℕ) → (is_pass r ≡ false → pin ≡ Clear) → pin ≡ Accepted m value → is_pass r ≡ true
+pins_by_pass r pin m value free is = by_role r free where
+  not_clear : pin ≡ Clear → ⊥
+  not_clear clear = let e : Clear ≡ Accepted m value = sym clear ∙ is in absurd (cc)
+
+  by_role : (r : Role) → (is_pass r ≡ false → pin ≡ Clear) → is_pass r ≡ true
+  by_role (Player (Pass t)) free = refl
+  by_role (Player (Broom i)) free = absurd (not_clear (free refl))
+  by_role Dealer free = absurd (not_clear (free refl))
+  by_role Note free = absurd (not_clear (free refl))
+  by_role Gone free = absurd (not_clear (free refl))
+
+-- while a page is pinned, nobody erases its block
+pub spared : (z : Numbers) (g : World) (vs : List View) (id : ℕ) (v : View) (m : MapWord) (value : List ℕ) (c : Carried) → Lawful z g vs → get_elem? vs id ≡ some v → v.pin ≡ Accepted m value → v.copy ≡ Some c → Spared v m c
+spared z g vs id v m value c law at pinned copied =
+    let h = law.views id v at in
+    let t = pass_of v.role (pins_by_pass v.role v.pin m value h.kind.unpinned pinned) in
+    let a = subst (λ (p : Pin). LawfulPin z g v.known p) pinned h.knowledge.pin in
+    let copy = h.knowledge.copy c copied in
+    let apart = met z g v (Pass t.0) c t.1 h.knowledge copy in
+    let age : age_of (g.pins m.block) ≡ 2 * (g.pins m.block).generation = intact_age (g.pins m.block) a.intact.phase in
+    record {
+      other = copy.other;
+      programs = apart.1;
+      erases = λ k x is same.
+          let begun = (copy.erases k x is).1 in
+          let here : age_of (g.pins x.block) ≡ age_of (g.pins m.block) = ap (λ b. age_of (g.pins b)) same in
+          let generation = a.intact.same in omega arith;
+    }

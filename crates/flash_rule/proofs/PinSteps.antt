@@ -21,7 +21,7 @@ use Rattle.flash_rule.specs.World.{World, put, is_owned, is_intact, is_nameable,
 use Rattle.flash_rule.specs.Rule.{IsProgrammed, IsFilling, LawfulBlock, LawfulOwned, LawfulView, Lawful}
 use Rattle.flash_rule.specs.Onward.{PinOnward, Untouched, Onward}
 use Rattle.flash_rule.proofs.Points.{put_here, put_else, put_all, total_set}
-use Rattle.flash_rule.proofs.Owning.{some_same, with_here, with_else, owned_else}
+use Rattle.flash_rule.proofs.Owning.{some_same, with_here, with_else, owned_else, one_with_open}
 use Rattle.flash_rule.proofs.Frames.{counted, knowledge_kept}
 use Rattle.flash_rule.proofs.Assembly.{assembled, block_kept, sector_kept}
 use Rattle.flash_rule.proofs.Still.{pin_stays, still}
@@ -99,6 +99,7 @@ module _ (z : Numbers) (g : World) (vs : List View) (id : ℕ) (v w : View) (b :
       (λ unlike.
       let e = put_else g.pins b q c unlike in
       (ap (λ (p : PinWord). p.generation) e, ap (λ (p : PinWord). is_nameable p.phase) e ∙ named, (let w = ap (λ (p : PinWord). p.written) e in omega arith), λ p i _. refl))))
+      law.callers
       (λ c low. dite (ℕ_discrete c b)
       (λ same. subst (λ j. LawfulBlock z g' (set vs id w) j) (sym same) here)
       (λ unlike. block_kept z g g' vs id v w c at (law.blocks c low) (put_else g.pins b q c unlike) (put_else g.owner b owner c unlike) (λ p i. refl) (counted c unlike) (keeps c unlike)))
@@ -172,6 +173,7 @@ module _ (z : Numbers) (g : World) (vs : List View) (id : ℕ) (v : View) (b : �
           unpinned = kind.unpinned;
           idle = kind.idle;
           owns_none = λ is. let no : true ≡ false = sym (pass_may_own v.role pass) ∙ is in absurd (cc);
+          reclaims = one_with_open newly_owned v.owns refl kind.reclaims;
         };
         knowledge = record { seen = knows.seen; pin = knows.pin; known = knows.known; programs = knows.programs; erases = knows.erases; copy = knows.copy };
         holding = record {
@@ -239,7 +241,7 @@ module _ (z : Numbers) (g : World) (vs : List View) (id : ℕ) (v : View) (b : �
       let holds = h.holding in
       still z g vs id v (record v { denied = v.denied ++ b ∷ [] }) law at
       (record {
-        kind = record { numbers = kind.numbers; known = kind.known; opens = kind.opens; unpinned = kind.unpinned; idle = kind.idle; owns_none = kind.owns_none };
+        kind = record { numbers = kind.numbers; known = kind.known; opens = kind.opens; unpinned = kind.unpinned; idle = kind.idle; owns_none = kind.owns_none; reclaims = kind.reclaims };
         knowledge = record { seen = knows.seen; pin = knows.pin; known = knows.known; programs = knows.programs; erases = knows.erases; copy = knows.copy };
         holding = record { name = holds.name; calls = holds.calls; owned = holds.owned; work = holds.work; source = holds.source; whole = holds.whole; guest = holds.guest; dealer = holds.dealer };
       })

@@ -84,7 +84,7 @@ module _ (z : Numbers) (g : World) (vs : List View) (id : ℕ) (v : View) (b : �
       let on = read_onward in
       let knows = knowledge_kept z g g' id id on v (λ c is below. counted vs law id v at c is below) h.knowledge in
       let own : LawfulView z g' id reader = record {
-        kind = record { numbers = kind.numbers; known = λ _. long; opens = kind.opens; unpinned = λ not. let no : true ≡ false = sym pass ∙ not in absurd (cc); idle = kind.idle; owns_none = kind.owns_none };
+        kind = record { numbers = kind.numbers; known = λ _. long; opens = kind.opens; unpinned = λ not. let no : true ≡ false = sym pass ∙ not in absurd (cc); idle = kind.idle; owns_none = kind.owns_none; reclaims = kind.reclaims };
         knowledge = record {
           seen = knows.seen;
           pin = lawful;
@@ -117,17 +117,6 @@ module _ (z : Numbers) (g : World) (vs : List View) (id : ℕ) (v : View) (b : �
       there (λ c _ o is. (o, is)) refl
 
 -- ---- what a pin finds
-intact_age : (p : PinWord) → is_intact p.phase ≡ true → age_of p ≡ 2 * p.generation
-intact_age p is = by_phase p.phase is where
-  by_phase : (f : Phase) → is_intact f ≡ true → 2 * p.generation + half_cycle f ≡ 2 * p.generation
-  by_phase Free is = absurd (cc)
-  by_phase Open is = omega arith
-  by_phase Closed is = omega arith
-  by_phase Victim is = omega arith
-  by_phase Drained is = omega arith
-  by_phase Erasing is = absurd (cc)
-  by_phase Retired is = absurd (cc)
-
 over_age : (p : PinWord) → ¬ (p.phase ≡ Free) → is_intact p.phase ≡ false → age_of p ≡ 2 * p.generation + 1
 over_age p taken not = by_phase p.phase taken not where
   by_phase : (f : Phase) → ¬ (f ≡ Free) → is_intact f ≡ false → 2 * p.generation + half_cycle f ≡ 2 * p.generation + 1
@@ -268,9 +257,10 @@ module _ (part : Numbers → World → Type 0) (z : Numbers) (kept : PartKept pa
       let fitting = state_fits z g t.views law b low in
       let here = on_here v.pin b on in
       let readers = counted t.views law id v at b here low in
-      let q : PinWord = read_state z g t.views id v b (p.readers - 1) Clear v.known law at pass low in
-      let w : View = reader z g t.views id v b (p.readers - 1) Clear v.known law at pass low in
-      let lawful = reader_moves z g t.views id v b (p.readers - 1) Clear v.known law at pass low (h.kind.known pass) tt h.knowledge.known
+      let fewer : ℕ = p.readers - 1 in
+      let q : PinWord = read_state z g t.views id v b fewer Clear v.known law at pass low in
+      let w : View = reader z g t.views id v b fewer Clear v.known law at pass low in
+      let lawful = reader_moves z g t.views id v b fewer Clear v.known law at pass low (h.kind.known pass) tt h.knowledge.known
       (let one : pins_on b v ≡ 1 = ap one_if here in omega arith) (λ j unlike. sym (ap one_if (on_else v.pin b j on unlike))) in
       let back : pin_word q + READER ≡ pin_word p = omega arith in
       let now : (n + (2 ^ 64 - READER)) % 2 ^ 64 ≡ pin_word q = ap (λ (y : ℕ). (y + (2 ^ 64 - READER)) % 2 ^ 64) found ∙ takes_off p q READER fitting back (omega arith) in (

@@ -16,7 +16,7 @@ use Rattle.flash_rule.specs.declared.facts.Owned.{Owned}
 use Rattle.flash_rule.specs.declared.facts.Pin.{Pin}
 use Rattle.flash_rule.specs.declared.facts.Pin.TheVariants.{Clear}
 use Rattle.flash_rule.specs.declared.view.View.{View}
-use Rattle.flash_rule.specs.Views.{one_if, total, is_player, is_live_role, pin_is_on, pins_on, weight, role_weight, owned_at, calls_of, same_name}
+use Rattle.flash_rule.specs.Views.{one_if, total, is_player, is_live_role, pin_is_on, pins_on, weight, role_weight, owned_at, AreOfHosts, calls_of, same_name}
 use Rattle.flash_rule.specs.World.{World, put_name, is_owned, is_still, is_nameable}
 use Rattle.geometry.specs.History.{held}
 use Rattle.geometry.specs.declared.pin_word.Phase.TheVariants.{Free}
@@ -99,42 +99,37 @@ current_kept z g g' s map pins pages history h =
       λ p i _. ap (λ f. f b p i) pages,
     ))
 
--- ---- a seat is split: nothing of the table changes but who is who
-module _ (z : Numbers) (g g' : World) (vs : List View) (id : ℕ) (v l r : View) (law : Lawful z g vs) (at : get_elem? vs id ≡ some v) (pins : g'.pins ≡ g.pins) (owner : g'.owner ≡ g.owner) (pages : g'.pages ≡ g.pages) where
-  split_block : (b : ℕ) → LawfulBlock z g vs b → pins_on b l ≡ pins_on b v → r.pin ≡ Clear → l.owns ≡ v.owns → LawfulBlock z g' (set vs id l ++ r ∷ []) b
-  split_block b block same clear owns =
+-- the seat that owns a block after a split, and its entry
+abbrev pub Owner : World → List View → ℕ → Type 0
+Owner g vs b = (u : View) × (o : Owned) × (get_elem? vs (g.owner b) ≡ some u) × (owned_at b u.owns ≡ Some o)
+
+-- ---- a seat is split: no state and no page changes, but who is who, and who owns what
+module _ (z : Numbers) (g g' : World) (vs : List View) (id : ℕ) (v l r : View) (law : Lawful z g vs) (at : get_elem? vs id ≡ some v) (pins : g'.pins ≡ g.pins) (pages : g'.pages ≡ g.pages) where
+  split_block : (b : ℕ) → LawfulBlock z g vs b → pins_on b l ≡ pins_on b v → r.pin ≡ Clear → (is_owned (g.pins b).phase ≡ true → Owner g' (set vs id l ++ r ∷ []) b) → LawfulBlock z g' (set vs id l ++ r ∷ []) b
+  split_block b block same clear owner =
       let t = total_set (pins_on b) vs id v l at in
       let e = total_end (pins_on b) (set vs id l) r in
       let none : pins_on b r ≡ 0 = ap (λ (p : Pin). one_if (pin_is_on b p)) clear in
-      let readers = block.readers in
-      let now : LawfulBlock z g (set vs id l ++ r ∷ []) b = record {
-        readers = omega arith;
-        written = block.written;
-        generation = block.generation;
-        free = block.free;
-        rest = block.rest;
-        owner = λ owned.
-            let k = owner_kept z g g vs id v l b at block owned refl (λ o is. (o, ap (λ (x : List Owned). owned_at b x) owns ∙ is)) in
-            (k.0, k.1, at_longer (set vs id l) (r ∷ []) (g.owner b) k.0 k.2, k.3);
-      } in
+      let before = block.readers in
+      let readers : (g.pins b).readers ≡ total (pins_on b) (set vs id l ++ r ∷ []) = omega arith in
       record {
-        readers = ap (λ (f : ℕ → PinWord). (f b).readers) pins ∙ now.readers;
-        written = subst (λ (f : ℕ → PinWord). (f b).written ≤ z.pages) (sym pins) now.written;
-        generation = subst (λ (f : ℕ → PinWord). (f b).generation < z.endurance) (sym pins) now.generation;
-        free = subst (λ (f : ℕ → PinWord). (f b).phase ≡ Free → (f b).written ≡ 0) (sym pins) now.free;
-        rest = λ still p from below i most. ap (λ f. f b p i) pages ∙ now.rest (ap (λ (f : ℕ → PinWord). is_still (f b).phase) (sym pins) ∙ still) p (subst (λ (f : ℕ → PinWord). (f b).written ≤ p) pins from) below i most;
-        owner = λ owned.
-            let k = now.owner (ap (λ (f : ℕ → PinWord). is_owned (f b).phase) (sym pins) ∙ owned) in
-            (k.0, k.1, ap (λ f. get_elem? (set vs id l ++ r ∷ []) (f b)) owner ∙ k.2, k.3);
+        readers = ap (λ (f : ℕ → PinWord). (f b).readers) pins ∙ readers;
+        written = subst (λ (f : ℕ → PinWord). (f b).written ≤ z.pages) (sym pins) block.written;
+        generation = subst (λ (f : ℕ → PinWord). (f b).generation < z.endurance) (sym pins) block.generation;
+        free = subst (λ (f : ℕ → PinWord). (f b).phase ≡ Free → (f b).written ≡ 0) (sym pins) block.free;
+        rest = λ still p from below i most. ap (λ f. f b p i) pages ∙ block.rest (ap (λ (f : ℕ → PinWord). is_still (f b).phase) (sym pins) ∙ still) p (subst (λ (f : ℕ → PinWord). (f b).written ≤ p) pins from) below i most;
+        owner = λ owned. owner (ap (λ (f : ℕ → PinWord). is_owned (f b).phase) (sym pins) ∙ owned);
       }
 
-  pub split : Onward z g g' id id → g'.map ≡ g.map → g'.history ≡ g.history → LawfulView z g' id l → LawfulView z g' (length vs) r → ((b : ℕ) → pins_on b l ≡ pins_on b v) → r.pin ≡ Clear → l.owns ≡ v.owns
+  pub split_with : Onward z g g' id id → g'.history ≡ g.history → LawfulView z g' id l → LawfulView z g' (length vs) r → ((b : ℕ) → pins_on b l ≡ pins_on b v) → r.pin ≡ Clear
+      → ((b : ℕ) → b < z.blocks → is_owned (g.pins b).phase ≡ true → Owner g' (set vs id l ++ r ∷ []) b)
       → weight z l + weight z r ≡ weight z v → g.passes ≤ g'.passes → g'.passes ≤ z.hosts → ((s : ℕ) → s < z.sectors → LawfulSector z g' s) → Lawful z g' (set vs id l ++ r ∷ [])
-  split on maps history own new same clear owns weighs more dealt sectors =
+  split_with on history own new same clear owners weighs more dealt sectors =
       record {
         limits = law.limits;
         sectors = sectors;
-        blocks = λ b low. split_block b (law.blocks b low) (same b) clear owns;
+        callers = subst (λ l. AreOfHosts z l) (sym history) law.callers;
+        blocks = λ b low. split_block b (law.blocks b low) (same b) clear (owners b low);
         views = λ j u is.
             ⊎_elim
             (λ (old : get_elem? (set vs id l) j ≡ some u). ⊎_elim
@@ -148,6 +143,16 @@ module _ (z : Numbers) (g g' : World) (vs : List View) (id : ℕ) (v l r : View)
         seats = (let s = total_set (weight z) vs id v l at in let t = total_end (weight z) (set vs id l) r in let e = law.seats in omega arith);
         dealt = dealt;
       }
+
+  -- where the seat keeps its blocks, each block keeps its owner
+  pub split : g'.owner ≡ g.owner → Onward z g g' id id → g'.history ≡ g.history → LawfulView z g' id l → LawfulView z g' (length vs) r → ((b : ℕ) → pins_on b l ≡ pins_on b v) → r.pin ≡ Clear → l.owns ≡ v.owns
+      → weight z l + weight z r ≡ weight z v → g.passes ≤ g'.passes → g'.passes ≤ z.hosts → ((s : ℕ) → s < z.sectors → LawfulSector z g' s) → Lawful z g' (set vs id l ++ r ∷ [])
+  split owner on history own new same clear owns weighs more dealt sectors =
+      split_with on history own new same clear owners weighs more dealt sectors where
+        owners : (b : ℕ) → b < z.blocks → is_owned (g.pins b).phase ≡ true → Owner g' (set vs id l ++ r ∷ []) b
+        owners b low owned =
+            let k = owner_kept z g g' vs id v l b at (law.blocks b low) owned (ap (λ f. f b) owner) (λ o is. (o, ap (λ (x : List Owned). owned_at b x) owns ∙ is)) in
+            (k.0, k.1, at_longer (set vs id l) (r ∷ []) (g'.owner b) k.0 k.2, k.3)
 
 module _ (part : Numbers → World → Type 0) (z : Numbers) (kept : PartKept part z) (id : ℕ) (v : View) where
   -- DEAL. The dealer hands out the next pass
@@ -182,7 +187,7 @@ module _ (part : Numbers → World → Type 0) (z : Numbers) (kept : PartKept pa
       let not_player : (m : Name) → v.role ≡ Player m → ⊥ = λ m is. let e : Dealer ≡ Player m = sym role ∙ is in absurd (cc) in
       let holds = h.holding in
       let own : LawfulView z g' id (dealt_pass v) = record {
-        kind = record { numbers = kind.numbers; known = kind.known; opens = kind.opens; unpinned = kind.unpinned; idle = kind.idle; owns_none = kind.owns_none };
+        kind = record { numbers = kind.numbers; known = kind.known; opens = kind.opens; unpinned = kind.unpinned; idle = kind.idle; owns_none = kind.owns_none; reclaims = kind.reclaims };
         knowledge = record { seen = knows.seen; pin = knows.pin; known = knows.known; programs = knows.programs; erases = knows.erases; copy = knows.copy };
         holding = record {
           name = λ m is. absurd (not_player m is);
@@ -205,6 +210,7 @@ module _ (part : Numbers → World → Type 0) (z : Numbers) (kept : PartKept pa
           unpinned = λ is. absurd (cc);
           idle = λ is. absurd (cc);
           owns_none = λ is. absurd (cc);
+          reclaims = λ b c o e is. absurd (none_some o is);
         };
         knowledge = record {
           seen = (g.history, refl);
@@ -234,7 +240,7 @@ module _ (part : Numbers → World → Type 0) (z : Numbers) (kept : PartKept pa
       let b : weight z v ≡ z.hosts - v.passes = ap (λ r. role_weight z.hosts r v.passes) role in omega arith in (
         g',
         fits,
-        split z g g' vs id v (dealt_pass v) (new_pass v) law at refl refl refl on refl refl own added (λ b. refl) refl refl weighs (omega arith) (omega arith)
+        split z g g' vs id v (dealt_pass v) (new_pass v) law at refl refl refl on refl own added (λ b. refl) refl refl weighs (omega arith) (omega arith)
             (λ s low. current_kept z g g' s refl refl refl refl (law.sectors s low)),
         kept.same g g' (λ b. refl) stage,
       )

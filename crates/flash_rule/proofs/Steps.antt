@@ -24,14 +24,14 @@ use Rattle.geometry.specs.declared.pin_word.TheConstants.{TAKEN, NEXT_PHASE, PAG
 use Rattle.flash_rule.specs.declared.facts.Role.{Role}
 use Rattle.flash_rule.specs.declared.facts.Role.TheVariants.{Dealer, Player, Note, Gone}
 use Rattle.flash_rule.specs.declared.facts.Owned.{Owned}
-use Rattle.flash_rule.specs.declared.facts.Pin.TheVariants.{Candidate, Accepted}
+use Rattle.flash_rule.specs.declared.facts.Pin.TheVariants.{Accepted}
 use Rattle.flash_rule.specs.declared.facts.Work.{Work}
 use Rattle.flash_rule.specs.declared.view.View.{View}
 use Rattle.flash_rule.specs.Views.{is_pass, is_player, is_live_role, owned_at, without, with_owned}
 use Rattle.flash_rule.specs.World.{World, Fits, sector_word}
-use Rattle.flash_rule.specs.Rule.{Lawful, IsEarly}
+use Rattle.flash_rule.specs.Rule.{Lawful}
 use Rattle.flash_rule.specs.Seats.{Ruled}
-use Rattle.flash_rule.specs.Plays.{Sitter, Looked, Placed, Took, CanPlace, CanPut, CanCount, CanClose, words_in, next_page, look_told, write_told, trim_told, take_told, put_told, get_told, pinned_told, Called, count_told, close_told, is_unpinned}
+use Rattle.flash_rule.specs.Plays.{Sitter, Looked, Placed, Took, CanPlace, CanPut, CanCount, CanClose, words_in, next_page, look_told, write_told, trim_told, take_told, put_told, get_told, Called, count_told, close_told, is_unpinned}
 use Rattle.geometry.proofs.PinBits.{adds, next_phase, counts, takes_free, takes_taken, map_same}
 use Rattle.flash_rule.proofs.Places.{fits_load, fits_pin, fits_map, fits_page, pin_within, page_within, page_same}
 use Rattle.flash_rule.proofs.Owning.{some_same}
@@ -40,8 +40,9 @@ use Rattle.flash_rule.proofs.Assembly.{state_fits}
 use Rattle.flash_rule.proofs.Still.{look_empty, look_named, pass_of}
 use Rattle.flash_rule.proofs.PinSteps.{takes, taken, denied, taken_state, taker}
 use Rattle.flash_rule.proofs.OwnSteps.{counts_page, closes, worker, own_low, is_open, counter, count_world, counted_state, closer, close_world, closed_state}
-use Rattle.flash_rule.proofs.PageSteps.{puts_word, putter, put_world, gets_candidate, gets_accepted}
-use Rattle.flash_rule.proofs.MapSteps.{trims, writes, placed, placer, place_world, pass_same}
+use Rattle.flash_rule.proofs.PageSteps.{puts_word, putter, put_world, gets_accepted, spared}
+use Rattle.flash_rule.proofs.MapSteps.{placed, placer, place_world, pass_same}
+use Rattle.flash_rule.proofs.Calls.{trims, writes}
 use Rattle.flash_rule.proofs.Values.{value_same}
 use Rattle.flash_rule.proofs.Points.{put_here}
 
@@ -148,13 +149,14 @@ module _ (part : Numbers → World → Type 0) (z : Numbers) (kept : PartKept pa
       let fitting = state_fits z g t.views law b low in
       let numbers = numbers_now g t.views law at (pass_player me.0.role pass) in
       let same_block : (c : ℕ) → k ≡ pin_index me.0.numbers c → b ≡ c = λ c is. let e : me.0.numbers.sectors ≡ z.sectors = ap (λ (y : Numbers). y.sectors) numbers in omega arith in
+      let young : p.generation < me.0.numbers.endurance = let r = (law.blocks b low).generation in let e : me.0.numbers.endurance ≡ z.endurance = ap (λ (y : Numbers). y.endurance) numbers in omega arith in
       ⊎_elim
       (λ (free : p.phase ≡ Free).
       let w : View = taker z g t.views id me.0 b law at pass low in
       let q : PinWord = taken_state z g t.views id me.0 b law at pass low in
       let now : bit_or n TAKEN ≡ pin_word q = ap (λ x. bit_or x TAKEN) found ∙ takes_free p fitting free in
       let after : World = taken z g t.views id me.0 b law at pass low in
-      let told : Took me.0 b n w = record { state = p; fits = fitting; found = found; free = λ _. refl; denied = λ not. absurd (not free) } in
+      let told : Took me.0 b n w = record { state = p; fits = fitting; young = young; found = found; free = λ _. refl; denied = λ not. absurd (not free) } in
       let answer : (w : View) × (a : Act (Unit {0})) × Valid t.homes me.1 a × Ruled part z (stepped t k (bit_or n TAKEN) id me.1 w a) × take_told (step slots k TAKEN 0 none) me n (w, carried_after me.1 a) = (
         w,
         keeps,
@@ -165,7 +167,7 @@ module _ (part : Numbers → World → Type 0) (z : Numbers) (kept : PartKept pa
       (λ (not : ¬ (p.phase ≡ Free)).
       let w : View = record me.0 { denied = me.0.denied ++ b ∷ [] } in
       let now : bit_or n TAKEN ≡ n = ap (λ x. bit_or x TAKEN) found ∙ (takes_taken p fitting not ∙ sym found) in
-      let told : Took me.0 b n w = record { state = p; fits = fitting; found = found; free = λ free. absurd (not free); denied = λ _. refl } in
+      let told : Took me.0 b n w = record { state = p; fits = fitting; young = young; found = found; free = λ free. absurd (not free); denied = λ _. refl } in
       let answer : (w : View) × (a : Act (Unit {0})) × Valid t.homes me.1 a × Ruled part z (stepped t k (bit_or n TAKEN) id me.1 w a) × take_told (step slots k TAKEN 0 none) me n (w, carried_after me.1 a) = (
         w,
         keeps,
@@ -178,13 +180,13 @@ module _ (part : Numbers → World → Type 0) (z : Numbers) (kept : PartKept pa
   -- ---- put
   -- the owner of an open block puts the next word of its first page not written
   pub put_allowed : (o : Owned) (x : ℕ) → is_player me.0.role ≡ true → me.0.numbers ≡ z → CanPut me.0 o
-      → Allows (Ruled part z) slots id me (page_index z o.block o.written + length (words_in me.0.work o)) (λ _. x)
-      (λ _. put_told (step slots (page_index z o.block o.written + length (words_in me.0.work o)) x 0 none) me x)
+      → Allows (Ruled part z) slots id me (page_index z o.block (next_page o).page + length (words_in me.0.work o)) (λ _. x)
+      (λ _. put_told (step slots (page_index z o.block (next_page o).page + length (words_in me.0.work o)) x 0 none) me x)
   put_allowed o x player numbers can t (g, fits, law, stage) _ at _ =
       let i : ℕ = length (words_in me.0.work o) in
       let pages : me.0.numbers.pages ≡ z.pages = ap (λ (y : Numbers). y.pages) numbers in
       let words : me.0.numbers.words ≡ z.words = ap (λ (y : Numbers). y.words) numbers in
-      let room : o.written < z.pages = let r = can.room in omega arith in
+      let room : (next_page o).page < z.pages = let r = can.room in omega arith in
       let short : i ≤ z.words = let r = can.short in omega arith in
       let w : View = putter z g t.views id me.0 o x law at player can.own can.opened in
       let after : World = put_world z g t.views id me.0 o x law at player can.own can.opened in (
@@ -193,18 +195,18 @@ module _ (part : Numbers → World → Type 0) (z : Numbers) (kept : PartKept pa
         tt,
         (
           after,
-          fits_page z g.map g.pins g.pages t.words fits o.block o.written i x (own_low z g t.views id me.0 o law at can.own can.opened) room short,
+          fits_page z g.map g.pins g.pages t.words fits o.block (next_page o).page i x (own_low z g t.views id me.0 o law at can.own can.opened) room short,
           puts_word z g t.views id me.0 o x law at player can.own can.opened room short can.settled,
           kept.same g after (λ b. refl) stage,
         ),
         (
           refl,
           λ o' can' is.
-              let room' : o'.written < z.pages = let r = can'.room in omega arith in
+              let room' : (next_page o').page < z.pages = let r = can'.room in omega arith in
               let short' : length (words_in me.0.work o') ≤ z.words = let r = can'.short in omega arith in
-              let is' : page_index z o.block o.written + i ≡ page_index z o'.block o'.written + length (words_in me.0.work o') =
-              is ∙ ap (λ (y : Numbers). page_index y o'.block o'.written + length (words_in me.0.work o')) numbers in
-              let blocks = (page_same z o.block o.written i o'.block o'.written (length (words_in me.0.work o')) room room' short short' is').0 in
+              let is' : page_index z o.block (next_page o).page + i ≡ page_index z o'.block (next_page o').page + length (words_in me.0.work o') =
+              is ∙ ap (λ (y : Numbers). page_index y o'.block (next_page o').page + length (words_in me.0.work o')) numbers in
+              let blocks = (page_same z o.block (next_page o).page i o'.block (next_page o').page (length (words_in me.0.work o')) room room' short short' is').0 in
               let same : o ≡ o' = some_same o o' (sym can.own ∙ (ap (λ c. owned_at c me.0.owns) blocks ∙ can'.own)) in
               ap (λ (y : Owned). record me.0 { work = Some (record { page = next_page y; words = words_in me.0.work y ++ x ∷ [] }) }) same,
         ),
@@ -217,7 +219,8 @@ module _ (part : Numbers → World → Type 0) (z : Numbers) (kept : PartKept pa
   count_allowed o x player numbers can t (g, fits, law, stage) _ at _ =
       let h = law.views id me.0 at in
       let name = worker z me.0 x h.kind can.is in
-      let full : length x.words ≡ z.words + 1 = can.full ∙ ap (λ (y : Numbers). y.words + 1) numbers in
+      let words : me.0.numbers.words ≡ z.words = ap (λ (y : Numbers). y.words) numbers in
+      let full : length x.words ≡ z.words + 1 = let f = can.full in omega arith in
       let low = own_low z g t.views id me.0 o law at can.own can.opened in
       let p : PinWord = g.pins o.block in
       let k : ℕ = pin_index z o.block in
@@ -284,39 +287,10 @@ module _ (part : Numbers → World → Type 0) (z : Numbers) (kept : PartKept pa
       )
 
 -- ---- get
--- before anything is erased, a pass reads its candidate's page
-pub get_allowed : (z : Numbers) (slots id : ℕ) (me : Sitter) (m : MapWord) (value : List ℕ) (i : ℕ) → is_pass me.0.role ≡ true → me.0.numbers ≡ z → me.0.pin ≡ Candidate m value → m.block < z.blocks → m.page < z.pages → i < z.words
-    → Allows (Ruled IsEarly z) slots id me (page_index z m.block m.page + i) (λ n. n) (get_told (step slots (page_index z m.block m.page + i) 0 0 none) me)
-get_allowed z slots id me m value i pass numbers pin block page low t (g, fits, law, stage) _ at _ =
-    let k : ℕ = page_index z m.block m.page + i in
-    let n : ℕ = get_or t.words k 0 in
-    let c = gets_candidate z g t.views id me.0 m value law at stage pin in
-    let found : n ≡ g.pages m.block m.page i = fits.pages m.block m.page i block page (omega arith) in (
-      me.0,
-      keeps,
-      tt,
-      (
-        g,
-        fits_load z g.map g.pins g.pages t.words fits k (page_within z m.block m.page i block page (omega arith)),
-        subst (λ vs. Lawful z g vs) (sym (set_again t.views id me.0 at)) law,
-        stage,
-      ),
-      (
-        refl,
-        λ m' value' i' pin' low' is.
-            let both : Candidate m value ≡ Candidate m' value' = sym pin ∙ pin' in
-            let d = gets_candidate z g t.views id me.0 m' value' law at stage pin' in
-            let words : me.0.numbers.words ≡ z.words = ap (λ (y : Numbers). y.words) numbers in
-            let is' : k ≡ page_index z m'.block m'.page + i' = is ∙ ap (λ (y : Numbers). page_index y m'.block m'.page + i') numbers in
-            let s = page_same z m.block m.page i m'.block m'.page i' page d.1 (omega arith) (omega arith) is' in
-            found ∙ ((λ j. g.pages (s.0 j) (s.1 j) (s.2 j)) ∙ d.2 i' (omega arith)),
-      ),
-    )
-
 -- a pass reads the page of its accepted pin
-pub get_pinned_allowed : (part : Numbers → World → Type 0) (z : Numbers) (slots id : ℕ) (me : Sitter) (m : MapWord) (value : List ℕ) (i : ℕ) → me.0.numbers ≡ z → me.0.pin ≡ Accepted m value → m.block < z.blocks → m.page < z.pages → i < z.words
-    → Allows (Ruled part z) slots id me (page_index z m.block m.page + i) (λ n. n) (pinned_told (step slots (page_index z m.block m.page + i) 0 0 none) me)
-get_pinned_allowed part z slots id me m value i numbers pin block page low t (g, fits, law, stage) _ at _ =
+pub get_allowed : (part : Numbers → World → Type 0) (z : Numbers) (slots id : ℕ) (me : Sitter) (m : MapWord) (value : List ℕ) (i : ℕ) → me.0.numbers ≡ z → me.0.pin ≡ Accepted m value → m.block < z.blocks → m.page < z.pages → i < z.words
+    → Allows (Ruled part z) slots id me (page_index z m.block m.page + i) (λ n. n) (get_told (step slots (page_index z m.block m.page + i) 0 0 none) me)
+get_allowed part z slots id me m value i numbers pin block page low t (g, fits, law, stage) _ at _ =
     let k : ℕ = page_index z m.block m.page + i in
     let n : ℕ = get_or t.words k 0 in
     let found : n ≡ g.pages m.block m.page i = fits.pages m.block m.page i block page (omega arith) in (
@@ -332,6 +306,7 @@ get_pinned_allowed part z slots id me m value i numbers pin block page low t (g,
             let is' : k ≡ page_index z m'.block m'.page + i' = is ∙ ap (λ (y : Numbers). page_index y m'.block m'.page + i') numbers in
             let s = page_same z m.block m.page i m'.block m'.page i' page d.1 (omega arith) (omega arith) is' in
             found ∙ ((λ j. g.pages (s.0 j) (s.1 j) (s.2 j)) ∙ d.2 i' (omega arith)),
+        λ m' value' c pin' copied. spared z g t.views id me.0 m' value' c law at pin' copied,
       ),
     )
 
@@ -343,6 +318,7 @@ called v c s n answer w h empty written =
       before = h.before;
       later = h.later;
       now = h.now;
+      callers = h.callers;
       answered = dite (ℕ_discrete n 0) (λ none. empty none ∙ ap was_of (sym (h.empty none))) (λ not. let k = h.written not in written not ∙ ap was_of (sym k.1));
       own = h.own;
     }

@@ -22,8 +22,8 @@ use Rattle.flash_rule.specs.declared.facts.Pin.{Pin}
 use Rattle.flash_rule.specs.declared.facts.Pin.TheVariants.{Clear, Candidate, Accepted, Stray}
 use Rattle.flash_rule.specs.declared.carried.Carried.{Carried}
 use Rattle.flash_rule.specs.declared.view.View.{View}
-use Rattle.flash_rule.specs.Views.{one_if, is_pass, is_live_role, pin_is_on, pins_on, weight, owned_at, calls_of, sum_of}
-use Rattle.flash_rule.specs.World.{World, is_nameable, age_of, half_cycle}
+use Rattle.flash_rule.specs.Views.{one_if, is_pass, is_live_role, pin_is_on, pins_on, weight, owned_at, AreOfHosts, calls_of, sum_of}
+use Rattle.flash_rule.specs.World.{World, is_intact, is_nameable, age_of, half_cycle}
 use Rattle.flash_rule.specs.Rule.{IsCurrent, LawfulKind, LawfulKnowledge, LawfulPin, LawfulView, LawfulCopy, Lawful, IsValue}
 use Rattle.flash_rule.specs.Onward.{PinOnward, Onward}
 use Rattle.flash_rule.specs.Plays.{Looked, Met, Disjoint, is_unpinned}
@@ -52,7 +52,7 @@ all_stays z g id other =
 pub still : (z : Numbers) (g : World) (vs : List View) (id : ℕ) (v w : View) → Lawful z g vs → get_elem? vs id ≡ some v → LawfulView z g id w
     → ((b : ℕ) → pins_on b w ≡ pins_on b v) → w.owns ≡ v.owns → weight z w ≡ weight z v → Lawful z g (set vs id w)
 still z g vs id v w law at own counted owns weighs =
-    assembled z g g vs id v w law at (all_stays z g id id) own law.sectors
+    assembled z g g vs id v w law at (all_stays z g id id) own law.sectors law.callers
     (λ b low. block_kept z g g vs id v w b at (law.blocks b low) refl refl (λ p i. refl) (counted b) (λ o is. (o, ap (λ l. owned_at b l) owns ∙ is)))
     law.strangers weighs law.dealt
 
@@ -71,6 +71,18 @@ pub named_age : (p : PinWord) → is_nameable p.phase ≡ true → age_of p ≡ 
 named_age p is = by_phase p.phase is where
   by_phase : (f : Phase) → is_nameable f ≡ true → 2 * p.generation + half_cycle f ≡ 2 * p.generation
   by_phase Free is = omega arith
+  by_phase Open is = omega arith
+  by_phase Closed is = omega arith
+  by_phase Victim is = omega arith
+  by_phase Drained is = omega arith
+  by_phase Erasing is = absurd (cc)
+  by_phase Retired is = absurd (cc)
+
+-- and in phases in which its pages can be read
+pub intact_age : (p : PinWord) → is_intact p.phase ≡ true → age_of p ≡ 2 * p.generation
+intact_age p is = by_phase p.phase is where
+  by_phase : (f : Phase) → is_intact f ≡ true → 2 * p.generation + half_cycle f ≡ 2 * p.generation
+  by_phase Free is = absurd (cc)
   by_phase Open is = omega arith
   by_phase Closed is = omega arith
   by_phase Victim is = omega arith
@@ -144,7 +156,7 @@ module _ (z : Numbers) (g : World) (vs : List View) (id : ℕ) (v : View) (s : �
       let holds = h.holding in
       still z g vs id v w law at
       (record {
-        kind = record { numbers = kind.numbers; known = λ _. long; opens = kind.opens; unpinned = λ not. let no : true ≡ false = sym pass ∙ not in absurd (cc); idle = kind.idle; owns_none = kind.owns_none };
+        kind = record { numbers = kind.numbers; known = λ _. long; opens = kind.opens; unpinned = λ not. let no : true ≡ false = sym pass ∙ not in absurd (cc); idle = kind.idle; owns_none = kind.owns_none; reclaims = kind.reclaims };
         knowledge = record { seen = Begins-refl g.history; pin = lawful; known = ages; programs = knows.programs; erases = knows.erases; copy = knows.copy };
         holding = record {
           name = holds.name;
@@ -191,6 +203,7 @@ module _ (z : Numbers) (g : World) (vs : List View) (id : ℕ) (v : View) (s : �
         record {
           changed = refl;
           later = h.knowledge.seen;
+          callers = subst (λ (y : Numbers). AreOfHosts y g.history) (sym same) law.callers;
           own = own_calls;
           empty = λ _. (ap (λ (y : Numbers). held y.sectors g.history s) same ∙ (law.sectors s low).empty is, refl, refl);
           named = λ not. absurd (not refl);
@@ -243,6 +256,7 @@ module _ (z : Numbers) (g : World) (vs : List View) (id : ℕ) (v : View) (s : �
         record {
           changed = refl;
           later = h.knowledge.seen;
+          callers = subst (λ (y : Numbers). AreOfHosts y g.history) (sym same) law.callers;
           own = own_calls;
           empty = λ none. absurd (bigger none);
           named = λ _. (

@@ -15,7 +15,7 @@ use Rattle.flash_rule.specs.declared.facts.Source.{Source}
 use Rattle.flash_rule.specs.declared.facts.Cycle.{Cycle}
 use Rattle.flash_rule.specs.declared.carried.Carried.{Carried}
 use Rattle.flash_rule.specs.declared.view.View.{View}
-use Rattle.flash_rule.specs.Views.{owned_at, without, with_owned}
+use Rattle.flash_rule.specs.Views.{owned_at, without, with_owned, AreOfHosts}
 use Rattle.flash_rule.specs.World.{data_word, blank_word}
 use Rattle.flash_rule.specs.Rule.{IsValue}
 use Rattle.flash_rule.specs.Plays.{Sitter, Met, CanPlace}
@@ -26,6 +26,7 @@ use Rattle.flash_rule.specs.Plays.{Sitter, Met, CanPlace}
 pub record Named (v : View) (s n : ℕ) (w : View) : Type 0 where
   pub changed : w ≡ record v { seen = w.seen; named = v.named ++ (s, n) ∷ []; source = w.source; cleared = w.cleared }
   pub later : Begins v.seen w.seen
+  pub callers : AreOfHosts v.numbers w.seen
   pub empty : n ≡ 0 → held v.numbers.sectors w.seen s ≡ None
   pub page : ¬ (n ≡ 0) → (m : MapWord) × (value : List ℕ) × (n ≡ map_word m) × FitsMap m × (held v.numbers.sectors w.seen s ≡ Some value) × IsValue v.numbers value
       × (m.block < v.numbers.blocks) × (m.page < v.numbers.pages)
@@ -77,6 +78,7 @@ pub record CanMove (v : View) (x : Source) (copy : MapWord) : Type 0 where
 pub record Moved (v : View) (x : Source) (n : ℕ) (w : View) : Type 0 where
   pub changed : w ≡ record v { seen = w.seen; source = None; cleared = v.cleared + 1; moves = w.moves }
   pub later : Begins v.seen w.seen
+  pub callers : AreOfHosts v.numbers w.seen
   pub succeeded : n ≡ map_word x.page → (w.moves ≡ v.moves + 1) × (held v.numbers.sectors w.seen x.stamp ≡ x.value)
   pub failed : ¬ (n ≡ map_word x.page) → w.moves ≡ v.moves
   pub met : (c : Carried) → v.copy ≡ Some c → Met w c
@@ -107,7 +109,8 @@ pub record IsLastLoaded (v : View) (b word : ℕ) : Type 0 where
   pub is : v.loaded ≡ earlier ++ (b, word) ∷ later
   pub last : (k : ℕ) (x : ℕ × ℕ) → slice_get later k ≡ Some x → ¬ (x.0 ≡ b)
 
--- The broom drains no block and erases none: all blocks of its own are open
+-- The broom drains no block and erases none: all blocks of its own are open. So the one that it claims or condemns next is the only
+-- one that it drains or erases, until it is nobody's or open again
 abbrev pub IsAtRest : View → Type 0
 IsAtRest v = (b : ℕ) (o : Owned) → owned_at b v.owns ≡ Some o → o.phase ≡ Open
 
@@ -190,7 +193,7 @@ wipe_told st me n after =
 pub record CanRenew (v : View) (o : Owned) : Type 0 where
   pub erasing : IsErasing v o
   pub clean : block_words v ≤ v.wiped
-  pub spare : o.generation + 1 < v.numbers.endurance
+  pub another : o.generation + 1 < v.numbers.endurance
 
 -- FREE. The wiped block is free in its next generation, and nobody's
 abbrev pub freed_told : Step (Unit {0}) → Sitter → ℕ → Sitter → Type 0

@@ -15,9 +15,10 @@ use Rattle.flash_rule.specs.declared.facts.Owned.{Owned}
 use Rattle.flash_rule.specs.declared.facts.Pin.{Pin}
 use Rattle.flash_rule.specs.declared.facts.Pin.TheVariants.{Clear, Candidate, Accepted, Stray}
 use Rattle.flash_rule.specs.declared.facts.Work.{Work}
+use Rattle.flash_rule.specs.declared.facts.Cycle.{Cycle}
 use Rattle.flash_rule.specs.declared.carried.Carried.{Carried}
 use Rattle.flash_rule.specs.declared.view.View.{View}
-use Rattle.flash_rule.specs.Views.{owned_at, without, with_owned, calls_of, sum_of}
+use Rattle.flash_rule.specs.Views.{owned_at, without, with_owned, AreOfHosts, calls_of, sum_of}
 use Rattle.flash_rule.specs.World.{data_word, Intact}
 use Rattle.flash_rule.specs.Rule.{IsValue}
 
@@ -43,11 +44,12 @@ pub record Met (w : View) (c : Carried) : Type 0 where
   pub programs : Disjoint w.programs c.programs
   pub erases : Disjoint w.erases c.erases
 
--- LOOK. The pass sees the history of this moment. The word found is 0 where the sector is empty after it, and else names a page with the
+-- LOOK. The pass sees the history of this moment, whose calls are of hosts. The word found is 0 where the sector is empty after it, and else names a page with the
 -- sector's value, which is now a candidate
 pub record Looked (v : View) (s n : ℕ) (w : View) : Type 0 where
   pub changed : w ≡ record v { seen = w.seen; looks = v.looks + 1; pin = w.pin; known = w.known }
   pub later : Begins v.seen w.seen
+  pub callers : AreOfHosts v.numbers w.seen
   pub own : (t : ℕ) → v.role ≡ Player (Pass t) → calls_of t w.seen ≡ w.mine
   pub empty : n ≡ 0 → (held v.numbers.sectors w.seen s ≡ None) × (w.pin ≡ Clear) × (w.known ≡ v.known)
   pub named : ¬ (n ≡ 0) → (m : MapWord) × (value : List ℕ) × (n ≡ map_word m) × FitsMap m × (held v.numbers.sectors w.seen s ≡ Some value) × IsValue v.numbers value
@@ -65,6 +67,7 @@ pub record Placed (v : View) (c : Call) (s n : ℕ) (w : View) : Type 0 where
   pub before : List Call
   pub later : Begins v.seen before
   pub now : w.seen ≡ before ++ c ∷ []
+  pub callers : AreOfHosts v.numbers w.seen
   pub empty : n ≡ 0 → held v.numbers.sectors before s ≡ None
   pub written : ¬ (n ≡ 0) → (value : List ℕ) × (held v.numbers.sectors before s ≡ Some value)
   pub own : (t : ℕ) → v.role ≡ Player (Pass t) → calls_of t w.seen ≡ w.mine
@@ -89,10 +92,11 @@ write_told st me n after =
 abbrev pub trim_told : Step (Unit {0}) → Sitter → ℕ → Sitter → Type 0
 trim_told st me n after = (after.1 ≡ me.1) × ((t : ℕ) → me.0.role ≡ Player (Pass t) → Placed me.0 (Trim t st.word) st.word n after.0)
 
--- TAKE. A block found free is now the pass's, open and with nothing written; another one is as it was
+-- TAKE. A block found free is now the pass's, open and with nothing written; another one is as it was. Its generation is below the endurance
 pub record Took (v : View) (b n : ℕ) (w : View) : Type 0 where
   pub state : PinWord
   pub fits : FitsPin state
+  pub young : state.generation < v.numbers.endurance
   pub found : n ≡ pin_word state
   pub free : state.phase ≡ Free → w ≡ record v { taken = v.taken + 1; owns = with_owned (record { block = b; phase = Open; generation = state.generation; written = 0 }) v.owns }
   pub denied : ¬ (state.phase ≡ Free) → w ≡ record v { denied = v.denied ++ b ∷ [] }
@@ -107,7 +111,7 @@ next_page o = record { generation = o.generation; block = o.block; page = o.writ
 -- the words put so far into that page
 abbrev pub words_in : Option Work → Owned → List ℕ
 words_in None o = []
-words_in (Some w) o = if w.page.block == o.block && w.page.page == o.written then w.words else []
+words_in (Some w) o = if w.page.block == o.block && w.page.page == (next_page o).page then w.words else []
 
 -- The work, if there is one, is counted, but for a page of this block
 abbrev pub SettledBut : View → ℕ → Type 0
@@ -128,20 +132,21 @@ pub record CanPut (v : View) (o : Owned) : Type 0 where
 abbrev pub put_told : Step (Unit {0}) → Sitter → ℕ → Sitter → Type 0
 put_told st me n after =
     (after.1 ≡ me.1)
-    × ((o : Owned) → CanPut me.0 o → st.word ≡ page_index me.0.numbers o.block o.written + length (words_in me.0.work o)
+    × ((o : Owned) → CanPut me.0 o → st.word ≡ page_index me.0.numbers o.block (next_page o).page + length (words_in me.0.work o)
     → after.0 ≡ record me.0 { work = Some (record { page = next_page o; words = words_in me.0.work o ++ st.first ∷ [] }) })
 
--- GET WORD. A word of the candidate's page is the value's; the view stays
+-- The copies are of another player, which programmed no page that this one did, and has not erased this page's block since its generation began
+pub record Spared (v : View) (m : MapWord) (c : Carried) : Type 0 where
+  pub other : ¬ (v.role ≡ Player c.of)
+  pub programs : Disjoint v.programs c.programs
+  pub erases : (k : ℕ) (x : Cycle) → slice_get c.erases k ≡ Some x → x.block ≡ m.block → x.generation < m.generation
+
+-- GET WORD. A word of an accepted pin's page is the value's, and nobody has erased the page's block; the view stays
 abbrev pub get_told : Step (Unit {0}) → Sitter → ℕ → Sitter → Type 0
 get_told st me n after =
     (after ≡ me)
-    × ((m : MapWord) (value : List ℕ) (i : ℕ) → me.0.pin ≡ Candidate m value → i < me.0.numbers.words → st.word ≡ page_index me.0.numbers m.block m.page + i → n ≡ data_word value i)
-
--- the same of an accepted pin's page
-abbrev pub pinned_told : Step (Unit {0}) → Sitter → ℕ → Sitter → Type 0
-pinned_told st me n after =
-    (after ≡ me)
     × ((m : MapWord) (value : List ℕ) (i : ℕ) → me.0.pin ≡ Accepted m value → i < me.0.numbers.words → st.word ≡ page_index me.0.numbers m.block m.page + i → n ≡ data_word value i)
+    × ((m : MapWord) (value : List ℕ) (c : Carried) → me.0.pin ≡ Accepted m value → me.0.copy ≡ Some c → Spared me.0 m c)
 
 -- COUNT. The page that was filled is programmed: the block has one page more written
 pub record CanCount (v : View) (o : Owned) (w : Work) : Type 0 where
@@ -195,10 +200,11 @@ abbrev pub unpin_told : Step (Unit {0}) → Sitter → ℕ → Sitter → Type 0
 unpin_told st me n after = (after.1 ≡ me.1) × ((b : ℕ) → IsOn me.0.pin b → st.word ≡ pin_index me.0.numbers b → after.0 ≡ record me.0 { pin = Clear })
 
 -- CALL. The pass sees a history that begins with all that it had seen, followed by its call; the answer is what the sector was before it
-pub record Called (v : View) (c : Call) (s : ℕ) (answer : Was) (w : View) : Type 0 where
-  pub changed : w ≡ record v { seen = w.seen; mine = v.mine ++ c ∷ [] }
+pub record Called (v : View) (call : Call) (s : ℕ) (answer : Was) (w : View) : Type 0 where
+  pub changed : w ≡ record v { seen = w.seen; mine = v.mine ++ call ∷ [] }
   pub before : List Call
   pub later : Begins v.seen before
-  pub now : w.seen ≡ before ++ c ∷ []
+  pub now : w.seen ≡ before ++ call ∷ []
+  pub callers : AreOfHosts v.numbers w.seen
   pub answered : answer ≡ was v.numbers.sectors before s
   pub own : (t : ℕ) → v.role ≡ Player (Pass t) → calls_of t w.seen ≡ w.mine

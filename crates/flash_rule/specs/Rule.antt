@@ -20,8 +20,8 @@ use Rattle.flash_rule.specs.declared.facts.Source.{Source}
 use Rattle.flash_rule.specs.declared.facts.Cycle.{Cycle}
 use Rattle.flash_rule.specs.declared.carried.Carried.{Carried}
 use Rattle.flash_rule.specs.declared.view.View.{View}
-use Rattle.flash_rule.specs.Views.{total, is_pass, is_player, is_live_role, may_own, weight, pins_on, owned_at, calls_of}
-use Rattle.flash_rule.specs.World.{World, is_owned, is_nameable, is_still, is_early, age_of, Intact, HoldsValue, IsBlank, blank_word}
+use Rattle.flash_rule.specs.Views.{total, is_pass, is_player, is_live_role, may_own, weight, pins_on, owned_at, AreOfHosts, calls_of}
+use Rattle.flash_rule.specs.World.{World, is_owned, is_nameable, is_still, is_early, is_reclaimed, age_of, Intact, HoldsValue, IsBlank, blank_word}
 
 -- A value has the bytes of one page
 pub record IsValue (z : Numbers) (value : List ℕ) : Type 0 where
@@ -103,7 +103,13 @@ pub record LawfulCopy (z : Numbers) (g : World) (role : Role) (c : Carried) : Ty
   pub erases : Erases z g c.of c.erases
   pub other : ¬ (role ≡ Player c.of)
 
--- What a view says by itself, whatever the table is: the table's numbers, and which fields its role uses
+-- At most one of these blocks is being drained or erased
+abbrev pub ReclaimsOne : List Owned → Type 0
+ReclaimsOne owns =
+    (b c : ℕ) (o e : Owned) → owned_at b owns ≡ Some o → owned_at c owns ≡ Some e → is_reclaimed o.phase ≡ true → is_reclaimed e.phase ≡ true → b ≡ c
+
+-- What a view says by itself, whatever the table is: the table's numbers, which fields its role uses, and that of its own blocks
+-- it drains or erases at most one
 pub record LawfulKind (z : Numbers) (v : View) : Type 0 where
   pub numbers : is_live_role v.role ≡ true → v.numbers ≡ z
   pub known : is_pass v.role ≡ true → length v.known ≡ z.blocks
@@ -111,6 +117,7 @@ pub record LawfulKind (z : Numbers) (v : View) : Type 0 where
   pub unpinned : is_pass v.role ≡ false → v.pin ≡ Clear
   pub idle : is_player v.role ≡ false → (v.work ≡ None) × (v.source ≡ None) × (v.programs ≡ []) × (v.erases ≡ [])
   pub owns_none : may_own v.role ≡ false → v.owns ≡ []
+  pub reclaims : ReclaimsOne v.owns
 
 -- What a view knows: it has seen a beginning of the history, its pin is lawful, no block is younger than known, and its lists and copies are lawful
 pub record LawfulKnowledge (z : Numbers) (g : World) (v : View) : Type 0 where
@@ -187,10 +194,12 @@ pub record LawfulView (z : Numbers) (g : World) (id : ℕ) (v : View) : Type 0 w
   pub knowledge : LawfulKnowledge z g v
   pub holding : LawfulHolding z g id v
 
--- The rule, over the sectors, the blocks and the seats. Passes not handed out yet have no calls, and the seats stand for as many passes as there are hosts
+-- The rule, over the sectors, the calls, the blocks and the seats. Each call of the history is of a host, passes not handed out
+-- yet have no calls, and the seats stand for as many passes as there are hosts
 pub record Lawful (z : Numbers) (g : World) (vs : List View) : Type 0 where
   pub limits : IsWithinLimits z
   pub sectors : (s : ℕ) → s < z.sectors → LawfulSector z g s
+  pub callers : AreOfHosts z g.history
   pub blocks : (b : ℕ) → b < z.blocks → LawfulBlock z g vs b
   pub views : (id : ℕ) (v : View) → get_elem? vs id ≡ some v → LawfulView z g id v
   pub strangers : (t : ℕ) → g.passes ≤ t → calls_of t g.history ≡ []

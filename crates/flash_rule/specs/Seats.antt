@@ -5,13 +5,14 @@ use Rattle.geometry.specs.Limits.{Numbers}
 use Rattle.geometry.specs.PinWords.{phase_bits}
 use Rattle.geometry.specs.declared.pin_word.Phase.TheVariants.{Free, Open}
 use Rattle.flash_rule.specs.declared.facts.Name.{Name}
-use Rattle.flash_rule.specs.declared.facts.Name.TheVariants.{Pass}
+use Rattle.flash_rule.specs.declared.facts.Name.TheVariants.{Pass, Broom}
 use Rattle.flash_rule.specs.declared.facts.Role.{Role}
 use Rattle.flash_rule.specs.declared.facts.Role.TheVariants.{Dealer, Player, Note, Gone}
 use Rattle.flash_rule.specs.declared.facts.Owned.{Owned}
 use Rattle.flash_rule.specs.declared.facts.Pin.TheVariants.{Clear}
 use Rattle.flash_rule.specs.declared.carried.Carried.{Carried}
 use Rattle.flash_rule.specs.declared.view.View.{View}
+use Rattle.flash_rule.specs.Views.{without}
 use Rattle.flash_rule.specs.World.{World, Fits, blank_word}
 use Rattle.flash_rule.specs.Rule.{Lawful}
 
@@ -57,10 +58,14 @@ newcomer z role =
       copy = None;
     }
 
--- so many open blocks with nothing written, from one on
+-- an open block with nothing written
+abbrev pub spare : ℕ → Owned
+spare b = record { block = b; phase = Open; generation = 0; written = 0 }
+
+-- so many of them, from one on
 abbrev pub spares : ℕ → ℕ → List Owned
 spares zero from = []
-spares (suc n) from = record { block = from; phase = Open; generation = 0; written = 0 } ∷ spares n (from + 1)
+spares (suc n) from = spare from ∷ spares n (from + 1)
 
 -- the dealer owns the brooms' spares, which are the last blocks, until it hands them out
 abbrev pub dealer : Numbers → View
@@ -72,6 +77,17 @@ new_pass v = record (newcomer v.numbers (Player (Pass v.passes))) { known = repl
 
 abbrev pub dealt_pass : View → View
 dealt_pass v = record v { passes = v.passes + 1 }
+
+-- the first of the spares that the dealer still owns
+abbrev pub next_spare : View → ℕ
+next_spare v = v.numbers.blocks - v.numbers.brooms + v.brooms
+
+-- a broom has the next number, and that block as its spare
+abbrev pub new_broom : View → View
+new_broom v = record (newcomer v.numbers (Player (Broom v.brooms))) { owns = spares 1 (next_spare v); whole = true }
+
+abbrev pub dealt_broom : View → View
+dealt_broom v = record v { brooms = v.brooms + 1; owns = without (next_spare v) v.owns }
 
 -- the words at the start: no sector is mapped, all blocks are free but the spares, which are open, and all pages are all ones
 abbrev pub opening_words : Numbers → List ℕ

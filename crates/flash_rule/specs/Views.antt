@@ -1,5 +1,5 @@
 -- What the fields of a view say, each by itself.
-use Rattle.std.specs.Prelude.{ℕ, ◌+◌, ◌-◌, ◌==◌, Bool, true, false, List, [], ◌∷◌, Option, None, Some, if◌then◌else◌}
+use Rattle.std.specs.Prelude.{ℕ, ◌+◌, ◌-◌, ◌<◌, ◌==◌, All, Bool, true, false, List, [], ◌∷◌, Option, None, Some, if◌then◌else◌}
 use Rattle.geometry.specs.History.{Call, Write, Trim}
 use Rattle.geometry.specs.Limits.{Numbers}
 use Rattle.flash_rule.specs.declared.facts.Name.{Name}
@@ -94,6 +94,10 @@ with_owned o os = o ∷ without o.block os
 abbrev pub caller : Call → ℕ
 caller (Write pass s v) = pass
 caller (Trim pass s) = pass
+
+-- each call is of a host: a pass with a number below the hosts
+abbrev pub AreOfHosts : Numbers → List Call → Type 0
+AreOfHosts z calls = All (λ c. caller c < z.hosts) calls
 
 -- the calls of one pass, in order
 abbrev pub calls_of : ℕ → List Call → List Call

@@ -96,6 +96,16 @@ is_early Drained = false
 is_early Erasing = false
 is_early Retired = false
 
+-- the phases in which a broom drains or erases a block
+abbrev pub is_reclaimed : Phase → Bool
+is_reclaimed Free = false
+is_reclaimed Open = false
+is_reclaimed Closed = false
+is_reclaimed Victim = true
+is_reclaimed Drained = false
+is_reclaimed Erasing = true
+is_reclaimed Retired = false
+
 -- what the phase adds to twice the generation
 abbrev pub half_cycle : Phase → ℕ
 half_cycle Free = 0

@@ -10,7 +10,7 @@ mod view;
 pub use carried::Carried;
 pub use facts::{Cycle, Name, Owned, Pin, Role, Source, Work};
 pub use plays::{
-    AddReader, Close, ComeHome, Count, DealPass, GetPinned, GetWord, GiveBack, Lend, Look,
+    AddReader, Close, ComeHome, Count, DealBroom, DealPass, GetWord, GiveBack, Lend, Look,
     PlaceTrim, PlaceWrite, PutWord, Take, TakeIn, TakeReader,
 };
 pub use rule::WithoutErasing;

@@ -13,11 +13,11 @@ const WORDS: usize = 27;
 
 /// The words, beside what the history leaves in the sectors, the blocks that passes have pinned and those that seats own.
 #[derive(Drop)]
-pub struct Small<'a> {
-    pub words: [u64; WORDS],
-    pub sectors: [Option<u64>; SECTORS],
-    pub pinned: &'a [u32],
-    pub owned: &'a [u32],
+pub(super) struct Small<'a> {
+    pub(super) words: [u64; WORDS],
+    pub(super) sectors: [Option<u64>; SECTORS],
+    pub(super) pinned: &'a [u32],
+    pub(super) owned: &'a [u32],
 }
 
 fn state_of(words: &[u64; WORDS], block: u32) -> Option<PinWord> {
@@ -50,7 +50,7 @@ fn names_its_page(words: &[u64; WORDS], sector: u64, value: Option<u64>, m: MapW
         && page_word(words, m.block, m.page, 1) == Some(sector)
 }
 
-pub fn map_is_lawful(table: &Small) -> bool {
+pub(super) fn map_is_lawful(table: &Small) -> bool {
     let mut lawful = true;
     for s in 0..SECTORS {
         let word = table.words[s];
@@ -68,7 +68,7 @@ fn times(blocks: &[u32], block: u32) -> usize {
     blocks.iter().filter(|b| **b == block).count()
 }
 
-pub fn pins_are_counted(table: &Small) -> bool {
+pub(super) fn pins_are_counted(table: &Small) -> bool {
     let mut lawful = true;
     for b in 0..5u32 {
         let good = match state_of(&table.words, b) {
@@ -101,7 +101,7 @@ fn is_lawful_block(table: &Small, block: u32, state: PinWord) -> bool {
     lawful
 }
 
-pub fn blocks_are_lawful(table: &Small) -> bool {
+pub(super) fn blocks_are_lawful(table: &Small) -> bool {
     let mut lawful = true;
     for b in 0..5u32 {
         let good = match state_of(&table.words, b) {

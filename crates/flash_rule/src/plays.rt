@@ -1,6 +1,6 @@
 //! What each kind of step tells the seat that makes it.
-ghost use Rattle.flash_rule.specs.Seats.{dealt_pass, new_pass, lender, lent_note, host_of, giver, given_note, home, gone};
-ghost use Rattle.flash_rule.specs.Plays.{look_told, write_told, trim_told, take_told, put_told, get_told, pinned_told, count_told, close_told, pin_told, unpin_told};
+ghost use Rattle.flash_rule.specs.Seats.{dealt_pass, new_pass, dealt_broom, new_broom, lender, lent_note, host_of, giver, given_note, home, gone};
+ghost use Rattle.flash_rule.specs.Plays.{look_told, write_told, trim_told, take_told, put_told, get_told, count_told, close_told, pin_told, unpin_told};
 
 use crate::view::View;
 use atomic_table::{Join, Play, Split};
@@ -40,18 +40,11 @@ impl Play<(), View> for PutWord {
     ghost then = { put_told };
 }
 
-/// A pass loads a word of its candidate's page.
+/// A pass loads a word of the page that it has pinned.
 pub struct GetWord;
 
 impl Play<(), View> for GetWord {
     ghost then = { get_told };
-}
-
-/// A pass loads a word of the page that it has pinned.
-pub struct GetPinned;
-
-impl Play<(), View> for GetPinned {
-    ghost then = { pinned_told };
 }
 
 /// The owner of an open block adds one to its pages written.
@@ -89,6 +82,15 @@ impl Split<View> for DealPass {
     ghost left = { dealt_pass };
 
     ghost right = { new_pass };
+}
+
+/// The dealer hands out the next broom, with its spare block.
+pub struct DealBroom;
+
+impl Split<View> for DealBroom {
+    ghost left = { dealt_broom };
+
+    ghost right = { new_broom };
 }
 
 /// A player's badge and copies of its lists go with a note.

@@ -14,7 +14,7 @@ use Rattle.flash_rule.specs.declared.facts.Pin.TheVariants.{Candidate, Accepted}
 use Rattle.flash_rule.specs.Views.{is_pass, is_player}
 use Rattle.flash_rule.specs.Rule.{IsEarly}
 use Rattle.flash_rule.specs.Seats.{Ruled}
-use Rattle.flash_rule.specs.Plays.{Sitter, CanPlace, CanPut, CanCount, CanClose, words_in, is_unpinned, look_told, write_told, trim_told, take_told, put_told, get_told, count_told, close_told, IsOn, pin_told, unpin_told, pinned_told}
+use Rattle.flash_rule.specs.Plays.{Sitter, CanPlace, CanPut, CanCount, CanClose, words_in, is_unpinned, look_told, write_told, trim_told, take_told, put_told, count_told, close_told, IsOn, pin_told, unpin_told, get_told}
 use Rattle.flash_rule.specs.declared.facts.Name.{Name}
 use Rattle.flash_rule.specs.declared.facts.Name.TheVariants.{Pass}
 use Rattle.flash_rule.specs.declared.facts.Role.TheVariants.{Player, Note}
@@ -24,7 +24,7 @@ use Rattle.flash_rule.specs.Seats.{lender, lent_note, host_of, giver, given_note
 use Rattle.flash_rule.proofs.Still.{pass_of}
 use Rattle.flash_rule.proofs.Notes.{lends, gives, takes_in, comes_home}
 use Rattle.flash_rule.proofs.Parts.{early_kept}
-use Rattle.flash_rule.proofs.Steps.{look_allowed, trim_allowed, write_allowed, take_allowed, put_allowed, get_allowed, count_allowed, close_allowed, get_pinned_allowed}
+use Rattle.flash_rule.proofs.Steps.{look_allowed, trim_allowed, write_allowed, take_allowed, put_allowed, count_allowed, close_allowed, get_allowed}
 use Rattle.flash_rule.proofs.ReaderSteps.{pin_allowed, unpin_allowed}
 
 module _ (z k : Numbers) (same : k ≡ z) (slots id : ℕ) (me : Sitter) where
@@ -50,11 +50,6 @@ module _ (z k : Numbers) (same : k ≡ z) (slots id : ℕ) (me : Sitter) where
   put_here word o x is player numbers can = let P : Numbers × ℕ → Type 0 = λ y. Allows (Ruled IsEarly y.0) slots id me y.1 (λ _. x) (λ _. put_told (step slots y.1 x 0 none) me x) in
       subst P (λ i. (sym same i, sym is i)) (put_allowed IsEarly z (early_kept z) slots id me o x player numbers can)
 
-  pub get_here : (word : ℕ) (m : MapWord) (value : List ℕ) (i : ℕ) → word ≡ page_index z m.block m.page + i → is_pass me.0.role ≡ true → me.0.numbers ≡ z → me.0.pin ≡ Candidate m value → m.block < z.blocks → m.page < z.pages → i < z.words
-      → Allows (Ruled IsEarly k) slots id me word (λ n. n) (get_told (step slots word 0 0 none) me)
-  get_here word m value i is pass numbers pin block page low = let P : Numbers × ℕ → Type 0 = λ y. Allows (Ruled IsEarly y.0) slots id me y.1 (λ n. n) (get_told (step slots y.1 0 0 none) me) in
-      subst P (λ j. (sym same j, sym is j)) (get_allowed z slots id me m value i pass numbers pin block page low)
-
   pub count_here : (word : ℕ) (o : Owned) (x : Work) → word ≡ pin_index z o.block → is_player me.0.role ≡ true → me.0.numbers ≡ z → CanCount me.0 o x
       → Allows (Ruled IsEarly k) slots id me word (λ n. (n + PAGE_WRITTEN) % 2 ^ 64) (count_told (step slots word PAGE_WRITTEN 0 none) me)
   count_here word o x is player numbers can = let P : Numbers × ℕ → Type 0 = λ y. Allows (Ruled IsEarly y.0) slots id me y.1 (λ n. (n + PAGE_WRITTEN) % 2 ^ 64) (count_told (step slots y.1 PAGE_WRITTEN 0 none) me) in
@@ -77,10 +72,10 @@ module _ (z k : Numbers) (same : k ≡ z) (slots id : ℕ) (me : Sitter) where
   unpin_here word b is pass on low numbers = let P : Numbers × ℕ → Type 0 = λ x. Allows (Ruled IsEarly x.0) slots id me x.1 (λ n. (n + (2 ^ 64 - READER)) % 2 ^ 64) (unpin_told (step slots x.1 READER 0 none) me) in
       subst P (λ i. (sym same i, sym is i)) (unpin_allowed IsEarly z (early_kept z) slots id me b pass on low numbers)
 
-  pub pinned_here : (word : ℕ) (m : MapWord) (value : List ℕ) (i : ℕ) → word ≡ page_index z m.block m.page + i → me.0.numbers ≡ z → me.0.pin ≡ Accepted m value → m.block < z.blocks → m.page < z.pages → i < z.words
-      → Allows (Ruled IsEarly k) slots id me word (λ n. n) (pinned_told (step slots word 0 0 none) me)
-  pinned_here word m value i is numbers pin block page low = let P : Numbers × ℕ → Type 0 = λ y. Allows (Ruled IsEarly y.0) slots id me y.1 (λ n. n) (pinned_told (step slots y.1 0 0 none) me) in
-      subst P (λ j. (sym same j, sym is j)) (get_pinned_allowed IsEarly z slots id me m value i numbers pin block page low)
+  pub get_here : (word : ℕ) (m : MapWord) (value : List ℕ) (i : ℕ) → word ≡ page_index z m.block m.page + i → me.0.numbers ≡ z → me.0.pin ≡ Accepted m value → m.block < z.blocks → m.page < z.pages → i < z.words
+      → Allows (Ruled IsEarly k) slots id me word (λ n. n) (get_told (step slots word 0 0 none) me)
+  get_here word m value i is numbers pin block page low = let P : Numbers × ℕ → Type 0 = λ y. Allows (Ruled IsEarly y.0) slots id me y.1 (λ n. n) (get_told (step slots y.1 0 0 none) me) in
+      subst P (λ j. (sym same j, sym is j)) (get_allowed IsEarly z slots id me m value i numbers pin block page low)
 
 -- ---- notes
 module _ (z k : Numbers) (same : k ≡ z) (id : ℕ) (v : View) (pass : is_pass v.role ≡ true) where

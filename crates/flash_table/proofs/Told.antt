@@ -20,7 +20,7 @@ use Rattle.geometry.specs.declared.pin_word.TheConstants.{TAKEN, NEXT_PHASE, PAG
 use Rattle.flash_rule.specs.declared.facts.Work.{Work}
 use Rattle.flash_rule.specs.declared.facts.Pin.TheVariants.{Clear, Candidate, Accepted}
 use Rattle.flash_rule.specs.World.{data_word, Intact}
-use Rattle.flash_rule.specs.Plays.{Sitter, Took, Placed, CanPlace, CanPut, CanCount, CanClose, words_in, next_page, write_told, trim_told, take_told, put_told, get_told, count_told, close_told, IsOn, Pinned, pin_told, unpin_told, pinned_told}
+use Rattle.flash_rule.specs.Plays.{Sitter, Took, Placed, CanPlace, CanPut, CanCount, CanClose, words_in, next_page, write_told, trim_told, take_told, put_told, count_told, close_told, IsOn, Pinned, pin_told, unpin_told, get_told}
 use Rattle.flash_rule.proofs.Still.{pass_of}
 use Rattle.flash_rule.proofs.Owning.{some_same}
 use Rattle.geometry.proofs.PinBits.{pin_same}
@@ -53,6 +53,7 @@ took_free v w b n state nothing took fits word free =
     let entry : ℕ → Owned = λ k. record { block = b; phase = Open; generation = k; written = 0 } in
     record {
       generation = state.generation;
+      young = (let r = took.young in let e : took.state.generation ≡ state.generation = ap (λ (p : PinWord). p.generation) same in omega arith);
       opens = refl;
       changed = changed ∙ (λ i. record v { taken = v.taken + 1; owns = with_owned (entry (same i).generation) (nothing i) });
     }
@@ -115,11 +116,6 @@ module _ (f : Flash) (p : Pass) (h : IsPassOf f p) (slots n : ℕ) (after : Sitt
   take_took word b low at told = let blocks : (view_of p).numbers.blocks ≡ (device f).blocks = ap (λ (y : Numbers). y.blocks) h.numbers in
       told.1 b (omega arith) (at ∙ ap (λ y. pin_index y b) (sym h.numbers))
 
-  -- ---- get
-  pub get_value : (word i : ℕ) (m : MapWord) (value : List ℕ) → (view_of p).pin ≡ Candidate m value → i < (device f).words → word ≡ page_index (device f) m.block m.page + i → get_told (step slots word 0 0 none) p.seat.me n after → n ≡ data_word value i
-  get_value word i m value pin low at told = let words : (view_of p).numbers.words ≡ (device f).words = ap (λ (y : Numbers). y.words) h.numbers in
-      told.1 m value i pin (omega arith) (at ∙ ap (λ y. page_index y m.block m.page + i) (sym h.numbers))
-
   -- ---- place
   pub trim_changed : (s : ℕ) → trim_told (step slots s 0 0 none) p.seat.me n after → (t : ℕ) × Placed (view_of p) (Trim t s) s n after.0
   trim_changed s told = let t = pass_of (view_of p).role h.role in (t.0, told.1 t.0 t.1)
@@ -157,6 +153,6 @@ module _ (f : Flash) (p : Pass) (h : IsPassOf f p) (slots n : ℕ) (after : Sitt
   pub unpin_view : (word b : ℕ) → IsOn (view_of p).pin b → word ≡ pin_index (device f) b → unpin_told (step slots word READER 0 none) p.seat.me n after → after.0 ≡ record (view_of p) { pin = Clear }
   unpin_view word b on at told = told.1 b on (at ∙ ap (λ y. pin_index y b) (sym h.numbers))
 
-  pub pinned_value : (word i : ℕ) (m : MapWord) (value : List ℕ) → (view_of p).pin ≡ Accepted m value → i < (device f).words → word ≡ page_index (device f) m.block m.page + i → pinned_told (step slots word 0 0 none) p.seat.me n after → n ≡ data_word value i
-  pinned_value word i m value pin low at told = let words : (view_of p).numbers.words ≡ (device f).words = ap (λ (y : Numbers). y.words) h.numbers in
+  pub get_value : (word i : ℕ) (m : MapWord) (value : List ℕ) → (view_of p).pin ≡ Accepted m value → i < (device f).words → word ≡ page_index (device f) m.block m.page + i → get_told (step slots word 0 0 none) p.seat.me n after → n ≡ data_word value i
+  get_value word i m value pin low at told = let words : (view_of p).numbers.words ≡ (device f).words = ap (λ (y : Numbers). y.words) h.numbers in
       told.1 m value i pin (omega arith) (at ∙ ap (λ y. page_index y m.block m.page + i) (sym h.numbers))

@@ -48,9 +48,10 @@ pub record IsNoteOf (f : Flash) (n : Note) : Type 0 where
 abbrev pub first_view : Numbers → ℕ → View
 first_view z t = record (newcomer z (Player (APass t))) { known = replicate z.blocks 0; whole = true }
 
--- A take tells: the block is the pass's, open and with nothing written, in some generation
+-- A take tells: the block is the pass's, open and with nothing written, in some generation below the endurance
 pub record Taken (v : View) (block : ℕ) (w : View) (opened : Option OpenBlock) : Type 0 where
   pub generation : ℕ
+  pub young : generation < v.numbers.endurance
   pub opens : opened ≡ Some (record { block = block; generation = generation; written = 0 })
   pub changed : w ≡ record v { taken = v.taken + 1; owns = owned_of (record { block = block; generation = generation; written = 0 }) ∷ [] }
 

@@ -1,4 +1,5 @@
 -- What public contracts rest on.
 pub mod Flash
+pub mod Leaving
 -- Internal: the plain data of a seat beside its view.
 pub mod Owning

@@ -7,11 +7,13 @@ mod notes;
 mod open;
 mod pass;
 mod pins;
+mod retired;
 mod steps;
 
 pub use flash::Flash;
 pub use gate::{Gate, NoGate, Point};
 pub use pass::{Note, OpenBlock, Pass};
+pub use retired::Retired;
 
 #[cfg(test)]
 mod tests;

@@ -1,6 +1,7 @@
 //! The steps by which a pass reads: it pins a block, reads the page and takes the pin off.
 ghost use Rattle.std.specs.Prelude.{◌≡◌, ℕ, ◌<◌, List, MatchBool};
-ghost use Rattle.geometry.specs.Geometry.{blocks_of, pages_of, words_of};
+ghost use Rattle.geometry.specs.Geometry.{numbers_of, blocks_of, pages_of, words_of};
+ghost use Rattle.geometry.specs.TableOrder.{page_index};
 ghost use Rattle.geometry.specs.PinWords.{FitsPin, pin_word};
 ghost use Rattle.geometry.specs.declared.pin_word.PinWord.{PinWord};
 ghost use Rattle.flash_rule.specs.declared.facts.Pin.TheVariants as pin;
@@ -10,7 +11,7 @@ ghost use Rattle.flash_table.specs.Flash.{IsPassOf, Strayed, view_of, geometry_o
 
 use crate::flash::Flash;
 use crate::pass::Pass;
-use flash_rule::{AddReader, GetPinned, TakeReader};
+use flash_rule::{AddReader, GetWord, TakeReader};
 use geometry::{MapWord, PageAddr, Phase, PinWord, READER, page_word_at, pin_at};
 
 // Whether the written pages of a block can be read.
@@ -66,23 +67,33 @@ impl Flash {
             .fetch_sub::<TakeReader>(&mut pass.seat, word, READER);
     }
 
-    /// Word `i` of the page that is pinned.
-    pub fn pinned_word(&self, pass: &mut Pass, page: MapWord, i: u32) -> u64
+    /// The place in the table at which a page's words begin.
+    pub fn page_start(&self, page: MapWord) -> usize
+        requires block { page.block < blocks_of (geometry_of self.now) }
+        requires page { page.page < pages_of (geometry_of self.now) }
+        ensures { result ≡ page_index (numbers_of (geometry_of self.now)) page.block page.page }
+    {
+        let addr = PageAddr {
+            block: page.block,
+            page: page.page,
+        };
+        page_word_at(&self.geometry, addr, 0)
+    }
+
+    /// Word `i` of the page that is pinned, whose words begin at `start`.
+    pub fn get_word(&self, pass: &mut Pass, page: MapWord, start: usize, i: u32) -> u64
         requires pass { IsPassOf self.now pass.old }
         requires pinned { (value : List ℕ) × ((view_of pass.old).pin ≡ pin.Accepted page value) }
         requires block { page.block < blocks_of (geometry_of self.now) }
         requires page { page.page < pages_of (geometry_of self.now) }
+        requires start { start ≡ page_index (numbers_of (geometry_of self.now)) page.block page.page }
         requires word { i < words_of (geometry_of self.now) }
         ensures told { (value : List ℕ) → (view_of pass.old).pin ≡ pin.Accepted page value → result ≡ data_word value i }
         ensures same { view_of pass.new ≡ view_of pass.old }
         ensures pass { IsPassOf self.now pass.new }
         ensures opened { opened_of pass.new ≡ opened_of pass.old }
     {
-        let addr = PageAddr {
-            block: page.block,
-            page: page.page,
-        };
-        let place = page_word_at(&self.geometry, addr, i);
-        self.table.shared.load::<GetPinned>(&mut pass.seat, place)
+        let place = start + i as usize;
+        self.table.shared.load::<GetWord>(&mut pass.seat, place)
     }
 }

@@ -18,7 +18,7 @@ ghost use Rattle.flash_table.specs.declared.pass.OpenBlock.{OpenBlock};
 
 use crate::flash::Flash;
 use crate::pass::{OpenBlock, Pass};
-use flash_rule::{Close, Count, GetWord, Look, PlaceTrim, PlaceWrite, PutWord, Take};
+use flash_rule::{Close, Count, Look, PlaceTrim, PlaceWrite, PutWord, Take};
 use geometry::{
     MapWord, NEXT_PHASE, PAGE_WRITTEN, PageAddr, Phase, PinWord, TAKEN, UNMAPPED, Was,
     page_word_at, pin_at,
@@ -56,6 +56,7 @@ impl Flash {
         requires unpinned { is_unpinned (view_of pass.old).pin ≡ true }
         requires sector { sector < sectors_of (geometry_of self.now) }
         ensures told { Looked (view_of pass.old) sector (sector_word result) (view_of pass.new) }
+        ensures fits { IfSome result FitsMap }
         ensures pass { IsPassOf self.now pass.new }
         ensures opened { opened_of pass.new ≡ opened_of pass.old }
     {
@@ -144,26 +145,6 @@ impl Flash {
         self.table
             .shared
             .store::<PutWord>(&mut pass.seat, place, word);
-    }
-
-    /// Word `i` of the page that a look has named.
-    pub fn get_word(&self, pass: &mut Pass, page: MapWord, i: u32) -> u64
-        requires pass { IsPassOf self.now pass.old }
-        requires candidate { (value : List ℕ) × ((view_of pass.old).pin ≡ pin.Candidate page value) }
-        requires block { page.block < blocks_of (geometry_of self.now) }
-        requires page { page.page < pages_of (geometry_of self.now) }
-        requires word { i < words_of (geometry_of self.now) }
-        ensures told { (value : List ℕ) → (view_of pass.old).pin ≡ pin.Candidate page value → result ≡ data_word value i }
-        ensures same { view_of pass.new ≡ view_of pass.old }
-        ensures pass { IsPassOf self.now pass.new }
-        ensures opened { opened_of pass.new ≡ opened_of pass.old }
-    {
-        let addr = PageAddr {
-            block: page.block,
-            page: page.page,
-        };
-        let place = page_word_at(&self.geometry, addr, i);
-        self.table.shared.load::<GetWord>(&mut pass.seat, place)
     }
 
     /// Counts the page that was filled: from now on it is programmed.
