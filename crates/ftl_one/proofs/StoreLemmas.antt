@@ -24,6 +24,11 @@ use Rattle.ftl_one.proofs.MapLemmas.{Becomes, was_here, sector-at, length-sector
 abbrev pub size_of : Store → ℕ
 size_of s = page_bytes_of (die_geometry_of s.die)
 
+-- the array has the geometry's sectors
+pub length-sectors_of : (s : Store) → length (sectors_of s) ≡ sector_count_of (geometry_of s)
+unfolding sectors_of
+length-sectors_of s = length-sectors (size_of s) (block_of s.die) s.current.items ∙ s.mapped.current_size
+
 pub length-entries_of : (s : Store) (b : ℕ) → length (entries_of s b) ≡ length (block_of s.die b).pages
 unfolding entries_of
 length-entries_of s b = length-entries (size_of s) s.current.items b (block_of s.die b)

@@ -13,7 +13,8 @@ pub record ErasesNothing (old new : Stock) : Type 0 where
   pub erases : new.erases ≡ old.erases
   pub copies : new.copies ≡ old.copies
 
--- one closed block is erased, once; no closed block has fewer live pages, and just these are relocated
+-- one closed block is erased, once; no closed block has fewer live pages, and as many pages are relocated as it
+-- has live ones: which ones the stock's own step says
 pub record Collects (old new : Stock) (victim : ℕ) : Type 0 where
   pub closed : (block_at old victim).role ≡ Closed
   pub fewest : (b : ℕ) → (block_at old b).role ≡ Closed → live_of (block_at old victim) ≤ live_of (block_at old b)

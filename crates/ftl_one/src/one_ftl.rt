@@ -74,6 +74,14 @@ impl OneFtl {
         })
     }
 
+    /// The numbers that the layer was made by: how many sectors it has, and the size of a page.
+    pub fn geometry(&self) -> Geometry
+        ensures value { result ≡ geometry_of self.now }
+        ensures sectors { length (sectors_of self.now) ≡ sector_count_of (geometry_of self.now) }
+    {
+        self.store.geometry()
+    }
+
     /// Reads a sector into `out`, a buffer of one page.
     pub fn read(&self, sector: u32, out: &mut [u8]) -> Got
         requires sector { sector < sector_count_of (geometry_of self.now) }

@@ -1,5 +1,5 @@
 ghost use Rattle.std.specs.Prelude.{◌≡◌};
-ghost use Rattle.geometry.specs.Geometry.{sectors_of as sector_count_of, page_bytes_of};
+ghost use Rattle.geometry.specs.Geometry.{page_bytes_of};
 ghost use Rattle.ftl_one.specs.OneFtl.{geometry_of};
 
 use crate::OneFtl;
@@ -12,8 +12,6 @@ use std::test::Fail;
 #[derive(Drop)]
 struct Bench {
     ftl: OneFtl,
-    sectors: u32,
-    ghost counted: { sector_count_of (geometry_of ftl) ≡ sectors },
     ghost bytes: { page_bytes_of (geometry_of ftl) ≡ 8 },
 }
 
@@ -27,29 +25,27 @@ impl Bench {
         endurance: u32,
     ) -> Result<Bench, Fail> {
         let geometry = Geometry::new(luns, blocks, pages, 1, sectors, endurance, 0, 0)?;
-        assert!(rt; geometry.sectors() == sectors);
         assert!(rt; geometry.page_bytes() == 8);
         assert!(rt; geometry.hosts() == 0);
         Ok(Bench {
             ftl: OneFtl::new(rt.alloc(), &geometry)?,
-            sectors,
         })
     }
 
     // What the sector was, or nothing where the layer is worn out.
     fn write(&mut self, rt: &impl Abort, sector: u32, byte: u8) -> Option<Was> {
-        assert!(rt; sector < self.sectors);
+        assert!(rt; sector < self.ftl.geometry().sectors());
         self.ftl.write(sector, &[byte, 0, 0, 0, 0, 0, 0, 0]).ok()
     }
 
     fn trim(&mut self, rt: &impl Abort, sector: u32) -> Was {
-        assert!(rt; sector < self.sectors);
+        assert!(rt; sector < self.ftl.geometry().sectors());
         self.ftl.trim(sector)
     }
 
     // The sector's byte, if it is written.
     fn read(&self, rt: &impl Abort, sector: u32) -> Option<u8> {
-        assert!(rt; sector < self.sectors);
+        assert!(rt; sector < self.ftl.geometry().sectors());
         let mut page = [99; 8];
         match self.ftl.read(sector, &mut page) {
             Got::Empty => {
@@ -253,11 +249,12 @@ fn following(seed: u32) -> u32 {
 
 // Plays pseudo-random reads, writes and trims on the layer and on the plain store, and compares each answer.
 fn compare(rt: &(impl Abort + AllocGlobal), bench: &mut Bench, commands: u32) -> Result<(), Fail> {
-    let mut plain = Plain::new(rt.alloc(), bench.sectors)?;
+    let sectors = bench.ftl.geometry().sectors();
+    let mut plain = Plain::new(rt.alloc(), sectors)?;
     let mut seed = 1;
     for _ in 0..commands {
         seed = following(seed);
-        let sector = (seed >> 8) % bench.sectors.max(1);
+        let sector = (seed >> 8) % sectors;
         let byte = (seed >> 16 & 255) as u8;
         match seed >> 28 {
             0 | 1 => assert_eq!(rt; bench.trim(rt, sector), plain.trim(sector)),
@@ -268,7 +265,7 @@ fn compare(rt: &(impl Abort + AllocGlobal), bench: &mut Bench, commands: u32) ->
             ),
         }
     }
-    for sector in 0..bench.sectors {
+    for sector in 0..sectors {
         assert_eq!(rt; bench.read(rt, sector), plain.read(sector));
     }
     Ok(())
