@@ -33,7 +33,7 @@ fn put_number(lines: &mut Vec<u8>, number: u64, end: u8)
 {
     let mut digits = itoa::Buffer::new();
     put(lines, digits.format(number).as_bytes());
-    put(lines, &[end]);
+    lines.push_reserved(end);
 }
 
 /// Adds an answer line.
@@ -44,10 +44,10 @@ pub fn put_line(lines: &mut Vec<u8>, line: u64, op: Op, sector: u32, answer: &[u
 {
     put_number(lines, line, b',');
     put(lines, op.name().as_bytes());
-    put(lines, b",");
+    lines.push_reserved(b',');
     put_number(lines, u64::from(sector), b',');
     put(lines, answer);
-    put(lines, b"\n");
+    lines.push_reserved(b'\n');
 }
 
 /// Adds the last line, with the totals of a run.

@@ -1,4 +1,5 @@
 pub mod CheckFacts
 pub mod CommandFacts
+pub mod DigitFacts
 pub mod NumberFacts
 pub mod RowFacts

@@ -1,7 +1,5 @@
 -- What the steps of parsing make of one record.
 use Rattle.std.specs.Prelude.{◌≡◌, ◌≤◌, ℕ, List, [], ◌∷◌, ◌++◌, length, Result, Ok, Err, ◌⊎◌}
-use Rattle.hex.specs.declared.error.FromHexError.{FromHexError}
-use Rattle.hex.specs.declared.error.FromHexError.TheVariants.{InvalidHexCharacter, OddLength, InvalidStringLength, OutOfMemory}
 use Rattle.trace.specs.Page.{page_with}
 use Rattle.trace.specs.Trace.{whole_fault}
 use Rattle.trace.specs.declared.commands.Command.{Command}
@@ -35,10 +33,3 @@ page_len op.Meet size = 0
 -- these bytes make the page, and are no more than it has
 abbrev pub MakesPage : ℕ → Op → List ℕ → Result (List ℕ) TraceFaultKind → Type 0
 MakesPage size op given page = (page ≡ Ok (page_with (page_len op size) given)) × (length given ≤ page_len op size)
-
--- what is wrong with digits that were refused
-abbrev pub fault_of_hex : FromHexError → TraceFaultKind
-fault_of_hex OutOfMemory = fault.Memory
-fault_of_hex OddLength = fault.Hex
-fault_of_hex InvalidStringLength = fault.Hex
-fault_of_hex (InvalidHexCharacter c i) = fault.Hex

@@ -3,6 +3,7 @@
 #![tactic(auto)]
 
 mod commands;
+mod digits;
 mod fault;
 mod limits;
 mod loading;

@@ -1,17 +1,17 @@
 ghost use Rattle.std.specs.Prelude.{◌≡◌, IfOk, IfErr, MatchBool, OnOk};
 ghost use Rattle.std.specs.Bool.{OnTrue};
 ghost use Rattle.csv.specs.Records.{fields_of};
-ghost use Rattle.trace.specs.Parsing.{Adds, MakesPage, RefusesBy, fault_at, fault_of_hex, page_len};
+ghost use Rattle.trace.specs.Parsing.{Adds, MakesPage, RefusesBy, fault_at, page_len};
 ghost use Rattle.trace.specs.Trace.{AreCommands, IsFirstFault, checked, command_of, commands_of, is_of_record, number_below, op_of, page_of, whole_fault, workers_of};
 ghost use Rattle.trace.specs.declared.fault.TraceFaultKind.TheVariants.{Memory};
 
 use crate::commands::{Commands, Op};
+use crate::digits::decode;
 use crate::fault::{TraceFault, TraceFaultKind};
 use crate::limits::MAX_DIGITS;
 use crate::rows::{field, next_record, records};
 use csv::ByteRecord;
 use geometry::{Geometry, LONE_WORKERS, WORD_BYTES};
-use hex::FromHexError;
 use std::alloc::Global;
 
 /// The commands of a trace for this device, or its first fault.
@@ -28,6 +28,7 @@ pub fn parse(alloc: Global, text: &[u8], geometry: &Geometry) -> Result<Commands
 {
     let mut rows = records(alloc, text);
     let mut row = ByteRecord::new(alloc);
+    let mut given = Vec::new(alloc);
     let mut commands = Commands::new(alloc);
     'records: loop {
         match next_record(&mut rows, &mut row) {
@@ -36,7 +37,7 @@ pub fn parse(alloc: Global, text: &[u8], geometry: &Geometry) -> Result<Commands
             Err(_) => return Err(TraceFault::whole(TraceFaultKind::Memory)),
         }
         let line = commands.len() as u64 + 1;
-        if let Err(kind) = add(alloc, &row, geometry, &mut commands) {
+        if let Err(kind) = add(&row, geometry, &mut given, &mut commands) {
             return Err(fault(line, kind));
         }
     }
@@ -52,11 +53,11 @@ fn fault(line: u64, kind: TraceFaultKind) -> TraceFault
     }
 }
 
-// Checks a record and adds its command.
+// Checks a record and adds its command. The bytes of its data pass through `given`.
 fn add(
-    alloc: Global,
     row: &ByteRecord,
     geometry: &Geometry,
+    given: &mut Vec<u8>,
     commands: &mut Commands,
 ) -> Result<(), TraceFaultKind>
     ensures added { OnOk result (Adds (command_of geometry.now (fields_of row.now)) commands.old commands.new) }
@@ -69,8 +70,8 @@ fn add(
     let op = op_named(field(row, 1))?;
     let sector = number_below(geometry.sectors(), TraceFaultKind::Sector, field(row, 2))?;
     let size = (geometry.words() * WORD_BYTES) as u16;
-    let given = given(alloc, size, op, worker, sector, field(row, 3))?;
-    match commands.push(worker, op, sector, given.as_slice(), page_len(op, size)) {
+    read_data(size, op, worker, sector, field(row, 3), given)?;
+    match commands.push(worker, op, sector, given, page_len(op, size)) {
         Ok(()) => Ok(()),
         Err(_) => Err(TraceFaultKind::Memory),
     }
@@ -126,29 +127,31 @@ fn op_named(text: &[u8]) -> Result<Op, TraceFaultKind>
     }
 }
 
-// The bytes that the data of an op gives to its page.
+// Reads the bytes that the data of an op gives to its page, in place of those that `given` held.
 #[tactic(auto, unfolding(crate::specs::Trace::page_of))]
-fn given(
-    alloc: Global,
+fn read_data(
     size: u16,
     op: Op,
     worker: u32,
     sector: u32,
     digits: &[u8],
-) -> Result<Vec<u8>, TraceFaultKind>
-    ensures made { IfOk result (λ given. MakesPage size op given.items (page_of size op worker sector digits.now)) }
+    given: &mut Vec<u8>,
+) -> Result<(), TraceFaultKind>
+    ensures made { OnOk result (MakesPage size op given.new.items (page_of size op worker sector digits.now)) }
     ensures refused { IfErr result (RefusesBy (page_of size op worker sector digits.now)) }
 {
     match op {
-        Op::Write => match hex::decode(alloc, digits) {
-            Ok(bytes) if bytes.len() <= size as usize => Ok(bytes),
-            Ok(_) => Err(TraceFaultKind::TooLong),
-            Err(e) => Err(hex_fault(e)),
-        },
-        Op::Read | Op::Trim if digits.is_empty() => Ok(Vec::new(alloc)),
-        Op::Meet if digits.is_empty() && worker == 0 && sector == 0 => Ok(Vec::new(alloc)),
-        _ => Err(TraceFaultKind::Unused),
+        Op::Write => {
+            decode(digits, given)?;
+            if given.len() > size as usize {
+                return Err(TraceFaultKind::TooLong);
+            }
+        }
+        Op::Read | Op::Trim if digits.is_empty() => given.clear(),
+        Op::Meet if digits.is_empty() && worker == 0 && sector == 0 => given.clear(),
+        _ => return Err(TraceFaultKind::Unused),
     }
+    Ok(())
 }
 
 // How many bytes the page of a command has, where a page has `size`.
@@ -158,15 +161,5 @@ fn page_len(op: Op, size: u16) -> u16
     match op {
         Op::Write => size,
         Op::Read | Op::Trim | Op::Meet => 0,
-    }
-}
-
-// What is wrong with the digits of a write, or want of memory at them.
-fn hex_fault(e: FromHexError) -> TraceFaultKind
-    ensures { result ≡ fault_of_hex e }
-{
-    match e {
-        FromHexError::OutOfMemory => TraceFaultKind::Memory,
-        _ => TraceFaultKind::Hex,
     }
 }

@@ -32,15 +32,15 @@ returns-in_err-sector-clause-refused c =
     let sector = sym (rw (c.sectors.ensures.value, c.field-3.ensures) at c.in_err-sector.ensures) in
     rw (p.1, p.2) (inr (refuses_sector c.args.geometry.now (fields_of c.args.row.now) _ _ _ _ fields _ worker _ op _ sector))
 
-pub returns-in_err-given-clause-refused : goal.returns-in_err-given-clause-refused
-returns-in_err-given-clause-refused c =
-    let p = err_from_is_err_and c.from_residual-in_err-given.result c.from_residual-in_err-given.ensures.1 in
+pub returns-in_err-read_data-clause-refused : goal.returns-in_err-read_data-clause-refused
+returns-in_err-read_data-clause-refused c =
+    let p = err_from_is_err_and c.from_residual-in_err-read_data.result c.from_residual-in_err-read_data.ensures.1 in
     let fields = four (fields_of c.args.row.now) (sym c.len.ensures ∙ c.if-len-ne4.false) in
     let worker = sym (rw (c.workers.ensures, c.field.ensures) at c.in_ok-worker.ensures) in
     let op = sym (rw c.field-2.ensures at c.in_ok-op.ensures) in
     let sector = sym (rw (c.sectors.ensures.value, c.field-3.ensures) at c.in_ok-sector.ensures) in
     let size : c.words.result * 8 ≡ page_bytes_of c.args.geometry.now = omega (arith, c.words.ensures.value) in
-    let refused = rw (size, c.field-4.ensures) at c.in_err-given.ensures.refused in
+    let refused = rw (size, c.field-4.ensures) at c.in_err-read_data.ensures.refused in
     rw (p.1, p.2) (refuses_by_page c.args.geometry.now (fields_of c.args.row.now) _ _ _ _ fields _ worker _ op _ sector _ refused)
 
 pub returns-in-Ok-clause-added : goal.returns-in-Ok-clause-added
@@ -50,6 +50,6 @@ returns-in-Ok-clause-added c =
     let op = sym (rw c.field-2.ensures at c.in_ok-op.ensures) in
     let sector = sym (rw (c.sectors.ensures.value, c.field-3.ensures) at c.in_ok-sector.ensures) in
     let size : c.words.result * 8 ≡ page_bytes_of c.args.geometry.now = omega (arith, c.words.ensures.value) in
-    let page = rw (size, c.field-4.ensures) at c.in_ok-given.ensures.made.0 in
-    let grown = rw (c.page_len.ensures, c.as_slice.ensures.value, size) at c.in-Ok.ensures in
+    let page = rw (size, c.field-4.ensures) at c.in_ok-read_data.ensures.made.0 in
+    let grown = rw (c.page_len.ensures, c.deref.ensures.value, size) at c.in-Ok.ensures in
     adds_accepted c.args.geometry.now (fields_of c.args.row.now) _ _ _ _ fields _ worker _ op _ sector _ _ _ page grown
