@@ -1,0 +1,81 @@
+-- Two passes that meet: what goes along with their notes, and what each of them knows in the end.
+use Rattle.std.proofs.Common.{◌≡◌, ℕ, ◌+◌, true, false, [], Option, Some, None, is_some, sym, refl, ap, ◌∙◌}
+use Rattle.flash_rule.specs.declared.facts.Name.{Name}
+use Rattle.flash_rule.specs.declared.facts.Role.{Role}
+use Rattle.flash_rule.specs.declared.facts.Role.TheVariants.{Player}
+use Rattle.flash_rule.specs.declared.carried.Carried.{Carried}
+use Rattle.flash_rule.specs.declared.view.View.{View}
+use Rattle.flash_rule.specs.Views.{is_pass}
+use Rattle.flash_rule.specs.Seats.{name_of, carried, lender, lent_note, host_of, giver, given_note, home}
+use Rattle.flash_rule.specs.Plays.{Met, Looked, Disjoint}
+use Rattle.flash_rule.proofs.Still.{pass_of}
+use Rattle.flash_table.specs.declared.flash.Flash.{Flash}
+use Rattle.flash_table.specs.declared.pass.Pass.{Pass}
+use Rattle.flash_table.specs.declared.pass.OpenBlock.{OpenBlock}
+use Rattle.flash_table.specs.Owning.{owned_list}
+use Rattle.flash_table.specs.Flash.{view_of, opened_of}
+use Rattle.host.specs.Ready.{IsRested}
+use Rattle.host.specs.Told.{MetTold}
+
+-- a pass's role is that of its name
+pub named : (r : Role) → is_pass r ≡ true → r ≡ Player (name_of r)
+named r pass = let t = pass_of r pass in t.1 ∙ ap Player (sym (ap name_of t.1))
+
+-- the two lists change places
+pub disjoint_sym : (v w : View) → Disjoint v.programs w.programs → Disjoint w.programs v.programs
+disjoint_sym v w apart j k x here there = apart k j x there here
+
+-- what is lent carries the lender's badge and copies of its lists
+pub lent : (v note : View) → note ≡ lent_note v → (c : Carried) × (note.copy ≡ Some c) × (note.guest ≡ Some c.of)
+lent v note is = (carried v, ap (λ (x : View). x.copy) is, ap (λ (x : View). x.guest) is)
+
+-- the first one, v, has looked with the second one's note
+module _ (v v' w : View) (n : ℕ) (pass : is_pass v.role ≡ true) (pass' : is_pass v'.role ≡ true) (looked : Looked (host_of v (lent_note v')) 0 n w) where
+  met : Met w (carried v')
+  met = looked.met (carried v') refl
+
+  role : w.role ≡ v.role
+  role = ap (λ (x : View). x.role) looked.changed
+
+  pub apart : ¬ (v.role ≡ v'.role)
+  apart same = met.other (role ∙ (same ∙ named v'.role pass'))
+
+  pub guest : (name : Name) × (w.guest ≡ Some name) × (¬ (w.role ≡ Player name))
+  guest = (name_of v'.role, ap (λ (x : View). x.guest) looked.changed, met.other)
+
+  pub given : (note : View) → note ≡ given_note w → (name : Name) × (c : Carried) × ((lender v').role ≡ Player name) × (note.guest ≡ Some name) × (note.copy ≡ Some c) × (¬ ((lender v').role ≡ Player c.of))
+  given note is = (
+    name_of v'.role,
+    carried w,
+    named v'.role pass',
+    ap (λ (x : View). x.guest) is ∙ ap (λ (x : View). x.guest) looked.changed,
+    ap (λ (x : View). x.copy) is,
+    λ same. apart (sym (same ∙ (ap Player (ap name_of role) ∙ sym (named v.role pass)))),
+  )
+
+  -- and the second one, with what the first one has given back
+  pub told : (u : View) (m : ℕ) → v.guest ≡ None → v'.whole ≡ true → Looked (home (lender v') (given_note w)) 0 m u → MetTold v v' (giver w) u
+  told u m alone whole again =
+      let last : Met u (carried w) = again.met (carried w) refl in
+      let copied = ap (λ (x : View). x.copy) looked.changed in
+      let again_copied = ap (λ (x : View). x.copy) again.changed in
+      record {
+        first = ap giver looked.changed ∙ (λ i. record v { seen = w.seen; looks = v.looks + 1; pin = w.pin; known = w.known; copy = sym copied i; guest = sym alone i });
+        second = again.changed ∙ (λ i. record v' { seen = u.seen; looks = v'.looks + 1; pin = u.pin; known = u.known; copy = sym again_copied i; whole = sym whole i });
+        later = looked.later;
+        brought = met.seen;
+        shared = last.seen;
+        apart = apart;
+        programs = disjoint_sym u w last.programs;
+      }
+
+-- a pass with nothing open owns nothing and fills nothing
+pub nothing_left : (f : Flash) (p : Pass) → IsRested f p → opened_of p ≡ None → view_of p ≡ record (view_of p) { owns = []; work = None }
+nothing_left f p rested closed =
+    let owns : (view_of p).owns ≡ [] = p.owns ∙ ap owned_list closed in
+    let work = rested.idle closed in λ i. record (view_of p) { owns = owns i; work = work i }
+
+-- without a block that is open there is none
+pub closed : (x : Option OpenBlock) → is_some x ≡ false → x ≡ None
+closed None none = refl
+closed (Some o) none = absurd (cc)

@@ -1,0 +1,33 @@
+-- A pass that holds a page.
+use Rattle.std.specs.Prelude.{◌≡◌, ℕ, List, None, Some}
+use Rattle.geometry.specs.Geometry.{sectors_of}
+use Rattle.geometry.specs.History.{held}
+use Rattle.geometry.specs.declared.map_word.MapWord.{MapWord}
+use Rattle.flash_rule.specs.declared.view.View.{View}
+use Rattle.flash_table.specs.declared.flash.Flash.{Flash}
+use Rattle.flash_table.specs.declared.pass.Pass.{Pass}
+use Rattle.flash_table.specs.Flash.{view_of, geometry_of}
+use Rattle.host.specs.declared.holding.Held.{Held}
+use Rattle.host.specs.declared.holding.Holding.{Holding}
+use Rattle.host.specs.declared.holding.Holding.TheVariants as holding
+use Rattle.host.specs.Ready.{IsReady, IsPinned}
+use Rattle.host.specs.Told.{Searched}
+
+-- the pass that pins
+abbrev pub pass_of : Held → Pass
+pass_of h = h.pass
+
+-- the page that is pinned, in its block's generation
+abbrev pub page_of : Held → MapWord
+page_of h = h.page
+
+-- The pass has an accepted pin on the page, which holds this value
+abbrev pub Holds : Flash → Held → List ℕ → Type 0
+Holds f h value = IsPinned f (pass_of h) (page_of h) value
+
+-- A search for a sector's page ends with a hold of the value that the sector had at its last look, or with the pass, where it was empty there
+abbrev pub Found : Flash → View → ℕ → Holding → Type 0
+Found f v s (holding.Held h) =
+    (value : List ℕ) × Holds f h value × (held (sectors_of (geometry_of f)) (view_of (pass_of h)).seen s ≡ Some value) × ((tries : ℕ) × Searched v tries (view_of (pass_of h)))
+Found f v s (holding.Empty p) =
+    IsReady f p × (held (sectors_of (geometry_of f)) (view_of p).seen s ≡ None) × ((tries : ℕ) × Searched v tries (view_of p))

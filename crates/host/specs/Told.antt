@@ -1,0 +1,61 @@
+-- What the calls of a host tell of what its pass knows, before and after.
+use Rattle.std.specs.Prelude.{◌≡◌, ℕ, ◌+◌, ◌*◌, ◌<◌, ◌≤◌, List, [], ◌∷◌, ◌++◌}
+use Rattle.std.specs.List.{range_with_len}
+use Rattle.geometry.specs.History.{Call, Write, was, Begins}
+use Rattle.geometry.specs.declared.answer.Was.{Was}
+use Rattle.geometry.specs.declared.map_word.MapWord.{MapWord}
+use Rattle.geometry.specs.declared.pin_word.Phase.TheVariants.{Open}
+use Rattle.flash_rule.specs.declared.facts.Owned.{Owned}
+use Rattle.flash_rule.specs.declared.facts.Pin.TheVariants.{Clear}
+use Rattle.flash_rule.specs.declared.view.View.{View}
+use Rattle.flash_rule.specs.Views.{sum_of}
+use Rattle.flash_rule.specs.Plays.{Disjoint, next_page}
+
+-- A pin that came too late was given back: the ages that the pass knows have risen, within their bound
+pub record CameLate (v w : View) : Type 0 where
+  pub changed : w ≡ record v { pin = Clear; known = w.known }
+  pub rises : sum_of v.known < sum_of w.known
+  pub bounded : sum_of w.known ≤ v.numbers.blocks * (2 * v.numbers.endurance)
+
+-- The pass has looked so many times, at least once. Each look but the last one was followed by a block found to be older than the pass
+-- knew; so the ages that it knows have risen by at least one for each, and as they are bounded, so are the looks
+pub record Searched (v : View) (tries : ℕ) (w : View) : Type 0 where
+  pub changed : w ≡ record v { seen = w.seen; looks = v.looks + tries; pin = w.pin; known = w.known }
+  pub later : Begins v.seen w.seen
+  pub looked : 1 ≤ tries
+  pub paid : tries + sum_of v.known ≤ sum_of w.known + 1
+  pub bounded : sum_of w.known ≤ v.numbers.blocks * (2 * v.numbers.endurance)
+  pub few : tries ≤ v.numbers.blocks * (2 * v.numbers.endurance) + 1
+
+-- A write that is done: the pass sees a history that begins with all that it had seen, followed by this call alone, and the answer is what
+-- the sector was before it. One page was programmed, the next one of the block that was open, or the first one of a block that was taken,
+-- the lowest that was free: the blocks below it were tried in order and found taken. The block stays open as long as a page is left
+pub record Wrote (v : View) (t s : ℕ) (value : List ℕ) (answer : Was) (w : View) : Type 0 where
+  pub changed : w ≡ record v { seen = w.seen; mine = v.mine ++ Write t s value ∷ []; programs = w.programs; owns = w.owns; work = w.work; taken = w.taken; denied = w.denied }
+  pub before : List Call
+  pub later : Begins v.seen before
+  pub now : w.seen ≡ before ++ Write t s value ∷ []
+  pub answered : answer ≡ was v.numbers.sectors before s
+  pub page : MapWord
+  pub within : (page.block < v.numbers.blocks) × (page.page < v.numbers.pages)
+  pub programmed : w.programs ≡ v.programs ++ page ∷ []
+  pub continued : (o : Owned) → v.owns ≡ o ∷ [] → (page ≡ next_page o) × (w.taken ≡ v.taken) × (w.denied ≡ v.denied)
+  pub begun : v.owns ≡ [] → (page.page ≡ 0) × (w.taken ≡ v.taken + 1) × (w.denied ≡ v.denied ++ range_with_len 0 page.block)
+  pub kept : page.page + 1 < v.numbers.pages → w.owns ≡ record { block = page.block; phase = Open; generation = page.generation; written = page.page + 1 } ∷ []
+  pub closed : page.page + 1 ≡ v.numbers.pages → w.owns ≡ []
+
+-- A write that found no block: the pass had none open, each block, in order, was found taken by a take of this call, and nothing else has changed
+pub record Refused (v : View) (w : View) : Type 0 where
+  pub changed : w ≡ record v { denied = w.denied }
+  pub nothing_open : v.owns ≡ []
+  pub grown : w.denied ≡ v.denied ++ range_with_len 0 v.numbers.blocks
+
+-- Two passes that met: each has seen what both had seen, and the second one what the first has; they have programmed no page both
+pub record MetTold (v v' x x' : View) : Type 0 where
+  pub first : x ≡ record v { seen = x.seen; looks = v.looks + 1; pin = x.pin; known = x.known; copy = x.copy }
+  pub second : x' ≡ record v' { seen = x'.seen; looks = v'.looks + 1; pin = x'.pin; known = x'.known; copy = x'.copy }
+  pub later : Begins v.seen x.seen
+  pub brought : Begins v'.seen x.seen
+  pub shared : Begins x.seen x'.seen
+  pub apart : ¬ (v.role ≡ v'.role)
+  pub programs : Disjoint x.programs x'.programs

@@ -1,0 +1,96 @@
+//! Holds: a page is pinned, and can be read again and again, until it is released.
+ghost use Rattle.std.specs.Prelude.{◌≡◌, ℕ, ◌<◌, List, length};
+ghost use Rattle.geometry.specs.Geometry.{sectors_of, words_of, page_bytes_of};
+ghost use Rattle.flash_rule.specs.declared.facts.Pin.TheVariants as pin;
+ghost use Rattle.flash_rule.specs.World.{data_word};
+ghost use Rattle.flash_table.specs.Flash.{view_of, opened_of, geometry_of};
+ghost use Rattle.host.specs.Ready.{IsReady};
+ghost use Rattle.host.specs.Holding.{Holds, Found, pass_of, page_of};
+
+use crate::searching::{read_page, search};
+use flash_table::{Flash, NoGate, Pass};
+use geometry::MapWord;
+
+/// A page that a pass has pinned: its block isn't erased until the hold is released.
+pub struct Held {
+    pub(crate) pass: Pass,
+    pub(crate) page: MapWord,
+}
+
+/// What a hold found.
+pub enum Holding {
+    Held(Held),
+    /// The sector was empty.
+    Empty(Pass),
+}
+
+impl Held {
+    /// The block that is pinned.
+    pub fn block(&self) -> u32
+        ensures { result ≡ (page_of self.now).block }
+    {
+        self.page.block
+    }
+
+    /// The generation in which the block is pinned.
+    pub fn generation(&self) -> u32
+        ensures { result ≡ (page_of self.now).generation }
+    {
+        self.page.generation
+    }
+
+    /// The pass that pins.
+    pub fn pass(&self) -> &Pass
+        ensures { result.now ≡ pass_of self.now }
+    {
+        &self.pass
+    }
+}
+
+/// Pins the page that holds a sector's value.
+pub fn hold(flash: &Flash, pass: Pass, sector: u32) -> Holding
+    requires pass { IsReady flash.now pass }
+    requires sector { sector < sectors_of (geometry_of flash.now) }
+    ensures { Found flash.now (view_of pass) sector result }
+{
+    let mut pass = pass;
+    match search(flash, &mut pass, sector, &mut NoGate).page {
+        Some(page) => Holding::Held(Held { pass, page }),
+        None => Holding::Empty(pass),
+    }
+}
+
+/// The value that is held, into a buffer of one page.
+pub fn copy_into(flash: &Flash, held: &mut Held, out: &mut [u8])
+    requires held { (value : List ℕ) × Holds flash.now held.old value }
+    requires page { length out.old ≡ page_bytes_of (geometry_of flash.now) }
+    ensures value { (value : List ℕ) → Holds flash.now held.old value → (out.new ≡ value) × Holds flash.now held.new value }
+    ensures same { view_of (pass_of held.new) ≡ view_of (pass_of held.old) }
+    ensures page { page_of held.new ≡ page_of held.old }
+{
+    read_page(flash, &mut held.pass, held.page, out);
+}
+
+/// Word `i` of the value that is held.
+pub fn word(flash: &Flash, held: &mut Held, i: u32) -> u64
+    requires held { (value : List ℕ) × Holds flash.now held.old value }
+    requires word { i < words_of (geometry_of flash.now) }
+    ensures value { (value : List ℕ) → Holds flash.now held.old value → (result ≡ data_word value i) × Holds flash.now held.new value }
+    ensures same { view_of (pass_of held.new) ≡ view_of (pass_of held.old) }
+    ensures page { page_of held.new ≡ page_of held.old }
+{
+    let start = flash.page_start(held.page);
+    flash.get_word(&mut held.pass, held.page, start, i)
+}
+
+/// Takes the pin off, and gives the pass back.
+pub fn release(flash: &Flash, held: Held) -> Pass
+    requires held { (value : List ℕ) × Holds flash.now held value }
+    ensures told { view_of result ≡ record (view_of (pass_of held)) { pin = pin.Clear } }
+    ensures pass { IsReady flash.now result }
+    ensures opened { opened_of result ≡ opened_of (pass_of held) }
+{
+    let Held { mut pass, page } = held;
+    flash.unpin(&mut pass, page.block);
+    pass
+}

@@ -1,0 +1,13 @@
+//! What a host asks of the shared device: reads, writes, trims and holds. No call waits for anybody, none takes memory.
+#![tactic(auto)]
+
+mod holding;
+mod meeting;
+mod reading;
+mod searching;
+mod writing;
+
+pub use holding::{Held, Holding, copy_into, hold, release, word};
+pub use meeting::{meet, retire};
+pub use reading::{ReadDone, read, read_gated};
+pub use writing::{NoBlock, trim, write, write_gated};

@@ -1,0 +1,126 @@
+//! Writes and trims: a page is filled and counted, and then the sector's map word is swapped.
+ghost use Rattle.std.specs.Prelude.{◌≡◌, ℕ, ◌+◌, ◌<◌, length, None, Some, OnErr, IfOk, MatchBool};
+ghost use Rattle.geometry.specs.Geometry.{blocks_of, pages_of, sectors_of, page_bytes_of};
+ghost use Rattle.geometry.specs.History.{Trim};
+ghost use Rattle.flash_rule.specs.declared.facts.Name.TheVariants as name;
+ghost use Rattle.flash_rule.specs.declared.facts.Role.TheVariants as role;
+ghost use Rattle.flash_rule.specs.Plays.{Called, IsSettled};
+ghost use Rattle.flash_table.specs.Flash.{IsPassOf, view_of, opened_of, geometry_of};
+ghost use Rattle.flash_table.specs.declared.pass.OpenBlock.{OpenBlock};
+ghost use Rattle.host.specs.Ready.{IsReady};
+ghost use Rattle.host.specs.Told.{Wrote, Refused};
+ghost use Rattle.host.specs.Filling.{TookLowest, Filled, ClosedIfFull};
+
+use flash_table::{Flash, Gate, NoGate, Pass, Point};
+use geometry::{MapWord, Was, word_at};
+use thiserror::Error;
+
+/// The pass had no open block, and every block was found taken.
+#[derive(Clone, Copy, Debug, PartialEq, Eq, Error)]
+#[error("every block is taken")]
+pub struct NoBlock;
+
+/// Writes a page of bytes to a sector. The answer is what the sector was.
+pub fn write(flash: &Flash, pass: &mut Pass, sector: u32, bytes: &[u8]) -> Result<Was, NoBlock>
+    requires pass { IsReady flash.now pass.old }
+    requires sector { sector < sectors_of (geometry_of flash.now) }
+    requires page { length bytes.now ≡ page_bytes_of (geometry_of flash.now) }
+    ensures wrote { IfOk result (λ was. (t : ℕ) → (view_of pass.old).role ≡ role.Player (name.Pass t) → Wrote (view_of pass.old) t sector bytes.now was (view_of pass.new)) }
+    ensures refused { OnErr result (Refused (view_of pass.old) (view_of pass.new)) }
+    ensures pass { IsReady flash.now pass.new }
+{
+    write_gated(flash, pass, sector, bytes, &mut NoGate)
+}
+
+/// A write that stops at its gate once its page is counted, before the sector's map word is swapped.
+pub fn write_gated<G: Gate>(
+    flash: &Flash,
+    pass: &mut Pass,
+    sector: u32,
+    bytes: &[u8],
+    gate: &mut G,
+) -> Result<Was, NoBlock>
+    requires pass { IsReady flash.now pass.old }
+    requires sector { sector < sectors_of (geometry_of flash.now) }
+    requires page { length bytes.now ≡ page_bytes_of (geometry_of flash.now) }
+    ensures wrote { IfOk result (λ was. (t : ℕ) → (view_of pass.old).role ≡ role.Player (name.Pass t) → Wrote (view_of pass.old) t sector bytes.now was (view_of pass.new)) }
+    ensures refused { OnErr result (Refused (view_of pass.old) (view_of pass.new)) }
+    ensures pass { IsReady flash.now pass.new }
+{
+    if pass.opened().is_none() && !take_lowest(flash, pass) {
+        return Err(NoBlock);
+    }
+    let page = fill(flash, pass, sector, bytes);
+    gate.at(Point::BeforePlace);
+    let was = flash.place_write(pass, sector, page);
+    close_if_full(flash, pass);
+    Ok(was)
+}
+
+/// Empties a sector. The answer is what it was.
+pub fn trim(flash: &Flash, pass: &mut Pass, sector: u32) -> Was
+    requires pass { IsReady flash.now pass.old }
+    requires sector { sector < sectors_of (geometry_of flash.now) }
+    ensures told { (t : ℕ) → (view_of pass.old).role ≡ role.Player (name.Pass t) → Called (view_of pass.old) (Trim t sector) sector result (view_of pass.new) }
+    ensures pass { IsReady flash.now pass.new }
+    ensures opened { opened_of pass.new ≡ opened_of pass.old }
+{
+    flash.place_trim(pass, sector)
+}
+
+// Takes the lowest block that is free, trying from block 0 upwards, and says whether there was one.
+fn take_lowest(flash: &Flash, pass: &mut Pass) -> bool
+    requires pass { IsPassOf flash.now pass.old }
+    requires nothing_open { opened_of pass.old ≡ None }
+    ensures told { MatchBool result (TookLowest (view_of pass.old) (view_of pass.new) (opened_of pass.new)) (Refused (view_of pass.old) (view_of pass.new) × (opened_of pass.new ≡ None)) }
+    ensures pass { IsPassOf flash.now pass.new }
+{
+    for block in 0..flash.geometry().blocks() {
+        if flash.take(pass, block) {
+            return true;
+        }
+    }
+    false
+}
+
+// Puts the bytes and the sector's stamp into the next page of the open block, and counts the page.
+fn fill(flash: &Flash, pass: &mut Pass, sector: u32, bytes: &[u8]) -> MapWord
+    requires pass { IsPassOf flash.now pass.old }
+    requires room { (o : OpenBlock) × (opened_of pass.old ≡ Some o) × (o.block < blocks_of (geometry_of flash.now)) × (o.written < pages_of (geometry_of flash.now)) }
+    requires settled { IsSettled (view_of pass.old) }
+    requires page { length bytes.now ≡ page_bytes_of (geometry_of flash.now) }
+    ensures filled { (o : OpenBlock) → opened_of pass.old ≡ Some o → Filled (view_of pass.old) o sector bytes.now result (view_of pass.new) }
+    ensures opened { (o : OpenBlock) → opened_of pass.old ≡ Some o → opened_of pass.new ≡ Some (record o { written = o.written + 1 }) }
+    ensures pass { IsPassOf flash.now pass.new }
+{
+    let Some(opened) = pass.opened() else {
+        unreachable!()
+    };
+    let words = flash.geometry().words();
+    for i in 0..words {
+        flash.put_word(pass, i, word_at(bytes, i as usize));
+    }
+    flash.put_word(pass, words, sector as u64);
+    flash.count(pass);
+    MapWord {
+        generation: opened.generation,
+        block: opened.block,
+        page: opened.written,
+    }
+}
+
+// Closes the open block if no page is left in it.
+fn close_if_full(flash: &Flash, pass: &mut Pass)
+    requires pass { IsPassOf flash.now pass.old }
+    requires opened { (o : OpenBlock) × (opened_of pass.old ≡ Some o) × (o.block < blocks_of (geometry_of flash.now)) }
+    requires settled { IsSettled (view_of pass.old) }
+    ensures told { (o : OpenBlock) → opened_of pass.old ≡ Some o → ClosedIfFull (pages_of (geometry_of flash.now)) (view_of pass.old) o (view_of pass.new) (opened_of pass.new) }
+    ensures pass { IsPassOf flash.now pass.new }
+{
+    let Some(opened) = pass.opened() else {
+        unreachable!()
+    };
+    if opened.written == flash.geometry().pages() {
+        flash.close(pass);
+    }
+}
