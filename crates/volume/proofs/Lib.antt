@@ -1,0 +1,6 @@
+pub mod Still
+pub mod Answered
+pub mod Looks
+pub mod Sweeps
+pub mod Ends
+pub mod Callers

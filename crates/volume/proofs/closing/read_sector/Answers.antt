@@ -1,0 +1,6 @@
+use Rattle.flash_table.specs.Flash.{view_of}
+use Rattle.volume.proofs.Looks.{looked-refl}
+use Rattle.volume.proofs.closing.read_sector.Goals as goal
+
+pub returns-in_err-page-clause-looked : goal.returns-in_err-page-clause-looked
+returns-in_err-page-clause-looked c = looked-refl (view_of c.args.pass.now)

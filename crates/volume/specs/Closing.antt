@@ -1,0 +1,57 @@
+-- What the sectors are that a device is closed with.
+use Rattle.std.specs.Prelude.{◌≡◌, ℕ, ◌+◌, ◌<◌, List, Option, Vec, map, option_map, length, Some, slice_get}
+use Rattle.std.specs.Global.{Global}
+use Rattle.geometry.specs.Limits.{Numbers}
+use Rattle.geometry.specs.Sectors.{Sector, sector_at}
+use Rattle.geometry.specs.History.{Call, after, held, Begins}
+use Rattle.flash_rule.specs.declared.facts.Name.TheVariants.{Pass as APass}
+use Rattle.flash_rule.specs.declared.facts.Role.TheVariants.{Player}
+use Rattle.flash_rule.specs.declared.view.View.{View}
+use Rattle.flash_rule.specs.Views.{AreOfHosts, calls_of}
+use Rattle.flash_table.specs.declared.pass.Pass.{Pass}
+use Rattle.flash_table.specs.Flash.{view_of}
+use Rattle.volume.specs.declared.closing.Closed.{Closed}
+
+-- the array that a row of values is
+abbrev pub array_of : List (Option (Vec ℕ Global)) → List Sector
+array_of values = map (option_map (λ value. value.items)) values
+
+-- the array of sectors that is left
+abbrev pub sectors_of : Closed → List Sector
+sectors_of c = array_of c.sectors.items
+
+-- the pass stands in the list
+abbrev pub IsIn : List Pass → Pass → Type 0
+IsIn passes p = (k : ℕ) × (slice_get passes k ≡ Some p)
+
+-- each pass of the device stands in the list
+abbrev pub AreAll : ℕ → List Pass → Type 0
+AreAll hosts passes = (t : ℕ) → t < hosts → (p : Pass) × IsIn passes p × ((view_of p).role ≡ Player (APass t))
+
+-- The sectors were read one after another: each is what it is after a history that begins with all that the passes had seen, and the
+-- histories grow. The first pass, which reads, has no calls in them but its own
+pub record AreRead (n : ℕ) (passes : List Pass) (sectors : List Sector) : Type 0 where
+  pub long : length sectors ≡ n
+  pub history : ℕ → List Call
+  pub later : (s : ℕ) (p : Pass) → IsIn passes p → Begins (view_of p).seen (history s)
+  pub grows : (s : ℕ) → Begins (history s) (history (s + 1))
+  pub own : (s t : ℕ) (p : Pass) → slice_get passes 0 ≡ Some p → (view_of p).role ≡ Player (APass t) → calls_of t (history s) ≡ (view_of p).mine
+  pub each : (s : ℕ) → s < n → sector_at sectors s ≡ held n (history s) s
+
+-- The sectors are those after one history: it begins with all that each pass had seen, and its calls are those of the passes, each with just its own
+pub record AreFinal (z : Numbers) (passes : List Pass) (sectors : List Sector) : Type 0 where
+  pub history : List Call
+  pub later : (p : Pass) → IsIn passes p → Begins (view_of p).seen history
+  pub callers : AreOfHosts z history
+  pub own : (t : ℕ) (p : Pass) → IsIn passes p → (view_of p).role ≡ Player (APass t) → calls_of t history ≡ (view_of p).mine
+  pub array : sectors ≡ after z.sectors history
+
+-- The pass has looked, and nothing else has changed: its calls, its programs, its counts of takes and its block are as they were
+pub record HasLooked (v w : View) : Type 0 where
+  pub changed : w ≡ record v { seen = w.seen; looks = w.looks; pin = w.pin; known = w.known; copy = w.copy }
+  pub later : Begins v.seen w.seen
+
+-- Each pass of a row has looked, and nothing else has changed of it
+pub record HaveLooked (ps qs : List Pass) : Type 0 where
+  pub long : length qs ≡ length ps
+  pub each : (k : ℕ) (p q : Pass) → slice_get ps k ≡ Some p → slice_get qs k ≡ Some q → HasLooked (view_of p) (view_of q)

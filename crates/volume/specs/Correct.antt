@@ -1,0 +1,56 @@
+-- What holds of each read, write and trim, whatever other threads do meanwhile: it is one step of an array of sectors, at a place of one
+-- history that only grows, and not before anything that its pass had seen.
+use Rattle.std.specs.Prelude.{◌≡◌, ℕ, List, [], ◌∷◌, ◌++◌}
+use Rattle.geometry.specs.Sectors.{Answers}
+use Rattle.geometry.specs.History.{Call, held, was, Begins}
+use Rattle.geometry.specs.History as call
+use Rattle.geometry.specs.declared.answer.Got.{Got}
+use Rattle.geometry.specs.declared.answer.Was.{Was}
+use Rattle.flash_rule.specs.Views.{calls_of}
+use Rattle.flash_rule.specs.declared.view.View.{View}
+
+-- what a pass may ask: the value of a sector, a new value for it, or that it be empty
+pub data Asked : Type 0 where
+  Read : ℕ → Asked
+  Write : ℕ → List ℕ → Asked
+  Trim : ℕ → Asked
+
+-- what it is answered: what it got, with its buffer before and after, or what the sector was
+pub data Answer : Type 0 where
+  Found : Got → List ℕ → List ℕ → Answer
+  Replaced : Was → Answer
+
+-- the answer that an array of so many sectors gives after a history
+abbrev pub IsAnswerAt : ℕ → List Call → Asked → Answer → Type 0
+IsAnswerAt n h (Read s) (Found got old new) = Answers (held n h s) got old new
+IsAnswerAt n h (Read s) (Replaced was_there) = ⊥
+IsAnswerAt n h (Write s value) (Found got old new) = ⊥
+IsAnswerAt n h (Write s value) (Replaced was_there) = was_there ≡ was n h s
+IsAnswerAt n h (Trim s) (Found got old new) = ⊥
+IsAnswerAt n h (Trim s) (Replaced was_there) = was_there ≡ was n h s
+
+-- the calls that a pass adds to the history by what it asks: a read adds none
+abbrev pub calls_for : ℕ → Asked → List Call
+calls_for t (Read s) = []
+calls_for t (Write s value) = call.Write t s value ∷ []
+calls_for t (Trim s) = call.Trim t s ∷ []
+
+-- what a pass knows of the history: how far it has seen it, and its own calls in it
+pub record Known : Type 0 where
+  pub seen : List Call
+  pub mine : List Call
+
+abbrev pub known_by : View → Known
+known_by v = record { seen = v.seen; mine = v.mine }
+
+pub record Correct (n t : ℕ) (asked : Asked) (answer : Answer) (old new : Known) : Type 0 where
+  -- there is a place in the history, not before anything that the pass had seen
+  pub place : List Call
+  pub later : Begins old.seen place
+  -- the answer is the one of the array at that place
+  pub answered : IsAnswerAt n place asked answer
+  -- just the call that was asked is added there, and to the pass's own
+  pub seen : new.seen ≡ place ++ calls_for t asked
+  pub mine : new.mine ≡ old.mine ++ calls_for t asked
+  -- and of all that the pass sees, the calls of its own are those that it made, each once
+  pub own : calls_of t new.seen ≡ new.mine

@@ -1,0 +1,6 @@
+-- What public contracts rest on.
+pub mod Correct
+pub mod Volume
+pub mod Closing
+-- Internal: the parts of a close.
+pub mod Gathering

@@ -1,0 +1,136 @@
+//! The end of a device: what its sectors hold when all passes are given up.
+ghost use Rattle.std.specs.Prelude.{◌≡◌, ℕ, ◌<◌, All, IfOk, IfErr, OnErr, length, slice_get, option_map};
+ghost use Rattle.geometry.specs.Geometry.{sectors_of as sector_count_of, hosts_of, page_bytes_of};
+ghost use Rattle.geometry.specs.History.{held};
+ghost use Rattle.flash_rule.specs.Views.{AreOfHosts};
+ghost use Rattle.flash_table.specs.declared.pass.Pass.{Pass};
+ghost use Rattle.flash_table.specs.Flash.{view_of, geometry_of, device};
+ghost use Rattle.host.specs.Ready.{IsReady};
+ghost use Rattle.volume.specs.Closing.{array_of, sectors_of, AreAll, AreRead, AreFinal, HasLooked, HaveLooked};
+ghost use Rattle.volume.specs.Gathering.{MetEach, HasRead};
+ghost use Rattle.volume.specs.Volume.{flash_of};
+
+use crate::volume::Volume;
+use flash_table::{Flash, Pass};
+use geometry::Got;
+use host::{meet, read, retire};
+use std::alloc::{AllocError, Global};
+
+/// What is left of a device: the value of each sector, or `None` for an empty one.
+#[derive(Drop)]
+pub struct Closed {
+    pub sectors: Vec<Option<Vec<u8>>>,
+}
+
+// The first pass meets each other one.
+fn meet_each(flash: &Flash, first: &mut Pass, others: &mut [Pass])
+    requires first { IsReady flash.now first.old }
+    requires others { All (IsReady flash.now) others.old }
+    ensures told { MetEach (view_of first.old) others.old (view_of first.new) others.new }
+    ensures first { IsReady flash.now first.new }
+    ensures others { All (IsReady flash.now) others.new }
+{
+    for other in others.iter_mut() {
+        meet(flash, first, other);
+    }
+}
+
+// What a sector holds.
+fn read_sector(
+    flash: &Flash,
+    alloc: Global,
+    pass: &mut Pass,
+    sector: u32,
+) -> Result<Option<Vec<u8>>, AllocError>
+    requires pass { IsReady flash.now pass.old }
+    requires sector { sector < sector_count_of (geometry_of flash.now) }
+    ensures looked { HasLooked (view_of pass.old) (view_of pass.new) }
+    ensures value { IfOk result (λ value. option_map (λ x. x.items) value ≡ held (sector_count_of (geometry_of flash.now)) (view_of pass.new).seen sector) }
+    ensures pass { IsReady flash.now pass.new }
+{
+    let mut page = vec![in alloc; 0u8; flash.geometry().page_bytes()]?;
+    match read(flash, pass, sector, &mut page).got {
+        Got::Empty => Ok(None),
+        Got::Data => Ok(Some(page)),
+    }
+}
+
+// What all sectors hold, read one after another.
+fn read_all(
+    flash: &Flash,
+    alloc: Global,
+    pass: &mut Pass,
+) -> Result<Vec<Option<Vec<u8>>>, AllocError>
+    requires { IsReady flash.now pass.old }
+    ensures pass { IsReady flash.now pass.new }
+    ensures looked { HasLooked (view_of pass.old) (view_of pass.new) }
+    ensures long { IfOk result (λ sectors. length (array_of sectors.items) ≡ sector_count_of (geometry_of flash.now)) }
+    ensures read { IfOk result (λ sectors. HasRead (sector_count_of (geometry_of flash.now)) (view_of pass.old) (array_of sectors.items) (view_of pass.new)) }
+{
+    let count = flash.geometry().sectors();
+    let mut sectors = Vec::with_capacity(alloc, count as usize)?;
+    for sector in 0..count {
+        let value = read_sector(flash, alloc, pass, sector)?;
+        sectors.push_reserved(value);
+    }
+    Ok(sectors)
+}
+
+// The first pass meets each other one, reads every sector, and meets each other one again.
+fn gather(
+    flash: &Flash,
+    alloc: Global,
+    passes: &mut [Pass],
+) -> Result<Vec<Option<Vec<u8>>>, AllocError>
+    requires some { 0 < length passes.old }
+    requires passes { All (IsReady flash.now) passes.old }
+    ensures read { IfOk result (λ sectors. AreRead (sector_count_of (geometry_of flash.now)) passes.old (array_of sectors.items)) }
+    ensures one_history { IfOk result (λ sectors. AreAll (hosts_of (geometry_of flash.now)) passes.old → AreFinal (device flash.now) passes.old (array_of sectors.items)) }
+    ensures looked { HaveLooked passes.old passes.new }
+    ensures passes { All (IsReady flash.now) passes.new }
+{
+    let Some((first, others)) = passes.split_first_mut() else {
+        unreachable!()
+    };
+    // What all others had seen, the first pass has seen before it reads.
+    meet_each(flash, first, others);
+    let sectors = read_all(flash, alloc, first)?;
+    // What it has read after, they have seen too; so none of them has called meanwhile.
+    meet_each(flash, first, others);
+    Ok(sectors)
+}
+
+// Gives all passes up.
+fn retire_all(flash: &Flash, passes: Vec<Pass>)
+    requires { All (IsReady flash.now) passes.items }
+{
+    let mut passes = passes;
+    while let Some(pass) = passes.pop() {
+        retire(flash, pass);
+    }
+    passes.destroy_empty();
+}
+
+impl Volume {
+    /// Gives up the passes, at least one, and tells what the sectors hold. `Err` is want of memory, and hands all back.
+    pub fn close(self, alloc: Global, passes: Vec<Pass>) -> Result<Closed, (Volume, Vec<Pass>)>
+        requires some { 0 < length passes.items }
+        requires passes { All (IsReady (flash_of self)) passes.items }
+
+        // Where all passes are given, the sectors are those after one history; else each is what it is after a history that grows.
+        ensures one_history { IfOk result (λ closed. AreAll (hosts_of (geometry_of (flash_of self))) passes.items → AreFinal (device (flash_of self)) passes.items (sectors_of closed)) }
+        ensures read { IfOk result (λ closed. AreRead (sector_count_of (geometry_of (flash_of self))) passes.items (sectors_of closed)) }
+
+        // All is handed back as it was, but that the passes have looked.
+        ensures volume { IfErr result (λ back. flash_of back.0 ≡ flash_of self) }
+        ensures looked { IfErr result (λ back. HaveLooked passes.items back.1.items) }
+        ensures ready { IfErr result (λ back. All (IsReady (flash_of back.0)) back.1.items) }
+    {
+        let mut passes = passes;
+        let Ok(sectors) = gather(&self.flash, alloc, &mut passes) else {
+            return Err((self, passes));
+        };
+        retire_all(&self.flash, passes);
+        Ok(Closed { sectors })
+    }
+}

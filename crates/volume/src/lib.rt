@@ -1,0 +1,19 @@
+//! A flash device that many threads share: it is opened, read and written through passes, and closed.
+#![tactic(auto)]
+
+mod closing;
+mod volume;
+
+pub use closing::Closed;
+pub use volume::Volume;
+
+#[cfg(test)]
+mod caller;
+#[cfg(test)]
+mod crowds;
+#[cfg(test)]
+mod hands;
+#[cfg(test)]
+mod rows;
+#[cfg(test)]
+mod schedules;

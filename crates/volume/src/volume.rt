@@ -1,0 +1,185 @@
+//! The calls of a device.
+use flash_table::{Flash, Gate, Pass, Retired};
+use geometry::{Geometry, Was};
+use host::{Held, Holding, NoBlock, ReadDone};
+use std::alloc::{AllocError, Global};
+
+/// A flash device. Each thread reads and writes it through a pass of its own.
+#[derive(Drop)]
+pub struct Volume {
+    pub(crate) flash: Flash,
+}
+
+impl Volume {
+    ghost use Rattle.std.specs.Prelude.{◌≡◌, ℕ, ◌<◌, All, List, [], None, Some, IfOk, OnErr, length, slice_get};
+    ghost use Rattle.geometry.specs.Geometry.{brooms_of, hosts_of, sectors_of, words_of, page_bytes_of};
+    ghost use Rattle.geometry.specs.History as call;
+    ghost use Rattle.geometry.specs.History.{held};
+    ghost use Rattle.geometry.specs.Sectors.{Answers};
+    ghost use Rattle.flash_rule.specs.declared.facts.Name.TheVariants as name;
+    ghost use Rattle.flash_rule.specs.declared.facts.Role.TheVariants as role;
+    ghost use Rattle.flash_rule.specs.declared.facts.Pin.TheVariants as pin;
+    ghost use Rattle.flash_rule.specs.World.{data_word};
+    ghost use Rattle.flash_rule.specs.Plays.{Called};
+    ghost use Rattle.flash_table.specs.declared.pass.Pass.{Pass};
+    ghost use Rattle.flash_table.specs.Flash.{view_of, opened_of, geometry_of, device, first_view};
+    ghost use Rattle.flash_table.specs.Leaving.{retired_view};
+    ghost use Rattle.host.specs.Ready.{IsReady};
+    ghost use Rattle.host.specs.Told.{Searched, Wrote, Refused, MetTold};
+    ghost use Rattle.host.specs.Holding.{Holds, Found, pass_of, page_of};
+    ghost use Rattle.volume.specs.Correct.{Correct, Read, Write, Trim, Found as Got, Replaced, known_by};
+    ghost use Rattle.volume.specs.Volume.{flash_of};
+
+    /// A device with every sector empty, and its passes, pass t with number t. `Err` is want of memory.
+    pub fn open(alloc: Global, geometry: &Geometry) -> Result<(Volume, Vec<Pass>), AllocError>
+        requires hosts { 0 < hosts_of geometry.now }
+        requires brooms { brooms_of geometry.now ≡ 0 }
+        ensures geometry { IfOk result (λ r. geometry_of (flash_of r.0) ≡ geometry.now) }
+        ensures count { IfOk result (λ r. length r.1.items ≡ hosts_of geometry.now) }
+        ensures passes { IfOk result (λ r. (t : ℕ) (p : Pass) → slice_get r.1.items t ≡ Some p → view_of p ≡ first_view (device (flash_of r.0)) t) }
+        ensures ready { IfOk result (λ r. All (IsReady (flash_of r.0)) r.1.items) }
+    {
+        let (flash, passes) = Flash::open(alloc, geometry)?;
+        Ok((Volume { flash }, passes))
+    }
+
+    /// Reads a sector into `out`, a buffer of one page.
+    pub fn read(&self, pass: &mut Pass, sector: u32, out: &mut [u8]) -> ReadDone
+        requires pass { IsReady (flash_of self.now) pass.old }
+        requires sector { sector < sectors_of (geometry_of (flash_of self.now)) }
+        requires page { length out.old ≡ page_bytes_of (geometry_of (flash_of self.now)) }
+        ensures correct { (t : ℕ) → (view_of pass.old).role ≡ role.Player (name.Pass t) → Correct (sectors_of (geometry_of (flash_of self.now))) t (Read sector) (Got result.got out.old out.new) (known_by (view_of pass.old)) (known_by (view_of pass.new)) }
+        ensures told { Searched (view_of pass.old) result.tries (view_of pass.new) }
+        ensures answer { Answers (held (sectors_of (geometry_of (flash_of self.now))) (view_of pass.new).seen sector) result.got out.old out.new }
+        ensures pass { IsReady (flash_of self.now) pass.new }
+        ensures opened { opened_of pass.new ≡ opened_of pass.old }
+    {
+        host::read(&self.flash, pass, sector, out)
+    }
+
+    /// A read that stops at its gate after each look, and after its pin.
+    pub fn read_gated<G: Gate>(
+        &self,
+        pass: &mut Pass,
+        sector: u32,
+        out: &mut [u8],
+        gate: &mut G,
+    ) -> ReadDone
+        requires pass { IsReady (flash_of self.now) pass.old }
+        requires sector { sector < sectors_of (geometry_of (flash_of self.now)) }
+        requires page { length out.old ≡ page_bytes_of (geometry_of (flash_of self.now)) }
+        ensures correct { (t : ℕ) → (view_of pass.old).role ≡ role.Player (name.Pass t) → Correct (sectors_of (geometry_of (flash_of self.now))) t (Read sector) (Got result.got out.old out.new) (known_by (view_of pass.old)) (known_by (view_of pass.new)) }
+        ensures told { Searched (view_of pass.old) result.tries (view_of pass.new) }
+        ensures answer { Answers (held (sectors_of (geometry_of (flash_of self.now))) (view_of pass.new).seen sector) result.got out.old out.new }
+        ensures pass { IsReady (flash_of self.now) pass.new }
+        ensures opened { opened_of pass.new ≡ opened_of pass.old }
+    {
+        host::read_gated(&self.flash, pass, sector, out, gate)
+    }
+
+    /// Writes a page of bytes to a sector. The answer is what the sector was.
+    pub fn write(&self, pass: &mut Pass, sector: u32, bytes: &[u8]) -> Result<Was, NoBlock>
+        requires pass { IsReady (flash_of self.now) pass.old }
+        requires sector { sector < sectors_of (geometry_of (flash_of self.now)) }
+        requires page { length bytes.now ≡ page_bytes_of (geometry_of (flash_of self.now)) }
+        ensures correct { IfOk result (λ was. (t : ℕ) → (view_of pass.old).role ≡ role.Player (name.Pass t) → Correct (sectors_of (geometry_of (flash_of self.now))) t (Write sector bytes.now) (Replaced was) (known_by (view_of pass.old)) (known_by (view_of pass.new))) }
+        ensures wrote { IfOk result (λ was. (t : ℕ) → (view_of pass.old).role ≡ role.Player (name.Pass t) → Wrote (view_of pass.old) t sector bytes.now was (view_of pass.new)) }
+        ensures refused { OnErr result (Refused (view_of pass.old) (view_of pass.new)) }
+        ensures pass { IsReady (flash_of self.now) pass.new }
+    {
+        host::write(&self.flash, pass, sector, bytes)
+    }
+
+    /// A write that stops at its gate once its page is counted, before the sector's map word is swapped.
+    pub fn write_gated<G: Gate>(
+        &self,
+        pass: &mut Pass,
+        sector: u32,
+        bytes: &[u8],
+        gate: &mut G,
+    ) -> Result<Was, NoBlock>
+        requires pass { IsReady (flash_of self.now) pass.old }
+        requires sector { sector < sectors_of (geometry_of (flash_of self.now)) }
+        requires page { length bytes.now ≡ page_bytes_of (geometry_of (flash_of self.now)) }
+        ensures correct { IfOk result (λ was. (t : ℕ) → (view_of pass.old).role ≡ role.Player (name.Pass t) → Correct (sectors_of (geometry_of (flash_of self.now))) t (Write sector bytes.now) (Replaced was) (known_by (view_of pass.old)) (known_by (view_of pass.new))) }
+        ensures wrote { IfOk result (λ was. (t : ℕ) → (view_of pass.old).role ≡ role.Player (name.Pass t) → Wrote (view_of pass.old) t sector bytes.now was (view_of pass.new)) }
+        ensures refused { OnErr result (Refused (view_of pass.old) (view_of pass.new)) }
+        ensures pass { IsReady (flash_of self.now) pass.new }
+    {
+        host::write_gated(&self.flash, pass, sector, bytes, gate)
+    }
+
+    /// Empties a sector. The answer is what it was.
+    pub fn trim(&self, pass: &mut Pass, sector: u32) -> Was
+        requires pass { IsReady (flash_of self.now) pass.old }
+        requires sector { sector < sectors_of (geometry_of (flash_of self.now)) }
+        ensures correct { (t : ℕ) → (view_of pass.old).role ≡ role.Player (name.Pass t) → Correct (sectors_of (geometry_of (flash_of self.now))) t (Trim sector) (Replaced result) (known_by (view_of pass.old)) (known_by (view_of pass.new)) }
+        ensures told { (t : ℕ) → (view_of pass.old).role ≡ role.Player (name.Pass t) → Called (view_of pass.old) (call.Trim t sector) sector result (view_of pass.new) }
+        ensures pass { IsReady (flash_of self.now) pass.new }
+        ensures opened { opened_of pass.new ≡ opened_of pass.old }
+    {
+        host::trim(&self.flash, pass, sector)
+    }
+
+    /// Pins the page that holds a sector's value.
+    pub fn hold(&self, pass: Pass, sector: u32) -> Holding
+        requires pass { IsReady (flash_of self.now) pass }
+        requires sector { sector < sectors_of (geometry_of (flash_of self.now)) }
+        ensures { Found (flash_of self.now) (view_of pass) sector result }
+    {
+        host::hold(&self.flash, pass, sector)
+    }
+
+    /// The value that is held, into a buffer of one page.
+    pub fn copy_into(&self, held: &mut Held, out: &mut [u8])
+        requires held { (value : List ℕ) × Holds (flash_of self.now) held.old value }
+        requires page { length out.old ≡ page_bytes_of (geometry_of (flash_of self.now)) }
+        ensures value { (value : List ℕ) → Holds (flash_of self.now) held.old value → (out.new ≡ value) × Holds (flash_of self.now) held.new value }
+        ensures same { view_of (pass_of held.new) ≡ view_of (pass_of held.old) }
+        ensures page { page_of held.new ≡ page_of held.old }
+    {
+        host::copy_into(&self.flash, held, out)
+    }
+
+    /// Word `i` of the value that is held.
+    pub fn word(&self, held: &mut Held, i: u32) -> u64
+        requires held { (value : List ℕ) × Holds (flash_of self.now) held.old value }
+        requires word { i < words_of (geometry_of (flash_of self.now)) }
+        ensures value { (value : List ℕ) → Holds (flash_of self.now) held.old value → (result ≡ data_word value i) × Holds (flash_of self.now) held.new value }
+        ensures same { view_of (pass_of held.new) ≡ view_of (pass_of held.old) }
+        ensures page { page_of held.new ≡ page_of held.old }
+    {
+        host::word(&self.flash, held, i)
+    }
+
+    /// Takes the pin off, and gives the pass back.
+    pub fn release(&self, held: Held) -> Pass
+        requires held { (value : List ℕ) × Holds (flash_of self.now) held value }
+        ensures told { view_of result ≡ record (view_of (pass_of held)) { pin = pin.Clear } }
+        ensures pass { IsReady (flash_of self.now) result }
+        ensures opened { opened_of result ≡ opened_of (pass_of held) }
+    {
+        host::release(&self.flash, held)
+    }
+
+    /// Ties what two passes have seen: by one look of the first, and then one of the second. It changes no answer.
+    pub fn meet(&self, first: &mut Pass, second: &mut Pass)
+        requires first { IsReady (flash_of self.now) first.old }
+        requires second { IsReady (flash_of self.now) second.old }
+        ensures told { MetTold (view_of first.old) (view_of second.old) (view_of first.new) (view_of second.new) }
+        ensures first { IsReady (flash_of self.now) first.new }
+        ensures second { IsReady (flash_of self.now) second.new }
+        ensures first_opened { opened_of first.new ≡ opened_of first.old }
+        ensures second_opened { opened_of second.new ≡ opened_of second.old }
+    {
+        host::meet(&self.flash, first, second)
+    }
+
+    /// Gives a pass up. The block that it has open, full or not, is closed.
+    pub fn retire(&self, pass: Pass) -> Retired
+        requires { IsReady (flash_of self.now) pass }
+        ensures { retired_view result ≡ record (view_of pass) { owns = []; work = None } }
+    {
+        host::retire(&self.flash, pass)
+    }
+}
