@@ -1,13 +1,11 @@
-"""Write amplification of the proved layer under uniform random writes, beside closed-form estimates.
+"""Write amplification of the proved layer under uniform random writes, beside two closed-form estimates.
 
-The amplification is pages programmed (for writes and for copies) by pages written. The estimates are for
-greedy collection under uniform random writes; a is the physical pages in use by the sectors, and the
-spare block isn't in use:
+The amplification is pages programmed (for writes and for copies) by pages written. docs/AMPLIFICATION.md
+derives both estimates; a is the physical pages in use by each sector, without those of the spare block,
+and W is Lambert's function:
 
-- Desnoyers, "Analytic modeling of SSD write performance" (SYSTOR 2012), for blocks of P pages:
-  P / (P - (x - 1)) where x = 1/2 - (P/a) W(-c a exp(-c a)) and c = 1 + 1/(2P), W being Lambert's;
-- its limit for large blocks, a / (a + W(-a exp(-a))), as in Xiang and Kurkoski, "An improved
-  analytical expression for write amplification in NAND flash memory" (ICNC 2012).
+- for blocks of P pages, P / (P - (x - 1)) where x = 1/2 - (P/a) W(-c a exp(-c a)) and c = 1 + 1/(2P);
+- its limit for large blocks, a / (a + W(-a exp(-a))).
 """
 
 import math
@@ -79,8 +77,8 @@ def measure(program, out, quick):
 
 def table(points):
     lines = [
-        "| Sectors of all pages | Measured | Desnoyers, blocks of 64 pages | Measured by it | Limit of large blocks |",
-        "|----------------------|----------|-------------------------------|----------------|-----------------------|",
+        "| Sectors of all pages | Measured | Estimate for blocks of 64 pages | Measured by it | Limit of large blocks |",
+        "|----------------------|----------|---------------------------------|----------------|-----------------------|",
     ]
     for point in points:
         share = point.measured / point.for_blocks
@@ -122,8 +120,8 @@ def plot(points):
     body += [f'<circle cx="{x(point.percent):.1f}" cy="{y(point.measured):.1f}" r="4" fill="#c0392b"/>' for point in points]
     legend = [
         (f'<circle cx="95" cy="46" r="4" fill="#c0392b"/>', "measured: the proved layer, 1,024 blocks of 64 pages", 50),
-        (f'<line x1="80" y1="66" x2="110" y2="66" {solid}/>', "Desnoyers 2012, greedy, blocks of 64 pages", 70),
-        (f'<line x1="80" y1="86" x2="110" y2="86" {dashed}/>', "the limit of large blocks", 90),
+        (f'<line x1="80" y1="66" x2="110" y2="66" {solid}/>', "estimate for blocks of 64 pages", 70),
+        (f'<line x1="80" y1="86" x2="110" y2="86" {dashed}/>', "its limit for large blocks", 90),
     ]
     for mark, text, place in legend:
         body += [mark, f'<text x="118" y="{place}">{text}</text>']

@@ -1,25 +1,15 @@
-//! The plain layer without a trace, as the proved one in `layer/main.rt`. With the word `record` it notes
+//! The plain layer without a trace, as the proved one in `layer/main.rt.txt`. With the word `record` it notes
 //! from where and to where each page was copied, and with `memcpy` it then copies those pages again,
 //! four times.
 
 #[allow(dead_code)]
 mod layer;
+mod random;
 
 use layer::{Ftl, Geometry};
+use random::Random;
 
 const TIMES: usize = 4;
-
-/// SplitMix64 (Steele, Lea and Flood, OOPSLA 2014).
-struct Random(u64);
-
-impl Random {
-    fn next(&mut self) -> u64 {
-        self.0 = self.0.wrapping_add(0x9e37_79b9_7f4a_7c15);
-        let z = (self.0 ^ self.0 >> 30).wrapping_mul(0xbf58_476d_1ce4_e5b9);
-        let z = (z ^ z >> 27).wrapping_mul(0x94d0_49bb_1331_11eb);
-        z ^ z >> 31
-    }
-}
 
 fn main() {
     let words: Vec<String> = std::env::args().collect();

@@ -2,23 +2,10 @@
 //!
 //! A trace that begins with a fill writes every sector once, in order, before its random part.
 
+mod random;
+
+use random::Random;
 use std::io::{self, BufWriter, Write};
-
-/// SplitMix64 (Steele, Lea and Flood, OOPSLA 2014).
-struct Random(u64);
-
-impl Random {
-    fn next(&mut self) -> u64 {
-        self.0 = self.0.wrapping_add(0x9e37_79b9_7f4a_7c15);
-        let z = (self.0 ^ self.0 >> 30).wrapping_mul(0xbf58_476d_1ce4_e5b9);
-        let z = (z ^ z >> 27).wrapping_mul(0x94d0_49bb_1331_11eb);
-        z ^ z >> 31
-    }
-
-    fn below(&mut self, bound: u64) -> u64 {
-        (u128::from(self.next()) * u128::from(bound) >> 64) as u64
-    }
-}
 
 struct Maker<W: Write> {
     out: W,
@@ -44,24 +31,28 @@ impl<W: Write> Maker<W> {
         writeln!(self.out, "0,{op},{sector},")
     }
 
+    fn below(&mut self, bound: u64) -> u64 {
+        (u128::from(self.random.next()) * u128::from(bound) >> 64) as u64
+    }
+
     fn any(&mut self) -> u64 {
-        self.random.below(self.sectors)
+        self.below(self.sectors)
     }
 
     /// Four times of five a sector of the first fifth, else one of the others.
     fn skewed(&mut self) -> u64 {
         let hot = self.sectors / 5;
-        if self.random.below(5) < 4 {
-            self.random.below(hot)
+        if self.below(5) < 4 {
+            self.below(hot)
         } else {
-            hot + self.random.below(self.sectors - hot)
+            hot + self.below(self.sectors - hot)
         }
     }
 
     fn make(&mut self, kind: &str, lines: u64) -> io::Result<()> {
         for i in 0..lines {
             let sector = self.any();
-            let percent = self.random.below(100);
+            let percent = self.below(100);
             match (kind, percent) {
                 ("mixed", 0..50) => self.write(sector, 16)?,
                 ("mixed", 50..90) => self.line("read", sector)?,
@@ -92,7 +83,7 @@ impl<W: Write> Maker<W> {
 
                 // All that a trace may say, in odd spellings too, for the comparison of the outputs.
                 ("odd", 0..60) => {
-                    let bytes = self.random.below(9) as usize;
+                    let bytes = self.below(9) as usize;
                     self.write(sector, bytes)?;
                 }
                 ("odd", 60..75) => self.line("read", sector)?,
