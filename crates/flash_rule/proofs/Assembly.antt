@@ -8,6 +8,7 @@ use Rattle.atomic_table.proofs.Lists.{at_set, set_else}
 use Rattle.geometry.specs.History.{held}
 use Rattle.geometry.specs.Limits.{Numbers}
 use Rattle.geometry.specs.PinWords.{FitsPin}
+use Rattle.geometry.specs.declared.map_word.MapWord.{MapWord}
 use Rattle.flash_rule.specs.declared.facts.Owned.{Owned}
 use Rattle.flash_rule.specs.declared.facts.Name.TheVariants.{Pass, Broom}
 use Rattle.flash_rule.specs.declared.facts.Role.{Role}
@@ -16,7 +17,7 @@ use Rattle.flash_rule.specs.declared.facts.Pin.TheVariants.{Clear}
 use Rattle.flash_rule.specs.declared.view.View.{View}
 use Rattle.flash_rule.specs.Views.{one_if, total, is_pass, pin_is_on, pins_on, weight, role_weight, owned_at, AreOfHosts, calls_of}
 use Rattle.flash_rule.specs.World.{World, is_owned, is_nameable, is_still}
-use Rattle.flash_rule.specs.Rule.{LawfulSector, LawfulBlock, LawfulKind, LawfulView, Lawful}
+use Rattle.flash_rule.specs.Rule.{IsCurrent, LawfulSector, LawfulBlock, LawfulKind, LawfulView, Lawful}
 use Rattle.flash_rule.specs.Onward.{Onward}
 use Rattle.flash_rule.proofs.Points.{total_set}
 use Rattle.flash_rule.proofs.Frames.{others}
@@ -77,18 +78,19 @@ block_kept z g g' vs id v w b at block pin owner pages counted keeps =
       owner = λ owned. owner_kept z g g' vs id v w b at block (sym (ap is_owned phase) ∙ owned) owner keeps;
     }
 
--- A sector that the step doesn't concern: its page stays where a map word may name it
-pub sector_kept : (z : Numbers) (g g' : World) (s : ℕ) → LawfulSector z g s → g'.map s ≡ g.map s → held z.sectors g'.history s ≡ held z.sectors g.history s
-    → ((b : ℕ) → b < z.blocks → is_nameable (g.pins b).phase ≡ true
-    → ((g'.pins b).generation ≡ (g.pins b).generation) × (is_nameable (g'.pins b).phase ≡ true) × ((g.pins b).written ≤ (g'.pins b).written)
-    × ((p i : ℕ) → p < (g.pins b).written → g'.pages b p i ≡ g.pages b p i))
+-- A sector that the step doesn't concern: the page that its map word names stays where one may name it
+pub named_kept : (z : Numbers) (g g' : World) (s : ℕ) → LawfulSector z g s → g'.map s ≡ g.map s → held z.sectors g'.history s ≡ held z.sectors g.history s
+    → ((m : MapWord) → g.map s ≡ Some m → IsCurrent z g s m
+    → ((g'.pins m.block).generation ≡ (g.pins m.block).generation) × (is_nameable (g'.pins m.block).phase ≡ true) × ((g.pins m.block).written ≤ (g'.pins m.block).written)
+    × ((p i : ℕ) → p < (g.pins m.block).written → g'.pages m.block p i ≡ g.pages m.block p i))
     → LawfulSector z g' s
-sector_kept z g g' s h map same keeps =
+named_kept z g g' s h map same keeps =
     record {
       empty = λ is. same ∙ h.empty (sym map ∙ is);
       named = λ m is.
-          let c = h.named m (sym map ∙ is) in
-          let k = keeps m.block c.block c.phase in
+          let was = sym map ∙ is in
+          let c = h.named m was in
+          let k = keeps m was c in
           let low = c.written in
           let more = k.2 in
           record {
@@ -103,6 +105,14 @@ sector_kept z g g' s h map same keeps =
             stamp = k.3 m.page z.words c.written ∙ c.stamp;
           };
     }
+
+-- the same where that holds of each block that a map word may name
+pub sector_kept : (z : Numbers) (g g' : World) (s : ℕ) → LawfulSector z g s → g'.map s ≡ g.map s → held z.sectors g'.history s ≡ held z.sectors g.history s
+    → ((b : ℕ) → b < z.blocks → is_nameable (g.pins b).phase ≡ true
+    → ((g'.pins b).generation ≡ (g.pins b).generation) × (is_nameable (g'.pins b).phase ≡ true) × ((g.pins b).written ≤ (g'.pins b).written)
+    × ((p i : ℕ) → p < (g.pins b).written → g'.pages b p i ≡ g.pages b p i))
+    → LawfulSector z g' s
+sector_kept z g g' s h map same keeps = named_kept z g g' s h map same (λ m _ c. keeps m.block c.block c.phase)
 
 total_le : (f h : View → ℕ) (vs : List View) → ((id : ℕ) (v : View) → get_elem? vs id ≡ some v → f v ≤ h v) → total f vs ≤ total h vs
 total_le f h [] le = omega arith

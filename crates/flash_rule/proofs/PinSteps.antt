@@ -1,5 +1,5 @@
 -- Steps that change one pin word: take, count, close.
-use Rattle.std.proofs.Common.{◌≡◌, ◌≢◌, ℕ, zero, suc, ◌+◌, ◌<◌, ◌≤◌, inl, true, false, List, [], ◌∷◌, ◌++◌, Option, Some, set, sym, refl, ap, ◌∙◌, subst, arith}
+use Rattle.std.proofs.Common.{◌≡◌, ◌≢◌, ℕ, zero, suc, ◌+◌, ◌*◌, ◌<◌, ◌≤◌, inl, true, false, List, [], ◌∷◌, ◌++◌, Option, Some, set, sym, refl, ap, ◌∙◌, subst, arith}
 use mathlib.Core.Option.{some, some-ne-none}
 use mathlib.Core.Logic.{dite}
 use native.Mathlib.Decide.{ℕ_discrete}
@@ -17,13 +17,13 @@ use Rattle.flash_rule.specs.declared.facts.Role.TheVariants.{Dealer, Player, Not
 use Rattle.flash_rule.specs.declared.facts.Work.{Work}
 use Rattle.flash_rule.specs.declared.view.View.{View}
 use Rattle.flash_rule.specs.Views.{is_pass, may_own, pins_on, weight, owned_at, with_owned}
-use Rattle.flash_rule.specs.World.{World, put, is_owned, is_intact, is_nameable, is_still, half_cycle}
-use Rattle.flash_rule.specs.Rule.{IsProgrammed, IsFilling, LawfulBlock, LawfulOwned, LawfulView, Lawful}
+use Rattle.flash_rule.specs.World.{World, put, is_owned, is_intact, is_nameable, is_still, half_cycle, age_of}
+use Rattle.flash_rule.specs.Rule.{IsCurrent, IsProgrammed, IsFilling, LawfulBlock, LawfulOwned, LawfulView, Lawful}
 use Rattle.flash_rule.specs.Onward.{PinOnward, Untouched, Onward}
 use Rattle.flash_rule.proofs.Points.{put_here, put_else, put_all, total_set}
 use Rattle.flash_rule.proofs.Owning.{some_same, with_here, with_else, owned_else, one_with_open}
 use Rattle.flash_rule.proofs.Frames.{counted, knowledge_kept}
-use Rattle.flash_rule.proofs.Assembly.{assembled, block_kept, sector_kept}
+use Rattle.flash_rule.proofs.Assembly.{assembled, block_kept, named_kept}
 use Rattle.flash_rule.proofs.Still.{pin_stays, still}
 
 pub seat_set : (vs : List View) (id : ℕ) (v w : View) → get_elem? vs id ≡ some v → get_elem? (set vs id w) id ≡ some w
@@ -31,16 +31,20 @@ seat_set [] id v w at = absurd (some-ne-none v (sym at))
 seat_set (x ∷ xs) zero v w at = refl
 seat_set (x ∷ xs) (suc id) v w at = seat_set xs id v w at
 
--- the table with one block's state, its owner and the programmers changed
+-- the table with one block's state, its owner, the programmers and the erasers changed
+abbrev pub turned : World → ℕ → PinWord → ℕ → (ℕ → ℕ → ℕ → Option (Name × ℕ)) → (ℕ → ℕ → Option (Name × ℕ)) → World
+turned g b q owner programmer eraser = record g { pins = put g.pins b q; owner = put g.owner b owner; programmer = programmer; eraser = eraser }
+
+-- the same with the erasers as they were
 abbrev pub moved : World → ℕ → PinWord → ℕ → (ℕ → ℕ → ℕ → Option (Name × ℕ)) → World
-moved g b q owner programmer = record g { pins = put g.pins b q; owner = put g.owner b owner; programmer = programmer }
+moved g b q owner programmer = turned g b q owner programmer g.eraser
 
 -- ONE PIN WORD CHANGES. The new state is onward of the old one, and as it was but for readers if another seat owns the block
-pub pin_moves : (z : Numbers) (g : World) (id b : ℕ) (q : PinWord) (owner : ℕ) (programmer : ℕ → ℕ → ℕ → Option (Name × ℕ)) → PinOnward (g.pins b) q
+pub pin_turns : (z : Numbers) (g : World) (id b : ℕ) (q : PinWord) (owner : ℕ) (programmer : ℕ → ℕ → ℕ → Option (Name × ℕ)) (eraser : ℕ → ℕ → Option (Name × ℕ)) → PinOnward (g.pins b) q
     → (g.owner b ≢ id → is_owned (g.pins b).phase ≡ true → (owner ≡ g.owner b) × (q.phase ≡ (g.pins b).phase) × (q.generation ≡ (g.pins b).generation) × (q.written ≡ (g.pins b).written))
     → ((m : MapWord) → IsProgrammed (g.pins m.block) m → programmer m.block m.page m.generation ≡ g.programmer m.block m.page m.generation)
-    → Onward z g (moved g b q owner programmer) id id
-pin_moves z g id b q owner programmer on mine listed =
+    → ((c n : ℕ) → 2 * n < age_of (g.pins c) → eraser c n ≡ g.eraser c n) → Onward z g (turned g b q owner programmer eraser) id id
+pin_turns z g id b q owner programmer eraser on mine listed erased =
     record {
       history = Begins-refl g.history;
       calls = λ t _. refl;
@@ -52,14 +56,14 @@ pin_moves z g id b q owner programmer on mine listed =
           let owned' : is_owned (g.pins b).phase ≡ true = ap (λ j. is_owned (g.pins j).phase) (sym same) ∙ owned in
           let m = mine other' owned' in
           let here : put g.pins b q b ≡ q = put_here g.pins b q in
-          let untouched : Untouched g (moved g b q owner programmer) b = record {
+          let untouched : Untouched g (turned g b q owner programmer eraser) b = record {
             owner = put_here g.owner b owner ∙ m.0;
             phase = ap (λ (p : PinWord). p.phase) here ∙ m.1;
             generation = ap (λ (p : PinWord). p.generation) here ∙ m.2;
             written = ap (λ (p : PinWord). p.written) here ∙ m.3;
             pages = λ p i. refl;
           } in
-          subst (λ j. Untouched g (moved g b q owner programmer) j) (sym same) untouched)
+          subst (λ j. Untouched g (turned g b q owner programmer eraser) j) (sym same) untouched)
           (λ unlike.
           let here = put_else g.pins b q c unlike in
           record {
@@ -72,38 +76,55 @@ pin_moves z g id b q owner programmer on mine listed =
       pages = λ c p i _ _ _. refl;
       named = λ s m is. inl is;
       programmer = listed;
-      eraser = λ c n _. refl;
+      eraser = erased;
       dealer = λ _. (refl, refl);
       badge = λ n _ _ _. refl;
     }
 
-module _ (z : Numbers) (g : World) (vs : List View) (id : ℕ) (v w : View) (b : ℕ) (q : PinWord) (owner : ℕ) (programmer : ℕ → ℕ → ℕ → Option (Name × ℕ)) (law : Lawful z g vs) (at : get_elem? vs id ≡ some v) where
-  -- the rule after a change of one pin word
-  pub pin_moved : Onward z g (moved g b q owner programmer) id id → LawfulView z (moved g b q owner programmer) id w
-      → (is_nameable (g.pins b).phase ≡ true → (q.generation ≡ (g.pins b).generation) × (is_nameable q.phase ≡ true) × ((g.pins b).written ≤ q.written))
-      → LawfulBlock z (moved g b q owner programmer) (set vs id w) b
+pub pin_moves : (z : Numbers) (g : World) (id b : ℕ) (q : PinWord) (owner : ℕ) (programmer : ℕ → ℕ → ℕ → Option (Name × ℕ)) → PinOnward (g.pins b) q
+    → (g.owner b ≢ id → is_owned (g.pins b).phase ≡ true → (owner ≡ g.owner b) × (q.phase ≡ (g.pins b).phase) × (q.generation ≡ (g.pins b).generation) × (q.written ≡ (g.pins b).written))
+    → ((m : MapWord) → IsProgrammed (g.pins m.block) m → programmer m.block m.page m.generation ≡ g.programmer m.block m.page m.generation)
+    → Onward z g (moved g b q owner programmer) id id
+pin_moves z g id b q owner programmer on mine listed = pin_turns z g id b q owner programmer g.eraser on mine listed (λ c n _. refl)
+
+module _ (z : Numbers) (g : World) (vs : List View) (id : ℕ) (v w : View) (b : ℕ) (q : PinWord) (owner : ℕ) (programmer : ℕ → ℕ → ℕ → Option (Name × ℕ)) (eraser : ℕ → ℕ → Option (Name × ℕ)) (law : Lawful z g vs) (at : get_elem? vs id ≡ some v) where
+  -- the rule after a change of one pin word; a page of this block that a map word names stays where one may name it
+  pub pin_turned : Onward z g (turned g b q owner programmer eraser) id id → LawfulView z (turned g b q owner programmer eraser) id w
+      → ((s : ℕ) (m : MapWord) → s < z.sectors → g.map s ≡ Some m → m.block ≡ b → IsCurrent z g s m → (q.generation ≡ (g.pins b).generation) × (is_nameable q.phase ≡ true) × ((g.pins b).written ≤ q.written))
+      → LawfulBlock z (turned g b q owner programmer eraser) (set vs id w) b
       → ((c : ℕ) → c ≢ b → pins_on c w ≡ pins_on c v) → ((c : ℕ) → c ≢ b → (o : Owned) → owned_at c v.owns ≡ Some o → (o' : Owned) × (owned_at c w.owns ≡ Some o'))
-      → weight z w ≡ weight z v → Lawful z (moved g b q owner programmer) (set vs id w)
-  pin_moved on own nameable here counted keeps weighs =
-      let g' = moved g b q owner programmer in
+      → weight z w ≡ weight z v → Lawful z (turned g b q owner programmer eraser) (set vs id w)
+  pin_turned on own nameable here counted keeps weighs =
+      let g' = turned g b q owner programmer eraser in
       assembled z g g' vs id v w law at on own
-      (λ s low. sector_kept z g g' s (law.sectors s low) refl refl (λ c below named.
+      (λ s low. named_kept z g g' s (law.sectors s low) refl refl (λ m is current.
+      let c : ℕ = m.block in
       dite (ℕ_discrete c b)
       (λ same.
       let P : ℕ → Type 0 = λ j. (((put g.pins b q) j).generation ≡ (g.pins j).generation) × (is_nameable ((put g.pins b q) j).phase ≡ true) × ((g.pins j).written ≤ ((put g.pins b q) j).written)
       × ((p i : ℕ) → p < (g.pins j).written → g.pages j p i ≡ g.pages j p i) in
-      let n = nameable (ap (λ j. is_nameable (g.pins j).phase) (sym same) ∙ named) in
-      let is = sym (put_here g.pins b q) in
-      let there : P b = subst (λ (x : PinWord). (x.generation ≡ (g.pins b).generation) × (is_nameable x.phase ≡ true) × ((g.pins b).written ≤ x.written) × ((p i : ℕ) → p < (g.pins b).written → g.pages b p i ≡ g.pages b p i)) is (n.0, n.1, n.2, λ p i _. refl) in
+      let n = nameable s m low is same current in
+      let there : P b = subst (λ (x : PinWord). (x.generation ≡ (g.pins b).generation) × (is_nameable x.phase ≡ true) × ((g.pins b).written ≤ x.written) × ((p i : ℕ) → p < (g.pins b).written → g.pages b p i ≡ g.pages b p i))
+      (sym (put_here g.pins b q)) (n.0, n.1, n.2, λ p i _. refl) in
       subst P (sym same) there)
       (λ unlike.
       let e = put_else g.pins b q c unlike in
-      (ap (λ (p : PinWord). p.generation) e, ap (λ (p : PinWord). is_nameable p.phase) e ∙ named, (let w = ap (λ (p : PinWord). p.written) e in omega arith), λ p i _. refl))))
+      (ap (λ (p : PinWord). p.generation) e, ap (λ (p : PinWord). is_nameable p.phase) e ∙ current.phase, (let w = ap (λ (p : PinWord). p.written) e in omega arith), λ p i _. refl))))
       law.callers
       (λ c low. dite (ℕ_discrete c b)
       (λ same. subst (λ j. LawfulBlock z g' (set vs id w) j) (sym same) here)
       (λ unlike. block_kept z g g' vs id v w c at (law.blocks c low) (put_else g.pins b q c unlike) (put_else g.owner b owner c unlike) (λ p i. refl) (counted c unlike) (keeps c unlike)))
       law.strangers weighs law.dealt
+
+module _ (z : Numbers) (g : World) (vs : List View) (id : ℕ) (v w : View) (b : ℕ) (q : PinWord) (owner : ℕ) (programmer : ℕ → ℕ → ℕ → Option (Name × ℕ)) (law : Lawful z g vs) (at : get_elem? vs id ≡ some v) where
+  -- the same where the block stays nameable if it was
+  pub pin_moved : Onward z g (moved g b q owner programmer) id id → LawfulView z (moved g b q owner programmer) id w
+      → (is_nameable (g.pins b).phase ≡ true → (q.generation ≡ (g.pins b).generation) × (is_nameable q.phase ≡ true) × ((g.pins b).written ≤ q.written))
+      → LawfulBlock z (moved g b q owner programmer) (set vs id w) b
+      → ((c : ℕ) → c ≢ b → pins_on c w ≡ pins_on c v) → ((c : ℕ) → c ≢ b → (o : Owned) → owned_at c v.owns ≡ Some o → (o' : Owned) × (owned_at c w.owns ≡ Some o'))
+      → weight z w ≡ weight z v → Lawful z (moved g b q owner programmer) (set vs id w)
+  pin_moved on own nameable =
+      pin_turned z g vs id v w b q owner programmer g.eraser law at on own (λ s m low is same current. nameable (ap (λ j. is_nameable (g.pins j).phase) (sym same) ∙ current.phase))
 
   -- an owned block other than the one that changes
   pub moved_else : (doing doing' : Option Work) (cleared wiped c : ℕ) (o : Owned) → c ≢ b → ((p : ℕ) → o.written ≤ p → IsFilling doing c p → IsFilling doing' c p)

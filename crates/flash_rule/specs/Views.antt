@@ -28,6 +28,13 @@ is_pass Dealer = false
 is_pass Note = false
 is_pass Gone = false
 
+abbrev pub is_broom : Role → Bool
+is_broom (Player (Pass t)) = false
+is_broom (Player (Broom i)) = true
+is_broom Dealer = false
+is_broom Note = false
+is_broom Gone = false
+
 abbrev pub is_player : Role → Bool
 is_player (Player n) = true
 is_player Dealer = false
