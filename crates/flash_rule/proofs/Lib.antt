@@ -16,4 +16,7 @@ pub mod Splitting
 pub mod DealingBrooms
 pub mod Notes
 pub mod ReaderSteps
+pub mod Reclaiming
+pub mod ReclaimSteps
+pub mod EraseSteps
 pub mod Steps

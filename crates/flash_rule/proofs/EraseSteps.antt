@@ -1,0 +1,233 @@
+-- The eraser's steps on the pin word of its block: the wiped block gets free or is kept in its next generation, or it retires.
+use Rattle.std.proofs.Common.{◌≡◌, ◌≢◌, ℕ, ◌+◌, ◌*◌, ◌<◌, ◌≤◌, true, false, List, [], ◌∷◌, Some, set, sym, refl, ap, ◌∙◌, subst, arith}
+use mathlib.Core.Option.{some}
+use lib.ListN.{get_elem?}
+use Rattle.geometry.specs.Limits.{Numbers}
+use Rattle.geometry.specs.declared.pin_word.PinWord.{PinWord}
+use Rattle.geometry.specs.declared.pin_word.Phase.TheVariants.{Free, Open, Victim, Erasing, Retired}
+use Rattle.flash_rule.specs.declared.facts.Role.{Role}
+use Rattle.flash_rule.specs.declared.facts.Role.TheVariants.{Dealer, Player, Note, Gone}
+use Rattle.flash_rule.specs.declared.facts.Owned.{Owned}
+use Rattle.flash_rule.specs.declared.facts.Source.{Source}
+use Rattle.flash_rule.specs.declared.view.View.{View}
+use Rattle.flash_rule.specs.Views.{may_own, is_live_role, owned_at, without, with_owned}
+use Rattle.flash_rule.specs.World.{World, put, is_owned, is_intact, is_nameable, half_cycle, IsBlank}
+use Rattle.flash_rule.specs.Rule.{IsCurrent, LawfulOwned, LawfulSource, Lawful}
+use Rattle.flash_rule.specs.BroomPlays.{IsErasing, CanRenew}
+use Rattle.flash_rule.proofs.Points.{put_here}
+use Rattle.flash_rule.proofs.Places.{row_within}
+use Rattle.flash_rule.proofs.Owning.{some_same, none_some, with_here, with_else, without_else, one_with_open, one_without}
+use Rattle.flash_rule.proofs.PinSteps.{turned}
+use Rattle.flash_rule.proofs.Reclaiming.{turner, turns, entry_set, entry_gone}
+
+owner_live : (r : Role) → ¬ (may_own r ≡ false) → is_live_role r ≡ true
+owner_live (Player n) owns = refl
+owner_live Dealer owns = refl
+owner_live Note owns = absurd (owns refl)
+owner_live Gone owns = absurd (owns refl)
+
+module _ (z : Numbers) (g : World) (vs : List View) (id : ℕ) (v : View) (o : Owned) (law : Lawful z g vs) (at : get_elem? vs id ≡ some v) (erasing : IsErasing v o) where
+  entry : LawfulOwned z g id v.work v.cleared v.wiped o.block o
+  entry = (law.views id v at).holding.owned o.block o erasing.own
+
+  pub erasing_low : o.block < z.blocks
+  erasing_low = entry.low
+
+  pub is_erasing : (g.pins o.block).phase ≡ Erasing
+  is_erasing = entry.phase ∙ erasing.erasing
+
+  pub erasing_written : (g.pins o.block).written ≡ o.written
+  erasing_written = entry.written
+
+  -- the block of a source is another one
+  source_else : (x : Source) → LawfulSource z g v.owns v.cleared x → x.page.block ≢ o.block
+  source_else x k same =
+      let P : ℕ → Type 0 = λ c. owned_at c v.owns ≡ Some k.entry in
+      let e : o ≡ k.entry = some_same o k.entry (sym erasing.own ∙ subst P same k.own) in
+      let no : Erasing ≡ Victim = sym erasing.erasing ∙ (ap (λ (y : Owned). y.phase) e ∙ k.victim) in absurd (cc)
+
+  not_intact : is_intact (g.pins o.block).phase ≡ true → ⊥
+  not_intact is = let no : true ≡ false = sym is ∙ ap is_intact is_erasing in absurd (cc)
+
+  not_named : is_nameable (g.pins o.block).phase ≡ true → ⊥
+  not_named is = let no : true ≡ false = sym is ∙ ap is_nameable is_erasing in absurd (cc)
+
+  not_open : (g.pins o.block).phase ≡ Open → ⊥
+  not_open is = let no : Erasing ≡ Open = sym is_erasing ∙ is in absurd (cc)
+
+  none_owned : ¬ (v.owns ≡ [])
+  none_owned none = absurd (none_some o (sym (ap (λ l. owned_at o.block l) none) ∙ erasing.own))
+
+  -- who owns a block has the table's numbers
+  pub eraser_numbers : v.numbers ≡ z
+  eraser_numbers = let kind = (law.views id v at).kind in kind.numbers (owner_live v.role (λ is. none_owned (kind.owns_none is)))
+
+  -- ---- retire
+  abbrev pub retired_state : PinWord
+  retired_state = record (g.pins o.block) { phase = Retired }
+
+  abbrev pub forgoer : View
+  forgoer = record v { owns = without o.block v.owns }
+
+  abbrev pub retire_world : World
+  retire_world = turned g o.block retired_state id g.programmer g.eraser
+
+  -- a block that is being erased retires
+  pub retires : Lawful z retire_world (set vs id forgoer)
+  retires =
+      let b : ℕ = o.block in
+      let h = law.views id v at in
+      let block = law.blocks b entry.low in
+      turns z g vs id v b retired_state (without b v.owns) v.erases v.cleared v.wiped v.drains g.eraser law at entry.low
+      (record {
+        onward = record {
+          generation = omega arith;
+          age = (let e : half_cycle (g.pins b).phase ≡ 1 = ap half_cycle is_erasing in omega arith);
+          written = λ _. omega arith;
+          held = λ _ is. absurd (not_intact is);
+          was = λ _ is. absurd (cc);
+          free = λ _ is. absurd (cc);
+        };
+        alone = λ other _. other entry.owner;
+        shut = not_open;
+        eraser = λ c n _. refl;
+        readers = refl;
+        written = block.written;
+        generation = block.generation;
+        free = λ is. absurd (cc);
+        rest = λ is. absurd (cc);
+        owner = λ is. absurd (cc);
+        named = λ s m _ _ same current. absurd (not_named (ap (λ j. is_nameable (g.pins j).phase) (sym same) ∙ current.phase));
+        there = λ c unlike. without_else b c v.owns unlike;
+        here = λ e is. absurd (entry_gone b e v.owns is);
+        opens = λ _ e is. absurd (entry_gone b e v.owns is);
+        owns_none = λ is. ap (λ l. without b l) (h.kind.owns_none is);
+        reclaims = one_without b v.owns h.kind.reclaims;
+        idle = λ is. (h.kind.idle is).3;
+        erases = λ n _ old. old;
+        cleared = omega arith;
+        wiped = omega arith;
+        source = λ x _ k. (source_else x k, refl);
+      })
+
+  -- ---- the next generation
+  -- all words of a wiped block are ones
+  all_blank : CanRenew v o → (p : ℕ) → p < z.pages → IsBlank z (g.pages o.block p)
+  all_blank can p below i most =
+      let clean = can.clean in
+      let words : v.numbers.pages * (v.numbers.words + 1) ≡ z.pages * (z.words + 1) = ap (λ (y : Numbers). y.pages * (y.words + 1)) eraser_numbers in
+      let within = row_within p z.pages (z.words + 1) i below (omega arith) in
+      entry.clean erasing.erasing p i below most (omega arith)
+
+  young : CanRenew v o → (g.pins o.block).generation + 1 < z.endurance
+  young can =
+      let a = can.another in
+      let same : v.numbers.endurance ≡ z.endurance = ap (λ (y : Numbers). y.endurance) eraser_numbers in
+      let e = entry.generation in omega arith
+
+  -- ---- free
+  abbrev pub freed_state : PinWord
+  freed_state = record (g.pins o.block) { phase = Free; written = 0; generation = (g.pins o.block).generation + 1 }
+
+  abbrev pub free_world : World
+  free_world = turned g o.block freed_state id g.programmer g.eraser
+
+  -- a wiped block is free in its next generation
+  pub frees : CanRenew v o → Lawful z free_world (set vs id forgoer)
+  frees can =
+      let b : ℕ = o.block in
+      let h = law.views id v at in
+      turns z g vs id v b freed_state (without b v.owns) v.erases v.cleared v.wiped v.drains g.eraser law at entry.low
+      (record {
+        onward = record {
+          generation = omega arith;
+          age = (let e : half_cycle (g.pins b).phase ≡ 1 = ap half_cycle is_erasing in omega arith);
+          written = λ same. absurd (omega arith);
+          held = λ _ is. absurd (not_intact is);
+          was = λ same. absurd (omega arith);
+          free = λ same. absurd (omega arith);
+        };
+        alone = λ other _. other entry.owner;
+        shut = not_open;
+        eraser = λ c n _. refl;
+        readers = refl;
+        written = omega arith;
+        generation = young can;
+        free = λ _. refl;
+        rest = λ _ p _ below. all_blank can p below;
+        owner = λ is. absurd (cc);
+        named = λ s m _ _ same current. absurd (not_named (ap (λ j. is_nameable (g.pins j).phase) (sym same) ∙ current.phase));
+        there = λ c unlike. without_else b c v.owns unlike;
+        here = λ e is. absurd (entry_gone b e v.owns is);
+        opens = λ _ e is. absurd (entry_gone b e v.owns is);
+        owns_none = λ is. ap (λ l. without b l) (h.kind.owns_none is);
+        reclaims = one_without b v.owns h.kind.reclaims;
+        idle = λ is. (h.kind.idle is).3;
+        erases = λ n _ old. old;
+        cleared = omega arith;
+        wiped = omega arith;
+        source = λ x _ k. (source_else x k, refl);
+      })
+
+  -- ---- keep
+  abbrev pub kept_block : Owned
+  kept_block = record { block = o.block; phase = Open; generation = o.generation + 1; written = 0 }
+
+  abbrev pub kept_state : PinWord
+  kept_state = record (g.pins o.block) { phase = Open; written = 0; generation = (g.pins o.block).generation + 1 }
+
+  abbrev pub keeper : View
+  keeper = record v { owns = with_owned kept_block v.owns }
+
+  abbrev pub keep_world : World
+  keep_world = turned g o.block kept_state id g.programmer g.eraser
+
+  -- a wiped block is its eraser's, open in its next generation
+  pub keeps_block : CanRenew v o → Lawful z keep_world (set vs id keeper)
+  keeps_block can =
+      let b : ℕ = o.block in
+      let h = law.views id v at in
+      let here : put g.pins b kept_state b ≡ kept_state = put_here g.pins b kept_state in
+      let fresh : LawfulOwned z keep_world id v.work v.cleared v.wiped b kept_block = record {
+        block = refl;
+        low = entry.low;
+        owner = put_here g.owner b id;
+        owned = refl;
+        phase = ap (λ (p : PinWord). p.phase) here;
+        generation = ap (λ (p : PinWord). p.generation) here ∙ ap (λ k. k + 1) entry.generation;
+        written = ap (λ (p : PinWord). p.written) here;
+        rest = λ _ p _ below _. all_blank can p below;
+        dead = λ is. absurd (cc);
+        clean = λ is. absurd (cc);
+      } in
+      turns z g vs id v b kept_state (with_owned kept_block v.owns) v.erases v.cleared v.wiped v.drains g.eraser law at entry.low
+      (record {
+        onward = record {
+          generation = omega arith;
+          age = (let e : half_cycle (g.pins b).phase ≡ 1 = ap half_cycle is_erasing in omega arith);
+          written = λ same. absurd (omega arith);
+          held = λ _ is. absurd (not_intact is);
+          was = λ same. absurd (omega arith);
+          free = λ same. absurd (omega arith);
+        };
+        alone = λ other _. other entry.owner;
+        shut = not_open;
+        eraser = λ c n _. refl;
+        readers = refl;
+        written = omega arith;
+        generation = young can;
+        free = λ is. absurd (cc);
+        rest = λ is. absurd (cc);
+        owner = λ _. (kept_block, with_here kept_block v.owns);
+        named = λ s m _ _ same current. absurd (not_named (ap (λ j. is_nameable (g.pins j).phase) (sym same) ∙ current.phase));
+        there = λ c unlike. with_else kept_block c v.owns unlike;
+        here = λ e is. subst (λ (y : Owned). LawfulOwned z keep_world id v.work v.cleared v.wiped b y) (entry_set kept_block e v.owns is) fresh;
+        opens = λ _ e is. sym (ap (λ (y : Owned). y.phase) (entry_set kept_block e v.owns is));
+        owns_none = λ is. absurd (none_owned (h.kind.owns_none is));
+        reclaims = one_with_open kept_block v.owns refl h.kind.reclaims;
+        idle = λ is. (h.kind.idle is).3;
+        erases = λ n _ old. old;
+        cleared = omega arith;
+        wiped = omega arith;
+        source = λ x _ k. (source_else x k, refl);
+      })

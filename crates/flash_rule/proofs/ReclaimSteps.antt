@@ -1,0 +1,270 @@
+-- A broom's steps on the pin word of a block up to its erase: claim, drain, condemn.
+use Rattle.std.proofs.Common.{◌≡◌, ◌≢◌, ℕ, ◌+◌, ◌*◌, ◌<◌, ◌≤◌, ⊎_elim, true, false, List, [], ◌∷◌, ◌++◌, Option, Some, length, set, slice_get, sym, refl, ap, ◌∙◌, subst, arith}
+use mathlib.Core.Option.{some}
+use mathlib.Core.Logic.{dite}
+use native.Mathlib.Decide.{ℕ_discrete}
+use lib.ListN.{get_elem?}
+use Rattle.geometry.specs.Limits.{Numbers}
+use Rattle.geometry.specs.declared.pin_word.PinWord.{PinWord}
+use Rattle.geometry.specs.declared.pin_word.Phase.{Phase}
+use Rattle.geometry.specs.declared.pin_word.Phase.TheVariants.{Free, Open, Closed, Victim, Drained, Erasing}
+use Rattle.flash_rule.specs.declared.facts.Name.{Name}
+use Rattle.flash_rule.specs.declared.facts.Role.TheVariants.{Player}
+use Rattle.flash_rule.specs.declared.facts.Owned.{Owned}
+use Rattle.flash_rule.specs.declared.facts.Source.{Source}
+use Rattle.flash_rule.specs.declared.facts.Cycle.{Cycle}
+use Rattle.flash_rule.specs.declared.view.View.{View}
+use Rattle.flash_rule.specs.Views.{is_pass, is_broom, is_player, may_own, owned_at, without, with_owned}
+use Rattle.flash_rule.specs.World.{World, put, is_owned, is_intact, is_nameable, is_still, half_cycle, age_of}
+use Rattle.flash_rule.specs.Rule.{Erases, LawfulOwned, LawfulSource, Lawful}
+use Rattle.flash_rule.specs.BroomPlays.{owned_as, cycle_of, IsAtRest, CanDrain}
+use Rattle.flash_rule.proofs.Points.{put_here, put_else}
+use Rattle.flash_rule.proofs.Owning.{some_same, with_here, with_else, without_else, one_at_rest, one_without, get_last}
+use Rattle.flash_rule.proofs.PinSteps.{turned}
+use Rattle.flash_rule.proofs.Reclaiming.{IsTurn, turner, turns, broom_player, broom_no_pass, broom_may_own, entry_set, entry_gone}
+
+-- a function of two numbers with one value replaced
+pub put2 : {X : Type 0} → (ℕ → ℕ → X) → ℕ → ℕ → X → ℕ → ℕ → X
+put2 f a b x = put f a (put (f a) b x)
+
+pub put2_here : {X : Type 0} (f : ℕ → ℕ → X) (a b : ℕ) (x : X) → put2 f a b x a b ≡ x
+unfolding put2
+put2_here f a b x = ap (λ h. h b) (put_here f a (put (f a) b x)) ∙ put_here (f a) b x
+
+pub put2_else : {X : Type 0} (f : ℕ → ℕ → X) (a b : ℕ) (x : X) (i j : ℕ) → ¬ ((i ≡ a) × (j ≡ b)) → put2 f a b x i j ≡ f i j
+unfolding put2
+put2_else f a b x i j apart =
+    dite (ℕ_discrete i a)
+    (λ p.
+    let other : j ≢ b = λ q. apart (p, q) in
+    let e : put f a (put (f a) b x) a j ≡ f a j = ap (λ h. h j) (put_here f a (put (f a) b x)) ∙ put_else (f a) b x j other in
+    subst (λ k. put f a (put (f a) b x) k j ≡ f k j) (sym p) e)
+    (λ p. ap (λ h. h j) (put_else f a (put (f a) b x) i p))
+
+-- ---- what a seat at rest has
+module _ (z : Numbers) (g : World) (vs : List View) (id : ℕ) (v : View) (b : ℕ) (law : Lawful z g vs) (at : get_elem? vs id ≡ some v) (broom : is_broom v.role ≡ true) (low : b < z.blocks) (rested : IsAtRest v) where
+  -- no source
+  no_source : (x : Source) → v.source ≡ Some x → ⊥
+  no_source x is =
+      let k = (law.views id v at).holding.source x is in
+      let no : Open ≡ Victim = sym (rested x.page.block k.entry k.own) ∙ k.victim in absurd (cc)
+
+  not_pass : is_pass v.role ≡ true → ⊥
+  not_pass is = let no : true ≡ false = sym is ∙ broom_no_pass v.role broom in absurd (cc)
+
+  owns_some : may_own v.role ≡ false → ⊥
+  owns_some is = let no : true ≡ false = sym (broom_may_own v.role broom) ∙ is in absurd (cc)
+
+  -- ---- claim
+  abbrev pub claimed_block : Owned
+  claimed_block = owned_as b (g.pins b) Victim
+
+  abbrev pub claimed_state : PinWord
+  claimed_state = record (g.pins b) { phase = Victim }
+
+  abbrev pub claimer : View
+  claimer = record v { owns = with_owned claimed_block v.owns; cleared = 0 }
+
+  abbrev pub claim_world : World
+  claim_world = turned g b claimed_state id g.programmer g.eraser
+
+  -- a closed block is the broom's victim
+  pub claims : (g.pins b).phase ≡ Closed → Lawful z claim_world (set vs id claimer)
+  claims closed =
+      let block = law.blocks b low in
+      let q : PinWord = claimed_state in
+      let here : put g.pins b q b ≡ q = put_here g.pins b q in
+      let fresh : LawfulOwned z claim_world id v.work 0 v.wiped b claimed_block = record {
+        block = refl;
+        low = low;
+        owner = put_here g.owner b id;
+        owned = refl;
+        phase = ap (λ (p : PinWord). p.phase) here;
+        generation = ap (λ (p : PinWord). p.generation) here;
+        written = ap (λ (p : PinWord). p.written) here;
+        rest = λ is. absurd (cc);
+        dead = λ _ p s below. absurd (omega arith);
+        clean = λ is. absurd (cc);
+      } in
+      turns z g vs id v b q (with_owned claimed_block v.owns) v.erases 0 v.wiped v.drains g.eraser law at low
+      (record {
+        onward = record {
+          generation = omega arith;
+          age = (let e : half_cycle (g.pins b).phase ≡ 0 = ap half_cycle closed in omega arith);
+          written = λ _. omega arith;
+          held = λ _ _. (refl, refl);
+          was = λ _ _ _. ap is_intact closed;
+          free = λ _ is. absurd (cc);
+        };
+        alone = λ _ is. let no : true ≡ false = sym is ∙ ap is_owned closed in absurd (cc);
+        shut = λ is. let no : Closed ≡ Open = sym closed ∙ is in absurd (cc);
+        eraser = λ c n _. refl;
+        readers = refl;
+        written = block.written;
+        generation = block.generation;
+        free = λ is. absurd (cc);
+        rest = λ _. block.rest (ap is_still closed);
+        owner = λ _. (claimed_block, with_here claimed_block v.owns);
+        named = λ s m _ _ _ _. (refl, refl, omega arith);
+        there = λ c unlike. with_else claimed_block c v.owns unlike;
+        here = λ e is. subst (λ (y : Owned). LawfulOwned z claim_world id v.work 0 v.wiped b y) (entry_set claimed_block e v.owns is) fresh;
+        opens = λ is. absurd (not_pass is);
+        owns_none = λ is. absurd (owns_some is);
+        reclaims = one_at_rest claimed_block v.owns rested;
+        idle = λ is. ((law.views id v at).kind.idle is).3;
+        erases = λ n _ old. old;
+        cleared = omega arith;
+        wiped = omega arith;
+        source = λ x is _. absurd (no_source x is);
+      })
+
+  -- ---- condemn
+  abbrev pub condemned_block : Owned
+  condemned_block = owned_as b (g.pins b) Erasing
+
+  abbrev pub condemned_state : PinWord
+  condemned_state = record (g.pins b) { phase = Erasing }
+
+  abbrev pub condemner : View
+  condemner = record v { owns = with_owned condemned_block v.owns; erases = v.erases ++ cycle_of condemned_block ∷ []; wiped = 0 }
+
+  abbrev pub listed : Name → ℕ → ℕ → Option (Name × ℕ)
+  listed n = put2 g.eraser b (g.pins b).generation (Some (n, length v.erases))
+
+  abbrev pub condemn_world : Name → World
+  condemn_world n = turned g b condemned_state id g.programmer (listed n)
+
+  -- the erase is listed as this broom's
+  erase_listed : (n : Name) → v.role ≡ Player n → (n' : Name) → v.role ≡ Player n' → Erases z (condemn_world n) n' v.erases → Erases z (condemn_world n) n' (v.erases ++ cycle_of condemned_block ∷ [])
+  erase_listed n role n' role' old k c is =
+      ⊎_elim (λ (was : slice_get v.erases k ≡ Some c). old k c was)
+      (λ (new : (k ≡ length v.erases) × (cycle_of condemned_block ≡ c)).
+      let q : PinWord = condemned_state in
+      let here : put g.pins b q b ≡ q = put_here g.pins b q in
+      let generation : ℕ = (g.pins b).generation in
+      let same_name : n ≡ n' = player_same n n' (sym role ∙ role') in
+      let older : 2 * generation < age_of (put g.pins b q b) = subst (λ (p : PinWord). 2 * generation < age_of p) (sym here) (omega arith) in
+      let whose : listed n b generation ≡ Some (n', k) = put2_here g.eraser b generation (Some (n, length v.erases)) ∙ λ i. Some (same_name i, sym new.0 i) in
+      subst (λ (c : Cycle). (c.block < z.blocks) × (2 * c.generation < age_of (put g.pins b q c.block)) × (listed n c.block c.generation ≡ Some (n', k))) new.1 (low, older, whose))
+      (get_last v.erases (cycle_of condemned_block) c k is)
+    where
+      player_same : (n m : Name) → Player n ≡ Player m → n ≡ m
+      player_same n m e = cc
+
+  -- a drained block without readers is the broom's to erase
+  pub condemns : (n : Name) → v.role ≡ Player n → (g.pins b).phase ≡ Drained → (g.pins b).readers ≡ 0 → Lawful z (condemn_world n) (set vs id condemner)
+  condemns n role drained unread =
+      let block = law.blocks b low in
+      let q : PinWord = condemned_state in
+      let here : put g.pins b q b ≡ q = put_here g.pins b q in
+      let even : half_cycle (g.pins b).phase ≡ 0 = ap half_cycle drained in
+      let fresh : LawfulOwned z (condemn_world n) id v.work v.cleared 0 b condemned_block = record {
+        block = refl;
+        low = low;
+        owner = put_here g.owner b id;
+        owned = refl;
+        phase = ap (λ (p : PinWord). p.phase) here;
+        generation = ap (λ (p : PinWord). p.generation) here;
+        written = ap (λ (p : PinWord). p.written) here;
+        rest = λ is. absurd (cc);
+        dead = λ is. absurd (cc);
+        clean = λ _ p i _ _ below. absurd (omega arith);
+      } in
+      turns z g vs id v b q (with_owned condemned_block v.owns) (v.erases ++ cycle_of condemned_block ∷ []) v.cleared 0 v.drains (listed n) law at low
+      (record {
+        onward = record {
+          generation = omega arith;
+          age = omega arith;
+          written = λ _. omega arith;
+          held = λ some _. absurd (omega arith);
+          was = λ _ is. absurd (cc);
+          free = λ _ is. absurd (cc);
+        };
+        alone = λ _ is. let no : true ≡ false = sym is ∙ ap is_owned drained in absurd (cc);
+        shut = λ is. let no : Drained ≡ Open = sym drained ∙ is in absurd (cc);
+        eraser = λ c k older. put2_else g.eraser b (g.pins b).generation (Some (n, length v.erases)) c k (λ same.
+            let at_b : 2 * k < age_of (g.pins b) = subst (λ j. 2 * k < age_of (g.pins j)) same.0 older in
+            let e = same.1 in absurd (omega arith));
+        readers = refl;
+        written = block.written;
+        generation = block.generation;
+        free = λ is. absurd (cc);
+        rest = λ is. absurd (cc);
+        owner = λ _. (condemned_block, with_here condemned_block v.owns);
+        named = λ s m _ _ same current. let no : true ≡ false = sym (ap (λ j. is_nameable (g.pins j).phase) (sym same) ∙ current.phase) ∙ ap is_nameable drained in absurd (cc);
+        there = λ c unlike. with_else condemned_block c v.owns unlike;
+        here = λ e is. subst (λ (y : Owned). LawfulOwned z (condemn_world n) id v.work v.cleared 0 b y) (entry_set condemned_block e v.owns is) fresh;
+        opens = λ is. absurd (not_pass is);
+        owns_none = λ is. absurd (owns_some is);
+        reclaims = one_at_rest condemned_block v.owns rested;
+        idle = λ is. let no : true ≡ false = sym (broom_player v.role broom) ∙ is in absurd (cc);
+        erases = erase_listed n role;
+        cleared = omega arith;
+        wiped = omega arith;
+        source = λ x is _. absurd (no_source x is);
+      })
+
+-- ---- drain
+module _ (z : Numbers) (g : World) (vs : List View) (id : ℕ) (v : View) (o : Owned) (law : Lawful z g vs) (at : get_elem? vs id ≡ some v) where
+  abbrev pub drained_state : PinWord
+  drained_state = record (g.pins o.block) { phase = Drained }
+
+  abbrev pub drainer : View
+  drainer = record v { owns = without o.block v.owns; drains = v.drains ++ cycle_of o ∷ [] }
+
+  abbrev pub drain_world : World
+  drain_world = turned g o.block drained_state id g.programmer g.eraser
+
+  -- a victim whose written pages are all cleared is drained, and nobody's
+  pub drains_block : CanDrain v o → Lawful z drain_world (set vs id drainer)
+  drains_block can =
+      let b : ℕ = o.block in
+      let h = law.views id v at in
+      let mine = h.holding.owned b o can.own in
+      let block = law.blocks b mine.low in
+      let victim : (g.pins b).phase ≡ Victim = mine.phase ∙ can.victim in
+      let written_is = mine.written in
+      let cleared = can.cleared in
+      turns z g vs id v b drained_state (without b v.owns) v.erases v.cleared v.wiped (v.drains ++ cycle_of o ∷ []) g.eraser law at mine.low
+      (record {
+        onward = record {
+          generation = omega arith;
+          age = (let e : half_cycle (g.pins b).phase ≡ 0 = ap half_cycle victim in omega arith);
+          written = λ _. omega arith;
+          held = λ _ _. (refl, refl);
+          was = λ _ _ _. ap is_intact victim;
+          free = λ _ is. absurd (cc);
+        };
+        alone = λ other _. other mine.owner;
+        shut = λ is. let no : Victim ≡ Open = sym victim ∙ is in absurd (cc);
+        eraser = λ c n _. refl;
+        readers = refl;
+        written = block.written;
+        generation = block.generation;
+        free = λ is. absurd (cc);
+        rest = λ _. block.rest (ap is_still victim);
+        owner = λ is. absurd (cc);
+        -- no map word names a page of it
+        named = λ s m in_range is same current.
+            let page : m.page < (g.pins b).written = subst (λ j. m.page < (g.pins j).written) same current.written in
+            let generation : m.generation ≡ o.generation = sym current.same ∙ (ap (λ j. (g.pins j).generation) same ∙ mine.generation) in
+            absurd (mine.dead can.victim m.page s (omega arith) in_range (is ∙ λ i. Some (record { generation = generation i; block = same i; page = m.page })));
+        there = λ c unlike. without_else b c v.owns unlike;
+        here = λ e is. absurd (entry_gone b e v.owns is);
+        opens = λ _ e is. absurd (entry_gone b e v.owns is);
+        owns_none = λ is. ap (λ l. without b l) (h.kind.owns_none is);
+        reclaims = one_without b v.owns h.kind.reclaims;
+        idle = λ is. (h.kind.idle is).3;
+        erases = λ n _ old. old;
+        cleared = omega arith;
+        wiped = omega arith;
+        source = λ x is k. (
+          (λ same.
+              let P : ℕ → Type 0 = λ c. owned_at c v.owns ≡ Some k.entry in
+              let e : o ≡ k.entry = some_same o k.entry (sym can.own ∙ subst P same k.own) in
+              let w : o.written ≡ k.entry.written = ap (λ (y : Owned). y.written) e in
+              let p = k.page in
+              let r = k.written in absurd (omega arith)),
+          refl,
+        );
+      })

@@ -1,0 +1,191 @@
+-- A change of one pin word by which a seat gets a block to drain or erase, or is done with it: what the six steps have in common.
+use Rattle.std.proofs.Common.{◌≡◌, ◌≢◌, ℕ, ◌+◌, ◌*◌, ◌<◌, ◌≤◌, inl, true, false, List, [], ◌∷◌, Option, None, Some, set, sym, refl, ap, ◌∙◌, subst, arith}
+use mathlib.Core.Option.{some}
+use mathlib.Core.Logic.{dite}
+use native.Mathlib.Decide.{ℕ_discrete}
+use lib.ListN.{get_elem?}
+use Rattle.geometry.specs.Limits.{Numbers}
+use Rattle.geometry.specs.declared.map_word.MapWord.{MapWord}
+use Rattle.geometry.specs.declared.pin_word.PinWord.{PinWord}
+use Rattle.geometry.specs.declared.pin_word.Phase.TheVariants.{Free, Open}
+use Rattle.flash_rule.specs.declared.facts.Name.{Name}
+use Rattle.flash_rule.specs.declared.facts.Role.{Role}
+use Rattle.flash_rule.specs.declared.facts.Role.TheVariants.{Dealer, Player, Note, Gone}
+use Rattle.flash_rule.specs.declared.facts.Name.TheVariants.{Pass, Broom}
+use Rattle.flash_rule.specs.declared.facts.Owned.{Owned}
+use Rattle.flash_rule.specs.declared.facts.Work.{Work}
+use Rattle.flash_rule.specs.declared.facts.Source.{Source}
+use Rattle.flash_rule.specs.declared.facts.Cycle.{Cycle}
+use Rattle.flash_rule.specs.declared.view.View.{View}
+use Rattle.flash_rule.specs.Views.{is_pass, is_broom, is_player, may_own, pins_on, owned_at, without, with_owned}
+use Rattle.flash_rule.specs.World.{World, put, is_owned, is_nameable, is_still, age_of, IsBlank}
+use Rattle.flash_rule.specs.Rule.{IsCurrent, Erases, ReclaimsOne, LawfulOwned, LawfulSource, LawfulView, Lawful}
+use Rattle.flash_rule.specs.Onward.{PinOnward, Onward}
+use Rattle.flash_rule.proofs.Points.{put_here, put_else, total_set}
+use Rattle.flash_rule.proofs.Owning.{some_same, none_some, with_here, without_here, owned_else}
+use Rattle.flash_rule.proofs.Frames.{counted, knowledge_kept}
+use Rattle.flash_rule.proofs.Still.{still}
+use Rattle.flash_rule.proofs.PinSteps.{turned, pin_turns, pin_turned, seat_set}
+
+-- ---- a broom's role
+pub broom_player : (r : Role) → is_broom r ≡ true → is_player r ≡ true
+broom_player (Player (Pass t)) is = absurd (cc)
+broom_player (Player (Broom i)) is = refl
+broom_player Dealer is = absurd (cc)
+broom_player Note is = absurd (cc)
+broom_player Gone is = absurd (cc)
+
+pub broom_no_pass : (r : Role) → is_broom r ≡ true → is_pass r ≡ false
+broom_no_pass (Player (Pass t)) is = absurd (cc)
+broom_no_pass (Player (Broom i)) is = refl
+broom_no_pass Dealer is = absurd (cc)
+broom_no_pass Note is = absurd (cc)
+broom_no_pass Gone is = absurd (cc)
+
+pub broom_may_own : (r : Role) → is_broom r ≡ true → may_own r ≡ true
+broom_may_own (Player (Pass t)) is = absurd (cc)
+broom_may_own (Player (Broom i)) is = refl
+broom_may_own Dealer is = absurd (cc)
+broom_may_own Note is = absurd (cc)
+broom_may_own Gone is = absurd (cc)
+
+-- ---- the entry of a block that was set or given up
+pub entry_set : (o e : Owned) (owns : List Owned) → owned_at o.block (with_owned o owns) ≡ Some e → o ≡ e
+entry_set o e owns is = some_same o e (sym (with_here o owns) ∙ is)
+
+pub entry_gone : (b : ℕ) (e : Owned) (owns : List Owned) → ¬ (owned_at b (without b owns) ≡ Some e)
+entry_gone b e owns is = absurd (none_some e (sym (without_here b owns) ∙ is))
+
+module _ (z : Numbers) (g : World) (vs : List View) (id : ℕ) (v : View) (law : Lawful z g vs) (at : get_elem? vs id ≡ some v) where
+  -- a broom's state step, and an exchange of a pin word that found another word, change no word and only these lists
+  pub notes : (loaded : List (ℕ × ℕ)) (lost busy stale : List ℕ) → Lawful z g (set vs id (record v { loaded = loaded; lost = lost; busy = busy; stale = stale }))
+  notes loaded lost busy stale =
+      let h = law.views id v at in
+      let kind = h.kind in
+      let knows = h.knowledge in
+      let holds = h.holding in
+      still z g vs id v (record v { loaded = loaded; lost = lost; busy = busy; stale = stale }) law at
+      (record {
+        kind = record { numbers = kind.numbers; known = kind.known; opens = kind.opens; unpinned = kind.unpinned; idle = kind.idle; owns_none = kind.owns_none; reclaims = kind.reclaims };
+        knowledge = record { seen = knows.seen; pin = knows.pin; known = knows.known; programs = knows.programs; erases = knows.erases; copy = knows.copy };
+        holding = record { name = holds.name; calls = holds.calls; owned = holds.owned; work = holds.work; source = holds.source; whole = holds.whole; guest = holds.guest; dealer = holds.dealer };
+      })
+      (λ c. refl) refl refl
+
+-- The state q of the block b, and what its seat has then, fit together: the new state is onward of the old one, which is nobody else's and
+-- not open; what a map word names of the block it may still name; other blocks of the seat stay; and no more is cleared or wiped than was
+pub record IsTurn (z : Numbers) (g : World) (id : ℕ) (v : View) (b : ℕ) (q : PinWord) (owns' : List Owned) (erases' : List Cycle) (cleared' wiped' : ℕ) (eraser' : ℕ → ℕ → Option (Name × ℕ)) : Type 0 where
+  pub onward : PinOnward (g.pins b) q
+  pub alone : g.owner b ≢ id → ¬ (is_owned (g.pins b).phase ≡ true)
+  pub shut : ¬ ((g.pins b).phase ≡ Open)
+  pub eraser : (c n : ℕ) → 2 * n < age_of (g.pins c) → eraser' c n ≡ g.eraser c n
+  pub readers : q.readers ≡ (g.pins b).readers
+  pub written : q.written ≤ z.pages
+  pub generation : q.generation < z.endurance
+  pub free : q.phase ≡ Free → q.written ≡ 0
+  pub rest : is_still q.phase ≡ true → (p : ℕ) → q.written ≤ p → p < z.pages → IsBlank z (g.pages b p)
+  pub owner : is_owned q.phase ≡ true → (e : Owned) × (owned_at b owns' ≡ Some e)
+  pub named : (s : ℕ) (m : MapWord) → s < z.sectors → g.map s ≡ Some m → m.block ≡ b → IsCurrent z g s m → (q.generation ≡ (g.pins b).generation) × (is_nameable q.phase ≡ true) × ((g.pins b).written ≤ q.written)
+  pub there : (c : ℕ) → c ≢ b → owned_at c owns' ≡ owned_at c v.owns
+  pub here : (e : Owned) → owned_at b owns' ≡ Some e → LawfulOwned z (turned g b q id g.programmer eraser') id v.work cleared' wiped' b e
+  pub opens : is_pass v.role ≡ true → (e : Owned) → owned_at b owns' ≡ Some e → e.phase ≡ Open
+  pub owns_none : may_own v.role ≡ false → owns' ≡ []
+  pub reclaims : ReclaimsOne owns'
+  pub idle : is_player v.role ≡ false → erases' ≡ []
+  pub erases : (n : Name) → v.role ≡ Player n → Erases z (turned g b q id g.programmer eraser') n v.erases → Erases z (turned g b q id g.programmer eraser') n erases'
+  pub cleared : cleared' ≤ v.cleared
+  pub wiped : wiped' ≤ v.wiped
+  pub source : (x : Source) → v.source ≡ Some x → LawfulSource z g v.owns v.cleared x → (x.page.block ≢ b) × (cleared' ≡ v.cleared)
+
+module _ (z : Numbers) (g : World) (vs : List View) (id : ℕ) (v : View) (b : ℕ) (q : PinWord) (owns : List Owned) (erases : List Cycle) (cleared wiped : ℕ) (drains : List Cycle) (eraser : ℕ → ℕ → Option (Name × ℕ)) (law : Lawful z g vs) (at : get_elem? vs id ≡ some v) (low : b < z.blocks) where
+  abbrev pub turner : View
+  turner = record v { owns = owns; erases = erases; cleared = cleared; wiped = wiped; drains = drains }
+
+  -- the rule after such a change
+  pub turns : IsTurn z g id v b q owns erases cleared wiped eraser → Lawful z (turned g b q id g.programmer eraser) (set vs id turner)
+  turns t =
+      let h = law.views id v at in
+      let kind = h.kind in
+      let holds = h.holding in
+      let block = law.blocks b low in
+      let g' : World = turned g b q id g.programmer eraser in
+      let here : put g.pins b q b ≡ q = put_here g.pins b q in
+      let on : Onward z g g' id id = pin_turns z g id b q id g.programmer eraser t.onward (λ other is. absurd (t.alone other is)) (λ m _. refl) t.eraser in
+      let knows = knowledge_kept z g g' id id on v (λ c is below. counted vs law id v at c is below) h.knowledge in
+      let elsewhere : (c : ℕ) (e : Owned) → c ≢ b → LawfulOwned z g id v.work v.cleared v.wiped c e → LawfulOwned z g' id v.work cleared wiped c e = λ c e unlike k.
+      let fewer = t.cleared in
+      let less = t.wiped in
+      owned_else z g g' id v.work v.work cleared wiped c e (put_else g.pins b q c unlike) (put_else g.owner b id c unlike) (λ p i. refl) (λ s m is _. inl is) (λ p _ f. f)
+      (record {
+        block = k.block;
+        low = k.low;
+        owner = k.owner;
+        owned = k.owned;
+        phase = k.phase;
+        generation = k.generation;
+        written = k.written;
+        rest = k.rest;
+        dead = λ victim p s below. k.dead victim p s (omega arith);
+        clean = λ erasing p i below most under. k.clean erasing p i below most (omega arith);
+      }) in
+      let own : LawfulView z g' id turner = record {
+        kind = record {
+          numbers = kind.numbers;
+          known = kind.known;
+          opens = λ is c e has. dite (ℕ_discrete c b) (λ same. t.opens is e (ap (λ j. owned_at j owns) (sym same) ∙ has)) (λ unlike. kind.opens is c e (sym (t.there c unlike) ∙ has));
+          unpinned = kind.unpinned;
+          idle = λ is. let i = kind.idle is in (i.0, i.1, i.2, t.idle is);
+          owns_none = t.owns_none;
+          reclaims = t.reclaims;
+        };
+        knowledge = record { seen = knows.seen; pin = knows.pin; known = knows.known; programs = knows.programs; erases = λ n is. t.erases n is (knows.erases n is); copy = knows.copy };
+        holding = record {
+          name = holds.name;
+          calls = holds.calls;
+          owned = λ c e has. dite (ℕ_discrete c b)
+              (λ same. subst (λ j. LawfulOwned z g' id v.work cleared wiped j e) (sym same) (t.here e (ap (λ j. owned_at j owns) (sym same) ∙ has)))
+              (λ unlike. elsewhere c e unlike (holds.owned c e (sym (t.there c unlike) ∙ has)));
+          work = λ x is.
+              let k = holds.work x is in
+              let unlike : x.page.block ≢ b = λ same. t.shut (ap (λ j. (g.pins j).phase) (sym same) ∙ ((holds.owned x.page.block k.entry k.own).phase ∙ k.opened)) in
+              record {
+                entry = k.entry;
+                own = t.there x.page.block unlike ∙ k.own;
+                opened = k.opened;
+                generation = k.generation;
+                page = k.page;
+                counted = k.counted;
+                short = k.short;
+                full = k.full;
+                stands = k.stands;
+              };
+          source = λ x is.
+              let k = holds.source x is in
+              let s = t.source x is k in
+              record {
+                entry = k.entry;
+                own = t.there x.page.block s.0 ∙ k.own;
+                victim = k.victim;
+                generation = k.generation;
+                page = k.page ∙ sym s.1;
+                written = k.written;
+                stamp = k.stamp;
+                value = k.value;
+              };
+          whole = holds.whole;
+          guest = holds.guest;
+          dealer = holds.dealer;
+        };
+      } in
+      pin_turned z g vs id v turner b q id g.programmer eraser law at on own t.named
+      (record {
+        readers = (let e : (put g.pins b q b).readers ≡ q.readers = ap (λ (p : PinWord). p.readers) here in let r = block.readers in let u = t.readers in let s = total_set (pins_on b) vs id v turner at in omega arith);
+        written = (let e : (put g.pins b q b).written ≡ q.written = ap (λ (p : PinWord). p.written) here in let r = t.written in omega arith);
+        generation = (let e : (put g.pins b q b).generation ≡ q.generation = ap (λ (p : PinWord). p.generation) here in let r = t.generation in omega arith);
+        free = λ is. ap (λ (p : PinWord). p.written) here ∙ t.free (sym (ap (λ (p : PinWord). p.phase) here) ∙ is);
+        rest = λ is p from below. t.rest (sym (ap (λ (p : PinWord). is_still p.phase) here) ∙ is) p (subst (λ (x : PinWord). x.written ≤ p) here from) below;
+        owner = λ is.
+            let e = t.owner (sym (ap (λ (p : PinWord). is_owned p.phase) here) ∙ is) in
+            (turner, e.0, ap (λ j. get_elem? (set vs id turner) j) (put_here g.owner b id) ∙ seat_set vs id v turner at, e.1);
+      })
+      (λ c _. refl) (λ c unlike e is. (e, t.there c unlike ∙ is)) refl
