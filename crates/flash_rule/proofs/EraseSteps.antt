@@ -5,26 +5,18 @@ use lib.ListN.{get_elem?}
 use Rattle.geometry.specs.Limits.{Numbers}
 use Rattle.geometry.specs.declared.pin_word.PinWord.{PinWord}
 use Rattle.geometry.specs.declared.pin_word.Phase.TheVariants.{Free, Open, Victim, Erasing, Retired}
-use Rattle.flash_rule.specs.declared.facts.Role.{Role}
-use Rattle.flash_rule.specs.declared.facts.Role.TheVariants.{Dealer, Player, Note, Gone}
 use Rattle.flash_rule.specs.declared.facts.Owned.{Owned}
 use Rattle.flash_rule.specs.declared.facts.Source.{Source}
 use Rattle.flash_rule.specs.declared.view.View.{View}
-use Rattle.flash_rule.specs.Views.{may_own, is_live_role, owned_at, without, with_owned}
+use Rattle.flash_rule.specs.Views.{owned_at, without, with_owned}
 use Rattle.flash_rule.specs.World.{World, put, is_owned, is_intact, is_nameable, half_cycle, IsBlank}
 use Rattle.flash_rule.specs.Rule.{IsCurrent, LawfulOwned, LawfulSource, Lawful}
 use Rattle.flash_rule.specs.BroomPlays.{IsErasing, CanRenew}
 use Rattle.flash_rule.proofs.Points.{put_here}
 use Rattle.flash_rule.proofs.Places.{row_within}
-use Rattle.flash_rule.proofs.Owning.{some_same, none_some, with_here, with_else, without_else, one_with_open, one_without}
+use Rattle.flash_rule.proofs.Owning.{some_same, with_here, with_else, without_else, one_with_open, one_without}
 use Rattle.flash_rule.proofs.PinSteps.{turned}
-use Rattle.flash_rule.proofs.Reclaiming.{turner, turns, entry_set, entry_gone}
-
-owner_live : (r : Role) → ¬ (may_own r ≡ false) → is_live_role r ≡ true
-owner_live (Player n) owns = refl
-owner_live Dealer owns = refl
-owner_live Note owns = absurd (owns refl)
-owner_live Gone owns = absurd (owns refl)
+use Rattle.flash_rule.proofs.Reclaiming.{turner, turns, entry_set, entry_gone, owner_numbers, owns_none_else}
 
 module _ (z : Numbers) (g : World) (vs : List View) (id : ℕ) (v : View) (o : Owned) (law : Lawful z g vs) (at : get_elem? vs id ≡ some v) (erasing : IsErasing v o) where
   entry : LawfulOwned z g id v.work v.cleared v.wiped o.block o
@@ -55,12 +47,8 @@ module _ (z : Numbers) (g : World) (vs : List View) (id : ℕ) (v : View) (o : O
   not_open : (g.pins o.block).phase ≡ Open → ⊥
   not_open is = let no : Erasing ≡ Open = sym is_erasing ∙ is in absurd (cc)
 
-  none_owned : ¬ (v.owns ≡ [])
-  none_owned none = absurd (none_some o (sym (ap (λ l. owned_at o.block l) none) ∙ erasing.own))
-
-  -- who owns a block has the table's numbers
   pub eraser_numbers : v.numbers ≡ z
-  eraser_numbers = let kind = (law.views id v at).kind in kind.numbers (owner_live v.role (λ is. none_owned (kind.owns_none is)))
+  eraser_numbers = owner_numbers z v o (law.views id v at).kind erasing.own
 
   -- ---- retire
   abbrev pub retired_state : PinWord
@@ -223,7 +211,7 @@ module _ (z : Numbers) (g : World) (vs : List View) (id : ℕ) (v : View) (o : O
         there = λ c unlike. with_else kept_block c v.owns unlike;
         here = λ e is. subst (λ (y : Owned). LawfulOwned z keep_world id v.work v.cleared v.wiped b y) (entry_set kept_block e v.owns is) fresh;
         opens = λ _ e is. sym (ap (λ (y : Owned). y.phase) (entry_set kept_block e v.owns is));
-        owns_none = λ is. absurd (none_owned (h.kind.owns_none is));
+        owns_none = λ is. absurd (owns_none_else v o erasing.own (h.kind.owns_none is));
         reclaims = one_with_open kept_block v.owns refl h.kind.reclaims;
         idle = λ is. (h.kind.idle is).3;
         erases = λ n _ old. old;

@@ -19,4 +19,5 @@ pub mod ReaderSteps
 pub mod Reclaiming
 pub mod ReclaimSteps
 pub mod EraseSteps
+pub mod ReclaimAllowed
 pub mod Steps

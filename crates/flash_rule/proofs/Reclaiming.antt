@@ -17,9 +17,9 @@ use Rattle.flash_rule.specs.declared.facts.Work.{Work}
 use Rattle.flash_rule.specs.declared.facts.Source.{Source}
 use Rattle.flash_rule.specs.declared.facts.Cycle.{Cycle}
 use Rattle.flash_rule.specs.declared.view.View.{View}
-use Rattle.flash_rule.specs.Views.{is_pass, is_broom, is_player, may_own, pins_on, owned_at, without, with_owned}
+use Rattle.flash_rule.specs.Views.{is_pass, is_broom, is_player, is_live_role, may_own, pins_on, owned_at, without, with_owned}
 use Rattle.flash_rule.specs.World.{World, put, is_owned, is_nameable, is_still, age_of, IsBlank}
-use Rattle.flash_rule.specs.Rule.{IsCurrent, Erases, ReclaimsOne, LawfulOwned, LawfulSource, LawfulView, Lawful}
+use Rattle.flash_rule.specs.Rule.{IsCurrent, Erases, ReclaimsOne, LawfulOwned, LawfulSource, LawfulKind, LawfulView, Lawful}
 use Rattle.flash_rule.specs.Onward.{PinOnward, Onward}
 use Rattle.flash_rule.proofs.Points.{put_here, put_else, total_set}
 use Rattle.flash_rule.proofs.Owning.{some_same, none_some, with_here, without_here, owned_else}
@@ -35,6 +35,12 @@ broom_player Dealer is = absurd (cc)
 broom_player Note is = absurd (cc)
 broom_player Gone is = absurd (cc)
 
+pub broom_live : (r : Role) → is_broom r ≡ true → is_live_role r ≡ true
+broom_live (Player n) is = refl
+broom_live Dealer is = absurd (cc)
+broom_live Note is = absurd (cc)
+broom_live Gone is = absurd (cc)
+
 pub broom_no_pass : (r : Role) → is_broom r ≡ true → is_pass r ≡ false
 broom_no_pass (Player (Pass t)) is = absurd (cc)
 broom_no_pass (Player (Broom i)) is = refl
@@ -48,6 +54,19 @@ broom_may_own (Player (Broom i)) is = refl
 broom_may_own Dealer is = absurd (cc)
 broom_may_own Note is = absurd (cc)
 broom_may_own Gone is = absurd (cc)
+
+-- ---- who owns a block has the table's numbers
+pub owns_none_else : (v : View) (o : Owned) → owned_at o.block v.owns ≡ Some o → ¬ (v.owns ≡ [])
+owns_none_else v o own none = absurd (none_some o (sym (ap (λ l. owned_at o.block l) none) ∙ own))
+
+owner_live : (r : Role) → ¬ (may_own r ≡ false) → is_live_role r ≡ true
+owner_live (Player n) owns = refl
+owner_live Dealer owns = refl
+owner_live Note owns = absurd (owns refl)
+owner_live Gone owns = absurd (owns refl)
+
+pub owner_numbers : (z : Numbers) (v : View) (o : Owned) → LawfulKind z v → owned_at o.block v.owns ≡ Some o → v.numbers ≡ z
+owner_numbers z v o kind own = kind.numbers (owner_live v.role (λ is. owns_none_else v o own (kind.owns_none is)))
 
 -- ---- the entry of a block that was set or given up
 pub entry_set : (o e : Owned) (owns : List Owned) → owned_at o.block (with_owned o owns) ≡ Some e → o ≡ e

@@ -4,6 +4,7 @@
 mod carried;
 mod facts;
 mod plays;
+mod reclaim_plays;
 mod rule;
 mod view;
 
@@ -12,6 +13,9 @@ pub use facts::{Cycle, Name, Owned, Pin, Role, Source, Work};
 pub use plays::{
     AddReader, Close, ComeHome, Count, DealBroom, DealPass, GetWord, GiveBack, Lend, Look,
     PlaceTrim, PlaceWrite, PutWord, Take, TakeIn, TakeReader,
+};
+pub use reclaim_plays::{
+    Claim, Condemn, Drain, FreeBlock, KeepBlock, LoadState, RetireBlock,
 };
 pub use rule::WithoutErasing;
 pub use view::View;

@@ -4,7 +4,7 @@ use Rattle.std.specs.Prelude.{if◌then◌else◌}
 use Rattle.std.specs.Int.Bits.{bit_or, or_block, or_zero_r}
 use Rattle.geometry.specs.MapWords.{FitsMap, map_word}
 use Rattle.geometry.specs.declared.map_word.MapWord.{MapWord}
-use Rattle.geometry.specs.PinWords.{FitsPin, phase_bits, pin_word}
+use Rattle.geometry.specs.PinWords.{FitsPin, phase_bits, pin_word, freed_added, kept_added}
 use Rattle.geometry.specs.declared.pin_word.PinWord.{PinWord}
 use Rattle.geometry.specs.declared.pin_word.Phase.{Phase}
 use Rattle.geometry.specs.declared.pin_word.Phase.TheVariants.{Free, Open, Closed, Victim, Drained, Erasing, Retired}
@@ -83,6 +83,14 @@ counts p = omega arith
 
 pub reads : (p : PinWord) → pin_word p + 1 ≡ pin_word (record p { readers = p.readers + 1 })
 reads p = omega arith
+
+-- an erased block gets free in its next generation
+pub frees : (p : PinWord) → FitsPin p → p.phase ≡ Erasing → pin_word p + freed_added p.written ≡ pin_word (record p { phase = Free; written = 0; generation = p.generation + 1 })
+frees p fits is = let e : phase_bits p.phase ≡ phase_bits Erasing = ap phase_bits is in let w = fits.written in omega arith
+
+-- or stays open in it
+pub keeps : (p : PinWord) → FitsPin p → p.phase ≡ Erasing → pin_word p + kept_added p.written ≡ pin_word (record p { phase = Open; written = 0; generation = p.generation + 1 })
+keeps p fits is = let e : phase_bits p.phase ≡ phase_bits Erasing = ap phase_bits is in let w = fits.written in omega arith
 
 -- setting the lowest bit
 or_one_even : (a : ℕ) → bit_or (a * 2) 1 ≡ a * 2 + 1

@@ -1,0 +1,304 @@
+-- Each step of a broom on a pin word, as the table asks for it: whatever the table is, the step keeps the rule and tells what it says.
+use Rattle.std.proofs.Common.{◌≡◌, ◌≢◌, ℕ, ◌+◌, ◌%◌, ◌^◌, ◌<◌, ◌≤◌, ◌⊎◌, inl, inr, ⊎_elim, ◌==◌, eq-eqb, ne_eqb, true, false, List, [], ◌∷◌, ◌++◌, Option, Some, set, sym, refl, ap, ◌∙◌, subst, arith}
+use Rattle.std.proofs.Math.ListN.{get_or}
+use prog.Atomic.{either}
+use mathlib.Core.Option.{some, none}
+use mathlib.Core.Logic.{dite}
+use native.Mathlib.Decide.{ℕ_discrete}
+use lib.ListN.{get_elem?}
+use Rattle.atomic_table.specs.Table.{Act, Valid, step, keeps, stepped, carried_after, Allows}
+use Rattle.geometry.specs.Limits.{Numbers}
+use Rattle.geometry.specs.PinWords.{pin_word, FitsPin, freed_added, kept_added}
+use Rattle.geometry.specs.TableOrder.{pin_index}
+use Rattle.geometry.specs.declared.pin_word.PinWord.{PinWord}
+use Rattle.geometry.specs.declared.pin_word.Phase.{Phase}
+use Rattle.geometry.specs.declared.pin_word.Phase.TheVariants.{Free, Open, Closed, Victim, Drained, Erasing, Retired}
+use Rattle.geometry.specs.declared.pin_word.TheConstants.{NEXT_PHASE}
+use Rattle.geometry.proofs.PinBits as bits
+use Rattle.flash_rule.specs.declared.facts.Name.{Name}
+use Rattle.flash_rule.specs.declared.facts.Role.{Role}
+use Rattle.flash_rule.specs.declared.facts.Role.TheVariants.{Dealer, Player, Note, Gone}
+use Rattle.flash_rule.specs.declared.facts.Owned.{Owned}
+use Rattle.flash_rule.specs.declared.view.View.{View}
+use Rattle.flash_rule.specs.Views.{is_broom, owned_at, without, with_owned}
+use Rattle.flash_rule.specs.World.{World, Fits}
+use Rattle.flash_rule.specs.Rule.{Lawful}
+use Rattle.flash_rule.specs.Seats.{Ruled, Whole}
+use Rattle.flash_rule.specs.Plays.{Sitter}
+use Rattle.flash_rule.specs.BroomPlays.{Loaded, CanClaim, Claimed, CanCondemn, Condemned, CanDrain, IsErasing, CanRenew, owned_as, cycle_of, state_told, claim_told, condemn_told, drain_told, freed_told, kept_told, retired_told}
+use Rattle.flash_rule.proofs.Points.{put_here}
+use Rattle.flash_rule.proofs.Places.{fits_load, fits_pin, pin_within}
+use Rattle.flash_rule.proofs.Owning.{some_same}
+use Rattle.flash_rule.proofs.Assembly.{state_fits}
+use Rattle.flash_rule.proofs.Reclaiming.{notes, owner_numbers, broom_live}
+use Rattle.flash_rule.proofs.ReclaimSteps.{claims, claimed_state, claimer, claim_world, condemns, condemned_state, condemner, condemn_world, drains_block, drained_state, drainer, drain_world}
+use Rattle.flash_rule.proofs.EraseSteps.{retires, retired_state, forgoer, retire_world, frees, freed_state, free_world, keeps_block, kept_state, keeper, keep_world, erasing_low, erasing_written, is_erasing}
+
+drained_or_not : (f : Phase) → (f ≡ Drained) ⊎ (¬ (f ≡ Drained))
+drained_or_not Free = inr (λ e. absurd (cc))
+drained_or_not Open = inr (λ e. absurd (cc))
+drained_or_not Closed = inr (λ e. absurd (cc))
+drained_or_not Victim = inr (λ e. absurd (cc))
+drained_or_not Drained = inl refl
+drained_or_not Erasing = inr (λ e. absurd (cc))
+drained_or_not Retired = inr (λ e. absurd (cc))
+
+broom_name : (r : Role) → is_broom r ≡ true → (n : Name) × (r ≡ Player n)
+broom_name (Player n) is = (n, refl)
+broom_name Dealer is = absurd (cc)
+broom_name Note is = absurd (cc)
+broom_name Gone is = absurd (cc)
+
+-- what an exchange leaves
+exchanged : (n old new : ℕ) → n ≡ old → either (n == old) new n ≡ new
+exchanged n old new same = ap (λ t. either t new n) (eq-eqb n old same)
+
+left_alone : (n old new : ℕ) → n ≢ old → either (n == old) new n ≡ n
+left_alone n old new other = ap (λ t. either t new n) (ne_eqb n old other)
+
+module _ (z : Numbers) (slots id : ℕ) (me : Sitter) where
+  same_block : me.0.numbers ≡ z → (b c : ℕ) → pin_index z b ≡ pin_index me.0.numbers c → b ≡ c
+  same_block numbers b c is = let e : me.0.numbers.sectors ≡ z.sectors = ap (λ (y : Numbers). y.sectors) numbers in omega arith
+
+  same_owned : me.0.numbers ≡ z → (o e : Owned) → owned_at o.block me.0.owns ≡ Some o → owned_at e.block me.0.owns ≡ Some e → pin_index z o.block ≡ pin_index me.0.numbers e.block → o ≡ e
+  same_owned numbers o e here there is = some_same o e (sym here ∙ (ap (λ c. owned_at c me.0.owns) (same_block numbers o.block e.block is) ∙ there))
+
+  numbers_now : (g : World) (vs : List View) → Lawful z g vs → get_elem? vs id ≡ some me.0 → is_broom me.0.role ≡ true → me.0.numbers ≡ z
+  numbers_now g vs law at broom = (law.views id me.0 at).kind.numbers (broom_live me.0.role broom)
+
+  -- ---- state
+  -- a broom loads the state of a block
+  pub state_allowed : (b : ℕ) → is_broom me.0.role ≡ true → b < z.blocks → Allows (Ruled Whole z) slots id me (pin_index z b) (λ n. n) (state_told (step slots (pin_index z b) 0 0 none) me)
+  state_allowed b broom low t (g, fits, law, stage) _ at _ =
+      let v : View = me.0 in
+      let p : PinWord = g.pins b in
+      let k : ℕ = pin_index z b in
+      let n : ℕ = get_or t.words k 0 in
+      let found : n ≡ pin_word p = fits.blocks b low in
+      let fitting = state_fits z g t.views law b low in
+      let numbers = numbers_now g t.views law at broom in
+      let young : p.generation < v.numbers.endurance = let r = (law.blocks b low).generation in let e : v.numbers.endurance ≡ z.endurance = ap (λ (y : Numbers). y.endurance) numbers in omega arith in
+      let noted : List (ℕ × ℕ) = v.loaded ++ (b, n) ∷ [] in
+      let answer : (w : View) → Lawful z g (set t.views id w) → Loaded v b n w
+      → (w : View) × (a : Act (Unit {0})) × Valid t.homes me.1 a × Ruled Whole z (stepped t k n id me.1 w a) × state_told (step slots k 0 0 none) me n (w, carried_after me.1 a) = λ w lawful told. (
+        w,
+        keeps,
+        tt,
+        (g, fits_load z g.map g.pins g.pages t.words fits k (pin_within z b low), lawful, tt),
+        (refl, λ c _ is. subst (λ (j : ℕ). Loaded v j n w) (same_block numbers b c is) told),
+      ) in
+      ⊎_elim
+      (λ (drained : p.phase ≡ Drained). dite (ℕ_discrete p.readers 0)
+      (λ none. answer (record v { loaded = noted }) (notes z g t.views id v law at noted v.lost v.busy v.stale)
+      (record { state = p; fits = fitting; young = young; found = found; ready = λ _ _. refl; busy = λ _ some. absurd (omega arith); stale = λ not. absurd (not drained) }))
+      (λ some. answer (record v { loaded = noted; busy = v.busy ++ b ∷ [] }) (notes z g t.views id v law at noted v.lost (v.busy ++ b ∷ []) v.stale)
+      (record { state = p; fits = fitting; young = young; found = found; ready = λ _ none. absurd (some none); busy = λ _ _. refl; stale = λ not. absurd (not drained) })))
+      (λ (other : ¬ (p.phase ≡ Drained)). answer (record v { loaded = noted; stale = v.stale ++ b ∷ [] }) (notes z g t.views id v law at noted v.lost v.busy (v.stale ++ b ∷ []))
+      (record { state = p; fits = fitting; young = young; found = found; ready = λ drained _. absurd (other drained); busy = λ drained _. absurd (other drained); stale = λ _. refl }))
+      (drained_or_not p.phase)
+
+  -- ---- claim
+  -- a broom exchanges a closed block's word for a victim's
+  pub claim_allowed : (b : ℕ) (p : PinWord) → is_broom me.0.role ≡ true → CanClaim me.0 b p
+      → Allows (Ruled Whole z) slots id me (pin_index z b) (λ n. either (n == pin_word p) (pin_word p + NEXT_PHASE) n) (claim_told (step slots (pin_index z b) (pin_word p) (pin_word p + NEXT_PHASE) none) me)
+  claim_allowed b p broom can t (g, fits, law, stage) _ at _ =
+      let v : View = me.0 in
+      let k : ℕ = pin_index z b in
+      let n : ℕ = get_or t.words k 0 in
+      let old : ℕ = pin_word p in
+      let new : ℕ = pin_word p + NEXT_PHASE in
+      let numbers = numbers_now g t.views law at broom in
+      let low : b < z.blocks = let l = can.low in let e : v.numbers.blocks ≡ z.blocks = ap (λ (y : Numbers). y.blocks) numbers in omega arith in
+      let found : n ≡ pin_word (g.pins b) = fits.blocks b low in
+      let told : (w : View) → Claimed v b p n w → claim_told (step slots k old new none) me n (w, me.1) = λ w told. (
+        refl,
+        λ c q can' is first second.
+            let same : p ≡ q = bits.pin_same p q can.fits can'.fits first in subst (λ (x : ℕ × PinWord). Claimed v x.0 x.1 n w) (λ i. (same_block numbers b c is i, same i)) told,
+      ) in
+      dite (ℕ_discrete n old)
+      (λ (is : n ≡ old).
+      let same : g.pins b ≡ p = bits.pin_same (g.pins b) p (state_fits z g t.views law b low) can.fits (sym found ∙ is) in
+      let closed : (g.pins b).phase ≡ Closed = ap (λ (y : PinWord). y.phase) same ∙ can.closed in
+      let q : PinWord = claimed_state z g t.views id v b law at broom low can.rested in
+      let w : View = claimer z g t.views id v b law at broom low can.rested in
+      let after : World = claim_world z g t.views id v b law at broom low can.rested in
+      let now : either (n == old) new n ≡ pin_word q = exchanged n old new is ∙ (ap (λ (y : PinWord). pin_word y + NEXT_PHASE) (sym same) ∙ bits.next_phase (g.pins b) Closed Victim closed refl) in
+      let answer : (w : View) × (a : Act (Unit {0})) × Valid t.homes me.1 a × Ruled Whole z (stepped t k (either (n == old) new n) id me.1 w a) × claim_told (step slots k old new none) me n (w, carried_after me.1 a) = (
+        w,
+        keeps,
+        tt,
+        (after, subst (λ y. Fits z g.map after.pins g.pages (set t.words k y)) (sym now) (fits_pin z g.map g.pins g.pages t.words fits b q low), claims z g t.views id v b law at broom low can.rested closed, tt),
+        told w (record { won = λ _. ap (λ (y : PinWord). record v { owns = with_owned (owned_as b y Victim) v.owns; cleared = 0 }) same; lost = λ not. absurd (not is) }),
+      ) in answer)
+      (λ (other : n ≢ old).
+      let w : View = record v { lost = v.lost ++ b ∷ [] } in
+      let now : either (n == old) new n ≡ n = left_alone n old new other in
+      let answer : (w : View) × (a : Act (Unit {0})) × Valid t.homes me.1 a × Ruled Whole z (stepped t k (either (n == old) new n) id me.1 w a) × claim_told (step slots k old new none) me n (w, carried_after me.1 a) = (
+        w,
+        keeps,
+        tt,
+        (g, subst (λ y. Fits z g.map g.pins g.pages (set t.words k y)) (sym now) (fits_load z g.map g.pins g.pages t.words fits k (pin_within z b low)), notes z g t.views id v law at v.loaded (v.lost ++ b ∷ []) v.busy v.stale, tt),
+        told w (record { won = λ is. absurd (other is); lost = λ _. refl }),
+      ) in answer)
+
+  -- ---- condemn
+  -- a broom exchanges the word of a drained block without readers for an erasing one's
+  pub condemn_allowed : (b : ℕ) (p : PinWord) → is_broom me.0.role ≡ true → CanCondemn me.0 b p
+      → Allows (Ruled Whole z) slots id me (pin_index z b) (λ n. either (n == pin_word p) (pin_word p + NEXT_PHASE) n) (condemn_told (step slots (pin_index z b) (pin_word p) (pin_word p + NEXT_PHASE) none) me)
+  condemn_allowed b p broom can t (g, fits, law, stage) _ at _ =
+      let v : View = me.0 in
+      let k : ℕ = pin_index z b in
+      let n : ℕ = get_or t.words k 0 in
+      let old : ℕ = pin_word p in
+      let new : ℕ = pin_word p + NEXT_PHASE in
+      let numbers = numbers_now g t.views law at broom in
+      let low : b < z.blocks = let l = can.low in let e : v.numbers.blocks ≡ z.blocks = ap (λ (y : Numbers). y.blocks) numbers in omega arith in
+      let found : n ≡ pin_word (g.pins b) = fits.blocks b low in
+      let told : (w : View) → Condemned v b p n w → condemn_told (step slots k old new none) me n (w, me.1) = λ w told. (
+        refl,
+        λ c q can' is first second.
+            let same : p ≡ q = bits.pin_same p q can.fits can'.fits first in subst (λ (x : ℕ × PinWord). Condemned v x.0 x.1 n w) (λ i. (same_block numbers b c is i, same i)) told,
+      ) in
+      dite (ℕ_discrete n old)
+      (λ (is : n ≡ old).
+      let same : g.pins b ≡ p = bits.pin_same (g.pins b) p (state_fits z g t.views law b low) can.fits (sym found ∙ is) in
+      let drained : (g.pins b).phase ≡ Drained = ap (λ (y : PinWord). y.phase) same ∙ can.drained in
+      let unread : (g.pins b).readers ≡ 0 = ap (λ (y : PinWord). y.readers) same ∙ can.unread in
+      let name = broom_name v.role broom in
+      let q : PinWord = condemned_state z g t.views id v b law at broom low can.rested in
+      let w : View = condemner z g t.views id v b law at broom low can.rested in
+      let after : World = condemn_world z g t.views id v b law at broom low can.rested name.0 in
+      let now : either (n == old) new n ≡ pin_word q = exchanged n old new is ∙ (ap (λ (y : PinWord). pin_word y + NEXT_PHASE) (sym same) ∙ bits.next_phase (g.pins b) Drained Erasing drained refl) in
+      let answer : (w : View) × (a : Act (Unit {0})) × Valid t.homes me.1 a × Ruled Whole z (stepped t k (either (n == old) new n) id me.1 w a) × condemn_told (step slots k old new none) me n (w, carried_after me.1 a) = (
+        w,
+        keeps,
+        tt,
+        (
+          after,
+          subst (λ y. Fits z g.map after.pins g.pages (set t.words k y)) (sym now) (fits_pin z g.map g.pins g.pages t.words fits b q low),
+          condemns z g t.views id v b law at broom low can.rested name.0 name.1 drained unread,
+          tt,
+        ),
+        told w
+            (record {
+              won = λ _. ap (λ (y : PinWord). record v { owns = with_owned (owned_as b y Erasing) v.owns; erases = v.erases ++ cycle_of (owned_as b y Erasing) ∷ []; wiped = 0 }) same;
+              busy = λ not. absurd (not is);
+            }),
+      ) in answer)
+      (λ (other : n ≢ old).
+      let w : View = record v { busy = v.busy ++ b ∷ [] } in
+      let now : either (n == old) new n ≡ n = left_alone n old new other in
+      let answer : (w : View) × (a : Act (Unit {0})) × Valid t.homes me.1 a × Ruled Whole z (stepped t k (either (n == old) new n) id me.1 w a) × condemn_told (step slots k old new none) me n (w, carried_after me.1 a) = (
+        w,
+        keeps,
+        tt,
+        (g, subst (λ y. Fits z g.map g.pins g.pages (set t.words k y)) (sym now) (fits_load z g.map g.pins g.pages t.words fits k (pin_within z b low)), notes z g t.views id v law at v.loaded v.lost (v.busy ++ b ∷ []) v.stale, tt),
+        told w (record { won = λ is. absurd (other is); busy = λ _. refl }),
+      ) in answer)
+
+  -- ---- drain
+  -- the owner of a cleared victim gives it up
+  pub drain_allowed : (o : Owned) → CanDrain me.0 o → Allows (Ruled Whole z) slots id me (pin_index z o.block) (λ n. (n + NEXT_PHASE) % 2 ^ 64) (drain_told (step slots (pin_index z o.block) NEXT_PHASE 0 none) me)
+  drain_allowed o can t (g, fits, law, stage) _ at _ =
+      let v : View = me.0 in
+      let h = law.views id v at in
+      let mine = h.holding.owned o.block o can.own in
+      let numbers = owner_numbers z v o h.kind can.own in
+      let p : PinWord = g.pins o.block in
+      let k : ℕ = pin_index z o.block in
+      let n : ℕ = get_or t.words k 0 in
+      let found : n ≡ pin_word p = fits.blocks o.block mine.low in
+      let q : PinWord = drained_state z g t.views id v o law at in
+      let w : View = drainer z g t.views id v o law at in
+      let after : World = drain_world z g t.views id v o law at in
+      let lawful = drains_block z g t.views id v o law at can in
+      let fitting : FitsPin q = subst FitsPin (put_here g.pins o.block q) (state_fits z after (set t.views id w) lawful o.block mine.low) in
+      let now : (n + NEXT_PHASE) % 2 ^ 64 ≡ pin_word q = ap (λ (y : ℕ). (y + NEXT_PHASE) % 2 ^ 64) found ∙ bits.adds p q NEXT_PHASE fitting (bits.next_phase p Victim Drained (mine.phase ∙ can.victim) refl) in (
+        w,
+        keeps,
+        tt,
+        (after, subst (λ y. Fits z g.map after.pins g.pages (set t.words k y)) (sym now) (fits_pin z g.map g.pins g.pages t.words fits o.block q mine.low), lawful, tt),
+        (refl, λ e can' is. ap (λ (y : Owned). record v { owns = without y.block v.owns; drains = v.drains ++ cycle_of y ∷ [] }) (same_owned numbers o e can.own can'.own is)),
+      )
+
+  -- ---- free, keep, retire
+  -- the eraser of a wiped block makes it free
+  pub freed_allowed : (o : Owned) → CanRenew me.0 o
+      → Allows (Ruled Whole z) slots id me (pin_index z o.block) (λ n. (n + freed_added o.written) % 2 ^ 64) (freed_told (step slots (pin_index z o.block) (freed_added o.written) 0 none) me)
+  freed_allowed o can t (g, fits, law, stage) _ at _ =
+      let v : View = me.0 in
+      let own = can.erasing.own in
+      let numbers = owner_numbers z v o (law.views id v at).kind own in
+      let low = erasing_low z g t.views id v o law at can.erasing in
+      let p : PinWord = g.pins o.block in
+      let k : ℕ = pin_index z o.block in
+      let n : ℕ = get_or t.words k 0 in
+      let found : n ≡ pin_word p = fits.blocks o.block low in
+      let q : PinWord = freed_state z g t.views id v o law at can.erasing in
+      let w : View = forgoer z g t.views id v o law at can.erasing in
+      let after : World = free_world z g t.views id v o law at can.erasing in
+      let lawful = frees z g t.views id v o law at can.erasing can in
+      let fitting : FitsPin q = subst FitsPin (put_here g.pins o.block q) (state_fits z after (set t.views id w) lawful o.block low) in
+      let sum : pin_word p + freed_added o.written ≡ pin_word q = ap (λ (y : ℕ). pin_word p + freed_added y) (sym (erasing_written z g t.views id v o law at can.erasing))
+      ∙ bits.frees p (state_fits z g t.views law o.block low) (is_erasing z g t.views id v o law at can.erasing) in
+      let now : (n + freed_added o.written) % 2 ^ 64 ≡ pin_word q = ap (λ (y : ℕ). (y + freed_added o.written) % 2 ^ 64) found ∙ bits.adds p q (freed_added o.written) fitting sum in (
+        w,
+        keeps,
+        tt,
+        (after, subst (λ y. Fits z g.map after.pins g.pages (set t.words k y)) (sym now) (fits_pin z g.map g.pins g.pages t.words fits o.block q low), lawful, tt),
+        (refl, λ e can' is _. ap (λ (y : Owned). record v { owns = without y.block v.owns }) (same_owned numbers o e own can'.erasing.own is)),
+      )
+
+  -- or keeps it
+  pub kept_allowed : (o : Owned) → CanRenew me.0 o
+      → Allows (Ruled Whole z) slots id me (pin_index z o.block) (λ n. (n + kept_added o.written) % 2 ^ 64) (kept_told (step slots (pin_index z o.block) (kept_added o.written) 0 none) me)
+  kept_allowed o can t (g, fits, law, stage) _ at _ =
+      let v : View = me.0 in
+      let own = can.erasing.own in
+      let numbers = owner_numbers z v o (law.views id v at).kind own in
+      let low = erasing_low z g t.views id v o law at can.erasing in
+      let p : PinWord = g.pins o.block in
+      let k : ℕ = pin_index z o.block in
+      let n : ℕ = get_or t.words k 0 in
+      let found : n ≡ pin_word p = fits.blocks o.block low in
+      let q : PinWord = kept_state z g t.views id v o law at can.erasing in
+      let w : View = keeper z g t.views id v o law at can.erasing in
+      let after : World = keep_world z g t.views id v o law at can.erasing in
+      let lawful = keeps_block z g t.views id v o law at can.erasing can in
+      let fitting : FitsPin q = subst FitsPin (put_here g.pins o.block q) (state_fits z after (set t.views id w) lawful o.block low) in
+      let sum : pin_word p + kept_added o.written ≡ pin_word q = ap (λ (y : ℕ). pin_word p + kept_added y) (sym (erasing_written z g t.views id v o law at can.erasing))
+      ∙ bits.keeps p (state_fits z g t.views law o.block low) (is_erasing z g t.views id v o law at can.erasing) in
+      let now : (n + kept_added o.written) % 2 ^ 64 ≡ pin_word q = ap (λ (y : ℕ). (y + kept_added o.written) % 2 ^ 64) found ∙ bits.adds p q (kept_added o.written) fitting sum in (
+        w,
+        keeps,
+        tt,
+        (after, subst (λ y. Fits z g.map after.pins g.pages (set t.words k y)) (sym now) (fits_pin z g.map g.pins g.pages t.words fits o.block q low), lawful, tt),
+        (
+          refl,
+          λ e can' is _. ap (λ (y : Owned). record v { owns = with_owned (record { block = y.block; phase = Open; generation = y.generation + 1; written = 0 }) v.owns }) (same_owned numbers o e own can'.erasing.own is),
+        ),
+      )
+
+  -- or retires it
+  pub retired_allowed : (o : Owned) → IsErasing me.0 o → Allows (Ruled Whole z) slots id me (pin_index z o.block) (λ n. (n + NEXT_PHASE) % 2 ^ 64) (retired_told (step slots (pin_index z o.block) NEXT_PHASE 0 none) me)
+  retired_allowed o erasing t (g, fits, law, stage) _ at _ =
+      let v : View = me.0 in
+      let numbers = owner_numbers z v o (law.views id v at).kind erasing.own in
+      let low = erasing_low z g t.views id v o law at erasing in
+      let p : PinWord = g.pins o.block in
+      let k : ℕ = pin_index z o.block in
+      let n : ℕ = get_or t.words k 0 in
+      let found : n ≡ pin_word p = fits.blocks o.block low in
+      let q : PinWord = retired_state z g t.views id v o law at erasing in
+      let w : View = forgoer z g t.views id v o law at erasing in
+      let after : World = retire_world z g t.views id v o law at erasing in
+      let lawful = retires z g t.views id v o law at erasing in
+      let fitting : FitsPin q = subst FitsPin (put_here g.pins o.block q) (state_fits z after (set t.views id w) lawful o.block low) in
+      let now : (n + NEXT_PHASE) % 2 ^ 64 ≡ pin_word q =
+      ap (λ (y : ℕ). (y + NEXT_PHASE) % 2 ^ 64) found ∙ bits.adds p q NEXT_PHASE fitting (bits.next_phase p Erasing Retired (is_erasing z g t.views id v o law at erasing) refl) in (
+        w,
+        keeps,
+        tt,
+        (after, subst (λ y. Fits z g.map after.pins g.pages (set t.words k y)) (sym now) (fits_pin z g.map g.pins g.pages t.words fits o.block q low), lawful, tt),
+        (refl, λ e erasing' is. ap (λ (y : Owned). record v { owns = without y.block v.owns }) (same_owned numbers o e erasing.own erasing'.own is)),
+      )
