@@ -1,5 +1,5 @@
 -- The eraser's steps on the pin word of its block: the wiped block gets free or is kept in its next generation, or it retires.
-use Rattle.std.proofs.Common.{◌≡◌, ◌≢◌, ℕ, ◌+◌, ◌*◌, ◌<◌, ◌≤◌, true, false, List, [], ◌∷◌, Some, set, sym, refl, ap, ◌∙◌, subst, arith}
+use Rattle.std.proofs.Common.{◌≡◌, ◌≢◌, ℕ, ◌+◌, ◌*◌, ◌<◌, true, false, List, Some, set, sym, refl, ap, ◌∙◌, subst, arith}
 use mathlib.Core.Option.{some}
 use lib.ListN.{get_elem?}
 use Rattle.geometry.specs.Limits.{Numbers}
@@ -9,14 +9,14 @@ use Rattle.flash_rule.specs.declared.facts.Owned.{Owned}
 use Rattle.flash_rule.specs.declared.facts.Source.{Source}
 use Rattle.flash_rule.specs.declared.view.View.{View}
 use Rattle.flash_rule.specs.Views.{owned_at, without, with_owned}
-use Rattle.flash_rule.specs.World.{World, put, is_owned, is_intact, is_nameable, half_cycle, IsBlank}
-use Rattle.flash_rule.specs.Rule.{IsCurrent, LawfulOwned, LawfulSource, Lawful}
+use Rattle.flash_rule.specs.World.{World, put, is_intact, is_nameable, half_cycle, IsBlank}
+use Rattle.flash_rule.specs.Rule.{LawfulOwned, LawfulSource, Lawful}
 use Rattle.flash_rule.specs.BroomPlays.{IsErasing, CanRenew}
 use Rattle.flash_rule.proofs.Points.{put_here}
 use Rattle.flash_rule.proofs.Places.{row_within}
 use Rattle.flash_rule.proofs.Owning.{some_same, with_here, with_else, without_else, one_with_open, one_without}
 use Rattle.flash_rule.proofs.PinSteps.{turned}
-use Rattle.flash_rule.proofs.Reclaiming.{turner, turns, entry_set, entry_gone, owner_numbers, owns_none_else}
+use Rattle.flash_rule.proofs.Reclaiming.{turns, entry_set, entry_gone, owner_numbers, owns_none_else}
 
 module _ (z : Numbers) (g : World) (vs : List View) (id : ℕ) (v : View) (o : Owned) (law : Lawful z g vs) (at : get_elem? vs id ≡ some v) (erasing : IsErasing v o) where
   entry : LawfulOwned z g id v.work v.cleared v.wiped o.block o

@@ -1,27 +1,26 @@
 -- A broom's steps on the pin word of a block up to its erase: claim, drain, condemn.
-use Rattle.std.proofs.Common.{◌≡◌, ◌≢◌, ℕ, ◌+◌, ◌*◌, ◌<◌, ◌≤◌, ⊎_elim, true, false, List, [], ◌∷◌, ◌++◌, Option, Some, length, set, slice_get, sym, refl, ap, ◌∙◌, subst, arith}
+use Rattle.std.proofs.Common.{◌≡◌, ◌≢◌, ℕ, ◌*◌, ◌<◌, ⊎_elim, true, false, List, [], ◌∷◌, ◌++◌, Option, Some, length, set, slice_get, sym, refl, ap, ◌∙◌, subst, arith}
 use mathlib.Core.Option.{some}
 use mathlib.Core.Logic.{dite}
 use native.Mathlib.Decide.{ℕ_discrete}
 use lib.ListN.{get_elem?}
 use Rattle.geometry.specs.Limits.{Numbers}
 use Rattle.geometry.specs.declared.pin_word.PinWord.{PinWord}
-use Rattle.geometry.specs.declared.pin_word.Phase.{Phase}
-use Rattle.geometry.specs.declared.pin_word.Phase.TheVariants.{Free, Open, Closed, Victim, Drained, Erasing}
+use Rattle.geometry.specs.declared.pin_word.Phase.TheVariants.{Open, Closed, Victim, Drained, Erasing}
 use Rattle.flash_rule.specs.declared.facts.Name.{Name}
 use Rattle.flash_rule.specs.declared.facts.Role.TheVariants.{Player}
 use Rattle.flash_rule.specs.declared.facts.Owned.{Owned}
 use Rattle.flash_rule.specs.declared.facts.Source.{Source}
 use Rattle.flash_rule.specs.declared.facts.Cycle.{Cycle}
 use Rattle.flash_rule.specs.declared.view.View.{View}
-use Rattle.flash_rule.specs.Views.{is_pass, is_broom, is_player, may_own, owned_at, without, with_owned}
+use Rattle.flash_rule.specs.Views.{is_pass, is_broom, may_own, owned_at, without, with_owned}
 use Rattle.flash_rule.specs.World.{World, put, is_owned, is_intact, is_nameable, is_still, half_cycle, age_of}
-use Rattle.flash_rule.specs.Rule.{Erases, LawfulOwned, LawfulSource, Lawful}
+use Rattle.flash_rule.specs.Rule.{Erases, LawfulOwned, Lawful}
 use Rattle.flash_rule.specs.BroomPlays.{owned_as, cycle_of, IsAtRest, CanDrain}
 use Rattle.flash_rule.proofs.Points.{put_here, put_else}
 use Rattle.flash_rule.proofs.Owning.{some_same, with_here, with_else, without_else, one_at_rest, one_without, get_last}
 use Rattle.flash_rule.proofs.PinSteps.{turned}
-use Rattle.flash_rule.proofs.Reclaiming.{IsTurn, turner, turns, broom_player, broom_no_pass, broom_may_own, entry_set, entry_gone}
+use Rattle.flash_rule.proofs.Reclaiming.{turns, broom_player, broom_no_pass, broom_may_own, entry_set, entry_gone}
 
 -- a function of two numbers with one value replaced
 pub put2 : {X : Type 0} → (ℕ → ℕ → X) → ℕ → ℕ → X → ℕ → ℕ → X

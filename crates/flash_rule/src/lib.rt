@@ -14,9 +14,7 @@ pub use plays::{
     AddReader, Close, ComeHome, Count, DealBroom, DealPass, GetWord, GiveBack, Lend, Look,
     PlaceTrim, PlaceWrite, PutWord, Take, TakeIn, TakeReader,
 };
-pub use reclaim_plays::{
-    Claim, Condemn, Drain, FreeBlock, KeepBlock, LoadState, RetireBlock,
-};
+pub use reclaim_plays::{Claim, Condemn, Drain, FreeBlock, KeepBlock, LoadState, RetireBlock};
 pub use rule::WithoutErasing;
 pub use view::View;
 
