@@ -1,5 +1,5 @@
 -- Each step of a broom on a pin word, as the table asks for it: whatever the table is, the step keeps the rule and tells what it says.
-use Rattle.std.proofs.Common.{◌≡◌, ◌≢◌, ℕ, ◌+◌, ◌%◌, ◌^◌, ◌<◌, ◌⊎◌, inl, inr, ⊎_elim, ◌==◌, eq-eqb, ne_eqb, true, List, [], ◌∷◌, ◌++◌, Some, set, sym, refl, ap, ◌∙◌, subst, arith}
+use Rattle.std.proofs.Common.{◌≡◌, ◌≢◌, ℕ, ◌+◌, ◌%◌, ◌^◌, ◌<◌, ◌≤◌, ◌⊎◌, inl, inr, ⊎_elim, ◌==◌, eq-eqb, ne_eqb, true, List, [], ◌∷◌, ◌++◌, Some, set, sym, refl, ap, ◌∙◌, subst, arith}
 use Rattle.std.proofs.Math.ListN.{get_or}
 use prog.Atomic.{either}
 use mathlib.Core.Option.{some, none}
@@ -78,6 +78,7 @@ module _ (z : Numbers) (slots id : ℕ) (me : Sitter) where
       let fitting = state_fits z g t.views law b low in
       let numbers = numbers_now g t.views law at broom in
       let young : p.generation < v.numbers.endurance = let r = (law.blocks b low).generation in let e : v.numbers.endurance ≡ z.endurance = ap (λ (y : Numbers). y.endurance) numbers in omega arith in
+      let within : p.written ≤ v.numbers.pages = let r = (law.blocks b low).written in let e : v.numbers.pages ≡ z.pages = ap (λ (y : Numbers). y.pages) numbers in omega arith in
       let noted : List (ℕ × ℕ) = v.loaded ++ (b, n) ∷ [] in
       let answer : (w : View) → Lawful z g (set t.views id w) → Loaded v b n w
       → (w : View) × (a : Act (Unit {0})) × Valid t.homes me.1 a × Ruled Whole z (stepped t k n id me.1 w a) × state_told (step slots k 0 0 none) me n (w, carried_after me.1 a) = λ w lawful told. (
@@ -90,11 +91,11 @@ module _ (z : Numbers) (slots id : ℕ) (me : Sitter) where
       ⊎_elim
       (λ (drained : p.phase ≡ Drained). dite (ℕ_discrete p.readers 0)
       (λ none. answer (record v { loaded = noted }) (notes z g t.views id v law at noted v.lost v.busy v.stale)
-      (record { state = p; fits = fitting; young = young; found = found; ready = λ _ _. refl; busy = λ _ some. absurd (omega arith); stale = λ not. absurd (not drained) }))
+      (record { state = p; fits = fitting; young = young; within = within; found = found; ready = λ _ _. refl; busy = λ _ some. absurd (omega arith); stale = λ not. absurd (not drained) }))
       (λ some. answer (record v { loaded = noted; busy = v.busy ++ b ∷ [] }) (notes z g t.views id v law at noted v.lost (v.busy ++ b ∷ []) v.stale)
-      (record { state = p; fits = fitting; young = young; found = found; ready = λ _ none. absurd (some none); busy = λ _ _. refl; stale = λ not. absurd (not drained) })))
+      (record { state = p; fits = fitting; young = young; within = within; found = found; ready = λ _ none. absurd (some none); busy = λ _ _. refl; stale = λ not. absurd (not drained) })))
       (λ (other : ¬ (p.phase ≡ Drained)). answer (record v { loaded = noted; stale = v.stale ++ b ∷ [] }) (notes z g t.views id v law at noted v.lost v.busy (v.stale ++ b ∷ []))
-      (record { state = p; fits = fitting; young = young; found = found; ready = λ drained _. absurd (other drained); busy = λ drained _. absurd (other drained); stale = λ _. refl }))
+      (record { state = p; fits = fitting; young = young; within = within; found = found; ready = λ drained _. absurd (other drained); busy = λ drained _. absurd (other drained); stale = λ _. refl }))
       (drained_or_not p.phase)
 
   -- ---- claim

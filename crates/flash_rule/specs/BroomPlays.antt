@@ -89,12 +89,13 @@ move_told st me n after =
     × ((x : Source) (copy : MapWord) → CanMove me.0 x copy → FitsMap x.page → FitsMap copy → st.word ≡ x.stamp → st.first ≡ map_word x.page → st.second ≡ map_word copy
     → Moved me.0 x n after.0)
 
--- STATE. The broom notes the block and its word, whose generation is below the endurance. A drained block with readers is busy, a
--- drained one without them is ready, and a block that isn't drained is stale
+-- STATE. The broom notes the block and its word. Its generation is below the endurance, and it has no more pages written than there
+-- are. A drained block with readers is busy, a drained one without them is ready, and a block that isn't drained is stale
 pub record Loaded (v : View) (b n : ℕ) (w : View) : Type 0 where
   pub state : PinWord
   pub fits : FitsPin state
   pub young : state.generation < v.numbers.endurance
+  pub within : state.written ≤ v.numbers.pages
   pub found : n ≡ pin_word state
   pub ready : state.phase ≡ Drained → state.readers ≡ 0 → w ≡ record v { loaded = v.loaded ++ (b, n) ∷ [] }
   pub busy : state.phase ≡ Drained → 0 < state.readers → w ≡ record v { loaded = v.loaded ++ (b, n) ∷ []; busy = v.busy ++ b ∷ [] }
