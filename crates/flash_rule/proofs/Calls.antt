@@ -1,25 +1,58 @@
--- The two calls that place: a trim and a write.
-use Rattle.std.proofs.Common.{◌≡◌, ℕ, ◌<◌, ◌≤◌, List, None, Some, set, sym, refl, ap, ◌∙◌, subst, arith}
+-- The two calls that place, a trim and a write, and the page that a write names.
+use Rattle.std.proofs.Common.{◌≡◌, ℕ, ◌<◌, ◌≤◌, List, Option, None, Some, set, sym, refl, ap, ◌∙◌, subst, arith}
 use Rattle.std.proofs.Math.ListN.{get_or}
 use mathlib.Core.Option.{some}
 use lib.ListN.{get_elem?}
-use Rattle.geometry.specs.History.{Write, Trim}
+use Rattle.geometry.specs.History.{Call, Write, Trim, held}
 use Rattle.geometry.proofs.Histories.{held_written, held_trimmed, held_by_write, held_by_trim}
 use Rattle.geometry.specs.Limits.{Numbers}
 use Rattle.geometry.specs.declared.map_word.MapWord.{MapWord}
 use Rattle.geometry.specs.declared.pin_word.Phase.TheVariants.{Open}
+use Rattle.flash_rule.specs.declared.facts.Name.{Name}
 use Rattle.flash_rule.specs.declared.facts.Name.TheVariants.{Pass}
 use Rattle.flash_rule.specs.declared.facts.Role.TheVariants.{Player}
 use Rattle.flash_rule.specs.declared.facts.Owned.{Owned}
 use Rattle.flash_rule.specs.declared.view.View.{View}
-use Rattle.flash_rule.specs.Views.{is_pass, owned_at}
+use Rattle.flash_rule.specs.Views.{is_live_role, owned_at}
 use Rattle.flash_rule.specs.World.{World, is_nameable}
 use Rattle.flash_rule.specs.Rule.{IsCurrent, Lawful, IsValue}
 use Rattle.flash_rule.specs.Plays.{CanPlace}
 use Rattle.flash_rule.proofs.Points.{put_here}
 use Rattle.flash_rule.proofs.Owning.{some_same, none_some}
-use Rattle.flash_rule.proofs.Still.{pass_numbers}
 use Rattle.flash_rule.proofs.MapSteps.{places, placer, place_world}
+
+-- a page that a player has filled and counted with the sector's value is one that its map word may name
+pub filled : (z : Numbers) (g : World) (vs : List View) (id : ℕ) (v : View) (n : Name) (s : ℕ) (m : MapWord) (value : List ℕ) → Lawful z g vs → get_elem? vs id ≡ some v → v.role ≡ Player n → CanPlace v s m value
+    → (history : List Call) (map : ℕ → Option MapWord) → held z.sectors history s ≡ Some value → (g.owner m.block ≡ id) × IsCurrent z (record g { history = history; map = map }) s m
+filled z g vs id v n s m value law at role can history map here =
+    let h = law.views id v at in
+    let same : v.numbers ≡ z = h.kind.numbers (ap is_live_role role) in
+    let own = h.holding.owned m.block can.entry can.own in
+    let work = h.holding.work can.work can.is in
+    let block_is : can.work.page.block ≡ m.block = ap (λ (y : MapWord). y.block) can.page in
+    let page_is : can.work.page.page ≡ m.page = ap (λ (y : MapWord). y.page) can.page in
+    let P : ℕ → Type 0 = λ c. owned_at c v.owns ≡ Some work.entry in
+    let entry_is : work.entry ≡ can.entry = some_same work.entry can.entry (sym (subst P block_is work.own) ∙ can.own) in
+    let written_is : work.entry.written ≡ can.entry.written = ap (λ (y : Owned). y.written) entry_is in
+    let low_page = can.counted in
+    let full = work.full (omega arith) in
+    let words_same : v.numbers.words ≡ z.words = ap (λ (y : Numbers). y.words) same in
+    let stands : (i : ℕ) → i ≤ z.words → g.pages m.block m.page i ≡ get_or can.work.words i 0 = λ i most.
+    ap (λ b. g.pages b m.page i) (sym block_is) ∙ (ap (λ p. g.pages can.work.page.block p i) (sym page_is) ∙ work.stands i (omega arith)) in
+    let opened : can.entry.phase ≡ Open = ap (λ (y : Owned). y.phase) (sym entry_is) ∙ work.opened in (
+      own.owner,
+      record {
+        value = value;
+        here = here;
+        block = own.low;
+        same = own.generation ∙ (ap (λ (y : Owned). y.generation) (sym entry_is) ∙ (work.generation ∙ ap (λ (y : MapWord). y.generation) can.page));
+        phase = ap is_nameable (own.phase ∙ opened);
+        written = (let w = own.written in omega arith);
+        stands = λ i below. stands i (omega arith) ∙ can.words i (omega arith);
+        whole = subst (λ (y : Numbers). IsValue y value) same can.whole;
+        stamp = stands z.words (omega arith) ∙ (ap (λ i. get_or can.work.words i 0) (sym words_same) ∙ can.stamp);
+      },
+    )
 
 module _ (z : Numbers) (g : World) (vs : List View) (id : ℕ) (v : View) (t s : ℕ) (law : Lawful z g vs) (at : get_elem? vs id ≡ some v) (role : v.role ≡ Player (Pass t)) (low : s < z.sectors) where
   -- a trim empties its sector
@@ -35,36 +68,12 @@ module _ (z : Numbers) (g : World) (vs : List View) (id : ℕ) (v : View) (t s :
   pub writes : (m : MapWord) (value : List ℕ) → CanPlace v s m value
       → Lawful z (place_world z g vs id v t s (Write t s value) (Some m) law at role refl) (set vs id (placer z g vs id v t s (Write t s value) (Some m) law at role refl))
   writes m value can =
-      let h = law.views id v at in
-      let same = pass_numbers z v h.kind (ap is_pass role) in
-      let own = h.holding.owned m.block can.entry can.own in
-      let work = h.holding.work can.work can.is in
-      let block_is : can.work.page.block ≡ m.block = ap (λ (y : MapWord). y.block) can.page in
-      let page_is : can.work.page.page ≡ m.page = ap (λ (y : MapWord). y.page) can.page in
-      let P : ℕ → Type 0 = λ c. owned_at c v.owns ≡ Some work.entry in
-      let entry_is : work.entry ≡ can.entry = some_same work.entry can.entry (sym (subst P block_is work.own) ∙ can.own) in
-      let written_is : work.entry.written ≡ can.entry.written = ap (λ (y : Owned). y.written) entry_is in
-      let low_page = can.counted in
-      let full = work.full (omega arith) in
-      let words_same : v.numbers.words ≡ z.words = ap (λ (y : Numbers). y.words) same in
-      let stands : (i : ℕ) → i ≤ z.words → g.pages m.block m.page i ≡ get_or can.work.words i 0 = λ i most.
-      ap (λ b. g.pages b m.page i) (sym block_is) ∙ (ap (λ p. g.pages can.work.page.block p i) (sym page_is) ∙ work.stands i (omega arith)) in
-      let opened : can.entry.phase ≡ Open = ap (λ (y : Owned). y.phase) (sym entry_is) ∙ work.opened in
-      let current : IsCurrent z (place_world z g vs id v t s (Write t s value) (Some m) law at role refl) s m = record {
-        value = value;
-        here = held_written z.sectors g.history t s value low;
-        block = own.low;
-        same = own.generation ∙ (ap (λ (y : Owned). y.generation) (sym entry_is) ∙ (work.generation ∙ ap (λ (y : MapWord). y.generation) can.page));
-        phase = ap is_nameable (own.phase ∙ opened);
-        written = (let w = own.written in omega arith);
-        stands = λ i below. stands i (omega arith) ∙ can.words i (omega arith);
-        whole = subst (λ (y : Numbers). IsValue y value) same can.whole;
-        stamp = stands z.words (omega arith) ∙ (ap (λ i. get_or can.work.words i 0) (sym words_same) ∙ can.stamp);
-      } in
+      let after = place_world z g vs id v t s (Write t s value) (Some m) law at role refl in
+      let own = filled z g vs id v (Pass t) s m value law at role can after.history after.map (held_written z.sectors g.history t s value low) in
       places z g vs id v t s (Write t s value) (Some m) law at role refl
-      (λ n is. ap (λ (y : MapWord). g.owner y.block) (sym (some_same m n is)) ∙ own.owner)
+      (λ n is. ap (λ (y : MapWord). g.owner y.block) (sym (some_same m n is)) ∙ own.0)
       (λ other unlike. held_by_write z.sectors g.history t s value other unlike)
       (record {
         empty = λ is. absurd (none_some m (sym is ∙ put_here g.map s (Some m)));
-        named = λ n is. subst (λ (n : MapWord). IsCurrent z (place_world z g vs id v t s (Write t s value) (Some m) law at role refl) s n) (some_same m n (sym (put_here g.map s (Some m)) ∙ is)) current;
+        named = λ n is. subst (λ (n : MapWord). IsCurrent z after s n) (some_same m n (sym (put_here g.map s (Some m)) ∙ is)) own.1;
       })

@@ -15,6 +15,7 @@ pub mod Parts
 pub mod Splitting
 pub mod DealingBrooms
 pub mod Notes
+pub mod BroomSteps
 pub mod ReaderSteps
 pub mod Reclaiming
 pub mod ReclaimSteps

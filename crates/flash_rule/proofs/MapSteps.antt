@@ -40,6 +40,15 @@ calls_here t (x ∷ h) c same =
 pub pass_same : (t u : ℕ) → Player (Pass t) ≡ Player (Pass u) → t ≡ u
 pass_same t u e = cc
 
+-- a sector's map word tells whether it names a page
+pub word_empty : (x : Option MapWord) → sector_word x ≡ 0 → x ≡ None
+word_empty None e = refl
+word_empty (Some m) e = absurd (omega arith)
+
+pub word_named : (x : Option MapWord) → ¬ (sector_word x ≡ 0) → (m : MapWord) × (x ≡ Some m)
+word_named None e = absurd (e refl)
+word_named (Some m) e = (m, refl)
+
 -- a swap is lawful where the call does to its sector what the map word says, and the page that is named is the caller's own
 module _ (z : Numbers) (g : World) (vs : List View) (id : ℕ) (v : View) (t s : ℕ) (c : Call) (m : Option MapWord) (law : Lawful z g vs) (at : get_elem? vs id ≡ some v) (role : v.role ≡ Player (Pass t)) (by_me : caller c ≡ t) where
   abbrev pub placer : View
@@ -143,15 +152,7 @@ module _ (z : Numbers) (g : World) (vs : List View) (id : ℕ) (v : View) (t s :
         later = h.knowledge.seen;
         now = refl;
         callers = subst (λ (y : Numbers). AreOfHosts y (g.history ++ c ∷ [])) (sym same) called_by_hosts;
-        empty = λ none. ap (λ (y : Numbers). held y.sectors g.history s) same ∙ sector.empty (unnamed (g.map s) (sym found ∙ none));
-        written = λ not. let k = is_named (g.map s) (λ e. not (found ∙ e)) in let cur = sector.named k.0 k.1 in (cur.value, ap (λ (y : Numbers). held y.sectors g.history s) same ∙ cur.here);
+        empty = λ none. ap (λ (y : Numbers). held y.sectors g.history s) same ∙ sector.empty (word_empty (g.map s) (sym found ∙ none));
+        written = λ not. let k = word_named (g.map s) (λ e. not (found ∙ e)) in let cur = sector.named k.0 k.1 in (cur.value, ap (λ (y : Numbers). held y.sectors g.history s) same ∙ cur.here);
         own = λ u is. let same : t ≡ u = pass_same t u (sym role ∙ is) in calls_here u g.history c (by_me ∙ same) ∙ ap (λ l. l ++ c ∷ []) (h.holding.calls u is).0;
       }
-    where
-      unnamed : (x : Option MapWord) → sector_word x ≡ 0 → x ≡ None
-      unnamed None e = refl
-      unnamed (Some m) e = absurd (omega arith)
-
-      is_named : (x : Option MapWord) → ¬ (sector_word x ≡ 0) → (m : MapWord) × (x ≡ Some m)
-      is_named None e = absurd (e refl)
-      is_named (Some m) e = (m, refl)

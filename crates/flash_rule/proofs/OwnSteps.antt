@@ -25,7 +25,7 @@ use Rattle.flash_rule.proofs.Frames.{counted, knowledge_kept}
 use Rattle.flash_rule.proofs.PinSteps.{moved, pin_moves, pin_moved, moved_else, seat_set}
 
 -- a seat with work is a player's
-player_of : (r : Role) → is_player r ≡ true → (n : Name) × (r ≡ Player n)
+pub player_of : (r : Role) → is_player r ≡ true → (n : Name) × (r ≡ Player n)
 player_of (Player n) is = (n, refl)
 player_of Dealer is = absurd (cc)
 player_of Note is = absurd (cc)

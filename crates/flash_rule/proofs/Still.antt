@@ -136,6 +136,32 @@ met z g v n c role h copy = (
     same_first : (a : Name) (j : ℕ) (b : Name) (k : ℕ) → some_pair a j ≡ some_pair b k → a ≡ b
     same_first a j b k e = ap (first_or a) e
 
+-- the copies that a player has, once it sees the history of this moment
+pub met_now : (z : Numbers) (g : World) (v : View) (n : Name) → v.role ≡ Player n → LawfulKnowledge z g v → (w : View) → w.role ≡ v.role → w.seen ≡ g.history → w.programs ≡ v.programs → w.erases ≡ v.erases
+    → (c : Carried) → v.copy ≡ Some c → Met w c
+met_now z g v n is_player h w role seen programs erases c is =
+    let copy = h.copy c is in
+    let m = met z g v n c is_player h copy in
+    record {
+      other = λ e. copy.other (sym role ∙ e);
+      seen = subst (λ l. Begins c.seen l) (sym seen) m.0;
+      programs = subst (λ l. Disjoint l c.programs) (sym programs) m.1;
+      erases = subst (λ l. Disjoint l c.erases) (sym erases) m.2;
+    }
+
+-- a page that a map word names has room in the word
+pub map_fits : (z : Numbers) (g : World) (vs : List View) (s : ℕ) (m : MapWord) → Lawful z g vs → IsCurrent z g s m → FitsMap m × (m.page < z.pages)
+map_fits z g vs s m law c =
+    let b = law.blocks m.block c.block in
+    let a1 = law.limits.blocks_high in
+    let a2 = law.limits.pages_high in
+    let a3 = law.limits.endurance_high in
+    let a4 = c.block in
+    let a5 = c.written in
+    let a6 = b.written in
+    let a7 = b.generation in
+    let a8 = c.same in (record { generation = omega arith; block = omega arith; page = omega arith }, omega arith)
+
 module _ (z : Numbers) (g : World) (vs : List View) (id : ℕ) (v : View) (s : ℕ) (law : Lawful z g vs) (at : get_elem? vs id ≡ some v) (pass : is_pass v.role ≡ true) (unpinned : is_unpinned v.pin ≡ true) where
   abbrev looking : Pin → List ℕ → View
   looking pin known = record v { seen = g.history; looks = v.looks + 1; pin = pin; known = known }
@@ -174,18 +200,6 @@ module _ (z : Numbers) (g : World) (vs : List View) (id : ℕ) (v : View) (s : �
   own_calls : (t : ℕ) → v.role ≡ Player (Pass t) → calls_of t g.history ≡ v.mine
   own_calls t is = ((law.views id v at).holding.calls t is).0
 
-  met_now : v.numbers ≡ z → (w : View) → w.role ≡ v.role → w.seen ≡ g.history → w.programs ≡ v.programs → w.erases ≡ v.erases → (c : Carried) → v.copy ≡ Some c → Met w c
-  met_now same w role seen programs erases c is =
-      let h = law.views id v at in
-      let t = pass_of v.role pass in
-      let m = met z g v (Pass t.0) c t.1 h.knowledge (h.knowledge.copy c is) in
-      record {
-        other = λ e. (h.knowledge.copy c is).other (sym role ∙ e);
-        seen = subst (λ l. Begins c.seen l) (sym seen) m.0;
-        programs = subst (λ l. Disjoint l c.programs) (sym programs) m.1;
-        erases = subst (λ l. Disjoint l c.erases) (sym erases) m.2;
-      }
-
   known_bounded : (known : List ℕ) → length known ≡ z.blocks → ((b : ℕ) → b < z.blocks → get_or known b 0 ≤ age_of (g.pins b)) → sum_of known ≤ z.blocks * (2 * z.endurance)
   known_bounded known long ages =
       let each : (k : ℕ) → k < length known → get_or known k 0 ≤ 2 * z.endurance = λ k low. let below : k < z.blocks = omega arith in let a = ages k below in let b = age_low z g vs law k below in omega arith in
@@ -196,6 +210,7 @@ module _ (z : Numbers) (g : World) (vs : List View) (id : ℕ) (v : View) (s : �
   look_empty is low =
       let h = law.views id v at in
       let same = pass_numbers z v h.kind pass in
+      let by = pass_of v.role pass in
       let long = h.kind.known pass in
       let w : View = looking Clear v.known in (
         w,
@@ -209,26 +224,15 @@ module _ (z : Numbers) (g : World) (vs : List View) (id : ℕ) (v : View) (s : �
           named = λ not. absurd (not refl);
           rises = omega arith;
           bounded = let b = known_bounded v.known long h.knowledge.known in let e : v.numbers.blocks * (2 * v.numbers.endurance) ≡ z.blocks * (2 * z.endurance) = ap (λ (y : Numbers). y.blocks * (2 * y.endurance)) same in omega arith;
-          met = met_now same w refl refl refl refl;
+          met = met_now z g v (Pass by.0) by.1 h.knowledge w refl refl refl refl;
         },
       )
-
-  pub map_fits : (m : MapWord) → IsCurrent z g s m → FitsMap m × (m.page < z.pages)
-  map_fits m c =
-      let b = law.blocks m.block c.block in
-      let a1 = law.limits.blocks_high in
-      let a2 = law.limits.pages_high in
-      let a3 = law.limits.endurance_high in
-      let a4 = c.block in
-      let a5 = c.written in
-      let a6 = b.written in
-      let a7 = b.generation in
-      let a8 = c.same in (record { generation = omega arith; block = omega arith; page = omega arith }, omega arith)
 
   pub look_named : (m : MapWord) → g.map s ≡ Some m → s < z.sectors → (w : View) × Lawful z g (set vs id w) × Looked v s (map_word m) w
   look_named m is low =
       let h = law.views id v at in
       let same = pass_numbers z v h.kind pass in
+      let by = pass_of v.role pass in
       let long = h.kind.known pass in
       let c = (law.sectors s low).named m is in
       let known = set v.known m.block (2 * m.generation) in
@@ -240,7 +244,7 @@ module _ (z : Numbers) (g : World) (vs : List View) (id : ℕ) (v : View) (s : �
       dite (ℕ_discrete b m.block)
       (λ e. subst (λ j. get_or known j 0 ≤ age_of (g.pins j)) (sym e) (omega arith))
       (λ ne. let other = get_or-set_other v.known m.block b (2 * m.generation) 0 ne in let k = h.knowledge.known b below in omega arith) in
-      let fits = map_fits m c in
+      let fits = map_fits z g vs s m law c in
       let w : View = looking (Candidate m c.value) known in
       let bigger : map_word m ≢ 0 = λ e. absurd (omega arith) in (
         w,
@@ -273,7 +277,7 @@ module _ (z : Numbers) (g : World) (vs : List View) (id : ℕ) (v : View) (s : �
           );
           rises = let k = h.knowledge.known m.block c.block in let t = sum_set v.known m.block (2 * m.generation) in_range in omega arith;
           bounded = let b = known_bounded known long' ages in let e : v.numbers.blocks * (2 * v.numbers.endurance) ≡ z.blocks * (2 * z.endurance) = ap (λ (y : Numbers). y.blocks * (2 * y.endurance)) same in omega arith;
-          met = met_now same w refl refl refl refl;
+          met = met_now z g v (Pass by.0) by.1 h.knowledge w refl refl refl refl;
         },
       )
     where

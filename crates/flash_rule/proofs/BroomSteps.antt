@@ -1,0 +1,309 @@
+-- What a broom finds out of its victim's pages, and how it moves them: looks, stamps, and the exchange of a map word.
+use Rattle.std.proofs.Common.{◌≡◌, ◌≢◌, ℕ, ◌+◌, ◌<◌, ◌≤◌, ◌⊎◌, inl, inr, ⊎_elim, true, false, List, [], ◌∷◌, ◌++◌, Option, None, Some, set, sym, refl, ap, ◌∙◌, subst, arith}
+use mathlib.Core.Option.{some}
+use mathlib.Core.Logic.{dite}
+use native.Mathlib.Decide.{ℕ_discrete, dec_lt}
+use lib.ListN.{get_elem?}
+use Rattle.geometry.specs.History.{Call, Begins, held}
+use Rattle.geometry.proofs.Histories.{Begins-refl}
+use Rattle.geometry.specs.Limits.{Numbers}
+use Rattle.geometry.specs.MapWords.{map_word, FitsMap}
+use Rattle.geometry.proofs.PinBits.{map_same}
+use Rattle.geometry.specs.declared.map_word.MapWord.{MapWord}
+use Rattle.geometry.specs.declared.pin_word.Phase.TheVariants.{Open, Victim}
+use Rattle.flash_rule.specs.declared.facts.Name.{Name}
+use Rattle.flash_rule.specs.declared.facts.Name.TheVariants.{Pass}
+use Rattle.flash_rule.specs.declared.facts.Role.TheVariants.{Player}
+use Rattle.flash_rule.specs.declared.facts.Owned.{Owned}
+use Rattle.flash_rule.specs.declared.facts.Work.{Work}
+use Rattle.flash_rule.specs.declared.facts.Source.{Source}
+use Rattle.flash_rule.specs.declared.view.View.{View}
+use Rattle.flash_rule.specs.Views.{is_player, is_live_role, owned_at, AreOfHosts, calls_of}
+use Rattle.flash_rule.specs.World.{World, put, is_reclaimed, sector_word, data_word, HoldsValue}
+use Rattle.flash_rule.specs.Rule.{IsValue, IsCurrent, ReclaimsOne, LawfulOwned, LawfulSource, LawfulView, Lawful}
+use Rattle.flash_rule.specs.Onward.{Onward}
+use Rattle.flash_rule.specs.Plays.{CanPlace}
+use Rattle.flash_rule.specs.BroomPlays.{Named, CanGetStamp, GotStamp, victim_page, CanMove, Moved}
+use Rattle.flash_rule.proofs.Points.{put_here, put_else, put_all}
+use Rattle.flash_rule.proofs.Owning.{some_same, none_some}
+use Rattle.flash_rule.proofs.Frames.{counted, knowledge_kept}
+use Rattle.flash_rule.proofs.Assembly.{assembled, block_kept, sector_kept}
+use Rattle.flash_rule.proofs.Still.{pin_stays, still, met_now, map_fits}
+use Rattle.flash_rule.proofs.MapSteps.{word_empty, word_named}
+use Rattle.flash_rule.proofs.Calls.{filled}
+use Rattle.flash_rule.proofs.Values.{value_same}
+
+some_or_none : {X : Type 0} (x : Option X) → (x ≡ None) ⊎ ((y : X) × (x ≡ Some y))
+some_or_none None = inl refl
+some_or_none (Some y) = inr (y, refl)
+
+-- ---- dead pages
+-- A victim's next page that no map word names is one more that is known to be dead
+pub clears : (z : Numbers) (g : World) (id : ℕ) (doing : Option Work) (cleared wiped : ℕ) (owns : List Owned) (c : ℕ) (victim : Owned) → ReclaimsOne owns → owned_at c owns ≡ Some victim → victim.phase ≡ Victim
+    → ((s : ℕ) → s < z.sectors → ¬ (g.map s ≡ Some (record { generation = victim.generation; block = c; page = cleared })))
+    → (b : ℕ) (o : Owned) → owned_at b owns ≡ Some o → LawfulOwned z g id doing cleared wiped b o → LawfulOwned z g id doing (cleared + 1) wiped b o
+clears z g id doing cleared wiped owns c victim one its phase unnamed b o is h =
+    record {
+      block = h.block;
+      low = h.low;
+      owner = h.owner;
+      owned = h.owned;
+      phase = h.phase;
+      generation = h.generation;
+      written = h.written;
+      rest = h.rest;
+      dead = λ reclaimed p s below low named.
+          let same : b ≡ c = one b c o victim is its (ap is_reclaimed reclaimed) (ap is_reclaimed phase) in
+          let entry : o ≡ victim = some_same o victim (sym is ∙ (ap (λ j. owned_at j owns) same ∙ its)) in
+          dite (ℕ_discrete p cleared)
+          (λ last. unnamed s low (named ∙ λ i. Some (record { generation = (entry i).generation; block = same i; page = last i })))
+          (λ other. h.dead reclaimed p s (omega arith) low named);
+      clean = h.clean;
+    }
+
+module _ (z : Numbers) (g : World) (vs : List View) (id : ℕ) (v : View) (n : Name) (law : Lawful z g vs) (at : get_elem? vs id ≡ some v) (role : v.role ≡ Player n) where
+  numbers_same : v.numbers ≡ z
+  numbers_same = (law.views id v at).kind.numbers (ap is_live_role role)
+
+  -- ---- what a broom knows changes, and no word
+  abbrev pub seer : List Call → List (ℕ × ℕ) → Option Source → ℕ → ℕ → View
+  seer seen named source cleared moves = record v { seen = seen; named = named; source = source; cleared = cleared; moves = moves }
+
+  pub sees : (seen : List Call) (named : List (ℕ × ℕ)) (source : Option Source) (cleared moves : ℕ) → Begins seen g.history → ((t : ℕ) → v.role ≡ Player (Pass t) → calls_of t seen ≡ v.mine)
+      → ((x : Source) → source ≡ Some x → LawfulSource z g v.owns cleared x)
+      → ((b : ℕ) (o : Owned) → owned_at b v.owns ≡ Some o → LawfulOwned z g id v.work cleared v.wiped b o) → Lawful z g (set vs id (seer seen named source cleared moves))
+  sees seen named source cleared moves begins own_calls lawful owned =
+      let h = law.views id v at in
+      let kind = h.kind in
+      let knows = h.knowledge in
+      let holds = h.holding in
+      still z g vs id v (seer seen named source cleared moves) law at
+      (record {
+        kind = record {
+          numbers = kind.numbers;
+          known = kind.known;
+          opens = kind.opens;
+          unpinned = kind.unpinned;
+          idle = λ is. let no : true ≡ false = sym (ap is_player role) ∙ is in absurd (cc);
+          owns_none = kind.owns_none;
+          reclaims = kind.reclaims;
+        };
+        knowledge = record { seen = begins; pin = knows.pin; known = knows.known; programs = knows.programs; erases = knows.erases; copy = knows.copy };
+        holding = record {
+          name = holds.name;
+          calls = λ t is. ((holds.calls t is).0, own_calls t is);
+          owned = owned;
+          work = holds.work;
+          source = lawful;
+          whole = holds.whole;
+          guest = holds.guest;
+          dealer = holds.dealer;
+        };
+      })
+      (λ b. refl) refl refl
+
+  -- ---- the source
+  module _ (x : Source) (is : v.source ≡ Some x) where
+    pub its : LawfulSource z g v.owns v.cleared x
+    its = (law.views id v at).holding.source x is
+
+    its_block : LawfulOwned z g id v.work v.cleared v.wiped x.page.block its.entry
+    its_block = (law.views id v at).holding.owned x.page.block its.entry its.own
+
+    -- its page stands in the table, and has room in a map word
+    pub source_low : (x.page.block < z.blocks) × (x.page.page < z.pages)
+    source_low = let b = (law.blocks x.page.block its_block.low).written in let w = its_block.written in let p = its.written in (its_block.low, omega arith)
+
+    pub source_fits : FitsMap x.page
+    source_fits =
+        let low = source_low in
+        let block_low = low.0 in
+        let page_low = low.1 in
+        let young = (law.blocks x.page.block its_block.low).generation in
+        let a1 = law.limits.blocks_high in
+        let a2 = law.limits.pages_high in
+        let a3 = law.limits.endurance_high in
+        let a4 = its_block.generation in
+        let a5 = its.generation in record { generation = omega arith; block = omega arith; page = omega arith }
+
+    -- whoever names a page is the sector of its stamp
+    pub source_dead : ¬ (g.map x.stamp ≡ Some x.page) → (s : ℕ) → s < z.sectors → ¬ (g.map s ≡ Some (record { generation = its.entry.generation; block = x.page.block; page = v.cleared }))
+    source_dead apart s low named =
+        let page : record { generation = its.entry.generation; block = x.page.block; page = v.cleared } ≡ x.page = λ i. record { generation = its.generation i; block = x.page.block; page = sym its.page i } in
+        let here : g.map s ≡ Some x.page = named ∙ ap Some page in
+        let stamp : x.stamp ≡ s = sym its.stamp ∙ ((law.sectors s low).named x.page here).stamp in
+        apart (ap g.map stamp ∙ here)
+
+    pub source_clears : ¬ (g.map x.stamp ≡ Some x.page) → (b : ℕ) (o : Owned) → owned_at b v.owns ≡ Some o → LawfulOwned z g id v.work (v.cleared + 1) v.wiped b o
+    source_clears apart b o own =
+        let h = law.views id v at in
+        clears z g id v.work v.cleared v.wiped v.owns x.page.block its.entry h.kind.reclaims its.own its.victim (source_dead apart) b o own (h.holding.owned b o own)
+
+    -- the map word names the source's page just where it is that page's word
+    pub names_source : x.stamp < z.sectors → sector_word (g.map x.stamp) ≡ map_word x.page → g.map x.stamp ≡ Some x.page
+    names_source low found =
+        let k = word_named (g.map x.stamp) (λ none. absurd (omega arith)) in
+        let current = (law.sectors x.stamp low).named k.0 k.1 in
+        k.1 ∙ ap Some (map_same k.0 x.page (map_fits z g vs x.stamp k.0 law current).0 source_fits (ap sector_word (sym k.1) ∙ found))
+
+    -- then the sector holds the value that was read
+    pub source_value : x.stamp < z.sectors → g.map x.stamp ≡ Some x.page → (value : List ℕ) → x.value ≡ Some value → held z.sectors g.history x.stamp ≡ Some value
+    source_value low named value live =
+        let current = (law.sectors x.stamp low).named x.page named in
+        let known = its.value value live in
+        current.here ∙ ap Some (value_same z current.value value current.whole known.1 (λ i below. sym (current.stands i below) ∙ known.0 i below))
+
+  -- ---- look
+  module _ (s : ℕ) (low : s < z.sectors) where
+    abbrev pub looked_word : ℕ
+    looked_word = sector_word (g.map s)
+
+    abbrev pub looker : Option Source → ℕ → View
+    looker source cleared = seer g.history (v.named ++ (s, looked_word) ∷ []) source cleared v.moves
+
+    -- what a look tells, but for the source
+    look_tells : (source : Option Source) (cleared : ℕ)
+        → ((x : Source) (value : List ℕ) → v.source ≡ Some x → x.stamp ≡ s → looked_word ≡ map_word x.page → held v.numbers.sectors g.history s ≡ Some value → (source ≡ Some (record x { value = Some value })) × (cleared ≡ v.cleared))
+        → ((x : Source) → v.source ≡ Some x → x.stamp ≡ s → ¬ (looked_word ≡ map_word x.page) → (source ≡ None) × (cleared ≡ v.cleared + 1))
+        → (((x : Source) → v.source ≡ Some x → ¬ (x.stamp ≡ s)) → (source ≡ v.source) × (cleared ≡ v.cleared))
+        → Named v s looked_word (looker source cleared)
+    look_tells source cleared live dead others =
+        let h = law.views id v at in
+        let same = numbers_same in
+        let sector = law.sectors s low in
+        record {
+          changed = refl;
+          later = h.knowledge.seen;
+          callers = subst (λ (y : Numbers). AreOfHosts y g.history) (sym same) law.callers;
+          empty = λ none. ap (λ (y : Numbers). held y.sectors g.history s) same ∙ sector.empty (word_empty (g.map s) none);
+          page = λ not.
+              let k = word_named (g.map s) not in
+              let current = sector.named k.0 k.1 in
+              let fits = map_fits z g vs s k.0 law current in (
+                k.0,
+                current.value,
+                ap sector_word k.1,
+                fits.0,
+                ap (λ (y : Numbers). held y.sectors g.history s) same ∙ current.here,
+                subst (λ (y : Numbers). IsValue y current.value) (sym same) current.whole,
+                (let e : v.numbers.blocks ≡ z.blocks = ap (λ (y : Numbers). y.blocks) same in let l = current.block in omega arith),
+                (let e : v.numbers.pages ≡ z.pages = ap (λ (y : Numbers). y.pages) same in let l = fits.1 in omega arith),
+              );
+          live = live;
+          dead = dead;
+          others = others;
+          met = met_now z g v n role h.knowledge (looker source cleared) refl refl refl refl;
+        }
+
+    own_calls : (t : ℕ) → v.role ≡ Player (Pass t) → calls_of t g.history ≡ v.mine
+    own_calls t is = ((law.views id v at).holding.calls t is).0
+
+    -- a source with another sector's stamp, or none
+    look_elsewhere : ((x : Source) → v.source ≡ Some x → ¬ (x.stamp ≡ s)) → (w : View) × Lawful z g (set vs id w) × Named v s looked_word w
+    look_elsewhere apart =
+        let h = law.views id v at in (
+          looker v.source v.cleared,
+          sees g.history (v.named ++ (s, looked_word) ∷ []) v.source v.cleared v.moves (Begins-refl g.history) own_calls h.holding.source h.holding.owned,
+          look_tells v.source v.cleared (λ x value is stamp. absurd (apart x is stamp)) (λ x is stamp. absurd (apart x is stamp)) (λ _. (refl, refl)),
+        )
+
+    -- the source's page is the sector's
+    look_live : (x : Source) → v.source ≡ Some x → x.stamp ≡ s → looked_word ≡ map_word x.page → (w : View) × Lawful z g (set vs id w) × Named v s looked_word w
+    look_live x is stamp found =
+        let h = law.views id v at in
+        let same = numbers_same in
+        let source = its x is in
+        let P : ℕ → Type 0 = λ t. (t < z.sectors) × (sector_word (g.map t) ≡ map_word x.page) in
+        let there : P x.stamp = subst P (sym stamp) (low, found) in
+        let named : g.map s ≡ Some x.page = sym (ap g.map stamp) ∙ names_source x is there.0 there.1 in
+        let current = (law.sectors s low).named x.page named in
+        let now : Option Source = Some (record x { value = Some current.value }) in (
+          looker now v.cleared,
+          sees g.history (v.named ++ (s, looked_word) ∷ []) now v.cleared v.moves (Begins-refl g.history) own_calls
+              (λ y its_now. subst (λ (y : Source). LawfulSource z g v.owns v.cleared y) (some_same (record x { value = Some current.value }) y its_now)
+              (record {
+                entry = source.entry;
+                own = source.own;
+                victim = source.victim;
+                generation = source.generation;
+                page = source.page;
+                written = source.written;
+                stamp = source.stamp;
+                value = λ value live. subst (λ (u : List ℕ). HoldsValue z (g.pages x.page.block x.page.page) u × IsValue z u) (some_same current.value value live) (current.stands, current.whole);
+              })) h.holding.owned,
+          look_tells now v.cleared
+              (λ y value its_before _ _ holds.
+              let one : x ≡ y = some_same x y (sym is ∙ its_before) in
+              let values : current.value ≡ value = some_same current.value value (sym current.here ∙ (sym (ap (λ (y : Numbers). held y.sectors g.history s) same) ∙ holds)) in
+              (λ i. Some (record (one i) { value = Some (values i) }), refl))
+              (λ y its_before _ not. absurd (not (found ∙ ap (λ (y : Source). map_word y.page) (some_same x y (sym is ∙ its_before)))))
+              (λ apart. absurd (apart x is stamp)),
+        )
+
+    -- the source's page is the sector's no more
+    look_dead : (x : Source) → v.source ≡ Some x → x.stamp ≡ s → ¬ (looked_word ≡ map_word x.page) → (w : View) × Lawful z g (set vs id w) × Named v s looked_word w
+    look_dead x is stamp other =
+        let apart : ¬ (g.map x.stamp ≡ Some x.page) = λ named. other (ap sector_word (sym (ap g.map stamp) ∙ named)) in (
+          looker None (v.cleared + 1),
+          sees g.history (v.named ++ (s, looked_word) ∷ []) None (v.cleared + 1) v.moves (Begins-refl g.history) own_calls (λ y none. absurd (none_some y none)) (source_clears x is apart),
+          look_tells None (v.cleared + 1)
+              (λ y value its_before _ found. absurd (other (found ∙ ap (λ (y : Source). map_word y.page) (some_same y x (sym its_before ∙ is)))))
+              (λ y its_before _ _. (refl, refl))
+              (λ apart. absurd (apart x is stamp)),
+        )
+
+    pub looks : (w : View) × Lawful z g (set vs id w) × Named v s looked_word w
+    looks =
+        ⊎_elim
+        (λ (none : v.source ≡ None). look_elsewhere (λ x is. absurd (none_some x (sym none ∙ is))))
+        (λ (some : (x : Source) × (v.source ≡ Some x)).
+        let x = some.0 in
+        let is = some.1 in
+        dite (ℕ_discrete x.stamp s)
+        (λ stamp. dite (ℕ_discrete looked_word (map_word x.page)) (look_live x is stamp) (look_dead x is stamp))
+        (λ unlike. look_elsewhere (λ y its_before. λ stamp. unlike (ap (λ (y : Source). y.stamp) (some_same x y (sym is ∙ its_before)) ∙ stamp))))
+        (some_or_none v.source)
+
+  -- ---- the stamp of the next page
+  module _ (o : Owned) (can : CanGetStamp v o) where
+    abbrev pub stamp_word : ℕ
+    stamp_word = g.pages o.block v.cleared z.words
+
+    its_victim : LawfulOwned z g id v.work v.cleared v.wiped o.block o
+    its_victim = (law.views id v at).holding.owned o.block o can.own
+
+    pub stamp_low : (o.block < z.blocks) × (v.cleared < z.pages)
+    stamp_low = let b = (law.blocks o.block its_victim.low).written in let w = its_victim.written in let c = can.written in (its_victim.low, omega arith)
+
+    seen_calls : (t : ℕ) → v.role ≡ Player (Pass t) → calls_of t v.seen ≡ v.mine
+    seen_calls t is = ((law.views id v at).holding.calls t is).1
+
+    stamp_of_sector : stamp_word < z.sectors → (w : View) × Lawful z g (set vs id w) × GotStamp v o stamp_word w
+    stamp_of_sector low =
+        let h = law.views id v at in
+        let same : v.numbers.sectors ≡ z.sectors = ap (λ (y : Numbers). y.sectors) numbers_same in
+        let source : Source = record { page = victim_page v o; stamp = stamp_word; value = None } in (
+          seer v.seen v.named (Some source) v.cleared v.moves,
+          sees v.seen v.named (Some source) v.cleared v.moves h.knowledge.seen seen_calls
+              (λ y is. subst (λ (y : Source). LawfulSource z g v.owns v.cleared y) (some_same source y is)
+              (record { entry = o; own = can.own; victim = can.victim; generation = refl; page = refl; written = can.written; stamp = refl; value = λ value none. absurd (none_some value none) })) h.holding.owned,
+          record { sector = λ _. refl; dead = λ high. absurd (omega arith) },
+        )
+
+    stamp_of_none : z.sectors ≤ stamp_word → (w : View) × Lawful z g (set vs id w) × GotStamp v o stamp_word w
+    stamp_of_none high =
+        let h = law.views id v at in
+        let same : v.numbers.sectors ≡ z.sectors = ap (λ (y : Numbers). y.sectors) numbers_same in (
+          seer v.seen v.named None (v.cleared + 1) v.moves,
+          sees v.seen v.named None (v.cleared + 1) v.moves h.knowledge.seen seen_calls (λ y none. absurd (none_some y none))
+              (λ b e own. clears z g id v.work v.cleared v.wiped v.owns o.block o h.kind.reclaims can.own can.victim
+              (λ s low named. let stamp : stamp_word ≡ s = ((law.sectors s low).named (victim_page v o) named).stamp in absurd (omega arith)) b e own (h.holding.owned b e own)),
+          record { sector = λ low. absurd (omega arith); dead = λ _. refl },
+        )
+
+    pub gets_stamp : (w : View) × Lawful z g (set vs id w) × GotStamp v o stamp_word w
+    gets_stamp = dite (dec_lt stamp_word z.sectors) stamp_of_sector (λ not. stamp_of_none (omega arith))
+
+  -- ---- a word of the source
+  pub gets_source : (x : Source) (value : List ℕ) (i : ℕ) → v.source ≡ Some x → x.value ≡ Some value → i < z.words → g.pages x.page.block x.page.page i ≡ data_word value i
+  gets_source x value i is live low = ((its x is).value value live).0 i low
