@@ -1,4 +1,4 @@
--- What a broom finds out of its victim's pages, and how it moves them: looks, stamps, and the exchange of a map word.
+-- What a broom finds out of its victim's pages: looks, stamps and the words of a source.
 use Rattle.std.proofs.Common.{◌≡◌, ◌≢◌, ℕ, ◌+◌, ◌<◌, ◌≤◌, ◌⊎◌, inl, inr, ⊎_elim, true, false, List, [], ◌∷◌, ◌++◌, Option, None, Some, set, sym, refl, ap, ◌∙◌, subst, arith}
 use mathlib.Core.Option.{some}
 use mathlib.Core.Logic.{dite}
@@ -126,13 +126,15 @@ module _ (z : Numbers) (g : World) (vs : List View) (id : ℕ) (v : View) (n : N
         let a4 = its_block.generation in
         let a5 = its.generation in record { generation = omega arith; block = omega arith; page = omega arith }
 
-    -- whoever names a page is the sector of its stamp
-    pub source_dead : ¬ (g.map x.stamp ≡ Some x.page) → (s : ℕ) → s < z.sectors → ¬ (g.map s ≡ Some (record { generation = its.entry.generation; block = x.page.block; page = v.cleared }))
-    source_dead apart s low named =
+    -- whoever names its page is the sector of its stamp
+    pub source_named : (s : ℕ) → s < z.sectors → g.map s ≡ Some (record { generation = its.entry.generation; block = x.page.block; page = v.cleared }) → (x.stamp ≡ s) × (g.map s ≡ Some x.page)
+    source_named s low named =
         let page : record { generation = its.entry.generation; block = x.page.block; page = v.cleared } ≡ x.page = λ i. record { generation = its.generation i; block = x.page.block; page = sym its.page i } in
-        let here : g.map s ≡ Some x.page = named ∙ ap Some page in
-        let stamp : x.stamp ≡ s = sym its.stamp ∙ ((law.sectors s low).named x.page here).stamp in
-        apart (ap g.map stamp ∙ here)
+        let here : g.map s ≡ Some x.page = named ∙ ap Some page in (sym its.stamp ∙ ((law.sectors s low).named x.page here).stamp, here)
+
+    -- so if that sector's map word doesn't name it, none does
+    source_dead : ¬ (g.map x.stamp ≡ Some x.page) → (s : ℕ) → s < z.sectors → ¬ (g.map s ≡ Some (record { generation = its.entry.generation; block = x.page.block; page = v.cleared }))
+    source_dead apart s low named = let k = source_named s low named in apart (ap g.map k.0 ∙ k.1)
 
     pub source_clears : ¬ (g.map x.stamp ≡ Some x.page) → (b : ℕ) (o : Owned) → owned_at b v.owns ≡ Some o → LawfulOwned z g id v.work (v.cleared + 1) v.wiped b o
     source_clears apart b o own =

@@ -23,7 +23,7 @@ use Rattle.flash_rule.proofs.MapSteps.{places, placer, place_world}
 
 -- a page that a player has filled and counted with the sector's value is one that its map word may name
 pub filled : (z : Numbers) (g : World) (vs : List View) (id : ℕ) (v : View) (n : Name) (s : ℕ) (m : MapWord) (value : List ℕ) → Lawful z g vs → get_elem? vs id ≡ some v → v.role ≡ Player n → CanPlace v s m value
-    → (history : List Call) (map : ℕ → Option MapWord) → held z.sectors history s ≡ Some value → (g.owner m.block ≡ id) × IsCurrent z (record g { history = history; map = map }) s m
+    → (history : List Call) (map : ℕ → Option MapWord) → held z.sectors history s ≡ Some value → (g.owner m.block ≡ id) × ((g.pins m.block).phase ≡ Open) × IsCurrent z (record g { history = history; map = map }) s m
 filled z g vs id v n s m value law at role can history map here =
     let h = law.views id v at in
     let same : v.numbers ≡ z = h.kind.numbers (ap is_live_role role) in
@@ -41,6 +41,7 @@ filled z g vs id v n s m value law at role can history map here =
     ap (λ b. g.pages b m.page i) (sym block_is) ∙ (ap (λ p. g.pages can.work.page.block p i) (sym page_is) ∙ work.stands i (omega arith)) in
     let opened : can.entry.phase ≡ Open = ap (λ (y : Owned). y.phase) (sym entry_is) ∙ work.opened in (
       own.owner,
+      own.phase ∙ opened,
       record {
         value = value;
         here = here;
@@ -75,5 +76,5 @@ module _ (z : Numbers) (g : World) (vs : List View) (id : ℕ) (v : View) (t s :
       (λ other unlike. held_by_write z.sectors g.history t s value other unlike)
       (record {
         empty = λ is. absurd (none_some m (sym is ∙ put_here g.map s (Some m)));
-        named = λ n is. subst (λ (n : MapWord). IsCurrent z after s n) (some_same m n (sym (put_here g.map s (Some m)) ∙ is)) own.1;
+        named = λ n is. subst (λ (n : MapWord). IsCurrent z after s n) (some_same m n (sym (put_here g.map s (Some m)) ∙ is)) own.2;
       })

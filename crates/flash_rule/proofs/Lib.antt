@@ -16,6 +16,7 @@ pub mod Splitting
 pub mod DealingBrooms
 pub mod Notes
 pub mod BroomSteps
+pub mod Moving
 pub mod ReaderSteps
 pub mod Reclaiming
 pub mod ReclaimSteps

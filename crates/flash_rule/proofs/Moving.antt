@@ -1,0 +1,170 @@
+-- A broom exchanges a map word: from the page of its source to a copy of it.
+use Rattle.std.proofs.Common.{◌≡◌, ◌≢◌, ℕ, ◌+◌, ◌<◌, ◌⊎◌, inl, inr, true, false, Option, List, None, Some, set, sym, refl, ap, ◌∙◌, subst, arith}
+use mathlib.Core.Option.{some}
+use mathlib.Core.Logic.{dite}
+use native.Mathlib.Decide.{ℕ_discrete}
+use lib.ListN.{get_elem?}
+use Rattle.geometry.specs.History.{held}
+use Rattle.geometry.proofs.Histories.{Begins-refl}
+use Rattle.geometry.specs.Limits.{Numbers}
+use Rattle.geometry.specs.MapWords.{map_word}
+use Rattle.geometry.specs.declared.map_word.MapWord.{MapWord}
+use Rattle.geometry.specs.declared.pin_word.Phase.{Phase}
+use Rattle.geometry.specs.declared.pin_word.Phase.TheVariants.{Open, Victim}
+use Rattle.flash_rule.specs.declared.facts.Name.{Name}
+use Rattle.flash_rule.specs.declared.facts.Name.TheVariants.{Pass}
+use Rattle.flash_rule.specs.declared.facts.Role.TheVariants.{Player}
+use Rattle.flash_rule.specs.declared.facts.Owned.{Owned}
+use Rattle.flash_rule.specs.declared.facts.Source.{Source}
+use Rattle.flash_rule.specs.declared.view.View.{View}
+use Rattle.flash_rule.specs.Views.{is_player, is_live_role, owned_at, AreOfHosts, calls_of}
+use Rattle.flash_rule.specs.World.{World, put, sector_word}
+use Rattle.flash_rule.specs.Rule.{IsCurrent, LawfulSector, LawfulOwned, LawfulView, Lawful}
+use Rattle.flash_rule.specs.Onward.{Onward}
+use Rattle.flash_rule.specs.BroomPlays.{CanMove, Moved}
+use Rattle.flash_rule.proofs.Points.{put_here, put_else, put_all}
+use Rattle.flash_rule.proofs.Owning.{some_same, none_some}
+use Rattle.flash_rule.proofs.Frames.{counted, knowledge_kept}
+use Rattle.flash_rule.proofs.Assembly.{assembled, block_kept, sector_kept}
+use Rattle.flash_rule.proofs.Still.{pin_stays, met_now}
+use Rattle.flash_rule.proofs.Calls.{filled}
+use Rattle.flash_rule.proofs.BroomSteps.{clears, seer, sees, its, source_named, source_clears, source_value}
+
+not_both : (f : Phase) → f ≡ Open → f ≡ Victim → ⊥
+not_both f opened victim = let e : Open ≡ Victim = sym opened ∙ victim in absurd (cc)
+
+module _ (z : Numbers) (g : World) (vs : List View) (id : ℕ) (v : View) (n : Name) (law : Lawful z g vs) (at : get_elem? vs id ≡ some v) (role : v.role ≡ Player n) (x : Source) (copy : MapWord) (can : CanMove v x copy) (low : x.stamp < z.sectors) where
+  abbrev pub mover : ℕ → View
+  mover moves = seer z g vs id v n law at role g.history v.named None (v.cleared + 1) moves
+
+  abbrev pub exchanged_world : World
+  exchanged_world = record g { map = put g.map x.stamp (Some copy) }
+
+  move_tells : (moves word : ℕ) → (word ≡ map_word x.page → (moves ≡ v.moves + 1) × (held v.numbers.sectors g.history x.stamp ≡ x.value)) → (¬ (word ≡ map_word x.page) → moves ≡ v.moves) → Moved v x word (mover moves)
+  move_tells moves word succeeded failed =
+      let h = law.views id v at in
+      let same : v.numbers ≡ z = h.kind.numbers (ap is_live_role role) in
+      record {
+        changed = refl;
+        later = h.knowledge.seen;
+        callers = subst (λ (y : Numbers). AreOfHosts y g.history) (sym same) law.callers;
+        succeeded = succeeded;
+        failed = failed;
+        met = met_now z g v n role h.knowledge (mover moves) refl refl refl refl;
+      }
+
+  -- ---- the map word names another page, or none
+  pub stays : (word : ℕ) → word ≡ sector_word (g.map x.stamp) → ¬ (word ≡ map_word x.page) → Lawful z g (set vs id (mover v.moves)) × Moved v x word (mover v.moves)
+  stays word found other =
+      let h = law.views id v at in
+      let apart : ¬ (g.map x.stamp ≡ Some x.page) = λ named. other (found ∙ ap sector_word named) in (
+        sees z g vs id v n law at role g.history v.named None (v.cleared + 1) v.moves (Begins-refl g.history) (λ t is. (h.holding.calls t is).0) (λ y none. absurd (none_some y none))
+            (source_clears z g vs id v n law at role x can.is apart),
+        move_tells v.moves word (λ is. absurd (other is)) (λ _. refl),
+      )
+
+  -- ---- the map word names the source's page
+  module _ (named : g.map x.stamp ≡ Some x.page) where
+    its_value : held z.sectors g.history x.stamp ≡ Some can.value
+    its_value = source_value z g vs id v n law at role x can.is low named can.value can.live
+
+    the_copy : (g.owner copy.block ≡ id) × ((g.pins copy.block).phase ≡ Open) × IsCurrent z exchanged_world x.stamp copy
+    the_copy = filled z g vs id v n x.stamp copy can.value law at role can.copied g.history exchanged_world.map its_value
+
+    move_onward : Onward z g exchanged_world id id
+    move_onward =
+        record {
+          history = Begins-refl g.history;
+          calls = λ t _. refl;
+          seat = λ m dealt. (refl, dealt);
+          pins = λ b _. pin_stays (g.pins b);
+          owned = λ b _ _ _. record { owner = refl; phase = refl; generation = refl; written = refl; pages = λ p i. refl };
+          pages = λ b p i _ _ _. refl;
+          named = λ s m is. put_all g.map x.stamp (Some copy) (λ j y. y ≡ Some m → (g.map j ≡ Some m) ⊎ (g.owner m.block ≡ id))
+              (λ is. inr (ap (λ (y : MapWord). g.owner y.block) (sym (some_same copy m is)) ∙ the_copy.0)) (λ j _ is. inl is) s is;
+          programmer = λ m _. refl;
+          eraser = λ b k _. refl;
+          dealer = λ _. (refl, refl);
+          badge = λ m _ _ _. refl;
+        }
+
+    -- the copy is in no victim
+    copy_open : (b : ℕ) (m : MapWord) → copy ≡ m → m.block ≡ b → (g.pins b).phase ≡ Victim → ⊥
+    copy_open b m same block victim = not_both (g.pins b).phase (ap (λ c. (g.pins c).phase) (sym (ap (λ (y : MapWord). y.block) same ∙ block)) ∙ the_copy.1) victim
+
+    still_owned : (b : ℕ) (o : Owned) → LawfulOwned z g id v.work v.cleared v.wiped b o → LawfulOwned z exchanged_world id v.work v.cleared v.wiped b o
+    still_owned b o h =
+        record {
+          block = h.block;
+          low = h.low;
+          owner = h.owner;
+          owned = h.owned;
+          phase = h.phase;
+          generation = h.generation;
+          written = h.written;
+          rest = h.rest;
+          dead = λ victim p s below s_low is. put_all g.map x.stamp (Some copy) (λ j y. j < z.sectors → y ≡ Some (record { generation = o.generation; block = b; page = p }) → ⊥)
+              (λ _ here. copy_open b (record { generation = o.generation; block = b; page = p }) (some_same copy (record { generation = o.generation; block = b; page = p }) here) refl (h.phase ∙ victim))
+              (λ j _ j_low there. h.dead victim p j below j_low there) s s_low is;
+          clean = h.clean;
+        }
+
+    -- nothing names the source's page any more
+    unnamed : (s : ℕ) → s < z.sectors → ¬ (exchanged_world.map s ≡ Some (record { generation = (its z g vs id v n law at role x can.is).entry.generation; block = x.page.block; page = v.cleared }))
+    unnamed s s_low is =
+        let source = its z g vs id v n law at role x can.is in
+        let page : MapWord = record { generation = source.entry.generation; block = x.page.block; page = v.cleared } in
+        let block = (law.views id v at).holding.owned x.page.block source.entry source.own in
+        put_all g.map x.stamp (Some copy) (λ j y. j < z.sectors → y ≡ Some page → ⊥) (λ _ here. copy_open x.page.block page (some_same copy page here) refl (block.phase ∙ source.victim))
+        (λ j unlike j_low there. unlike (sym (source_named z g vs id v n law at role x can.is j j_low there).0)) s s_low is
+
+    mover_lawful : LawfulView z exchanged_world id (mover (v.moves + 1))
+    mover_lawful =
+        let h = law.views id v at in
+        let kind = h.kind in
+        let holds = h.holding in
+        let source = its z g vs id v n law at role x can.is in
+        let knows = knowledge_kept z g exchanged_world id id move_onward v (λ b is below. counted vs law id v at b is below) h.knowledge in
+        record {
+          kind = record {
+            numbers = kind.numbers;
+            known = kind.known;
+            opens = kind.opens;
+            unpinned = kind.unpinned;
+            idle = λ is. let no : true ≡ false = sym (ap is_player role) ∙ is in absurd (cc);
+            owns_none = kind.owns_none;
+            reclaims = kind.reclaims;
+          };
+          knowledge = record { seen = Begins-refl g.history; pin = knows.pin; known = knows.known; programs = knows.programs; erases = knows.erases; copy = knows.copy };
+          holding = record {
+            name = holds.name;
+            calls = λ t is. let c = (holds.calls t is).0 in (c, c);
+            owned = λ b o own. clears z exchanged_world id v.work v.cleared v.wiped v.owns x.page.block source.entry kind.reclaims source.own source.victim unnamed b o own (still_owned b o (holds.owned b o own));
+            work = λ w is.
+                let k = holds.work w is in
+                record { entry = k.entry; own = k.own; opened = k.opened; generation = k.generation; page = k.page; counted = k.counted; short = k.short; full = k.full; stands = k.stands };
+            source = λ y none. absurd (none_some y none);
+            whole = holds.whole;
+            guest = holds.guest;
+            dealer = holds.dealer;
+          };
+        }
+
+    pub moves_page : Lawful z exchanged_world (set vs id (mover (v.moves + 1)))
+    moves_page =
+        assembled z g exchanged_world vs id v (mover (v.moves + 1)) law at move_onward mover_lawful
+        (λ s s_low. dite (ℕ_discrete s x.stamp)
+        (λ same. subst (λ j. LawfulSector z exchanged_world j) (sym same)
+        (record {
+          empty = λ is. absurd (none_some copy (sym is ∙ put_here g.map x.stamp (Some copy)));
+          named = λ m is. subst (λ (m : MapWord). IsCurrent z exchanged_world x.stamp m) (some_same copy m (sym (put_here g.map x.stamp (Some copy)) ∙ is)) the_copy.2;
+        }))
+        (λ unlike. sector_kept z g exchanged_world s (law.sectors s s_low) (put_else g.map x.stamp (Some copy) s unlike) refl (λ b _ is. (refl, is, omega arith, λ p i _. refl))))
+        law.callers
+        (λ b b_low. block_kept z g exchanged_world vs id v (mover (v.moves + 1)) b at (law.blocks b b_low) refl refl (λ p i. refl) refl (λ o is. (o, is)))
+        law.strangers refl law.dealt
+
+    pub move_told_here : (word : ℕ) → word ≡ map_word x.page → Moved v x word (mover (v.moves + 1))
+    move_told_here word found =
+        let same : v.numbers ≡ z = (law.views id v at).kind.numbers (ap is_live_role role) in
+        move_tells (v.moves + 1) word (λ _. (refl, ap (λ (y : Numbers). held y.sectors g.history x.stamp) same ∙ (its_value ∙ sym can.live))) (λ not. absurd (not found))
