@@ -17,6 +17,7 @@ pub mod DealingBrooms
 pub mod Notes
 pub mod BroomSteps
 pub mod Moving
+pub mod Wiping
 pub mod ReaderSteps
 pub mod Reclaiming
 pub mod ReclaimSteps

@@ -1,0 +1,199 @@
+-- A broom sets the next word of its erasing block to all ones.
+use Rattle.std.proofs.Common.{◌≡◌, ◌≢◌, ℕ, zero, suc, ◌+◌, ◌-◌, ◌*◌, ◌<◌, ◌≤◌, inl, true, false, Option, List, Some, set, sym, refl, ap, ◌∙◌, subst, arith, suc-mul}
+use Rattle.std.proofs.Math.Nat.{add-mul}
+use mathlib.Core.Option.{some}
+use mathlib.Core.Logic.{dite}
+use native.Mathlib.Decide.{ℕ_discrete, dec_lt}
+use lib.ListN.{get_elem?}
+use Rattle.geometry.proofs.Histories.{Begins-refl}
+use Rattle.geometry.specs.Limits.{Numbers}
+use Rattle.geometry.specs.TableOrder.{page_index}
+use Rattle.geometry.specs.declared.pin_word.Phase.TheVariants.{Open, Victim, Erasing}
+use Rattle.flash_rule.specs.declared.facts.Name.{Name}
+use Rattle.flash_rule.specs.declared.facts.Role.TheVariants.{Player}
+use Rattle.flash_rule.specs.declared.facts.Owned.{Owned}
+use Rattle.flash_rule.specs.declared.view.View.{View}
+use Rattle.flash_rule.specs.Views.{is_player, owned_at}
+use Rattle.flash_rule.specs.World.{World, put_word, is_intact, is_nameable, is_reclaimed, is_still, blank_word}
+use Rattle.flash_rule.specs.Rule.{LawfulOwned, LawfulView, Lawful}
+use Rattle.flash_rule.specs.Onward.{Onward}
+use Rattle.flash_rule.specs.BroomPlays.{IsErasing}
+use Rattle.flash_rule.proofs.Owning.{some_same}
+use Rattle.flash_rule.proofs.Frames.{counted, knowledge_kept}
+use Rattle.flash_rule.proofs.Places.{row_same}
+use Rattle.flash_rule.proofs.Assembly.{assembled, block_kept, sector_kept}
+use Rattle.flash_rule.proofs.Still.{pin_stays}
+use Rattle.flash_rule.proofs.PageSteps.{word_here, word_else}
+
+-- a place in rows of one length is one of some row
+pub row_of : (rows n k : ℕ) → k < rows * n → (p : ℕ) × (i : ℕ) × (p < rows) × (i < n) × (p * n + i ≡ k)
+row_of zero n k low = absurd (omega arith)
+row_of (suc rows) n k low =
+    let last = suc-mul rows n in
+    dite (dec_lt k (rows * n))
+    (λ less. let r = row_of rows n k less in let above = r.2 in (r.0, r.1, omega arith, r.3, r.4))
+    (λ more. (rows, k - rows * n, omega arith, omega arith, omega arith))
+
+-- the words of a block follow each other, page after page
+pub wiped_index : (z : Numbers) (b p i k : ℕ) → p * (z.words + 1) + i ≡ k → page_index z b 0 + k ≡ page_index z b p + i
+wiped_index z b p i k is = let first = add-mul (b * z.pages) 0 (z.words + 1) in let later = add-mul (b * z.pages) p (z.words + 1) in omega arith
+
+module _ (z : Numbers) (g : World) (vs : List View) (id : ℕ) (v : View) (n : Name) (o : Owned) (p i : ℕ) (law : Lawful z g vs) (at : get_elem? vs id ≡ some v) (role : v.role ≡ Player n) (erasing : IsErasing v o) (page : p < z.pages) (word : i ≤ z.words) (next : p * (z.words + 1) + i ≡ v.wiped) where
+  abbrev pub wiper : View
+  wiper = record v { wiped = v.wiped + 1 }
+
+  abbrev pub wipe_world : World
+  wipe_world = record g { pages = put_word g.pages o.block p i blank_word }
+
+  mine : LawfulOwned z g id v.work v.cleared v.wiped o.block o
+  mine = (law.views id v at).holding.owned o.block o erasing.own
+
+  pub erased_low : o.block < z.blocks
+  erased_low = mine.low
+
+  phase_is : (g.pins o.block).phase ≡ Erasing
+  phase_is = mine.phase ∙ erasing.erasing
+
+  other_block : (c q j : ℕ) → c ≢ o.block → put_word g.pages o.block p i blank_word c q j ≡ g.pages c q j
+  other_block c q j unlike = word_else g.pages o.block p i blank_word c q j (λ same. unlike same.0)
+
+  -- no page of this block can be read or named
+  not_intact : (c : ℕ) → is_intact (g.pins c).phase ≡ true → c ≢ o.block
+  not_intact c is same = let no : true ≡ false = sym is ∙ ap is_intact (ap (λ j. (g.pins j).phase) same ∙ phase_is) in absurd (cc)
+
+  not_nameable : (c : ℕ) → is_nameable (g.pins c).phase ≡ true → c ≢ o.block
+  not_nameable c is same = let no : true ≡ false = sym is ∙ ap is_nameable (ap (λ j. (g.pins j).phase) same ∙ phase_is) in absurd (cc)
+
+  wipe_onward : Onward z g wipe_world id id
+  wipe_onward =
+      record {
+        history = Begins-refl g.history;
+        calls = λ t _. refl;
+        seat = λ m dealt. (refl, dealt);
+        pins = λ c _. pin_stays (g.pins c);
+        owned = λ c _ other _. record { owner = refl; phase = refl; generation = refl; written = refl; pages = λ q j. other_block c q j (λ same. other (ap g.owner same ∙ mine.owner)) };
+        pages = λ c q j _ intact _. other_block c q j (not_intact c intact);
+        named = λ s m is. inl is;
+        programmer = λ m _. refl;
+        eraser = λ c k _. refl;
+        dealer = λ _. (refl, refl);
+        badge = λ m _ _ _. refl;
+      }
+
+  -- one word more of the block is all ones
+  wiped_more : LawfulOwned z wipe_world id v.work v.cleared (v.wiped + 1) o.block o
+  wiped_more =
+      record {
+        block = mine.block;
+        low = mine.low;
+        owner = mine.owner;
+        owned = mine.owned;
+        phase = mine.phase;
+        generation = mine.generation;
+        written = mine.written;
+        rest = λ opened. let e : Open ≡ Erasing = sym opened ∙ erasing.erasing in absurd (cc);
+        dead = mine.dead;
+        clean = λ is q j low most below. dite (ℕ_discrete (q * (z.words + 1) + j) v.wiped)
+            (λ last.
+            let here = row_same q p (z.words + 1) j i (omega arith) (omega arith) (last ∙ sym next) in
+            (λ t. put_word g.pages o.block p i blank_word o.block (here.0 t) (here.1 t)) ∙ word_here g.pages o.block p i blank_word)
+            (λ earlier.
+            word_else g.pages o.block p i blank_word o.block q j (λ same. earlier ((λ t. same.1 t * (z.words + 1) + same.2 t) ∙ next)) ∙ mine.clean is q j low most (omega arith));
+      }
+
+  wiped_else : (c : ℕ) (e : Owned) → c ≢ o.block → owned_at c v.owns ≡ Some e → LawfulOwned z wipe_world id v.work v.cleared (v.wiped + 1) c e
+  wiped_else c e unlike owns =
+      let h = law.views id v at in
+      let k = h.holding.owned c e owns in
+      record {
+        block = k.block;
+        low = k.low;
+        owner = k.owner;
+        owned = k.owned;
+        phase = k.phase;
+        generation = k.generation;
+        written = k.written;
+        rest = λ opened q from below not j most. other_block c q j unlike ∙ k.rest opened q from below not j most;
+        dead = k.dead;
+        clean = λ is. absurd (unlike (h.kind.reclaims c o.block e o owns erasing.own (ap is_reclaimed is) (ap is_reclaimed erasing.erasing)));
+      }
+
+  wiper_lawful : LawfulView z wipe_world id wiper
+  wiper_lawful =
+      let h = law.views id v at in
+      let kind = h.kind in
+      let holds = h.holding in
+      let knows = knowledge_kept z g wipe_world id id wipe_onward v (λ c is below. counted vs law id v at c is below) h.knowledge in
+      -- the blocks of its work and of its source are others
+      let apart : (c : ℕ) (e : Owned) → owned_at c v.owns ≡ Some e → ¬ (e.phase ≡ Erasing) → c ≢ o.block = λ c e owns not same.
+      let entry : e ≡ o = some_same e o (sym owns ∙ (ap (λ j. owned_at j v.owns) same ∙ erasing.own)) in not (ap (λ (y : Owned). y.phase) entry ∙ erasing.erasing) in
+      record {
+        kind = record {
+          numbers = kind.numbers;
+          known = kind.known;
+          opens = kind.opens;
+          unpinned = kind.unpinned;
+          idle = λ is. let no : true ≡ false = sym (ap is_player role) ∙ is in absurd (cc);
+          owns_none = kind.owns_none;
+          reclaims = kind.reclaims;
+        };
+        knowledge = record { seen = knows.seen; pin = knows.pin; known = knows.known; programs = knows.programs; erases = knows.erases; copy = knows.copy };
+        holding = record {
+          name = holds.name;
+          calls = holds.calls;
+          owned = λ c e owns. dite (ℕ_discrete c o.block)
+              (λ same.
+              let entry : o ≡ e = some_same o e (sym erasing.own ∙ (ap (λ j. owned_at j v.owns) (sym same) ∙ owns)) in
+              let P : ℕ × Owned → Type 0 = λ y. LawfulOwned z wipe_world id v.work v.cleared (v.wiped + 1) y.0 y.1 in subst P (λ t. (sym same t, entry t)) wiped_more)
+              (λ unlike. wiped_else c e unlike owns);
+          work = λ w is.
+              let k = holds.work w is in
+              let unlike = apart w.page.block k.entry k.own (λ erased. let e : Open ≡ Erasing = sym k.opened ∙ erased in absurd (cc)) in
+              record {
+                entry = k.entry;
+                own = k.own;
+                opened = k.opened;
+                generation = k.generation;
+                page = k.page;
+                counted = k.counted;
+                short = k.short;
+                full = k.full;
+                stands = λ j low. other_block w.page.block w.page.page j unlike ∙ k.stands j low;
+              };
+          source = λ x is.
+              let k = holds.source x is in
+              let unlike = apart x.page.block k.entry k.own (λ erased. let e : Victim ≡ Erasing = sym k.victim ∙ erased in absurd (cc)) in
+              record {
+                entry = k.entry;
+                own = k.own;
+                victim = k.victim;
+                generation = k.generation;
+                page = k.page;
+                written = k.written;
+                stamp = other_block x.page.block x.page.page z.words unlike ∙ k.stamp;
+                value = λ value live. let t = k.value value live in ((λ j low. other_block x.page.block x.page.page j unlike ∙ t.0 j low), t.1);
+              };
+          whole = holds.whole;
+          guest = holds.guest;
+          dealer = holds.dealer;
+        };
+      }
+
+  pub wipes_word : Lawful z wipe_world (set vs id wiper)
+  wipes_word =
+      assembled z g wipe_world vs id v wiper law at wipe_onward wiper_lawful
+      (λ s low. sector_kept z g wipe_world s (law.sectors s low) refl refl (λ c _ named. (refl, named, omega arith, λ q j _. other_block c q j (not_nameable c named))))
+      law.callers
+      (λ c low. dite (ℕ_discrete c o.block)
+      (λ same.
+      let k = block_kept z g g vs id v wiper c at (law.blocks c low) refl refl (λ q j. refl) refl (λ e is. (e, is)) in
+      record {
+        readers = k.readers;
+        written = k.written;
+        generation = k.generation;
+        free = k.free;
+        rest = λ is. let e : false ≡ true = sym (ap is_still (ap (λ j. (g.pins j).phase) same ∙ phase_is)) ∙ is in absurd (cc);
+        owner = k.owner;
+      })
+      (λ unlike. block_kept z g wipe_world vs id v wiper c at (law.blocks c low) refl refl (λ q j. other_block c q j unlike) refl (λ e is. (e, is))))
+      law.strangers refl law.dealt
