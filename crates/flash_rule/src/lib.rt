@@ -1,6 +1,7 @@
 //! The rule of the shared table: what every seat knows, and what holds of the words and all seats between any two steps.
 #![tactic(auto)]
 
+mod broom_plays;
 mod carried;
 mod facts;
 mod plays;
@@ -8,6 +9,7 @@ mod reclaim_plays;
 mod rule;
 mod view;
 
+pub use broom_plays::{BroomLook, GetSource, GetStamp, MoveTo, Wipe};
 pub use carried::Carried;
 pub use facts::{Cycle, Name, Owned, Pin, Role, Source, Work};
 pub use plays::{
