@@ -1,7 +1,7 @@
 -- Each kind of step that a broom makes on map words and page words, as the table asks for it: whatever the table is, the step keeps the rule and tells what it says.
-use Rattle.std.proofs.Common.{◌≡◌, ℕ, ◌+◌, ◌*◌, ◌%◌, ◌^◌, ◌<◌, ◌≤◌, ◌==◌, eq-eqb, ne_eqb, true, List, Some, length, set, sym, refl, ap, ◌∙◌, subst, arith}
+use Rattle.std.proofs.Common.{◌≡◌, ℕ, ◌+◌, ◌*◌, ◌%◌, ◌^◌, ◌<◌, ◌≤◌, ◌==◌, eq-eqb, ne_eqb, true, Some, length, set, sym, refl, ap, ◌∙◌, subst, arith}
 use Rattle.std.proofs.Math.ListN.{get_or}
-use mathlib.Core.Option.{some, none}
+use mathlib.Core.Option.{none}
 use mathlib.Core.Logic.{dite}
 use native.Mathlib.Decide.{ℕ_discrete}
 use prog.Atomic.{either}
@@ -17,7 +17,7 @@ use Rattle.flash_rule.specs.declared.facts.Work.{Work}
 use Rattle.flash_rule.specs.declared.facts.Source.{Source}
 use Rattle.flash_rule.specs.declared.view.View.{View}
 use Rattle.flash_rule.specs.Views.{is_player, owned_at}
-use Rattle.flash_rule.specs.World.{World, Fits, sector_word, data_word, blank_word}
+use Rattle.flash_rule.specs.World.{World, Fits, sector_word, blank_word}
 use Rattle.flash_rule.specs.Rule.{Lawful}
 use Rattle.flash_rule.specs.Seats.{Ruled, Whole}
 use Rattle.flash_rule.specs.Plays.{Sitter, CanPut, CanCount, CanClose, words_in, next_page, put_told, count_told, close_told}
@@ -25,7 +25,7 @@ use Rattle.flash_rule.specs.BroomPlays.{Named, CanGetStamp, GotStamp, CanMove, M
 use Rattle.flash_rule.proofs.Owning.{some_same}
 use Rattle.flash_rule.proofs.Places.{fits_load, fits_map, fits_page, page_within, page_same}
 use Rattle.flash_rule.proofs.OwnSteps.{player_of}
-use Rattle.flash_rule.proofs.BroomSteps.{looks, stamp_word, stamp_low, gets_stamp, gets_source, source_low, names_source}
+use Rattle.flash_rule.proofs.BroomSteps.{looks, stamp_low, gets_stamp, gets_source, source_low, names_source}
 use Rattle.flash_rule.proofs.Moving.{mover, exchanged_world, stays, moves_page, move_told_here}
 use Rattle.flash_rule.proofs.Wiping.{row_of, wiped_index, wiper, wipe_world, wipes_word, erased_low}
 use Rattle.flash_rule.proofs.Parts.{whole_kept}

@@ -1,5 +1,5 @@
 -- What a broom finds out of its victim's pages: looks, stamps and the words of a source.
-use Rattle.std.proofs.Common.{◌≡◌, ◌≢◌, ℕ, ◌+◌, ◌<◌, ◌≤◌, ◌⊎◌, inl, inr, ⊎_elim, true, false, List, [], ◌∷◌, ◌++◌, Option, None, Some, set, sym, refl, ap, ◌∙◌, subst, arith}
+use Rattle.std.proofs.Common.{◌≡◌, ℕ, ◌+◌, ◌<◌, ◌≤◌, ◌⊎◌, inl, inr, ⊎_elim, true, false, List, [], ◌∷◌, ◌++◌, Option, None, Some, set, sym, refl, ap, ◌∙◌, subst, arith}
 use mathlib.Core.Option.{some}
 use mathlib.Core.Logic.{dite}
 use native.Mathlib.Decide.{ℕ_discrete, dec_lt}
@@ -10,27 +10,23 @@ use Rattle.geometry.specs.Limits.{Numbers}
 use Rattle.geometry.specs.MapWords.{map_word, FitsMap}
 use Rattle.geometry.proofs.PinBits.{map_same}
 use Rattle.geometry.specs.declared.map_word.MapWord.{MapWord}
-use Rattle.geometry.specs.declared.pin_word.Phase.TheVariants.{Open, Victim}
+use Rattle.geometry.specs.declared.pin_word.Phase.TheVariants.{Victim}
 use Rattle.flash_rule.specs.declared.facts.Name.{Name}
 use Rattle.flash_rule.specs.declared.facts.Name.TheVariants.{Pass}
 use Rattle.flash_rule.specs.declared.facts.Role.TheVariants.{Player}
 use Rattle.flash_rule.specs.declared.facts.Owned.{Owned}
 use Rattle.flash_rule.specs.declared.facts.Work.{Work}
 use Rattle.flash_rule.specs.declared.facts.Source.{Source}
+use Rattle.flash_rule.specs.declared.carried.Carried.{Carried}
 use Rattle.flash_rule.specs.declared.view.View.{View}
 use Rattle.flash_rule.specs.Views.{is_player, is_live_role, owned_at, AreOfHosts, calls_of}
-use Rattle.flash_rule.specs.World.{World, put, is_reclaimed, sector_word, data_word, HoldsValue}
-use Rattle.flash_rule.specs.Rule.{IsValue, IsCurrent, ReclaimsOne, LawfulOwned, LawfulSource, LawfulView, Lawful}
-use Rattle.flash_rule.specs.Onward.{Onward}
-use Rattle.flash_rule.specs.Plays.{CanPlace}
-use Rattle.flash_rule.specs.BroomPlays.{Named, CanGetStamp, GotStamp, victim_page, CanMove, Moved}
-use Rattle.flash_rule.proofs.Points.{put_here, put_else, put_all}
+use Rattle.flash_rule.specs.World.{World, is_reclaimed, sector_word, data_word, HoldsValue}
+use Rattle.flash_rule.specs.Rule.{IsValue, IsCurrent, ReclaimsOne, LawfulOwned, LawfulSource, Lawful}
+use Rattle.flash_rule.specs.Plays.{Met}
+use Rattle.flash_rule.specs.BroomPlays.{Named, CanGetStamp, GotStamp, victim_page}
 use Rattle.flash_rule.proofs.Owning.{some_same, none_some}
-use Rattle.flash_rule.proofs.Frames.{counted, knowledge_kept}
-use Rattle.flash_rule.proofs.Assembly.{assembled, block_kept, sector_kept}
-use Rattle.flash_rule.proofs.Still.{pin_stays, still, met_now, map_fits}
+use Rattle.flash_rule.proofs.Still.{still, met_now, map_fits}
 use Rattle.flash_rule.proofs.MapSteps.{word_empty, word_named}
-use Rattle.flash_rule.proofs.Calls.{filled}
 use Rattle.flash_rule.proofs.Values.{value_same}
 
 some_or_none : {X : Type 0} (x : Option X) → (x ≡ None) ⊎ ((y : X) × (x ≡ Some y))
@@ -62,8 +58,11 @@ clears z g id doing cleared wiped owns c victim one its phase unnamed b o is h =
     }
 
 module _ (z : Numbers) (g : World) (vs : List View) (id : ℕ) (v : View) (n : Name) (law : Lawful z g vs) (at : get_elem? vs id ≡ some v) (role : v.role ≡ Player n) where
-  numbers_same : v.numbers ≡ z
+  pub numbers_same : v.numbers ≡ z
   numbers_same = (law.views id v at).kind.numbers (ap is_live_role role)
+
+  pub callers_now : AreOfHosts v.numbers g.history
+  callers_now = subst (λ (y : Numbers). AreOfHosts y g.history) (sym numbers_same) law.callers
 
   -- ---- what a broom knows changes, and no word
   abbrev pub seer : List Call → List (ℕ × ℕ) → Option Source → ℕ → ℕ → View
@@ -163,39 +162,29 @@ module _ (z : Numbers) (g : World) (vs : List View) (id : ℕ) (v : View) (n : N
     abbrev pub looker : Option Source → ℕ → View
     looker source cleared = seer g.history (v.named ++ (s, looked_word) ∷ []) source cleared v.moves
 
-    -- what a look tells, but for the source
-    look_tells : (source : Option Source) (cleared : ℕ)
-        → ((x : Source) (value : List ℕ) → v.source ≡ Some x → x.stamp ≡ s → looked_word ≡ map_word x.page → held v.numbers.sectors g.history s ≡ Some value → (source ≡ Some (record x { value = Some value })) × (cleared ≡ v.cleared))
-        → ((x : Source) → v.source ≡ Some x → x.stamp ≡ s → ¬ (looked_word ≡ map_word x.page) → (source ≡ None) × (cleared ≡ v.cleared + 1))
-        → (((x : Source) → v.source ≡ Some x → ¬ (x.stamp ≡ s)) → (source ≡ v.source) × (cleared ≡ v.cleared))
-        → Named v s looked_word (looker source cleared)
-    look_tells source cleared live dead others =
-        let h = law.views id v at in
+    -- what the word tells
+    empty_now : looked_word ≡ 0 → held v.numbers.sectors g.history s ≡ None
+    empty_now none = ap (λ (y : Numbers). held y.sectors g.history s) numbers_same ∙ (law.sectors s low).empty (word_empty (g.map s) none)
+
+    page_now : ¬ (looked_word ≡ 0) → (m : MapWord) × (value : List ℕ) × (looked_word ≡ map_word m) × FitsMap m × (held v.numbers.sectors g.history s ≡ Some value) × IsValue v.numbers value
+        × (m.block < v.numbers.blocks) × (m.page < v.numbers.pages)
+    page_now not =
         let same = numbers_same in
-        let sector = law.sectors s low in
-        record {
-          changed = refl;
-          later = h.knowledge.seen;
-          callers = subst (λ (y : Numbers). AreOfHosts y g.history) (sym same) law.callers;
-          empty = λ none. ap (λ (y : Numbers). held y.sectors g.history s) same ∙ sector.empty (word_empty (g.map s) none);
-          page = λ not.
-              let k = word_named (g.map s) not in
-              let current = sector.named k.0 k.1 in
-              let fits = map_fits z g vs s k.0 law current in (
-                k.0,
-                current.value,
-                ap sector_word k.1,
-                fits.0,
-                ap (λ (y : Numbers). held y.sectors g.history s) same ∙ current.here,
-                subst (λ (y : Numbers). IsValue y current.value) (sym same) current.whole,
-                (let e : v.numbers.blocks ≡ z.blocks = ap (λ (y : Numbers). y.blocks) same in let l = current.block in omega arith),
-                (let e : v.numbers.pages ≡ z.pages = ap (λ (y : Numbers). y.pages) same in let l = fits.1 in omega arith),
-              );
-          live = live;
-          dead = dead;
-          others = others;
-          met = met_now z g v n role h.knowledge (looker source cleared) refl refl refl refl;
-        }
+        let k = word_named (g.map s) not in
+        let current = (law.sectors s low).named k.0 k.1 in
+        let fits = map_fits z g vs s k.0 law current in (
+          k.0,
+          current.value,
+          ap sector_word k.1,
+          fits.0,
+          ap (λ (y : Numbers). held y.sectors g.history s) same ∙ current.here,
+          subst (λ (y : Numbers). IsValue y current.value) (sym same) current.whole,
+          (let e : v.numbers.blocks ≡ z.blocks = ap (λ (y : Numbers). y.blocks) same in let l = current.block in omega arith),
+          (let e : v.numbers.pages ≡ z.pages = ap (λ (y : Numbers). y.pages) same in let l = fits.1 in omega arith),
+        )
+
+    met_here : (w : View) → w.role ≡ v.role → w.seen ≡ g.history → w.programs ≡ v.programs → w.erases ≡ v.erases → (c : Carried) → v.copy ≡ Some c → Met w c
+    met_here = met_now z g v n role (law.views id v at).knowledge
 
     own_calls : (t : ℕ) → v.role ≡ Player (Pass t) → calls_of t g.history ≡ v.mine
     own_calls t is = ((law.views id v at).holding.calls t is).0
@@ -206,41 +195,73 @@ module _ (z : Numbers) (g : World) (vs : List View) (id : ℕ) (v : View) (n : N
         let h = law.views id v at in (
           looker v.source v.cleared,
           sees g.history (v.named ++ (s, looked_word) ∷ []) v.source v.cleared v.moves (Begins-refl g.history) own_calls h.holding.source h.holding.owned,
-          look_tells v.source v.cleared (λ x value is stamp. absurd (apart x is stamp)) (λ x is stamp. absurd (apart x is stamp)) (λ _. (refl, refl)),
+          record {
+            changed = refl;
+            later = h.knowledge.seen;
+            callers = callers_now;
+            empty = empty_now;
+            page = page_now;
+            live = λ x value is stamp. absurd (apart x is stamp);
+            dead = λ x is stamp. absurd (apart x is stamp);
+            others = λ _. (refl, refl);
+            met = met_here (looker v.source v.cleared) refl refl refl refl;
+          },
         )
 
     -- the source's page is the sector's
-    look_live : (x : Source) → v.source ≡ Some x → x.stamp ≡ s → looked_word ≡ map_word x.page → (w : View) × Lawful z g (set vs id w) × Named v s looked_word w
-    look_live x is stamp found =
-        let h = law.views id v at in
-        let same = numbers_same in
-        let source = its x is in
-        let P : ℕ → Type 0 = λ t. (t < z.sectors) × (sector_word (g.map t) ≡ map_word x.page) in
-        let there : P x.stamp = subst P (sym stamp) (low, found) in
-        let named : g.map s ≡ Some x.page = sym (ap g.map stamp) ∙ names_source x is there.0 there.1 in
-        let current = (law.sectors s low).named x.page named in
-        let now : Option Source = Some (record x { value = Some current.value }) in (
-          looker now v.cleared,
-          sees g.history (v.named ++ (s, looked_word) ∷ []) now v.cleared v.moves (Begins-refl g.history) own_calls
-              (λ y its_now. subst (λ (y : Source). LawfulSource z g v.owns v.cleared y) (some_same (record x { value = Some current.value }) y its_now)
-              (record {
-                entry = source.entry;
-                own = source.own;
-                victim = source.victim;
-                generation = source.generation;
-                page = source.page;
-                written = source.written;
-                stamp = source.stamp;
-                value = λ value live. subst (λ (u : List ℕ). HoldsValue z (g.pages x.page.block x.page.page) u × IsValue z u) (some_same current.value value live) (current.stands, current.whole);
-              })) h.holding.owned,
-          look_tells now v.cleared
-              (λ y value its_before _ _ holds.
-              let one : x ≡ y = some_same x y (sym is ∙ its_before) in
-              let values : current.value ≡ value = some_same current.value value (sym current.here ∙ (sym (ap (λ (y : Numbers). held y.sectors g.history s) same) ∙ holds)) in
-              (λ i. Some (record (one i) { value = Some (values i) }), refl))
-              (λ y its_before _ not. absurd (not (found ∙ ap (λ (y : Source). map_word y.page) (some_same x y (sym is ∙ its_before)))))
-              (λ apart. absurd (apart x is stamp)),
-        )
+    module _ (x : Source) (is : v.source ≡ Some x) (stamp : x.stamp ≡ s) (found : looked_word ≡ map_word x.page) where
+      live_page : IsCurrent z g s x.page
+      live_page =
+          let P : ℕ → Type 0 = λ t. (t < z.sectors) × (sector_word (g.map t) ≡ map_word x.page) in
+          let there : P x.stamp = subst P (sym stamp) (low, found) in
+          (law.sectors s low).named x.page (sym (ap g.map stamp) ∙ names_source x is there.0 there.1)
+
+      live_source : Source
+      live_source = record x { value = Some live_page.value }
+
+      live_lawful : LawfulSource z g v.owns v.cleared live_source
+      unfolding live_source
+      live_lawful =
+          let source = its x is in
+          record {
+            entry = source.entry;
+            own = source.own;
+            victim = source.victim;
+            generation = source.generation;
+            page = source.page;
+            written = source.written;
+            stamp = source.stamp;
+            value = λ value live. subst (λ (u : List ℕ). HoldsValue z (g.pages x.page.block x.page.page) u × IsValue z u) (some_same live_page.value value live) (live_page.stands, live_page.whole);
+          }
+
+      live_told : (y : Source) (value : List ℕ) → v.source ≡ Some y → held v.numbers.sectors g.history s ≡ Some value → Some live_source ≡ Some (record y { value = Some value })
+      unfolding live_source
+      live_told y value its_before holds =
+          let one : x ≡ y = some_same x y (sym is ∙ its_before) in
+          let values : live_page.value ≡ value = some_same live_page.value value (sym live_page.here ∙ (sym (ap (λ (y : Numbers). held y.sectors g.history s) numbers_same) ∙ holds)) in
+          λ i. Some (record (one i) { value = Some (values i) })
+
+      not_dead : (y : Source) → v.source ≡ Some y → ¬ (looked_word ≡ map_word y.page) → ⊥
+      not_dead y its_before not = not (found ∙ ap (λ (y : Source). map_word y.page) (some_same x y (sym is ∙ its_before)))
+
+      look_live : (w : View) × Lawful z g (set vs id w) × Named v s looked_word w
+      look_live =
+          let h = law.views id v at in (
+            looker (Some live_source) v.cleared,
+            sees g.history (v.named ++ (s, looked_word) ∷ []) (Some live_source) v.cleared v.moves (Begins-refl g.history) own_calls
+                (λ y its_now. subst (λ (y : Source). LawfulSource z g v.owns v.cleared y) (some_same live_source y its_now) live_lawful) h.holding.owned,
+            record {
+              changed = refl;
+              later = h.knowledge.seen;
+              callers = callers_now;
+              empty = empty_now;
+              page = page_now;
+              live = λ y value its_before _ _ holds. (live_told y value its_before holds, refl);
+              dead = λ y its_before _ not. absurd (not_dead y its_before not);
+              others = λ apart. absurd (apart x is stamp);
+              met = met_here (looker (Some live_source) v.cleared) refl refl refl refl;
+            },
+          )
 
     -- the source's page is the sector's no more
     look_dead : (x : Source) → v.source ≡ Some x → x.stamp ≡ s → ¬ (looked_word ≡ map_word x.page) → (w : View) × Lawful z g (set vs id w) × Named v s looked_word w
@@ -248,10 +269,17 @@ module _ (z : Numbers) (g : World) (vs : List View) (id : ℕ) (v : View) (n : N
         let apart : ¬ (g.map x.stamp ≡ Some x.page) = λ named. other (ap sector_word (sym (ap g.map stamp) ∙ named)) in (
           looker None (v.cleared + 1),
           sees g.history (v.named ++ (s, looked_word) ∷ []) None (v.cleared + 1) v.moves (Begins-refl g.history) own_calls (λ y none. absurd (none_some y none)) (source_clears x is apart),
-          look_tells None (v.cleared + 1)
-              (λ y value its_before _ found. absurd (other (found ∙ ap (λ (y : Source). map_word y.page) (some_same y x (sym its_before ∙ is)))))
-              (λ y its_before _ _. (refl, refl))
-              (λ apart. absurd (apart x is stamp)),
+          record {
+            changed = refl;
+            later = (law.views id v at).knowledge.seen;
+            callers = callers_now;
+            empty = empty_now;
+            page = page_now;
+            live = λ y value its_before _ found. absurd (other (found ∙ ap (λ (y : Source). map_word y.page) (some_same y x (sym its_before ∙ is))));
+            dead = λ y its_before _ _. (refl, refl);
+            others = λ apart. absurd (apart x is stamp);
+            met = met_here (looker None (v.cleared + 1)) refl refl refl refl;
+          },
         )
 
     pub looks : (w : View) × Lawful z g (set vs id w) × Named v s looked_word w

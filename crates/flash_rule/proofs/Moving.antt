@@ -1,5 +1,5 @@
 -- A broom exchanges a map word: from the page of its source to a copy of it.
-use Rattle.std.proofs.Common.{◌≡◌, ◌≢◌, ℕ, ◌+◌, ◌<◌, ◌⊎◌, inl, inr, true, false, Option, List, None, Some, set, sym, refl, ap, ◌∙◌, subst, arith}
+use Rattle.std.proofs.Common.{◌≡◌, ℕ, ◌+◌, ◌<◌, ◌⊎◌, inl, inr, true, false, List, None, Some, set, sym, refl, ap, ◌∙◌, subst, arith}
 use mathlib.Core.Option.{some}
 use mathlib.Core.Logic.{dite}
 use native.Mathlib.Decide.{ℕ_discrete}
@@ -12,12 +12,11 @@ use Rattle.geometry.specs.declared.map_word.MapWord.{MapWord}
 use Rattle.geometry.specs.declared.pin_word.Phase.{Phase}
 use Rattle.geometry.specs.declared.pin_word.Phase.TheVariants.{Open, Victim}
 use Rattle.flash_rule.specs.declared.facts.Name.{Name}
-use Rattle.flash_rule.specs.declared.facts.Name.TheVariants.{Pass}
 use Rattle.flash_rule.specs.declared.facts.Role.TheVariants.{Player}
 use Rattle.flash_rule.specs.declared.facts.Owned.{Owned}
 use Rattle.flash_rule.specs.declared.facts.Source.{Source}
 use Rattle.flash_rule.specs.declared.view.View.{View}
-use Rattle.flash_rule.specs.Views.{is_player, is_live_role, owned_at, AreOfHosts, calls_of}
+use Rattle.flash_rule.specs.Views.{is_player}
 use Rattle.flash_rule.specs.World.{World, put, sector_word}
 use Rattle.flash_rule.specs.Rule.{IsCurrent, LawfulSector, LawfulOwned, LawfulView, Lawful}
 use Rattle.flash_rule.specs.Onward.{Onward}
@@ -28,7 +27,7 @@ use Rattle.flash_rule.proofs.Frames.{counted, knowledge_kept}
 use Rattle.flash_rule.proofs.Assembly.{assembled, block_kept, sector_kept}
 use Rattle.flash_rule.proofs.Still.{pin_stays, met_now}
 use Rattle.flash_rule.proofs.Calls.{filled}
-use Rattle.flash_rule.proofs.BroomSteps.{clears, seer, sees, its, source_named, source_clears, source_value}
+use Rattle.flash_rule.proofs.BroomSteps.{numbers_same, callers_now, clears, seer, sees, its, source_named, source_clears, source_value}
 
 not_both : (f : Phase) → f ≡ Open → f ≡ Victim → ⊥
 not_both f opened victim = let e : Open ≡ Victim = sym opened ∙ victim in absurd (cc)
@@ -43,11 +42,10 @@ module _ (z : Numbers) (g : World) (vs : List View) (id : ℕ) (v : View) (n : N
   move_tells : (moves word : ℕ) → (word ≡ map_word x.page → (moves ≡ v.moves + 1) × (held v.numbers.sectors g.history x.stamp ≡ x.value)) → (¬ (word ≡ map_word x.page) → moves ≡ v.moves) → Moved v x word (mover moves)
   move_tells moves word succeeded failed =
       let h = law.views id v at in
-      let same : v.numbers ≡ z = h.kind.numbers (ap is_live_role role) in
       record {
         changed = refl;
         later = h.knowledge.seen;
-        callers = subst (λ (y : Numbers). AreOfHosts y g.history) (sym same) law.callers;
+        callers = callers_now z g vs id v n law at role;
         succeeded = succeeded;
         failed = failed;
         met = met_now z g v n role h.knowledge (mover moves) refl refl refl refl;
@@ -166,5 +164,5 @@ module _ (z : Numbers) (g : World) (vs : List View) (id : ℕ) (v : View) (n : N
 
     pub move_told_here : (word : ℕ) → word ≡ map_word x.page → Moved v x word (mover (v.moves + 1))
     move_told_here word found =
-        let same : v.numbers ≡ z = (law.views id v at).kind.numbers (ap is_live_role role) in
+        let same = numbers_same z g vs id v n law at role in
         move_tells (v.moves + 1) word (λ _. (refl, ap (λ (y : Numbers). held y.sectors g.history x.stamp) same ∙ (its_value ∙ sym can.live))) (λ not. absurd (not found))

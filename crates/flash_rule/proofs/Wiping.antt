@@ -1,5 +1,5 @@
 -- A broom sets the next word of its erasing block to all ones.
-use Rattle.std.proofs.Common.{◌≡◌, ◌≢◌, ℕ, zero, suc, ◌+◌, ◌-◌, ◌*◌, ◌<◌, ◌≤◌, inl, true, false, Option, List, Some, set, sym, refl, ap, ◌∙◌, subst, arith, suc-mul}
+use Rattle.std.proofs.Common.{◌≡◌, ◌≢◌, ℕ, zero, suc, ◌+◌, ◌-◌, ◌*◌, ◌<◌, ◌≤◌, inl, true, false, List, Some, set, sym, refl, ap, ◌∙◌, subst, arith, suc-mul}
 use Rattle.std.proofs.Math.Nat.{add-mul}
 use mathlib.Core.Option.{some}
 use mathlib.Core.Logic.{dite}
@@ -39,8 +39,12 @@ pub wiped_index : (z : Numbers) (b p i k : ℕ) → p * (z.words + 1) + i ≡ k 
 wiped_index z b p i k is = let first = add-mul (b * z.pages) 0 (z.words + 1) in let later = add-mul (b * z.pages) p (z.words + 1) in omega arith
 
 module _ (z : Numbers) (g : World) (vs : List View) (id : ℕ) (v : View) (n : Name) (o : Owned) (p i : ℕ) (law : Lawful z g vs) (at : get_elem? vs id ≡ some v) (role : v.role ≡ Player n) (erasing : IsErasing v o) (page : p < z.pages) (word : i ≤ z.words) (next : p * (z.words + 1) + i ≡ v.wiped) where
+  -- how many words are all ones after the step
+  abbrev pub wiped_now : ℕ
+  wiped_now = v.wiped + 1
+
   abbrev pub wiper : View
-  wiper = record v { wiped = v.wiped + 1 }
+  wiper = record v { wiped = wiped_now }
 
   abbrev pub wipe_world : World
   wipe_world = record g { pages = put_word g.pages o.block p i blank_word }
@@ -81,7 +85,7 @@ module _ (z : Numbers) (g : World) (vs : List View) (id : ℕ) (v : View) (n : N
       }
 
   -- one word more of the block is all ones
-  wiped_more : LawfulOwned z wipe_world id v.work v.cleared (v.wiped + 1) o.block o
+  wiped_more : LawfulOwned z wipe_world id v.work v.cleared wiped_now o.block o
   wiped_more =
       record {
         block = mine.block;
@@ -101,7 +105,7 @@ module _ (z : Numbers) (g : World) (vs : List View) (id : ℕ) (v : View) (n : N
             word_else g.pages o.block p i blank_word o.block q j (λ same. earlier ((λ t. same.1 t * (z.words + 1) + same.2 t) ∙ next)) ∙ mine.clean is q j low most (omega arith));
       }
 
-  wiped_else : (c : ℕ) (e : Owned) → c ≢ o.block → owned_at c v.owns ≡ Some e → LawfulOwned z wipe_world id v.work v.cleared (v.wiped + 1) c e
+  wiped_else : (c : ℕ) (e : Owned) → c ≢ o.block → owned_at c v.owns ≡ Some e → LawfulOwned z wipe_world id v.work v.cleared wiped_now c e
   wiped_else c e unlike owns =
       let h = law.views id v at in
       let k = h.holding.owned c e owns in
@@ -144,7 +148,7 @@ module _ (z : Numbers) (g : World) (vs : List View) (id : ℕ) (v : View) (n : N
           owned = λ c e owns. dite (ℕ_discrete c o.block)
               (λ same.
               let entry : o ≡ e = some_same o e (sym erasing.own ∙ (ap (λ j. owned_at j v.owns) (sym same) ∙ owns)) in
-              let P : ℕ × Owned → Type 0 = λ y. LawfulOwned z wipe_world id v.work v.cleared (v.wiped + 1) y.0 y.1 in subst P (λ t. (sym same t, entry t)) wiped_more)
+              let P : ℕ × Owned → Type 0 = λ y. LawfulOwned z wipe_world id v.work v.cleared wiped_now y.0 y.1 in subst P (λ t. (sym same t, entry t)) wiped_more)
               (λ unlike. wiped_else c e unlike owns);
           work = λ w is.
               let k = holds.work w is in
