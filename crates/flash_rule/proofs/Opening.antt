@@ -18,9 +18,9 @@ use Rattle.geometry.specs.declared.pin_word.Phase.TheVariants.{Free, Open}
 use Rattle.flash_rule.specs.declared.facts.Owned.{Owned}
 use Rattle.flash_rule.specs.declared.view.View.{View}
 use Rattle.flash_rule.specs.Views.{owned_at, caller}
-use Rattle.flash_rule.specs.World.{World, Fits, is_owned, is_early, is_reclaimed, blank_word}
-use Rattle.flash_rule.specs.Rule.{LawfulBlock, LawfulOwned, LawfulView, Lawful, IsEarly}
-use Rattle.flash_rule.specs.Seats.{Ruled, spare, spares, dealer, opening_words}
+use Rattle.flash_rule.specs.World.{World, Fits, is_owned, is_reclaimed, blank_word}
+use Rattle.flash_rule.specs.Rule.{LawfulBlock, LawfulOwned, LawfulView, Lawful}
+use Rattle.flash_rule.specs.Seats.{Ruled, Whole, spare, spares, dealer, opening_words}
 use Rattle.flash_rule.proofs.Owning.{none_some, some_same}
 use Rattle.flash_rule.proofs.Places.{row_within}
 use Rattle.std.proofs.lemmas.Bool.Decides.{nat_tests}
@@ -203,12 +203,6 @@ module _ (z : Numbers) (limits : IsWithinLimits z) where
       only zero v is = subst (λ (v : View). LawfulView z opening_world 0 v) (some-injective (dealer z) v is) opening_view
       only (suc id) v is = absurd (some-ne-none v (sym is))
 
-  opening_early : IsEarly z opening_world
-  opening_early = record {
-    phase = λ b low. dite (dec_lt b (z.blocks - z.brooms)) (λ below. ap is_early (phase_low b below)) (λ above. ap is_early (phase_high b above));
-    generation = λ b low. (blank_pin b).2;
-  }
-
   -- the table of these words, with the dealer's seat alone, meets the rule
-  pub opening_ruled : Ruled IsEarly z (opening (opening_words z) [] (dealer z))
-  opening_ruled = (opening_world, opening_fits, opening_lawful, opening_early)
+  pub opening_ruled : Ruled Whole z (opening (opening_words z) [] (dealer z))
+  opening_ruled = (opening_world, opening_fits, opening_lawful, tt)

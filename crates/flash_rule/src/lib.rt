@@ -17,7 +17,7 @@ pub use plays::{
     PlaceTrim, PlaceWrite, PutWord, Take, TakeIn, TakeReader,
 };
 pub use reclaim_plays::{Claim, Condemn, Drain, FreeBlock, KeepBlock, LoadState, RetireBlock};
-pub use rule::WithoutErasing;
+pub use rule::Device;
 pub use view::View;
 
 #[cfg(test)]

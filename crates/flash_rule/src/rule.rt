@@ -1,17 +1,16 @@
-//! The rules that a table of this crate's seats is made with.
+//! The rule that a table of this crate's seats is made with.
 use crate::view::View;
 use atomic_table::TableRule;
 use geometry::Geometry;
 
-/// The rule of a device on which nothing is erased.
-pub struct WithoutErasing;
+/// The rule of a shared device.
+pub struct Device;
 
-impl TableRule<(), View, Geometry> for WithoutErasing {
+impl TableRule<(), View, Geometry> for Device {
     ghost use Rattle.geometry.specs.Geometry.{numbers_of};
-    ghost use Rattle.flash_rule.specs.Seats.{Ruled, dealer};
-    ghost use Rattle.flash_rule.specs.Rule.{IsEarly};
+    ghost use Rattle.flash_rule.specs.Seats.{Ruled, Whole, dealer};
 
-    ghost holds = { λ geometry. Ruled IsEarly (numbers_of geometry) };
+    ghost holds = { λ geometry. Ruled Whole (numbers_of geometry) };
 
     ghost first = { λ geometry. dealer (numbers_of geometry) };
 }

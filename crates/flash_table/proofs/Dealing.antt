@@ -6,10 +6,9 @@ use Rattle.atomic_table.specs.declared.shared.Seat.{Seat}
 use Rattle.flash_rule.specs.declared.facts.Role.TheVariants.{Dealer}
 use Rattle.flash_rule.specs.declared.view.View.{View}
 use Rattle.flash_rule.specs.Views.{is_pass}
-use Rattle.flash_rule.specs.Rule.{IsEarly}
-use Rattle.flash_rule.specs.Seats.{Ruled, dealt_pass, new_pass}
+use Rattle.flash_rule.specs.Seats.{Ruled, Whole, dealt_pass, new_pass}
 use Rattle.flash_rule.proofs.Owning.{get_last}
-use Rattle.flash_rule.proofs.Parts.{early_kept}
+use Rattle.flash_rule.proofs.Parts.{whole_kept}
 use Rattle.flash_rule.proofs.Splitting.{deals_pass}
 use Rattle.flash_table.specs.declared.flash.Flash.{Flash}
 use Rattle.flash_table.specs.declared.pass.Pass.{Pass}
@@ -24,8 +23,8 @@ pub record Deals (f : Flash) (dealer : Seat (Unit {0}) View) (passes : List Pass
   pub long : length passes ≡ t
   pub each : (k : ℕ) (p : Pass) → slice_get passes k ≡ Some p → IsPassOf f p × (view_of p ≡ first_view (device f) k) × (opened_of p ≡ None)
 
-pub deal_here : (z k : Numbers) (same : k ≡ z) (id : ℕ) (v : View) → v.role ≡ Dealer → v.passes < v.numbers.hosts → Splits (Ruled IsEarly k) id v (dealt_pass v) (new_pass v)
-deal_here z k same id v role room = let P : Numbers → Type 0 = λ x. Splits (Ruled IsEarly x) id v (dealt_pass v) (new_pass v) in subst P (sym same) (deals_pass IsEarly z (early_kept z) id v role room)
+pub deal_here : (z k : Numbers) (same : k ≡ z) (id : ℕ) (v : View) → v.role ≡ Dealer → v.passes < v.numbers.hosts → Splits (Ruled Whole k) id v (dealt_pass v) (new_pass v)
+deal_here z k same id v role room = let P : Numbers → Type 0 = λ x. Splits (Ruled Whole x) id v (dealt_pass v) (new_pass v) in subst P (sym same) (deals_pass Whole z (whole_kept z) id v role room)
 
 pub deals_next : (f : Flash) (before after : Seat (Unit {0}) View) (passes : List Pass) (p : Pass) (t : ℕ) → Deals f before passes t → after.table_id ≡ before.table_id → after.me.0 ≡ dealt_pass before.me.0
     → p.seat.table_id ≡ before.table_id → view_of p ≡ new_pass before.me.0 → opened_of p ≡ None → Deals f after (passes ++ p ∷ []) (t + 1)

@@ -1,9 +1,9 @@
 use atomic_table::Table;
-use flash_rule::{View, WithoutErasing};
+use flash_rule::{Device, View};
 use geometry::Geometry;
 use std::alloc::Global;
 
-pub(crate) type SharedTable = Table<(), View, Geometry, WithoutErasing, Global>;
+pub(crate) type SharedTable = Table<(), View, Geometry, Device, Global>;
 
 /// The table of map words, pin words and page words, which many threads share.
 #[derive(Drop)]
