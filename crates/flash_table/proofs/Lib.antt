@@ -1,3 +1,4 @@
+pub mod Rows
 pub mod Here
 pub mod Told
 pub mod Dealing

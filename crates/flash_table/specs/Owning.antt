@@ -1,8 +1,15 @@
 -- The plain data of a seat, beside the blocks that it owns.
-use Rattle.std.specs.Prelude.{List, [], ◌∷◌, Option, None, Some}
-use Rattle.geometry.specs.declared.pin_word.Phase.TheVariants.{Open}
+use Rattle.std.specs.Prelude.{◌≡◌, ℕ, List, [], ◌∷◌, ◌++◌, Option, None, Some}
+use Rattle.std.proofs.Props.{props}
+use Rattle.geometry.specs.declared.pin_word.Phase.{Phase}
+use Rattle.geometry.specs.declared.pin_word.Phase.TheVariants.{Open, Victim, Erasing}
 use Rattle.flash_rule.specs.declared.facts.Owned.{Owned}
+use Rattle.flash_rule.specs.Views.{owned_at}
 use Rattle.flash_table.specs.declared.pass.OpenBlock.{OpenBlock}
+use Rattle.flash_table.specs.declared.broom_seat.ReclaimedBlock.{ReclaimedBlock}
+use Rattle.flash_table.specs.declared.broom_seat.Reclaiming.{Reclaiming}
+use Rattle.flash_table.specs.declared.broom_seat.Reclaiming.TheVariants as reclaiming
+use Rattle.flash_table.specs.declared.broom_seat.BroomBlocks.{BroomBlocks}
 
 -- an open block as its owner's view has it
 abbrev pub owned_of : OpenBlock → Owned
@@ -12,3 +19,31 @@ owned_of o = record { block = o.block; phase = Open; generation = o.generation; 
 abbrev pub owned_list : Option OpenBlock → List Owned
 owned_list None = []
 owned_list (Some o) = owned_of o ∷ []
+
+-- a block that is drained or erased, in its phase, as its owner's view has it
+abbrev pub reclaimed_as : Phase → ReclaimedBlock → Owned
+reclaimed_as phase o = record { block = o.block; phase = phase; generation = o.generation; written = o.written }
+
+-- the block that a broom drains or erases, or none
+abbrev pub reclaimed_list : Reclaiming → List Owned
+reclaimed_list reclaiming.Nothing = []
+reclaimed_list (reclaiming.Draining o) = reclaimed_as Victim o ∷ []
+reclaimed_list (reclaiming.Erasing o) = reclaimed_as Erasing o ∷ []
+
+-- a broom's blocks in a row: its destination, its spare, and the one that it drains or erases
+abbrev pub blocks_list : BroomBlocks → List Owned
+blocks_list x = (owned_list x.destination ++ owned_list x.spare) ++ reclaimed_list x.reclaiming
+
+-- no block stands twice in the row
+abbrev pub AreApart : List Owned → Type 0
+AreApart [] = Unit {0}
+AreApart (o ∷ os) = (owned_at o.block os ≡ None) × AreApart os
+
+pub AreApart-prop : (row : List Owned) → IsProp (AreApart row)
+AreApart-prop [] = hlevel props
+AreApart-prop (o ∷ os) = let rest = AreApart-prop os in hlevel (props, rest)
+
+-- A seat owns the blocks of this row, each once, and no others
+pub record OwnsJust (row owns : List Owned) : Type 0 where
+  pub same : (b : ℕ) → owned_at b owns ≡ owned_at b row
+  pub apart : AreApart row

@@ -1,6 +1,7 @@
 //! The shared words of a flash device, the seats of its passes, and the steps that they make.
 #![tactic(auto)]
 
+mod broom_seat;
 mod flash;
 mod gate;
 mod notes;
@@ -10,6 +11,7 @@ mod pins;
 mod retired;
 mod steps;
 
+pub use broom_seat::{BroomBlocks, BroomSeat, ReclaimedBlock, Reclaiming};
 pub use flash::Flash;
 pub use gate::{Gate, NoGate, Point};
 pub use pass::{Note, OpenBlock, Pass};
