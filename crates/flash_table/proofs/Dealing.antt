@@ -1,18 +1,20 @@
--- The passes are dealt one after the other.
-use Rattle.std.proofs.Common.{◌≡◌, ℕ, ◌+◌, ◌<◌, ⊎_elim, List, [], ◌∷◌, ◌++◌, None, Some, length, slice_get, sym, ap, ◌∙◌, subst, arith, length-append}
+-- The passes are dealt one after the other, and then the brooms.
+use Rattle.std.proofs.Common.{◌≡◌, ℕ, suc, ◌+◌, ◌-◌, ◌<◌, ⊎_elim, List, [], ◌∷◌, ◌++◌, None, Some, length, slice_get, sym, ap, ◌∙◌, subst, arith, length-append}
 use Rattle.geometry.specs.Limits.{Numbers}
 use Rattle.atomic_table.specs.Table.{Splits}
 use Rattle.atomic_table.specs.declared.shared.Seat.{Seat}
 use Rattle.flash_rule.specs.declared.facts.Role.TheVariants.{Dealer}
 use Rattle.flash_rule.specs.declared.view.View.{View}
-use Rattle.flash_rule.specs.Views.{is_pass}
-use Rattle.flash_rule.specs.Seats.{Ruled, Whole, dealt_pass, new_pass}
+use Rattle.flash_rule.specs.Views.{is_pass, owned_at, without}
+use Rattle.flash_rule.specs.Seats.{Ruled, Whole, dealt_pass, new_pass, spare, spares, next_spare, dealt_broom, new_broom}
 use Rattle.flash_rule.proofs.Owning.{get_last}
 use Rattle.flash_rule.proofs.Parts.{whole_kept}
-use Rattle.flash_rule.proofs.Splitting.{deals_pass}
+use Rattle.flash_rule.proofs.Splitting.{deals_pass, nothing}
+use Rattle.flash_rule.proofs.DealingBrooms.{first_spare, other_spares, deals_broom}
 use Rattle.flash_table.specs.declared.flash.Flash.{Flash}
 use Rattle.flash_table.specs.declared.pass.Pass.{Pass}
-use Rattle.flash_table.specs.Flash.{IsPassOf, view_of, opened_of, device, first_view}
+use Rattle.flash_table.specs.declared.broom_seat.BroomSeat.{BroomSeat}
+use Rattle.flash_table.specs.Flash.{IsPassOf, IsBroomOf, view_of, broom_view, opened_of, own_blocks, device, first_view, first_broom, first_blocks, spare_of}
 
 -- so many passes have been dealt, pass k with number k
 pub record Deals (f : Flash) (dealer : Seat (Unit {0}) View) (passes : List Pass) (t : ℕ) : Type 0 where
@@ -21,6 +23,8 @@ pub record Deals (f : Flash) (dealer : Seat (Unit {0}) View) (passes : List Pass
   pub count : dealer.me.0.passes ≡ t
   pub numbers : dealer.me.0.numbers ≡ device f
   pub long : length passes ≡ t
+  pub none : dealer.me.0.brooms ≡ 0
+  pub owns : dealer.me.0.owns ≡ spares (device f).brooms ((device f).blocks - (device f).brooms)
   pub each : (k : ℕ) (p : Pass) → slice_get passes k ≡ Some p → IsPassOf f p × (view_of p ≡ first_view (device f) k) × (opened_of p ≡ None)
 
 pub deal_here : (z k : Numbers) (same : k ≡ z) (id : ℕ) (v : View) → v.role ≡ Dealer → v.passes < v.numbers.hosts → Splits (Ruled Whole k) id v (dealt_pass v) (new_pass v)
@@ -35,6 +39,8 @@ deals_next f before after passes p t h table now seat view closed =
       count = ap (λ (v : View). v.passes) now ∙ ap (λ k. k + 1) h.count;
       numbers = ap (λ (v : View). v.numbers) now ∙ h.numbers;
       long = (let l = length-append passes (p ∷ []) in let e = h.long in omega arith);
+      none = ap (λ (v : View). v.brooms) now ∙ h.none;
+      owns = ap (λ (v : View). v.owns) now ∙ h.owns;
       each = λ k q is.
           ⊎_elim (λ (old : slice_get passes k ≡ Some q). h.each k q old)
           (λ (new : (k ≡ length passes) × (p ≡ q)).
@@ -44,4 +50,75 @@ deals_next f before after passes p t h table now seat view closed =
           let P : ℕ × Pass → Type 0 = λ x. IsPassOf f x.1 × (view_of x.1 ≡ first_view (device f) x.0) × (opened_of x.1 ≡ None) in
           let now : P (t, p) = (its, first, closed) in subst P (λ i. (place i, new.1 i)) now)
           (get_last passes p q k is);
+    }
+
+-- ---- brooms
+-- so many brooms have been dealt, broom k with number k, and the dealer owns the spares of the others
+pub record DealsBrooms (f : Flash) (dealer : Seat (Unit {0}) View) (brooms : List BroomSeat) (t : ℕ) : Type 0 where
+  pub table : dealer.table_id ≡ f.table.shared.table_id
+  pub role : dealer.me.0.role ≡ Dealer
+  pub count : dealer.me.0.brooms ≡ t
+  pub numbers : dealer.me.0.numbers ≡ device f
+  pub owns : dealer.me.0.owns ≡ spares ((device f).brooms - t) (spare_of (device f) t)
+  pub long : length brooms ≡ t
+  pub each : (k : ℕ) (b : BroomSeat) → slice_get brooms k ≡ Some b → IsBroomOf f b × (broom_view b ≡ first_broom (device f) k) × (own_blocks b ≡ first_blocks (device f) k)
+
+-- once all passes are dealt, no broom is
+pub no_broom_yet : (f : Flash) (dealer : Seat (Unit {0}) View) (passes : List Pass) (t : ℕ) (brooms : List BroomSeat) → Deals f dealer passes t → brooms ≡ [] → DealsBrooms f dealer brooms 0
+no_broom_yet f dealer passes t brooms h empty =
+    record {
+      table = h.table;
+      role = h.role;
+      count = h.none;
+      numbers = h.numbers;
+      owns = h.owns ∙ (λ i. spares (whole i) (first i));
+      long = ap (length {A = BroomSeat}) empty;
+      each = λ k b is. absurd (nothing k b (ap (λ l. slice_get l k) (sym empty) ∙ is));
+    }
+  where
+    whole : (device f).brooms ≡ (device f).brooms - 0
+    whole = omega arith
+
+    first : (device f).blocks - (device f).brooms ≡ spare_of (device f) 0
+    first = omega arith
+
+module _ (z : Numbers) (v : View) (t : ℕ) (numbers : v.numbers ≡ z) (count : v.brooms ≡ t) (owns : v.owns ≡ spares (z.brooms - t) (spare_of z t)) (more : t < z.brooms) where
+  next_is : next_spare v ≡ spare_of z t
+  next_is i = spare_of (numbers i) (count i)
+
+  one_more : z.brooms - t ≡ suc (z.brooms - (t + 1))
+  one_more = omega arith
+
+  -- the dealer owns the next broom's spare
+  pub next_owned : owned_at (next_spare v) v.owns ≡ Some (spare (next_spare v))
+  next_owned = (λ i. owned_at (next_is i) ((owns ∙ ap (λ n. spares n (spare_of z t)) one_more) i)) ∙ (first_spare (z.brooms - (t + 1)) (spare_of z t) ∙ ap (λ b. Some (spare b)) (sym next_is))
+
+  -- and then those of the brooms behind it
+  pub others_owned : without (next_spare v) v.owns ≡ spares (z.brooms - (t + 1)) (spare_of z (t + 1))
+  others_owned =
+      let behind : spare_of z t + 1 ≡ spare_of z (t + 1) = omega arith in
+      (λ i. without (next_is i) ((owns ∙ ap (λ n. spares n (spare_of z t)) one_more) i)) ∙ (other_spares (z.brooms - (t + 1)) (spare_of z t) ∙ ap (λ b. spares (z.brooms - (t + 1)) b) behind)
+
+pub deal_broom_here : (z k : Numbers) (same : k ≡ z) (id : ℕ) (v : View) → v.role ≡ Dealer → owned_at (next_spare v) v.owns ≡ Some (spare (next_spare v)) → Splits (Ruled Whole k) id v (dealt_broom v) (new_broom v)
+deal_broom_here z k same id v role has = let P : Numbers → Type 0 = λ x. Splits (Ruled Whole x) id v (dealt_broom v) (new_broom v) in subst P (sym same) (deals_broom Whole z (whole_kept z) id v role has)
+
+pub deals_next_broom : (f : Flash) (before after : Seat (Unit {0}) View) (brooms : List BroomSeat) (b : BroomSeat) (t : ℕ) → DealsBrooms f before brooms t → t < (device f).brooms → after.table_id ≡ before.table_id
+    → after.me.0 ≡ dealt_broom before.me.0 → b.seat.table_id ≡ before.table_id → broom_view b ≡ new_broom before.me.0 → own_blocks b ≡ first_blocks (device f) t → DealsBrooms f after (brooms ++ b ∷ []) (t + 1)
+deals_next_broom f before after brooms b t h more table now seat view blocks =
+    record {
+      table = table ∙ h.table;
+      role = ap (λ (v : View). v.role) now ∙ h.role;
+      count = ap (λ (v : View). v.brooms) now ∙ ap (λ k. k + 1) h.count;
+      numbers = ap (λ (v : View). v.numbers) now ∙ h.numbers;
+      owns = ap (λ (v : View). v.owns) now ∙ others_owned (device f) before.me.0 t h.numbers h.count h.owns more;
+      long = (let l = length-append brooms (b ∷ []) in let e = h.long in omega arith);
+      each = λ k q is.
+          ⊎_elim (λ (old : slice_get brooms k ≡ Some q). h.each k q old)
+          (λ (new : (k ≡ length brooms) × (b ≡ q)).
+          let place : t ≡ k = sym (new.0 ∙ h.long) in
+          let first : broom_view b ≡ first_broom (device f) t = view ∙ (λ i. first_broom (h.numbers i) (h.count i)) in
+          let its : IsBroomOf f b = record { table = seat ∙ h.table; role = (before.me.0.brooms, ap (λ (v : View). v.role) view); numbers = ap (λ (v : View). v.numbers) view ∙ h.numbers } in
+          let P : ℕ × BroomSeat → Type 0 = λ x. IsBroomOf f x.1 × (broom_view x.1 ≡ first_broom (device f) x.0) × (own_blocks x.1 ≡ first_blocks (device f) x.0) in
+          let now : P (t, b) = (its, first, blocks) in subst P (λ i. (place i, new.1 i)) now)
+          (get_last brooms b q k is);
     }

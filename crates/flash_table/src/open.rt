@@ -1,13 +1,16 @@
 ghost use Rattle.std.specs.Prelude.{◌≡◌, ℕ, ◌<◌, IfOk, Some, None, slice_get, length};
 ghost use Rattle.geometry.specs.Geometry.{numbers_of, brooms_of, hosts_of};
 ghost use Rattle.flash_rule.specs.Seats.{opening_words};
-ghost use Rattle.flash_table.specs.Flash.{IsPassOf, first_view, view_of, geometry_of, opened_of, device};
+ghost use Rattle.flash_table.specs.Flash.{IsPassOf, IsBroomOf, first_view, first_broom, first_blocks, view_of, broom_view, geometry_of, opened_of, own_blocks, device};
 ghost use Rattle.flash_table.specs.declared.pass.Pass.{Pass};
+ghost use Rattle.flash_table.specs.declared.broom_seat.BroomSeat.{BroomSeat};
+ghost use Rattle.flash_table.specs.declared.broom_seat.Reclaiming.TheVariants as reclaiming;
 
+use crate::broom_seat::{BroomBlocks, BroomSeat, Reclaiming};
 use crate::flash::{Flash, SharedTable};
-use crate::pass::Pass;
+use crate::pass::{OpenBlock, Pass};
 use atomic_table::Table;
-use flash_rule::DealPass;
+use flash_rule::{DealBroom, DealPass};
 use geometry::{ERASED, Geometry, Phase, UNMAPPED, table_size};
 use std::alloc::{AllocError, Global};
 
@@ -26,13 +29,31 @@ fn opening(alloc: Global, geometry: &Geometry) -> Result<Vec<u64>, AllocError>
     Ok(words)
 }
 
+// The blocks of a broom that has done nothing.
+fn blocks_with_spare(block: u32) -> BroomBlocks
+    ensures { result ≡ record { destination = None; spare = Some (record { block = block; generation = 0; written = 0 }); reclaiming = reclaiming.Nothing } }
+{
+    BroomBlocks {
+        destination: None,
+        spare: Some(OpenBlock {
+            block,
+            generation: 0,
+            written: 0,
+        }),
+        reclaiming: Reclaiming::Nothing,
+    }
+}
+
 impl Flash {
-    /// A device with its hosts' passes, pass t with number t. `Err` is want of memory.
-    pub fn open(alloc: Global, geometry: &Geometry) -> Result<(Flash, Vec<Pass>), AllocError>
-        requires { brooms_of geometry.now ≡ 0 }
+    /// A device with its hosts' passes, pass t with number t, and its brooms' seats, each with a spare. `Err` is want of memory.
+    pub fn open(
+        alloc: Global,
+        geometry: &Geometry,
+    ) -> Result<(Flash, Vec<Pass>, Vec<BroomSeat>), AllocError>
         ensures geometry { IfOk result (λ r. geometry_of r.0 ≡ geometry.now) }
-        ensures count { IfOk result (λ r. length r.1.items ≡ hosts_of geometry.now) }
+        ensures count { IfOk result (λ r. (length r.1.items ≡ hosts_of geometry.now) × (length r.2.items ≡ brooms_of geometry.now)) }
         ensures passes { IfOk result (λ r. (t : ℕ) (p : Pass) → slice_get r.1.items t ≡ Some p → IsPassOf r.0 p × (view_of p ≡ first_view (device r.0) t) × (opened_of p ≡ None)) }
+        ensures brooms { IfOk result (λ r. (i : ℕ) (b : BroomSeat) → slice_get r.2.items i ≡ Some b → IsBroomOf r.0 b × (broom_view b ≡ first_broom (device r.0) i) × (own_blocks b ≡ first_blocks (device r.0) i)) }
     {
         let words = opening(alloc, geometry)?;
         let (table, mut dealer): (SharedTable, _) = Table::of_words(alloc, &words, geometry)?;
@@ -42,10 +63,23 @@ impl Flash {
         };
         let hosts = flash.geometry.hosts() as usize;
         let mut passes = Vec::with_capacity(alloc, hosts)?;
+        let count = flash.geometry.brooms();
+        let Ok(mut brooms) = Vec::with_capacity(alloc, count as usize) else {
+            passes.destroy_empty();
+            return Err(AllocError);
+        };
         for _ in 0..hosts {
             let seat = flash.table.shared.split_seat::<DealPass>(&mut dealer);
             passes.push_reserved(Pass { seat, opened: None });
         }
-        Ok((flash, passes))
+        let first_spare = flash.geometry.blocks() - count;
+        for i in 0..count {
+            let seat = flash.table.shared.split_seat::<DealBroom>(&mut dealer);
+            brooms.push_reserved(BroomSeat {
+                seat,
+                blocks: blocks_with_spare(first_spare + i),
+            });
+        }
+        Ok((flash, passes, brooms))
     }
 }

@@ -39,7 +39,8 @@ impl Volume {
         ensures passes { IfOk result (λ r. (t : ℕ) (p : Pass) → slice_get r.1.items t ≡ Some p → view_of p ≡ first_view (device (flash_of r.0)) t) }
         ensures ready { IfOk result (λ r. All (IsReady (flash_of r.0)) r.1.items) }
     {
-        let (flash, passes) = Flash::open(alloc, geometry)?;
+        let (flash, passes, brooms) = Flash::open(alloc, geometry)?;
+        brooms.destroy_empty();
         Ok((Volume { flash }, passes))
     }
 

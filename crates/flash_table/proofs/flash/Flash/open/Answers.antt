@@ -1,4 +1,4 @@
-use Rattle.std.proofs.Common.{◌≡◌, ℕ, zero, suc, List, [], Some, length, slice_get, sym, refl, ap, ◌∙◌, subst, arith}
+use Rattle.std.proofs.Common.{◌≡◌, ℕ, zero, suc, ◌+◌, ◌-◌, ◌<◌, List, [], None, Some, length, slice_get, sym, refl, ap, ◌∙◌, subst, arith}
 use Rattle.atomic_table.specs.Table.{opening}
 use Rattle.geometry.specs.Geometry.{numbers_of}
 use Rattle.geometry.specs.Limits.{Numbers}
@@ -7,7 +7,9 @@ use Rattle.flash_rule.specs.Seats.{Ruled, Whole, dealer}
 use Rattle.flash_rule.proofs.Opening.{opening_ruled}
 use Rattle.flash_rule.proofs.Owning.{none_some}
 use Rattle.flash_table.specs.declared.pass.Pass.{Pass}
-use Rattle.flash_table.proofs.Dealing.{deal_here, deals_next}
+use Rattle.flash_table.specs.Flash.{spare_of}
+use Rattle.flash_table.specs.declared.broom_seat.Reclaiming.TheVariants.{Nothing}
+use Rattle.flash_table.proofs.Dealing.{deal_here, deals_next, next_owned, deal_broom_here, deals_next_broom}
 use Rattle.flash_table.proofs.flash.Flash.open.Goals as goal
 
 pub of_words-requires : goal.of_words-requires
@@ -29,6 +31,8 @@ loop-init c =
         role = ap (λ (v : View). v.role) first;
         count = ap (λ (v : View). v.passes) first;
         numbers = ap (λ (v : View). v.numbers) first;
+        none = ap (λ (v : View). v.brooms) first;
+        owns = ap (λ (v : View). v.owns) first;
         long = ap (length {A = Pass}) c.in_ok-passes.ensures.items;
         each = λ k p is. absurd (nothing k p (ap (λ l. slice_get l k) (sym c.in_ok-passes.ensures.items) ∙ is));
       },
@@ -70,5 +74,29 @@ returns-clause-count c =
     let least = c.loop-test.false in
     let hosts = c.hosts-hosts.ensures.value in omega arith
 
-pub returns-clause-passes : goal.returns-clause-passes
-returns-clause-passes c = c.loop.invariant.0.each
+pub split_seat-seat-requires-in-loop-i : goal.split_seat-seat-requires-in-loop-i
+split_seat-seat-requires-in-loop-i c =
+    let h = c.loop-i.invariant.0 in
+    let t = c.in_ok-table.ensures in
+    let z : Numbers = numbers_of c.args.geometry.now in
+    let some_sector = c.args.geometry.now.in_limits.sectors_low in
+    let size =
+    t.0 ∙ (ap (length {A = ℕ}) (c.deref.ensures.value ∙ c.in_ok-words.ensures) ∙ (opening_ruled z c.args.geometry.now.in_limits).1.size) in
+    let same : numbers_of c.in_ok-table.table.shared.key ≡ z = ap numbers_of t.5 in
+    let below = c.loop-i-test.true in
+    let brooms = c.brooms-count.ensures.value in
+    let more : c.loop-i.i < z.brooms = omega arith in
+    (h.table, omega arith, deal_broom_here z (numbers_of c.in_ok-table.table.shared.key) same c.loop-i.dealer.id c.loop-i.dealer.me.0 h.role (next_owned z c.loop-i.dealer.me.0 c.loop-i.i h.numbers h.count h.owns more))
+
+pub loop-i-preserved : goal.loop-i-preserved
+loop-i-preserved c =
+    let s = c.split_seat-seat-in-loop-i.ensures in
+    let z : Numbers = numbers_of c.args.geometry.now in
+    let below = c.loop-i-test.true in
+    let brooms = c.brooms-count.ensures.value in
+    let blocks = c.blocks-2.ensures.value in
+    let more : c.loop-i.i < z.brooms = omega arith in
+    let place : (c.blocks-2.result - c.brooms-count.result) + c.loop-i.i ≡ spare_of z c.loop-i.i = λ i. (blocks i - brooms i) + c.loop-i.i in
+    let given = c.blocks_with_spare.ensures ∙ (λ i. record { destination = None; spare = Some (record { block = place i; generation = 0; written = 0 }); reclaiming = Nothing }) in
+    let next = deals_next_broom _ c.loop-i.dealer c.split_seat-seat-in-loop-i.new.seat c.loop-i.brooms.items _ c.loop-i.i c.loop-i.invariant.0 more s.0 (ap (λ x. x.0) s.2) s.3 (ap (λ x. x.0) s.4) given in
+    (rw c.push_reserved-in-loop-i.ensures.items next, (let e = c.push_reserved-in-loop-i.ensures.capacity in let r = c.loop-i.invariant.1 in omega arith))
