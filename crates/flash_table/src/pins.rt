@@ -1,12 +1,13 @@
 //! The steps by which a pass reads: it pins a block, reads the page and takes the pin off.
-ghost use Rattle.std.specs.Prelude.{◌≡◌, ℕ, ◌<◌, List, MatchBool};
+ghost use Rattle.std.specs.Prelude.{◌≡◌, ℕ, ◌<◌, List, MatchBool, Some};
 ghost use Rattle.geometry.specs.Geometry.{numbers_of, blocks_of, pages_of, words_of};
 ghost use Rattle.geometry.specs.TableOrder.{page_index};
 ghost use Rattle.geometry.specs.PinWords.{FitsPin, pin_word};
 ghost use Rattle.geometry.specs.declared.pin_word.PinWord.{PinWord};
 ghost use Rattle.flash_rule.specs.declared.facts.Pin.TheVariants as pin;
 ghost use Rattle.flash_rule.specs.World.{Intact, data_word, is_intact};
-ghost use Rattle.flash_rule.specs.Plays.{IsOn};
+ghost use Rattle.flash_rule.specs.Plays.{IsOn, Spared};
+ghost use Rattle.flash_rule.specs.declared.carried.Carried.{Carried};
 ghost use Rattle.flash_table.specs.Flash.{IsPassOf, Strayed, view_of, geometry_of, opened_of};
 
 use crate::flash::Flash;
@@ -89,6 +90,7 @@ impl Flash {
         requires start { start ≡ page_index (numbers_of (geometry_of self.now)) page.block page.page }
         requires word { i < words_of (geometry_of self.now) }
         ensures told { (value : List ℕ) → (view_of pass.old).pin ≡ pin.Accepted page value → result ≡ data_word value i }
+        ensures spared { (value : List ℕ) (c : Carried) → (view_of pass.old).pin ≡ pin.Accepted page value → (view_of pass.old).copy ≡ Some c → Spared (view_of pass.old) page c }
         ensures same { view_of pass.new ≡ view_of pass.old }
         ensures pass { IsPassOf self.now pass.new }
         ensures opened { opened_of pass.new ≡ opened_of pass.old }

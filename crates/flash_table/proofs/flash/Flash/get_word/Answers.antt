@@ -29,3 +29,6 @@ pub returns-clause-told : goal.returns-clause-told
 returns-clause-told c value pin =
     let at = word_place c.args.self.now c.args.page c.args.start c.args.i c.requires.start in
     get_value c.args.self.now c.args.pass.now c.requires.pass c.args.self.now.table.shared.table_id.slots c.load.result c.load.new.seat.me (c.args.start + c.args.i) c.args.i c.args.page value pin c.requires.word at c.load.ensures.2
+
+pub returns-clause-spared : goal.returns-clause-spared
+returns-clause-spared c value carried pin copy = c.load.ensures.2.2 c.args.page value carried pin copy
