@@ -1,4 +1,6 @@
 pub mod Rows
+pub mod Blocks
 pub mod Here
 pub mod Told
+pub mod ToldBrooms
 pub mod Dealing

@@ -1,11 +1,10 @@
 -- What a seat owns beside the row of its blocks, when one of them changes, goes or comes.
-use Rattle.std.proofs.Common.{◌≡◌, ◌≢◌, ℕ, eq-eqb, ne_eqb, List, [], ◌∷◌, ◌++◌, None, Some, sym, refl, ap, ◌∙◌}
+use Rattle.std.proofs.Common.{◌≡◌, ◌≢◌, ℕ, eq-eqb, ne_eqb, List, [], ◌∷◌, ◌++◌, None, Some, sym, refl, ap, ◌∙◌, subst}
 use mathlib.Core.Logic.{dite}
 use native.Mathlib.Decide.{ℕ_discrete}
 use Rattle.flash_rule.specs.declared.facts.Owned.{Owned}
 use Rattle.flash_rule.specs.Views.{owned_at, without, with_owned}
-use Rattle.flash_rule.proofs.Points.{eq_self}
-use Rattle.flash_rule.proofs.Owning.{some_same, none_some, with_here, with_else, without_here, without_else}
+use Rattle.flash_rule.proofs.Owning.{none_some, with_here, with_else, without_here, without_else}
 use Rattle.flash_table.specs.Owning.{AreApart, OwnsJust}
 
 -- ---- one entry at the front of a row
@@ -97,3 +96,7 @@ just_with xs ys owns o fresh h =
           (λ unlike. with_else o b owns unlike ∙ (h.same b ∙ sym (past_first o (xs ++ ys) b unlike)));
       apart = (sym (h.same o.block) ∙ fresh, h.apart);
     })
+
+-- what a seat owns after a step
+pub just_now : (row owns after : List Owned) → after ≡ owns → OwnsJust row owns → OwnsJust row after
+just_now row owns after is h = subst (λ owns. OwnsJust row owns) (sym is) h

@@ -2,6 +2,7 @@
 #![tactic(auto)]
 
 mod broom_seat;
+mod broom_steps;
 mod flash;
 mod gate;
 mod notes;
