@@ -45,6 +45,21 @@ get_last [] x y (suc k) e = absurd (none_some y e)
 get_last (z ∷ xs) x y zero e = inl e
 get_last (z ∷ xs) x y (suc k) e = ⊎_elim (λ h. inl h) (λ h. inr (ap suc h.0, h.1)) (get_last xs x y k e)
 
+-- a function of two numbers with one value replaced
+pub put2 : {X : Type 0} → (ℕ → ℕ → X) → ℕ → ℕ → X → ℕ → ℕ → X
+put2 f a b x = put f a (put (f a) b x)
+
+pub put2_here : {X : Type 0} (f : ℕ → ℕ → X) (a b : ℕ) (x : X) → put2 f a b x a b ≡ x
+unfolding put2
+put2_here f a b x = rw (eq_self a) (rw (eq_self b) refl)
+
+pub put2_else : {X : Type 0} (f : ℕ → ℕ → X) (a b : ℕ) (x : X) (i j : ℕ) → ¬ ((i ≡ a) × (j ≡ b)) → put2 f a b x i j ≡ f i j
+unfolding put2
+put2_else f a b x i j apart =
+    dite (ℕ_discrete i a)
+    (λ p. dite (ℕ_discrete j b) (λ q. absurd (apart (p, q))) (λ q. rw (eq-eqb i a p) (rw (ne_eqb j b q) (λ t. f (sym p t) j))))
+    (λ p. rw (ne_eqb i a p) refl)
+
 -- a function of three numbers with one value replaced
 pub put3 : {X : Type 0} → (ℕ → ℕ → ℕ → X) → ℕ → ℕ → ℕ → X → ℕ → ℕ → ℕ → X
 put3 f a b c x = put f a (put (f a) b (put (f a b) c x))

@@ -1,12 +1,12 @@
 -- Each step of a broom on a pin word, as the table asks for it: whatever the table is, the step keeps the rule and tells what it says.
-use Rattle.std.proofs.Common.{◌≡◌, ◌≢◌, ℕ, ◌+◌, ◌%◌, ◌^◌, ◌<◌, ◌≤◌, ◌⊎◌, inl, inr, ⊎_elim, ◌==◌, eq-eqb, ne_eqb, true, List, [], ◌∷◌, ◌++◌, Some, set, sym, refl, ap, ◌∙◌, subst, arith}
+use Rattle.std.proofs.Common.{◌≡◌, ◌≢◌, ℕ, ◌+◌, ◌%◌, ◌^◌, ◌<◌, ◌≤◌, ◌⊎◌, inl, inr, ⊎_elim, ◌==◌, eq-eqb, ne_eqb, true, Option, List, [], ◌∷◌, ◌++◌, Some, set, sym, refl, ap, ◌∙◌, subst, arith}
 use Rattle.std.proofs.Math.ListN.{get_or}
 use prog.Atomic.{either}
 use mathlib.Core.Option.{some, none}
 use mathlib.Core.Logic.{dite}
 use native.Mathlib.Decide.{ℕ_discrete}
 use lib.ListN.{get_elem?}
-use Rattle.atomic_table.specs.Table.{Act, Valid, step, keeps, stepped, carried_after, Allows}
+use Rattle.atomic_table.specs.Table.{State, Act, Valid, step, keeps, stepped, carried_after, Allows}
 use Rattle.geometry.specs.Limits.{Numbers}
 use Rattle.geometry.specs.PinWords.{pin_word, FitsPin, freed_added, kept_added}
 use Rattle.geometry.specs.TableOrder.{pin_index}
@@ -21,7 +21,7 @@ use Rattle.flash_rule.specs.declared.facts.Role.TheVariants.{Dealer, Player, Not
 use Rattle.flash_rule.specs.declared.facts.Owned.{Owned}
 use Rattle.flash_rule.specs.declared.view.View.{View}
 use Rattle.flash_rule.specs.Views.{is_broom, owned_at, without, with_owned}
-use Rattle.flash_rule.specs.World.{World, Fits}
+use Rattle.flash_rule.specs.World.{World, Fits, put}
 use Rattle.flash_rule.specs.Rule.{Lawful}
 use Rattle.flash_rule.specs.Seats.{Ruled, Whole}
 use Rattle.flash_rule.specs.Plays.{Sitter}
@@ -30,9 +30,10 @@ use Rattle.flash_rule.proofs.Points.{put_here}
 use Rattle.flash_rule.proofs.Places.{fits_load, fits_pin, pin_within}
 use Rattle.flash_rule.proofs.Owning.{some_same}
 use Rattle.flash_rule.proofs.Assembly.{state_fits}
+use Rattle.flash_rule.proofs.PinSteps.{turned}
 use Rattle.flash_rule.proofs.Reclaiming.{notes, owner_numbers, broom_live}
-use Rattle.flash_rule.proofs.ReclaimSteps.{claims, claimed_state, claimer, claim_world, condemns, condemned_state, condemner, condemn_world, drains_block, drained_state, drainer, drain_world}
-use Rattle.flash_rule.proofs.EraseSteps.{retires, retired_state, forgoer, retire_world, frees, freed_state, free_world, keeps_block, kept_state, keeper, keep_world, erasing_low, erasing_written, is_erasing}
+use Rattle.flash_rule.proofs.ReclaimSteps.{claims, claimed_state, claimer, condemns, condemned_state, condemner, listed, drains_block, drained_state, drainer}
+use Rattle.flash_rule.proofs.EraseSteps.{retires, retired_state, forgoer, frees, freed_state, keeps_block, kept_state, keeper, erasing_low, erasing_written, is_erasing}
 
 drained_or_not : (f : Phase) → (f ≡ Drained) ⊎ (¬ (f ≡ Drained))
 drained_or_not Free = inr (λ e. absurd (cc))
@@ -55,6 +56,39 @@ exchanged n old new same = ap (λ t. either t new n) (eq-eqb n old same)
 
 left_alone : (n old new : ℕ) → n ≢ old → either (n == old) new n ≡ n
 left_alone n old new other = ap (λ t. either t new n) (ne_eqb n old other)
+
+-- a pin word after a step on it that keeps the rule
+module _ (z : Numbers) (id : ℕ) (me : Sitter) (t : State (Unit {0}) View) (g : World) (fits : Fits z g.map g.pins g.pages t.words) (b : ℕ) (low : b < z.blocks) where
+  abbrev word_of : ℕ
+  word_of = get_or t.words (pin_index z b) 0
+
+  -- it becomes that of another state
+  ruled_as : (q : PinWord) (eraser : ℕ → ℕ → Option (Name × ℕ)) (w : View) (new : ℕ) → new ≡ pin_word q → Lawful z (turned g b q id g.programmer eraser) (set t.views id w)
+      → Ruled Whole z (stepped t (pin_index z b) new id me.1 w keeps)
+  ruled_as q eraser w new is lawful = (
+    turned g b q id g.programmer eraser,
+    subst (λ y. Fits z g.map (put g.pins b q) g.pages (set t.words (pin_index z b) y)) (sym is) (fits_pin z g.map g.pins g.pages t.words fits b q low),
+    lawful,
+    tt,
+  )
+
+  -- an addition doesn't wrap
+  ruled_plus : (q : PinWord) (w : View) (added : ℕ) → pin_word (g.pins b) + added ≡ pin_word q → Lawful z (turned g b q id g.programmer g.eraser) (set t.views id w)
+      → Ruled Whole z (stepped t (pin_index z b) ((word_of + added) % 2 ^ 64) id me.1 w keeps)
+  ruled_plus q w added sum lawful =
+      let after : World = turned g b q id g.programmer g.eraser in
+      let fitting : FitsPin q = subst FitsPin (put_here g.pins b q) (state_fits z after (set t.views id w) lawful b low) in
+      let found : word_of ≡ pin_word (g.pins b) = fits.blocks b low in
+      ruled_as q g.eraser w ((word_of + added) % 2 ^ 64) (ap (λ (y : ℕ). (y + added) % 2 ^ 64) found ∙ bits.adds (g.pins b) q added fitting sum) lawful
+
+  -- it stays
+  ruled_still : (w : View) (new : ℕ) → new ≡ word_of → Lawful z g (set t.views id w) → Ruled Whole z (stepped t (pin_index z b) new id me.1 w keeps)
+  ruled_still w new is lawful = (
+    g,
+    subst (λ y. Fits z g.map g.pins g.pages (set t.words (pin_index z b) y)) (sym is) (fits_load z g.map g.pins g.pages t.words fits (pin_index z b) (pin_within z b low)),
+    lawful,
+    tt,
+  )
 
 module _ (z : Numbers) (slots id : ℕ) (me : Sitter) where
   same_block : me.0.numbers ≡ z → (b c : ℕ) → pin_index z b ≡ pin_index me.0.numbers c → b ≡ c
@@ -85,7 +119,7 @@ module _ (z : Numbers) (slots id : ℕ) (me : Sitter) where
         w,
         keeps,
         tt,
-        (g, fits_load z g.map g.pins g.pages t.words fits k (pin_within z b low), lawful, tt),
+        ruled_still z id me t g fits b low w n refl lawful,
         (refl, λ c _ is. subst (λ (j : ℕ). Loaded v j n w) (same_block numbers b c is) told),
       ) in
       ⊎_elim
@@ -111,36 +145,31 @@ module _ (z : Numbers) (slots id : ℕ) (me : Sitter) where
       let numbers = numbers_now g t.views law at broom in
       let low : b < z.blocks = let l = can.low in let e : v.numbers.blocks ≡ z.blocks = ap (λ (y : Numbers). y.blocks) numbers in omega arith in
       let found : n ≡ pin_word (g.pins b) = fits.blocks b low in
-      let told : (w : View) → Claimed v b p n w → claim_told (step slots k old new none) me n (w, me.1) = λ w told. (
-        refl,
-        λ c q can' is first second.
-            let same : p ≡ q = bits.pin_same p q can.fits can'.fits first in subst (λ (x : ℕ × PinWord). Claimed v x.0 x.1 n w) (λ i. (same_block numbers b c is i, same i)) told,
+      let answer : (w : View) → Ruled Whole z (stepped t k (either (n == old) new n) id me.1 w keeps) → Claimed v b p n w
+      → (w : View) × (a : Act (Unit {0})) × Valid t.homes me.1 a × Ruled Whole z (stepped t k (either (n == old) new n) id me.1 w a) × claim_told (step slots k old new none) me n (w, carried_after me.1 a) = λ w ruled told. (
+        w,
+        keeps,
+        tt,
+        ruled,
+        (
+          refl,
+          λ c q can' is first second.
+              let same : p ≡ q = bits.pin_same p q can.fits can'.fits first in subst (λ (x : ℕ × PinWord). Claimed v x.0 x.1 n w) (λ i. (same_block numbers b c is i, same i)) told,
+        ),
       ) in
       dite (ℕ_discrete n old)
       (λ (is : n ≡ old).
       let same : g.pins b ≡ p = bits.pin_same (g.pins b) p (state_fits z g t.views law b low) can.fits (sym found ∙ is) in
-      let closed : (g.pins b).phase ≡ Closed = ap (λ (y : PinWord). y.phase) same ∙ can.closed in
+      let phase : (g.pins b).phase ≡ Closed = ap (λ (y : PinWord). y.phase) same ∙ can.closed in
       let q : PinWord = claimed_state z g t.views id v b law at broom low can.rested in
       let w : View = claimer z g t.views id v b law at broom low can.rested in
-      let after : World = claim_world z g t.views id v b law at broom low can.rested in
-      let now : either (n == old) new n ≡ pin_word q = exchanged n old new is ∙ (ap (λ (y : PinWord). pin_word y + NEXT_PHASE) (sym same) ∙ bits.next_phase (g.pins b) Closed Victim closed refl) in
-      let answer : (w : View) × (a : Act (Unit {0})) × Valid t.homes me.1 a × Ruled Whole z (stepped t k (either (n == old) new n) id me.1 w a) × claim_told (step slots k old new none) me n (w, carried_after me.1 a) = (
-        w,
-        keeps,
-        tt,
-        (after, subst (λ y. Fits z g.map after.pins g.pages (set t.words k y)) (sym now) (fits_pin z g.map g.pins g.pages t.words fits b q low), claims z g t.views id v b law at broom low can.rested closed, tt),
-        told w (record { won = λ _. ap (λ (y : PinWord). record v { owns = with_owned (owned_as b y Victim) v.owns; cleared = 0 }) same; lost = λ not. absurd (not is) }),
-      ) in answer)
+      let now : either (n == old) new n ≡ pin_word q = exchanged n old new is ∙ (ap (λ (y : PinWord). pin_word y + NEXT_PHASE) (sym same) ∙ bits.next_phase (g.pins b) Closed Victim phase refl) in
+      answer w (ruled_as z id me t g fits b low q g.eraser w (either (n == old) new n) now (claims z g t.views id v b law at broom low can.rested phase))
+      (record { won = λ _. ap (λ (y : PinWord). record v { owns = with_owned (owned_as b y Victim) v.owns; cleared = 0 }) same; lost = λ not. absurd (not is) }))
       (λ (other : n ≢ old).
       let w : View = record v { lost = v.lost ++ b ∷ [] } in
-      let now : either (n == old) new n ≡ n = left_alone n old new other in
-      let answer : (w : View) × (a : Act (Unit {0})) × Valid t.homes me.1 a × Ruled Whole z (stepped t k (either (n == old) new n) id me.1 w a) × claim_told (step slots k old new none) me n (w, carried_after me.1 a) = (
-        w,
-        keeps,
-        tt,
-        (g, subst (λ y. Fits z g.map g.pins g.pages (set t.words k y)) (sym now) (fits_load z g.map g.pins g.pages t.words fits k (pin_within z b low)), notes z g t.views id v law at v.loaded (v.lost ++ b ∷ []) v.busy v.stale, tt),
-        told w (record { won = λ is. absurd (other is); lost = λ _. refl }),
-      ) in answer)
+      answer w (ruled_still z id me t g fits b low w (either (n == old) new n) (left_alone n old new other) (notes z g t.views id v law at v.loaded (v.lost ++ b ∷ []) v.busy v.stale))
+      (record { won = λ is. absurd (other is); lost = λ _. refl }))
 
   -- ---- condemn
   -- a broom exchanges the word of a drained block without readers for an erasing one's
@@ -155,47 +184,33 @@ module _ (z : Numbers) (slots id : ℕ) (me : Sitter) where
       let numbers = numbers_now g t.views law at broom in
       let low : b < z.blocks = let l = can.low in let e : v.numbers.blocks ≡ z.blocks = ap (λ (y : Numbers). y.blocks) numbers in omega arith in
       let found : n ≡ pin_word (g.pins b) = fits.blocks b low in
-      let told : (w : View) → Condemned v b p n w → condemn_told (step slots k old new none) me n (w, me.1) = λ w told. (
-        refl,
-        λ c q can' is first second.
-            let same : p ≡ q = bits.pin_same p q can.fits can'.fits first in subst (λ (x : ℕ × PinWord). Condemned v x.0 x.1 n w) (λ i. (same_block numbers b c is i, same i)) told,
+      let answer : (w : View) → Ruled Whole z (stepped t k (either (n == old) new n) id me.1 w keeps) → Condemned v b p n w
+      → (w : View) × (a : Act (Unit {0})) × Valid t.homes me.1 a × Ruled Whole z (stepped t k (either (n == old) new n) id me.1 w a) × condemn_told (step slots k old new none) me n (w, carried_after me.1 a) = λ w ruled told. (
+        w,
+        keeps,
+        tt,
+        ruled,
+        (
+          refl,
+          λ c q can' is first second.
+              let same : p ≡ q = bits.pin_same p q can.fits can'.fits first in subst (λ (x : ℕ × PinWord). Condemned v x.0 x.1 n w) (λ i. (same_block numbers b c is i, same i)) told,
+        ),
       ) in
       dite (ℕ_discrete n old)
       (λ (is : n ≡ old).
       let same : g.pins b ≡ p = bits.pin_same (g.pins b) p (state_fits z g t.views law b low) can.fits (sym found ∙ is) in
-      let drained : (g.pins b).phase ≡ Drained = ap (λ (y : PinWord). y.phase) same ∙ can.drained in
+      let phase : (g.pins b).phase ≡ Drained = ap (λ (y : PinWord). y.phase) same ∙ can.drained in
       let unread : (g.pins b).readers ≡ 0 = ap (λ (y : PinWord). y.readers) same ∙ can.unread in
       let name = broom_name v.role broom in
       let q : PinWord = condemned_state z g t.views id v b law at broom low can.rested in
       let w : View = condemner z g t.views id v b law at broom low can.rested in
-      let after : World = condemn_world z g t.views id v b law at broom low can.rested name.0 in
-      let now : either (n == old) new n ≡ pin_word q = exchanged n old new is ∙ (ap (λ (y : PinWord). pin_word y + NEXT_PHASE) (sym same) ∙ bits.next_phase (g.pins b) Drained Erasing drained refl) in
-      let answer : (w : View) × (a : Act (Unit {0})) × Valid t.homes me.1 a × Ruled Whole z (stepped t k (either (n == old) new n) id me.1 w a) × condemn_told (step slots k old new none) me n (w, carried_after me.1 a) = (
-        w,
-        keeps,
-        tt,
-        (
-          after,
-          subst (λ y. Fits z g.map after.pins g.pages (set t.words k y)) (sym now) (fits_pin z g.map g.pins g.pages t.words fits b q low),
-          condemns z g t.views id v b law at broom low can.rested name.0 name.1 drained unread,
-          tt,
-        ),
-        told w
-            (record {
-              won = λ _. ap (λ (y : PinWord). record v { owns = with_owned (owned_as b y Erasing) v.owns; erases = v.erases ++ cycle_of (owned_as b y Erasing) ∷ []; wiped = 0 }) same;
-              busy = λ not. absurd (not is);
-            }),
-      ) in answer)
+      let now : either (n == old) new n ≡ pin_word q = exchanged n old new is ∙ (ap (λ (y : PinWord). pin_word y + NEXT_PHASE) (sym same) ∙ bits.next_phase (g.pins b) Drained Erasing phase refl) in
+      answer w (ruled_as z id me t g fits b low q (listed z g t.views id v b law at broom low can.rested name.0) w (either (n == old) new n) now (condemns z g t.views id v b law at broom low can.rested name.0 name.1 phase unread))
+      (record { won = λ _. ap (λ (y : PinWord). record v { owns = with_owned (owned_as b y Erasing) v.owns; erases = v.erases ++ cycle_of (owned_as b y Erasing) ∷ []; wiped = 0 }) same; busy = λ not. absurd (not is) }))
       (λ (other : n ≢ old).
       let w : View = record v { busy = v.busy ++ b ∷ [] } in
-      let now : either (n == old) new n ≡ n = left_alone n old new other in
-      let answer : (w : View) × (a : Act (Unit {0})) × Valid t.homes me.1 a × Ruled Whole z (stepped t k (either (n == old) new n) id me.1 w a) × condemn_told (step slots k old new none) me n (w, carried_after me.1 a) = (
-        w,
-        keeps,
-        tt,
-        (g, subst (λ y. Fits z g.map g.pins g.pages (set t.words k y)) (sym now) (fits_load z g.map g.pins g.pages t.words fits k (pin_within z b low)), notes z g t.views id v law at v.loaded v.lost (v.busy ++ b ∷ []) v.stale, tt),
-        told w (record { won = λ is. absurd (other is); busy = λ _. refl }),
-      ) in answer)
+      answer w (ruled_still z id me t g fits b low w (either (n == old) new n) (left_alone n old new other) (notes z g t.views id v law at v.loaded v.lost (v.busy ++ b ∷ []) v.stale))
+      (record { won = λ is. absurd (other is); busy = λ _. refl }))
 
   -- ---- drain
   -- the owner of a cleared victim gives it up
@@ -205,20 +220,12 @@ module _ (z : Numbers) (slots id : ℕ) (me : Sitter) where
       let h = law.views id v at in
       let mine = h.holding.owned o.block o can.own in
       let numbers = owner_numbers z v o h.kind can.own in
-      let p : PinWord = g.pins o.block in
-      let k : ℕ = pin_index z o.block in
-      let n : ℕ = get_or t.words k 0 in
-      let found : n ≡ pin_word p = fits.blocks o.block mine.low in
-      let q : PinWord = drained_state z g t.views id v o law at in
       let w : View = drainer z g t.views id v o law at in
-      let after : World = drain_world z g t.views id v o law at in
-      let lawful = drains_block z g t.views id v o law at can in
-      let fitting : FitsPin q = subst FitsPin (put_here g.pins o.block q) (state_fits z after (set t.views id w) lawful o.block mine.low) in
-      let now : (n + NEXT_PHASE) % 2 ^ 64 ≡ pin_word q = ap (λ (y : ℕ). (y + NEXT_PHASE) % 2 ^ 64) found ∙ bits.adds p q NEXT_PHASE fitting (bits.next_phase p Victim Drained (mine.phase ∙ can.victim) refl) in (
+      let sum = bits.next_phase (g.pins o.block) Victim Drained (mine.phase ∙ can.victim) refl in (
         w,
         keeps,
         tt,
-        (after, subst (λ y. Fits z g.map after.pins g.pages (set t.words k y)) (sym now) (fits_pin z g.map g.pins g.pages t.words fits o.block q mine.low), lawful, tt),
+        ruled_plus z id me t g fits o.block mine.low (drained_state z g t.views id v o law at) w NEXT_PHASE sum (drains_block z g t.views id v o law at can),
         (refl, λ e can' is. ap (λ (y : Owned). record v { owns = without y.block v.owns; drains = v.drains ++ cycle_of y ∷ [] }) (same_owned numbers o e can.own can'.own is)),
       )
 
@@ -231,22 +238,13 @@ module _ (z : Numbers) (slots id : ℕ) (me : Sitter) where
       let own = can.erasing.own in
       let numbers = owner_numbers z v o (law.views id v at).kind own in
       let low = erasing_low z g t.views id v o law at can.erasing in
-      let p : PinWord = g.pins o.block in
-      let k : ℕ = pin_index z o.block in
-      let n : ℕ = get_or t.words k 0 in
-      let found : n ≡ pin_word p = fits.blocks o.block low in
-      let q : PinWord = freed_state z g t.views id v o law at can.erasing in
       let w : View = forgoer z g t.views id v o law at can.erasing in
-      let after : World = free_world z g t.views id v o law at can.erasing in
-      let lawful = frees z g t.views id v o law at can.erasing can in
-      let fitting : FitsPin q = subst FitsPin (put_here g.pins o.block q) (state_fits z after (set t.views id w) lawful o.block low) in
-      let sum : pin_word p + freed_added o.written ≡ pin_word q = ap (λ (y : ℕ). pin_word p + freed_added y) (sym (erasing_written z g t.views id v o law at can.erasing))
-      ∙ bits.frees p (state_fits z g t.views law o.block low) (is_erasing z g t.views id v o law at can.erasing) in
-      let now : (n + freed_added o.written) % 2 ^ 64 ≡ pin_word q = ap (λ (y : ℕ). (y + freed_added o.written) % 2 ^ 64) found ∙ bits.adds p q (freed_added o.written) fitting sum in (
+      let sum = ap (λ (y : ℕ). pin_word (g.pins o.block) + freed_added y) (sym (erasing_written z g t.views id v o law at can.erasing))
+      ∙ bits.frees (g.pins o.block) (state_fits z g t.views law o.block low) (is_erasing z g t.views id v o law at can.erasing) in (
         w,
         keeps,
         tt,
-        (after, subst (λ y. Fits z g.map after.pins g.pages (set t.words k y)) (sym now) (fits_pin z g.map g.pins g.pages t.words fits o.block q low), lawful, tt),
+        ruled_plus z id me t g fits o.block low (freed_state z g t.views id v o law at can.erasing) w (freed_added o.written) sum (frees z g t.views id v o law at can.erasing can),
         (refl, λ e can' is _. ap (λ (y : Owned). record v { owns = without y.block v.owns }) (same_owned numbers o e own can'.erasing.own is)),
       )
 
@@ -258,22 +256,13 @@ module _ (z : Numbers) (slots id : ℕ) (me : Sitter) where
       let own = can.erasing.own in
       let numbers = owner_numbers z v o (law.views id v at).kind own in
       let low = erasing_low z g t.views id v o law at can.erasing in
-      let p : PinWord = g.pins o.block in
-      let k : ℕ = pin_index z o.block in
-      let n : ℕ = get_or t.words k 0 in
-      let found : n ≡ pin_word p = fits.blocks o.block low in
-      let q : PinWord = kept_state z g t.views id v o law at can.erasing in
       let w : View = keeper z g t.views id v o law at can.erasing in
-      let after : World = keep_world z g t.views id v o law at can.erasing in
-      let lawful = keeps_block z g t.views id v o law at can.erasing can in
-      let fitting : FitsPin q = subst FitsPin (put_here g.pins o.block q) (state_fits z after (set t.views id w) lawful o.block low) in
-      let sum : pin_word p + kept_added o.written ≡ pin_word q = ap (λ (y : ℕ). pin_word p + kept_added y) (sym (erasing_written z g t.views id v o law at can.erasing))
-      ∙ bits.keeps p (state_fits z g t.views law o.block low) (is_erasing z g t.views id v o law at can.erasing) in
-      let now : (n + kept_added o.written) % 2 ^ 64 ≡ pin_word q = ap (λ (y : ℕ). (y + kept_added o.written) % 2 ^ 64) found ∙ bits.adds p q (kept_added o.written) fitting sum in (
+      let sum = ap (λ (y : ℕ). pin_word (g.pins o.block) + kept_added y) (sym (erasing_written z g t.views id v o law at can.erasing))
+      ∙ bits.keeps (g.pins o.block) (state_fits z g t.views law o.block low) (is_erasing z g t.views id v o law at can.erasing) in (
         w,
         keeps,
         tt,
-        (after, subst (λ y. Fits z g.map after.pins g.pages (set t.words k y)) (sym now) (fits_pin z g.map g.pins g.pages t.words fits o.block q low), lawful, tt),
+        ruled_plus z id me t g fits o.block low (kept_state z g t.views id v o law at can.erasing) w (kept_added o.written) sum (keeps_block z g t.views id v o law at can.erasing can),
         (
           refl,
           λ e can' is _. ap (λ (y : Owned). record v { owns = with_owned (record { block = y.block; phase = Open; generation = y.generation + 1; written = 0 }) v.owns }) (same_owned numbers o e own can'.erasing.own is),
@@ -286,20 +275,11 @@ module _ (z : Numbers) (slots id : ℕ) (me : Sitter) where
       let v : View = me.0 in
       let numbers = owner_numbers z v o (law.views id v at).kind erasing.own in
       let low = erasing_low z g t.views id v o law at erasing in
-      let p : PinWord = g.pins o.block in
-      let k : ℕ = pin_index z o.block in
-      let n : ℕ = get_or t.words k 0 in
-      let found : n ≡ pin_word p = fits.blocks o.block low in
-      let q : PinWord = retired_state z g t.views id v o law at erasing in
       let w : View = forgoer z g t.views id v o law at erasing in
-      let after : World = retire_world z g t.views id v o law at erasing in
-      let lawful = retires z g t.views id v o law at erasing in
-      let fitting : FitsPin q = subst FitsPin (put_here g.pins o.block q) (state_fits z after (set t.views id w) lawful o.block low) in
-      let now : (n + NEXT_PHASE) % 2 ^ 64 ≡ pin_word q =
-      ap (λ (y : ℕ). (y + NEXT_PHASE) % 2 ^ 64) found ∙ bits.adds p q NEXT_PHASE fitting (bits.next_phase p Erasing Retired (is_erasing z g t.views id v o law at erasing) refl) in (
+      let sum = bits.next_phase (g.pins o.block) Erasing Retired (is_erasing z g t.views id v o law at erasing) refl in (
         w,
         keeps,
         tt,
-        (after, subst (λ y. Fits z g.map after.pins g.pages (set t.words k y)) (sym now) (fits_pin z g.map g.pins g.pages t.words fits o.block q low), lawful, tt),
+        ruled_plus z id me t g fits o.block low (retired_state z g t.views id v o law at erasing) w NEXT_PHASE sum (retires z g t.views id v o law at erasing),
         (refl, λ e erasing' is. ap (λ (y : Owned). record v { owns = without y.block v.owns }) (same_owned numbers o e erasing.own erasing'.own is)),
       )

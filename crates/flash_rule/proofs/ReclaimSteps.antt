@@ -1,8 +1,6 @@
 -- A broom's steps on the pin word of a block up to its erase: claim, drain, condemn.
-use Rattle.std.proofs.Common.{◌≡◌, ◌≢◌, ℕ, ◌*◌, ◌<◌, ⊎_elim, true, false, List, [], ◌∷◌, ◌++◌, Option, Some, length, set, slice_get, sym, refl, ap, ◌∙◌, subst, arith}
+use Rattle.std.proofs.Common.{◌≡◌, ℕ, ◌*◌, ◌<◌, ⊎_elim, true, false, List, [], ◌∷◌, ◌++◌, Option, Some, length, set, slice_get, sym, refl, ap, ◌∙◌, subst, arith}
 use mathlib.Core.Option.{some}
-use mathlib.Core.Logic.{dite}
-use native.Mathlib.Decide.{ℕ_discrete}
 use lib.ListN.{get_elem?}
 use Rattle.geometry.specs.Limits.{Numbers}
 use Rattle.geometry.specs.declared.pin_word.PinWord.{PinWord}
@@ -17,28 +15,10 @@ use Rattle.flash_rule.specs.Views.{is_pass, is_broom, may_own, owned_at, without
 use Rattle.flash_rule.specs.World.{World, put, is_owned, is_intact, is_nameable, is_still, half_cycle, age_of}
 use Rattle.flash_rule.specs.Rule.{Erases, LawfulOwned, Lawful}
 use Rattle.flash_rule.specs.BroomPlays.{owned_as, cycle_of, IsAtRest, CanDrain}
-use Rattle.flash_rule.proofs.Points.{put_here, put_else}
-use Rattle.flash_rule.proofs.Owning.{some_same, with_here, with_else, without_else, one_at_rest, one_without, get_last}
+use Rattle.flash_rule.proofs.Points.{put_here}
+use Rattle.flash_rule.proofs.Owning.{some_same, with_here, with_else, without_else, one_at_rest, one_without, get_last, put2, put2_here, put2_else}
 use Rattle.flash_rule.proofs.PinSteps.{turned}
 use Rattle.flash_rule.proofs.Reclaiming.{turns, broom_player, broom_no_pass, broom_may_own, entry_set, entry_gone}
-
--- a function of two numbers with one value replaced
-pub put2 : {X : Type 0} → (ℕ → ℕ → X) → ℕ → ℕ → X → ℕ → ℕ → X
-put2 f a b x = put f a (put (f a) b x)
-
-pub put2_here : {X : Type 0} (f : ℕ → ℕ → X) (a b : ℕ) (x : X) → put2 f a b x a b ≡ x
-unfolding put2
-put2_here f a b x = ap (λ h. h b) (put_here f a (put (f a) b x)) ∙ put_here (f a) b x
-
-pub put2_else : {X : Type 0} (f : ℕ → ℕ → X) (a b : ℕ) (x : X) (i j : ℕ) → ¬ ((i ≡ a) × (j ≡ b)) → put2 f a b x i j ≡ f i j
-unfolding put2
-put2_else f a b x i j apart =
-    dite (ℕ_discrete i a)
-    (λ p.
-    let other : j ≢ b = λ q. apart (p, q) in
-    let e : put f a (put (f a) b x) a j ≡ f a j = ap (λ h. h j) (put_here f a (put (f a) b x)) ∙ put_else (f a) b x j other in
-    subst (λ k. put f a (put (f a) b x) k j ≡ f k j) (sym p) e)
-    (λ p. ap (λ h. h j) (put_else f a (put (f a) b x) i p))
 
 -- ---- what a seat at rest has
 module _ (z : Numbers) (g : World) (vs : List View) (id : ℕ) (v : View) (b : ℕ) (law : Lawful z g vs) (at : get_elem? vs id ≡ some v) (broom : is_broom v.role ≡ true) (low : b < z.blocks) (rested : IsAtRest v) where
