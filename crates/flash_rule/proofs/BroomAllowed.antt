@@ -21,13 +21,13 @@ use Rattle.flash_rule.specs.World.{World, Fits, sector_word, blank_word}
 use Rattle.flash_rule.specs.Rule.{Lawful}
 use Rattle.flash_rule.specs.Seats.{Ruled, Whole}
 use Rattle.flash_rule.specs.Plays.{Sitter, CanPut, CanCount, CanClose, words_in, next_page, put_told, count_told, close_told}
-use Rattle.flash_rule.specs.BroomPlays.{Named, CanGetStamp, GotStamp, CanMove, Moved, CanWipe, broom_look_told, stamp_told, source_told, move_told, wipe_told}
+use Rattle.flash_rule.specs.BroomPlays.{Named, CanGetStamp, GotStamp, CanMove, Moved, CanWipe, wiper, broom_look_told, stamp_told, source_told, move_told, wipe_told}
 use Rattle.flash_rule.proofs.Owning.{some_same}
 use Rattle.flash_rule.proofs.Places.{fits_load, fits_map, fits_page, page_within, page_same}
 use Rattle.flash_rule.proofs.OwnSteps.{player_of}
 use Rattle.flash_rule.proofs.BroomSteps.{looks, stamp_low, gets_stamp, gets_source, source_low, names_source}
 use Rattle.flash_rule.proofs.Moving.{mover, exchanged_world, stays, moves_page, move_told_here}
-use Rattle.flash_rule.proofs.Wiping.{row_of, wiped_index, wiper, wipe_world, wipes_word, erased_low}
+use Rattle.flash_rule.proofs.Wiping.{row_of, wiped_index, wipe_world, wipes_word, erased_low}
 use Rattle.flash_rule.proofs.Parts.{whole_kept}
 use Rattle.flash_rule.proofs.Steps.{put_allowed, count_allowed, close_allowed}
 
@@ -155,7 +155,7 @@ module _ (z : Numbers) (slots id : ℕ) (me : Sitter) where
       let below = place.3 in
       let word : i ≤ z.words = omega arith in
       let next : p * (z.words + 1) + i ≡ me.0.wiped = place.4 in
-      let w : View = wiper z g t.views id me.0 name.0 o p i law at name.1 can.erasing page word next in
+      let w : View = wiper me.0 in
       let after : World = wipe_world z g t.views id me.0 name.0 o p i law at name.1 can.erasing page word next in
       let here : page_index z o.block 0 + me.0.wiped ≡ page_index z o.block p + i = wiped_index z o.block p i me.0.wiped next in (
         w,

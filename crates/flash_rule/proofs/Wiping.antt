@@ -17,7 +17,7 @@ use Rattle.flash_rule.specs.Views.{is_player, owned_at}
 use Rattle.flash_rule.specs.World.{World, put_word, is_intact, is_nameable, is_reclaimed, is_still, blank_word}
 use Rattle.flash_rule.specs.Rule.{LawfulOwned, LawfulView, Lawful}
 use Rattle.flash_rule.specs.Onward.{Onward}
-use Rattle.flash_rule.specs.BroomPlays.{IsErasing}
+use Rattle.flash_rule.specs.BroomPlays.{IsErasing, wiper}
 use Rattle.flash_rule.proofs.Owning.{some_same}
 use Rattle.flash_rule.proofs.Frames.{counted, knowledge_kept}
 use Rattle.flash_rule.proofs.Places.{row_same}
@@ -39,13 +39,6 @@ pub wiped_index : (z : Numbers) (b p i k : ℕ) → p * (z.words + 1) + i ≡ k 
 wiped_index z b p i k is = let first = add-mul (b * z.pages) 0 (z.words + 1) in let later = add-mul (b * z.pages) p (z.words + 1) in omega arith
 
 module _ (z : Numbers) (g : World) (vs : List View) (id : ℕ) (v : View) (n : Name) (o : Owned) (p i : ℕ) (law : Lawful z g vs) (at : get_elem? vs id ≡ some v) (role : v.role ≡ Player n) (erasing : IsErasing v o) (page : p < z.pages) (word : i ≤ z.words) (next : p * (z.words + 1) + i ≡ v.wiped) where
-  -- how many words are all ones after the step
-  abbrev pub wiped_now : ℕ
-  wiped_now = v.wiped + 1
-
-  abbrev pub wiper : View
-  wiper = record v { wiped = wiped_now }
-
   abbrev pub wipe_world : World
   wipe_world = record g { pages = put_word g.pages o.block p i blank_word }
 
@@ -85,7 +78,7 @@ module _ (z : Numbers) (g : World) (vs : List View) (id : ℕ) (v : View) (n : N
       }
 
   -- one word more of the block is all ones
-  wiped_more : LawfulOwned z wipe_world id v.work v.cleared wiped_now o.block o
+  wiped_more : LawfulOwned z wipe_world id v.work v.cleared (wiper v).wiped o.block o
   wiped_more =
       record {
         block = mine.block;
@@ -105,7 +98,7 @@ module _ (z : Numbers) (g : World) (vs : List View) (id : ℕ) (v : View) (n : N
             word_else g.pages o.block p i blank_word o.block q j (λ same. earlier ((λ t. same.1 t * (z.words + 1) + same.2 t) ∙ next)) ∙ mine.clean is q j low most (omega arith));
       }
 
-  wiped_else : (c : ℕ) (e : Owned) → c ≢ o.block → owned_at c v.owns ≡ Some e → LawfulOwned z wipe_world id v.work v.cleared wiped_now c e
+  wiped_else : (c : ℕ) (e : Owned) → c ≢ o.block → owned_at c v.owns ≡ Some e → LawfulOwned z wipe_world id v.work v.cleared (wiper v).wiped c e
   wiped_else c e unlike owns =
       let h = law.views id v at in
       let k = h.holding.owned c e owns in
@@ -122,7 +115,7 @@ module _ (z : Numbers) (g : World) (vs : List View) (id : ℕ) (v : View) (n : N
         clean = λ is. absurd (unlike (h.kind.reclaims c o.block e o owns erasing.own (ap is_reclaimed is) (ap is_reclaimed erasing.erasing)));
       }
 
-  wiper_lawful : LawfulView z wipe_world id wiper
+  wiper_lawful : LawfulView z wipe_world id (wiper v)
   wiper_lawful =
       let h = law.views id v at in
       let kind = h.kind in
@@ -148,7 +141,7 @@ module _ (z : Numbers) (g : World) (vs : List View) (id : ℕ) (v : View) (n : N
           owned = λ c e owns. dite (ℕ_discrete c o.block)
               (λ same.
               let entry : o ≡ e = some_same o e (sym erasing.own ∙ (ap (λ j. owned_at j v.owns) (sym same) ∙ owns)) in
-              let P : ℕ × Owned → Type 0 = λ y. LawfulOwned z wipe_world id v.work v.cleared wiped_now y.0 y.1 in subst P (λ t. (sym same t, entry t)) wiped_more)
+              let P : ℕ × Owned → Type 0 = λ y. LawfulOwned z wipe_world id v.work v.cleared (wiper v).wiped y.0 y.1 in subst P (λ t. (sym same t, entry t)) wiped_more)
               (λ unlike. wiped_else c e unlike owns);
           work = λ w is.
               let k = holds.work w is in
@@ -183,14 +176,14 @@ module _ (z : Numbers) (g : World) (vs : List View) (id : ℕ) (v : View) (n : N
         };
       }
 
-  pub wipes_word : Lawful z wipe_world (set vs id wiper)
+  pub wipes_word : Lawful z wipe_world (set vs id (wiper v))
   wipes_word =
-      assembled z g wipe_world vs id v wiper law at wipe_onward wiper_lawful
+      assembled z g wipe_world vs id v (wiper v) law at wipe_onward wiper_lawful
       (λ s low. sector_kept z g wipe_world s (law.sectors s low) refl refl (λ c _ named. (refl, named, omega arith, λ q j _. other_block c q j (not_nameable c named))))
       law.callers
       (λ c low. dite (ℕ_discrete c o.block)
       (λ same.
-      let k = block_kept z g g vs id v wiper c at (law.blocks c low) refl refl (λ q j. refl) refl (λ e is. (e, is)) in
+      let k = block_kept z g g vs id v (wiper v) c at (law.blocks c low) refl refl (λ q j. refl) refl (λ e is. (e, is)) in
       record {
         readers = k.readers;
         written = k.written;
@@ -199,5 +192,5 @@ module _ (z : Numbers) (g : World) (vs : List View) (id : ℕ) (v : View) (n : N
         rest = λ is. let e : false ≡ true = sym (ap is_still (ap (λ j. (g.pins j).phase) same ∙ phase_is)) ∙ is in absurd (cc);
         owner = k.owner;
       })
-      (λ unlike. block_kept z g wipe_world vs id v wiper c at (law.blocks c low) refl refl (λ q j. other_block c q j unlike) refl (λ e is. (e, is))))
+      (λ unlike. block_kept z g wipe_world vs id v (wiper v) c at (law.blocks c low) refl refl (λ q j. other_block c q j unlike) refl (λ e is. (e, is))))
       law.strangers refl law.dealt

@@ -186,10 +186,14 @@ pub record CanWipe (v : View) (o : Owned) : Type 0 where
   pub erasing : IsErasing v o
   pub room : v.wiped < block_words v
 
+-- one word more of it is all ones
+abbrev pub wiper : View → View
+wiper v = record v { wiped = v.wiped + 1 }
+
 abbrev pub wipe_told : Step (Unit {0}) → Sitter → ℕ → Sitter → Type 0
 wipe_told st me n after =
     (after.1 ≡ me.1)
-    × ((o : Owned) → CanWipe me.0 o → st.word ≡ page_index me.0.numbers o.block 0 + me.0.wiped → st.first ≡ blank_word → after.0 ≡ record me.0 { wiped = me.0.wiped + 1 })
+    × ((o : Owned) → CanWipe me.0 o → st.word ≡ page_index me.0.numbers o.block 0 + me.0.wiped → st.first ≡ blank_word → after.0 ≡ wiper me.0)
 
 -- The block is wiped as a whole, and it has another generation to live
 pub record CanRenew (v : View) (o : Owned) : Type 0 where
