@@ -139,9 +139,9 @@ met z g v n c role h copy = (
 -- the copies that a player has, once it sees the history of this moment
 pub met_now : (z : Numbers) (g : World) (v : View) (n : Name) → v.role ≡ Player n → LawfulKnowledge z g v → (w : View) → w.role ≡ v.role → w.seen ≡ g.history → w.programs ≡ v.programs → w.erases ≡ v.erases
     → (c : Carried) → v.copy ≡ Some c → Met w c
-met_now z g v n is_player h w role seen programs erases c is =
+met_now z g v n player h w role seen programs erases c is =
     let copy = h.copy c is in
-    let m = met z g v n c is_player h copy in
+    let m = met z g v n c player h copy in
     record {
       other = λ e. copy.other (sym role ∙ e);
       seen = subst (λ l. Begins c.seen l) (sym seen) m.0;

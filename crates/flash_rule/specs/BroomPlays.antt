@@ -186,7 +186,7 @@ pub record CanWipe (v : View) (o : Owned) : Type 0 where
   pub erasing : IsErasing v o
   pub room : v.wiped < block_words v
 
--- one word more of it is all ones
+-- the broom has wiped one word more
 abbrev pub wiper : View → View
 wiper v = record v { wiped = v.wiped + 1 }
 
