@@ -1,0 +1,4 @@
+-- What public contracts rest on.
+pub mod Survey
+pub mod Ready
+pub mod Told

@@ -1,0 +1,56 @@
+-- A broom between two calls.
+use Rattle.std.specs.Prelude.{◌≡◌, ℕ, ◌<◌, true, List, Option, None, Some, length}
+use Rattle.geometry.specs.Geometry.{blocks_of, pages_of, endurance_of}
+use Rattle.geometry.specs.declared.geometry.Geometry.{Geometry}
+use Rattle.flash_rule.specs.declared.facts.Work.{Work}
+use Rattle.flash_rule.specs.declared.view.View.{View}
+use Rattle.flash_rule.specs.Views.{AreOfHosts}
+use Rattle.flash_table.specs.declared.flash.Flash.{Flash}
+use Rattle.flash_table.specs.declared.pass.OpenBlock.{OpenBlock}
+use Rattle.flash_table.specs.declared.broom_seat.BroomBlocks.{BroomBlocks}
+use Rattle.flash_table.specs.declared.broom_seat.BroomSeat.{BroomSeat}
+use Rattle.flash_table.specs.declared.broom_seat.Reclaiming.TheVariants.{Nothing}
+use Rattle.flash_table.specs.Flash.{IsBroomOf, broom_view, own_blocks, geometry_of}
+use Rattle.broom.specs.declared.broom.Broom.{Broom}
+
+-- a broom's seat at the table
+abbrev pub seat_of : Broom → BroomSeat
+seat_of b = b.seat
+
+-- what a broom knows
+abbrev pub view_of : Broom → View
+view_of b = broom_view b.seat
+
+-- the blocks of its own
+abbrev pub blocks_of_broom : Broom → BroomBlocks
+blocks_of_broom b = own_blocks b.seat
+
+-- An open block is of this device, with fewer pages written than this, in a generation below the endurance
+pub record HasRoom (g : Geometry) (most : ℕ) (o : OpenBlock) : Type 0 where
+  pub low : o.block < blocks_of g
+  pub room : o.written < most
+  pub young : o.generation < endurance_of g
+
+-- The page that was filled last, if the view still has it, is a counted one of the destination
+abbrev pub IsFiled : View → BroomBlocks → Type 0
+IsFiled v x = (w : Work) → v.work ≡ Some w → (o : OpenBlock) × (x.destination ≡ Some o) × (w.page.block ≡ o.block) × (w.page.page < o.written)
+
+-- The seat is of this device. Its destination, if it has one, has a page left, and nothing is written in its spare. No page is half
+-- written, no page is being relocated and no block drained or erased. Each call that was seen is of a host, and no note is out
+pub record IsRested (f : Flash) (s : BroomSeat) : Type 0 where
+  pub seat : IsBroomOf f s
+  pub destination : (o : OpenBlock) → (own_blocks s).destination ≡ Some o → HasRoom (geometry_of f) (pages_of (geometry_of f)) o
+  pub spare : (o : OpenBlock) → (own_blocks s).spare ≡ Some o → HasRoom (geometry_of f) 1 o
+  pub filed : IsFiled (broom_view s) (own_blocks s)
+  pub reclaiming : (own_blocks s).reclaiming ≡ Nothing
+  pub source : (broom_view s).source ≡ None
+  pub callers : AreOfHosts (broom_view s).numbers (broom_view s).seen
+  pub whole : (broom_view s).whole ≡ true
+  pub alone : (broom_view s).guest ≡ None
+
+-- And the broom has the room for a survey
+pub record IsReady (f : Flash) (b : Broom) : Type 0 where
+  pub rested : IsRested f b.seat
+  pub states : length b.states.items ≡ blocks_of (geometry_of f)
+  pub counts : length b.counts.items ≡ blocks_of (geometry_of f)
+  pub closed : length b.closed.items ≡ blocks_of (geometry_of f)

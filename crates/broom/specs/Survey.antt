@@ -1,0 +1,80 @@
+-- What a broom finds out about all blocks and sectors, and the victim that it chooses by it.
+use Rattle.std.specs.Prelude.{◌≡◌, ℕ, ◌+◌, ◌==◌, ◌&&◌, Bool, true, false, All, List, [], ◌∷◌, Option, None, Some, IfSome, length, map, count_by, slice_index}
+use Rattle.std.specs.List.{range_with_len}
+use Rattle.geometry.specs.Greedy.{greedy_of}
+use Rattle.geometry.specs.Limits.{Numbers}
+use Rattle.geometry.specs.MapWords.{FitsMap}
+use Rattle.geometry.specs.PinWords.{FitsPin, pin_word}
+use Rattle.geometry.specs.declared.map_word.MapWord.{MapWord}
+use Rattle.geometry.specs.declared.pin_word.Phase.{Phase}
+use Rattle.geometry.specs.declared.pin_word.Phase.TheVariants.{Free, Open, Closed, Victim, Drained, Erasing, Retired}
+use Rattle.geometry.specs.declared.pin_word.PinWord.{PinWord}
+use Rattle.flash_rule.specs.World.{sector_word}
+
+-- What a broom found: the state of each block, and for each sector the page that its map word named, or none
+pub record Survey : Type 0 where
+  pub states : List PinWord
+  pub pages : List (Option MapWord)
+
+-- A survey of this device is of all its blocks and all its sectors, and what it found has room in their words
+pub record IsSurvey (z : Numbers) (x : Survey) : Type 0 where
+  pub blocks : length x.states ≡ z.blocks
+  pub sectors : length x.pages ≡ z.sectors
+  pub states : All FitsPin x.states
+  pub pages : All (λ page. IfSome page FitsMap) x.pages
+
+-- words in order, each with its number, from this one on
+abbrev pub numbered : ℕ → List ℕ → List (ℕ × ℕ)
+numbered k [] = []
+numbered k (n ∷ ns) = (k, n) ∷ numbered (k + 1) ns
+
+-- each block with its word as loaded, in order
+abbrev pub loads_of : List PinWord → List (ℕ × ℕ)
+loads_of states = numbered 0 (map pin_word states)
+
+-- each sector with its word as a look found it, in order
+abbrev pub looks_of : List (Option MapWord) → List (ℕ × ℕ)
+looks_of pages = numbered 0 (map sector_word pages)
+
+-- whether a sector's page lies in this block, in this generation
+abbrev pub lies_in : ℕ → ℕ → Option MapWord → Bool
+lies_in b generation None = false
+lies_in b generation (Some m) = m.block == b && m.generation == generation
+
+-- the generation of a block as loaded
+abbrev pub generation_in : List PinWord → ℕ → ℕ
+generation_in states b = slice_index (map (λ p. p.generation) states) b
+
+-- the live pages of a block: how many sectors' words named a page of it, in its generation as loaded
+abbrev pub live_pages : Survey → ℕ → ℕ
+live_pages x b = count_by (lies_in b (generation_in x.states b)) x.pages
+
+-- the live pages of all blocks, in order
+abbrev pub counts_of : Survey → List ℕ
+counts_of x = map (live_pages x) (range_with_len 0 (length x.states))
+
+abbrev pub is_closed : Phase → Bool
+is_closed Free = false
+is_closed Open = false
+is_closed Closed = true
+is_closed Victim = false
+is_closed Drained = false
+is_closed Erasing = false
+is_closed Retired = false
+
+-- for each block whether it was loaded as closed
+abbrev pub closed_of : List PinWord → List Bool
+closed_of states = map (λ p. is_closed p.phase) states
+
+-- the block to be drained: of those loaded as closed the one with the fewest live pages, the lowest on a tie
+abbrev pub victim_of : Survey → Option ℕ
+victim_of x = greedy_of (counts_of x) (closed_of x.states)
+
+-- There is nothing to gain: no block was loaded as closed, or the one to be drained has as many live pages as a block has pages
+abbrev pub GainsNothing : Survey → ℕ → Type 0
+GainsNothing x pages = IfSome (victim_of x) (λ b. live_pages x b ≡ pages)
+
+-- This block is the one to be drained, and not all of its pages are live
+pub record IsVictim (x : Survey) (pages b : ℕ) : Type 0 where
+  pub chosen : victim_of x ≡ Some b
+  pub gains : ¬ (live_pages x b ≡ pages)

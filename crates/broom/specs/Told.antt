@@ -1,0 +1,69 @@
+-- What a drain tells of what its broom knows, before and after.
+use Rattle.std.specs.Prelude.{◌≡◌, ℕ, ◌+◌, ◌≤◌, List, [], ◌∷◌, ◌++◌, None, length}
+use Rattle.geometry.specs.History.{Begins}
+use Rattle.geometry.specs.declared.map_word.MapWord.{MapWord}
+use Rattle.flash_rule.specs.declared.view.View.{View}
+use Rattle.flash_table.specs.declared.broom_seat.BroomBlocks.{BroomBlocks}
+use Rattle.broom.specs.declared.broom.Broom.{Broom}
+use Rattle.broom.specs.declared.draining.Drain.{Drain}
+use Rattle.broom.specs.declared.draining.Drain.TheVariants as drain
+use Rattle.broom.specs.Survey.{Survey, IsSurvey, GainsNothing, IsVictim, loads_of, looks_of, generation_in}
+use Rattle.broom.specs.Ready.{view_of, blocks_of_broom}
+
+-- A survey was made: the state of each block was loaded in order, and then each sector looked at in order, with these words
+pub record Surveyed (v : View) (x : Survey) (w : View) : Type 0 where
+  pub whole : IsSurvey v.numbers x
+  pub loaded : w.loaded ≡ v.loaded ++ loads_of x.states
+  pub named : Begins (v.named ++ looks_of x.pages) w.named
+  pub later : Begins v.seen w.seen
+
+-- The broom had no spare, and nothing was done
+pub record HadNoSpare (before after : Broom) : Type 0 where
+  pub none : (blocks_of_broom before).spare ≡ None
+  pub view : view_of after ≡ view_of before
+  pub blocks : blocks_of_broom after ≡ blocks_of_broom before
+
+-- A survey was made, by which there is nothing to gain, and nothing else was done
+pub record GainedNothing (v w : View) : Type 0 where
+  pub survey : Survey
+  pub made : Surveyed v survey w
+  pub nothing : GainsNothing survey v.numbers.pages
+  pub changed : w ≡ record v { seen = w.seen; loaded = w.loaded; named = v.named ++ looks_of survey.pages; busy = w.busy; stale = w.stale }
+
+-- A survey was made, and the claim of its victim failed. Nothing else was done
+pub record LostClaim (v w : View) : Type 0 where
+  pub survey : Survey
+  pub made : Surveyed v survey w
+  pub block : ℕ
+  pub victim : IsVictim survey v.numbers.pages block
+  pub changed : w ≡ record v { seen = w.seen; loaded = w.loaded; named = v.named ++ looks_of survey.pages; busy = w.busy; stale = w.stale; lost = v.lost ++ block ∷ [] }
+
+-- A survey was made, and this block, its victim, was drained in its generation as loaded: no map word names it any more. Of the pages
+-- that were programmed, each listed, so many were named by a map word in the place of one of the victim's
+pub record DidDrain (v : View) (block copied : ℕ) (w : View) : Type 0 where
+  pub survey : Survey
+  pub made : Surveyed v survey w
+  pub victim : IsVictim survey v.numbers.pages block
+  pub copies : List MapWord
+  pub programmed : w.programs ≡ v.programs ++ copies
+  pub enough : copied ≤ length copies
+  pub changed : w ≡ record v {
+    seen = w.seen;
+    loaded = w.loaded;
+    named = w.named;
+    busy = w.busy;
+    stale = w.stale;
+    owns = w.owns;
+    work = w.work;
+    programs = w.programs;
+    cleared = w.cleared;
+    moves = v.moves + copied;
+    drains = v.drains ++ record { block = block; generation = generation_in survey.states block } ∷ [];
+  }
+
+-- What each answer of a drain tells. The blocks of the broom's own stay where it drained none
+abbrev pub DrainTold : Broom → Drain → Broom → Type 0
+DrainTold before (drain.Drained block copied) after = DidDrain (view_of before) block copied (view_of after)
+DrainTold before drain.NothingToGain after = GainedNothing (view_of before) (view_of after) × (blocks_of_broom after ≡ blocks_of_broom before)
+DrainTold before drain.NoSpare after = HadNoSpare before after
+DrainTold before drain.Lost after = LostClaim (view_of before) (view_of after) × (blocks_of_broom after ≡ blocks_of_broom before)

@@ -1,0 +1,63 @@
+ghost use Rattle.std.specs.Prelude.{◌≡◌, IfOk, IfErr, length};
+ghost use Rattle.geometry.specs.Geometry.{blocks_of};
+ghost use Rattle.flash_table.specs.declared.flash.Flash.{Flash};
+ghost use Rattle.flash_table.specs.Flash.{broom_view, own_blocks, geometry_of};
+
+use flash_table::BroomSeat;
+use geometry::{Geometry, Phase, PinWord};
+use std::alloc::{AllocError, Global};
+
+/// A broom's seat, with the room for its survey: for each block its state as loaded, the number of its live pages, and whether it is
+/// closed.
+pub struct Broom {
+    pub(crate) seat: BroomSeat,
+    pub(crate) states: Vec<PinWord>,
+    pub(crate) counts: Vec<u32>,
+    pub(crate) closed: Vec<bool>,
+}
+
+// What each place of a survey has before the first one.
+const NOT_LOADED: PinWord = PinWord {
+    readers: 0,
+    phase: Phase::Free,
+    written: 0,
+    generation: 0,
+};
+
+// A row of so many values.
+fn row<T: Copy>(alloc: Global, places: usize, value: T) -> Result<Vec<T>, AllocError>
+    ensures { IfOk result (λ v. length v.items ≡ places) }
+{
+    let mut row = Vec::with_capacity(alloc, places)?;
+    row.resize(places, value)?;
+    Ok(row)
+}
+
+impl Broom {
+    ghost use Rattle.broom.specs.Ready.{IsRested, IsReady, view_of, blocks_of_broom};
+
+    /// A broom with the room for its surveys of a device of this geometry. `Err` is want of memory, and gives the seat back.
+    pub fn new(alloc: Global, seat: BroomSeat, geometry: &Geometry) -> Result<Broom, BroomSeat>
+        ensures view { IfOk result (λ b. view_of b ≡ broom_view seat) }
+        ensures blocks { IfOk result (λ b. blocks_of_broom b ≡ own_blocks seat) }
+        ensures ready { IfOk result (λ b. (f : Flash) → geometry_of f ≡ geometry.now → IsRested f seat → IsReady f b) }
+        ensures refused { IfErr result (λ s. (broom_view s ≡ broom_view seat) × (own_blocks s ≡ own_blocks seat) × ((f : Flash) → IsRested f seat → IsRested f s)) }
+    {
+        let blocks = geometry.blocks() as usize;
+        let Ok(states) = row(alloc, blocks, NOT_LOADED) else {
+            return Err(seat);
+        };
+        let Ok(counts) = row(alloc, blocks, 0) else {
+            return Err(seat);
+        };
+        let Ok(closed) = row(alloc, blocks, false) else {
+            return Err(seat);
+        };
+        Ok(Broom {
+            seat,
+            states,
+            counts,
+            closed,
+        })
+    }
+}

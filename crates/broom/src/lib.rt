@@ -1,0 +1,9 @@
+//! Garbage collection on the shared device: a broom copies what is live out of a block, beside the hosts. No call waits for anybody, and
+//! only `Broom::new` takes memory.
+#![tactic(auto)]
+
+mod broom;
+mod draining;
+
+pub use broom::Broom;
+pub use draining::Drain;
