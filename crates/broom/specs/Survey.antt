@@ -1,6 +1,6 @@
 -- What a broom finds out about all blocks and sectors, and the victim that it chooses by it.
-use Rattle.std.specs.Prelude.{◌≡◌, ℕ, ◌+◌, ◌==◌, ◌&&◌, Bool, true, false, All, List, [], ◌∷◌, Option, None, Some, IfSome, length, map, count_by, slice_index}
-use Rattle.std.specs.List.{range_with_len}
+use Rattle.std.specs.Prelude.{◌≡◌, ℕ, ◌==◌, ◌&&◌, Bool, true, false, All, List, Option, None, Some, IfSome, length, map, count_by, slice_index}
+use Rattle.std.specs.List.{enumerate_from, range_with_len}
 use Rattle.geometry.specs.Greedy.{greedy_of}
 use Rattle.geometry.specs.Limits.{Numbers}
 use Rattle.geometry.specs.MapWords.{FitsMap}
@@ -23,18 +23,13 @@ pub record IsSurvey (z : Numbers) (x : Survey) : Type 0 where
   pub states : All FitsPin x.states
   pub pages : All (λ page. IfSome page FitsMap) x.pages
 
--- words in order, each with its number, from this one on
-abbrev pub numbered : ℕ → List ℕ → List (ℕ × ℕ)
-numbered k [] = []
-numbered k (n ∷ ns) = (k, n) ∷ numbered (k + 1) ns
-
 -- each block with its word as loaded, in order
 abbrev pub loads_of : List PinWord → List (ℕ × ℕ)
-loads_of states = numbered 0 (map pin_word states)
+loads_of states = enumerate_from 0 (map pin_word states)
 
 -- each sector with its word as a look found it, in order
 abbrev pub looks_of : List (Option MapWord) → List (ℕ × ℕ)
-looks_of pages = numbered 0 (map sector_word pages)
+looks_of pages = enumerate_from 0 (map sector_word pages)
 
 -- whether a sector's page lies in this block, in this generation
 abbrev pub lies_in : ℕ → ℕ → Option MapWord → Bool
