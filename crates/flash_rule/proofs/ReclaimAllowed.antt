@@ -1,5 +1,5 @@
 -- Each step of a broom on a pin word, as the table asks for it: whatever the table is, the step keeps the rule and tells what it says.
-use Rattle.std.proofs.Common.{◌≡◌, ◌≢◌, ℕ, ◌+◌, ◌%◌, ◌^◌, ◌<◌, ◌≤◌, ◌⊎◌, inl, inr, ⊎_elim, ◌==◌, eq-eqb, ne_eqb, true, Option, List, [], ◌∷◌, ◌++◌, Some, set, sym, refl, ap, ◌∙◌, subst, arith}
+use Rattle.std.proofs.Common.{◌≡◌, ◌≢◌, ℕ, ◌+◌, ◌%◌, ◌^◌, ◌<◌, ◌≤◌, ◌⊎◌, inl, inr, ⊎_elim, ◌==◌, eq-eqb, ne_eqb, true, false, Option, List, [], ◌∷◌, ◌++◌, None, Some, set, sym, refl, ap, ◌∙◌, subst, arith}
 use Rattle.std.proofs.Math.ListN.{get_or}
 use prog.Atomic.{either}
 use mathlib.Core.Option.{some, none}
@@ -21,7 +21,7 @@ use Rattle.flash_rule.specs.declared.facts.Role.TheVariants.{Dealer, Player, Not
 use Rattle.flash_rule.specs.declared.facts.Owned.{Owned}
 use Rattle.flash_rule.specs.declared.view.View.{View}
 use Rattle.flash_rule.specs.Views.{is_broom, owned_at, without, with_owned}
-use Rattle.flash_rule.specs.World.{World, Fits, put}
+use Rattle.flash_rule.specs.World.{World, Fits, put, is_owned}
 use Rattle.flash_rule.specs.Rule.{Lawful}
 use Rattle.flash_rule.specs.Seats.{Ruled, Whole}
 use Rattle.flash_rule.specs.Plays.{Sitter}
@@ -49,6 +49,10 @@ broom_name (Player n) is = (n, refl)
 broom_name Dealer is = absurd (cc)
 broom_name Note is = absurd (cc)
 broom_name Gone is = absurd (cc)
+
+none_of : (x : Option Owned) → ((o : Owned) → ¬ (x ≡ Some o)) → x ≡ None
+none_of None never = refl
+none_of (Some o) never = absurd (never o refl)
 
 -- what an exchange leaves
 exchanged : (n old new : ℕ) → n ≡ old → either (n == old) new n ≡ new
@@ -99,6 +103,13 @@ module _ (z : Numbers) (slots id : ℕ) (me : Sitter) where
 
   numbers_now : (g : World) (vs : List View) → Lawful z g vs → get_elem? vs id ≡ some me.0 → is_broom me.0.role ≡ true → me.0.numbers ≡ z
   numbers_now g vs law at broom = (law.views id me.0 at).kind.numbers (broom_live me.0.role broom)
+
+  -- a block in a phase in which it has no owner isn't the seat's
+  not_own : (g : World) (vs : List View) (b : ℕ) → Lawful z g vs → get_elem? vs id ≡ some me.0 → is_owned (g.pins b).phase ≡ false → owned_at b me.0.owns ≡ None
+  not_own g vs b law at not =
+      none_of (owned_at b me.0.owns) (λ o is.
+      let h = (law.views id me.0 at).holding.owned b o is in
+      let no : true ≡ false = sym h.owned ∙ (ap is_owned (sym h.phase) ∙ not) in absurd (cc))
 
   -- ---- state
   -- a broom loads the state of a block
@@ -165,11 +176,11 @@ module _ (z : Numbers) (slots id : ℕ) (me : Sitter) where
       let w : View = claimer z g t.views id v b law at broom low can.rested in
       let now : either (n == old) new n ≡ pin_word q = exchanged n old new is ∙ (ap (λ (y : PinWord). pin_word y + NEXT_PHASE) (sym same) ∙ bits.next_phase (g.pins b) Closed Victim phase refl) in
       answer w (ruled_as z id me t g fits b low q g.eraser w (either (n == old) new n) now (claims z g t.views id v b law at broom low can.rested phase))
-      (record { won = λ _. ap (λ (y : PinWord). record v { owns = with_owned (owned_as b y Victim) v.owns; cleared = 0 }) same; lost = λ not. absurd (not is) }))
+      (record { fresh = λ _. not_own g t.views b law at (ap is_owned phase); won = λ _. ap (λ (y : PinWord). record v { owns = with_owned (owned_as b y Victim) v.owns; cleared = 0 }) same; lost = λ not. absurd (not is) }))
       (λ (other : n ≢ old).
       let w : View = record v { lost = v.lost ++ b ∷ [] } in
       answer w (ruled_still z id me t g fits b low w (either (n == old) new n) (left_alone n old new other) (notes z g t.views id v law at v.loaded (v.lost ++ b ∷ []) v.busy v.stale))
-      (record { won = λ is. absurd (other is); lost = λ _. refl }))
+      (record { fresh = λ is. absurd (other is); won = λ is. absurd (other is); lost = λ _. refl }))
 
   -- ---- condemn
   -- a broom exchanges the word of a drained block without readers for an erasing one's
@@ -206,11 +217,11 @@ module _ (z : Numbers) (slots id : ℕ) (me : Sitter) where
       let w : View = condemner z g t.views id v b law at broom low can.rested in
       let now : either (n == old) new n ≡ pin_word q = exchanged n old new is ∙ (ap (λ (y : PinWord). pin_word y + NEXT_PHASE) (sym same) ∙ bits.next_phase (g.pins b) Drained Erasing phase refl) in
       answer w (ruled_as z id me t g fits b low q (listed z g t.views id v b law at broom low can.rested name.0) w (either (n == old) new n) now (condemns z g t.views id v b law at broom low can.rested name.0 name.1 phase unread))
-      (record { won = λ _. ap (λ (y : PinWord). record v { owns = with_owned (owned_as b y Erasing) v.owns; erases = v.erases ++ cycle_of (owned_as b y Erasing) ∷ []; wiped = 0 }) same; busy = λ not. absurd (not is) }))
+      (record { fresh = λ _. not_own g t.views b law at (ap is_owned phase); won = λ _. ap (λ (y : PinWord). record v { owns = with_owned (owned_as b y Erasing) v.owns; erases = v.erases ++ cycle_of (owned_as b y Erasing) ∷ []; wiped = 0 }) same; busy = λ not. absurd (not is) }))
       (λ (other : n ≢ old).
       let w : View = record v { busy = v.busy ++ b ∷ [] } in
       answer w (ruled_still z id me t g fits b low w (either (n == old) new n) (left_alone n old new other) (notes z g t.views id v law at v.loaded v.lost (v.busy ++ b ∷ []) v.stale))
-      (record { won = λ is. absurd (other is); busy = λ _. refl }))
+      (record { fresh = λ is. absurd (other is); won = λ is. absurd (other is); busy = λ _. refl }))
 
   -- ---- drain
   -- the owner of a cleared victim gives it up

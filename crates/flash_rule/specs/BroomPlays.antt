@@ -132,8 +132,9 @@ pub record CanClaim (v : View) (b : ℕ) (p : PinWord) : Type 0 where
   pub loaded : IsLastLoaded v b (pin_word p)
   pub rested : IsAtRest v
 
--- A block found in the state expected is now the broom's victim, with no page cleared; else the claim is lost
+-- A block found in the state expected wasn't the broom's, and is now its victim, with no page cleared; else the claim is lost
 pub record Claimed (v : View) (b : ℕ) (p : PinWord) (n : ℕ) (w : View) : Type 0 where
+  pub fresh : n ≡ pin_word p → owned_at b v.owns ≡ None
   pub won : n ≡ pin_word p → w ≡ record v { owns = with_owned (owned_as b p Victim) v.owns; cleared = 0 }
   pub lost : ¬ (n ≡ pin_word p) → w ≡ record v { lost = v.lost ++ b ∷ [] }
 
@@ -151,8 +152,9 @@ pub record CanCondemn (v : View) (b : ℕ) (p : PinWord) : Type 0 where
   pub loaded : IsLastLoaded v b (pin_word p)
   pub rested : IsAtRest v
 
--- A block found in the state expected is now the broom's to erase, with no word wiped, and its erase is listed; else it is busy
+-- A block found in the state expected wasn't the broom's, and is now its to erase, with no word wiped, and its erase is listed; else it is busy
 pub record Condemned (v : View) (b : ℕ) (p : PinWord) (n : ℕ) (w : View) : Type 0 where
+  pub fresh : n ≡ pin_word p → owned_at b v.owns ≡ None
   pub won : n ≡ pin_word p → w ≡ record v { owns = with_owned (owned_as b p Erasing) v.owns; erases = v.erases ++ cycle_of (owned_as b p Erasing) ∷ []; wiped = 0 }
   pub busy : ¬ (n ≡ pin_word p) → w ≡ record v { busy = v.busy ++ b ∷ [] }
 
