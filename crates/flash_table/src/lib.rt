@@ -9,6 +9,8 @@ mod notes;
 mod open;
 mod pass;
 mod pins;
+mod reclaim_steps;
+mod relocation_steps;
 mod retired;
 mod steps;
 

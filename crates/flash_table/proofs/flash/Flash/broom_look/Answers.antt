@@ -1,0 +1,25 @@
+use Rattle.std.proofs.Common.{ap, ◌∙◌, arith}
+use Rattle.geometry.specs.Geometry.{numbers_of}
+use Rattle.flash_rule.specs.declared.view.View.{View}
+use Rattle.flash_table.specs.Flash.{device}
+use Rattle.flash_table.proofs.Rows.{just_now}
+use Rattle.flash_table.proofs.HereBrooms.{broom_look_here}
+use Rattle.flash_table.proofs.ToldBrooms.{broom_player, stays_broom}
+use Rattle.flash_table.proofs.flash.Flash.broom_look.Goals as goal
+
+pub load-found-requires : goal.load-found-requires
+load-found-requires c =
+    let f = c.args.self.now in
+    let size = f.size in
+    let below = c.requires.sector in
+    (c.requires.broom.table, omega arith, broom_look_here (device f) (numbers_of f.table.shared.key) (ap numbers_of f.key) _ _ _ c.args.sector (broom_player f c.args.broom.now c.requires.broom) below)
+
+pub invariant_of-broom : goal.invariant_of-broom
+invariant_of-broom c =
+    let s = c.args.broom.now in
+    record { bare = c.load-found.ensures.2.0 ∙ s.bare; owns = just_now _ _ _ (ap (λ (w : View). w.owns) c.load-found.ensures.2.1.changed) s.owns }
+
+pub returns-clause-broom : goal.returns-clause-broom
+returns-clause-broom c =
+    let changed = c.load-found.ensures.2.1.changed in
+    stays_broom c.args.self.now c.args.broom.now _ c.requires.broom c.load-found.ensures.0 (ap (λ (w : View). w.role) changed) (ap (λ (w : View). w.numbers) changed)

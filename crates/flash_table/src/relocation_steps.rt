@@ -1,0 +1,119 @@
+//! The steps by which a broom looks at sectors, copies live pages out of its victim and wipes a block, one atomic operation each.
+ghost use Rattle.std.specs.Prelude.{◌≡◌, ℕ, ◌+◌, ◌*◌, ◌<◌, ◌≤◌, List, MatchBool, IfSome, Some};
+ghost use Rattle.geometry.specs.Geometry.{blocks_of, pages_of, words_of, sectors_of};
+ghost use Rattle.geometry.specs.MapWords.{map_word, FitsMap};
+ghost use Rattle.geometry.specs.declared.pin_word.Phase.TheVariants as phase;
+ghost use Rattle.flash_rule.specs.declared.facts.Source.{Source};
+ghost use Rattle.flash_rule.specs.World.{sector_word, data_word};
+ghost use Rattle.flash_rule.specs.BroomPlays.{Named, GotStamp, CanMove, Moved};
+ghost use Rattle.flash_table.specs.Owning.{reclaimed_as};
+ghost use Rattle.flash_table.specs.Flash.{IsBroomOf, broom_view, own_blocks, geometry_of};
+ghost use Rattle.flash_table.specs.declared.broom_seat.ReclaimedBlock.{ReclaimedBlock};
+ghost use Rattle.flash_table.specs.declared.broom_seat.Reclaiming.TheVariants as reclaiming;
+
+use crate::broom_seat::{BroomSeat, Reclaiming};
+use crate::flash::Flash;
+use flash_rule::{BroomLook, GetSource, GetStamp, MoveTo, Wipe};
+use geometry::{ERASED, MapWord, PageAddr, page_word_at};
+
+impl Flash {
+    /// The page that a sector's map word names, or `None` for an empty sector.
+    pub fn broom_look(&self, broom: &mut BroomSeat, sector: u32) -> Option<MapWord>
+        requires broom { IsBroomOf self.now broom.old }
+        requires sector { sector < sectors_of (geometry_of self.now) }
+        ensures told { Named (broom_view broom.old) sector (sector_word result) (broom_view broom.new) }
+        ensures fits { IfSome result FitsMap }
+        ensures broom { IsBroomOf self.now broom.new }
+        ensures blocks { own_blocks broom.new ≡ own_blocks broom.old }
+    {
+        let found = self
+            .table
+            .shared
+            .load::<BroomLook>(&mut broom.seat, sector as usize);
+        MapWord::unpack(found)
+    }
+
+    /// The stamp of the victim's first page that isn't known to be dead.
+    pub fn get_stamp(&self, broom: &mut BroomSeat, page: u32) -> u64
+        requires broom { IsBroomOf self.now broom.old }
+        requires next { (o : ReclaimedBlock) × ((own_blocks broom.old).reclaiming ≡ reclaiming.Draining o) × ((o.block < blocks_of (geometry_of self.now)) × (page < o.written)) }
+        requires cleared { page ≡ (broom_view broom.old).cleared }
+        requires page { page < pages_of (geometry_of self.now) }
+        ensures told { (o : ReclaimedBlock) → (own_blocks broom.old).reclaiming ≡ reclaiming.Draining o → GotStamp (broom_view broom.old) (reclaimed_as phase.Victim o) result (broom_view broom.new) }
+        ensures broom { IsBroomOf self.now broom.new }
+        ensures blocks { own_blocks broom.new ≡ own_blocks broom.old }
+    {
+        let Reclaiming::Draining(victim) = broom.blocks.reclaiming else {
+            unreachable!()
+        };
+        let addr = PageAddr {
+            block: victim.block,
+            page,
+        };
+        let place = page_word_at(&self.geometry, addr, self.geometry.words());
+        self.table.shared.load::<GetStamp>(&mut broom.seat, place)
+    }
+
+    /// Word `i` of the page that is copied.
+    pub fn get_source_word(&self, broom: &mut BroomSeat, page: MapWord, i: u32) -> u64
+        requires broom { IsBroomOf self.now broom.old }
+        requires source { (x : Source) × ((broom_view broom.old).source ≡ Some x) × (x.page ≡ page) }
+        requires block { page.block < blocks_of (geometry_of self.now) }
+        requires page { page.page < pages_of (geometry_of self.now) }
+        requires word { i < words_of (geometry_of self.now) }
+        ensures told { (x : Source) (value : List ℕ) → (broom_view broom.old).source ≡ Some x → x.value ≡ Some value → result ≡ data_word value i }
+        ensures same { broom_view broom.new ≡ broom_view broom.old }
+        ensures broom { IsBroomOf self.now broom.new }
+        ensures blocks { own_blocks broom.new ≡ own_blocks broom.old }
+    {
+        let addr = PageAddr {
+            block: page.block,
+            page: page.page,
+        };
+        let place = page_word_at(&self.geometry, addr, i);
+        self.table.shared.load::<GetSource>(&mut broom.seat, place)
+    }
+
+    /// Names a copy as the sector's page, if its map word still names the page that was copied, and says whether it did.
+    pub fn move_to(&self, broom: &mut BroomSeat, sector: u32, from: MapWord, to: MapWord) -> bool
+        requires broom { IsBroomOf self.now broom.old }
+        requires sector { sector < sectors_of (geometry_of self.now) }
+        requires fits { FitsMap from × FitsMap to }
+        requires live { (x : Source) × CanMove (broom_view broom.old) x to × ((x.page ≡ from) × (x.stamp ≡ sector)) }
+        ensures told { (x : Source) → (broom_view broom.old).source ≡ Some x → (n : ℕ) × Moved (broom_view broom.old) x n (broom_view broom.new) × MatchBool result (n ≡ map_word x.page) (¬ (n ≡ map_word x.page)) }
+        ensures broom { IsBroomOf self.now broom.new }
+        ensures blocks { own_blocks broom.new ≡ own_blocks broom.old }
+    {
+        let old = from.pack();
+        let new = to.pack();
+        let found = self
+            .table
+            .shared
+            .compare_exchange::<MoveTo>(&mut broom.seat, sector as usize, old, new);
+        found == old
+    }
+
+    /// Sets word `i` of a page of the block that is erased, the next one, to all ones.
+    pub fn wipe_word(&self, broom: &mut BroomSeat, page: u32, i: u32)
+        requires broom { IsBroomOf self.now broom.old }
+        requires erasing { (o : ReclaimedBlock) × ((own_blocks broom.old).reclaiming ≡ reclaiming.Erasing o) × (o.block < blocks_of (geometry_of self.now)) }
+        requires page { page < pages_of (geometry_of self.now) }
+        requires word { i ≤ words_of (geometry_of self.now) }
+        requires next { page * (words_of (geometry_of self.now) + 1) + i ≡ (broom_view broom.old).wiped }
+        ensures told { broom_view broom.new ≡ record (broom_view broom.old) { wiped = (broom_view broom.old).wiped + 1 } }
+        ensures broom { IsBroomOf self.now broom.new }
+        ensures blocks { own_blocks broom.new ≡ own_blocks broom.old }
+    {
+        let Reclaiming::Erasing(erased) = broom.blocks.reclaiming else {
+            unreachable!()
+        };
+        let addr = PageAddr {
+            block: erased.block,
+            page,
+        };
+        let place = page_word_at(&self.geometry, addr, i);
+        self.table
+            .shared
+            .store::<Wipe>(&mut broom.seat, place, ERASED);
+    }
+}
