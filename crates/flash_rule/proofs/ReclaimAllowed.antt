@@ -25,13 +25,13 @@ use Rattle.flash_rule.specs.World.{World, Fits, put, is_owned}
 use Rattle.flash_rule.specs.Rule.{Lawful}
 use Rattle.flash_rule.specs.Seats.{Ruled, Whole}
 use Rattle.flash_rule.specs.Plays.{Sitter}
-use Rattle.flash_rule.specs.BroomPlays.{Loaded, CanClaim, Claimed, CanCondemn, Condemned, CanDrain, IsErasing, CanRenew, owned_as, cycle_of, state_told, claim_told, condemn_told, drain_told, freed_told, kept_told, retired_told}
+use Rattle.flash_rule.specs.BroomPlays.{Loaded, CanClaim, Claimed, CanCondemn, Condemned, CanDrain, CanRenew, CanRetire, owned_as, cycle_of, state_told, claim_told, condemn_told, drain_told, freed_told, kept_told, retired_told}
 use Rattle.flash_rule.proofs.Points.{put_here}
 use Rattle.flash_rule.proofs.Places.{fits_load, fits_pin, pin_within}
 use Rattle.flash_rule.proofs.Owning.{some_same}
 use Rattle.flash_rule.proofs.Assembly.{state_fits}
 use Rattle.flash_rule.proofs.PinSteps.{turned}
-use Rattle.flash_rule.proofs.Reclaiming.{notes, owner_numbers, broom_live}
+use Rattle.flash_rule.proofs.Reclaiming.{unowned, notes, owner_numbers, broom_live}
 use Rattle.flash_rule.proofs.ReclaimSteps.{claims, claimed_state, claimer, condemns, condemned_state, condemner, listed, drains_block, drained_state, drainer}
 use Rattle.flash_rule.proofs.EraseSteps.{retires, retired_state, forgoer, frees, freed_state, keeps_block, kept_state, keeper, erasing_low, erasing_written, is_erasing}
 
@@ -49,10 +49,6 @@ broom_name (Player n) is = (n, refl)
 broom_name Dealer is = absurd (cc)
 broom_name Note is = absurd (cc)
 broom_name Gone is = absurd (cc)
-
-none_of : (x : Option Owned) → ((o : Owned) → ¬ (x ≡ Some o)) → x ≡ None
-none_of None never = refl
-none_of (Some o) never = absurd (never o refl)
 
 -- what an exchange leaves
 exchanged : (n old new : ℕ) → n ≡ old → either (n == old) new n ≡ new
@@ -103,13 +99,6 @@ module _ (z : Numbers) (slots id : ℕ) (me : Sitter) where
 
   numbers_now : (g : World) (vs : List View) → Lawful z g vs → get_elem? vs id ≡ some me.0 → is_broom me.0.role ≡ true → me.0.numbers ≡ z
   numbers_now g vs law at broom = (law.views id me.0 at).kind.numbers (broom_live me.0.role broom)
-
-  -- a block in a phase in which it has no owner isn't the seat's
-  not_own : (g : World) (vs : List View) (b : ℕ) → Lawful z g vs → get_elem? vs id ≡ some me.0 → is_owned (g.pins b).phase ≡ false → owned_at b me.0.owns ≡ None
-  not_own g vs b law at not =
-      none_of (owned_at b me.0.owns) (λ o is.
-      let h = (law.views id me.0 at).holding.owned b o is in
-      let no : true ≡ false = sym h.owned ∙ (ap is_owned (sym h.phase) ∙ not) in absurd (cc))
 
   -- ---- state
   -- a broom loads the state of a block
@@ -176,7 +165,7 @@ module _ (z : Numbers) (slots id : ℕ) (me : Sitter) where
       let w : View = claimer z g t.views id v b law at broom low can.rested in
       let now : either (n == old) new n ≡ pin_word q = exchanged n old new is ∙ (ap (λ (y : PinWord). pin_word y + NEXT_PHASE) (sym same) ∙ bits.next_phase (g.pins b) Closed Victim phase refl) in
       answer w (ruled_as z id me t g fits b low q g.eraser w (either (n == old) new n) now (claims z g t.views id v b law at broom low can.rested phase))
-      (record { fresh = λ _. not_own g t.views b law at (ap is_owned phase); won = λ _. ap (λ (y : PinWord). record v { owns = with_owned (owned_as b y Victim) v.owns; cleared = 0 }) same; lost = λ not. absurd (not is) }))
+      (record { fresh = λ _. unowned z g t.views id v law at b (ap is_owned phase); won = λ _. ap (λ (y : PinWord). record v { owns = with_owned (owned_as b y Victim) v.owns; cleared = 0 }) same; lost = λ not. absurd (not is) }))
       (λ (other : n ≢ old).
       let w : View = record v { lost = v.lost ++ b ∷ [] } in
       answer w (ruled_still z id me t g fits b low w (either (n == old) new n) (left_alone n old new other) (notes z g t.views id v law at v.loaded (v.lost ++ b ∷ []) v.busy v.stale))
@@ -217,7 +206,7 @@ module _ (z : Numbers) (slots id : ℕ) (me : Sitter) where
       let w : View = condemner z g t.views id v b law at broom low can.rested in
       let now : either (n == old) new n ≡ pin_word q = exchanged n old new is ∙ (ap (λ (y : PinWord). pin_word y + NEXT_PHASE) (sym same) ∙ bits.next_phase (g.pins b) Drained Erasing phase refl) in
       answer w (ruled_as z id me t g fits b low q (listed z g t.views id v b law at broom low can.rested name.0) w (either (n == old) new n) now (condemns z g t.views id v b law at broom low can.rested name.0 name.1 phase unread))
-      (record { fresh = λ _. not_own g t.views b law at (ap is_owned phase); won = λ _. ap (λ (y : PinWord). record v { owns = with_owned (owned_as b y Erasing) v.owns; erases = v.erases ++ cycle_of (owned_as b y Erasing) ∷ []; wiped = 0 }) same; busy = λ not. absurd (not is) }))
+      (record { fresh = λ _. unowned z g t.views id v law at b (ap is_owned phase); won = λ _. ap (λ (y : PinWord). record v { owns = with_owned (owned_as b y Erasing) v.owns; erases = v.erases ++ cycle_of (owned_as b y Erasing) ∷ []; wiped = 0 }) same; busy = λ not. absurd (not is) }))
       (λ (other : n ≢ old).
       let w : View = record v { busy = v.busy ++ b ∷ [] } in
       answer w (ruled_still z id me t g fits b low w (either (n == old) new n) (left_alone n old new other) (notes z g t.views id v law at v.loaded v.lost (v.busy ++ b ∷ []) v.stale))
@@ -281,9 +270,10 @@ module _ (z : Numbers) (slots id : ℕ) (me : Sitter) where
       )
 
   -- or retires it
-  pub retired_allowed : (o : Owned) → IsErasing me.0 o → Allows (Ruled Whole z) slots id me (pin_index z o.block) (λ n. (n + NEXT_PHASE) % 2 ^ 64) (retired_told (step slots (pin_index z o.block) NEXT_PHASE 0 none) me)
-  retired_allowed o erasing t (g, fits, law, stage) _ at _ =
+  pub retired_allowed : (o : Owned) → CanRetire me.0 o → Allows (Ruled Whole z) slots id me (pin_index z o.block) (λ n. (n + NEXT_PHASE) % 2 ^ 64) (retired_told (step slots (pin_index z o.block) NEXT_PHASE 0 none) me)
+  retired_allowed o can t (g, fits, law, stage) _ at _ =
       let v : View = me.0 in
+      let erasing = can.erasing in
       let numbers = owner_numbers z v o (law.views id v at).kind erasing.own in
       let low = erasing_low z g t.views id v o law at erasing in
       let w : View = forgoer z g t.views id v o law at erasing in
@@ -292,5 +282,5 @@ module _ (z : Numbers) (slots id : ℕ) (me : Sitter) where
         keeps,
         tt,
         ruled_plus z id me t g fits o.block low (retired_state z g t.views id v o law at erasing) w NEXT_PHASE sum (retires z g t.views id v o law at erasing),
-        (refl, λ e erasing' is. ap (λ (y : Owned). record v { owns = without y.block v.owns }) (same_owned numbers o e erasing.own erasing'.own is)),
+        (refl, λ e can' is. ap (λ (y : Owned). record v { owns = without y.block v.owns }) (same_owned numbers o e erasing.own can'.erasing.own is)),
       )

@@ -1,5 +1,5 @@
 -- A change of one pin word by which a seat gets a block to drain or erase, or is done with it: what the six steps have in common.
-use Rattle.std.proofs.Common.{◌≡◌, ◌≢◌, ℕ, ◌*◌, ◌<◌, ◌≤◌, inl, true, false, List, [], Option, Some, set, sym, refl, ap, ◌∙◌, subst, arith}
+use Rattle.std.proofs.Common.{◌≡◌, ◌≢◌, ℕ, ◌*◌, ◌<◌, ◌≤◌, inl, true, false, List, [], Option, None, Some, set, sym, refl, ap, ◌∙◌, subst, arith}
 use mathlib.Core.Option.{some}
 use mathlib.Core.Logic.{dite}
 use native.Mathlib.Decide.{ℕ_discrete}
@@ -75,6 +75,15 @@ pub entry_gone : (b : ℕ) (e : Owned) (owns : List Owned) → ¬ (owned_at b (w
 entry_gone b e owns is = absurd (none_some e (sym (without_here b owns) ∙ is))
 
 module _ (z : Numbers) (g : World) (vs : List View) (id : ℕ) (v : View) (law : Lawful z g vs) (at : get_elem? vs id ≡ some v) where
+  -- a block in a phase without an owner isn't the seat's
+  pub unowned : (b : ℕ) → is_owned (g.pins b).phase ≡ false → owned_at b v.owns ≡ None
+  unowned b nobodys = by_entry (owned_at b v.owns) refl where
+    by_entry : (x : Option Owned) → owned_at b v.owns ≡ x → x ≡ None
+    by_entry None is = refl
+    by_entry (Some o) is =
+        let k = (law.views id v at).holding.owned b o is in
+        let no : true ≡ false = sym k.owned ∙ (ap is_owned (sym k.phase) ∙ nobodys) in absurd (cc)
+
   -- a broom's state step, and an exchange of a pin word that found another word, change no word and only these lists
   pub notes : (loaded : List (ℕ × ℕ)) (lost busy stale : List ℕ) → Lawful z g (set vs id (record v { loaded = loaded; lost = lost; busy = busy; stale = stale }))
   notes loaded lost busy stale =

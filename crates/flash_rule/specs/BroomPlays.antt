@@ -152,7 +152,8 @@ pub record CanCondemn (v : View) (b : ℕ) (p : PinWord) : Type 0 where
   pub loaded : IsLastLoaded v b (pin_word p)
   pub rested : IsAtRest v
 
--- A block found in the state expected wasn't the broom's, and is now its to erase, with no word wiped, and its erase is listed; else it is busy
+-- A block found in the state expected wasn't the broom's, and is now the broom's to erase, with no word wiped and its erase listed; else
+-- it is busy
 pub record Condemned (v : View) (b : ℕ) (p : PinWord) (n : ℕ) (w : View) : Type 0 where
   pub fresh : n ≡ pin_word p → owned_at b v.owns ≡ None
   pub won : n ≡ pin_word p → w ≡ record v { owns = with_owned (owned_as b p Erasing) v.owns; erases = v.erases ++ cycle_of (owned_as b p Erasing) ∷ []; wiped = 0 }
@@ -216,8 +217,13 @@ kept_told st me n after =
     × ((o : Owned) → CanRenew me.0 o → st.word ≡ pin_index me.0.numbers o.block → st.first ≡ kept_added o.written
     → after.0 ≡ record me.0 { owns = with_owned (record { block = o.block; phase = Open; generation = o.generation + 1; written = 0 }) me.0.owns })
 
--- RETIRE. The block that was being erased is nobody's from now on, for good
+-- The block that is being erased is in its last generation
+pub record CanRetire (v : View) (o : Owned) : Type 0 where
+  pub erasing : IsErasing v o
+  pub last : o.generation + 1 ≡ v.numbers.endurance
+
+-- RETIRE. The block that was being erased for the last time is nobody's from now on, for good
 abbrev pub retired_told : Step (Unit {0}) → Sitter → ℕ → Sitter → Type 0
 retired_told st me n after =
     (after.1 ≡ me.1)
-    × ((o : Owned) → IsErasing me.0 o → st.word ≡ pin_index me.0.numbers o.block → after.0 ≡ record me.0 { owns = without o.block me.0.owns })
+    × ((o : Owned) → CanRetire me.0 o → st.word ≡ pin_index me.0.numbers o.block → after.0 ≡ record me.0 { owns = without o.block me.0.owns })
