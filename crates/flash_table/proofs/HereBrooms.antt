@@ -5,7 +5,7 @@ use mathlib.Core.Option.{none}
 use Rattle.atomic_table.specs.Table.{step, Allows}
 use Rattle.geometry.specs.Limits.{Numbers}
 use Rattle.geometry.specs.MapWords.{map_word}
-use Rattle.geometry.specs.PinWords.{pin_word, freed_added, kept_added}
+use Rattle.geometry.specs.PinWords.{pin_word}
 use Rattle.geometry.specs.TableOrder.{pin_index, page_index}
 use Rattle.geometry.specs.declared.map_word.MapWord.{MapWord}
 use Rattle.geometry.specs.declared.pin_word.PinWord.{PinWord}
@@ -13,12 +13,11 @@ use Rattle.geometry.specs.declared.pin_word.TheConstants.{NEXT_PHASE}
 use Rattle.flash_rule.specs.declared.facts.Owned.{Owned}
 use Rattle.flash_rule.specs.declared.facts.Source.{Source}
 use Rattle.flash_rule.specs.Views.{is_broom, is_player}
-use Rattle.flash_rule.specs.World.{blank_word}
 use Rattle.flash_rule.specs.Seats.{Ruled, Whole}
 use Rattle.flash_rule.specs.Plays.{Sitter}
-use Rattle.flash_rule.specs.BroomPlays.{CanGetStamp, CanMove, CanClaim, CanCondemn, CanDrain, IsErasing, CanWipe, CanRenew, broom_look_told, stamp_told, source_told, move_told, state_told, claim_told, condemn_told, drain_told, wipe_told, freed_told, kept_told, retired_told}
-use Rattle.flash_rule.proofs.ReclaimAllowed.{state_allowed, claim_allowed, condemn_allowed, drain_allowed, freed_allowed, kept_allowed, retired_allowed}
-use Rattle.flash_rule.proofs.BroomAllowed.{broom_look_allowed, stamp_allowed, source_allowed, move_allowed, wipe_allowed}
+use Rattle.flash_rule.specs.BroomPlays.{CanGetStamp, CanMove, CanClaim, CanDrain, broom_look_told, stamp_told, source_told, move_told, state_told, claim_told, drain_told}
+use Rattle.flash_rule.proofs.ReclaimAllowed.{state_allowed, claim_allowed, drain_allowed}
+use Rattle.flash_rule.proofs.BroomAllowed.{broom_look_allowed, stamp_allowed, source_allowed, move_allowed}
 
 -- ---- states of blocks
 module _ (z k : Numbers) (same : k ≡ z) (slots id : ℕ) (me : Sitter) where
@@ -32,29 +31,9 @@ module _ (z k : Numbers) (same : k ≡ z) (slots id : ℕ) (me : Sitter) where
       let P : Numbers × ℕ × ℕ × ℕ → Type 0 = λ x. Allows (Ruled Whole x.0) slots id me x.1 (λ n. either (n == x.2) x.3 n) (claim_told (step slots x.1 x.2 x.3 none) me) in
       subst P (λ i. (sym same i, sym is i, sym packed i, sym (next ∙ ap (λ m. m + NEXT_PHASE) packed) i)) (claim_allowed z slots id me b p broom can)
 
-  pub condemn_here : (word b old new : ℕ) (p : PinWord) → word ≡ pin_index z b → old ≡ pin_word p → new ≡ old + NEXT_PHASE → is_broom me.0.role ≡ true → CanCondemn me.0 b p
-      → Allows (Ruled Whole k) slots id me word (λ n. either (n == old) new n) (condemn_told (step slots word old new none) me)
-  condemn_here word b old new p is packed next broom can =
-      let P : Numbers × ℕ × ℕ × ℕ → Type 0 = λ x. Allows (Ruled Whole x.0) slots id me x.1 (λ n. either (n == x.2) x.3 n) (condemn_told (step slots x.1 x.2 x.3 none) me) in
-      subst P (λ i. (sym same i, sym is i, sym packed i, sym (next ∙ ap (λ m. m + NEXT_PHASE) packed) i)) (condemn_allowed z slots id me b p broom can)
-
   pub drain_here : (word : ℕ) (o : Owned) → word ≡ pin_index z o.block → CanDrain me.0 o → Allows (Ruled Whole k) slots id me word (λ n. (n + NEXT_PHASE) % 2 ^ 64) (drain_told (step slots word NEXT_PHASE 0 none) me)
   drain_here word o is can = let P : Numbers × ℕ → Type 0 = λ x. Allows (Ruled Whole x.0) slots id me x.1 (λ n. (n + NEXT_PHASE) % 2 ^ 64) (drain_told (step slots x.1 NEXT_PHASE 0 none) me) in
       subst P (λ i. (sym same i, sym is i)) (drain_allowed z slots id me o can)
-
-  pub free_here : (word added : ℕ) (o : Owned) → word ≡ pin_index z o.block → added ≡ freed_added o.written → CanRenew me.0 o
-      → Allows (Ruled Whole k) slots id me word (λ n. (n + added) % 2 ^ 64) (freed_told (step slots word added 0 none) me)
-  free_here word added o is more can = let P : Numbers × ℕ × ℕ → Type 0 = λ x. Allows (Ruled Whole x.0) slots id me x.1 (λ n. (n + x.2) % 2 ^ 64) (freed_told (step slots x.1 x.2 0 none) me) in
-      subst P (λ i. (sym same i, sym is i, sym more i)) (freed_allowed z slots id me o can)
-
-  pub keep_here : (word added : ℕ) (o : Owned) → word ≡ pin_index z o.block → added ≡ kept_added o.written → CanRenew me.0 o
-      → Allows (Ruled Whole k) slots id me word (λ n. (n + added) % 2 ^ 64) (kept_told (step slots word added 0 none) me)
-  keep_here word added o is more can = let P : Numbers × ℕ × ℕ → Type 0 = λ x. Allows (Ruled Whole x.0) slots id me x.1 (λ n. (n + x.2) % 2 ^ 64) (kept_told (step slots x.1 x.2 0 none) me) in
-      subst P (λ i. (sym same i, sym is i, sym more i)) (kept_allowed z slots id me o can)
-
-  pub retire_here : (word : ℕ) (o : Owned) → word ≡ pin_index z o.block → IsErasing me.0 o → Allows (Ruled Whole k) slots id me word (λ n. (n + NEXT_PHASE) % 2 ^ 64) (retired_told (step slots word NEXT_PHASE 0 none) me)
-  retire_here word o is erasing = let P : Numbers × ℕ → Type 0 = λ x. Allows (Ruled Whole x.0) slots id me x.1 (λ n. (n + NEXT_PHASE) % 2 ^ 64) (retired_told (step slots x.1 NEXT_PHASE 0 none) me) in
-      subst P (λ i. (sym same i, sym is i)) (retired_allowed z slots id me o erasing)
 
 -- ---- map words and page words
 module _ (z k : Numbers) (same : k ≡ z) (slots id : ℕ) (me : Sitter) where
@@ -77,8 +56,3 @@ module _ (z k : Numbers) (same : k ≡ z) (slots id : ℕ) (me : Sitter) where
   move_here s old new x copy stamp from to player can low =
       let P : Numbers × ℕ × ℕ × ℕ → Type 0 = λ y. Allows (Ruled Whole y.0) slots id me y.1 (λ n. either (n == y.2) y.3 n) (move_told (step slots y.1 y.2 y.3 none) me) in
       subst P (λ i. (sym same i, sym stamp i, sym from i, sym to i)) (move_allowed z slots id me x copy player can (subst (λ t. t < z.sectors) stamp low))
-
-  pub wipe_here : (word : ℕ) (o : Owned) → word ≡ page_index z o.block 0 + me.0.wiped → is_player me.0.role ≡ true → me.0.numbers ≡ z → CanWipe me.0 o
-      → Allows (Ruled Whole k) slots id me word (λ _. blank_word) (λ _. wipe_told (step slots word blank_word 0 none) me blank_word)
-  wipe_here word o is player numbers can = let P : Numbers × ℕ → Type 0 = λ y. Allows (Ruled Whole y.0) slots id me y.1 (λ _. blank_word) (λ _. wipe_told (step slots y.1 blank_word 0 none) me blank_word) in
-      subst P (λ i. (sym same i, sym is i)) (wipe_allowed z slots id me o player numbers can)

@@ -4,4 +4,6 @@ pub mod Here
 pub mod HereBrooms
 pub mod Told
 pub mod ToldBrooms
+pub mod HereErasing
+pub mod ToldErasing
 pub mod Dealing

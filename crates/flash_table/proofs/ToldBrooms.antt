@@ -4,12 +4,11 @@ use Rattle.std.specs.Bool.{MatchBool}
 use mathlib.Core.Option.{none}
 use mathlib.Core.Logic.{dite}
 use native.Mathlib.Decide.{ℕ_discrete, dec_lt}
-use Rattle.std.proofs.Math.Nat.{add-mul}
 use Rattle.atomic_table.specs.Table.{step}
 use Rattle.geometry.specs.Limits.{Numbers}
 use Rattle.geometry.specs.MapWords.{map_word, FitsMap}
 use Rattle.geometry.specs.declared.map_word.MapWord.{MapWord}
-use Rattle.geometry.specs.PinWords.{pin_word, FitsPin, freed_added, kept_added}
+use Rattle.geometry.specs.PinWords.{pin_word, FitsPin}
 use Rattle.geometry.specs.TableOrder.{pin_index, page_index}
 use Rattle.geometry.specs.declared.pin_word.PinWord.{PinWord}
 use Rattle.geometry.specs.declared.pin_word.Phase.{Phase}
@@ -21,10 +20,9 @@ use Rattle.flash_rule.specs.declared.facts.Work.{Work}
 use Rattle.flash_rule.specs.declared.view.View.{View}
 use Rattle.flash_rule.specs.Views.{is_broom, is_player, without, with_owned}
 use Rattle.flash_rule.specs.Plays.{Sitter, CanPut, CanCount, CanClose, words_in, next_page, put_told, count_told, close_told}
-use Rattle.flash_rule.specs.BroomPlays.{GotStamp, CanGetStamp, CanMove, Moved, CanWipe, stamp_told, source_told, move_told, wipe_told, Loaded, IsLastLoaded, CanClaim, Claimed, CanCondemn, Condemned, CanDrain, IsErasing, CanRenew, block_words, state_told, claim_told, condemn_told, drain_told, freed_told, kept_told, retired_told}
-use Rattle.flash_rule.specs.World.{data_word, blank_word}
+use Rattle.flash_rule.specs.BroomPlays.{GotStamp, CanGetStamp, CanMove, Moved, stamp_told, source_told, move_told, Loaded, IsLastLoaded, CanClaim, Claimed, CanDrain, state_told, claim_told, drain_told}
+use Rattle.flash_rule.specs.World.{data_word}
 use Rattle.flash_rule.proofs.Owning.{some_same}
-use Rattle.flash_rule.proofs.Wiping.{wiped_index}
 use Rattle.flash_table.specs.declared.flash.Flash.{Flash}
 use Rattle.flash_table.specs.declared.broom_seat.BroomSeat.{BroomSeat}
 use Rattle.flash_table.specs.declared.broom_seat.ReclaimedBlock.{ReclaimedBlock}
@@ -33,7 +31,7 @@ use Rattle.flash_table.specs.declared.broom_seat.Reclaiming.TheVariants as recla
 use Rattle.flash_table.specs.declared.pass.OpenBlock.{OpenBlock}
 use Rattle.flash_table.specs.Owning.{owned_of, reclaimed_as}
 use Rattle.flash_table.specs.Flash.{IsBroomOf, broom_view, own_blocks, device}
-use Rattle.flash_table.proofs.Blocks.{all_open, draining_at, erasing_at}
+use Rattle.flash_table.proofs.Blocks.{all_open, draining_at}
 use Rattle.flash_table.proofs.Told.{same_block}
 
 pub broom_player : (f : Flash) (s : BroomSeat) → IsBroomOf f s → is_player (broom_view s).role ≡ true
@@ -78,21 +76,12 @@ module _ (f : Flash) (s : BroomSeat) (h : IsBroomOf f s) (slots n : ℕ) (after 
 draining_one : (a b : ReclaimedBlock) → reclaiming.Draining a ≡ reclaiming.Draining b → a ≡ b
 draining_one a b e = cc
 
-erasing_one : (a b : ReclaimedBlock) → reclaiming.Erasing a ≡ reclaiming.Erasing b → a ≡ b
-erasing_one a b e = cc
-
 pub draining_same : (a b : ReclaimedBlock) (x : Reclaiming) → x ≡ reclaiming.Draining a → x ≡ reclaiming.Draining b → a ≡ b
 draining_same a b x p q = draining_one a b (sym p ∙ q)
-
-pub erasing_same : (a b : ReclaimedBlock) (x : Reclaiming) → x ≡ reclaiming.Erasing a → x ≡ reclaiming.Erasing b → a ≡ b
-erasing_same a b x p q = erasing_one a b (sym p ∙ q)
 
 -- what is asked of it holds of the block that is found there
 pub of_draining : (P : ReclaimedBlock → Type 0) (x : Reclaiming) (o : ReclaimedBlock) → x ≡ reclaiming.Draining o → (a : ReclaimedBlock) × (x ≡ reclaiming.Draining a) × P a → P o
 of_draining P x o is t = subst P (draining_same t.0 o x t.1 is) t.2
-
-pub of_erasing : (P : ReclaimedBlock → Type 0) (x : Reclaiming) (o : ReclaimedBlock) → x ≡ reclaiming.Erasing o → (a : ReclaimedBlock) × (x ≡ reclaiming.Erasing a) × P a → P o
-of_erasing P x o is t = subst P (erasing_same t.0 o x t.1 is) t.2
 
 drained_or_not : (f : Phase) → (f ≡ Drained) ⊎ (¬ (f ≡ Drained))
 drained_or_not Free = inr (λ e. absurd (cc))
@@ -124,18 +113,8 @@ module _ (f : Flash) (s : BroomSeat) (h : IsBroomOf f s) where
   pub claim_can : (b : ℕ) (p : PinWord) → b < (device f).blocks → FitsPin p × (p.phase ≡ Closed) → IsLastLoaded (broom_view s) b (pin_word p) → (own_blocks s).reclaiming ≡ reclaiming.Nothing → CanClaim (broom_view s) b p
   claim_can b p low state loaded rest = record { low = low_here b low; fits = state.0; closed = state.1; loaded = loaded; rested = all_open (own_blocks s) (broom_view s).owns s.owns rest }
 
-  pub condemn_can : (b : ℕ) (p : PinWord) → b < (device f).blocks → FitsPin p × (p.phase ≡ Drained) × (p.readers ≡ 0) → IsLastLoaded (broom_view s) b (pin_word p) → (own_blocks s).reclaiming ≡ reclaiming.Nothing
-      → CanCondemn (broom_view s) b p
-  condemn_can b p low state loaded rest = record { low = low_here b low; fits = state.0; drained = state.1; unread = state.2; loaded = loaded; rested = all_open (own_blocks s) (broom_view s).owns s.owns rest }
-
   pub drain_can : (o : ReclaimedBlock) → (own_blocks s).reclaiming ≡ reclaiming.Draining o → o.written ≤ (broom_view s).cleared → CanDrain (broom_view s) (reclaimed_as Victim o)
   drain_can o is cleared = record { own = draining_at (own_blocks s) (broom_view s).owns s.owns o is; victim = refl; cleared = cleared }
-
-  pub erasing_can : (o : ReclaimedBlock) → (own_blocks s).reclaiming ≡ reclaiming.Erasing o → IsErasing (broom_view s) (reclaimed_as Erasing o)
-  erasing_can o is = record { own = erasing_at (own_blocks s) (broom_view s).owns s.owns o is; erasing = refl }
-
-  pub renew_can : (o : ReclaimedBlock) → (own_blocks s).reclaiming ≡ reclaiming.Erasing o → o.generation + 1 < (device f).endurance → block_words (broom_view s) ≤ (broom_view s).wiped → CanRenew (broom_view s) (reclaimed_as Erasing o)
-  renew_can o is young clean = record { erasing = erasing_can o is; clean = clean; another = subst (λ (y : Numbers). o.generation + 1 < y.endurance) (sym h.numbers) young }
 
 -- ---- and what it makes of the seat
 module _ (f : Flash) (s : BroomSeat) (h : IsBroomOf f s) (slots n : ℕ) (after : Sitter) where
@@ -149,36 +128,11 @@ module _ (f : Flash) (s : BroomSeat) (h : IsBroomOf f s) (slots n : ℕ) (after 
       → Claimed (broom_view s) b p n after.0
   claimed_view word b old new p can at packed next told = told.1 b p can (pin_there word b at) packed (next ∙ ap (λ m. m + NEXT_PHASE) packed)
 
-  pub condemned_view : (word b old new : ℕ) (p : PinWord) → CanCondemn (broom_view s) b p → word ≡ pin_index (device f) b → old ≡ pin_word p → new ≡ old + NEXT_PHASE → condemn_told (step slots word old new none) s.seat.me n after
-      → Condemned (broom_view s) b p n after.0
-  condemned_view word b old new p can at packed next told = told.1 b p can (pin_there word b at) packed (next ∙ ap (λ m. m + NEXT_PHASE) packed)
-
   pub drained_view : (word : ℕ) (o : ReclaimedBlock) → CanDrain (broom_view s) (reclaimed_as Victim o) → word ≡ pin_index (device f) o.block → drain_told (step slots word NEXT_PHASE 0 none) s.seat.me n after
       → after.0 ≡ record (broom_view s) { owns = without o.block (broom_view s).owns; drains = (broom_view s).drains ++ record { block = o.block; generation = o.generation } ∷ [] }
   drained_view word o can at told = told.1 (reclaimed_as Victim o) can (pin_there word o.block at)
 
-  pub freed_view : (word added : ℕ) (o : ReclaimedBlock) → CanRenew (broom_view s) (reclaimed_as Erasing o) → word ≡ pin_index (device f) o.block → added ≡ freed_added o.written → freed_told (step slots word added 0 none) s.seat.me n after
-      → after.0 ≡ record (broom_view s) { owns = without o.block (broom_view s).owns }
-  freed_view word added o can at more told = told.1 (reclaimed_as Erasing o) can (pin_there word o.block at) more
-
-  pub kept_view : (word added : ℕ) (o : ReclaimedBlock) → CanRenew (broom_view s) (reclaimed_as Erasing o) → word ≡ pin_index (device f) o.block → added ≡ kept_added o.written → kept_told (step slots word added 0 none) s.seat.me n after
-      → after.0 ≡ record (broom_view s) { owns = with_owned (owned_of (record { block = o.block; generation = o.generation + 1; written = 0 })) (broom_view s).owns }
-  kept_view word added o can at more told = told.1 (reclaimed_as Erasing o) can (pin_there word o.block at) more
-
-  pub retired_view : (word : ℕ) (o : ReclaimedBlock) → IsErasing (broom_view s) (reclaimed_as Erasing o) → word ≡ pin_index (device f) o.block → retired_told (step slots word NEXT_PHASE 0 none) s.seat.me n after
-      → after.0 ≡ record (broom_view s) { owns = without o.block (broom_view s).owns }
-  retired_view word o erasing at told = told.1 (reclaimed_as Erasing o) erasing (pin_there word o.block at)
-
 -- ---- sectors and pages
--- the words before a page's words
-wide_below : (p i pages words : ℕ) → p < pages → i ≤ words → p * (words + 1) + i < pages * (words + 1)
-wide_below p i pages words low most =
-    let d : ℕ = pages - (p + 1) in
-    let e : pages ≡ (p + 1) + d = omega arith in
-    let a = ap (λ n. n * (words + 1)) e in
-    let b = add-mul (p + 1) d (words + 1) in
-    let c = add-mul p 1 (words + 1) in omega arith
-
 pub source_same : (x y : Source) (a : Option Source) → a ≡ Some x → a ≡ Some y → x ≡ y
 source_same x y a p q = some_same x y (sym p ∙ q)
 
@@ -192,12 +146,6 @@ stamp_changed v w o n h =
 module _ (f : Flash) (s : BroomSeat) (h : IsBroomOf f s) where
   pub stamp_can : (o : ReclaimedBlock) (page : ℕ) → (own_blocks s).reclaiming ≡ reclaiming.Draining o → page < o.written → page ≡ (broom_view s).cleared → CanGetStamp (broom_view s) (reclaimed_as Victim o)
   stamp_can o page is below cleared = record { own = draining_at (own_blocks s) (broom_view s).owns s.owns o is; victim = refl; written = subst (λ k. k < o.written) cleared below }
-
-  pub wipe_can : (o : ReclaimedBlock) (page i : ℕ) → (own_blocks s).reclaiming ≡ reclaiming.Erasing o → page < (device f).pages → i ≤ (device f).words → page * ((device f).words + 1) + i ≡ (broom_view s).wiped
-      → CanWipe (broom_view s) (reclaimed_as Erasing o)
-  wipe_can o page i is low most next =
-      let room : (broom_view s).wiped < (device f).pages * ((device f).words + 1) = subst (λ k. k < (device f).pages * ((device f).words + 1)) next (wide_below page i (device f).pages (device f).words low most) in
-      record { erasing = erasing_can f s h o is; room = subst (λ (y : Numbers). (broom_view s).wiped < y.pages * (y.words + 1)) (sym h.numbers) room }
 
 module _ (f : Flash) (s : BroomSeat) (h : IsBroomOf f s) (slots n : ℕ) (after : Sitter) where
   pub stamp_view : (word page : ℕ) (o : ReclaimedBlock) → CanGetStamp (broom_view s) (reclaimed_as Victim o) → page ≡ (broom_view s).cleared → word ≡ page_index (device f) o.block page + (device f).words
@@ -214,12 +162,6 @@ module _ (f : Flash) (s : BroomSeat) (h : IsBroomOf f s) (slots n : ℕ) (after 
       → move_told (step slots sector old new none) s.seat.me n after → Moved (broom_view s) x n after.0
   moved_view sector old new x from to can fits same stamp packed copy told =
       told.1 x to can (subst FitsMap (sym same) fits.0) fits.1 (sym stamp) (packed ∙ ap map_word (sym same)) copy
-
-  pub wiped_view : (word page i : ℕ) (o : ReclaimedBlock) → CanWipe (broom_view s) (reclaimed_as Erasing o) → page * ((device f).words + 1) + i ≡ (broom_view s).wiped → word ≡ page_index (device f) o.block page + i
-      → wipe_told (step slots word blank_word 0 none) s.seat.me n after → after.0 ≡ record (broom_view s) { wiped = (broom_view s).wiped + 1 }
-  wiped_view word page i o can next at told =
-      told.1 (reclaimed_as Erasing o) can
-      (at ∙ (sym (wiped_index (device f) o.block page i (broom_view s).wiped next) ∙ ap (λ y. page_index y o.block 0 + (broom_view s).wiped) (sym h.numbers))) refl
 
 -- whether the word found is the one expected
 pub found_or_not : (n old k : ℕ) → old ≡ k → MatchBool (n == old) (n ≡ k) (¬ (n ≡ k))

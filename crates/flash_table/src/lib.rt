@@ -3,6 +3,7 @@
 
 mod broom_seat;
 mod broom_steps;
+mod erasing;
 mod flash;
 mod gate;
 mod notes;

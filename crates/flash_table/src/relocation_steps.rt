@@ -1,5 +1,5 @@
-//! The steps by which a broom looks at sectors, copies live pages out of its victim and wipes a block, one atomic operation each.
-ghost use Rattle.std.specs.Prelude.{◌≡◌, ℕ, ◌+◌, ◌*◌, ◌<◌, ◌≤◌, List, MatchBool, IfSome, Some};
+//! The steps by which a broom looks at sectors and copies live pages out of its victim, one atomic operation each.
+ghost use Rattle.std.specs.Prelude.{◌≡◌, ℕ, ◌<◌, List, MatchBool, IfSome, Some};
 ghost use Rattle.geometry.specs.Geometry.{blocks_of, pages_of, words_of, sectors_of};
 ghost use Rattle.geometry.specs.MapWords.{map_word, FitsMap};
 ghost use Rattle.geometry.specs.declared.pin_word.Phase.TheVariants as phase;
@@ -13,8 +13,8 @@ ghost use Rattle.flash_table.specs.declared.broom_seat.Reclaiming.TheVariants as
 
 use crate::broom_seat::{BroomSeat, Reclaiming};
 use crate::flash::Flash;
-use flash_rule::{BroomLook, GetSource, GetStamp, MoveTo, Wipe};
-use geometry::{ERASED, MapWord, PageAddr, page_word_at};
+use flash_rule::{BroomLook, GetSource, GetStamp, MoveTo};
+use geometry::{MapWord, PageAddr, page_word_at};
 
 impl Flash {
     /// The page that a sector's map word names, or `None` for an empty sector.
@@ -91,29 +91,5 @@ impl Flash {
             .shared
             .compare_exchange::<MoveTo>(&mut broom.seat, sector as usize, old, new);
         found == old
-    }
-
-    /// Sets word `i` of a page of the block that is erased, the next one, to all ones.
-    pub fn wipe_word(&self, broom: &mut BroomSeat, page: u32, i: u32)
-        requires broom { IsBroomOf self.now broom.old }
-        requires erasing { (o : ReclaimedBlock) × ((own_blocks broom.old).reclaiming ≡ reclaiming.Erasing o) × (o.block < blocks_of (geometry_of self.now)) }
-        requires page { page < pages_of (geometry_of self.now) }
-        requires word { i ≤ words_of (geometry_of self.now) }
-        requires next { page * (words_of (geometry_of self.now) + 1) + i ≡ (broom_view broom.old).wiped }
-        ensures told { broom_view broom.new ≡ record (broom_view broom.old) { wiped = (broom_view broom.old).wiped + 1 } }
-        ensures broom { IsBroomOf self.now broom.new }
-        ensures blocks { own_blocks broom.new ≡ own_blocks broom.old }
-    {
-        let Reclaiming::Erasing(erased) = broom.blocks.reclaiming else {
-            unreachable!()
-        };
-        let addr = PageAddr {
-            block: erased.block,
-            page,
-        };
-        let place = page_word_at(&self.geometry, addr, i);
-        self.table
-            .shared
-            .store::<Wipe>(&mut broom.seat, place, ERASED);
     }
 }

@@ -1,82 +1,85 @@
-use Rattle.std.proofs.Common.{refl, ap, sym, ◌∙◌, arith}
+use Rattle.std.proofs.Common.{◌≡◌, sym, refl, ap, ◌∙◌, arith}
 use Rattle.geometry.specs.Geometry.{numbers_of}
+use Rattle.geometry.specs.PinWords.{pin_word}
 use Rattle.flash_rule.specs.declared.view.View.{View}
 use Rattle.flash_rule.proofs.Places.{pin_within}
 use Rattle.flash_table.specs.Flash.{device, broom_view, own_blocks}
 use Rattle.flash_table.specs.declared.broom_seat.ReclaimedBlock.{ReclaimedBlock}
-use Rattle.flash_table.proofs.Rows.{just_now}
-use Rattle.flash_table.proofs.HereBrooms.{condemn_here}
+use Rattle.flash_table.proofs.HereErasing.{condemn_here}
 use Rattle.flash_table.proofs.Blocks.{condemned_just}
-use Rattle.flash_table.proofs.ToldBrooms.{is_a_broom, stays_broom, condemn_can, condemned_view}
+use Rattle.flash_table.proofs.Rows.{just_now}
+use Rattle.flash_table.proofs.ToldBrooms.{stays_broom}
+use Rattle.flash_table.proofs.ToldBrooms.{is_a_broom}
+use Rattle.flash_table.proofs.ToldErasing.{can_condemn, condemned}
 use Rattle.flash_table.proofs.flash.Flash.condemn.Goals as goal
 
 pub compare_exchange-found-requires : goal.compare_exchange-found-requires
 compare_exchange-found-requires c =
     let f = c.args.self.now in
     let s = c.args.broom.now in
-    let can = condemn_can f s c.requires.broom c.args.block c.args.state c.requires.block c.requires.state c.requires.loaded c.requires.at_rest in
     let low = pin_within (device f) c.args.block c.requires.block in
     let at = c.pin_at-word.ensures in
     let size = f.size in (
       c.requires.broom.table,
       omega arith,
-      condemn_here (device f) (numbers_of f.table.shared.key) (ap numbers_of f.key) _ _ _ c.pin_at-word.result c.args.block c.pack-expected.result _ c.args.state at c.pack-expected.ensures refl (is_a_broom f s c.requires.broom) can,
+      condemn_here (device f) (numbers_of f.table.shared.key) (ap numbers_of f.key) _ _ _ c.pin_at-word.result c.args.block c.pack-old.result c.args.expected at c.pack-old.ensures (is_a_broom f s c.requires.broom)
+          (can_condemn f s c.requires.broom c.args.block c.args.expected c.requires.rested c.requires.block c.requires.expected),
     )
 
+-- ---- its word wasn't the one expected
 pub invariant_of-broom : goal.invariant_of-broom
 invariant_of-broom c =
     let f = c.args.self.now in
     let s = c.args.broom.now in
-    let can = condemn_can f s c.requires.broom c.args.block c.args.state c.requires.block c.requires.state c.requires.loaded c.requires.at_rest in
-    let told = condemned_view f s c.requires.broom f.table.shared.table_id.slots c.compare_exchange-found.result c.compare_exchange-found.new.seat.me c.pin_at-word.result c.args.block c.pack-expected.result _ c.args.state can c.pin_at-word.ensures c.pack-expected.ensures refl c.compare_exchange-found.ensures.2 in
-    let changed = told.busy (λ is. c.if-found-expected.true (is ∙ sym c.pack-expected.ensures)) in
+    let can = can_condemn f s c.requires.broom c.args.block c.args.expected c.requires.rested c.requires.block c.requires.expected in
+    let told = condemned f s c.requires.broom f.table.shared.table_id.slots c.compare_exchange-found.result c.compare_exchange-found.new.seat.me c.pin_at-word.result c.args.block c.pack-old.result c.args.expected c.pin_at-word.ensures c.pack-old.ensures can c.compare_exchange-found.ensures.2 in
+    let changed = told.busy (λ is. c.if-found-old.true (is ∙ sym c.pack-old.ensures)) in
     record { bare = c.compare_exchange-found.ensures.2.0 ∙ s.bare; owns = just_now _ _ _ (ap (λ (w : View). w.owns) changed) s.owns }
 
-pub returns-then-found-expected-clause-told : goal.returns-then-found-expected-clause-told
-returns-then-found-expected-clause-told c =
+pub returns-then-found-old-clause-told : goal.returns-then-found-old-clause-told
+returns-then-found-old-clause-told c =
     let f = c.args.self.now in
     let s = c.args.broom.now in
-    let can = condemn_can f s c.requires.broom c.args.block c.args.state c.requires.block c.requires.state c.requires.loaded c.requires.at_rest in
-    let told = condemned_view f s c.requires.broom f.table.shared.table_id.slots c.compare_exchange-found.result c.compare_exchange-found.new.seat.me c.pin_at-word.result c.args.block c.pack-expected.result _ c.args.state can c.pin_at-word.ensures c.pack-expected.ensures refl c.compare_exchange-found.ensures.2 in
-    let changed = told.busy (λ is. c.if-found-expected.true (is ∙ sym c.pack-expected.ensures)) in
-    changed
+    let can = can_condemn f s c.requires.broom c.args.block c.args.expected c.requires.rested c.requires.block c.requires.expected in
+    let told = condemned f s c.requires.broom f.table.shared.table_id.slots c.compare_exchange-found.result c.compare_exchange-found.new.seat.me c.pin_at-word.result c.args.block c.pack-old.result c.args.expected c.pin_at-word.ensures c.pack-old.ensures can c.compare_exchange-found.ensures.2 in
+    record { changed = told.busy (λ is. c.if-found-old.true (is ∙ sym c.pack-old.ensures)); blocks = refl }
 
-pub returns-then-found-expected-clause-broom : goal.returns-then-found-expected-clause-broom
-returns-then-found-expected-clause-broom c =
+pub returns-then-found-old-clause-broom : goal.returns-then-found-old-clause-broom
+returns-then-found-old-clause-broom c =
     let f = c.args.self.now in
     let s = c.args.broom.now in
-    let can = condemn_can f s c.requires.broom c.args.block c.args.state c.requires.block c.requires.state c.requires.loaded c.requires.at_rest in
-    let told = condemned_view f s c.requires.broom f.table.shared.table_id.slots c.compare_exchange-found.result c.compare_exchange-found.new.seat.me c.pin_at-word.result c.args.block c.pack-expected.result _ c.args.state can c.pin_at-word.ensures c.pack-expected.ensures refl c.compare_exchange-found.ensures.2 in
-    let changed = told.busy (λ is. c.if-found-expected.true (is ∙ sym c.pack-expected.ensures)) in
+    let can = can_condemn f s c.requires.broom c.args.block c.args.expected c.requires.rested c.requires.block c.requires.expected in
+    let told = condemned f s c.requires.broom f.table.shared.table_id.slots c.compare_exchange-found.result c.compare_exchange-found.new.seat.me c.pin_at-word.result c.args.block c.pack-old.result c.args.expected c.pin_at-word.ensures c.pack-old.ensures can c.compare_exchange-found.ensures.2 in
+    let changed = told.busy (λ is. c.if-found-old.true (is ∙ sym c.pack-old.ensures)) in
     stays_broom f s _ c.requires.broom c.compare_exchange-found.ensures.0 (ap (λ (w : View). w.role) changed) (ap (λ (w : View). w.numbers) changed)
 
+-- ---- the block is the broom's to erase
 pub invariant_of-broom-2 : goal.invariant_of-broom-2
 invariant_of-broom-2 c =
     let f = c.args.self.now in
     let s = c.args.broom.now in
-    let can = condemn_can f s c.requires.broom c.args.block c.args.state c.requires.block c.requires.state c.requires.loaded c.requires.at_rest in
-    let told = condemned_view f s c.requires.broom f.table.shared.table_id.slots c.compare_exchange-found.result c.compare_exchange-found.new.seat.me c.pin_at-word.result c.args.block c.pack-expected.result _ c.args.state can c.pin_at-word.ensures c.pack-expected.ensures refl c.compare_exchange-found.ensures.2 in
-    let is = c.if-found-expected.false ∙ c.pack-expected.ensures in
-    let changed = told.won is in
-    let now : ReclaimedBlock = record { block = c.args.block; generation = c.args.state.generation; written = c.args.state.written } in
-    record { bare = c.compare_exchange-found.ensures.2.0 ∙ s.bare; owns = just_now _ _ _ (ap (λ (w : View). w.owns) changed) (condemned_just (own_blocks s) (broom_view s).owns s.owns now c.requires.at_rest (told.fresh is)) }
+    let can = can_condemn f s c.requires.broom c.args.block c.args.expected c.requires.rested c.requires.block c.requires.expected in
+    let told = condemned f s c.requires.broom f.table.shared.table_id.slots c.compare_exchange-found.result c.compare_exchange-found.new.seat.me c.pin_at-word.result c.args.block c.pack-old.result c.args.expected c.pin_at-word.ensures c.pack-old.ensures can c.compare_exchange-found.ensures.2 in
+    let is : c.compare_exchange-found.result ≡ pin_word c.args.expected = c.if-found-old.false ∙ c.pack-old.ensures in
+    let o : ReclaimedBlock = record { block = c.args.block; generation = c.args.expected.generation; written = c.args.expected.written } in
+    record {
+      bare = c.compare_exchange-found.ensures.2.0 ∙ s.bare;
+      owns = just_now _ _ _ (ap (λ (w : View). w.owns) (told.won is)) (condemned_just (own_blocks s) (broom_view s).owns s.owns o c.requires.rested (told.fresh is));
+    }
 
 pub returns-clause-told : goal.returns-clause-told
 returns-clause-told c =
     let f = c.args.self.now in
     let s = c.args.broom.now in
-    let can = condemn_can f s c.requires.broom c.args.block c.args.state c.requires.block c.requires.state c.requires.loaded c.requires.at_rest in
-    let told = condemned_view f s c.requires.broom f.table.shared.table_id.slots c.compare_exchange-found.result c.compare_exchange-found.new.seat.me c.pin_at-word.result c.args.block c.pack-expected.result _ c.args.state can c.pin_at-word.ensures c.pack-expected.ensures refl c.compare_exchange-found.ensures.2 in
-    let is = c.if-found-expected.false ∙ c.pack-expected.ensures in
-    let changed = told.won is in
-    changed
+    let can = can_condemn f s c.requires.broom c.args.block c.args.expected c.requires.rested c.requires.block c.requires.expected in
+    let told = condemned f s c.requires.broom f.table.shared.table_id.slots c.compare_exchange-found.result c.compare_exchange-found.new.seat.me c.pin_at-word.result c.args.block c.pack-old.result c.args.expected c.pin_at-word.ensures c.pack-old.ensures can c.compare_exchange-found.ensures.2 in
+    record { changed = told.won (c.if-found-old.false ∙ c.pack-old.ensures); blocks = refl }
 
 pub returns-clause-broom : goal.returns-clause-broom
 returns-clause-broom c =
     let f = c.args.self.now in
     let s = c.args.broom.now in
-    let can = condemn_can f s c.requires.broom c.args.block c.args.state c.requires.block c.requires.state c.requires.loaded c.requires.at_rest in
-    let told = condemned_view f s c.requires.broom f.table.shared.table_id.slots c.compare_exchange-found.result c.compare_exchange-found.new.seat.me c.pin_at-word.result c.args.block c.pack-expected.result _ c.args.state can c.pin_at-word.ensures c.pack-expected.ensures refl c.compare_exchange-found.ensures.2 in
-    let is = c.if-found-expected.false ∙ c.pack-expected.ensures in
-    let changed = told.won is in
+    let can = can_condemn f s c.requires.broom c.args.block c.args.expected c.requires.rested c.requires.block c.requires.expected in
+    let told = condemned f s c.requires.broom f.table.shared.table_id.slots c.compare_exchange-found.result c.compare_exchange-found.new.seat.me c.pin_at-word.result c.args.block c.pack-old.result c.args.expected c.pin_at-word.ensures c.pack-old.ensures can c.compare_exchange-found.ensures.2 in
+    let changed = told.won (c.if-found-old.false ∙ c.pack-old.ensures) in
     stays_broom f s _ c.requires.broom c.compare_exchange-found.ensures.0 (ap (λ (w : View). w.role) changed) (ap (λ (w : View). w.numbers) changed)

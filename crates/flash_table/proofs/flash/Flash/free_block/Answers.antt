@@ -1,41 +1,30 @@
-use Rattle.std.proofs.Common.{◌+◌, ◌<◌, ◌≤◌, ap, ◌∙◌, arith}
-use Rattle.geometry.specs.Geometry.{numbers_of, blocks_of, pages_of, endurance_of}
-use Rattle.geometry.specs.declared.pin_word.Phase.TheVariants.{Erasing}
+use Rattle.std.proofs.Common.{ap, ◌∙◌, arith}
+use Rattle.geometry.specs.Geometry.{numbers_of}
 use Rattle.flash_rule.specs.declared.view.View.{View}
-use Rattle.flash_rule.specs.Views.{without}
-use Rattle.flash_rule.specs.BroomPlays.{block_words}
 use Rattle.flash_rule.proofs.Places.{pin_within}
-use Rattle.flash_table.specs.Flash.{device, broom_view, own_blocks, geometry_of}
-use Rattle.flash_table.specs.Owning.{reclaimed_as}
+use Rattle.flash_table.specs.Flash.{device, broom_view, own_blocks}
+use Rattle.flash_table.specs.Erasing.{CanLiveOn}
+use Rattle.flash_rule.specs.Views.{without}
 use Rattle.flash_table.specs.declared.broom_seat.ReclaimedBlock.{ReclaimedBlock}
-use Rattle.flash_table.proofs.HereBrooms.{free_here}
+use Rattle.flash_table.proofs.HereErasing.{freed_here}
 use Rattle.flash_table.proofs.Blocks.{erased_just}
 use Rattle.flash_table.proofs.Rows.{just_now}
-use Rattle.flash_table.proofs.ToldBrooms.{stays_broom, of_erasing, erasing_same, renew_can, freed_view}
+use Rattle.flash_table.proofs.ToldBrooms.{stays_broom}
+use Rattle.flash_table.proofs.ToldErasing.{same_erased, of_erased, can_renew, freed_view}
 use Rattle.flash_table.proofs.flash.Flash.free_block.Goals as goal
-
-pub freed-requires : goal.freed-requires
-freed-requires c =
-    let f = c.args.self.now in
-    let s = c.args.broom.now in
-    let o = c.in-Erasing.erased in
-    let asked = of_erasing (λ (y : ReclaimedBlock). (y.block < blocks_of (geometry_of f)) × (y.written ≤ pages_of (geometry_of f)) × (y.generation + 1 < endurance_of (geometry_of f)) × (block_words (broom_view s) ≤ (broom_view s).wiped)) (own_blocks s).reclaiming o c.in-Erasing.is c.requires.wiped in
-    let most = f.geometry.in_limits.pages_high in
-    let within = asked.1 in omega arith
 
 pub fetch_add-requires : goal.fetch_add-requires
 fetch_add-requires c =
     let f = c.args.self.now in
     let s = c.args.broom.now in
     let o = c.in-Erasing.erased in
-    let asked = of_erasing (λ (y : ReclaimedBlock). (y.block < blocks_of (geometry_of f)) × (y.written ≤ pages_of (geometry_of f)) × (y.generation + 1 < endurance_of (geometry_of f)) × (block_words (broom_view s) ≤ (broom_view s).wiped)) (own_blocks s).reclaiming o c.in-Erasing.is c.requires.wiped in
-    let can = renew_can f s c.requires.broom o c.in-Erasing.is asked.2 asked.3 in
-    let low = pin_within (device f) o.block asked.0 in
+    let t = of_erased f s c.requires.broom (λ x. CanLiveOn f s x) o c.in-Erasing.is c.requires.wiped.0 c.requires.wiped.1.erases.its c.requires.wiped.1 in
+    let low = pin_within (device f) o.block t.erases.low in
     let at = c.pin_at-word.ensures in
     let size = f.size in (
       c.requires.broom.table,
       omega arith,
-      free_here (device f) (numbers_of f.table.shared.key) (ap numbers_of f.key) _ _ _ c.pin_at-word.result c.freed.result (reclaimed_as Erasing o) at c.freed.ensures can,
+      freed_here (device f) (numbers_of f.table.shared.key) (ap numbers_of f.key) _ _ _ c.pin_at-word.result c.freed.result _ at c.freed.ensures (can_renew f s c.requires.broom o t),
     )
 
 pub invariant_of-broom : goal.invariant_of-broom
@@ -43,29 +32,28 @@ invariant_of-broom c =
     let f = c.args.self.now in
     let s = c.args.broom.now in
     let o = c.in-Erasing.erased in
-    let asked = of_erasing (λ (y : ReclaimedBlock). (y.block < blocks_of (geometry_of f)) × (y.written ≤ pages_of (geometry_of f)) × (y.generation + 1 < endurance_of (geometry_of f)) × (block_words (broom_view s) ≤ (broom_view s).wiped)) (own_blocks s).reclaiming o c.in-Erasing.is c.requires.wiped in
-    let can = renew_can f s c.requires.broom o c.in-Erasing.is asked.2 asked.3 in
-    let changed = freed_view f s c.requires.broom f.table.shared.table_id.slots c.fetch_add.result c.fetch_add.new.seat.me c.pin_at-word.result c.freed.result o can c.pin_at-word.ensures c.freed.ensures c.fetch_add.ensures.2 in
-    record { bare = c.fetch_add.ensures.2.0 ∙ s.bare; owns = just_now _ _ _ (ap (λ (w : View). w.owns) changed) (erased_just (own_blocks s) (broom_view s).owns s.owns o c.in-Erasing.is) }
+    let t = of_erased f s c.requires.broom (λ x. CanLiveOn f s x) o c.in-Erasing.is c.requires.wiped.0 c.requires.wiped.1.erases.its c.requires.wiped.1 in
+    let changed = freed_view f s c.requires.broom f.table.shared.table_id.slots c.fetch_add.result c.fetch_add.new.seat.me c.pin_at-word.result c.freed.result o (can_renew f s c.requires.broom o t) c.pin_at-word.ensures c.freed.ensures c.fetch_add.ensures.2 in
+    record {
+      bare = c.fetch_add.ensures.2.0 ∙ s.bare;
+      owns = just_now _ _ _ (ap (λ (w : View). w.owns) changed) (erased_just (own_blocks s) (broom_view s).owns s.owns o c.in-Erasing.is);
+    }
 
 pub returns-clause-told : goal.returns-clause-told
-returns-clause-told c e is =
+returns-clause-told c x is =
     let f = c.args.self.now in
     let s = c.args.broom.now in
     let o = c.in-Erasing.erased in
-    let asked = of_erasing (λ (y : ReclaimedBlock). (y.block < blocks_of (geometry_of f)) × (y.written ≤ pages_of (geometry_of f)) × (y.generation + 1 < endurance_of (geometry_of f)) × (block_words (broom_view s) ≤ (broom_view s).wiped)) (own_blocks s).reclaiming o c.in-Erasing.is c.requires.wiped in
-    let can = renew_can f s c.requires.broom o c.in-Erasing.is asked.2 asked.3 in
-    let same = erasing_same o e (own_blocks s).reclaiming c.in-Erasing.is is in
-    let changed = freed_view f s c.requires.broom f.table.shared.table_id.slots c.fetch_add.result c.fetch_add.new.seat.me c.pin_at-word.result c.freed.result o can c.pin_at-word.ensures c.freed.ensures c.fetch_add.ensures.2 in
-    let P : ReclaimedBlock → View = λ y. record (broom_view s) { owns = without y.block (broom_view s).owns } in
-    changed ∙ ap P same
+    let t = of_erased f s c.requires.broom (λ x. CanLiveOn f s x) o c.in-Erasing.is c.requires.wiped.0 c.requires.wiped.1.erases.its c.requires.wiped.1 in
+    let same = same_erased (own_blocks s).reclaiming o x c.in-Erasing.is is in
+    let changed = freed_view f s c.requires.broom f.table.shared.table_id.slots c.fetch_add.result c.fetch_add.new.seat.me c.pin_at-word.result c.freed.result o (can_renew f s c.requires.broom o t) c.pin_at-word.ensures c.freed.ensures c.fetch_add.ensures.2 in
+    changed ∙ ap (λ (y : ReclaimedBlock). record (broom_view s) { owns = without y.block (broom_view s).owns }) same
 
 pub returns-clause-broom : goal.returns-clause-broom
 returns-clause-broom c =
     let f = c.args.self.now in
     let s = c.args.broom.now in
     let o = c.in-Erasing.erased in
-    let asked = of_erasing (λ (y : ReclaimedBlock). (y.block < blocks_of (geometry_of f)) × (y.written ≤ pages_of (geometry_of f)) × (y.generation + 1 < endurance_of (geometry_of f)) × (block_words (broom_view s) ≤ (broom_view s).wiped)) (own_blocks s).reclaiming o c.in-Erasing.is c.requires.wiped in
-    let can = renew_can f s c.requires.broom o c.in-Erasing.is asked.2 asked.3 in
-    let changed = freed_view f s c.requires.broom f.table.shared.table_id.slots c.fetch_add.result c.fetch_add.new.seat.me c.pin_at-word.result c.freed.result o can c.pin_at-word.ensures c.freed.ensures c.fetch_add.ensures.2 in
+    let t = of_erased f s c.requires.broom (λ x. CanLiveOn f s x) o c.in-Erasing.is c.requires.wiped.0 c.requires.wiped.1.erases.its c.requires.wiped.1 in
+    let changed = freed_view f s c.requires.broom f.table.shared.table_id.slots c.fetch_add.result c.fetch_add.new.seat.me c.pin_at-word.result c.freed.result o (can_renew f s c.requires.broom o t) c.pin_at-word.ensures c.freed.ensures c.fetch_add.ensures.2 in
     stays_broom f s _ c.requires.broom c.fetch_add.ensures.0 (ap (λ (w : View). w.role) changed) (ap (λ (w : View). w.numbers) changed)

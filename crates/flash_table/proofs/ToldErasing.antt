@@ -1,0 +1,102 @@
+-- What a broom that erases may do by what its calls ask, and what a step's play makes of its seat.
+use Rattle.std.proofs.Common.{◌≡◌, ℕ, ◌+◌, ◌*◌, ◌<◌, true, sym, refl, ap, ◌∙◌, subst, arith}
+use mathlib.Core.Option.{none}
+use Rattle.atomic_table.specs.Table.{step}
+use Rattle.geometry.specs.Limits.{Numbers, table_words_of}
+use Rattle.geometry.specs.PinWords.{pin_word, freed_added, kept_added}
+use Rattle.geometry.specs.TableOrder.{pin_index, page_index}
+use Rattle.geometry.specs.declared.pin_word.PinWord.{PinWord}
+use Rattle.geometry.specs.declared.pin_word.Phase.TheVariants.{Erasing}
+use Rattle.geometry.specs.declared.pin_word.TheConstants.{NEXT_PHASE}
+use Rattle.flash_rule.specs.Views.{is_broom, without, with_owned}
+use Rattle.flash_rule.specs.World.{blank_word}
+use Rattle.flash_rule.specs.Plays.{Sitter}
+use Rattle.flash_rule.specs.BroomPlays.{CanCondemn, Condemned, IsErasing, CanWipe, CanRenew, CanRetire, condemn_told, wipe_told, freed_told, kept_told, retired_told}
+use Rattle.flash_rule.proofs.Places.{page_within}
+use Rattle.flash_rule.proofs.Wiping.{row_of, wiped_index}
+use Rattle.flash_table.specs.declared.flash.Flash.{Flash}
+use Rattle.flash_table.specs.declared.broom_seat.BroomSeat.{BroomSeat}
+use Rattle.flash_table.specs.declared.broom_seat.ReclaimedBlock.{ReclaimedBlock}
+use Rattle.flash_table.specs.declared.broom_seat.Reclaiming.{Reclaiming}
+use Rattle.flash_table.specs.declared.broom_seat.Reclaiming.TheVariants as reclaiming
+use Rattle.flash_table.specs.Owning.{owned_of, reclaimed_as}
+use Rattle.flash_table.specs.Flash.{IsBroomOf, broom_view, own_blocks, device}
+use Rattle.flash_table.specs.Erasing.{IsUnread, CanLiveOn, IsLastErase, words_in_block}
+use Rattle.flash_table.proofs.Blocks.{all_open, erasing_at}
+
+-- a broom erases one block
+pub same_erased : (r : Reclaiming) (o x : ReclaimedBlock) → r ≡ reclaiming.Erasing o → r ≡ reclaiming.Erasing x → o ≡ x
+same_erased r o x first second = one o x (sym first ∙ second) where
+  one : (o x : ReclaimedBlock) → reclaiming.Erasing o ≡ reclaiming.Erasing x → o ≡ x
+  one o x e = cc
+
+-- the place of a word of the block, counted from its first page's first word, lies in the table
+pub wiped_within : (z : Numbers) (b i : ℕ) → b < z.blocks → i < words_in_block z → page_index z b 0 + i < table_words_of z.blocks z.pages z.words z.sectors
+wiped_within z b i low below =
+    let r = row_of z.pages (z.words + 1) i below in
+    let word = r.3 in
+    let within = page_within z b r.0 r.1 low r.2 (omega arith) in
+    let here = wiped_index z b r.0 r.1 i r.4 in omega arith
+
+module _ (f : Flash) (s : BroomSeat) (h : IsBroomOf f s) where
+  -- ---- what the calls ask is what the rule asks
+  pub can_condemn : (b : ℕ) (p : PinWord) → (own_blocks s).reclaiming ≡ reclaiming.Nothing → b < (device f).blocks → IsUnread (broom_view s) b p → CanCondemn (broom_view s) b p
+  can_condemn b p rested low t =
+      record {
+        low = (let blocks : (broom_view s).numbers.blocks ≡ (device f).blocks = ap (λ (y : Numbers). y.blocks) h.numbers in omega arith);
+        fits = t.fits;
+        drained = t.drained;
+        unread = t.unread;
+        loaded = t.loaded;
+        rested = all_open (own_blocks s) (broom_view s).owns s.owns rested;
+      }
+
+  is_erasing : (o : ReclaimedBlock) → (own_blocks s).reclaiming ≡ reclaiming.Erasing o → IsErasing (broom_view s) (reclaimed_as Erasing o)
+  is_erasing o its = record { own = erasing_at (own_blocks s) (broom_view s).owns s.owns o its; erasing = refl }
+
+  all_words : (broom_view s).numbers.pages * ((broom_view s).numbers.words + 1) ≡ words_in_block (device f)
+  all_words = ap words_in_block h.numbers
+
+  endures : (broom_view s).numbers.endurance ≡ (device f).endurance
+  endures = ap (λ (y : Numbers). y.endurance) h.numbers
+
+  pub can_wipe : (o : ReclaimedBlock) (i : ℕ) → (own_blocks s).reclaiming ≡ reclaiming.Erasing o → i ≡ (broom_view s).wiped → i < words_in_block (device f) → CanWipe (broom_view s) (reclaimed_as Erasing o)
+  can_wipe o i its next below = record { erasing = is_erasing o its; room = (let e = all_words in omega arith) }
+
+  pub can_renew : (o : ReclaimedBlock) → CanLiveOn f s o → CanRenew (broom_view s) (reclaimed_as Erasing o)
+  can_renew o t =
+      record {
+        erasing = is_erasing o t.erases.its;
+        clean = (let e = all_words in let w = t.wiped in omega arith);
+        another = (let e = endures in let a = t.another in omega arith);
+      }
+
+  pub can_retire : (o : ReclaimedBlock) → IsLastErase f s o → CanRetire (broom_view s) (reclaimed_as Erasing o)
+  can_retire o t = record { erasing = is_erasing o t.erases.its; last = t.last ∙ sym endures }
+
+  -- ---- what is asked of the block that the broom erases, of the block that is found there
+  pub of_erased : (P : ReclaimedBlock → Type 0) (o : ReclaimedBlock) → (own_blocks s).reclaiming ≡ reclaiming.Erasing o → (x : ReclaimedBlock) → (own_blocks s).reclaiming ≡ reclaiming.Erasing x → P x → P o
+  of_erased P o is x its can = subst P (same_erased (own_blocks s).reclaiming x o its is) can
+
+module _ (f : Flash) (s : BroomSeat) (h : IsBroomOf f s) (slots n : ℕ) (after : Sitter) where
+  -- ---- what a step's play makes of the seat
+  pub condemned : (word b old : ℕ) (p : PinWord) → word ≡ pin_index (device f) b → old ≡ pin_word p → CanCondemn (broom_view s) b p → condemn_told (step slots word old (old + NEXT_PHASE) none) s.seat.me n after → Condemned (broom_view s) b p n after.0
+  condemned word b old p at packed can told = told.1 b p can (at ∙ ap (λ y. pin_index y b) (sym h.numbers)) packed (ap (λ x. x + NEXT_PHASE) packed)
+
+  pub wipe_view : (word i : ℕ) (o : ReclaimedBlock) → CanWipe (broom_view s) (reclaimed_as Erasing o) → i ≡ (broom_view s).wiped → word ≡ page_index (device f) o.block 0 + i
+      → wipe_told (step slots word blank_word 0 none) s.seat.me n after → after.0 ≡ record (broom_view s) { wiped = i + 1 }
+  wipe_view word i o can next at told =
+      told.1 (reclaimed_as Erasing o) can (at ∙ λ j. page_index (sym h.numbers j) o.block 0 + next j) refl ∙ ap (λ k. record (broom_view s) { wiped = k + 1 }) (sym next)
+
+  pub freed_view : (word added : ℕ) (o : ReclaimedBlock) → CanRenew (broom_view s) (reclaimed_as Erasing o) → word ≡ pin_index (device f) o.block → added ≡ freed_added o.written
+      → freed_told (step slots word added 0 none) s.seat.me n after → after.0 ≡ record (broom_view s) { owns = without o.block (broom_view s).owns }
+  freed_view word added o can at adds told = told.1 (reclaimed_as Erasing o) can (at ∙ ap (λ y. pin_index y o.block) (sym h.numbers)) adds
+
+  pub kept_view : (word added : ℕ) (o : ReclaimedBlock) → CanRenew (broom_view s) (reclaimed_as Erasing o) → word ≡ pin_index (device f) o.block → added ≡ kept_added o.written
+      → kept_told (step slots word added 0 none) s.seat.me n after
+      → after.0 ≡ record (broom_view s) { owns = with_owned (owned_of (record { block = o.block; generation = o.generation + 1; written = 0 })) (broom_view s).owns }
+  kept_view word added o can at adds told = told.1 (reclaimed_as Erasing o) can (at ∙ ap (λ y. pin_index y o.block) (sym h.numbers)) adds
+
+  pub retired_view : (word : ℕ) (o : ReclaimedBlock) → CanRetire (broom_view s) (reclaimed_as Erasing o) → word ≡ pin_index (device f) o.block
+      → retired_told (step slots word NEXT_PHASE 0 none) s.seat.me n after → after.0 ≡ record (broom_view s) { owns = without o.block (broom_view s).owns }
+  retired_view word o can at told = told.1 (reclaimed_as Erasing o) can (at ∙ ap (λ y. pin_index y o.block) (sym h.numbers))

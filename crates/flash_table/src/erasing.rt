@@ -1,0 +1,131 @@
+//! The steps by which a broom erases a block, one atomic operation each.
+ghost use Rattle.std.specs.Prelude.{◌≡◌, ◌+◌, ◌<◌, MatchBool, Some, None};
+ghost use Rattle.geometry.specs.Geometry.{blocks_of};
+ghost use Rattle.flash_rule.specs.Views.{without, with_owned};
+ghost use Rattle.flash_table.specs.Owning.{owned_of};
+ghost use Rattle.flash_table.specs.Flash.{IsBroomOf, broom_view, own_blocks, geometry_of, device};
+ghost use Rattle.flash_table.specs.Erasing.{IsUnread, NowErases, FoundBusy, Erases, CanLiveOn, IsLastErase, words_in_block};
+ghost use Rattle.flash_table.specs.declared.broom_seat.ReclaimedBlock.{ReclaimedBlock};
+ghost use Rattle.flash_table.specs.declared.broom_seat.Reclaiming.TheVariants as reclaiming;
+
+use crate::broom_seat::{BroomBlocks, BroomSeat, ReclaimedBlock, Reclaiming};
+use crate::flash::Flash;
+use crate::pass::OpenBlock;
+use flash_rule::{Condemn, FreeBlock, KeepBlock, RetireBlock, Wipe};
+use geometry::{ERASED, NEXT_PHASE, PageAddr, PinWord, freed, kept, page_word_at, pin_at};
+
+impl Flash {
+    /// Condemns a drained block if it is as expected, and says whether it did: then it is the broom's to erase.
+    pub fn condemn(&self, broom: &mut BroomSeat, block: u32, expected: PinWord) -> bool
+        requires broom { IsBroomOf self.now broom.old }
+        requires rested { (own_blocks broom.old).reclaiming ≡ reclaiming.Nothing }
+        requires block { block < blocks_of (geometry_of self.now) }
+        requires expected { IsUnread (broom_view broom.old) block expected }
+        ensures told { MatchBool result (NowErases (broom_view broom.old) (own_blocks broom.old) block expected (broom_view broom.new) (own_blocks broom.new)) (FoundBusy (broom_view broom.old) (own_blocks broom.old) block (broom_view broom.new) (own_blocks broom.new)) }
+        ensures broom { IsBroomOf self.now broom.new }
+    {
+        let word = pin_at(&self.geometry, block);
+        let old = expected.pack();
+        let found = self
+            .table
+            .shared
+            .compare_exchange::<Condemn>(&mut broom.seat, word, old, old + NEXT_PHASE);
+        if found != old {
+            return false;
+        }
+        broom.blocks.reclaiming = Reclaiming::Erasing(ReclaimedBlock {
+            block,
+            generation: expected.generation,
+            written: expected.written,
+        });
+        true
+    }
+
+    /// Sets word `i` of the block that the broom erases to all ones; the words before it are wiped. A page's stamp stands behind its data words.
+    pub fn wipe(&self, broom: &mut BroomSeat, i: u32)
+        requires broom { IsBroomOf self.now broom.old }
+        requires erasing { (o : ReclaimedBlock) × Erases self.now broom.old o }
+        requires next { i ≡ (broom_view broom.old).wiped }
+        requires word { i < words_in_block (device self.now) }
+        ensures told { broom_view broom.new ≡ record (broom_view broom.old) { wiped = i + 1 } }
+        ensures broom { IsBroomOf self.now broom.new }
+        ensures blocks { own_blocks broom.new ≡ own_blocks broom.old }
+    {
+        let Reclaiming::Erasing(erased) = broom.blocks.reclaiming else {
+            unreachable!()
+        };
+        let first = PageAddr {
+            block: erased.block,
+            page: 0,
+        };
+        let place = page_word_at(&self.geometry, first, 0) + i as usize;
+        self.table
+            .shared
+            .store::<Wipe>(&mut broom.seat, place, ERASED);
+    }
+
+    /// Gives up the wiped block, which is free in its next generation.
+    pub fn free_block(&self, broom: &mut BroomSeat)
+        requires broom { IsBroomOf self.now broom.old }
+        requires wiped { (o : ReclaimedBlock) × CanLiveOn self.now broom.old o }
+        ensures told { (o : ReclaimedBlock) → (own_blocks broom.old).reclaiming ≡ reclaiming.Erasing o → broom_view broom.new ≡ record (broom_view broom.old) { owns = without o.block (broom_view broom.old).owns } }
+        ensures blocks { own_blocks broom.new ≡ record (own_blocks broom.old) { reclaiming = reclaiming.Nothing } }
+        ensures broom { IsBroomOf self.now broom.new }
+    {
+        let Reclaiming::Erasing(erased) = broom.blocks.reclaiming else {
+            unreachable!()
+        };
+        let word = pin_at(&self.geometry, erased.block);
+        self.table
+            .shared
+            .fetch_add::<FreeBlock>(&mut broom.seat, word, freed(erased.written));
+        broom.blocks.reclaiming = Reclaiming::Nothing;
+    }
+
+    /// Keeps the wiped block as the spare, which is empty and in its next generation.
+    pub fn keep_block(&self, broom: &mut BroomSeat)
+        requires broom { IsBroomOf self.now broom.old }
+        requires wiped { (o : ReclaimedBlock) × CanLiveOn self.now broom.old o }
+        requires no_spare { (own_blocks broom.old).spare ≡ None }
+        ensures told { (o : ReclaimedBlock) → (own_blocks broom.old).reclaiming ≡ reclaiming.Erasing o
+            → broom_view broom.new ≡ record (broom_view broom.old) { owns = with_owned (owned_of (record { block = o.block; generation = o.generation + 1; written = 0 })) (broom_view broom.old).owns } }
+        ensures blocks { (o : ReclaimedBlock) → (own_blocks broom.old).reclaiming ≡ reclaiming.Erasing o
+            → own_blocks broom.new ≡ record (own_blocks broom.old) { spare = Some (record { block = o.block; generation = o.generation + 1; written = 0 }); reclaiming = reclaiming.Nothing } }
+        ensures broom { IsBroomOf self.now broom.new }
+    {
+        let Reclaiming::Erasing(erased) = broom.blocks.reclaiming else {
+            unreachable!()
+        };
+        let word = pin_at(&self.geometry, erased.block);
+        self.table
+            .shared
+            .fetch_add::<KeepBlock>(&mut broom.seat, word, kept(erased.written));
+        broom.blocks = BroomBlocks {
+            destination: broom.blocks.destination,
+            spare: Some(OpenBlock {
+                block: erased.block,
+                generation: erased.generation + 1,
+                written: 0,
+            }),
+            reclaiming: Reclaiming::Nothing,
+        };
+    }
+
+    /// Gives up the block for good: it was erased as often as it can be.
+    pub fn retire_block(&self, broom: &mut BroomSeat)
+        requires broom { IsBroomOf self.now broom.old }
+        requires last { (o : ReclaimedBlock) × IsLastErase self.now broom.old o }
+        ensures told { (o : ReclaimedBlock) → (own_blocks broom.old).reclaiming ≡ reclaiming.Erasing o → broom_view broom.new ≡ record (broom_view broom.old) { owns = without o.block (broom_view broom.old).owns } }
+        ensures blocks { own_blocks broom.new ≡ record (own_blocks broom.old) { reclaiming = reclaiming.Nothing } }
+        ensures broom { IsBroomOf self.now broom.new }
+    {
+        let Reclaiming::Erasing(erased) = broom.blocks.reclaiming else {
+            unreachable!()
+        };
+        let word = pin_at(&self.geometry, erased.block);
+        self.table
+            .shared
+            .fetch_add::<RetireBlock>(&mut broom.seat, word, NEXT_PHASE);
+        broom.blocks.reclaiming = Reclaiming::Nothing;
+    }
+}
