@@ -92,3 +92,13 @@ module _ (x : BroomBlocks) (owns : List Owned) (h : OwnsJust (blocks_list x) own
       let there : OwnsJust (row x.destination None (reclaimed_as Erasing o ∷ [])) owns = subst (λ s. OwnsJust (row x.destination s (reclaimed_as Erasing o ∷ [])) owns) none (with_reclaiming (reclaiming.Erasing o) is) in
       subst (λ l. OwnsJust l (with_owned (owned_of e) owns)) (last x.destination (owned_of e))
       (just_set (owned_list x.destination ++ []) [] owns (reclaimed_as Erasing o) (owned_of e) block there)
+
+-- ---- a broom with no block of its own
+-- what owns no block is empty
+owns_none : (owns : List Owned) → ((b : ℕ) → owned_at b owns ≡ None) → owns ≡ []
+owns_none [] none = refl
+owns_none (o ∷ os) none = absurd (none_some o (sym (none o.block) ∙ at_first o os o.block refl))
+
+pub owns_nothing : (x : BroomBlocks) (owns : List Owned) → OwnsJust (blocks_list x) owns → x.destination ≡ None → x.spare ≡ None → x.reclaiming ≡ reclaiming.Nothing → owns ≡ []
+owns_nothing x owns h destination spare rested =
+    let bare : OwnsJust [] owns = subst (λ (y : BroomBlocks). OwnsJust (blocks_list y) owns) (λ i. record { destination = destination i; spare = spare i; reclaiming = rested i }) h in owns_none owns bare.same

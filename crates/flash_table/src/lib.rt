@@ -1,4 +1,4 @@
-//! The shared words of a flash device, the seats of its passes, and the steps that they make.
+//! The shared words of a flash device, the seats of its passes and brooms, and the steps that they make.
 #![tactic(auto)]
 
 mod broom_seat;
@@ -13,6 +13,7 @@ mod pins;
 mod reclaim_steps;
 mod relocation_steps;
 mod retired;
+mod retired_broom;
 mod steps;
 
 pub use broom_seat::{BroomBlocks, BroomSeat, ReclaimedBlock, Reclaiming};
@@ -20,6 +21,7 @@ pub use flash::Flash;
 pub use gate::{Gate, NoGate, Point};
 pub use pass::{Note, OpenBlock, Pass};
 pub use retired::Retired;
+pub use retired_broom::RetiredBroom;
 
 #[cfg(test)]
 mod tests;
