@@ -15,12 +15,11 @@ use Rattle.flash_rule.specs.Views.{is_pass, is_player}
 use Rattle.flash_rule.specs.Seats.{Ruled, Whole}
 use Rattle.flash_rule.specs.Plays.{Sitter, CanPlace, CanPut, CanCount, CanClose, words_in, is_unpinned, look_told, write_told, trim_told, take_told, put_told, count_told, close_told, IsOn, pin_told, unpin_told, get_told}
 use Rattle.flash_rule.specs.declared.facts.Name.{Name}
-use Rattle.flash_rule.specs.declared.facts.Name.TheVariants.{Pass}
 use Rattle.flash_rule.specs.declared.facts.Role.TheVariants.{Player, Note}
 use Rattle.flash_rule.specs.declared.carried.Carried.{Carried}
 use Rattle.flash_rule.specs.declared.view.View.{View}
 use Rattle.flash_rule.specs.Seats.{lender, lent_note, host_of, giver, given_note, home, gone}
-use Rattle.flash_rule.proofs.Still.{pass_of}
+use Rattle.flash_rule.proofs.OwnSteps.{player_of}
 use Rattle.flash_rule.proofs.Notes.{lends, gives, takes_in, comes_home}
 use Rattle.flash_rule.proofs.Parts.{whole_kept}
 use Rattle.flash_rule.proofs.Steps.{look_allowed, trim_allowed, write_allowed, take_allowed, put_allowed, count_allowed, close_allowed, get_allowed}
@@ -77,16 +76,16 @@ module _ (z k : Numbers) (same : k ≡ z) (slots id : ℕ) (me : Sitter) where
       subst P (λ j. (sym same j, sym is j)) (get_allowed Whole z slots id me m value i numbers pin block page low)
 
 -- ---- notes
-module _ (z k : Numbers) (same : k ≡ z) (id : ℕ) (v : View) (pass : is_pass v.role ≡ true) where
+module _ (z k : Numbers) (same : k ≡ z) (id : ℕ) (v : View) (player : is_player v.role ≡ true) where
   pub lend_here : v.whole ≡ true → v.guest ≡ None → Splits (Ruled Whole k) id v (lender v) (lent_note v)
-  lend_here whole alone = let t = pass_of v.role pass in let P : Numbers → Type 0 = λ x. Splits (Ruled Whole x) id v (lender v) (lent_note v) in subst P (sym same) (lends Whole z (whole_kept z) id v (Pass t.0) t.1 whole alone)
+  lend_here whole alone = let t = player_of v.role player in let P : Numbers → Type 0 = λ x. Splits (Ruled Whole x) id v (lender v) (lent_note v) in subst P (sym same) (lends Whole z (whole_kept z) id v t.0 t.1 whole alone)
 
   pub give_here : (m : Name) → v.guest ≡ Some m → ¬ (v.role ≡ Player m) → Splits (Ruled Whole k) id v (giver v) (given_note v)
-  give_here m guest apart = let t = pass_of v.role pass in let P : Numbers → Type 0 = λ x. Splits (Ruled Whole x) id v (giver v) (given_note v) in subst P (sym same) (gives Whole z (whole_kept z) id v (Pass t.0) t.1 m guest apart)
+  give_here m guest apart = let t = player_of v.role player in let P : Numbers → Type 0 = λ x. Splits (Ruled Whole x) id v (giver v) (given_note v) in subst P (sym same) (gives Whole z (whole_kept z) id v t.0 t.1 m guest apart)
 
   pub take_in_here : (other : ℕ) (w : View) (c : Carried) → w.role ≡ Note → w.guest ≡ Some c.of → w.copy ≡ Some c → v.whole ≡ true → Joins (Ruled Whole k) id v other w (host_of v w) gone
-  take_in_here other w c note guest copy whole = let t = pass_of v.role pass in let P : Numbers → Type 0 = λ x. Joins (Ruled Whole x) id v other w (host_of v w) gone in
-      subst P (sym same) (takes_in Whole z (whole_kept z) id other v w (Pass t.0) c.of c t.1 note guest copy whole refl)
+  take_in_here other w c note guest copy whole = let t = player_of v.role player in let P : Numbers → Type 0 = λ x. Joins (Ruled Whole x) id v other w (host_of v w) gone in
+      subst P (sym same) (takes_in Whole z (whole_kept z) id other v w t.0 c.of c t.1 note guest copy whole refl)
 
   pub home_here : (other : ℕ) (w : View) (n : Name) (c : Carried) → v.role ≡ Player n → w.role ≡ Note → w.guest ≡ Some n → w.copy ≡ Some c → ¬ (v.role ≡ Player c.of) → Joins (Ruled Whole k) id v other w (home v w) gone
   home_here other w n c role note guest copy apart = let P : Numbers → Type 0 = λ x. Joins (Ruled Whole x) id v other w (home v w) gone in

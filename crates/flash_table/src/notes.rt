@@ -25,7 +25,7 @@ impl Flash {
         Note { seat }
     }
 
-    /// Takes in a note that another pass has lent.
+    /// Takes in a note that another pass or a broom has lent.
     pub fn take_in(&self, pass: &mut Pass, note: Note)
         requires pass { IsPassOf self.now pass.old }
         requires note { IsNoteOf self.now note }
@@ -39,7 +39,7 @@ impl Flash {
         self.table.shared.join_seat::<TakeIn>(&mut pass.seat, seat);
     }
 
-    /// A note with the badge of the pass that has lent it, and with what this one has seen and programmed.
+    /// A note with the badge of the one that has lent it, and with what this one has seen and programmed.
     pub fn give_back(&self, pass: &mut Pass) -> Note
         requires pass { IsPassOf self.now pass.old }
         requires guest { (n : Name) × ((view_of pass.old).guest ≡ Some n) × (¬ ((view_of pass.old).role ≡ role.Player n)) }

@@ -17,7 +17,7 @@ pub struct Pass {
     ghost owns: { seat.me.0.owns ≡ owned_list opened },
 }
 
-/// A note on its way from one pass to another. It is to be taken in.
+/// A note on its way from one pass or broom to another. It is to be taken in.
 pub struct Note {
     pub(crate) seat: Seat<(), View>,
     ghost bare: { seat.me.1 ≡ [] },

@@ -2,6 +2,7 @@ use Rattle.std.proofs.Common.{ap, arith}
 use Rattle.geometry.specs.Geometry.{numbers_of}
 use Rattle.flash_table.specs.Flash.{device, view_of, note_view}
 use Rattle.flash_table.proofs.Here.{take_in_here}
+use Rattle.flash_table.proofs.Told.{pass_player}
 use Rattle.flash_table.proofs.flash.Flash.take_in.Goals as goal
 
 pub join_seat-requires : goal.join_seat-requires
@@ -14,5 +15,5 @@ join_seat-requires c =
       c.requires.note.table,
       c.args.note.bare,
       omega arith,
-      take_in_here (device f) (numbers_of f.table.shared.key) (ap numbers_of f.key) c.args.pass.now.seat.id (view_of c.args.pass.now) c.requires.pass.role c.args.note.seat.id (note_view c.args.note) t.0 c.requires.note.role t.2 t.1 c.requires.whole,
+      take_in_here (device f) (numbers_of f.table.shared.key) (ap numbers_of f.key) c.args.pass.now.seat.id (view_of c.args.pass.now) (pass_player _ c.requires.pass.role) c.args.note.seat.id (note_view c.args.note) t.0 c.requires.note.role t.2 t.1 c.requires.whole,
     )
