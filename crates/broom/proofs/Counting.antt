@@ -9,10 +9,11 @@ use mathlib.Core.Logic.{dite}
 use native.Mathlib.Decide.{ℕ_discrete}
 use Rattle.geometry.specs.History.{Begins}
 use Rattle.geometry.specs.Limits.{Numbers}
-use Rattle.geometry.specs.MapWords.{FitsMap}
+use Rattle.geometry.specs.MapWords.{FitsMap, map_word}
 use Rattle.geometry.specs.declared.map_word.MapWord.{MapWord}
 use Rattle.geometry.specs.declared.pin_word.PinWord.{PinWord}
 use Rattle.geometry.proofs.Histories.{Begins-refl, Begins-trans}
+use Rattle.geometry.proofs.PinBits.{map_same}
 use Rattle.flash_rule.specs.declared.view.View.{View}
 use Rattle.flash_rule.specs.Views.{AreOfHosts}
 use Rattle.flash_rule.specs.World.{sector_word}
@@ -24,9 +25,13 @@ use Rattle.flash_table.specs.declared.broom_seat.BroomBlocks.{BroomBlocks}
 use Rattle.flash_table.specs.declared.broom_seat.BroomSeat.{BroomSeat}
 use Rattle.flash_table.specs.Flash.{IsBroomOf, broom_view, own_blocks, device}
 use Rattle.broom.specs.Survey.{looks_of, lies_in, generation_in, live_pages, counts_of, Survey}
+use Rattle.broom.specs.Surveying.{PagesCounted}
 use Rattle.broom.proofs.Loading.{enumerate_more}
 
 -- ---- counts
+pub generation_at : (states : List PinWord) (b : ℕ) (d : PinWord) → b < length states → generation_in states b ≡ (get_or states b d).generation
+generation_at states b d low = get_or-map (λ (p : PinWord). p.generation) states b d 0 low
+
 -- For each block so many of these pages lie in it, in its generation as loaded
 abbrev pub Counts : List PinWord → List (Option MapWord) → List ℕ → Type 0
 Counts states pages counts = (b : ℕ) → b < length states → get_or counts b 0 ≡ count_by (lies_in b (generation_in states b)) pages
@@ -131,3 +136,24 @@ counted_more f v x states k s t counts now page none h seat blocks fits told cou
       callers = subst (λ (z : Numbers). AreOfHosts z (broom_view t).seen) numbers told.callers;
       counted = counted;
     }
+
+pub counted_all : (f : Flash) (v : View) (x : BroomBlocks) (states : List PinWord) (k : ℕ) (s : BroomSeat) (counts : List ℕ)
+    → CountedTo f v x states k s counts → k ≡ v.numbers.sectors → length counts ≡ length states → PagesCounted v states counts (broom_view s)
+counted_all f v x states k s counts h all long =
+    record {
+      pages = h.pages;
+      long = h.long ∙ all;
+      fits = h.fits;
+      changed = h.changed;
+      later = h.later;
+      callers = h.callers;
+      counted = counts_all (record { states = states; pages = h.pages }) counts long h.counted;
+    }
+
+-- ---- what a look found
+-- a page that was found is one of this device
+pub look_within : (v w : View) (s : ℕ) (m : MapWord) → FitsMap m → Named v s (map_word m) w → (m.block < v.numbers.blocks) × (m.page < v.numbers.pages)
+look_within v w s m fits h =
+    let t = h.page (λ e. absurd (omega arith)) in
+    let same : t.0 ≡ m = map_same t.0 m t.3 fits (sym t.2) in
+    let P : MapWord → Type 0 = λ k. (k.block < v.numbers.blocks) × (k.page < v.numbers.pages) in subst P same (t.6, t.7)

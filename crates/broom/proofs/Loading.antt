@@ -1,7 +1,7 @@
 -- The first part of a survey: the states of the blocks are loaded, one after the other.
 use Rattle.std.proofs.Common.{◌≡◌, ◌≢◌, ℕ, zero, suc, ◌⊎◌, ⊎_elim, inl, inr, ◌+◌, ◌<◌, ◌≤◌, All, List, [], ◌∷◌, ◌++◌, Bool, length, map, Option, None, Some, slice_get, sym, refl, ap, ◌∙◌, subst, arith, append_assoc, append-nil, take, set, get_or}
 use Rattle.std.specs.List.{enumerate_from}
-use Rattle.std.proofs.lemmas.List.{map-append, take_more_set, length-take-le, length-map}
+use Rattle.std.proofs.lemmas.List.{map-append, take_all, take_more_set, length-take-le, length-map}
 use Rattle.std.proofs.lemmas.List.Elements.{All-nil, All-push}
 use mathlib.Core.Logic.{dite}
 use native.Mathlib.Decide.{ℕ_discrete}
@@ -17,6 +17,7 @@ use Rattle.flash_table.specs.declared.broom_seat.BroomBlocks.{BroomBlocks}
 use Rattle.flash_table.specs.declared.broom_seat.BroomSeat.{BroomSeat}
 use Rattle.flash_table.specs.Flash.{IsBroomOf, broom_view, own_blocks, device}
 use Rattle.broom.specs.Survey.{loads_of, is_closed, closed_of}
+use Rattle.broom.specs.Surveying.{IsInRange, StatesLoaded}
 
 -- ---- numbered lists
 pub enumerate_more : {X : Type 0} (k n : ℕ) (xs : List X) (x : X) → length xs ≡ n → enumerate_from k (xs ++ x ∷ []) ≡ enumerate_from k xs ++ (k + n, x) ∷ []
@@ -76,12 +77,6 @@ loaded_changes v w b n h =
     (λ other. settle v.busy (v.stale ++ b ∷ []) (h.stale other))
     (drained_or_not h.state.phase)
 
--- a block's generation is below the endurance, and it has no more pages written than there are
-pub record IsInRange (z : Numbers) (p : PinWord) : Type 0 where
-  pub fits : FitsPin p
-  pub young : p.generation < z.endurance
-  pub within : p.written ≤ z.pages
-
 -- The states of all blocks below this one were loaded in order, and nothing else has changed
 pub record LoadedTo (f : Flash) (v : View) (x : BroomBlocks) (b : ℕ) (s : BroomSeat) (states : List PinWord) (closed : List Bool) : Type 0 where
   pub seat : IsBroomOf f s
@@ -117,4 +112,15 @@ loaded_more f v x b s t states closed p h low low' seat blocks range told =
       changed = loaded_changes (broom_view s) (broom_view t) b (pin_word p) told ∙ (λ i. record (h.changed i) { loaded = all i; busy = (broom_view t).busy; stale = (broom_view t).stale });
       ranges = subst (All (IsInRange (device f))) (sym now) (All-push (IsInRange (device f)) (take b states) p h.ranges range);
       marked = take_more_set closed b (is_closed p.phase) low' ∙ (ap (λ l. l ++ is_closed p.phase ∷ []) h.marked ∙ (sym (map-append (λ (y : PinWord). is_closed y.phase) (take b states) (p ∷ [])) ∙ ap closed_of (sym now)));
+    }
+
+pub loaded_all : (f : Flash) (v : View) (x : BroomBlocks) (b : ℕ) (s : BroomSeat) (states : List PinWord) (closed : List Bool)
+    → LoadedTo f v x b s states closed → length states ≡ b → length closed ≡ b → StatesLoaded (device f) v states closed (broom_view s)
+loaded_all f v x b s states closed h long long' =
+    let all : take b states ≡ states = take_all b states (omega arith) in
+    let marks : take b closed ≡ closed = take_all b closed (omega arith) in
+    record {
+      changed = h.changed ∙ (λ i. record v { loaded = v.loaded ++ loads_of (all i); busy = (broom_view s).busy; stale = (broom_view s).stale });
+      ranges = subst (All (IsInRange (device f))) all h.ranges;
+      marked = sym marks ∙ (h.marked ∙ ap closed_of all);
     }

@@ -2,3 +2,5 @@
 pub mod Survey
 pub mod Ready
 pub mod Told
+-- Internal: the parts of a drain.
+pub mod Surveying

@@ -4,6 +4,7 @@
 
 mod broom;
 mod draining;
+mod survey;
 
 pub use broom::Broom;
 pub use draining::Drain;
