@@ -2,5 +2,6 @@
 pub mod Survey
 pub mod Ready
 pub mod Told
+pub mod Ends
 -- Internal: the parts of a drain.
 pub mod Surveying

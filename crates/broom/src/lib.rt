@@ -4,7 +4,9 @@
 
 mod broom;
 mod draining;
+mod folding;
 mod survey;
 
 pub use broom::Broom;
 pub use draining::Drain;
+pub use folding::{Folded, fold};

@@ -44,7 +44,8 @@ ghost use Rattle.flash_table.specs.Owning.{AreApart-prop, OwnsJust, blocks_list}
 
 impl BroomSeat {
     ghost use Rattle.std.specs.Prelude.{None};
-    ghost use Rattle.flash_table.specs.Flash.{broom_view, own_blocks};
+    ghost use Rattle.flash_table.specs.declared.flash.Flash.{Flash};
+    ghost use Rattle.flash_table.specs.Flash.{IsBroomOf, broom_view, own_blocks};
 
     /// The blocks of the broom's own.
     pub fn blocks(&self) -> BroomBlocks
@@ -58,6 +59,7 @@ impl BroomSeat {
         requires { (own_blocks self.old).destination ≡ None }
         ensures blocks { own_blocks self.new ≡ record (own_blocks self.old) { destination = (own_blocks self.old).spare; spare = None } }
         ensures same { broom_view self.new ≡ broom_view self.old }
+        ensures broom { (f : Flash) → IsBroomOf f self.old → IsBroomOf f self.new }
     {
         self.blocks = BroomBlocks {
             destination: self.blocks.spare,

@@ -1,0 +1,48 @@
+//! The end of a broom.
+ghost use Rattle.std.specs.Prelude.{◌≡◌, ◌<◌, [], Some, None};
+ghost use Rattle.geometry.specs.Geometry.{blocks_of};
+ghost use Rattle.flash_table.specs.Flash.{IsBroomOf, broom_view, own_blocks, geometry_of};
+ghost use Rattle.flash_table.specs.declared.pass.OpenBlock.{OpenBlock};
+ghost use Rattle.broom.specs.Ready.{IsReady, IsFiled, view_of};
+ghost use Rattle.broom.specs.Ends.{folded_view};
+
+use crate::broom::Broom;
+use flash_table::{BroomSeat, Flash, RetiredBroom};
+
+/// The seat of a broom that makes no more steps. It may be dropped.
+#[derive(Drop)]
+pub struct Folded {
+    seat: RetiredBroom,
+}
+
+/// Gives a broom up. The block that it copies to, full or not, and its spare are closed.
+pub fn fold(flash: &Flash, broom: Broom) -> Folded
+    requires { IsReady flash.now broom }
+    ensures { folded_view result ≡ record (view_of broom) { owns = []; work = None } }
+{
+    let Broom {
+        seat,
+        states: _,
+        counts: _,
+        closed: _,
+    } = broom;
+    let mut seat = seat;
+    close_if_open(flash, &mut seat);
+    seat.use_spare();
+    close_if_open(flash, &mut seat);
+    Folded { seat: seat.leave() }
+}
+
+// Closes the destination, if there is one.
+fn close_if_open(flash: &Flash, seat: &mut BroomSeat)
+    requires seat { IsBroomOf flash.now seat.old }
+    requires filed { IsFiled (broom_view seat.old) (own_blocks seat.old) }
+    requires block { (o : OpenBlock) → (own_blocks seat.old).destination ≡ Some o → o.block < blocks_of (geometry_of flash.now) }
+    ensures told { broom_view seat.new ≡ record (broom_view seat.old) { owns = (broom_view seat.new).owns; work = None } }
+    ensures blocks { own_blocks seat.new ≡ record (own_blocks seat.old) { destination = None } }
+    ensures seat { IsBroomOf flash.now seat.new }
+{
+    if seat.blocks().destination.is_some() {
+        flash.close_destination(seat);
+    }
+}
