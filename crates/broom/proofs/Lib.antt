@@ -1,3 +1,4 @@
+pub mod Leaving
 pub mod Loading
 pub mod Counting
-pub mod Leaving
+pub mod Choosing
