@@ -3,7 +3,8 @@ ghost use Rattle.std.specs.Prelude.{◌≡◌, ◌<◌, [], Some, None};
 ghost use Rattle.geometry.specs.Geometry.{blocks_of};
 ghost use Rattle.flash_table.specs.Flash.{IsBroomOf, broom_view, own_blocks, geometry_of};
 ghost use Rattle.flash_table.specs.declared.pass.OpenBlock.{OpenBlock};
-ghost use Rattle.broom.specs.Ready.{IsReady, IsFiled, view_of};
+ghost use Rattle.flash_table.specs.Leaving.{retired_broom_view};
+ghost use Rattle.broom.specs.Ready.{IsReady, IsRested, IsFiled, view_of};
 ghost use Rattle.broom.specs.Ends.{folded_view};
 
 use crate::broom::Broom;
@@ -26,11 +27,21 @@ pub fn fold(flash: &Flash, broom: Broom) -> Folded
         counts: _,
         closed: _,
     } = broom;
+    Folded {
+        seat: fold_seat(flash, seat),
+    }
+}
+
+/// Gives up the seat of a broom that could not be made, for want of memory.
+pub fn fold_seat(flash: &Flash, seat: BroomSeat) -> RetiredBroom
+    requires { IsRested flash.now seat }
+    ensures { retired_broom_view result ≡ record (broom_view seat) { owns = []; work = None } }
+{
     let mut seat = seat;
     close_if_open(flash, &mut seat);
     seat.use_spare();
     close_if_open(flash, &mut seat);
-    Folded { seat: seat.leave() }
+    seat.leave()
 }
 
 // Closes the destination, if there is one.

@@ -9,4 +9,4 @@ mod survey;
 
 pub use broom::Broom;
 pub use draining::Drain;
-pub use folding::{Folded, fold};
+pub use folding::{Folded, fold, fold_seat};
