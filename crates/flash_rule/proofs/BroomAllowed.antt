@@ -19,7 +19,7 @@ use Rattle.flash_rule.specs.declared.view.View.{View}
 use Rattle.flash_rule.specs.Views.{is_player, owned_at}
 use Rattle.flash_rule.specs.World.{World, Fits, sector_word, blank_word}
 use Rattle.flash_rule.specs.Rule.{Lawful}
-use Rattle.flash_rule.specs.Seats.{Ruled, Whole}
+use Rattle.flash_rule.specs.Seats.{Ruled}
 use Rattle.flash_rule.specs.Plays.{Sitter, CanPut, CanCount, CanClose, words_in, next_page, put_told, count_told, close_told}
 use Rattle.flash_rule.specs.BroomPlays.{Named, CanGetStamp, GotStamp, CanMove, Moved, CanWipe, wiper, broom_look_told, stamp_told, source_told, move_told, wipe_told}
 use Rattle.flash_rule.proofs.Owning.{some_same}
@@ -28,29 +28,28 @@ use Rattle.flash_rule.proofs.OwnSteps.{player_of}
 use Rattle.flash_rule.proofs.BroomSteps.{looks, stamp_low, gets_stamp, gets_source, source_low, names_source}
 use Rattle.flash_rule.proofs.Moving.{mover, exchanged_world, stays, moves_page, move_told_here}
 use Rattle.flash_rule.proofs.Wiping.{row_of, wiped_index, wipe_world, wipes_word, erased_low}
-use Rattle.flash_rule.proofs.Parts.{whole_kept}
 use Rattle.flash_rule.proofs.Steps.{put_allowed, count_allowed, close_allowed}
 
 module _ (z : Numbers) (slots id : ℕ) (me : Sitter) where
   -- ---- look
   -- a broom looks at a sector
-  pub broom_look_allowed : (s : ℕ) → is_player me.0.role ≡ true → s < z.sectors → Allows (Ruled Whole z) slots id me s (λ n. n) (broom_look_told (step slots s 0 0 none) me)
-  broom_look_allowed s player low t (g, fits, law, stage) _ at _ =
+  pub broom_look_allowed : (s : ℕ) → is_player me.0.role ≡ true → s < z.sectors → Allows (Ruled z) slots id me s (λ n. n) (broom_look_told (step slots s 0 0 none) me)
+  broom_look_allowed s player low t (g, fits, law) _ at _ =
       let name = player_of me.0.role player in
       let h = looks z g t.views id me.0 name.0 law at name.1 s low in
       let found : get_or t.words s 0 ≡ sector_word (g.map s) = fits.sectors s low in (
         h.0,
         keeps,
         tt,
-        (g, fits_load z g.map g.pins g.pages t.words fits s (omega arith), h.1, stage),
+        (g, fits_load z g.map g.pins g.pages t.words fits s (omega arith), h.1),
         (refl, subst (λ n. Named me.0 s n h.0) (sym found) h.2),
       )
 
   -- ---- get
   -- a broom reads the stamp of its victim's next page
   pub stamp_allowed : (o : Owned) → is_player me.0.role ≡ true → me.0.numbers ≡ z → CanGetStamp me.0 o
-      → Allows (Ruled Whole z) slots id me (page_index z o.block me.0.cleared + z.words) (λ n. n) (stamp_told (step slots (page_index z o.block me.0.cleared + z.words) 0 0 none) me)
-  stamp_allowed o player numbers can t (g, fits, law, stage) _ at _ =
+      → Allows (Ruled z) slots id me (page_index z o.block me.0.cleared + z.words) (λ n. n) (stamp_told (step slots (page_index z o.block me.0.cleared + z.words) 0 0 none) me)
+  stamp_allowed o player numbers can t (g, fits, law) _ at _ =
       let name = player_of me.0.role player in
       let low = stamp_low z g t.views id me.0 name.0 law at name.1 o can in
       let k : ℕ = page_index z o.block me.0.cleared + z.words in
@@ -60,7 +59,7 @@ module _ (z : Numbers) (slots id : ℕ) (me : Sitter) where
         h.0,
         keeps,
         tt,
-        (g, fits_load z g.map g.pins g.pages t.words fits k (page_within z o.block me.0.cleared z.words low.0 low.1 (omega arith)), h.1, stage),
+        (g, fits_load z g.map g.pins g.pages t.words fits k (page_within z o.block me.0.cleared z.words low.0 low.1 (omega arith)), h.1),
         (
           refl,
           λ o' can' is.
@@ -74,8 +73,8 @@ module _ (z : Numbers) (slots id : ℕ) (me : Sitter) where
 
   -- a broom reads a word of its source
   pub source_allowed : (x : Source) (i : ℕ) → is_player me.0.role ≡ true → me.0.numbers ≡ z → me.0.source ≡ Some x → i < z.words
-      → Allows (Ruled Whole z) slots id me (page_index z x.page.block x.page.page + i) (λ n. n) (source_told (step slots (page_index z x.page.block x.page.page + i) 0 0 none) me)
-  source_allowed x i player numbers is low t (g, fits, law, stage) _ at _ =
+      → Allows (Ruled z) slots id me (page_index z x.page.block x.page.page + i) (λ n. n) (source_told (step slots (page_index z x.page.block x.page.page + i) 0 0 none) me)
+  source_allowed x i player numbers is low t (g, fits, law) _ at _ =
       let name = player_of me.0.role player in
       let b : ℕ = x.page.block in
       let p : ℕ = x.page.page in
@@ -85,7 +84,7 @@ module _ (z : Numbers) (slots id : ℕ) (me : Sitter) where
         me.0,
         keeps,
         tt,
-        (g, fits_load z g.map g.pins g.pages t.words fits k (page_within z b p i in_table.0 in_table.1 (omega arith)), subst (λ vs. Lawful z g vs) (sym (set_again t.views id me.0 at)) law, stage),
+        (g, fits_load z g.map g.pins g.pages t.words fits k (page_within z b p i in_table.0 in_table.1 (omega arith)), subst (λ vs. Lawful z g vs) (sym (set_again t.views id me.0 at)) law),
         (
           refl,
           λ x' value j is' live low' here.
@@ -100,8 +99,8 @@ module _ (z : Numbers) (slots id : ℕ) (me : Sitter) where
   -- ---- move
   -- a broom exchanges the map word of its source's sector
   pub move_allowed : (x : Source) (copy : MapWord) → is_player me.0.role ≡ true → CanMove me.0 x copy → x.stamp < z.sectors
-      → Allows (Ruled Whole z) slots id me x.stamp (λ n. either (n == map_word x.page) (map_word copy) n) (move_told (step slots x.stamp (map_word x.page) (map_word copy) none) me)
-  move_allowed x copy player can low t (g, fits, law, stage) _ at _ =
+      → Allows (Ruled z) slots id me x.stamp (λ n. either (n == map_word x.page) (map_word copy) n) (move_told (step slots x.stamp (map_word x.page) (map_word copy) none) me)
+  move_allowed x copy player can low t (g, fits, law) _ at _ =
       let name = player_of me.0.role player in
       let s : ℕ = x.stamp in
       let n : ℕ = get_or t.words s 0 in
@@ -117,7 +116,7 @@ module _ (z : Numbers) (slots id : ℕ) (me : Sitter) where
       let w : View = mover z g t.views id me.0 name.0 law at name.1 x copy can low (me.0.moves + 1) in
       let after : World = exchanged_world z g t.views id me.0 name.0 law at name.1 x copy can low in
       let now : f n ≡ map_word copy = ap (λ b. either b (map_word copy) n) (eq-eqb n (map_word x.page) its) in
-      let answer : (w : View) × (a : Act (Unit {0})) × Valid t.homes me.1 a × Ruled Whole z (stepped t s (f n) id me.1 w a) × move_told (step slots s (map_word x.page) (map_word copy) none) me n (w, carried_after me.1 a) = (
+      let answer : (w : View) × (a : Act (Unit {0})) × Valid t.homes me.1 a × Ruled z (stepped t s (f n) id me.1 w a) × move_told (step slots s (map_word x.page) (map_word copy) none) me n (w, carried_after me.1 a) = (
         w,
         keeps,
         tt,
@@ -125,7 +124,6 @@ module _ (z : Numbers) (slots id : ℕ) (me : Sitter) where
           after,
           subst (λ y. Fits z after.map g.pins g.pages (set t.words s y)) (sym now) (fits_map z g.map g.pins g.pages t.words fits s (Some copy) low),
           moves_page z g t.views id me.0 name.0 law at name.1 x copy can low named,
-          tt,
         ),
         told w (move_told_here z g t.views id me.0 name.0 law at name.1 x copy can low named n its),
       ) in answer)
@@ -133,19 +131,19 @@ module _ (z : Numbers) (slots id : ℕ) (me : Sitter) where
       let h = stays z g t.views id me.0 name.0 law at name.1 x copy can low n found other in
       let w : View = mover z g t.views id me.0 name.0 law at name.1 x copy can low me.0.moves in
       let now : f n ≡ n = ap (λ b. either b (map_word copy) n) (ne_eqb n (map_word x.page) other) in
-      let answer : (w : View) × (a : Act (Unit {0})) × Valid t.homes me.1 a × Ruled Whole z (stepped t s (f n) id me.1 w a) × move_told (step slots s (map_word x.page) (map_word copy) none) me n (w, carried_after me.1 a) = (
+      let answer : (w : View) × (a : Act (Unit {0})) × Valid t.homes me.1 a × Ruled z (stepped t s (f n) id me.1 w a) × move_told (step slots s (map_word x.page) (map_word copy) none) me n (w, carried_after me.1 a) = (
         w,
         keeps,
         tt,
-        (g, subst (λ y. Fits z g.map g.pins g.pages (set t.words s y)) (sym now) (fits_load z g.map g.pins g.pages t.words fits s (omega arith)), h.0, stage),
+        (g, subst (λ y. Fits z g.map g.pins g.pages (set t.words s y)) (sym now) (fits_load z g.map g.pins g.pages t.words fits s (omega arith)), h.0),
         told w h.1,
       ) in answer)
 
   -- ---- wipe
   -- a broom sets the next word of its erasing block to all ones
   pub wipe_allowed : (o : Owned) → is_player me.0.role ≡ true → me.0.numbers ≡ z → CanWipe me.0 o
-      → Allows (Ruled Whole z) slots id me (page_index z o.block 0 + me.0.wiped) (λ _. blank_word) (λ _. wipe_told (step slots (page_index z o.block 0 + me.0.wiped) blank_word 0 none) me blank_word)
-  wipe_allowed o player numbers can t (g, fits, law, stage) _ at _ =
+      → Allows (Ruled z) slots id me (page_index z o.block 0 + me.0.wiped) (λ _. blank_word) (λ _. wipe_told (step slots (page_index z o.block 0 + me.0.wiped) blank_word 0 none) me blank_word)
+  wipe_allowed o player numbers can t (g, fits, law) _ at _ =
       let name = player_of me.0.role player in
       let room : me.0.wiped < z.pages * (z.words + 1) = subst (λ (y : Numbers). me.0.wiped < y.pages * (y.words + 1)) numbers can.room in
       let place = row_of z.pages (z.words + 1) me.0.wiped room in
@@ -166,21 +164,20 @@ module _ (z : Numbers) (slots id : ℕ) (me : Sitter) where
           subst (λ k. Fits z g.map g.pins after.pages (set t.words k blank_word)) (sym here)
               (fits_page z g.map g.pins g.pages t.words fits o.block p i blank_word (erased_low z g t.views id me.0 name.0 o p i law at name.1 can.erasing page word next) page word),
           wipes_word z g t.views id me.0 name.0 o p i law at name.1 can.erasing page word next,
-          tt,
         ),
         (refl, λ _ _ _ _. refl),
       )
 
   -- ---- an open block of its own, which a broom fills, counts and closes just as a pass does
   pub broom_put_allowed : (o : Owned) (x : ℕ) → is_player me.0.role ≡ true → me.0.numbers ≡ z → CanPut me.0 o
-      → Allows (Ruled Whole z) slots id me (page_index z o.block (next_page o).page + length (words_in me.0.work o)) (λ _. x)
+      → Allows (Ruled z) slots id me (page_index z o.block (next_page o).page + length (words_in me.0.work o)) (λ _. x)
       (λ _. put_told (step slots (page_index z o.block (next_page o).page + length (words_in me.0.work o)) x 0 none) me x)
-  broom_put_allowed = put_allowed Whole z (whole_kept z) slots id me
+  broom_put_allowed = put_allowed z slots id me
 
   pub broom_count_allowed : (o : Owned) (x : Work) → is_player me.0.role ≡ true → me.0.numbers ≡ z → CanCount me.0 o x
-      → Allows (Ruled Whole z) slots id me (pin_index z o.block) (λ n. (n + PAGE_WRITTEN) % 2 ^ 64) (count_told (step slots (pin_index z o.block) PAGE_WRITTEN 0 none) me)
-  broom_count_allowed = count_allowed Whole z (whole_kept z) slots id me
+      → Allows (Ruled z) slots id me (pin_index z o.block) (λ n. (n + PAGE_WRITTEN) % 2 ^ 64) (count_told (step slots (pin_index z o.block) PAGE_WRITTEN 0 none) me)
+  broom_count_allowed = count_allowed z slots id me
 
   pub broom_close_allowed : (o : Owned) → is_player me.0.role ≡ true → me.0.numbers ≡ z → CanClose me.0 o
-      → Allows (Ruled Whole z) slots id me (pin_index z o.block) (λ n. (n + NEXT_PHASE) % 2 ^ 64) (close_told (step slots (pin_index z o.block) NEXT_PHASE 0 none) me)
-  broom_close_allowed = close_allowed Whole z (whole_kept z) slots id me
+      → Allows (Ruled z) slots id me (pin_index z o.block) (λ n. (n + NEXT_PHASE) % 2 ^ 64) (close_told (step slots (pin_index z o.block) NEXT_PHASE 0 none) me)
+  broom_close_allowed = close_allowed z slots id me

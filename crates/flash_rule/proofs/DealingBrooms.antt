@@ -21,7 +21,6 @@ use Rattle.flash_rule.proofs.Points.{put_here, put_else, eq_self}
 use Rattle.flash_rule.proofs.Owning.{some_same, none_some, with_here, with_else, without_here, without_else, owned_else, one_with_open, one_without}
 use Rattle.flash_rule.proofs.Frames.{counted, knowledge_kept}
 use Rattle.flash_rule.proofs.Assembly.{owner_kept}
-use Rattle.flash_rule.proofs.Parts.{PartKept}
 use Rattle.flash_rule.proofs.Still.{pin_stays}
 use Rattle.flash_rule.proofs.Splitting.{Owner, split_with, current_kept, name_here, name_else, player_same, nothing}
 
@@ -42,10 +41,10 @@ fresh_broom g i high (Broom j) low e = let same : j ≡ i = broom_same j i e in 
   broom_same : (j i : ℕ) → Broom j ≡ Broom i → j ≡ i
   broom_same j i e = cc
 
-module _ (part : Numbers → World → Type 0) (z : Numbers) (kept : PartKept part z) (id : ℕ) (v : View) where
+module _ (z : Numbers) (id : ℕ) (v : View) where
   -- DEAL
-  pub deals_broom : v.role ≡ Dealer → owned_at (next_spare v) v.owns ≡ Some (spare (next_spare v)) → Splits (Ruled part z) id v (dealt_broom v) (new_broom v)
-  deals_broom role has s (g, fits, law, stage) at =
+  pub deals_broom : v.role ≡ Dealer → owned_at (next_spare v) v.owns ≡ Some (spare (next_spare v)) → Splits (Ruled z) id v (dealt_broom v) (new_broom v)
+  deals_broom role has s (g, fits, law) at =
       let vs = s.views in
       let h = law.views id v at in
       let kind = h.kind in
@@ -167,7 +166,6 @@ module _ (part : Numbers → World → Type 0) (z : Numbers) (kept : PartKept pa
         fits,
         split_with z g g' vs id v (dealt_broom v) (new_broom v) law at refl refl on refl own added (λ c. refl) refl owners weighs (omega arith) law.dealt
             (λ s low. current_kept z g g' s refl refl refl refl (law.sectors s low)),
-        kept.same g g' (λ c. refl) stage,
       )
     where
       dealt_more : (g g' : World) → g'.passes ≡ g.passes → g.brooms ≤ g'.brooms → (m : Name) → IsDealt g m → IsDealt g' m

@@ -11,7 +11,6 @@ pub mod PageSteps
 pub mod MapSteps
 pub mod Calls
 pub mod Opening
-pub mod Parts
 pub mod Splitting
 pub mod DealingBrooms
 pub mod Notes

@@ -27,7 +27,6 @@ use Rattle.flash_rule.proofs.Points.{total_set}
 use Rattle.flash_rule.proofs.Owning.{some_same, none_some}
 use Rattle.flash_rule.proofs.Frames.{counted, others, knowledge_kept, copy_kept}
 use Rattle.flash_rule.proofs.Assembly.{owner_kept}
-use Rattle.flash_rule.proofs.Parts.{PartKept}
 use Rattle.flash_rule.proofs.Still.{pin_stays}
 use Rattle.flash_rule.proofs.Splitting.{split, current_kept, name_here, name_else, player_same}
 
@@ -108,10 +107,10 @@ note_lawful z g seat v owner n numbers role knows here dealt =
 player_live : (r : Role) (n : Name) → r ≡ Player n → is_live_role r ≡ true
 player_live r n is = ap is_live_role is
 
-module _ (part : Numbers → World → Type 0) (z : Numbers) (kept : PartKept part z) (id : ℕ) (v : View) (n : Name) (role : v.role ≡ Player n) where
+module _ (z : Numbers) (id : ℕ) (v : View) (n : Name) (role : v.role ≡ Player n) where
   -- LEND
-  pub lends : v.whole ≡ true → v.guest ≡ None → Splits (Ruled part z) id v (lender v) (lent_note v)
-  lends whole alone s (g, fits, law, stage) at =
+  pub lends : v.whole ≡ true → v.guest ≡ None → Splits (Ruled z) id v (lender v) (lent_note v)
+  lends whole alone s (g, fits, law) at =
       let vs = s.views in
       let h = law.views id v at in
       let kind = h.kind in
@@ -143,12 +142,11 @@ module _ (part : Numbers → World → Type 0) (z : Numbers) (kept : PartKept pa
         g',
         fits,
         split z g g' vs id v (lender v) (lent_note v) law at refl refl refl on refl own added (λ b. refl) refl refl (omega arith) (omega arith) law.dealt (λ s low. current_kept z g g' s refl refl refl refl (law.sectors s low)),
-        kept.same g g' (λ b. refl) stage,
       )
 
   -- GIVE BACK
-  pub gives : (m : Name) → v.guest ≡ Some m → ¬ (v.role ≡ Player m) → Splits (Ruled part z) id v (giver v) (given_note v)
-  gives m guest apart s (g, fits, law, stage) at =
+  pub gives : (m : Name) → v.guest ≡ Some m → ¬ (v.role ≡ Player m) → Splits (Ruled z) id v (giver v) (given_note v)
+  gives m guest apart s (g, fits, law) at =
       let vs = s.views in
       let h = law.views id v at in
       let kind = h.kind in
@@ -179,7 +177,6 @@ module _ (part : Numbers → World → Type 0) (z : Numbers) (kept : PartKept pa
         g',
         fits,
         split z g g' vs id v (giver v) (given_note v) law at refl refl refl on refl own added (λ b. refl) refl refl (omega arith) (omega arith) law.dealt (λ s low. current_kept z g g' s refl refl refl refl (law.sectors s low)),
-        kept.same g g' (λ b. refl) stage,
       )
 
 -- a badge put where it is said to be
@@ -258,10 +255,10 @@ module _ (z : Numbers) (g : World) (vs : List View) (id other : ℕ) (v w u : Vi
         dealt = law.dealt;
       }
 
-module _ (part : Numbers → World → Type 0) (z : Numbers) (kept : PartKept part z) (id other : ℕ) (v w : View) (n m : Name) (c : Carried) (role : v.role ≡ Player n) (note : w.role ≡ Note) (guest : w.guest ≡ Some m) (copy : w.copy ≡ Some c) where
+module _ (z : Numbers) (id other : ℕ) (v w : View) (n m : Name) (c : Carried) (role : v.role ≡ Player n) (note : w.role ≡ Note) (guest : w.guest ≡ Some m) (copy : w.copy ≡ Some c) where
   -- TAKE IN
-  pub takes_in : v.whole ≡ true → c.of ≡ m → Joins (Ruled part z) id v other w (host_of v w) gone
-  takes_in whole of_is s (g, fits, law, stage) at apart there =
+  pub takes_in : v.whole ≡ true → c.of ≡ m → Joins (Ruled z) id v other w (host_of v w) gone
+  takes_in whole of_is s (g, fits, law) at apart there =
       let vs = s.views in
       let there' : get_elem? vs other ≡ some w = sym (set_else vs id other (host_of v w) apart) ∙ there in
       let h = law.views id v at in
@@ -303,11 +300,11 @@ module _ (part : Numbers → World → Type 0) (z : Numbers) (kept : PartKept pa
           dealer = λ is. let e : Player n ≡ Dealer = sym role ∙ is in absurd (cc);
         };
       } in
-      (g', fits, join z g vs id other v w (host_of v w) m law at apart there' note (inr was.0) own (λ b. refl) refl refl, kept.same g g' (λ b. refl) stage)
+      (g', fits, join z g vs id other v w (host_of v w) m law at apart there' note (inr was.0) own (λ b. refl) refl refl)
 
   -- COME HOME
-  pub comes_home : m ≡ n → ¬ (v.role ≡ Player c.of) → Joins (Ruled part z) id v other w (home v w) gone
-  comes_home mine unlike s (g, fits, law, stage) at apart there =
+  pub comes_home : m ≡ n → ¬ (v.role ≡ Player c.of) → Joins (Ruled z) id v other w (home v w) gone
+  comes_home mine unlike s (g, fits, law) at apart there =
       let vs = s.views in
       let there' : get_elem? vs other ≡ some w = sym (set_else vs id other (home v w) apart) ∙ there in
       let h = law.views id v at in
@@ -346,4 +343,4 @@ module _ (part : Numbers → World → Type 0) (z : Numbers) (kept : PartKept pa
           dealer = λ is. let e : Player n ≡ Dealer = sym role ∙ is in absurd (cc);
         };
       } in
-      (g', fits, join z g vs id other v w (home v w) m law at apart there' note (inr was.0) own (λ b. refl) refl refl, kept.same g g' (λ b. refl) stage)
+      (g', fits, join z g vs id other v w (home v w) m law at apart there' note (inr was.0) own (λ b. refl) refl refl)

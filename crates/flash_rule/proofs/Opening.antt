@@ -20,7 +20,7 @@ use Rattle.flash_rule.specs.declared.view.View.{View}
 use Rattle.flash_rule.specs.Views.{owned_at, caller}
 use Rattle.flash_rule.specs.World.{World, Fits, is_owned, is_reclaimed, blank_word}
 use Rattle.flash_rule.specs.Rule.{LawfulBlock, LawfulOwned, LawfulView, Lawful}
-use Rattle.flash_rule.specs.Seats.{Ruled, Whole, spare, spares, dealer, opening_words}
+use Rattle.flash_rule.specs.Seats.{Ruled, spare, spares, dealer, opening_words}
 use Rattle.flash_rule.proofs.Owning.{none_some, some_same}
 use Rattle.flash_rule.proofs.Places.{row_within}
 use Rattle.std.proofs.lemmas.Bool.Decides.{nat_tests}
@@ -204,5 +204,5 @@ module _ (z : Numbers) (limits : IsWithinLimits z) where
       only (suc id) v is = absurd (some-ne-none v (sym is))
 
   -- the table of these words, with the dealer's seat alone, meets the rule
-  pub opening_ruled : Ruled Whole z (opening (opening_words z) [] (dealer z))
-  opening_ruled = (opening_world, opening_fits, opening_lawful, tt)
+  pub opening_ruled : Ruled z (opening (opening_words z) [] (dealer z))
+  opening_ruled = (opening_world, opening_fits, opening_lawful)

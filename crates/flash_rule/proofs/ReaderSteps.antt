@@ -30,7 +30,6 @@ use Rattle.geometry.proofs.PinBits.{adds, takes_off, reads}
 use Rattle.flash_rule.proofs.Places.{fits_pin}
 use Rattle.flash_rule.proofs.Frames.{counted, knowledge_kept}
 use Rattle.flash_rule.proofs.Assembly.{owner_kept, state_fits}
-use Rattle.flash_rule.proofs.Parts.{PartKept}
 use Rattle.flash_rule.proofs.PinSteps.{moved, pin_moves, pin_moved}
 use Rattle.flash_rule.proofs.Still.{sum_set, sum_below, age_low, pass_numbers}
 
@@ -156,11 +155,11 @@ on_else (Candidate m value) b j on unlike = absurd on
 on_else (Accepted m value) b j on unlike = ne_eqb m.block j (λ e. unlike (sym e ∙ on))
 on_else (Stray c) b j on unlike = ne_eqb c j (λ e. unlike (sym e ∙ on))
 
-module _ (part : Numbers → World → Type 0) (z : Numbers) (kept : PartKept part z) (slots id : ℕ) (me : Sitter) where
+module _ (z : Numbers) (slots id : ℕ) (me : Sitter) where
   -- a pass adds a reader to its candidate's block
   pub pin_allowed : (m : MapWord) (value : List ℕ) → is_pass me.0.role ≡ true → me.0.pin ≡ Candidate m value → m.block < z.blocks
-      → Allows (Ruled part z) slots id me (pin_index z m.block) (λ n. (n + READER) % 2 ^ 64) (pin_told (step slots (pin_index z m.block) READER 0 none) me)
-  pin_allowed m value pass is low t (g, fits, law, stage) _ at _ =
+      → Allows (Ruled z) slots id me (pin_index z m.block) (λ n. (n + READER) % 2 ^ 64) (pin_told (step slots (pin_index z m.block) READER 0 none) me)
+  pin_allowed m value pass is low t (g, fits, law) _ at _ =
       let b : ℕ = m.block in
       let v : View = me.0 in
       let p : PinWord = g.pins b in
@@ -186,7 +185,7 @@ module _ (part : Numbers → World → Type 0) (z : Numbers) (kept : PartKept pa
       let fits_q : FitsPin q = subst FitsPin (put_here g.pins b q) (state_fits z after (set t.views id w) lawful b low) in
       ap (λ (y : ℕ). (y + READER) % 2 ^ 64) found ∙ adds p q READER fits_q (reads p) in
       let answer : (w : View) → Lawful z (moved g b q (g.owner b) g.programmer) (set t.views id w) → Pinned v m value n w
-      → (w : View) × (a : Act (Unit {0})) × Valid t.homes me.1 a × Ruled part z (stepped t k ((n + READER) % 2 ^ 64) id me.1 w a) × pin_told (step slots k READER 0 none) me n (w, carried_after me.1 a) = λ w lawful told. (
+      → (w : View) × (a : Act (Unit {0})) × Valid t.homes me.1 a × Ruled z (stepped t k ((n + READER) % 2 ^ 64) id me.1 w a) × pin_told (step slots k READER 0 none) me n (w, carried_after me.1 a) = λ w lawful told. (
         w,
         keeps,
         tt,
@@ -194,7 +193,6 @@ module _ (part : Numbers → World → Type 0) (z : Numbers) (kept : PartKept pa
           moved g b q (g.owner b) g.programmer,
           subst (λ y. Fits z g.map (put g.pins b q) g.pages (set t.words k y)) (sym (word w lawful)) (fits_pin z g.map g.pins g.pages t.words fits b q low),
           lawful,
-          kept.pin g b q (g.owner b) g.programmer low (inr refl) refl stage,
         ),
         (
           refl,
@@ -246,8 +244,8 @@ module _ (part : Numbers → World → Type 0) (z : Numbers) (kept : PartKept pa
 
   -- a pass takes its reader off a block
   pub unpin_allowed : (b : ℕ) → is_pass me.0.role ≡ true → IsOn me.0.pin b → b < z.blocks → me.0.numbers ≡ z
-      → Allows (Ruled part z) slots id me (pin_index z b) (λ n. (n + (2 ^ 64 - READER)) % 2 ^ 64) (unpin_told (step slots (pin_index z b) READER 0 none) me)
-  unpin_allowed b pass on low numbers t (g, fits, law, stage) _ at _ =
+      → Allows (Ruled z) slots id me (pin_index z b) (λ n. (n + (2 ^ 64 - READER)) % 2 ^ 64) (unpin_told (step slots (pin_index z b) READER 0 none) me)
+  unpin_allowed b pass on low numbers t (g, fits, law) _ at _ =
       let v : View = me.0 in
       let p : PinWord = g.pins b in
       let k : ℕ = pin_index z b in
@@ -271,7 +269,6 @@ module _ (part : Numbers → World → Type 0) (z : Numbers) (kept : PartKept pa
           moved g b q (g.owner b) g.programmer,
           subst (λ y. Fits z g.map (put g.pins b q) g.pages (set t.words k y)) (sym now) (fits_pin z g.map g.pins g.pages t.words fits b q low),
           lawful,
-          kept.pin g b q (g.owner b) g.programmer low (inr refl) refl stage,
         ),
         (refl, λ c _ _. refl),
       )

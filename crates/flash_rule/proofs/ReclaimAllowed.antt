@@ -23,7 +23,7 @@ use Rattle.flash_rule.specs.declared.view.View.{View}
 use Rattle.flash_rule.specs.Views.{is_broom, owned_at, without, with_owned}
 use Rattle.flash_rule.specs.World.{World, Fits, put, is_owned}
 use Rattle.flash_rule.specs.Rule.{Lawful}
-use Rattle.flash_rule.specs.Seats.{Ruled, Whole}
+use Rattle.flash_rule.specs.Seats.{Ruled}
 use Rattle.flash_rule.specs.Plays.{Sitter}
 use Rattle.flash_rule.specs.BroomPlays.{Loaded, CanClaim, Claimed, CanCondemn, Condemned, CanDrain, CanRenew, CanRetire, owned_as, cycle_of, state_told, claim_told, condemn_told, drain_told, freed_told, kept_told, retired_told}
 use Rattle.flash_rule.proofs.Points.{put_here}
@@ -64,17 +64,16 @@ module _ (z : Numbers) (id : ℕ) (me : Sitter) (t : State (Unit {0}) View) (g :
 
   -- it becomes that of another state
   ruled_as : (q : PinWord) (eraser : ℕ → ℕ → Option (Name × ℕ)) (w : View) (new : ℕ) → new ≡ pin_word q → Lawful z (turned g b q id g.programmer eraser) (set t.views id w)
-      → Ruled Whole z (stepped t (pin_index z b) new id me.1 w keeps)
+      → Ruled z (stepped t (pin_index z b) new id me.1 w keeps)
   ruled_as q eraser w new is lawful = (
     turned g b q id g.programmer eraser,
     subst (λ y. Fits z g.map (put g.pins b q) g.pages (set t.words (pin_index z b) y)) (sym is) (fits_pin z g.map g.pins g.pages t.words fits b q low),
     lawful,
-    tt,
   )
 
   -- an addition doesn't wrap
   ruled_plus : (q : PinWord) (w : View) (added : ℕ) → pin_word (g.pins b) + added ≡ pin_word q → Lawful z (turned g b q id g.programmer g.eraser) (set t.views id w)
-      → Ruled Whole z (stepped t (pin_index z b) ((word_of + added) % 2 ^ 64) id me.1 w keeps)
+      → Ruled z (stepped t (pin_index z b) ((word_of + added) % 2 ^ 64) id me.1 w keeps)
   ruled_plus q w added sum lawful =
       let after : World = turned g b q id g.programmer g.eraser in
       let fitting : FitsPin q = subst FitsPin (put_here g.pins b q) (state_fits z after (set t.views id w) lawful b low) in
@@ -82,12 +81,11 @@ module _ (z : Numbers) (id : ℕ) (me : Sitter) (t : State (Unit {0}) View) (g :
       ruled_as q g.eraser w ((word_of + added) % 2 ^ 64) (ap (λ (y : ℕ). (y + added) % 2 ^ 64) found ∙ bits.adds (g.pins b) q added fitting sum) lawful
 
   -- it stays
-  ruled_still : (w : View) (new : ℕ) → new ≡ word_of → Lawful z g (set t.views id w) → Ruled Whole z (stepped t (pin_index z b) new id me.1 w keeps)
+  ruled_still : (w : View) (new : ℕ) → new ≡ word_of → Lawful z g (set t.views id w) → Ruled z (stepped t (pin_index z b) new id me.1 w keeps)
   ruled_still w new is lawful = (
     g,
     subst (λ y. Fits z g.map g.pins g.pages (set t.words (pin_index z b) y)) (sym is) (fits_load z g.map g.pins g.pages t.words fits (pin_index z b) (pin_within z b low)),
     lawful,
-    tt,
   )
 
 module _ (z : Numbers) (slots id : ℕ) (me : Sitter) where
@@ -102,8 +100,8 @@ module _ (z : Numbers) (slots id : ℕ) (me : Sitter) where
 
   -- ---- state
   -- a broom loads the state of a block
-  pub state_allowed : (b : ℕ) → is_broom me.0.role ≡ true → b < z.blocks → Allows (Ruled Whole z) slots id me (pin_index z b) (λ n. n) (state_told (step slots (pin_index z b) 0 0 none) me)
-  state_allowed b broom low t (g, fits, law, stage) _ at _ =
+  pub state_allowed : (b : ℕ) → is_broom me.0.role ≡ true → b < z.blocks → Allows (Ruled z) slots id me (pin_index z b) (λ n. n) (state_told (step slots (pin_index z b) 0 0 none) me)
+  state_allowed b broom low t (g, fits, law) _ at _ =
       let v : View = me.0 in
       let p : PinWord = g.pins b in
       let k : ℕ = pin_index z b in
@@ -115,7 +113,7 @@ module _ (z : Numbers) (slots id : ℕ) (me : Sitter) where
       let within : p.written ≤ v.numbers.pages = let r = (law.blocks b low).written in let e : v.numbers.pages ≡ z.pages = ap (λ (y : Numbers). y.pages) numbers in omega arith in
       let noted : List (ℕ × ℕ) = v.loaded ++ (b, n) ∷ [] in
       let answer : (w : View) → Lawful z g (set t.views id w) → Loaded v b n w
-      → (w : View) × (a : Act (Unit {0})) × Valid t.homes me.1 a × Ruled Whole z (stepped t k n id me.1 w a) × state_told (step slots k 0 0 none) me n (w, carried_after me.1 a) = λ w lawful told. (
+      → (w : View) × (a : Act (Unit {0})) × Valid t.homes me.1 a × Ruled z (stepped t k n id me.1 w a) × state_told (step slots k 0 0 none) me n (w, carried_after me.1 a) = λ w lawful told. (
         w,
         keeps,
         tt,
@@ -135,8 +133,8 @@ module _ (z : Numbers) (slots id : ℕ) (me : Sitter) where
   -- ---- claim
   -- a broom exchanges a closed block's word for a victim's
   pub claim_allowed : (b : ℕ) (p : PinWord) → is_broom me.0.role ≡ true → CanClaim me.0 b p
-      → Allows (Ruled Whole z) slots id me (pin_index z b) (λ n. either (n == pin_word p) (pin_word p + NEXT_PHASE) n) (claim_told (step slots (pin_index z b) (pin_word p) (pin_word p + NEXT_PHASE) none) me)
-  claim_allowed b p broom can t (g, fits, law, stage) _ at _ =
+      → Allows (Ruled z) slots id me (pin_index z b) (λ n. either (n == pin_word p) (pin_word p + NEXT_PHASE) n) (claim_told (step slots (pin_index z b) (pin_word p) (pin_word p + NEXT_PHASE) none) me)
+  claim_allowed b p broom can t (g, fits, law) _ at _ =
       let v : View = me.0 in
       let k : ℕ = pin_index z b in
       let n : ℕ = get_or t.words k 0 in
@@ -145,8 +143,8 @@ module _ (z : Numbers) (slots id : ℕ) (me : Sitter) where
       let numbers = numbers_now g t.views law at broom in
       let low : b < z.blocks = let l = can.low in let e : v.numbers.blocks ≡ z.blocks = ap (λ (y : Numbers). y.blocks) numbers in omega arith in
       let found : n ≡ pin_word (g.pins b) = fits.blocks b low in
-      let answer : (w : View) → Ruled Whole z (stepped t k (either (n == old) new n) id me.1 w keeps) → Claimed v b p n w
-      → (w : View) × (a : Act (Unit {0})) × Valid t.homes me.1 a × Ruled Whole z (stepped t k (either (n == old) new n) id me.1 w a) × claim_told (step slots k old new none) me n (w, carried_after me.1 a) = λ w ruled told. (
+      let answer : (w : View) → Ruled z (stepped t k (either (n == old) new n) id me.1 w keeps) → Claimed v b p n w
+      → (w : View) × (a : Act (Unit {0})) × Valid t.homes me.1 a × Ruled z (stepped t k (either (n == old) new n) id me.1 w a) × claim_told (step slots k old new none) me n (w, carried_after me.1 a) = λ w ruled told. (
         w,
         keeps,
         tt,
@@ -174,8 +172,8 @@ module _ (z : Numbers) (slots id : ℕ) (me : Sitter) where
   -- ---- condemn
   -- a broom exchanges the word of a drained block without readers for an erasing one's
   pub condemn_allowed : (b : ℕ) (p : PinWord) → is_broom me.0.role ≡ true → CanCondemn me.0 b p
-      → Allows (Ruled Whole z) slots id me (pin_index z b) (λ n. either (n == pin_word p) (pin_word p + NEXT_PHASE) n) (condemn_told (step slots (pin_index z b) (pin_word p) (pin_word p + NEXT_PHASE) none) me)
-  condemn_allowed b p broom can t (g, fits, law, stage) _ at _ =
+      → Allows (Ruled z) slots id me (pin_index z b) (λ n. either (n == pin_word p) (pin_word p + NEXT_PHASE) n) (condemn_told (step slots (pin_index z b) (pin_word p) (pin_word p + NEXT_PHASE) none) me)
+  condemn_allowed b p broom can t (g, fits, law) _ at _ =
       let v : View = me.0 in
       let k : ℕ = pin_index z b in
       let n : ℕ = get_or t.words k 0 in
@@ -184,8 +182,8 @@ module _ (z : Numbers) (slots id : ℕ) (me : Sitter) where
       let numbers = numbers_now g t.views law at broom in
       let low : b < z.blocks = let l = can.low in let e : v.numbers.blocks ≡ z.blocks = ap (λ (y : Numbers). y.blocks) numbers in omega arith in
       let found : n ≡ pin_word (g.pins b) = fits.blocks b low in
-      let answer : (w : View) → Ruled Whole z (stepped t k (either (n == old) new n) id me.1 w keeps) → Condemned v b p n w
-      → (w : View) × (a : Act (Unit {0})) × Valid t.homes me.1 a × Ruled Whole z (stepped t k (either (n == old) new n) id me.1 w a) × condemn_told (step slots k old new none) me n (w, carried_after me.1 a) = λ w ruled told. (
+      let answer : (w : View) → Ruled z (stepped t k (either (n == old) new n) id me.1 w keeps) → Condemned v b p n w
+      → (w : View) × (a : Act (Unit {0})) × Valid t.homes me.1 a × Ruled z (stepped t k (either (n == old) new n) id me.1 w a) × condemn_told (step slots k old new none) me n (w, carried_after me.1 a) = λ w ruled told. (
         w,
         keeps,
         tt,
@@ -214,8 +212,8 @@ module _ (z : Numbers) (slots id : ℕ) (me : Sitter) where
 
   -- ---- drain
   -- the owner of a cleared victim gives it up
-  pub drain_allowed : (o : Owned) → CanDrain me.0 o → Allows (Ruled Whole z) slots id me (pin_index z o.block) (λ n. (n + NEXT_PHASE) % 2 ^ 64) (drain_told (step slots (pin_index z o.block) NEXT_PHASE 0 none) me)
-  drain_allowed o can t (g, fits, law, stage) _ at _ =
+  pub drain_allowed : (o : Owned) → CanDrain me.0 o → Allows (Ruled z) slots id me (pin_index z o.block) (λ n. (n + NEXT_PHASE) % 2 ^ 64) (drain_told (step slots (pin_index z o.block) NEXT_PHASE 0 none) me)
+  drain_allowed o can t (g, fits, law) _ at _ =
       let v : View = me.0 in
       let h = law.views id v at in
       let mine = h.holding.owned o.block o can.own in
@@ -232,8 +230,8 @@ module _ (z : Numbers) (slots id : ℕ) (me : Sitter) where
   -- ---- free, keep, retire
   -- the eraser of a wiped block makes it free
   pub freed_allowed : (o : Owned) → CanRenew me.0 o
-      → Allows (Ruled Whole z) slots id me (pin_index z o.block) (λ n. (n + freed_added o.written) % 2 ^ 64) (freed_told (step slots (pin_index z o.block) (freed_added o.written) 0 none) me)
-  freed_allowed o can t (g, fits, law, stage) _ at _ =
+      → Allows (Ruled z) slots id me (pin_index z o.block) (λ n. (n + freed_added o.written) % 2 ^ 64) (freed_told (step slots (pin_index z o.block) (freed_added o.written) 0 none) me)
+  freed_allowed o can t (g, fits, law) _ at _ =
       let v : View = me.0 in
       let own = can.erasing.own in
       let numbers = owner_numbers z v o (law.views id v at).kind own in
@@ -250,8 +248,8 @@ module _ (z : Numbers) (slots id : ℕ) (me : Sitter) where
 
   -- or keeps it
   pub kept_allowed : (o : Owned) → CanRenew me.0 o
-      → Allows (Ruled Whole z) slots id me (pin_index z o.block) (λ n. (n + kept_added o.written) % 2 ^ 64) (kept_told (step slots (pin_index z o.block) (kept_added o.written) 0 none) me)
-  kept_allowed o can t (g, fits, law, stage) _ at _ =
+      → Allows (Ruled z) slots id me (pin_index z o.block) (λ n. (n + kept_added o.written) % 2 ^ 64) (kept_told (step slots (pin_index z o.block) (kept_added o.written) 0 none) me)
+  kept_allowed o can t (g, fits, law) _ at _ =
       let v : View = me.0 in
       let own = can.erasing.own in
       let numbers = owner_numbers z v o (law.views id v at).kind own in
@@ -270,8 +268,8 @@ module _ (z : Numbers) (slots id : ℕ) (me : Sitter) where
       )
 
   -- or retires it
-  pub retired_allowed : (o : Owned) → CanRetire me.0 o → Allows (Ruled Whole z) slots id me (pin_index z o.block) (λ n. (n + NEXT_PHASE) % 2 ^ 64) (retired_told (step slots (pin_index z o.block) NEXT_PHASE 0 none) me)
-  retired_allowed o can t (g, fits, law, stage) _ at _ =
+  pub retired_allowed : (o : Owned) → CanRetire me.0 o → Allows (Ruled z) slots id me (pin_index z o.block) (λ n. (n + NEXT_PHASE) % 2 ^ 64) (retired_told (step slots (pin_index z o.block) NEXT_PHASE 0 none) me)
+  retired_allowed o can t (g, fits, law) _ at _ =
       let v : View = me.0 in
       let erasing = can.erasing in
       let numbers = owner_numbers z v o (law.views id v at).kind erasing.own in

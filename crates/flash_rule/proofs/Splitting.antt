@@ -27,7 +27,6 @@ use Rattle.flash_rule.proofs.Points.{total_set, eq_self}
 use Rattle.flash_rule.proofs.Owning.{none_some}
 use Rattle.flash_rule.proofs.Frames.{counted, others, knowledge_kept}
 use Rattle.flash_rule.proofs.Assembly.{owner_kept, sector_kept}
-use Rattle.flash_rule.proofs.Parts.{PartKept}
 use Rattle.flash_rule.proofs.Still.{pin_stays}
 
 at_end : {X : Type 0} (xs : List X) (x y : X) (j : ℕ) → get_elem? (xs ++ x ∷ []) j ≡ some y → (get_elem? xs j ≡ some y) ⊎ ((j ≡ length xs) × (x ≡ y))
@@ -154,10 +153,10 @@ module _ (z : Numbers) (g g' : World) (vs : List View) (id : ℕ) (v l r : View)
             let k = owner_kept z g g' vs id v l b at (law.blocks b low) owned (ap (λ f. f b) owner) (λ o is. (o, ap (λ (x : List Owned). owned_at b x) owns ∙ is)) in
             (k.0, k.1, at_longer (set vs id l) (r ∷ []) (g'.owner b) k.0 k.2, k.3)
 
-module _ (part : Numbers → World → Type 0) (z : Numbers) (kept : PartKept part z) (id : ℕ) (v : View) where
+module _ (z : Numbers) (id : ℕ) (v : View) where
   -- DEAL. The dealer hands out the next pass
-  pub deals_pass : v.role ≡ Dealer → v.passes < v.numbers.hosts → Splits (Ruled part z) id v (dealt_pass v) (new_pass v)
-  deals_pass role room s (g, fits, law, stage) at =
+  pub deals_pass : v.role ≡ Dealer → v.passes < v.numbers.hosts → Splits (Ruled z) id v (dealt_pass v) (new_pass v)
+  deals_pass role room s (g, fits, law) at =
       let vs = s.views in
       let h = law.views id v at in
       let kind = h.kind in
@@ -242,5 +241,4 @@ module _ (part : Numbers → World → Type 0) (z : Numbers) (kept : PartKept pa
         fits,
         split z g g' vs id v (dealt_pass v) (new_pass v) law at refl refl refl on refl own added (λ b. refl) refl refl weighs (omega arith) (omega arith)
             (λ s low. current_kept z g g' s refl refl refl refl (law.sectors s low)),
-        kept.same g g' (λ b. refl) stage,
       )

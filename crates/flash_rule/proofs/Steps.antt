@@ -35,7 +35,6 @@ use Rattle.flash_rule.specs.Plays.{Sitter, Looked, Placed, Took, CanPlace, CanPu
 use Rattle.geometry.proofs.PinBits.{adds, next_phase, counts, takes_free, takes_taken, map_same}
 use Rattle.flash_rule.proofs.Places.{fits_load, fits_pin, fits_map, fits_page, pin_within, page_within, page_same}
 use Rattle.flash_rule.proofs.Owning.{some_same}
-use Rattle.flash_rule.proofs.Parts.{PartKept}
 use Rattle.flash_rule.proofs.Assembly.{state_fits}
 use Rattle.flash_rule.proofs.Still.{look_empty, look_named, pass_of}
 use Rattle.flash_rule.proofs.PinSteps.{takes, taken, denied, taken_state, taker}
@@ -67,7 +66,7 @@ free_or_not Drained = inr (λ e. absurd (cc))
 free_or_not Erasing = inr (λ e. absurd (cc))
 free_or_not Retired = inr (λ e. absurd (cc))
 
-module _ (part : Numbers → World → Type 0) (z : Numbers) (kept : PartKept part z) (slots id : ℕ) (me : Sitter) where
+module _ (z : Numbers) (slots id : ℕ) (me : Sitter) where
   numbers_now : (g : World) (vs : List View) → Lawful z g vs → get_elem? vs id ≡ some me.0 → is_player me.0.role ≡ true → me.0.numbers ≡ z
   numbers_now g vs law at player = (law.views id me.0 at).kind.numbers (player_live me.0.role player)
 
@@ -78,21 +77,21 @@ module _ (part : Numbers → World → Type 0) (z : Numbers) (kept : PartKept pa
   look_any g vs s law at pass unpinned low (Some m) is = look_named z g vs id me.0 s law at pass unpinned m is low
 
   -- a pass with nothing pinned looks at a sector
-  pub look_allowed : (s : ℕ) → is_pass me.0.role ≡ true → is_unpinned me.0.pin ≡ true → s < z.sectors → Allows (Ruled part z) slots id me s (λ n. n) (look_told (step slots s 0 0 none) me)
-  look_allowed s pass unpinned low t (g, fits, law, stage) _ at _ =
+  pub look_allowed : (s : ℕ) → is_pass me.0.role ≡ true → is_unpinned me.0.pin ≡ true → s < z.sectors → Allows (Ruled z) slots id me s (λ n. n) (look_told (step slots s 0 0 none) me)
+  look_allowed s pass unpinned low t (g, fits, law) _ at _ =
       let h = look_any g t.views s law at pass unpinned low (g.map s) refl in
       let found : get_or t.words s 0 ≡ sector_word (g.map s) = fits.sectors s low in (
         h.0,
         keeps,
         tt,
-        (g, fits_load z g.map g.pins g.pages t.words fits s (omega arith), h.1, stage),
+        (g, fits_load z g.map g.pins g.pages t.words fits s (omega arith), h.1),
         (refl, subst (λ n. Looked me.0 s n h.0) (sym found) h.2),
       )
 
   -- ---- place
   -- a pass trims a sector
-  pub trim_allowed : (s : ℕ) → is_pass me.0.role ≡ true → s < z.sectors → Allows (Ruled part z) slots id me s (λ _. 0) (trim_told (step slots s 0 0 none) me)
-  trim_allowed s pass low t (g, fits, law, stage) _ at _ =
+  pub trim_allowed : (s : ℕ) → is_pass me.0.role ≡ true → s < z.sectors → Allows (Ruled z) slots id me s (λ _. 0) (trim_told (step slots s 0 0 none) me)
+  trim_allowed s pass low t (g, fits, law) _ at _ =
       let is = pass_of me.0.role pass in
       let by : ℕ = is.0 in
       let n : ℕ = get_or t.words s 0 in
@@ -103,14 +102,14 @@ module _ (part : Numbers → World → Type 0) (z : Numbers) (kept : PartKept pa
         w,
         keeps,
         tt,
-        (after, fits_map z g.map g.pins g.pages t.words fits s None low, trims z g t.views id me.0 by s law at is.1 low, kept.same g after (λ b. refl) stage),
+        (after, fits_map z g.map g.pins g.pages t.words fits s None low, trims z g t.views id me.0 by s law at is.1 low),
         (refl, λ u role. subst (λ (k : ℕ). Placed me.0 (Trim k s) s n w) (pass_same by u (sym is.1 ∙ role)) told),
       )
 
   -- a pass writes a sector, whose new page it has filled and counted
   pub write_allowed : (s word : ℕ) (m : MapWord) (value : List ℕ) → is_pass me.0.role ≡ true → s < z.sectors → word ≡ map_word m → FitsMap m → CanPlace me.0 s m value
-      → Allows (Ruled part z) slots id me s (λ _. word) (write_told (step slots s word 0 none) me)
-  write_allowed s word m value pass low packed fitting can t (g, fits, law, stage) _ at _ =
+      → Allows (Ruled z) slots id me s (λ _. word) (write_told (step slots s word 0 none) me)
+  write_allowed s word m value pass low packed fitting can t (g, fits, law) _ at _ =
       let is = pass_of me.0.role pass in
       let by : ℕ = is.0 in
       let n : ℕ = get_or t.words s 0 in
@@ -125,7 +124,6 @@ module _ (part : Numbers → World → Type 0) (z : Numbers) (kept : PartKept pa
           after,
           subst (λ x. Fits z after.map g.pins g.pages (set t.words s x)) (sym packed) (fits_map z g.map g.pins g.pages t.words fits s (Some m) low),
           writes z g t.views id me.0 by s law at is.1 low m value can,
-          kept.same g after (λ b. refl) stage,
         ),
         (
           refl,
@@ -140,8 +138,8 @@ module _ (part : Numbers → World → Type 0) (z : Numbers) (kept : PartKept pa
 
   -- ---- take
   -- a pass sets the taking bit of a block
-  pub take_allowed : (b : ℕ) → is_pass me.0.role ≡ true → b < z.blocks → Allows (Ruled part z) slots id me (pin_index z b) (λ n. bit_or n TAKEN) (take_told (step slots (pin_index z b) TAKEN 0 none) me)
-  take_allowed b pass low t (g, fits, law, stage) _ at _ =
+  pub take_allowed : (b : ℕ) → is_pass me.0.role ≡ true → b < z.blocks → Allows (Ruled z) slots id me (pin_index z b) (λ n. bit_or n TAKEN) (take_told (step slots (pin_index z b) TAKEN 0 none) me)
+  take_allowed b pass low t (g, fits, law) _ at _ =
       let p : PinWord = g.pins b in
       let k : ℕ = pin_index z b in
       let n : ℕ = get_or t.words k 0 in
@@ -157,22 +155,22 @@ module _ (part : Numbers → World → Type 0) (z : Numbers) (kept : PartKept pa
       let now : bit_or n TAKEN ≡ pin_word q = ap (λ x. bit_or x TAKEN) found ∙ takes_free p fitting free in
       let after : World = taken z g t.views id me.0 b law at pass low in
       let told : Took me.0 b n w = record { state = p; fits = fitting; young = young; found = found; free = λ _. refl; denied = λ not. absurd (not free) } in
-      let answer : (w : View) × (a : Act (Unit {0})) × Valid t.homes me.1 a × Ruled part z (stepped t k (bit_or n TAKEN) id me.1 w a) × take_told (step slots k TAKEN 0 none) me n (w, carried_after me.1 a) = (
+      let answer : (w : View) × (a : Act (Unit {0})) × Valid t.homes me.1 a × Ruled z (stepped t k (bit_or n TAKEN) id me.1 w a) × take_told (step slots k TAKEN 0 none) me n (w, carried_after me.1 a) = (
         w,
         keeps,
         tt,
-        (after, subst (λ x. Fits z g.map after.pins g.pages (set t.words k x)) (sym now) (fits_pin z g.map g.pins g.pages t.words fits b q low), takes z g t.views id me.0 b law at pass low free, kept.pin g b q id g.programmer low (inl refl) refl stage),
+        (after, subst (λ x. Fits z g.map after.pins g.pages (set t.words k x)) (sym now) (fits_pin z g.map g.pins g.pages t.words fits b q low), takes z g t.views id me.0 b law at pass low free),
         (refl, λ c _ is. subst (λ (j : ℕ). Took me.0 j n w) (same_block c is) told),
       ) in answer)
       (λ (not : ¬ (p.phase ≡ Free)).
       let w : View = record me.0 { denied = me.0.denied ++ b ∷ [] } in
       let now : bit_or n TAKEN ≡ n = ap (λ x. bit_or x TAKEN) found ∙ (takes_taken p fitting not ∙ sym found) in
       let told : Took me.0 b n w = record { state = p; fits = fitting; young = young; found = found; free = λ free. absurd (not free); denied = λ _. refl } in
-      let answer : (w : View) × (a : Act (Unit {0})) × Valid t.homes me.1 a × Ruled part z (stepped t k (bit_or n TAKEN) id me.1 w a) × take_told (step slots k TAKEN 0 none) me n (w, carried_after me.1 a) = (
+      let answer : (w : View) × (a : Act (Unit {0})) × Valid t.homes me.1 a × Ruled z (stepped t k (bit_or n TAKEN) id me.1 w a) × take_told (step slots k TAKEN 0 none) me n (w, carried_after me.1 a) = (
         w,
         keeps,
         tt,
-        (g, subst (λ x. Fits z g.map g.pins g.pages (set t.words k x)) (sym now) (fits_load z g.map g.pins g.pages t.words fits k (pin_within z b low)), denied z g t.views id me.0 b law at pass low, stage),
+        (g, subst (λ x. Fits z g.map g.pins g.pages (set t.words k x)) (sym now) (fits_load z g.map g.pins g.pages t.words fits k (pin_within z b low)), denied z g t.views id me.0 b law at pass low),
         (refl, λ c _ is. subst (λ (j : ℕ). Took me.0 j n w) (same_block c is) told),
       ) in answer)
       (free_or_not p.phase)
@@ -180,9 +178,9 @@ module _ (part : Numbers → World → Type 0) (z : Numbers) (kept : PartKept pa
   -- ---- put
   -- the owner of an open block puts the next word of its first page not written
   pub put_allowed : (o : Owned) (x : ℕ) → is_player me.0.role ≡ true → me.0.numbers ≡ z → CanPut me.0 o
-      → Allows (Ruled part z) slots id me (page_index z o.block (next_page o).page + length (words_in me.0.work o)) (λ _. x)
+      → Allows (Ruled z) slots id me (page_index z o.block (next_page o).page + length (words_in me.0.work o)) (λ _. x)
       (λ _. put_told (step slots (page_index z o.block (next_page o).page + length (words_in me.0.work o)) x 0 none) me x)
-  put_allowed o x player numbers can t (g, fits, law, stage) _ at _ =
+  put_allowed o x player numbers can t (g, fits, law) _ at _ =
       let i : ℕ = length (words_in me.0.work o) in
       let pages : me.0.numbers.pages ≡ z.pages = ap (λ (y : Numbers). y.pages) numbers in
       let words : me.0.numbers.words ≡ z.words = ap (λ (y : Numbers). y.words) numbers in
@@ -197,7 +195,6 @@ module _ (part : Numbers → World → Type 0) (z : Numbers) (kept : PartKept pa
           after,
           fits_page z g.map g.pins g.pages t.words fits o.block (next_page o).page i x (own_low z g t.views id me.0 o law at can.own can.opened) room short,
           puts_word z g t.views id me.0 o x law at player can.own can.opened room short can.settled,
-          kept.same g after (λ b. refl) stage,
         ),
         (
           refl,
@@ -215,8 +212,8 @@ module _ (part : Numbers → World → Type 0) (z : Numbers) (kept : PartKept pa
   -- ---- count
   -- the owner of an open block counts the page that it has filled
   pub count_allowed : (o : Owned) (x : Work) → is_player me.0.role ≡ true → me.0.numbers ≡ z → CanCount me.0 o x
-      → Allows (Ruled part z) slots id me (pin_index z o.block) (λ n. (n + PAGE_WRITTEN) % 2 ^ 64) (count_told (step slots (pin_index z o.block) PAGE_WRITTEN 0 none) me)
-  count_allowed o x player numbers can t (g, fits, law, stage) _ at _ =
+      → Allows (Ruled z) slots id me (pin_index z o.block) (λ n. (n + PAGE_WRITTEN) % 2 ^ 64) (count_told (step slots (pin_index z o.block) PAGE_WRITTEN 0 none) me)
+  count_allowed o x player numbers can t (g, fits, law) _ at _ =
       let h = law.views id me.0 at in
       let name = worker z me.0 x h.kind can.is in
       let words : me.0.numbers.words ≡ z.words = ap (λ (y : Numbers). y.words) numbers in
@@ -239,7 +236,6 @@ module _ (part : Numbers → World → Type 0) (z : Numbers) (kept : PartKept pa
           after,
           subst (λ y. Fits z g.map after.pins g.pages (set t.words k y)) (sym now) (fits_pin z g.map g.pins g.pages t.words fits o.block q low),
           lawful,
-          kept.pin g o.block q id after.programmer low (inr refl) refl stage,
         ),
         (
           refl,
@@ -255,8 +251,8 @@ module _ (part : Numbers → World → Type 0) (z : Numbers) (kept : PartKept pa
   -- ---- close
   -- the owner of an open block gives it up, with nothing uncounted
   pub close_allowed : (o : Owned) → is_player me.0.role ≡ true → me.0.numbers ≡ z → CanClose me.0 o
-      → Allows (Ruled part z) slots id me (pin_index z o.block) (λ n. (n + NEXT_PHASE) % 2 ^ 64) (close_told (step slots (pin_index z o.block) NEXT_PHASE 0 none) me)
-  close_allowed o player numbers can t (g, fits, law, stage) _ at _ =
+      → Allows (Ruled z) slots id me (pin_index z o.block) (λ n. (n + NEXT_PHASE) % 2 ^ 64) (close_told (step slots (pin_index z o.block) NEXT_PHASE 0 none) me)
+  close_allowed o player numbers can t (g, fits, law) _ at _ =
       let low = own_low z g t.views id me.0 o law at can.own can.opened in
       let p : PinWord = g.pins o.block in
       let k : ℕ = pin_index z o.block in
@@ -276,7 +272,6 @@ module _ (part : Numbers → World → Type 0) (z : Numbers) (kept : PartKept pa
           after,
           subst (λ y. Fits z g.map after.pins g.pages (set t.words k y)) (sym now) (fits_pin z g.map g.pins g.pages t.words fits o.block q low),
           lawful,
-          kept.pin g o.block q id g.programmer low (inl refl) refl stage,
         ),
         (
           refl,
@@ -288,16 +283,16 @@ module _ (part : Numbers → World → Type 0) (z : Numbers) (kept : PartKept pa
 
 -- ---- get
 -- a pass reads the page of its accepted pin
-pub get_allowed : (part : Numbers → World → Type 0) (z : Numbers) (slots id : ℕ) (me : Sitter) (m : MapWord) (value : List ℕ) (i : ℕ) → me.0.numbers ≡ z → me.0.pin ≡ Accepted m value → m.block < z.blocks → m.page < z.pages → i < z.words
-    → Allows (Ruled part z) slots id me (page_index z m.block m.page + i) (λ n. n) (get_told (step slots (page_index z m.block m.page + i) 0 0 none) me)
-get_allowed part z slots id me m value i numbers pin block page low t (g, fits, law, stage) _ at _ =
+pub get_allowed : (z : Numbers) (slots id : ℕ) (me : Sitter) (m : MapWord) (value : List ℕ) (i : ℕ) → me.0.numbers ≡ z → me.0.pin ≡ Accepted m value → m.block < z.blocks → m.page < z.pages → i < z.words
+    → Allows (Ruled z) slots id me (page_index z m.block m.page + i) (λ n. n) (get_told (step slots (page_index z m.block m.page + i) 0 0 none) me)
+get_allowed z slots id me m value i numbers pin block page low t (g, fits, law) _ at _ =
     let k : ℕ = page_index z m.block m.page + i in
     let n : ℕ = get_or t.words k 0 in
     let found : n ≡ g.pages m.block m.page i = fits.pages m.block m.page i block page (omega arith) in (
       me.0,
       keeps,
       tt,
-      (g, fits_load z g.map g.pins g.pages t.words fits k (page_within z m.block m.page i block page (omega arith)), subst (λ vs. Lawful z g vs) (sym (set_again t.views id me.0 at)) law, stage),
+      (g, fits_load z g.map g.pins g.pages t.words fits k (page_within z m.block m.page i block page (omega arith)), subst (λ vs. Lawful z g vs) (sym (set_again t.views id me.0 at)) law),
       (
         refl,
         λ m' value' i' pin' low' is.

@@ -21,7 +21,7 @@ use Rattle.flash_rule.specs.declared.facts.Cycle.{Cycle}
 use Rattle.flash_rule.specs.declared.carried.Carried.{Carried}
 use Rattle.flash_rule.specs.declared.view.View.{View}
 use Rattle.flash_rule.specs.Views.{total, is_pass, is_player, is_live_role, may_own, weight, pins_on, owned_at, AreOfHosts, calls_of}
-use Rattle.flash_rule.specs.World.{World, is_owned, is_nameable, is_still, is_early, is_reclaimed, age_of, Intact, HoldsValue, IsBlank, blank_word}
+use Rattle.flash_rule.specs.World.{World, is_owned, is_nameable, is_still, is_reclaimed, age_of, Intact, HoldsValue, IsBlank, blank_word}
 
 -- A value has the bytes of one page
 pub record IsValue (z : Numbers) (value : List ℕ) : Type 0 where
@@ -205,8 +205,3 @@ pub record Lawful (z : Numbers) (g : World) (vs : List View) : Type 0 where
   pub strangers : (t : ℕ) → g.passes ≤ t → calls_of t g.history ≡ []
   pub seats : total (weight z) vs ≡ z.hosts
   pub dealt : g.passes ≤ z.hosts
-
--- Before anything is drained or erased, every block is free, open or closed, in generation 0
-pub record IsEarly (z : Numbers) (g : World) : Type 0 where
-  pub phase : (b : ℕ) → b < z.blocks → is_early (g.pins b).phase ≡ true
-  pub generation : (b : ℕ) → b < z.blocks → (g.pins b).generation ≡ 0

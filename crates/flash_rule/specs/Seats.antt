@@ -16,13 +16,9 @@ use Rattle.flash_rule.specs.Views.{without}
 use Rattle.flash_rule.specs.World.{World, Fits, blank_word}
 use Rattle.flash_rule.specs.Rule.{Lawful}
 
--- the rule, in a part of the device that has a clause of its own: there is a state that the words fit, and it is lawful with all seats
-abbrev pub Ruled : (Numbers → World → Type 0) → Numbers → State (Unit {0}) View → Type 0
-Ruled part z s = (g : World) × Fits z g.map g.pins g.pages s.words × Lawful z g s.views × part z g
-
--- the clause of a part that has none
-abbrev pub Whole : Numbers → World → Type 0
-Whole z g = Unit {0}
+-- the rule: there is a state that the words fit, and it is lawful with all seats
+abbrev pub Ruled : Numbers → State (Unit {0}) View → Type 0
+Ruled z s = (g : World) × Fits z g.map g.pins g.pages s.words × Lawful z g s.views
 
 -- a seat in a role, that knows nothing yet
 abbrev pub newcomer : Numbers → Role → View

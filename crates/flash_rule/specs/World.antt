@@ -86,16 +86,6 @@ is_still Drained = true
 is_still Erasing = false
 is_still Retired = false
 
--- the phases of the part without draining
-abbrev pub is_early : Phase → Bool
-is_early Free = true
-is_early Open = true
-is_early Closed = true
-is_early Victim = false
-is_early Drained = false
-is_early Erasing = false
-is_early Retired = false
-
 -- the phases in which a broom drains or erases a block
 abbrev pub is_reclaimed : Phase → Bool
 is_reclaimed Free = false

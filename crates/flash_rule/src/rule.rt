@@ -8,9 +8,9 @@ pub struct Device;
 
 impl TableRule<(), View, Geometry> for Device {
     ghost use Rattle.geometry.specs.Geometry.{numbers_of};
-    ghost use Rattle.flash_rule.specs.Seats.{Ruled, Whole, dealer};
+    ghost use Rattle.flash_rule.specs.Seats.{Ruled, dealer};
 
-    ghost holds = { λ geometry. Ruled Whole (numbers_of geometry) };
+    ghost holds = { λ geometry. Ruled (numbers_of geometry) };
 
     ghost first = { λ geometry. dealer (numbers_of geometry) };
 }

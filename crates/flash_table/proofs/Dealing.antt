@@ -6,9 +6,8 @@ use Rattle.atomic_table.specs.declared.shared.Seat.{Seat}
 use Rattle.flash_rule.specs.declared.facts.Role.TheVariants.{Dealer}
 use Rattle.flash_rule.specs.declared.view.View.{View}
 use Rattle.flash_rule.specs.Views.{is_pass, owned_at, without}
-use Rattle.flash_rule.specs.Seats.{Ruled, Whole, dealt_pass, new_pass, spare, spares, next_spare, dealt_broom, new_broom}
+use Rattle.flash_rule.specs.Seats.{Ruled, dealt_pass, new_pass, spare, spares, next_spare, dealt_broom, new_broom}
 use Rattle.flash_rule.proofs.Owning.{get_last}
-use Rattle.flash_rule.proofs.Parts.{whole_kept}
 use Rattle.flash_rule.proofs.Splitting.{deals_pass, nothing}
 use Rattle.flash_rule.proofs.DealingBrooms.{first_spare, other_spares, deals_broom}
 use Rattle.flash_table.specs.declared.flash.Flash.{Flash}
@@ -27,8 +26,8 @@ pub record Deals (f : Flash) (dealer : Seat (Unit {0}) View) (passes : List Pass
   pub owns : dealer.me.0.owns ≡ spares (device f).brooms ((device f).blocks - (device f).brooms)
   pub each : (k : ℕ) (p : Pass) → slice_get passes k ≡ Some p → IsPassOf f p × (view_of p ≡ first_view (device f) k) × (opened_of p ≡ None)
 
-pub deal_here : (z k : Numbers) (same : k ≡ z) (id : ℕ) (v : View) → v.role ≡ Dealer → v.passes < v.numbers.hosts → Splits (Ruled Whole k) id v (dealt_pass v) (new_pass v)
-deal_here z k same id v role room = let P : Numbers → Type 0 = λ x. Splits (Ruled Whole x) id v (dealt_pass v) (new_pass v) in subst P (sym same) (deals_pass Whole z (whole_kept z) id v role room)
+pub deal_here : (z k : Numbers) (same : k ≡ z) (id : ℕ) (v : View) → v.role ≡ Dealer → v.passes < v.numbers.hosts → Splits (Ruled k) id v (dealt_pass v) (new_pass v)
+deal_here z k same id v role room = let P : Numbers → Type 0 = λ x. Splits (Ruled x) id v (dealt_pass v) (new_pass v) in subst P (sym same) (deals_pass z id v role room)
 
 pub deals_next : (f : Flash) (before after : Seat (Unit {0}) View) (passes : List Pass) (p : Pass) (t : ℕ) → Deals f before passes t → after.table_id ≡ before.table_id → after.me.0 ≡ dealt_pass before.me.0
     → p.seat.table_id ≡ before.table_id → view_of p ≡ new_pass before.me.0 → opened_of p ≡ None → Deals f after (passes ++ p ∷ []) (t + 1)
@@ -99,8 +98,8 @@ module _ (z : Numbers) (v : View) (t : ℕ) (numbers : v.numbers ≡ z) (count :
       let behind : spare_of z t + 1 ≡ spare_of z (t + 1) = omega arith in
       (λ i. without (next_is i) ((owns ∙ ap (λ n. spares n (spare_of z t)) one_more) i)) ∙ (other_spares (z.brooms - (t + 1)) (spare_of z t) ∙ ap (λ b. spares (z.brooms - (t + 1)) b) behind)
 
-pub deal_broom_here : (z k : Numbers) (same : k ≡ z) (id : ℕ) (v : View) → v.role ≡ Dealer → owned_at (next_spare v) v.owns ≡ Some (spare (next_spare v)) → Splits (Ruled Whole k) id v (dealt_broom v) (new_broom v)
-deal_broom_here z k same id v role has = let P : Numbers → Type 0 = λ x. Splits (Ruled Whole x) id v (dealt_broom v) (new_broom v) in subst P (sym same) (deals_broom Whole z (whole_kept z) id v role has)
+pub deal_broom_here : (z k : Numbers) (same : k ≡ z) (id : ℕ) (v : View) → v.role ≡ Dealer → owned_at (next_spare v) v.owns ≡ Some (spare (next_spare v)) → Splits (Ruled k) id v (dealt_broom v) (new_broom v)
+deal_broom_here z k same id v role has = let P : Numbers → Type 0 = λ x. Splits (Ruled x) id v (dealt_broom v) (new_broom v) in subst P (sym same) (deals_broom z id v role has)
 
 pub deals_next_broom : (f : Flash) (before after : Seat (Unit {0}) View) (brooms : List BroomSeat) (b : BroomSeat) (t : ℕ) → DealsBrooms f before brooms t → t < (device f).brooms → after.table_id ≡ before.table_id
     → after.me.0 ≡ dealt_broom before.me.0 → b.seat.table_id ≡ before.table_id → broom_view b ≡ new_broom before.me.0 → own_blocks b ≡ first_blocks (device f) t → DealsBrooms f after (brooms ++ b ∷ []) (t + 1)

@@ -12,7 +12,7 @@ use Rattle.flash_rule.specs.declared.facts.Owned.{Owned}
 use Rattle.flash_rule.specs.declared.facts.Work.{Work}
 use Rattle.flash_rule.specs.declared.facts.Pin.TheVariants.{Candidate, Accepted}
 use Rattle.flash_rule.specs.Views.{is_pass, is_player}
-use Rattle.flash_rule.specs.Seats.{Ruled, Whole}
+use Rattle.flash_rule.specs.Seats.{Ruled}
 use Rattle.flash_rule.specs.Plays.{Sitter, CanPlace, CanPut, CanCount, CanClose, words_in, is_unpinned, look_told, write_told, trim_told, take_told, put_told, count_told, close_told, IsOn, pin_told, unpin_told, get_told}
 use Rattle.flash_rule.specs.declared.facts.Name.{Name}
 use Rattle.flash_rule.specs.declared.facts.Role.TheVariants.{Player, Note}
@@ -21,72 +21,71 @@ use Rattle.flash_rule.specs.declared.view.View.{View}
 use Rattle.flash_rule.specs.Seats.{lender, lent_note, host_of, giver, given_note, home, gone}
 use Rattle.flash_rule.proofs.OwnSteps.{player_of}
 use Rattle.flash_rule.proofs.Notes.{lends, gives, takes_in, comes_home}
-use Rattle.flash_rule.proofs.Parts.{whole_kept}
 use Rattle.flash_rule.proofs.Steps.{look_allowed, trim_allowed, write_allowed, take_allowed, put_allowed, count_allowed, close_allowed, get_allowed}
 use Rattle.flash_rule.proofs.ReaderSteps.{pin_allowed, unpin_allowed}
 
 module _ (z k : Numbers) (same : k ≡ z) (slots id : ℕ) (me : Sitter) where
-  pub look_here : (s : ℕ) → is_pass me.0.role ≡ true → is_unpinned me.0.pin ≡ true → s < z.sectors → Allows (Ruled Whole k) slots id me s (λ n. n) (look_told (step slots s 0 0 none) me)
-  look_here s pass unpinned low = let P : Numbers → Type 0 = λ x. Allows (Ruled Whole x) slots id me s (λ n. n) (look_told (step slots s 0 0 none) me) in
-      subst P (sym same) (look_allowed Whole z (whole_kept z) slots id me s pass unpinned low)
+  pub look_here : (s : ℕ) → is_pass me.0.role ≡ true → is_unpinned me.0.pin ≡ true → s < z.sectors → Allows (Ruled k) slots id me s (λ n. n) (look_told (step slots s 0 0 none) me)
+  look_here s pass unpinned low = let P : Numbers → Type 0 = λ x. Allows (Ruled x) slots id me s (λ n. n) (look_told (step slots s 0 0 none) me) in
+      subst P (sym same) (look_allowed z slots id me s pass unpinned low)
 
-  pub trim_here : (s : ℕ) → is_pass me.0.role ≡ true → s < z.sectors → Allows (Ruled Whole k) slots id me s (λ _. 0) (trim_told (step slots s 0 0 none) me)
-  trim_here s pass low = let P : Numbers → Type 0 = λ x. Allows (Ruled Whole x) slots id me s (λ _. 0) (trim_told (step slots s 0 0 none) me) in
-      subst P (sym same) (trim_allowed Whole z (whole_kept z) slots id me s pass low)
+  pub trim_here : (s : ℕ) → is_pass me.0.role ≡ true → s < z.sectors → Allows (Ruled k) slots id me s (λ _. 0) (trim_told (step slots s 0 0 none) me)
+  trim_here s pass low = let P : Numbers → Type 0 = λ x. Allows (Ruled x) slots id me s (λ _. 0) (trim_told (step slots s 0 0 none) me) in
+      subst P (sym same) (trim_allowed z slots id me s pass low)
 
   pub write_here : (s word : ℕ) (m : MapWord) (value : List ℕ) → is_pass me.0.role ≡ true → s < z.sectors → word ≡ map_word m → FitsMap m → CanPlace me.0 s m value
-      → Allows (Ruled Whole k) slots id me s (λ _. word) (write_told (step slots s word 0 none) me)
-  write_here s word m value pass low packed fits can = let P : Numbers → Type 0 = λ x. Allows (Ruled Whole x) slots id me s (λ _. word) (write_told (step slots s word 0 none) me) in
-      subst P (sym same) (write_allowed Whole z (whole_kept z) slots id me s word m value pass low packed fits can)
+      → Allows (Ruled k) slots id me s (λ _. word) (write_told (step slots s word 0 none) me)
+  write_here s word m value pass low packed fits can = let P : Numbers → Type 0 = λ x. Allows (Ruled x) slots id me s (λ _. word) (write_told (step slots s word 0 none) me) in
+      subst P (sym same) (write_allowed z slots id me s word m value pass low packed fits can)
 
-  pub take_here : (word b : ℕ) → word ≡ pin_index z b → is_pass me.0.role ≡ true → b < z.blocks → Allows (Ruled Whole k) slots id me word (λ n. bit_or n TAKEN) (take_told (step slots word TAKEN 0 none) me)
-  take_here word b is pass low = let P : Numbers × ℕ → Type 0 = λ x. Allows (Ruled Whole x.0) slots id me x.1 (λ n. bit_or n TAKEN) (take_told (step slots x.1 TAKEN 0 none) me) in
-      subst P (λ i. (sym same i, sym is i)) (take_allowed Whole z (whole_kept z) slots id me b pass low)
+  pub take_here : (word b : ℕ) → word ≡ pin_index z b → is_pass me.0.role ≡ true → b < z.blocks → Allows (Ruled k) slots id me word (λ n. bit_or n TAKEN) (take_told (step slots word TAKEN 0 none) me)
+  take_here word b is pass low = let P : Numbers × ℕ → Type 0 = λ x. Allows (Ruled x.0) slots id me x.1 (λ n. bit_or n TAKEN) (take_told (step slots x.1 TAKEN 0 none) me) in
+      subst P (λ i. (sym same i, sym is i)) (take_allowed z slots id me b pass low)
 
   pub put_here : (word : ℕ) (o : Owned) (x : ℕ) → word ≡ page_index z o.block o.written + length (words_in me.0.work o) → is_player me.0.role ≡ true → me.0.numbers ≡ z → CanPut me.0 o
-      → Allows (Ruled Whole k) slots id me word (λ _. x) (λ _. put_told (step slots word x 0 none) me x)
-  put_here word o x is player numbers can = let P : Numbers × ℕ → Type 0 = λ y. Allows (Ruled Whole y.0) slots id me y.1 (λ _. x) (λ _. put_told (step slots y.1 x 0 none) me x) in
-      subst P (λ i. (sym same i, sym is i)) (put_allowed Whole z (whole_kept z) slots id me o x player numbers can)
+      → Allows (Ruled k) slots id me word (λ _. x) (λ _. put_told (step slots word x 0 none) me x)
+  put_here word o x is player numbers can = let P : Numbers × ℕ → Type 0 = λ y. Allows (Ruled y.0) slots id me y.1 (λ _. x) (λ _. put_told (step slots y.1 x 0 none) me x) in
+      subst P (λ i. (sym same i, sym is i)) (put_allowed z slots id me o x player numbers can)
 
   pub count_here : (word : ℕ) (o : Owned) (x : Work) → word ≡ pin_index z o.block → is_player me.0.role ≡ true → me.0.numbers ≡ z → CanCount me.0 o x
-      → Allows (Ruled Whole k) slots id me word (λ n. (n + PAGE_WRITTEN) % 2 ^ 64) (count_told (step slots word PAGE_WRITTEN 0 none) me)
-  count_here word o x is player numbers can = let P : Numbers × ℕ → Type 0 = λ y. Allows (Ruled Whole y.0) slots id me y.1 (λ n. (n + PAGE_WRITTEN) % 2 ^ 64) (count_told (step slots y.1 PAGE_WRITTEN 0 none) me) in
-      subst P (λ i. (sym same i, sym is i)) (count_allowed Whole z (whole_kept z) slots id me o x player numbers can)
+      → Allows (Ruled k) slots id me word (λ n. (n + PAGE_WRITTEN) % 2 ^ 64) (count_told (step slots word PAGE_WRITTEN 0 none) me)
+  count_here word o x is player numbers can = let P : Numbers × ℕ → Type 0 = λ y. Allows (Ruled y.0) slots id me y.1 (λ n. (n + PAGE_WRITTEN) % 2 ^ 64) (count_told (step slots y.1 PAGE_WRITTEN 0 none) me) in
+      subst P (λ i. (sym same i, sym is i)) (count_allowed z slots id me o x player numbers can)
 
   pub close_here : (word : ℕ) (o : Owned) → word ≡ pin_index z o.block → is_player me.0.role ≡ true → me.0.numbers ≡ z → CanClose me.0 o
-      → Allows (Ruled Whole k) slots id me word (λ n. (n + NEXT_PHASE) % 2 ^ 64) (close_told (step slots word NEXT_PHASE 0 none) me)
-  close_here word o is player numbers can = let P : Numbers × ℕ → Type 0 = λ y. Allows (Ruled Whole y.0) slots id me y.1 (λ n. (n + NEXT_PHASE) % 2 ^ 64) (close_told (step slots y.1 NEXT_PHASE 0 none) me) in
-      subst P (λ i. (sym same i, sym is i)) (close_allowed Whole z (whole_kept z) slots id me o player numbers can)
+      → Allows (Ruled k) slots id me word (λ n. (n + NEXT_PHASE) % 2 ^ 64) (close_told (step slots word NEXT_PHASE 0 none) me)
+  close_here word o is player numbers can = let P : Numbers × ℕ → Type 0 = λ y. Allows (Ruled y.0) slots id me y.1 (λ n. (n + NEXT_PHASE) % 2 ^ 64) (close_told (step slots y.1 NEXT_PHASE 0 none) me) in
+      subst P (λ i. (sym same i, sym is i)) (close_allowed z slots id me o player numbers can)
 
 -- ---- pins
 module _ (z k : Numbers) (same : k ≡ z) (slots id : ℕ) (me : Sitter) where
   pub pin_here : (word : ℕ) (m : MapWord) (value : List ℕ) → word ≡ pin_index z m.block → is_pass me.0.role ≡ true → me.0.pin ≡ Candidate m value → m.block < z.blocks
-      → Allows (Ruled Whole k) slots id me word (λ n. (n + READER) % 2 ^ 64) (pin_told (step slots word READER 0 none) me)
-  pin_here word m value is pass pin low = let P : Numbers × ℕ → Type 0 = λ x. Allows (Ruled Whole x.0) slots id me x.1 (λ n. (n + READER) % 2 ^ 64) (pin_told (step slots x.1 READER 0 none) me) in
-      subst P (λ i. (sym same i, sym is i)) (pin_allowed Whole z (whole_kept z) slots id me m value pass pin low)
+      → Allows (Ruled k) slots id me word (λ n. (n + READER) % 2 ^ 64) (pin_told (step slots word READER 0 none) me)
+  pin_here word m value is pass pin low = let P : Numbers × ℕ → Type 0 = λ x. Allows (Ruled x.0) slots id me x.1 (λ n. (n + READER) % 2 ^ 64) (pin_told (step slots x.1 READER 0 none) me) in
+      subst P (λ i. (sym same i, sym is i)) (pin_allowed z slots id me m value pass pin low)
 
   pub unpin_here : (word b : ℕ) → word ≡ pin_index z b → is_pass me.0.role ≡ true → IsOn me.0.pin b → b < z.blocks → me.0.numbers ≡ z
-      → Allows (Ruled Whole k) slots id me word (λ n. (n + (2 ^ 64 - READER)) % 2 ^ 64) (unpin_told (step slots word READER 0 none) me)
-  unpin_here word b is pass on low numbers = let P : Numbers × ℕ → Type 0 = λ x. Allows (Ruled Whole x.0) slots id me x.1 (λ n. (n + (2 ^ 64 - READER)) % 2 ^ 64) (unpin_told (step slots x.1 READER 0 none) me) in
-      subst P (λ i. (sym same i, sym is i)) (unpin_allowed Whole z (whole_kept z) slots id me b pass on low numbers)
+      → Allows (Ruled k) slots id me word (λ n. (n + (2 ^ 64 - READER)) % 2 ^ 64) (unpin_told (step slots word READER 0 none) me)
+  unpin_here word b is pass on low numbers = let P : Numbers × ℕ → Type 0 = λ x. Allows (Ruled x.0) slots id me x.1 (λ n. (n + (2 ^ 64 - READER)) % 2 ^ 64) (unpin_told (step slots x.1 READER 0 none) me) in
+      subst P (λ i. (sym same i, sym is i)) (unpin_allowed z slots id me b pass on low numbers)
 
   pub get_here : (word : ℕ) (m : MapWord) (value : List ℕ) (i : ℕ) → word ≡ page_index z m.block m.page + i → me.0.numbers ≡ z → me.0.pin ≡ Accepted m value → m.block < z.blocks → m.page < z.pages → i < z.words
-      → Allows (Ruled Whole k) slots id me word (λ n. n) (get_told (step slots word 0 0 none) me)
-  get_here word m value i is numbers pin block page low = let P : Numbers × ℕ → Type 0 = λ y. Allows (Ruled Whole y.0) slots id me y.1 (λ n. n) (get_told (step slots y.1 0 0 none) me) in
-      subst P (λ j. (sym same j, sym is j)) (get_allowed Whole z slots id me m value i numbers pin block page low)
+      → Allows (Ruled k) slots id me word (λ n. n) (get_told (step slots word 0 0 none) me)
+  get_here word m value i is numbers pin block page low = let P : Numbers × ℕ → Type 0 = λ y. Allows (Ruled y.0) slots id me y.1 (λ n. n) (get_told (step slots y.1 0 0 none) me) in
+      subst P (λ j. (sym same j, sym is j)) (get_allowed z slots id me m value i numbers pin block page low)
 
 -- ---- notes
 module _ (z k : Numbers) (same : k ≡ z) (id : ℕ) (v : View) (player : is_player v.role ≡ true) where
-  pub lend_here : v.whole ≡ true → v.guest ≡ None → Splits (Ruled Whole k) id v (lender v) (lent_note v)
-  lend_here whole alone = let t = player_of v.role player in let P : Numbers → Type 0 = λ x. Splits (Ruled Whole x) id v (lender v) (lent_note v) in subst P (sym same) (lends Whole z (whole_kept z) id v t.0 t.1 whole alone)
+  pub lend_here : v.whole ≡ true → v.guest ≡ None → Splits (Ruled k) id v (lender v) (lent_note v)
+  lend_here whole alone = let t = player_of v.role player in let P : Numbers → Type 0 = λ x. Splits (Ruled x) id v (lender v) (lent_note v) in subst P (sym same) (lends z id v t.0 t.1 whole alone)
 
-  pub give_here : (m : Name) → v.guest ≡ Some m → ¬ (v.role ≡ Player m) → Splits (Ruled Whole k) id v (giver v) (given_note v)
-  give_here m guest apart = let t = player_of v.role player in let P : Numbers → Type 0 = λ x. Splits (Ruled Whole x) id v (giver v) (given_note v) in subst P (sym same) (gives Whole z (whole_kept z) id v t.0 t.1 m guest apart)
+  pub give_here : (m : Name) → v.guest ≡ Some m → ¬ (v.role ≡ Player m) → Splits (Ruled k) id v (giver v) (given_note v)
+  give_here m guest apart = let t = player_of v.role player in let P : Numbers → Type 0 = λ x. Splits (Ruled x) id v (giver v) (given_note v) in subst P (sym same) (gives z id v t.0 t.1 m guest apart)
 
-  pub take_in_here : (other : ℕ) (w : View) (c : Carried) → w.role ≡ Note → w.guest ≡ Some c.of → w.copy ≡ Some c → v.whole ≡ true → Joins (Ruled Whole k) id v other w (host_of v w) gone
-  take_in_here other w c note guest copy whole = let t = player_of v.role player in let P : Numbers → Type 0 = λ x. Joins (Ruled Whole x) id v other w (host_of v w) gone in
-      subst P (sym same) (takes_in Whole z (whole_kept z) id other v w t.0 c.of c t.1 note guest copy whole refl)
+  pub take_in_here : (other : ℕ) (w : View) (c : Carried) → w.role ≡ Note → w.guest ≡ Some c.of → w.copy ≡ Some c → v.whole ≡ true → Joins (Ruled k) id v other w (host_of v w) gone
+  take_in_here other w c note guest copy whole = let t = player_of v.role player in let P : Numbers → Type 0 = λ x. Joins (Ruled x) id v other w (host_of v w) gone in
+      subst P (sym same) (takes_in z id other v w t.0 c.of c t.1 note guest copy whole refl)
 
-  pub home_here : (other : ℕ) (w : View) (n : Name) (c : Carried) → v.role ≡ Player n → w.role ≡ Note → w.guest ≡ Some n → w.copy ≡ Some c → ¬ (v.role ≡ Player c.of) → Joins (Ruled Whole k) id v other w (home v w) gone
-  home_here other w n c role note guest copy apart = let P : Numbers → Type 0 = λ x. Joins (Ruled Whole x) id v other w (home v w) gone in
-      subst P (sym same) (comes_home Whole z (whole_kept z) id other v w n n c role note guest copy refl apart)
+  pub home_here : (other : ℕ) (w : View) (n : Name) (c : Carried) → v.role ≡ Player n → w.role ≡ Note → w.guest ≡ Some n → w.copy ≡ Some c → ¬ (v.role ≡ Player c.of) → Joins (Ruled k) id v other w (home v w) gone
+  home_here other w n c role note guest copy apart = let P : Numbers → Type 0 = λ x. Joins (Ruled x) id v other w (home v w) gone in
+      subst P (sym same) (comes_home z id other v w n n c role note guest copy refl apart)

@@ -11,7 +11,7 @@ use Rattle.geometry.specs.declared.pin_word.TheConstants.{NEXT_PHASE}
 use Rattle.flash_rule.specs.declared.facts.Owned.{Owned}
 use Rattle.flash_rule.specs.Views.{is_broom, is_player}
 use Rattle.flash_rule.specs.World.{blank_word}
-use Rattle.flash_rule.specs.Seats.{Ruled, Whole}
+use Rattle.flash_rule.specs.Seats.{Ruled}
 use Rattle.flash_rule.specs.Plays.{Sitter}
 use Rattle.flash_rule.specs.BroomPlays.{CanCondemn, CanWipe, CanRenew, CanRetire, condemn_told, wipe_told, freed_told, kept_told, retired_told}
 use Rattle.flash_rule.proofs.ReclaimAllowed.{condemn_allowed, freed_allowed, kept_allowed, retired_allowed}
@@ -19,31 +19,31 @@ use Rattle.flash_rule.proofs.BroomAllowed.{wipe_allowed}
 
 module _ (z k : Numbers) (same : k ≡ z) (slots id : ℕ) (me : Sitter) where
   pub condemn_here : (word b old : ℕ) (p : PinWord) → word ≡ pin_index z b → old ≡ pin_word p → is_broom me.0.role ≡ true → CanCondemn me.0 b p
-      → Allows (Ruled Whole k) slots id me word (λ n. either (n == old) (old + NEXT_PHASE) n) (condemn_told (step slots word old (old + NEXT_PHASE) none) me)
+      → Allows (Ruled k) slots id me word (λ n. either (n == old) (old + NEXT_PHASE) n) (condemn_told (step slots word old (old + NEXT_PHASE) none) me)
   condemn_here word b old p is packed broom can =
-      let P : Numbers × ℕ × ℕ → Type 0 = λ x. Allows (Ruled Whole x.0) slots id me x.1 (λ n. either (n == x.2) (x.2 + NEXT_PHASE) n) (condemn_told (step slots x.1 x.2 (x.2 + NEXT_PHASE) none) me) in
+      let P : Numbers × ℕ × ℕ → Type 0 = λ x. Allows (Ruled x.0) slots id me x.1 (λ n. either (n == x.2) (x.2 + NEXT_PHASE) n) (condemn_told (step slots x.1 x.2 (x.2 + NEXT_PHASE) none) me) in
       subst P (λ i. (sym same i, sym is i, sym packed i)) (condemn_allowed z slots id me b p broom can)
 
   pub wipe_here : (word : ℕ) (o : Owned) → word ≡ page_index z o.block 0 + me.0.wiped → is_player me.0.role ≡ true → me.0.numbers ≡ z → CanWipe me.0 o
-      → Allows (Ruled Whole k) slots id me word (λ _. blank_word) (λ _. wipe_told (step slots word blank_word 0 none) me blank_word)
+      → Allows (Ruled k) slots id me word (λ _. blank_word) (λ _. wipe_told (step slots word blank_word 0 none) me blank_word)
   wipe_here word o is player numbers can =
-      let P : Numbers × ℕ → Type 0 = λ x. Allows (Ruled Whole x.0) slots id me x.1 (λ _. blank_word) (λ _. wipe_told (step slots x.1 blank_word 0 none) me blank_word) in
+      let P : Numbers × ℕ → Type 0 = λ x. Allows (Ruled x.0) slots id me x.1 (λ _. blank_word) (λ _. wipe_told (step slots x.1 blank_word 0 none) me blank_word) in
       subst P (λ i. (sym same i, sym is i)) (wipe_allowed z slots id me o player numbers can)
 
   pub freed_here : (word added : ℕ) (o : Owned) → word ≡ pin_index z o.block → added ≡ freed_added o.written → CanRenew me.0 o
-      → Allows (Ruled Whole k) slots id me word (λ n. (n + added) % 2 ^ 64) (freed_told (step slots word added 0 none) me)
+      → Allows (Ruled k) slots id me word (λ n. (n + added) % 2 ^ 64) (freed_told (step slots word added 0 none) me)
   freed_here word added o is adds can =
-      let P : Numbers × ℕ × ℕ → Type 0 = λ x. Allows (Ruled Whole x.0) slots id me x.1 (λ n. (n + x.2) % 2 ^ 64) (freed_told (step slots x.1 x.2 0 none) me) in
+      let P : Numbers × ℕ × ℕ → Type 0 = λ x. Allows (Ruled x.0) slots id me x.1 (λ n. (n + x.2) % 2 ^ 64) (freed_told (step slots x.1 x.2 0 none) me) in
       subst P (λ i. (sym same i, sym is i, sym adds i)) (freed_allowed z slots id me o can)
 
   pub kept_here : (word added : ℕ) (o : Owned) → word ≡ pin_index z o.block → added ≡ kept_added o.written → CanRenew me.0 o
-      → Allows (Ruled Whole k) slots id me word (λ n. (n + added) % 2 ^ 64) (kept_told (step slots word added 0 none) me)
+      → Allows (Ruled k) slots id me word (λ n. (n + added) % 2 ^ 64) (kept_told (step slots word added 0 none) me)
   kept_here word added o is adds can =
-      let P : Numbers × ℕ × ℕ → Type 0 = λ x. Allows (Ruled Whole x.0) slots id me x.1 (λ n. (n + x.2) % 2 ^ 64) (kept_told (step slots x.1 x.2 0 none) me) in
+      let P : Numbers × ℕ × ℕ → Type 0 = λ x. Allows (Ruled x.0) slots id me x.1 (λ n. (n + x.2) % 2 ^ 64) (kept_told (step slots x.1 x.2 0 none) me) in
       subst P (λ i. (sym same i, sym is i, sym adds i)) (kept_allowed z slots id me o can)
 
   pub retired_here : (word : ℕ) (o : Owned) → word ≡ pin_index z o.block → CanRetire me.0 o
-      → Allows (Ruled Whole k) slots id me word (λ n. (n + NEXT_PHASE) % 2 ^ 64) (retired_told (step slots word NEXT_PHASE 0 none) me)
+      → Allows (Ruled k) slots id me word (λ n. (n + NEXT_PHASE) % 2 ^ 64) (retired_told (step slots word NEXT_PHASE 0 none) me)
   retired_here word o is can =
-      let P : Numbers × ℕ → Type 0 = λ x. Allows (Ruled Whole x.0) slots id me x.1 (λ n. (n + NEXT_PHASE) % 2 ^ 64) (retired_told (step slots x.1 NEXT_PHASE 0 none) me) in
+      let P : Numbers × ℕ → Type 0 = λ x. Allows (Ruled x.0) slots id me x.1 (λ n. (n + NEXT_PHASE) % 2 ^ 64) (retired_told (step slots x.1 NEXT_PHASE 0 none) me) in
       subst P (λ i. (sym same i, sym is i)) (retired_allowed z slots id me o can)

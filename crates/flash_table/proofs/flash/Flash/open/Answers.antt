@@ -3,7 +3,7 @@ use Rattle.atomic_table.specs.Table.{opening}
 use Rattle.geometry.specs.Geometry.{numbers_of}
 use Rattle.geometry.specs.Limits.{Numbers}
 use Rattle.flash_rule.specs.declared.view.View.{View}
-use Rattle.flash_rule.specs.Seats.{Ruled, Whole, dealer}
+use Rattle.flash_rule.specs.Seats.{Ruled, dealer}
 use Rattle.flash_rule.proofs.Opening.{opening_ruled}
 use Rattle.flash_rule.proofs.Owning.{none_some}
 use Rattle.flash_table.specs.declared.pass.Pass.{Pass}
@@ -15,7 +15,7 @@ use Rattle.flash_table.proofs.flash.Flash.open.Goals as goal
 pub of_words-requires : goal.of_words-requires
 of_words-requires c =
     let z : Numbers = numbers_of c.args.geometry.now in
-    let P : List ℕ → Type 0 = λ words. Ruled Whole z (opening words [] (dealer z)) in
+    let P : List ℕ → Type 0 = λ words. Ruled z (opening words [] (dealer z)) in
     subst P (sym (c.deref.ensures.value ∙ c.in_ok-words.ensures)) (opening_ruled z c.args.geometry.now.in_limits)
 
 nothing : (k : ℕ) (p : Pass) → ¬ (slice_get [] k ≡ Some p)
