@@ -1,5 +1,5 @@
 -- How a session of the program ends.
-use Rattle.std.specs.Prelude.{◌≡◌, ◌≢◌, ◌⊎◌, ℕ, List, IfSome, Some, Result, Ok, Err}
+use Rattle.std.specs.Prelude.{◌≡◌, ◌≢◌, ◌⊎◌, ℕ, List, [], IfSome, Some, Result, Ok, Err}
 use Rattle.std.specs.Io.KnownBytes.{Appends, IsAtEnd}
 use Rattle.clap.specs.Words.{IsAmong, Text, kind_of}
 use Rattle.clap.specs.declared.error.Error.{Error}
@@ -39,30 +39,36 @@ status_of (stop.Run found) = status_of_run found
 status_of stop.Help = 1
 status_of stop.Memory = 4
 
--- the device that the words of a command line describe
+-- the device that the words of a command line describe: clap finds no fault in the words
 pub record IsDescribed (words : List Text) (geo : Geometry) : Type 0 where
+  pub accepted : faults_given words ≡ []
   pub given : Options
   pub told : AreOptionsOf (rows_given words) given
   pub numbers : numbers_of geo ≡ numbers_given given
 
--- the words describe no device, for this reason
+-- clap finds no fault in the words, but they describe no device, for this reason
 pub record DescribesNone (words : List Text) (found : GeometryFault) : Type 0 where
+  pub accepted : faults_given words ≡ []
   pub given : Options
   pub told : AreOptionsOf (rows_given words) given
   pub first : first_fault (numbers_given given) ≡ Some found
 
--- the trace was played: the input was read to its end, and the text of all its bytes was written
+-- the trace was played: the input was read to its end, the text of all its bytes was written, and no call failed
 pub record Played (words : List Text) (input_old input_new output_old output_new : Stream) : Type 0 where
   pub geo : Geometry
   pub device : IsDescribed words geo
   pub end : IsAtEnd input_new.bytes
   pub text : IfSome input_old.bytes (λ bytes. AppendsText geo bytes output_old.bytes output_new.bytes)
+  pub input_unfailed : input_new.failures ≡ input_old.failures
+  pub output_unfailed : output_new.failures ≡ output_old.failures
 
--- the words asked for help, which was written
-pub record Helped (words : List Text) (output_old output_new : Stream) : Type 0 where
+-- the words asked for help, which was written, and nothing was read
+pub record Helped (words : List Text) (input_old input_new output_old output_new : Stream) : Type 0 where
   pub asked : IsAmong kind.DisplayHelp (faults_given words)
   pub text : List ℕ
   pub out : Appends output_old.bytes output_new.bytes text
+  pub unread : input_new ≡ input_old
+  pub unfailed : output_new.failures ≡ output_old.failures
 
 -- a run on the described device stopped
 pub record Stopped (words : List Text) (found : RunFault) (input_old input_new output_old output_new : Stream) : Type 0 where
@@ -70,20 +76,22 @@ pub record Stopped (words : List Text) (found : RunFault) (input_old input_new o
   pub device : IsDescribed words geo
   pub why : ExplainsRun found geo input_old input_new output_old output_new
 
--- why a session stopped. Nothing is on the output but after `Output` of a run and `Help`
+-- why a session stopped. Nothing is on the output but after `Output` of a run and `Help`, and nothing was read but by
+-- a run
 abbrev pub ExplainsStop : Stop → List Text → Stream → Stream → Stream → Stream → Type 0
 ExplainsStop (stop.Arguments error) words input_old input_new output_old output_new =
-    IsAmong (kind_of error) (faults_given words) × (kind_of error ≢ kind.DisplayHelp) × (output_new ≡ output_old)
-ExplainsStop (stop.Geometry found) words input_old input_new output_old output_new = DescribesNone words found × (output_new ≡ output_old)
+    IsAmong (kind_of error) (faults_given words) × (kind_of error ≢ kind.DisplayHelp) × (input_new ≡ input_old) × (output_new ≡ output_old)
+ExplainsStop (stop.Geometry found) words input_old input_new output_old output_new =
+    DescribesNone words found × (input_new ≡ input_old) × (output_new ≡ output_old)
 ExplainsStop (stop.Run found) words input_old input_new output_old output_new = Stopped words found input_old input_new output_old output_new
 ExplainsStop stop.Help words input_old input_new output_old output_new =
-    IsAmong kind.DisplayHelp (faults_given words) × (output_new.failures ≢ output_old.failures)
-ExplainsStop stop.Memory words input_old input_new output_old output_new = output_new ≡ output_old
+    IsAmong kind.DisplayHelp (faults_given words) × (input_new ≡ input_old) × (output_new.failures ≢ output_old.failures)
+ExplainsStop stop.Memory words input_old input_new output_old output_new = (input_new ≡ input_old) × (output_new ≡ output_old)
 
 -- how an attempt ended
 abbrev pub Explains : Result (Unit {0}) Stop → List Text → Stream → Stream → Stream → Stream → Type 0
 Explains (Ok _) words input_old input_new output_old output_new =
-    Played words input_old input_new output_old output_new ⊎ Helped words output_old output_new
+    Played words input_old input_new output_old output_new ⊎ Helped words input_old input_new output_old output_new
 Explains (Err why) words input_old input_new output_old output_new = ExplainsStop why words input_old input_new output_old output_new
 
 -- the exit status
@@ -100,7 +108,7 @@ pub record EndsSession (status : ℕ) (words : List Text) (input_old input_new o
 -- what comes of the words that clap refused with an error: the help is written, and every other text is told elsewhere
 abbrev pub AnswersClap : Error → Result (Unit {0}) Stop → Stream → Stream → Type 0
 AnswersClap error (Ok _) output_old output_new =
-    (kind_of error ≡ kind.DisplayHelp) × (text : List ℕ) × Appends output_old.bytes output_new.bytes text
+    (kind_of error ≡ kind.DisplayHelp) × (output_new.failures ≡ output_old.failures) × (text : List ℕ) × Appends output_old.bytes output_new.bytes text
 AnswersClap error (Err (stop.Arguments told)) output_old output_new =
     (told ≡ error) × (kind_of error ≢ kind.OutOfMemory) × (kind_of error ≢ kind.DisplayHelp) × (output_new ≡ output_old)
 AnswersClap error (Err (stop.Geometry found)) output_old output_new = ⊥

@@ -32,9 +32,11 @@ pub fn run<R: Read, W: Write>(
 ) -> Result<(), RunFault>
     requires { hosts_of geometry.now ≡ 0 }
 
-    // The reader was read to its end, and what was written is the text of all its bytes.
+    // The reader was read to its end, what was written is the text of all its bytes, and no call failed.
     ensures end { OnOk result (IsAtEnd (R.remaining (inner_of reader.new))) }
     ensures text { OnOk result (IfSome (R.remaining (inner_of reader.old)) (λ bytes. AppendsText geometry.now bytes (W.contents (inner_of writer.old)) (W.contents (inner_of writer.new)))) }
+    ensures reader_unfailed { OnOk result (failures_of reader.new ≡ failures_of reader.old) }
+    ensures writer_unfailed { OnOk result (failures_of writer.new ≡ failures_of writer.old) }
 
     // A fault says what happened. Only a failed writer has taken bytes, and those are a beginning of the text.
     ensures why { IfErr result (λ fault. ExplainsRun fault geometry.now (stream_of R.remaining reader.old) (stream_of R.remaining reader.new) (stream_of W.contents writer.old) (stream_of W.contents writer.new)) }
@@ -74,6 +76,7 @@ fn play<W: Write>(
     requires lines { desk.old.lines.items ≡ [] }
     ensures sent { OnOk result (Appends (W.contents (inner_of writer.old)) (W.contents (inner_of writer.new)) (text_of_commands (geometry_of ftl.old) commands.now)) }
     ensures part { OnErr result (AppendsBeginning (W.contents (inner_of writer.old)) (W.contents (inner_of writer.new)) (text_of_commands (geometry_of ftl.old) commands.now)) }
+    ensures unfailed { OnOk result (failures_of writer.new ≡ failures_of writer.old) }
     ensures failed { OnErr result (failures_of writer.new ≢ failures_of writer.old) }
 {
     for i in 0..commands.len() {

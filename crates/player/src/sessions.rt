@@ -33,7 +33,10 @@ pub fn session<'a, R: Read, W: Write, E: Write>(
     writer: &mut Watched<W>,
     errors: &mut Watched<E>,
 ) -> u8
-    ensures { EndsSession result (map (λ w. w.now) words.entry.now) (stream_of R.remaining reader.old) (stream_of R.remaining reader.new) (stream_of W.contents writer.old) (stream_of W.contents writer.new) }
+    ensures ending { EndsSession result (map (λ w. w.now) words.entry.now) (stream_of R.remaining reader.old) (stream_of R.remaining reader.new) (stream_of W.contents writer.old) (stream_of W.contents writer.new) }
+
+    // A session that ends well tells nothing there.
+    ensures quiet { result ≡ 0 → stream_of E.contents errors.new ≡ stream_of E.contents errors.old }
 {
     match attempt(alloc, words, reader, writer) {
         Ok(()) => 0,

@@ -1,5 +1,5 @@
 -- What loading a trace takes from a reader.
-use Rattle.std.specs.Prelude.{◌≡◌, ◌≢◌, ℕ, ◌+◌, ◌<◌, List, length, Option, IfSome, ⊤}
+use Rattle.std.specs.Prelude.{◌≡◌, ◌≢◌, ℕ, ◌+◌, ◌<◌, List, length, Option, IfSome}
 use Rattle.std.specs.Io.KnownBytes.{Consumes}
 use Rattle.trace.specs.declared.fault.TraceFaultKind.{TraceFaultKind}
 use Rattle.trace.specs.declared.fault.TraceFaultKind.TheVariants as fault
@@ -12,11 +12,11 @@ pub record TookOneTooMany (old new : Option (List ℕ)) : Type 0 where
   pub took : Consumes old new taken
   pub count : length taken ≡ MAX_TRACE_BYTES + 1
 
--- why a trace was not loaded: a read failed, memory ran out, or the trace is too big
+-- why a trace was not loaded: a read failed, or none did and memory ran out or the trace is too big
 abbrev pub ExplainsLoad : TraceFaultKind → ℕ → ℕ → Option (List ℕ) → Option (List ℕ) → Type 0
 ExplainsLoad fault.Read failures_old failures_new old new = failures_new ≢ failures_old
-ExplainsLoad fault.Memory failures_old failures_new old new = ⊤
-ExplainsLoad fault.Big failures_old failures_new old new = TookOneTooMany old new
+ExplainsLoad fault.Memory failures_old failures_new old new = failures_new ≡ failures_old
+ExplainsLoad fault.Big failures_old failures_new old new = (failures_new ≡ failures_old) × TookOneTooMany old new
 ExplainsLoad fault.Fields failures_old failures_new old new = ⊥
 ExplainsLoad fault.Worker failures_old failures_new old new = ⊥
 ExplainsLoad fault.Op failures_old failures_new old new = ⊥
