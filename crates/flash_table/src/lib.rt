@@ -23,6 +23,3 @@ pub use gate::{Gate, NoGate, Point};
 pub use pass::{Note, OpenBlock, Pass};
 pub use retired::Retired;
 pub use retired_broom::RetiredBroom;
-
-#[cfg(test)]
-mod tests;
