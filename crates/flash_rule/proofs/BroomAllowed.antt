@@ -1,5 +1,5 @@
 -- Each kind of step that a broom makes on map words and page words, as the table asks for it: whatever the table is, the step keeps the rule and tells what it says.
-use Rattle.std.proofs.Common.{◌≡◌, ℕ, ◌+◌, ◌*◌, ◌%◌, ◌^◌, ◌<◌, ◌≤◌, ◌==◌, eq-eqb, ne_eqb, true, Some, length, set, sym, refl, ap, ◌∙◌, subst, arith}
+use Rattle.std.proofs.Common.{◌≡◌, ℕ, ◌+◌, ◌*◌, ◌<◌, ◌≤◌, ◌==◌, eq-eqb, ne_eqb, true, Some, set, sym, refl, ap, ◌∙◌, subst, arith}
 use Rattle.std.proofs.Math.ListN.{get_or}
 use mathlib.Core.Option.{none}
 use mathlib.Core.Logic.{dite}
@@ -9,18 +9,16 @@ use Rattle.atomic_table.specs.Table.{Act, Valid, step, keeps, stepped, carried_a
 use Rattle.atomic_table.proofs.Lists.{set_again}
 use Rattle.geometry.specs.Limits.{Numbers}
 use Rattle.geometry.specs.MapWords.{map_word}
-use Rattle.geometry.specs.TableOrder.{pin_index, page_index}
+use Rattle.geometry.specs.TableOrder.{page_index}
 use Rattle.geometry.specs.declared.map_word.MapWord.{MapWord}
-use Rattle.geometry.specs.declared.pin_word.TheConstants.{NEXT_PHASE, PAGE_WRITTEN}
 use Rattle.flash_rule.specs.declared.facts.Owned.{Owned}
-use Rattle.flash_rule.specs.declared.facts.Work.{Work}
 use Rattle.flash_rule.specs.declared.facts.Source.{Source}
 use Rattle.flash_rule.specs.declared.view.View.{View}
 use Rattle.flash_rule.specs.Views.{is_player, owned_at}
 use Rattle.flash_rule.specs.World.{World, Fits, sector_word, blank_word}
 use Rattle.flash_rule.specs.Rule.{Lawful}
 use Rattle.flash_rule.specs.Seats.{Ruled}
-use Rattle.flash_rule.specs.Plays.{Sitter, CanPut, CanCount, CanClose, words_in, next_page, put_told, count_told, close_told}
+use Rattle.flash_rule.specs.Plays.{Sitter}
 use Rattle.flash_rule.specs.BroomPlays.{Named, CanGetStamp, GotStamp, CanMove, Moved, CanWipe, wiper, broom_look_told, stamp_told, source_told, move_told, wipe_told}
 use Rattle.flash_rule.proofs.Owning.{some_same}
 use Rattle.flash_rule.proofs.Places.{fits_load, fits_map, fits_page, page_within, page_same}
@@ -28,7 +26,6 @@ use Rattle.flash_rule.proofs.OwnSteps.{player_of}
 use Rattle.flash_rule.proofs.BroomSteps.{looks, stamp_low, gets_stamp, gets_source, source_low, names_source}
 use Rattle.flash_rule.proofs.Moving.{mover, exchanged_world, stays, moves_page, move_told_here}
 use Rattle.flash_rule.proofs.Wiping.{row_of, wiped_index, wipe_world, wipes_word, erased_low}
-use Rattle.flash_rule.proofs.Steps.{put_allowed, count_allowed, close_allowed}
 
 module _ (z : Numbers) (slots id : ℕ) (me : Sitter) where
   -- ---- look
@@ -167,17 +164,3 @@ module _ (z : Numbers) (slots id : ℕ) (me : Sitter) where
         ),
         (refl, λ _ _ _ _. refl),
       )
-
-  -- ---- an open block of its own, which a broom fills, counts and closes just as a pass does
-  pub broom_put_allowed : (o : Owned) (x : ℕ) → is_player me.0.role ≡ true → me.0.numbers ≡ z → CanPut me.0 o
-      → Allows (Ruled z) slots id me (page_index z o.block (next_page o).page + length (words_in me.0.work o)) (λ _. x)
-      (λ _. put_told (step slots (page_index z o.block (next_page o).page + length (words_in me.0.work o)) x 0 none) me x)
-  broom_put_allowed = put_allowed z slots id me
-
-  pub broom_count_allowed : (o : Owned) (x : Work) → is_player me.0.role ≡ true → me.0.numbers ≡ z → CanCount me.0 o x
-      → Allows (Ruled z) slots id me (pin_index z o.block) (λ n. (n + PAGE_WRITTEN) % 2 ^ 64) (count_told (step slots (pin_index z o.block) PAGE_WRITTEN 0 none) me)
-  broom_count_allowed = count_allowed z slots id me
-
-  pub broom_close_allowed : (o : Owned) → is_player me.0.role ≡ true → me.0.numbers ≡ z → CanClose me.0 o
-      → Allows (Ruled z) slots id me (pin_index z o.block) (λ n. (n + NEXT_PHASE) % 2 ^ 64) (close_told (step slots (pin_index z o.block) NEXT_PHASE 0 none) me)
-  broom_close_allowed = close_allowed z slots id me
