@@ -1,4 +1,4 @@
--- The steps of a broom that erases, and its notes, as `atomic_table` asks for them, at the place that the code computes and at the table's own numbers.
+-- The steps of a broom that erases as `atomic_table` asks for them, at the place that the code computes and at the table's own numbers.
 use Rattle.std.proofs.Common.{◌≡◌, ℕ, ◌+◌, ◌%◌, ◌^◌, ◌==◌, true, sym, subst}
 use prog.Atomic.{either}
 use mathlib.Core.Option.{none}
