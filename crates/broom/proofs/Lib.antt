@@ -2,3 +2,4 @@ pub mod Leaving
 pub mod Loading
 pub mod Counting
 pub mod Choosing
+pub mod Sweeping

@@ -5,3 +5,4 @@ pub mod Told
 pub mod Ends
 -- Internal: the parts of a drain.
 pub mod Surveying
+pub mod Relocating

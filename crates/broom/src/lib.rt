@@ -5,6 +5,7 @@
 mod broom;
 mod draining;
 mod folding;
+mod relocation;
 mod survey;
 
 pub use broom::Broom;

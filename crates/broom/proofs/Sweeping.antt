@@ -1,0 +1,151 @@
+-- The steps of a broom that drains its victim, put together.
+use Rattle.std.proofs.Common.{◌≡◌, ℕ, ◌+◌, ◌-◌, ◌<◌, ◌≤◌, List, ◌++◌, ◌∷◌, [], Option, None, Some, IfSome, sym, refl, ap, ◌∙◌, subst, arith}
+use Rattle.geometry.specs.Geometry.{pages_of}
+use Rattle.geometry.specs.History.{Begins, Call}
+use Rattle.geometry.specs.Limits.{Numbers}
+use Rattle.geometry.specs.MapWords.{FitsMap, map_word}
+use Rattle.geometry.specs.declared.map_word.MapWord.{MapWord}
+use Rattle.geometry.specs.declared.pin_word.Phase.TheVariants.{Victim}
+use Rattle.geometry.proofs.Histories.{Begins-refl, Begins-push, Begins-trans}
+use Rattle.geometry.proofs.PinBits.{map_same}
+use Rattle.flash_rule.specs.declared.facts.Source.{Source}
+use Rattle.flash_rule.specs.declared.facts.Work.{Work}
+use Rattle.flash_rule.specs.declared.view.View.{View}
+use Rattle.flash_rule.specs.Views.{AreOfHosts}
+use Rattle.flash_rule.specs.World.{sector_word}
+use Rattle.flash_rule.specs.Rule.{IsValue}
+use Rattle.flash_rule.specs.BroomPlays.{GotStamp, Named}
+use Rattle.flash_table.specs.declared.flash.Flash.{Flash}
+use Rattle.flash_table.specs.declared.pass.OpenBlock.{OpenBlock}
+use Rattle.flash_table.specs.declared.broom_seat.BroomBlocks.{BroomBlocks}
+use Rattle.flash_table.specs.declared.broom_seat.BroomSeat.{BroomSeat}
+use Rattle.flash_table.specs.declared.broom_seat.ReclaimedBlock.{ReclaimedBlock}
+use Rattle.flash_table.specs.Owning.{reclaimed_as}
+use Rattle.flash_table.specs.Flash.{IsBroomOf, broom_view, own_blocks, geometry_of}
+use Rattle.broom.specs.Relocating.{IsSweeping, Sweeps, Relocated, FoundDead, FoundLive, victim_page}
+
+-- ---- one part after another
+pub relocated_none : (v : View) → Relocated v 0 v
+relocated_none v =
+    let e : v.moves ≡ v.moves + 0 = omega arith in
+    record { changed = λ i. record v { moves = e i }; later = Begins-refl v.seen; named = Begins-refl v.named; programmed = Begins-refl v.programs }
+
+-- a view whose fields were set, by its own fields
+settled : (v w : View) (moves : ℕ) (x : View)
+    → w ≡ record v { seen = x.seen; named = x.named; owns = x.owns; work = x.work; programs = x.programs; cleared = x.cleared; source = x.source; moves = moves }
+    → w ≡ record v { seen = w.seen; named = w.named; owns = w.owns; work = w.work; programs = w.programs; cleared = w.cleared; source = w.source; moves = moves }
+settled v w moves x e =
+    e
+    ∙ (λ i. record v { seen = (sym e i).seen; named = (sym e i).named; owns = (sym e i).owns; work = (sym e i).work; programs = (sym e i).programs; cleared = (sym e i).cleared; source = (sym e i).source; moves = moves })
+
+pub relocated_then : (u v w : View) (a b n : ℕ) → a + b ≡ n → Relocated u a v → Relocated v b w → Relocated u n w
+relocated_then u v w a b n sum first second =
+    let moves : v.moves + b ≡ u.moves + n = let m : v.moves ≡ u.moves + a = ap (λ (x : View). x.moves) first.changed in omega arith in
+    record {
+      changed = second.changed
+          ∙ (λ i. record (first.changed i) { seen = w.seen; named = w.named; owns = w.owns; work = w.work; programs = w.programs; cleared = w.cleared; source = w.source; moves = moves i });
+      later = Begins-trans u.seen v.seen w.seen first.later second.later;
+      named = Begins-trans u.named v.named w.named first.named second.named;
+      programmed = Begins-trans u.programs v.programs w.programs first.programmed second.programmed;
+    }
+
+-- a part that sets only the source, and how many pages are cleared
+pub relocated_source : (v w : View) (source : Option Source) (cleared : ℕ) → w ≡ record v { source = source; cleared = cleared } → Relocated v 0 w
+relocated_source v w source cleared e =
+    let none : v.moves ≡ v.moves + 0 = omega arith in
+    record {
+      changed = settled v w (v.moves + 0) (record v { source = source; cleared = cleared }) (e ∙ (λ i. record v { source = source; cleared = cleared; moves = none i }));
+      later = subst (λ (l : List Call). Begins v.seen l) (sym (ap (λ (x : View). x.seen) e)) (Begins-refl v.seen);
+      named = subst (λ (l : List (ℕ × ℕ)). Begins v.named l) (sym (ap (λ (x : View). x.named) e)) (Begins-refl v.named);
+      programmed = subst (λ (l : List MapWord). Begins v.programs l) (sym (ap (λ (x : View). x.programs) e)) (Begins-refl v.programs);
+    }
+
+-- the broom still sweeps where its blocks and its work are the same
+pub sweeps_on : (f : Flash) (most : ℕ) (s t : BroomSeat) (x : ReclaimedBlock) → IsSweeping f most s x → IsBroomOf f t → own_blocks t ≡ own_blocks s → (broom_view t).work ≡ (broom_view s).work
+    → AreOfHosts (broom_view t).numbers (broom_view t).seen → IsSweeping f most t x
+sweeps_on f most s t x h seat blocks work callers =
+    record {
+      seat = seat;
+      draining = ap (λ (y : BroomBlocks). y.reclaiming) blocks ∙ h.draining;
+      low = h.low;
+      short = h.short;
+      young = h.young;
+      destination = λ o is. h.destination o (ap (λ (y : BroomBlocks). y.destination) (sym blocks) ∙ is);
+      spare = λ o is. h.spare o (ap (λ (y : BroomBlocks). y.spare) (sym blocks) ∙ is);
+      filed = λ w is.
+          let r = h.filed w (sym work ∙ is) in (r.0, ap (λ (y : BroomBlocks). y.destination) blocks ∙ r.1, r.2, r.3);
+      callers = callers;
+    }
+
+-- ---- the victim's pages
+pub page_fits : (f : Flash) (most : ℕ) (s : BroomSeat) (x : ReclaimedBlock) (p : ℕ) → IsSweeping f most s x → p < x.written → FitsMap (victim_page x p)
+page_fits f most s x p h below =
+    let limits = (geometry_of f).in_limits in
+    let most_blocks = limits.blocks_high in
+    let most_pages = limits.pages_high in
+    let most_cycles = limits.endurance_high in
+    let low = h.low in
+    let short = h.short in
+    let young = h.young in
+    record { generation = omega arith; block = omega arith; page = omega arith }
+
+-- ---- the stamp of the next page
+module _ (v w : View) (x : ReclaimedBlock) (n : ℕ) (told : GotStamp v (reclaimed_as Victim x) n w) where
+  pub stamp_dead : v.numbers.sectors ≤ n → FoundDead v w
+  stamp_dead none =
+      let e = told.dead none in record { went = relocated_source v w None (v.cleared + 1) e; cleared = ap (λ (y : View). y.cleared) e; source = ap (λ (y : View). y.source) e }
+
+  pub stamp_named : n < v.numbers.sectors → w ≡ record v { source = Some (record { page = victim_page x v.cleared; stamp = n; value = None }) }
+  stamp_named low = told.sector low
+
+-- what a step that sets the source and what is cleared leaves as it was
+pub callers_same : (v w : View) (source : Option Source) (cleared : ℕ) → w ≡ record v { source = source; cleared = cleared } → AreOfHosts v.numbers v.seen → AreOfHosts w.numbers w.seen
+callers_same v w source cleared e callers = subst (λ (y : View). AreOfHosts y.numbers y.seen) (sym e) callers
+
+-- ---- the look at its sector
+module _ (v w : View) (s : ℕ) (named : Option MapWord) (told : Named v s (sector_word named) w) where
+  pub look_went : Relocated v 0 w
+  look_went =
+      let none : v.moves ≡ v.moves + 0 = omega arith in
+      let e = told.changed in
+      record {
+        changed = settled v w (v.moves + 0) (record v { seen = w.seen; named = v.named ++ (s, sector_word named) ∷ []; source = w.source; cleared = w.cleared })
+            (e ∙ (λ i. record v { seen = w.seen; named = v.named ++ (s, sector_word named) ∷ []; source = w.source; cleared = w.cleared; moves = none i }));
+        later = told.later;
+        named = subst (λ (l : List (ℕ × ℕ)). Begins v.named l) (sym (ap (λ (y : View). y.named) e)) (Begins-push v.named (s, sector_word named));
+        programmed = subst (λ (l : List MapWord). Begins v.programs l) (sym (ap (λ (y : View). y.programs) e)) (Begins-refl v.programs);
+      }
+
+  pub look_callers : AreOfHosts w.numbers w.seen
+  look_callers = subst (λ (z : Numbers). AreOfHosts z w.seen) (sym (ap (λ (y : View). y.numbers) told.changed)) told.callers
+
+  module _ (page : MapWord) (is : v.source ≡ Some (record { page = page; stamp = s; value = None })) where
+    pub look_live : s < v.numbers.sectors → named ≡ Some page → FoundLive v page s w
+    look_live low here =
+        let word : sector_word named ≡ map_word page = ap sector_word here in
+        let t = told.page (λ e. absurd (let m : map_word page ≡ 0 = sym word ∙ e in omega arith)) in
+        let live = told.live (record { page = page; stamp = s; value = None }) t.1 is refl word t.4 in
+        record { went = look_went; cleared = live.1; low = low; value = t.1; whole = t.5; source = live.0 }
+
+    pub look_dead : IfSome named FitsMap → FitsMap page → ¬ (named ≡ Some page) → FoundDead v w
+    look_dead fits fits' else =
+        let dead = told.dead (record { page = page; stamp = s; value = None }) is refl (unlike named fits else) in record { went = look_went; cleared = dead.1; source = dead.0 } where
+      unlike : (o : Option MapWord) → IfSome o FitsMap → ¬ (o ≡ Some page) → ¬ (sector_word o ≡ map_word page)
+      unlike None _ _ e = absurd (omega arith)
+      unlike (Some m) fits else e = else (ap (λ k. Some k) (map_same m page fits fits' e))
+
+-- ---- both
+pub found_dead_then : (u v w : View) → Relocated u 0 v → v.cleared ≡ u.cleared → FoundDead v w → FoundDead u w
+found_dead_then u v w first same h = record { went = relocated_then u v w 0 0 0 refl first h.went; cleared = h.cleared ∙ ap (λ n. n + 1) same; source = h.source }
+
+pub found_live_then : (u v w : View) (page : MapWord) (s : ℕ) → Relocated u 0 v → v.cleared ≡ u.cleared → FoundLive v page s w → FoundLive u page s w
+found_live_then u v w page s first same h =
+    let numbers : v.numbers ≡ u.numbers = ap (λ (x : View). x.numbers) first.changed in
+    record {
+      went = relocated_then u v w 0 0 0 refl first h.went;
+      cleared = h.cleared ∙ same;
+      low = subst (λ (z : Numbers). s < z.sectors) numbers h.low;
+      value = h.value;
+      whole = subst (λ (z : Numbers). IsValue z h.value) numbers h.whole;
+      source = h.source;
+    }

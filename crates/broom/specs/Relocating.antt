@@ -1,0 +1,97 @@
+-- How a broom that drains its victim goes on, and what each part of it tells.
+use Rattle.std.specs.Prelude.{◌≡◌, ℕ, ◌+◌, ◌-◌, ◌<◌, ◌≤◌, Bool, true, false, List, Option, None, Some}
+use Rattle.geometry.specs.Geometry.{blocks_of, pages_of, endurance_of}
+use Rattle.geometry.specs.History.{Begins}
+use Rattle.geometry.specs.declared.map_word.MapWord.{MapWord}
+use Rattle.flash_rule.specs.declared.facts.Source.{Source}
+use Rattle.flash_rule.specs.declared.view.View.{View}
+use Rattle.flash_rule.specs.Views.{AreOfHosts}
+use Rattle.flash_rule.specs.Rule.{IsValue}
+use Rattle.flash_rule.specs.Plays.{next_page}
+use Rattle.flash_rule.specs.BroomPlays.{CanMove}
+use Rattle.flash_table.specs.declared.flash.Flash.{Flash}
+use Rattle.flash_table.specs.declared.pass.OpenBlock.{OpenBlock}
+use Rattle.flash_table.specs.declared.broom_seat.BroomBlocks.{BroomBlocks}
+use Rattle.flash_table.specs.declared.broom_seat.BroomSeat.{BroomSeat}
+use Rattle.flash_table.specs.declared.broom_seat.ReclaimedBlock.{ReclaimedBlock}
+use Rattle.flash_table.specs.declared.broom_seat.Reclaiming.TheVariants.{Draining}
+use Rattle.flash_table.specs.Owning.{owned_of}
+use Rattle.flash_table.specs.Flash.{IsBroomOf, broom_view, own_blocks, geometry_of}
+use Rattle.broom.specs.Ready.{HasRoom, IsFiled}
+
+-- a page of the victim, in its generation
+abbrev pub victim_page : ReclaimedBlock → ℕ → MapWord
+victim_page x page = record { generation = x.generation; block = x.block; page = page }
+
+-- The broom drains this victim. Its destination has fewer pages written than this, and nothing is written in its spare
+pub record IsSweeping (f : Flash) (most : ℕ) (s : BroomSeat) (x : ReclaimedBlock) : Type 0 where
+  pub seat : IsBroomOf f s
+  pub draining : (own_blocks s).reclaiming ≡ Draining x
+  pub low : x.block < blocks_of (geometry_of f)
+  pub short : x.written ≤ pages_of (geometry_of f)
+  pub young : x.generation < endurance_of (geometry_of f)
+  pub destination : (o : OpenBlock) → (own_blocks s).destination ≡ Some o → HasRoom (geometry_of f) most o
+  pub spare : (o : OpenBlock) → (own_blocks s).spare ≡ Some o → HasRoom (geometry_of f) 1 o
+  pub filed : IsFiled (broom_view s) (own_blocks s)
+  pub callers : AreOfHosts (broom_view s).numbers (broom_view s).seen
+
+-- a broom that sweeps this victim, with a page left in its destination, if it has one
+abbrev pub Sweeps : Flash → BroomSeat → ReclaimedBlock → Type 0
+Sweeps f s x = IsSweeping f (pages_of (geometry_of f)) s x
+
+-- the pages that are left in a block, if there is one
+abbrev pub room_in : ℕ → Option OpenBlock → ℕ
+room_in pages None = 0
+room_in pages (Some o) = pages - o.written
+
+-- the pages that a broom can still copy to
+abbrev pub room_left : ℕ → BroomBlocks → ℕ
+room_left pages x = room_in pages x.destination + room_in pages x.spare
+
+-- one or none
+abbrev pub count_if : Bool → ℕ
+count_if true = 1
+count_if false = 0
+
+-- The broom went on with its victim: so many pages were moved, and what was programmed, seen and looked at was added at the ends
+pub record Relocated (v : View) (copied : ℕ) (w : View) : Type 0 where
+  pub changed : w ≡ record v { seen = w.seen; named = w.named; owns = w.owns; work = w.work; programs = w.programs; cleared = w.cleared; source = w.source; moves = v.moves + copied }
+  pub later : Begins v.seen w.seen
+  pub named : Begins v.named w.named
+  pub programmed : Begins v.programs w.programs
+
+-- The next page of the victim was found dead
+pub record FoundDead (v w : View) : Type 0 where
+  pub went : Relocated v 0 w
+  pub cleared : w.cleared ≡ v.cleared + 1
+  pub source : w.source ≡ None
+
+-- Or it was found live, by a look at this sector, and is now the source
+pub record FoundLive (v : View) (page : MapWord) (sector : ℕ) (w : View) : Type 0 where
+  pub went : Relocated v 0 w
+  pub cleared : w.cleared ≡ v.cleared
+  pub low : sector < v.numbers.sectors
+  pub value : List ℕ
+  pub whole : IsValue v.numbers value
+  pub source : w.source ≡ Some (record { page = page; stamp = sector; value = Some value })
+
+-- The source was copied to the next page of the destination, and the copy is counted
+pub record Copied (v : View) (o : OpenBlock) (x : Source) (copy : MapWord) (w : View) : Type 0 where
+  pub went : Relocated v 0 w
+  pub cleared : w.cleared ≡ v.cleared
+  pub is : copy ≡ next_page (owned_of o)
+  pub can : CanMove w x copy
+
+-- The destination is closed where it is full, and nothing else is done
+pub record Tidied (pages : ℕ) (v : View) (x : BroomBlocks) (w : View) (y : BroomBlocks) : Type 0 where
+  pub went : Relocated v 0 w
+  pub cleared : w.cleared ≡ v.cleared
+  pub source : w.source ≡ v.source
+  pub room : room_left pages y ≡ room_left pages x
+
+-- The next page of the victim is cleared, and this many were moved. No more than one page of the room was used
+pub record Cleared (pages : ℕ) (v : View) (x : BroomBlocks) (copied : ℕ) (w : View) (y : BroomBlocks) : Type 0 where
+  pub went : Relocated v copied w
+  pub cleared : w.cleared ≡ v.cleared + 1
+  pub source : w.source ≡ None
+  pub room : room_left pages x ≤ room_left pages y + 1
