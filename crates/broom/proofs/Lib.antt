@@ -3,3 +3,5 @@ pub mod Loading
 pub mod Counting
 pub mod Choosing
 pub mod Sweeping
+pub mod Copying
+pub mod Clearing

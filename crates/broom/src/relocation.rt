@@ -1,10 +1,8 @@
 //! The relocation: each page of the victim that is still live is copied to the destination, and its sector's map word is moved to the copy.
-ghost use Rattle.std.specs.Prelude.{◌≡◌, ℕ, ◌+◌, ◌<◌, ◌≤◌, MatchBool, MatchOption, None, Some};
+ghost use Rattle.std.specs.Prelude.{◌≡◌, ℕ, ◌+◌, ◌<◌, ◌≤◌, List, MatchBool, MatchOption, None, Some};
 ghost use Rattle.geometry.specs.Geometry.{pages_of};
-ghost use Rattle.geometry.specs.MapWords.{FitsMap};
-ghost use Rattle.flash_rule.specs.declared.facts.Source.{Source};
-ghost use Rattle.flash_rule.specs.BroomPlays.{CanMove};
-ghost use Rattle.flash_table.specs.Flash.{IsBroomOf, broom_view, own_blocks, geometry_of};
+ghost use Rattle.flash_rule.specs.Rule.{IsValue};
+ghost use Rattle.flash_table.specs.Flash.{broom_view, own_blocks, geometry_of};
 ghost use Rattle.flash_table.specs.declared.pass.OpenBlock.{OpenBlock};
 ghost use Rattle.flash_table.specs.declared.broom_seat.ReclaimedBlock.{ReclaimedBlock};
 ghost use Rattle.broom.specs.Relocating.{IsSweeping, Sweeps, Relocated, FoundDead, FoundLive, Copied, Tidied, Cleared, victim_page, room_left, count_if};
@@ -51,8 +49,8 @@ fn open_destination(seat: &mut BroomSeat)
 fn copy_page(flash: &Flash, seat: &mut BroomSeat, page: MapWord, sector: u32) -> MapWord
     requires sweeps { (x : ReclaimedBlock) × Sweeps flash.now seat.old x × ((page ≡ victim_page x page.page) × (page.page < x.written)) }
     requires destination { (o : OpenBlock) × ((own_blocks seat.old).destination ≡ Some o) }
-    requires source { (value : _) × ((broom_view seat.old).source ≡ Some (record { page = page; stamp = sector; value = Some value })) }
-    ensures told { (o : OpenBlock) (value : _) → (own_blocks seat.old).destination ≡ Some o → (broom_view seat.old).source ≡ Some (record { page = page; stamp = sector; value = Some value })
+    requires source { (value : List ℕ) × ((broom_view seat.old).source ≡ Some (record { page = page; stamp = sector; value = Some value })) }
+    ensures told { (o : OpenBlock) (value : List ℕ) → (own_blocks seat.old).destination ≡ Some o → (broom_view seat.old).source ≡ Some (record { page = page; stamp = sector; value = Some value }) → IsValue (broom_view seat.old).numbers value
         → Copied (broom_view seat.old) o (record { page = page; stamp = sector; value = Some value }) result (broom_view seat.new) }
     ensures blocks { (o : OpenBlock) → (own_blocks seat.old).destination ≡ Some o → own_blocks seat.new ≡ record (own_blocks seat.old) { destination = Some (record o { written = o.written + 1 }) } }
     ensures sweeps { (x : ReclaimedBlock) → Sweeps flash.now seat.old x → IsSweeping flash.now (pages_of (geometry_of flash.now) + 1) seat.new x }

@@ -1,0 +1,187 @@
+-- The steps around a copy: the spare becomes the destination, the map word is moved, and a full destination is closed.
+use Rattle.std.proofs.Common.{◌≡◌, ◌≢◌, ℕ, ◌+◌, ◌-◌, ◌<◌, ◌≤◌, Bool, true, false, MatchBool, ◌⊎◌, inl, inr, ⊎_elim, List, [], ◌++◌, Option, None, Some, sym, refl, ap, ◌∙◌, subst, arith}
+use Rattle.geometry.specs.Geometry.{pages_of}
+use Rattle.geometry.specs.History.{Begins, Call}
+use Rattle.geometry.specs.Limits.{Numbers}
+use Rattle.geometry.specs.MapWords.{FitsMap, map_word}
+use Rattle.geometry.specs.declared.map_word.MapWord.{MapWord}
+use Rattle.geometry.proofs.Histories.{Begins-refl}
+use Rattle.flash_rule.specs.declared.facts.Owned.{Owned}
+use Rattle.flash_rule.specs.declared.facts.Source.{Source}
+use Rattle.flash_rule.specs.declared.facts.Work.{Work}
+use Rattle.flash_rule.specs.declared.view.View.{View}
+use Rattle.flash_rule.specs.Views.{AreOfHosts, owned_at, without}
+use Rattle.flash_rule.specs.Plays.{CanClose, IsSettled, next_page}
+use Rattle.flash_rule.specs.BroomPlays.{Moved}
+use Rattle.flash_rule.proofs.Owning.{some_same, none_some}
+use Rattle.flash_table.specs.declared.flash.Flash.{Flash}
+use Rattle.flash_table.specs.declared.pass.OpenBlock.{OpenBlock}
+use Rattle.flash_table.specs.declared.broom_seat.BroomBlocks.{BroomBlocks}
+use Rattle.flash_table.specs.declared.broom_seat.BroomSeat.{BroomSeat}
+use Rattle.flash_table.specs.declared.broom_seat.ReclaimedBlock.{ReclaimedBlock}
+use Rattle.flash_table.specs.Owning.{owned_of}
+use Rattle.flash_table.specs.Flash.{IsBroomOf, broom_view, own_blocks, geometry_of}
+use Rattle.flash_table.proofs.Blocks.{destination_at}
+use Rattle.broom.specs.Ready.{HasRoom, IsFiled}
+use Rattle.broom.specs.Relocating.{IsSweeping, Sweeps, Relocated, Tidied, room_in, room_left, count_if}
+use Rattle.broom.proofs.Sweeping.{relocated_none, sweeps_on}
+
+-- ---- the destination is opened
+-- the spare was made the destination where there was none, and nothing else was done
+pub record Opened (s t : BroomSeat) : Type 0 where
+  pub view : broom_view t ≡ broom_view s
+  pub kept : (o : OpenBlock) → (own_blocks s).destination ≡ Some o → own_blocks t ≡ own_blocks s
+  pub opened : (own_blocks s).destination ≡ None → own_blocks t ≡ record (own_blocks s) { destination = (own_blocks s).spare; spare = None }
+
+some_or_none : (o : Option OpenBlock) → ((p : OpenBlock) × (o ≡ Some p)) ⊎ (o ≡ None)
+some_or_none None = inr refl
+some_or_none (Some p) = inl (p, refl)
+
+module _ (f : Flash) (s t : BroomSeat) (h : Opened s t) where
+  pub opened_room : (pages : ℕ) → room_left pages (own_blocks t) ≡ room_left pages (own_blocks s)
+  opened_room pages =
+      ⊎_elim
+      (λ (some : (p : OpenBlock) × ((own_blocks s).destination ≡ Some p)). ap (room_left pages) (h.kept some.0 some.1))
+      (λ (none : (own_blocks s).destination ≡ None).
+      let before : room_in pages (own_blocks s).destination ≡ 0 = ap (room_in pages) none in ap (room_left pages) (h.opened none) ∙ (omega arith))
+      (some_or_none (own_blocks s).destination)
+
+  pub opened_some : (pages : ℕ) → 0 < room_left pages (own_blocks s) → (o : OpenBlock) × ((own_blocks t).destination ≡ Some o)
+  opened_some pages room =
+      ⊎_elim
+      (λ (some : (p : OpenBlock) × ((own_blocks s).destination ≡ Some p)). (some.0, ap (λ (x : BroomBlocks). x.destination) (h.kept some.0 some.1) ∙ some.1))
+      (λ (none : (own_blocks s).destination ≡ None).
+      ⊎_elim
+      (λ (some : (p : OpenBlock) × ((own_blocks s).spare ≡ Some p)). (some.0, ap (λ (x : BroomBlocks). x.destination) (h.opened none) ∙ some.1))
+      (λ (bare : (own_blocks s).spare ≡ None).
+      let first : room_in pages (own_blocks s).destination ≡ 0 = ap (room_in pages) none in
+      let second : room_in pages (own_blocks s).spare ≡ 0 = ap (room_in pages) bare in absurd (omega arith))
+      (some_or_none (own_blocks s).spare))
+      (some_or_none (own_blocks s).destination)
+
+  pub opened_sweeps : (x : ReclaimedBlock) → IsBroomOf f t → Sweeps f s x → Sweeps f t x
+  opened_sweeps x seat g =
+      let low = (geometry_of f).in_limits.pages_low in
+      let callers = subst (λ (v : View). AreOfHosts v.numbers v.seen) (sym h.view) g.callers in
+      let work = ap (λ (v : View). v.work) h.view in
+      ⊎_elim
+      (λ (some : (p : OpenBlock) × ((own_blocks s).destination ≡ Some p)). sweeps_on f (pages_of (geometry_of f)) s t x g seat (h.kept some.0 some.1) work callers)
+      (λ (none : (own_blocks s).destination ≡ None).
+      let now = h.opened none in
+      record {
+        seat = seat;
+        draining = ap (λ (y : BroomBlocks). y.reclaiming) now ∙ g.draining;
+        low = g.low;
+        short = g.short;
+        young = g.young;
+        destination = λ o is.
+            let r = g.spare o (sym (ap (λ (y : BroomBlocks). y.destination) now) ∙ is) in
+            let room = r.room in record { low = r.low; room = omega arith; young = r.young };
+        spare = λ o is. absurd (none_some o (sym (ap (λ (y : BroomBlocks). y.spare) now) ∙ is));
+        filed = λ w is. let r = g.filed w (sym work ∙ is) in absurd (none_some r.0 (sym none ∙ r.1));
+        callers = callers;
+      })
+      (some_or_none (own_blocks s).destination)
+
+-- ---- the copy can be named
+pub copy_fits : (f : Flash) (o : OpenBlock) → HasRoom (geometry_of f) (pages_of (geometry_of f)) o → FitsMap (next_page (owned_of o))
+copy_fits f o h =
+    let limits = (geometry_of f).in_limits in
+    let most_blocks = limits.blocks_high in
+    let most_pages = limits.pages_high in
+    let most_cycles = limits.endurance_high in
+    let low = h.low in
+    let room = h.room in
+    let young = h.young in
+    record { generation = omega arith; block = omega arith; page = omega arith }
+
+-- ---- the map word is moved
+module _ (v w : View) (x : Source) (n : ℕ) (moved : Bool) (told : Moved v x n w) (is : MatchBool moved (n ≡ map_word x.page) (¬ (n ≡ map_word x.page))) where
+  moves_are : w.moves ≡ v.moves + count_if moved
+  moves_are = by_outcome moved is where
+    by_outcome : (b : Bool) → MatchBool b (n ≡ map_word x.page) (¬ (n ≡ map_word x.page)) → w.moves ≡ v.moves + count_if b
+    by_outcome true yes = (told.succeeded yes).0
+    by_outcome false other = told.failed other ∙ (omega arith)
+
+  pub moved_went : Relocated v (count_if moved) w
+  moved_went =
+      let e = told.changed in
+      record {
+        changed = e
+            ∙ (λ i. record v { seen = w.seen; named = (sym e i).named; owns = (sym e i).owns; work = (sym e i).work; programs = (sym e i).programs; cleared = (sym e i).cleared; source = (sym e i).source; moves = moves_are i });
+        later = told.later;
+        named = subst (λ (l : List (ℕ × ℕ)). Begins v.named l) (sym (ap (λ (y : View). y.named) e)) (Begins-refl v.named);
+        programmed = subst (λ (l : List MapWord). Begins v.programs l) (sym (ap (λ (y : View). y.programs) e)) (Begins-refl v.programs);
+      }
+
+  pub moved_callers : AreOfHosts w.numbers w.seen
+  moved_callers = subst (λ (z : Numbers). AreOfHosts z w.seen) (sym (ap (λ (y : View). y.numbers) told.changed)) told.callers
+
+-- ---- a full destination is closed
+module _ (f : Flash) (s : BroomSeat) (o : OpenBlock) (is : (own_blocks s).destination ≡ Some o) where
+  pub close_can : IsFiled (broom_view s) (own_blocks s) → CanClose (broom_view s) (owned_of o)
+  close_can filed =
+      let here = destination_at (own_blocks s) (broom_view s).owns s.owns in
+      record {
+        own = here o is;
+        opened = refl;
+        settled = λ w e work own.
+            let t = filed w work in
+            let same : owned_of t.0 ≡ e = some_same (owned_of t.0) e (sym (here t.0 t.1) ∙ (ap (λ b. owned_at b (broom_view s).owns) (sym t.2) ∙ own)) in
+            let low = t.3 in
+            let written : t.0.written ≡ e.written = ap (λ (x : Owned). x.written) same in omega arith;
+      }
+
+  module _ (t : BroomSeat) (owns : List Owned) (told : broom_view t ≡ record (broom_view s) { owns = owns; work = None }) (blocks : own_blocks t ≡ record (own_blocks s) { destination = None }) (full : o.written ≡ pages_of (geometry_of f)) where
+    pub closed_tidied : Tidied (pages_of (geometry_of f)) (broom_view s) (own_blocks s) (broom_view t) (own_blocks t)
+    closed_tidied =
+        let v = broom_view s in
+        let none : v.moves ≡ v.moves + 0 = omega arith in
+        let e = told in
+        let used : room_in (pages_of (geometry_of f)) (own_blocks s).destination ≡ pages_of (geometry_of f) - o.written = ap (room_in (pages_of (geometry_of f))) is in
+        record {
+          went = record {
+            changed = e
+                ∙ (λ i. record v { seen = (sym e i).seen; named = (sym e i).named; owns = (sym e i).owns; work = (sym e i).work; programs = (sym e i).programs; cleared = (sym e i).cleared; source = (sym e i).source; moves = none i });
+            later = subst (λ (l : List Call). Begins v.seen l) (sym (ap (λ (x : View). x.seen) e)) (Begins-refl v.seen);
+            named = subst (λ (l : List (ℕ × ℕ)). Begins v.named l) (sym (ap (λ (x : View). x.named) e)) (Begins-refl v.named);
+            programmed = subst (λ (l : List MapWord). Begins v.programs l) (sym (ap (λ (x : View). x.programs) e)) (Begins-refl v.programs);
+          };
+          cleared = ap (λ (x : View). x.cleared) e;
+          source = ap (λ (x : View). x.source) e;
+          room = ap (room_left (pages_of (geometry_of f))) blocks ∙ (omega arith);
+        }
+
+    pub closed_sweeps : (x : ReclaimedBlock) → IsBroomOf f t → IsSweeping f (pages_of (geometry_of f) + 1) s x → Sweeps f t x
+    closed_sweeps x seat g =
+        record {
+          seat = seat;
+          draining = ap (λ (y : BroomBlocks). y.reclaiming) blocks ∙ g.draining;
+          low = g.low;
+          short = g.short;
+          young = g.young;
+          destination = λ p is. absurd (none_some p (sym (ap (λ (y : BroomBlocks). y.destination) blocks) ∙ is));
+          spare = λ p is. g.spare p (sym (ap (λ (y : BroomBlocks). y.spare) blocks) ∙ is);
+          filed = λ w is. absurd (none_some w (sym (ap (λ (x : View). x.work) told) ∙ is));
+          callers = subst (λ (v : View). AreOfHosts v.numbers v.seen) (sym told) g.callers;
+        }
+
+  pub left_tidied : Tidied (pages_of (geometry_of f)) (broom_view s) (own_blocks s) (broom_view s) (own_blocks s)
+  left_tidied = record { went = relocated_none (broom_view s); cleared = refl; source = refl; room = refl }
+
+  pub left_sweeps : (x : ReclaimedBlock) → ¬ (o.written ≡ pages_of (geometry_of f)) → IsSweeping f (pages_of (geometry_of f) + 1) s x → Sweeps f s x
+  left_sweeps x left g =
+      record {
+        seat = g.seat;
+        draining = g.draining;
+        low = g.low;
+        short = g.short;
+        young = g.young;
+        destination = λ p there.
+            let r = g.destination p there in
+            let room = r.room in
+            let same : o.written ≡ p.written = ap (λ (y : OpenBlock). y.written) (some_same o p (sym is ∙ there)) in record { low = r.low; room = omega arith; young = r.young };
+        spare = g.spare;
+        filed = g.filed;
+        callers = g.callers;
+      }

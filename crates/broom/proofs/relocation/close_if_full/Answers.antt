@@ -1,0 +1,43 @@
+use Rattle.std.proofs.Common.{◌≡◌, Some, sym, ap, ◌∙◌}
+use Rattle.geometry.specs.Geometry.{pages_of}
+use Rattle.flash_rule.specs.Views.{without}
+use Rattle.flash_table.specs.declared.broom_seat.BroomBlocks.{BroomBlocks}
+use Rattle.flash_table.specs.Flash.{broom_view, own_blocks, geometry_of}
+use Rattle.broom.proofs.Clearing.{close_can, closed_tidied, closed_sweeps, left_tidied, left_sweeps}
+use Rattle.broom.proofs.relocation.close_if_full.Goals as goal
+use Rattle.broom.proofs.relocation.close_if_full.Goals.{In-Some, After-pages}
+
+opened : (c : In-Some) → (own_blocks c.args.seat.now).destination ≡ Some c.in-Some.destination
+opened c = ap (λ (x : BroomBlocks). x.destination) (sym c.blocks-2.ensures) ∙ c.in-Some.is
+
+pages_are : (c : After-pages) → c.pages.result ≡ pages_of (geometry_of c.args.flash.now)
+pages_are c = c.pages.ensures.value ∙ ap pages_of c.geometry.ensures
+
+pub close_destination-requires-clause-settled : goal.close_destination-requires-clause-settled
+close_destination-requires-clause-settled c =
+    let is = opened (goal.at.close_destination-requires-clause-settled c).In-Some in
+    let g = c.requires.sweeps.1 in (c.in-Some.destination, is, close_can c.args.flash.now c.args.seat.now c.in-Some.destination is g.filed, (g.destination c.in-Some.destination is).low)
+
+pub returns-then-destination-pages-clause-told : goal.returns-then-destination-pages-clause-told
+returns-then-destination-pages-clause-told c =
+    let at = goal.at.returns-then-destination-pages-clause-told c in
+    let o = c.in-Some.destination in
+    let is = opened at.In-Some in
+    closed_tidied c.args.flash.now c.args.seat.now o is c.close_destination.new.broom (without o.block (broom_view c.args.seat.now).owns) (c.close_destination.ensures.told o is) c.close_destination.ensures.blocks
+    (c.if-destination-pages.true ∙ pages_are at.After-pages)
+
+pub returns-then-destination-pages-clause-sweeps : goal.returns-then-destination-pages-clause-sweeps
+returns-then-destination-pages-clause-sweeps c x =
+    let at = goal.at.returns-then-destination-pages-clause-sweeps c in
+    let o = c.in-Some.destination in
+    let is = opened at.In-Some in
+    closed_sweeps c.args.flash.now c.args.seat.now o is c.close_destination.new.broom (without o.block (broom_view c.args.seat.now).owns) (c.close_destination.ensures.told o is) c.close_destination.ensures.blocks
+    (c.if-destination-pages.true ∙ pages_are at.After-pages) x c.close_destination.ensures.broom
+
+pub returns-else-destination-pages-clause-told : goal.returns-else-destination-pages-clause-told
+returns-else-destination-pages-clause-told c = let at = goal.at.returns-else-destination-pages-clause-told c in left_tidied c.args.flash.now c.args.seat.now c.in-Some.destination (opened at.In-Some)
+
+pub returns-else-destination-pages-clause-sweeps : goal.returns-else-destination-pages-clause-sweeps
+returns-else-destination-pages-clause-sweeps c x =
+    let at = goal.at.returns-else-destination-pages-clause-sweeps c in
+    left_sweeps c.args.flash.now c.args.seat.now c.in-Some.destination (opened at.In-Some) x (λ e. c.if-destination-pages.false (e ∙ sym (pages_are at.After-pages)))

@@ -1,0 +1,114 @@
+use Rattle.std.proofs.Common.{◌≡◌, ℕ, ◌+◌, ◌<◌, ◌≤◌, List, Some, length, sym, refl, ap, ◌∙◌, subst, arith}
+use Rattle.geometry.specs.Geometry.{blocks_of, pages_of, words_of}
+use Rattle.flash_rule.specs.declared.facts.Source.{Source}
+use Rattle.flash_rule.specs.declared.view.View.{View}
+use Rattle.flash_rule.proofs.Owning.{some_same}
+use Rattle.flash_rule.specs.Plays.{next_page}
+use Rattle.flash_table.specs.Owning.{owned_of}
+use Rattle.flash_table.specs.declared.pass.OpenBlock.{OpenBlock}
+use Rattle.flash_table.specs.declared.broom_seat.BroomBlocks.{BroomBlocks}
+use Rattle.flash_table.specs.Flash.{broom_view, own_blocks, geometry_of}
+use Rattle.broom.specs.Ready.{HasRoom}
+use Rattle.broom.specs.Relocating.{Sweeps, Copied}
+use Rattle.broom.proofs.Copying.{Filling, filling_none, filling_same, filling_can, filling_more, put_work, filled_can, copied, copied_sweeps}
+use Rattle.broom.proofs.relocation.copy_page.Goals as goal
+use Rattle.broom.proofs.relocation.copy_page.Goals.{In-Some, After-get_source_word-word, After-put_copy_word-2}
+
+-- the destination, with the room that it has
+opened : (c : In-Some) → (own_blocks c.args.seat.now).destination ≡ Some c.in-Some.destination
+opened c = ap (λ (x : BroomBlocks). x.destination) (sym c.blocks-2.ensures) ∙ c.in-Some.is
+
+room : (c : In-Some) → HasRoom (geometry_of c.args.flash.now) (pages_of (geometry_of c.args.flash.now)) c.in-Some.destination
+room c = c.requires.sweeps.1.destination c.in-Some.destination (opened c)
+
+pub loop-i-init : goal.loop-i-init
+loop-i-init c value is =
+    let sweeps = c.requires.sweeps.1 in filling_none c.args.flash.now c.args.seat.now c.in-Some.destination value sweeps.seat (opened (goal.at.loop-i-init c).In-Some) sweeps.filed
+
+pub get_source_word-word-requires-clause-source : goal.get_source_word-word-requires-clause-source
+get_source_word-word-requires-clause-source c =
+    let t = c.requires.source in
+    let x : Source = record { page = c.args.page; stamp = c.args.sector; value = Some t.0 } in (x, ap (λ (v : View). v.source) (c.loop-i.invariant t.0 t.1).changed ∙ t.1, refl)
+
+-- after a word of the source was read
+read : (c : After-get_source_word-word) (value : List ℕ) → (broom_view c.args.seat.now).source ≡ Some (record { page = c.args.page; stamp = c.args.sector; value = Some value })
+    → Filling c.args.flash.now (broom_view c.args.seat.now) (own_blocks c.args.seat.now) c.in-Some.destination value c.loop-i.i c.get_source_word-word.new.broom
+read c value is =
+    let got = c.get_source_word-word.ensures in
+    filling_same c.args.flash.now (broom_view c.args.seat.now) (own_blocks c.args.seat.now) c.in-Some.destination value c.loop-i.i c.loop-i.seat c.get_source_word-word.new.broom (c.loop-i.invariant value is) got.broom got.same got.blocks
+
+pub loop-i-preserved : goal.loop-i-preserved
+loop-i-preserved c value is =
+    let f = c.args.flash.now in
+    let at = (goal.at.loop-i-preserved c).After-get_source_word-word in
+    let o = c.in-Some.destination in
+    let x : Source = record { page = c.args.page; stamp = c.args.sector; value = Some value } in
+    let h = read at value is in
+    let source = ap (λ (v : View). v.source) (c.loop-i.invariant value is).changed ∙ is in
+    filling_more f (broom_view c.args.seat.now) (own_blocks c.args.seat.now) o value c.loop-i.i c.get_source_word-word.result c.get_source_word-word.new.broom c.put_copy_word.new.broom h c.put_copy_word.ensures.broom c.put_copy_word.ensures.blocks
+    (c.put_copy_word.ensures.told o (ap (λ (y : BroomBlocks). y.destination) h.kept ∙ h.opened)) (c.get_source_word-word.ensures.told x value source refl)
+
+-- all words of the source stand in the copy
+full : (c : After-put_copy_word-2) (value : List ℕ) → (broom_view c.args.seat.now).source ≡ Some (record { page = c.args.page; stamp = c.args.sector; value = Some value })
+    → Filling c.args.flash.now (broom_view c.args.seat.now) (own_blocks c.args.seat.now) c.in-Some.destination value (words_of (geometry_of c.args.flash.now)) c.loop-i.seat
+full c value is =
+    let f = c.args.flash.now in
+    let words : c.words-words.result ≡ words_of (geometry_of f) = c.words-words.ensures.value ∙ ap words_of c.geometry.ensures in
+    let most = c.loop-i.auto.i-end in
+    let least = c.loop-i-test.false in
+    let all : c.loop-i.i ≡ words_of (geometry_of f) = omega arith in
+    subst (λ k. Filling f (broom_view c.args.seat.now) (own_blocks c.args.seat.now) c.in-Some.destination value k c.loop-i.seat) all (c.loop-i.invariant value is)
+
+-- and the stamp behind them
+stamped : (c : After-put_copy_word-2) (value : List ℕ) → (broom_view c.args.seat.now).source ≡ Some (record { page = c.args.page; stamp = c.args.sector; value = Some value })
+    → broom_view c.put_copy_word-2.new.broom ≡ record (broom_view c.loop-i.seat) { work = Some (put_work c.in-Some.destination c.loop-i.seat c.args.sector) }
+stamped c value is =
+    let h = full c value is in
+    c.put_copy_word-2.ensures.told c.in-Some.destination (ap (λ (x : BroomBlocks). x.destination) h.kept ∙ h.opened) ∙ ap (λ n. record (broom_view c.loop-i.seat) { work = Some (put_work c.in-Some.destination c.loop-i.seat n) }) c.from.ensures
+
+pub count_copy-requires-clause-filled : goal.count_copy-requires-clause-filled
+count_copy-requires-clause-filled c =
+    let f = c.args.flash.now in
+    let at = (goal.at.count_copy-requires-clause-filled c).After-put_copy_word-2 in
+    let o = c.in-Some.destination in
+    let t = c.requires.source in
+    let h = full at t.0 t.1 in
+    let put = c.put_copy_word-2.ensures in
+    let r = room (goal.at.After-put_copy_word-2 at).In-Some in (
+      o,
+      put_work o c.loop-i.seat c.args.sector,
+      ap (λ (x : BroomBlocks). x.destination) (put.blocks ∙ h.kept) ∙ h.opened,
+      filled_can f (broom_view c.args.seat.now) (own_blocks c.args.seat.now) o t.0 c.args.sector c.loop-i.seat c.put_copy_word-2.new.broom h (stamped at t.0 t.1) put.broom put.blocks,
+      r.room,
+      r.low,
+    )
+
+pub returns-clause-told : goal.returns-clause-told
+returns-clause-told c o value there source whole =
+    let f = c.args.flash.now in
+    let at = (goal.at.returns-clause-told c).After-put_copy_word-2 in
+    let p = c.in-Some.destination in
+    let h = full at value source in
+    let put = c.put_copy_word-2.ensures in
+    let now = stamped at value source in
+    let can = filled_can f (broom_view c.args.seat.now) (own_blocks c.args.seat.now) p value c.args.sector c.loop-i.seat c.put_copy_word-2.new.broom h now put.broom put.blocks in
+    let counted = c.count_copy.ensures.told p (put_work p c.loop-i.seat c.args.sector) (ap (λ (x : BroomBlocks). x.destination) (put.blocks ∙ h.kept) ∙ h.opened) can in
+    let x : Source = record { page = c.args.page; stamp = c.args.sector; value = Some value } in
+    let done = copied f (broom_view c.args.seat.now) (own_blocks c.args.seat.now) p value c.args.sector c.loop-i.seat c.put_copy_word-2.new.broom h now put.broom put.blocks c.count_copy.new.broom counted x source refl refl whole in
+    let same : p ≡ o = some_same p o (sym (opened (goal.at.After-put_copy_word-2 at).In-Some) ∙ there) in
+    let P : OpenBlock → Type 0 = λ q. Copied (broom_view c.args.seat.now) q x (next_page (owned_of p)) (broom_view c.count_copy.new.broom) in subst P same done
+
+pub returns-clause-sweeps : goal.returns-clause-sweeps
+returns-clause-sweeps c x g =
+    let f = c.args.flash.now in
+    let at = (goal.at.returns-clause-sweeps c).After-put_copy_word-2 in
+    let p = c.in-Some.destination in
+    let t = c.requires.source in
+    let h = full at t.0 t.1 in
+    let put = c.put_copy_word-2.ensures in
+    let now = stamped at t.0 t.1 in
+    let can = filled_can f (broom_view c.args.seat.now) (own_blocks c.args.seat.now) p t.0 c.args.sector c.loop-i.seat c.put_copy_word-2.new.broom h now put.broom put.blocks in
+    let here = ap (λ (x : BroomBlocks). x.destination) (put.blocks ∙ h.kept) ∙ h.opened in
+    let counted = c.count_copy.ensures.told p (put_work p c.loop-i.seat c.args.sector) here can in
+    copied_sweeps f (broom_view c.args.seat.now) (own_blocks c.args.seat.now) p t.0 c.args.sector c.loop-i.seat c.put_copy_word-2.new.broom h now put.broom put.blocks c.count_copy.new.broom counted x c.args.seat.now g refl refl
+    c.count_copy.ensures.broom (c.count_copy.ensures.blocks p here)
