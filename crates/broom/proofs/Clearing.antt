@@ -23,16 +23,10 @@ use Rattle.flash_table.specs.Owning.{owned_of}
 use Rattle.flash_table.specs.Flash.{IsBroomOf, broom_view, own_blocks, geometry_of}
 use Rattle.flash_table.proofs.Blocks.{destination_at}
 use Rattle.broom.specs.Ready.{HasRoom, IsFiled}
-use Rattle.broom.specs.Relocating.{IsSweeping, Sweeps, Relocated, Tidied, room_in, room_left, count_if}
-use Rattle.broom.proofs.Sweeping.{relocated_none, sweeps_on}
+use Rattle.broom.specs.Relocating.{IsSweeping, Sweeps, Relocated, FoundDead, FoundLive, Opened, Copied, Tidied, Cleared, room_in, room_left, count_if}
+use Rattle.broom.proofs.Sweeping.{relocated_none, relocated_then, sweeps_on}
 
 -- ---- the destination is opened
--- the spare was made the destination where there was none, and nothing else was done
-pub record Opened (s t : BroomSeat) : Type 0 where
-  pub view : broom_view t ≡ broom_view s
-  pub kept : (o : OpenBlock) → (own_blocks s).destination ≡ Some o → own_blocks t ≡ own_blocks s
-  pub opened : (own_blocks s).destination ≡ None → own_blocks t ≡ record (own_blocks s) { destination = (own_blocks s).spare; spare = None }
-
 some_or_none : (o : Option OpenBlock) → ((p : OpenBlock) × (o ≡ Some p)) ⊎ (o ≡ None)
 some_or_none None = inr refl
 some_or_none (Some p) = inl (p, refl)
@@ -100,7 +94,7 @@ module _ (v w : View) (x : Source) (n : ℕ) (moved : Bool) (told : Moved v x n 
   moves_are : w.moves ≡ v.moves + count_if moved
   moves_are = by_outcome moved is where
     by_outcome : (b : Bool) → MatchBool b (n ≡ map_word x.page) (¬ (n ≡ map_word x.page)) → w.moves ≡ v.moves + count_if b
-    by_outcome true yes = (told.succeeded yes).0
+    by_outcome true same = (told.succeeded same).0
     by_outcome false other = told.failed other ∙ (omega arith)
 
   pub moved_went : Relocated v (count_if moved) w
@@ -185,3 +179,74 @@ module _ (f : Flash) (s : BroomSeat) (o : OpenBlock) (is : (own_blocks s).destin
         filed = g.filed;
         callers = g.callers;
       }
+
+-- ---- one page of the victim
+pub dead_cleared : (pages : ℕ) (v w : View) (x y : BroomBlocks) → FoundDead v w → y ≡ x → Cleared pages v x 0 w y
+dead_cleared pages v w x y dead same = record { went = dead.went; cleared = dead.cleared; source = dead.source; room = (let e = ap (room_left pages) same in omega arith) }
+
+module _ (f : Flash) (a b c d e g : BroomSeat) (page : MapWord) (sector : ℕ) (live : FoundLive (broom_view a) page sector (broom_view b)) (same : own_blocks b ≡ own_blocks a) (opens : Opened b c) (o : OpenBlock)
+    (left : o.written < pages_of (geometry_of f)) (is : (own_blocks c).destination ≡ Some o) (copy : MapWord) where
+  -- the source of the copy
+  abbrev pub source_of : Source
+  source_of = record { page = page; stamp = sector; value = Some live.value }
+
+  module _ (copied : Copied (broom_view c) o source_of copy (broom_view d)) (filled : own_blocks d ≡ record (own_blocks c) { destination = Some (record o { written = o.written + 1 }) })
+      (n : ℕ) (moved : Bool) (told : Moved (broom_view d) source_of n (broom_view e)) (outcome : MatchBool moved (n ≡ map_word page) (¬ (n ≡ map_word page))) (stay : own_blocks e ≡ own_blocks d)
+      (tidy : Tidied (pages_of (geometry_of f)) (broom_view e) (own_blocks e) (broom_view g) (own_blocks g)) where
+    pub live_cleared : Cleared (pages_of (geometry_of f)) (broom_view a) (own_blocks a) (count_if moved) (broom_view g) (own_blocks g)
+    live_cleared =
+        let p : ℕ = pages_of (geometry_of f) in
+        let first : Relocated (broom_view a) 0 (broom_view c) = subst (λ (v : View). Relocated (broom_view a) 0 v) (sym opens.view) live.went in
+        let second : Relocated (broom_view a) 0 (broom_view d) = relocated_then (broom_view a) (broom_view c) (broom_view d) 0 0 0 refl first copied.went in
+        let third : Relocated (broom_view a) (count_if moved) (broom_view e) =
+        relocated_then (broom_view a) (broom_view d) (broom_view e) 0 (count_if moved) (count_if moved) (omega arith) second (moved_went (broom_view d) (broom_view e) source_of n moved told outcome) in
+        let begun : room_left p (own_blocks c) ≡ room_left p (own_blocks a) = opened_room f b c opens p ∙ ap (room_left p) same in
+        let used : room_left p (own_blocks d) ≡ (p - (o.written + 1)) + room_in p (own_blocks c).spare = ap (room_left p) filled in
+        let whole : room_in p (own_blocks c).destination ≡ p - o.written = ap (room_in p) is in
+        let kept : room_left p (own_blocks e) ≡ room_left p (own_blocks d) = ap (room_left p) stay in
+        let ends = tidy.room in
+        let at : (broom_view e).cleared ≡ (broom_view d).cleared + 1 = ap (λ (v : View). v.cleared) told.changed in
+        let views : (broom_view c).cleared ≡ (broom_view b).cleared = ap (λ (v : View). v.cleared) opens.view in
+        let c1 = live.cleared in
+        let c2 = copied.cleared in
+        let c3 = tidy.cleared in
+        record {
+          went = relocated_then (broom_view a) (broom_view e) (broom_view g) (count_if moved) 0 (count_if moved) (omega arith) third tidy.went;
+          cleared = omega arith;
+          source = tidy.source ∙ ap (λ (v : View). v.source) told.changed;
+          room = omega arith;
+        }
+
+-- ---- page after page
+-- The pages of the victim below this one are cleared, so many of them were moved, and there is room for the others
+pub record Clearing (f : Flash) (v : View) (x : ReclaimedBlock) (page copied : ℕ) (s : BroomSeat) : Type 0 where
+  pub sweeps : Sweeps f s x
+  pub went : Relocated v copied (broom_view s)
+  pub cleared : (broom_view s).cleared ≡ page
+  pub source : (broom_view s).source ≡ None
+  pub room : x.written ≤ page + room_left (pages_of (geometry_of f)) (own_blocks s)
+  pub few : copied ≤ page
+
+pub clearing_none : (f : Flash) (s : BroomSeat) (x : ReclaimedBlock) → Sweeps f s x → (broom_view s).cleared ≡ 0 → (broom_view s).source ≡ None → x.written ≤ room_left (pages_of (geometry_of f)) (own_blocks s) → Clearing f (broom_view s) x 0 0 s
+clearing_none f s x sweeps cleared source room = record { sweeps = sweeps; went = relocated_none (broom_view s); cleared = cleared; source = source; room = omega arith; few = omega arith }
+
+pub clearing_more : (f : Flash) (v : View) (x : ReclaimedBlock) (page copied now : ℕ) (moved : Bool) (s t : BroomSeat) → Clearing f v x page copied s → Sweeps f t x
+    → Cleared (pages_of (geometry_of f)) (broom_view s) (own_blocks s) (count_if moved) (broom_view t) (own_blocks t) → now ≡ copied + count_if moved → Clearing f v x (page + 1) now t
+clearing_more f v x page copied now moved s t h sweeps told sum =
+    let c1 = h.cleared in
+    let c2 = told.cleared in
+    let r1 = h.room in
+    let r2 = told.room in
+    let few = h.few in
+    let one : count_if moved ≤ 1 = most moved in
+    record {
+      sweeps = sweeps;
+      went = relocated_then v (broom_view s) (broom_view t) copied (count_if moved) now (sym sum) h.went told.went;
+      cleared = omega arith;
+      source = told.source;
+      room = omega arith;
+      few = omega arith;
+    } where
+  most : (b : Bool) → count_if b ≤ 1
+  most true = omega arith
+  most false = omega arith

@@ -75,6 +75,12 @@ pub record FoundLive (v : View) (page : MapWord) (sector : ℕ) (w : View) : Typ
   pub whole : IsValue v.numbers value
   pub source : w.source ≡ Some (record { page = page; stamp = sector; value = Some value })
 
+-- The spare was made the destination where there was none, and nothing else was done
+pub record Opened (s t : BroomSeat) : Type 0 where
+  pub view : broom_view t ≡ broom_view s
+  pub kept : (o : OpenBlock) → (own_blocks s).destination ≡ Some o → own_blocks t ≡ own_blocks s
+  pub opened : (own_blocks s).destination ≡ None → own_blocks t ≡ record (own_blocks s) { destination = (own_blocks s).spare; spare = None }
+
 -- The source was copied to the next page of the destination, and the copy is counted
 pub record Copied (v : View) (o : OpenBlock) (x : Source) (copy : MapWord) (w : View) : Type 0 where
   pub went : Relocated v 0 w

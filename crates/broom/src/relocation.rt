@@ -2,10 +2,11 @@
 ghost use Rattle.std.specs.Prelude.{◌≡◌, ℕ, ◌+◌, ◌<◌, ◌≤◌, List, MatchBool, MatchOption, None, Some};
 ghost use Rattle.geometry.specs.Geometry.{pages_of};
 ghost use Rattle.flash_rule.specs.Rule.{IsValue};
-ghost use Rattle.flash_table.specs.Flash.{broom_view, own_blocks, geometry_of};
+ghost use Rattle.flash_table.specs.Flash.{IsBroomOf, broom_view, own_blocks, geometry_of};
+ghost use Rattle.flash_table.specs.declared.flash.Flash.{Flash};
 ghost use Rattle.flash_table.specs.declared.pass.OpenBlock.{OpenBlock};
 ghost use Rattle.flash_table.specs.declared.broom_seat.ReclaimedBlock.{ReclaimedBlock};
-ghost use Rattle.broom.specs.Relocating.{IsSweeping, Sweeps, Relocated, FoundDead, FoundLive, Copied, Tidied, Cleared, victim_page, room_left, count_if};
+ghost use Rattle.broom.specs.Relocating.{IsSweeping, Sweeps, Relocated, FoundDead, FoundLive, Opened, Copied, Tidied, Cleared, victim_page, room_left, count_if};
 
 use flash_table::{BroomSeat, Flash, Gate, Point, Reclaiming};
 use geometry::MapWord;
@@ -36,9 +37,8 @@ fn live_sector(flash: &Flash, seat: &mut BroomSeat, page: MapWord) -> Option<u32
 
 // Makes the spare the destination, where there is none.
 fn open_destination(seat: &mut BroomSeat)
-    ensures view { broom_view seat.new ≡ broom_view seat.old }
-    ensures kept { (o : OpenBlock) → (own_blocks seat.old).destination ≡ Some o → own_blocks seat.new ≡ own_blocks seat.old }
-    ensures opened { (own_blocks seat.old).destination ≡ None → own_blocks seat.new ≡ record (own_blocks seat.old) { destination = (own_blocks seat.old).spare; spare = None } }
+    ensures told { Opened seat.old seat.new }
+    ensures broom { (f : Flash) → IsBroomOf f seat.old → IsBroomOf f seat.new }
 {
     if seat.blocks().destination.is_none() {
         seat.use_spare();
