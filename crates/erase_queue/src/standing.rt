@@ -2,7 +2,7 @@ ghost use Rattle.std.specs.Prelude.{◌≡◌, ◌<◌, ◌≤◌, ◌++◌, IfO
 ghost use Rattle.std.specs.List.{IsDistinct};
 ghost use Rattle.std.proofs.Props.{props};
 ghost use Rattle.std.specs.VecDeque.{deque_capacity};
-ghost use Rattle.erase_queue.specs.Numbers.{stands, has_place, after_put};
+ghost use Rattle.erase_queue.specs.Numbers.{has_place, after_put};
 
 use std::alloc::{AllocError, Global};
 use std::collections::VecDeque;
