@@ -19,6 +19,7 @@ use Rattle.flash_table.specs.declared.pass.OpenBlock.{OpenBlock}
 use Rattle.flash_table.specs.declared.broom_seat.BroomBlocks.{BroomBlocks}
 use Rattle.flash_table.specs.declared.broom_seat.BroomSeat.{BroomSeat}
 use Rattle.flash_table.specs.declared.broom_seat.ReclaimedBlock.{ReclaimedBlock}
+use Rattle.flash_table.specs.declared.broom_seat.Reclaiming.TheVariants.{Draining}
 use Rattle.flash_table.specs.Owning.{owned_of}
 use Rattle.flash_table.specs.Flash.{IsBroomOf, broom_view, own_blocks, geometry_of}
 use Rattle.flash_table.proofs.Blocks.{destination_at}
@@ -250,3 +251,6 @@ clearing_more f v x page copied now moved s t h sweeps told sum =
   most : (b : Bool) → count_if b ≤ 1
   most true = omega arith
   most false = omega arith
+
+pub same_victim : (x y : ReclaimedBlock) → Draining x ≡ Draining y → x ≡ y
+same_victim x y e = cc

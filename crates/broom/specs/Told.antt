@@ -5,8 +5,8 @@ use Rattle.geometry.specs.declared.map_word.MapWord.{MapWord}
 use Rattle.flash_rule.specs.declared.view.View.{View}
 use Rattle.flash_table.specs.declared.broom_seat.BroomBlocks.{BroomBlocks}
 use Rattle.broom.specs.declared.broom.Broom.{Broom}
-use Rattle.broom.specs.declared.draining.Drain.{Drain}
-use Rattle.broom.specs.declared.draining.Drain.TheVariants as drain
+use Rattle.broom.specs.declared.answer.Drain.{Drain}
+use Rattle.broom.specs.declared.answer.Drain.TheVariants as drain
 use Rattle.broom.specs.Survey.{Survey, IsSurvey, GainsNothing, IsVictim, loads_of, looks_of, generation_in}
 use Rattle.broom.specs.Ready.{view_of, blocks_of_broom}
 

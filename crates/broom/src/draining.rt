@@ -1,12 +1,32 @@
-/// What a drain did.
-#[derive(Clone, Copy, Debug, PartialEq, Eq)]
-pub enum Drain {
-    /// The block has no live page any more. So many pages were moved out of it.
-    Drained { block: u32, copied: u32 },
-    /// No block is closed, or each closed one is all live.
-    NothingToGain,
-    /// The broom has no block to copy to.
-    NoSpare,
-    /// Another broom or a reader came first.
-    Lost,
+//! Draining: a closed block's live pages are copied elsewhere, so that no map word names it any more.
+ghost use Rattle.broom.specs.Ready.{IsReady};
+ghost use Rattle.broom.specs.Told.{DrainTold};
+
+use crate::answer::Drain;
+use crate::broom::Broom;
+use crate::relocation::relocate;
+use crate::survey::choose;
+use flash_table::{Flash, Gate, Point};
+
+/// Surveys the device, claims the closed block with the fewest live pages, and moves those out of it. It stops at its gate before the
+/// claim, and before each exchange of a map word.
+pub fn drain<G: Gate>(flash: &Flash, broom: &mut Broom, gate: &mut G) -> Drain
+    requires { IsReady flash.now broom.old }
+    ensures told { DrainTold broom.old result broom.new }
+    ensures ready { IsReady flash.now broom.new }
+{
+    if broom.seat.blocks().spare.is_none() {
+        return Drain::NoSpare;
+    }
+    let Some(block) = choose(flash, broom) else {
+        return Drain::NothingToGain;
+    };
+    gate.at(Point::BeforeClaim);
+    let state = broom.states[block as usize];
+    if !flash.claim(&mut broom.seat, block, state) {
+        return Drain::Lost;
+    }
+    let copied = relocate(flash, &mut broom.seat, gate);
+    flash.drain(&mut broom.seat);
+    Drain::Drained { block, copied }
 }

@@ -2,12 +2,14 @@
 //! only `Broom::new` takes memory.
 #![tactic(auto)]
 
+mod answer;
 mod broom;
 mod draining;
 mod folding;
 mod relocation;
 mod survey;
 
+pub use answer::Drain;
 pub use broom::Broom;
-pub use draining::Drain;
+pub use draining::drain;
 pub use folding::{Folded, fold, fold_seat};

@@ -1,0 +1,42 @@
+use Rattle.std.proofs.Common.{◌≡◌, ℕ, ◌+◌, ◌<◌, ◌≤◌, Some, sym, refl, ap, ◌∙◌, subst, arith}
+use Rattle.geometry.specs.Geometry.{pages_of}
+use Rattle.flash_table.specs.declared.broom_seat.BroomBlocks.{BroomBlocks}
+use Rattle.flash_table.specs.declared.broom_seat.ReclaimedBlock.{ReclaimedBlock}
+use Rattle.flash_table.specs.declared.broom_seat.Reclaiming.TheVariants as reclaiming
+use Rattle.flash_table.specs.Flash.{broom_view, own_blocks, geometry_of}
+use Rattle.broom.specs.Relocating.{Sweeps, room_left, count_if}
+use Rattle.broom.proofs.Clearing.{clearing_none, clearing_more, same_victim}
+use Rattle.broom.proofs.relocation.relocate.Given.{Over}
+use Rattle.broom.proofs.relocation.relocate.Goals as goal
+use Rattle.broom.proofs.relocation.relocate.Goals.{In-Draining, then-clear_page, else-clear_page}
+
+-- a block that the broom sweeps is the one that the code found
+is_victim : (g : Over) (c : In-Draining g) (x : ReclaimedBlock) → Sweeps c.args.flash.now c.args.seat.now x → x ≡ c.in-Draining.victim
+is_victim g c x h = same_victim x c.in-Draining.victim (sym h.draining ∙ (ap (λ (y : BroomBlocks). y.reclaiming) (sym c.blocks-2.ensures) ∙ c.in-Draining.is))
+
+pub loop-page-init : goal.loop-page-init
+loop-page-init g c =
+    let f = c.args.flash.now in
+    let t = c.requires.sweeps in
+    let same = is_victim g (goal.at.loop-page-init g c).In-Draining t.0 t.1 in
+    let room = subst (λ (x : ReclaimedBlock). x.written ≤ room_left (pages_of (geometry_of f)) (own_blocks c.args.seat.now)) same t.2 in
+    clearing_none f c.args.seat.now c.in-Draining.victim (subst (Sweeps f c.args.seat.now) same t.1) c.requires.cleared c.requires.source room
+
+pub clear_page-requires-clause-next : goal.clear_page-requires-clause-next
+clear_page-requires-clause-next g c = (c.in-Draining.victim, c.loop-page.invariant.sweeps, (refl, c.loop-page-test.true))
+
+pub clear_page-requires-clause-room : goal.clear_page-requires-clause-room
+clear_page-requires-clause-room g c = let room = c.loop-page.invariant.room in let below = c.loop-page-test.true in omega arith
+
+pub loop-page-preserved : goal.loop-page-preserved
+loop-page-preserved g c =
+    let f = c.args.flash.now in
+    let h = c.loop-page.invariant in
+    let told = c.clear_page.ensures in
+    let more =
+    λ (sum : c.if-clear_page.copied ≡ c.loop-page.copied + count_if c.clear_page.result). clearing_more f (broom_view c.args.seat.now) c.in-Draining.victim c.loop-page.page c.loop-page.copied c.if-clear_page.copied c.clear_page.result c.loop-page.seat c.clear_page.new.seat h
+    (told.sweeps c.in-Draining.victim h.sweeps) told.told sum in
+    elim c.if-clear_page.branch [
+      | then-clear_page w ↦ more (let one : count_if c.clear_page.result ≡ 1 = ap count_if w.if-clear_page.true in let e = w.copied-is in omega arith)
+      | else-clear_page w ↦ more (let none : count_if c.clear_page.result ≡ 0 = ap count_if w.if-clear_page.false in let e = w.copied-is in omega arith)
+    ]
