@@ -1,6 +1,6 @@
 -- A survey as a whole, and the choice by it.
-use Rattle.std.proofs.Common.{◌≡◌, ℕ, ◌<◌, ◌≤◌, Bool, false, true, All, List, ◌++◌, length, Option, None, Some, IfSome, sym, refl, ap, ◌∙◌, subst, arith, append-nil, get_or}
-use Rattle.std.proofs.lemmas.List.{length-map, get_or_past}
+use Rattle.std.proofs.Common.{◌≡◌, ℕ, ◌<◌, Bool, false, true, All, List, ◌++◌, length, Option, None, Some, IfSome, sym, ap, ◌∙◌, subst, arith, get_or}
+use Rattle.std.proofs.lemmas.List.{get_or_past}
 use Rattle.std.proofs.lemmas.List.FromFn.{get_or-map-range_with_len}
 use mathlib.Core.Logic.{dite}
 use native.Mathlib.Decide.{dec_lt}
@@ -8,22 +8,17 @@ use Rattle.geometry.specs.Geometry.{blocks_of, pages_of}
 use Rattle.geometry.specs.Greedy.{greedy_of, IsClosed}
 use Rattle.geometry.specs.History.{Call, Begins}
 use Rattle.geometry.specs.Limits.{Numbers}
-use Rattle.geometry.specs.declared.pin_word.Phase.{Phase}
-use Rattle.geometry.specs.declared.pin_word.Phase.TheVariants.{Free, Open, Closed, Victim, Drained, Erasing, Retired}
 use Rattle.geometry.specs.declared.pin_word.PinWord.{PinWord}
 use Rattle.geometry.proofs.Histories.{Begins-refl}
-use Rattle.flash_rule.specs.declared.facts.Work.{Work}
 use Rattle.flash_rule.specs.declared.view.View.{View}
 use Rattle.flash_rule.specs.Views.{AreOfHosts}
-use Rattle.flash_rule.proofs.Owning.{some_same}
 use Rattle.flash_table.specs.declared.flash.Flash.{Flash}
-use Rattle.flash_table.specs.declared.pass.OpenBlock.{OpenBlock}
 use Rattle.flash_table.specs.declared.broom_seat.BroomBlocks.{BroomBlocks}
 use Rattle.flash_table.specs.declared.broom_seat.BroomSeat.{BroomSeat}
 use Rattle.flash_table.specs.Flash.{IsBroomOf, broom_view, own_blocks, geometry_of, device}
 use Rattle.broom.specs.declared.broom.Broom.{Broom}
 use Rattle.broom.specs.Survey.{Survey, GainsNothing, live_pages, victim_of, loads_of, looks_of}
-use Rattle.broom.specs.Ready.{IsRested, IsFiled, HasRoom, view_of}
+use Rattle.broom.specs.Ready.{IsRested, view_of}
 use Rattle.broom.specs.Told.{Surveyed, GainedNothing}
 use Rattle.broom.specs.Surveying.{IsInRange, StatesLoaded, PagesCounted, Chosen}
 
@@ -104,14 +99,16 @@ module _ (f : Flash) (before after : Broom) (s : BroomSeat) (states : List PinWo
       let pages : v.numbers.pages ≡ (device f).pages = ap (λ (z : Numbers). z.pages) seat.numbers in
       let P : Option ℕ → Type 0 = λ o. IfSome o (λ b. live_pages the_survey b ≡ v.numbers.pages) in gained_nothing (subst P (sym (choice (Some b) is)) (sym (live_is b low) ∙ (full ∙ sym pages)))
 
-  pub chosen : (b : ℕ) → b < length states → Some b ≡ greedy_of counts closed → ¬ (get_or counts b 0 ≡ pages_of (geometry_of f)) → after.states.items ≡ states → Chosen v b after
-  chosen b low is gains kept =
+  pub chosen : (b : ℕ) → b < length states → IsClosed closed b → Some b ≡ greedy_of counts closed → ¬ (get_or counts b 0 ≡ pages_of (geometry_of f)) → after.states.items ≡ states → Chosen v b after
+  chosen b low shut is gains kept =
       let pages : v.numbers.pages ≡ (device f).pages = ap (λ (z : Numbers). z.pages) seat.numbers in
       record {
         survey = the_survey;
         made = made;
         victim = record { chosen = choice (Some b) is; gains = λ e. gains (live_is b low ∙ (e ∙ pages)) };
         kept = sym kept;
+        low = low;
+        closed = subst (λ l. IsClosed l b) loaded.marked shut;
         ranges = subst (λ (z : Numbers). All (IsInRange z) states) (sym seat.numbers) loaded.ranges;
         changed = changed;
       }

@@ -1,5 +1,5 @@
 -- The steps around a copy: the spare becomes the destination, the map word is moved, and a full destination is closed.
-use Rattle.std.proofs.Common.{◌≡◌, ◌≢◌, ℕ, ◌+◌, ◌-◌, ◌<◌, ◌≤◌, Bool, true, false, MatchBool, ◌⊎◌, inl, inr, ⊎_elim, List, [], ◌++◌, Option, None, Some, sym, refl, ap, ◌∙◌, subst, arith}
+use Rattle.std.proofs.Common.{◌≡◌, ℕ, ◌+◌, ◌-◌, ◌<◌, ◌≤◌, Bool, true, false, MatchBool, ◌⊎◌, inl, inr, ⊎_elim, List, Option, None, Some, sym, refl, ap, ◌∙◌, subst, arith}
 use Rattle.geometry.specs.Geometry.{pages_of}
 use Rattle.geometry.specs.History.{Begins, Call}
 use Rattle.geometry.specs.Limits.{Numbers}
@@ -8,10 +8,9 @@ use Rattle.geometry.specs.declared.map_word.MapWord.{MapWord}
 use Rattle.geometry.proofs.Histories.{Begins-refl}
 use Rattle.flash_rule.specs.declared.facts.Owned.{Owned}
 use Rattle.flash_rule.specs.declared.facts.Source.{Source}
-use Rattle.flash_rule.specs.declared.facts.Work.{Work}
 use Rattle.flash_rule.specs.declared.view.View.{View}
-use Rattle.flash_rule.specs.Views.{AreOfHosts, owned_at, without}
-use Rattle.flash_rule.specs.Plays.{CanClose, IsSettled, next_page}
+use Rattle.flash_rule.specs.Views.{AreOfHosts, owned_at}
+use Rattle.flash_rule.specs.Plays.{CanClose, next_page}
 use Rattle.flash_rule.specs.BroomPlays.{Moved}
 use Rattle.flash_rule.proofs.Owning.{some_same, none_some}
 use Rattle.flash_table.specs.declared.flash.Flash.{Flash}
@@ -248,9 +247,9 @@ clearing_more f v x page copied now moved s t h sweeps told sum =
       room = omega arith;
       few = omega arith;
     } where
-  most : (b : Bool) → count_if b ≤ 1
-  most true = omega arith
-  most false = omega arith
+      most : (b : Bool) → count_if b ≤ 1
+      most true = omega arith
+      most false = omega arith
 
 pub same_victim : (x y : ReclaimedBlock) → Draining x ≡ Draining y → x ≡ y
 same_victim x y e = cc

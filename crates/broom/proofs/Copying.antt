@@ -1,10 +1,10 @@
 -- A page is copied: its words are put in order into the next page of the destination, with the stamp behind them, and the page is counted.
-use Rattle.std.proofs.Common.{◌≡◌, ◌≢◌, ℕ, ◌+◌, ◌-◌, ◌<◌, ◌≤◌, eq-eqb, ne_eqb, List, [], ◌∷◌, ◌++◌, length, Option, None, Some, sym, refl, ap, ◌∙◌, subst, arith, length-append, append-nil}
+use Rattle.std.proofs.Common.{◌≡◌, ◌≢◌, ℕ, ◌+◌, ◌-◌, ◌<◌, ◌≤◌, eq-eqb, ne_eqb, List, [], ◌∷◌, ◌++◌, length, Option, None, Some, sym, refl, ap, ◌∙◌, subst, arith, length-append}
 use Rattle.std.proofs.Math.ListN.{get_or, get_or-append}
 use Rattle.std.proofs.lemmas.List.{get_or-append_right}
 use mathlib.Core.Logic.{dite}
 use native.Mathlib.Decide.{ℕ_discrete}
-use Rattle.geometry.specs.Geometry.{blocks_of, pages_of, words_of}
+use Rattle.geometry.specs.Geometry.{pages_of, words_of}
 use Rattle.geometry.specs.History.{Begins, Call}
 use Rattle.geometry.specs.Limits.{Numbers}
 use Rattle.geometry.specs.declared.map_word.MapWord.{MapWord}
@@ -29,7 +29,6 @@ use Rattle.flash_table.specs.Flash.{IsBroomOf, broom_view, own_blocks, geometry_
 use Rattle.flash_table.proofs.Blocks.{destination_at}
 use Rattle.broom.specs.Ready.{HasRoom, IsFiled}
 use Rattle.broom.specs.Relocating.{IsSweeping, Sweeps, Relocated, Copied}
-use Rattle.broom.proofs.Sweeping.{relocated_none}
 
 -- ---- the words of a page
 words_none : (d : Option Work) (o : Owned) → ((x : Work) → d ≡ Some x → x.page.block ≡ o.block → x.page.page < o.written) → words_in d o ≡ []

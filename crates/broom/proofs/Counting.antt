@@ -1,6 +1,6 @@
 -- The second part of a survey: the sectors are looked at, one after the other, and the live pages of each block are counted.
-use Rattle.std.proofs.Common.{◌≡◌, ◌≢◌, ℕ, zero, suc, ◌+◌, ◌<◌, ◌≤◌, ◌==◌, eq-eqb, ne_eqb, Bool, false, true, cond, All, List, [], ◌∷◌, ◌++◌, length, map, Option, None, Some, IfSome, sym, refl, ap, ◌∙◌, subst, arith, append_assoc, append-nil, length-append, set, get_or, replicate, get_or-set_same, get_or-set_other}
-use Rattle.std.specs.List.{enumerate_from, count_by, range_with_len}
+use Rattle.std.proofs.Common.{◌≡◌, ◌≢◌, ℕ, zero, suc, ◌+◌, ◌<◌, ◌≤◌, eq-eqb, ne_eqb, false, true, cond, All, List, [], ◌∷◌, ◌++◌, length, map, Option, None, Some, IfSome, sym, refl, ap, ◌∙◌, subst, arith, append_assoc, append-nil, length-append, set, get_or, replicate, get_or-set_same, get_or-set_other}
+use Rattle.std.specs.List.{enumerate_from, count_by}
 use Rattle.std.proofs.lemmas.List.{map-append, length-map, get_or-map, get_or_past}
 use Rattle.std.proofs.lemmas.List.Elements.{All-nil, All-push}
 use Rattle.std.proofs.lemmas.List.FromFn.{fill_by_all}
@@ -19,11 +19,10 @@ use Rattle.flash_rule.specs.Views.{AreOfHosts}
 use Rattle.flash_rule.specs.World.{sector_word}
 use Rattle.flash_rule.specs.BroomPlays.{Named}
 use Rattle.flash_rule.proofs.Owning.{none_some}
-use Rattle.flash_rule.proofs.Points.{eq_self}
 use Rattle.flash_table.specs.declared.flash.Flash.{Flash}
 use Rattle.flash_table.specs.declared.broom_seat.BroomBlocks.{BroomBlocks}
 use Rattle.flash_table.specs.declared.broom_seat.BroomSeat.{BroomSeat}
-use Rattle.flash_table.specs.Flash.{IsBroomOf, broom_view, own_blocks, device}
+use Rattle.flash_table.specs.Flash.{IsBroomOf, broom_view, own_blocks}
 use Rattle.broom.specs.Survey.{looks_of, lies_in, generation_in, live_pages, counts_of, Survey}
 use Rattle.broom.specs.Surveying.{PagesCounted}
 use Rattle.broom.proofs.Loading.{enumerate_more}

@@ -5,3 +5,4 @@ pub mod Choosing
 pub mod Sweeping
 pub mod Copying
 pub mod Clearing
+pub mod Drains

@@ -1,17 +1,16 @@
 -- The first part of a survey: the states of the blocks are loaded, one after the other.
-use Rattle.std.proofs.Common.{◌≡◌, ◌≢◌, ℕ, zero, suc, ◌⊎◌, ⊎_elim, inl, inr, ◌+◌, ◌<◌, ◌≤◌, All, List, [], ◌∷◌, ◌++◌, Bool, length, map, Option, None, Some, slice_get, sym, refl, ap, ◌∙◌, subst, arith, append_assoc, append-nil, take, set, get_or}
+use Rattle.std.proofs.Common.{◌≡◌, ℕ, zero, suc, ◌⊎◌, ⊎_elim, inl, inr, ◌+◌, ◌<◌, ◌≤◌, All, List, [], ◌∷◌, ◌++◌, Bool, length, map, Option, None, Some, slice_get, sym, refl, ap, ◌∙◌, subst, arith, append_assoc, append-nil, take, set, get_or}
 use Rattle.std.specs.List.{enumerate_from}
 use Rattle.std.proofs.lemmas.List.{map-append, take_all, take_more_set, length-take-le, length-map}
 use Rattle.std.proofs.lemmas.List.Elements.{All-nil, All-push}
 use mathlib.Core.Logic.{dite}
 use native.Mathlib.Decide.{ℕ_discrete}
-use Rattle.geometry.specs.Limits.{Numbers}
-use Rattle.geometry.specs.PinWords.{FitsPin, pin_word}
+use Rattle.geometry.specs.PinWords.{pin_word}
 use Rattle.geometry.specs.declared.pin_word.Phase.{Phase}
 use Rattle.geometry.specs.declared.pin_word.Phase.TheVariants.{Free, Open, Closed, Victim, Drained, Erasing, Retired}
 use Rattle.geometry.specs.declared.pin_word.PinWord.{PinWord}
 use Rattle.flash_rule.specs.declared.view.View.{View}
-use Rattle.flash_rule.specs.BroomPlays.{Loaded, IsLastLoaded}
+use Rattle.flash_rule.specs.BroomPlays.{Loaded}
 use Rattle.flash_table.specs.declared.flash.Flash.{Flash}
 use Rattle.flash_table.specs.declared.broom_seat.BroomBlocks.{BroomBlocks}
 use Rattle.flash_table.specs.declared.broom_seat.BroomSeat.{BroomSeat}
@@ -43,6 +42,9 @@ pub record StandsOnce {X : Type 0} (entries : List (ℕ × X)) (b : ℕ) (x : X)
   pub is : entries ≡ earlier ++ (b, x) ∷ later
   pub last : (k : ℕ) (y : ℕ × X) → slice_get later k ≡ Some y → ¬ (y.0 ≡ b)
 
+first_entry : {X : Type 0} (k b : ℕ) (x : X) (later : List (ℕ × X)) → k ≡ b → (k, x) ∷ later ≡ (b, x) ∷ later
+first_entry k b x later e = ap (λ j. (j, x) ∷ later) e
+
 pub enumerate_once : {X : Type 0} (k i b : ℕ) (xs : List X) (d : X) → i < length xs → k + i ≡ b → StandsOnce (enumerate_from k xs) b (get_or xs i d)
 enumerate_once k i b [] d low at = absurd (omega arith)
 enumerate_once {X} k zero b (x ∷ xs) d low at =
@@ -50,7 +52,7 @@ enumerate_once {X} k zero b (x ∷ xs) d low at =
     record {
       earlier = [];
       later = enumerate_from (k + 1) xs;
-      is = ap (λ j. (j, x) ∷ enumerate_from (k + 1) xs) e;
+      is = first_entry k b x (enumerate_from (k + 1) xs) e;
       last = λ j y is same. let least = enumerate_low (k + 1) xs j y is in absurd (omega arith);
     }
 enumerate_once {X} k (suc i) b (x ∷ xs) d low at =

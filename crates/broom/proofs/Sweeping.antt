@@ -1,6 +1,5 @@
 -- The steps of a broom that drains its victim, put together.
-use Rattle.std.proofs.Common.{◌≡◌, ℕ, ◌+◌, ◌-◌, ◌<◌, ◌≤◌, List, ◌++◌, ◌∷◌, [], Option, None, Some, IfSome, sym, refl, ap, ◌∙◌, subst, arith}
-use Rattle.geometry.specs.Geometry.{pages_of}
+use Rattle.std.proofs.Common.{◌≡◌, ℕ, ◌+◌, ◌<◌, ◌≤◌, List, ◌++◌, ◌∷◌, [], Option, None, Some, IfSome, sym, refl, ap, ◌∙◌, subst, arith}
 use Rattle.geometry.specs.History.{Begins, Call}
 use Rattle.geometry.specs.Limits.{Numbers}
 use Rattle.geometry.specs.MapWords.{FitsMap, map_word}
@@ -9,20 +8,18 @@ use Rattle.geometry.specs.declared.pin_word.Phase.TheVariants.{Victim}
 use Rattle.geometry.proofs.Histories.{Begins-refl, Begins-push, Begins-trans}
 use Rattle.geometry.proofs.PinBits.{map_same}
 use Rattle.flash_rule.specs.declared.facts.Source.{Source}
-use Rattle.flash_rule.specs.declared.facts.Work.{Work}
 use Rattle.flash_rule.specs.declared.view.View.{View}
 use Rattle.flash_rule.specs.Views.{AreOfHosts}
 use Rattle.flash_rule.specs.World.{sector_word}
 use Rattle.flash_rule.specs.Rule.{IsValue}
 use Rattle.flash_rule.specs.BroomPlays.{GotStamp, Named}
 use Rattle.flash_table.specs.declared.flash.Flash.{Flash}
-use Rattle.flash_table.specs.declared.pass.OpenBlock.{OpenBlock}
 use Rattle.flash_table.specs.declared.broom_seat.BroomBlocks.{BroomBlocks}
 use Rattle.flash_table.specs.declared.broom_seat.BroomSeat.{BroomSeat}
 use Rattle.flash_table.specs.declared.broom_seat.ReclaimedBlock.{ReclaimedBlock}
 use Rattle.flash_table.specs.Owning.{reclaimed_as}
 use Rattle.flash_table.specs.Flash.{IsBroomOf, broom_view, own_blocks, geometry_of}
-use Rattle.broom.specs.Relocating.{IsSweeping, Sweeps, Relocated, FoundDead, FoundLive, victim_page}
+use Rattle.broom.specs.Relocating.{IsSweeping, Relocated, FoundDead, FoundLive, victim_page}
 
 -- ---- one part after another
 pub relocated_none : (v : View) → Relocated v 0 v
@@ -130,9 +127,9 @@ module _ (v w : View) (s : ℕ) (named : Option MapWord) (told : Named v s (sect
     pub look_dead : IfSome named FitsMap → FitsMap page → ¬ (named ≡ Some page) → FoundDead v w
     look_dead fits fits' else =
         let dead = told.dead (record { page = page; stamp = s; value = None }) is refl (unlike named fits else) in record { went = look_went; cleared = dead.1; source = dead.0 } where
-      unlike : (o : Option MapWord) → IfSome o FitsMap → ¬ (o ≡ Some page) → ¬ (sector_word o ≡ map_word page)
-      unlike None _ _ e = absurd (omega arith)
-      unlike (Some m) fits else e = else (ap (λ k. Some k) (map_same m page fits fits' e))
+          unlike : (o : Option MapWord) → IfSome o FitsMap → ¬ (o ≡ Some page) → ¬ (sector_word o ≡ map_word page)
+          unlike None _ _ e = absurd (omega arith)
+          unlike (Some m) fits else e = else (ap (λ k. Some k) (map_same m page fits fits' e))
 
 -- ---- both
 pub found_dead_then : (u v w : View) → Relocated u 0 v → v.cleared ≡ u.cleared → FoundDead v w → FoundDead u w

@@ -1,5 +1,6 @@
 -- The two parts of a survey, and the victim that is chosen.
-use Rattle.std.specs.Prelude.{◌≡◌, ℕ, ◌<◌, ◌≤◌, All, List, Bool, ◌++◌, Option, Some, IfSome, length}
+use Rattle.std.specs.Prelude.{◌≡◌, ℕ, ◌<◌, ◌≤◌, All, List, Bool, ◌++◌, Option, IfSome, length}
+use Rattle.geometry.specs.Greedy.{IsClosed}
 use Rattle.geometry.specs.History.{Begins}
 use Rattle.geometry.specs.Limits.{Numbers}
 use Rattle.geometry.specs.MapWords.{FitsMap}
@@ -41,5 +42,7 @@ pub record Chosen (v : View) (block : ℕ) (after : Broom) : Type 0 where
   pub made : Surveyed v survey (view_of after)
   pub victim : IsVictim survey v.numbers.pages block
   pub kept : survey.states ≡ after.states.items
+  pub low : block < length survey.states
+  pub closed : IsClosed (closed_of survey.states) block
   pub ranges : All (IsInRange v.numbers) survey.states
   pub changed : view_of after ≡ record v { seen = (view_of after).seen; loaded = (view_of after).loaded; named = v.named ++ looks_of survey.pages; busy = (view_of after).busy; stale = (view_of after).stale }

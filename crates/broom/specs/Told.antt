@@ -1,9 +1,7 @@
 -- What a drain tells of what its broom knows, before and after.
-use Rattle.std.specs.Prelude.{◌≡◌, ℕ, ◌+◌, ◌≤◌, List, [], ◌∷◌, ◌++◌, None, length}
+use Rattle.std.specs.Prelude.{◌≡◌, ℕ, ◌+◌, [], ◌∷◌, ◌++◌, None}
 use Rattle.geometry.specs.History.{Begins}
-use Rattle.geometry.specs.declared.map_word.MapWord.{MapWord}
 use Rattle.flash_rule.specs.declared.view.View.{View}
-use Rattle.flash_table.specs.declared.broom_seat.BroomBlocks.{BroomBlocks}
 use Rattle.broom.specs.declared.broom.Broom.{Broom}
 use Rattle.broom.specs.declared.answer.Drain.{Drain}
 use Rattle.broom.specs.declared.answer.Drain.TheVariants as drain
@@ -38,15 +36,13 @@ pub record LostClaim (v w : View) : Type 0 where
   pub victim : IsVictim survey v.numbers.pages block
   pub changed : w ≡ record v { seen = w.seen; loaded = w.loaded; named = v.named ++ looks_of survey.pages; busy = w.busy; stale = w.stale; lost = v.lost ++ block ∷ [] }
 
--- A survey was made, and this block, its victim, was drained in its generation as loaded: no map word names it any more. Of the pages
--- that were programmed, each listed, so many were named by a map word in the place of one of the victim's
+-- A survey was made, and this block, its victim, was drained in its generation as loaded: no map word names it any more. So many of its
+-- pages were moved: a map word that named one of them was exchanged for a copy's. Each page that was programmed is listed
 pub record DidDrain (v : View) (block copied : ℕ) (w : View) : Type 0 where
   pub survey : Survey
   pub made : Surveyed v survey w
   pub victim : IsVictim survey v.numbers.pages block
-  pub copies : List MapWord
-  pub programmed : w.programs ≡ v.programs ++ copies
-  pub enough : copied ≤ length copies
+  pub programmed : Begins v.programs w.programs
   pub changed : w ≡ record v {
     seen = w.seen;
     loaded = w.loaded;

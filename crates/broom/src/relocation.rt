@@ -32,7 +32,11 @@ fn live_sector(flash: &Flash, seat: &mut BroomSeat, page: MapWord) -> Option<u32
     }
     let sector = stamp as u32;
     let named = flash.broom_look(seat, sector);
-    if found(named, page) { Some(sector) } else { None }
+    if found(named, page) {
+        Some(sector)
+    } else {
+        None
+    }
 }
 
 // Makes the spare the destination, where there is none.
@@ -88,12 +92,7 @@ fn close_if_full(flash: &Flash, seat: &mut BroomSeat)
 }
 
 // Clears the victim's next page, and says whether it was moved.
-fn clear_page<G: Gate>(
-    flash: &Flash,
-    seat: &mut BroomSeat,
-    page: MapWord,
-    gate: &mut G,
-) -> bool
+fn clear_page<G: Gate>(flash: &Flash, seat: &mut BroomSeat, page: MapWord, gate: &mut G) -> bool
     requires next { (x : ReclaimedBlock) × Sweeps flash.now seat.old x × ((page ≡ victim_page x page.page) × (page.page < x.written)) }
     requires cleared { page.page ≡ (broom_view seat.old).cleared }
     requires room { 0 < room_left (pages_of (geometry_of flash.now)) (own_blocks seat.old) }

@@ -28,12 +28,7 @@ fn is_closed(phase: Phase) -> bool
 }
 
 // Loads the state of each block, in order, and marks the closed ones.
-fn load_states(
-    flash: &Flash,
-    seat: &mut BroomSeat,
-    states: &mut [PinWord],
-    closed: &mut [bool],
-)
+fn load_states(flash: &Flash, seat: &mut BroomSeat, states: &mut [PinWord], closed: &mut [bool])
     requires seat { IsBroomOf flash.now seat.old }
     requires states { length states.old ≡ blocks_of (geometry_of flash.now) }
     requires closed { length closed.old ≡ blocks_of (geometry_of flash.now) }
@@ -78,12 +73,7 @@ pub(crate) fn choose(flash: &Flash, broom: &mut Broom) -> Option<u32>
     ensures ready { IsReady flash.now broom.new }
     ensures blocks { blocks_of_broom broom.new ≡ blocks_of_broom broom.old }
 {
-    load_states(
-        flash,
-        &mut broom.seat,
-        &mut broom.states,
-        &mut broom.closed,
-    );
+    load_states(flash, &mut broom.seat, &mut broom.states, &mut broom.closed);
     count_pages(flash, &mut broom.seat, &broom.states, &mut broom.counts);
     let victim = greedy(&broom.counts, &broom.closed)?;
     if broom.counts[victim] == flash.geometry().pages() {

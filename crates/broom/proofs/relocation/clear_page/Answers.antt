@@ -1,4 +1,4 @@
-use Rattle.std.proofs.Common.{◌≡◌, ℕ, ◌+◌, ◌<◌, List, MatchBool, Some, sym, refl, ap, ◌∙◌, subst}
+use Rattle.std.proofs.Common.{◌≡◌, ℕ, ◌+◌, ◌<◌, MatchBool, Some, sym, refl, ap, ◌∙◌, subst}
 use Rattle.geometry.specs.Geometry.{pages_of}
 use Rattle.geometry.specs.MapWords.{FitsMap, map_word}
 use Rattle.geometry.specs.Limits.{Numbers}
@@ -9,10 +9,10 @@ use Rattle.flash_rule.specs.BroomPlays.{Moved}
 use Rattle.flash_table.specs.declared.broom_seat.BroomBlocks.{BroomBlocks}
 use Rattle.flash_table.specs.declared.broom_seat.ReclaimedBlock.{ReclaimedBlock}
 use Rattle.flash_table.specs.declared.pass.OpenBlock.{OpenBlock}
-use Rattle.flash_table.specs.Flash.{IsBroomOf, broom_view, own_blocks, geometry_of}
+use Rattle.flash_table.specs.Flash.{broom_view, own_blocks, geometry_of}
 use Rattle.broom.specs.Relocating.{IsSweeping, Sweeps, FoundLive, Copied, room_left}
 use Rattle.broom.proofs.Sweeping.{page_fits, sweeps_on}
-use Rattle.broom.proofs.Clearing.{opened_some, opened_sweeps, copy_fits, moved_callers, live_cleared, source_of}
+use Rattle.broom.proofs.Clearing.{opened_some, opened_sweeps, copy_fits, moved_callers, live_cleared}
 use Rattle.broom.proofs.relocation.clear_page.Given.{Over}
 use Rattle.broom.proofs.relocation.clear_page.Goals as goal
 use Rattle.broom.proofs.relocation.clear_page.Goals.{After-open_destination, After-copy_page-copy, After-move_to-moved}

@@ -1,5 +1,5 @@
-use Rattle.std.proofs.Common.{◌≡◌, ℕ, ◌+◌, ◌<◌, ◌≤◌, List, Some, length, sym, refl, ap, ◌∙◌, subst, arith}
-use Rattle.geometry.specs.Geometry.{blocks_of, pages_of, words_of}
+use Rattle.std.proofs.Common.{◌≡◌, ℕ, List, Some, sym, refl, ap, ◌∙◌, subst, arith}
+use Rattle.geometry.specs.Geometry.{pages_of, words_of}
 use Rattle.flash_rule.specs.declared.facts.Source.{Source}
 use Rattle.flash_rule.specs.declared.view.View.{View}
 use Rattle.flash_rule.proofs.Owning.{some_same}
@@ -9,8 +9,8 @@ use Rattle.flash_table.specs.declared.pass.OpenBlock.{OpenBlock}
 use Rattle.flash_table.specs.declared.broom_seat.BroomBlocks.{BroomBlocks}
 use Rattle.flash_table.specs.Flash.{broom_view, own_blocks, geometry_of}
 use Rattle.broom.specs.Ready.{HasRoom}
-use Rattle.broom.specs.Relocating.{Sweeps, Copied}
-use Rattle.broom.proofs.Copying.{Filling, filling_none, filling_same, filling_can, filling_more, put_work, filled_can, copied, copied_sweeps}
+use Rattle.broom.specs.Relocating.{Copied}
+use Rattle.broom.proofs.Copying.{Filling, filling_none, filling_same, filling_more, put_work, filled_can, copied, copied_sweeps}
 use Rattle.broom.proofs.relocation.copy_page.Goals as goal
 use Rattle.broom.proofs.relocation.copy_page.Goals.{In-Some, After-get_source_word-word, After-put_copy_word-2}
 

@@ -1,7 +1,5 @@
-use Rattle.std.proofs.Common.{◌≡◌, ℕ, ◌≤◌, Some, List}
-use Rattle.flash_rule.specs.declared.facts.Source.{Source}
-use Rattle.geometry.specs.Geometry.{words_of}
-use Rattle.flash_table.specs.Flash.{broom_view, own_blocks, geometry_of}
+use Rattle.std.proofs.Common.{◌≡◌, ℕ, Some, List}
+use Rattle.flash_table.specs.Flash.{broom_view, own_blocks}
 use Rattle.broom.proofs.Copying.{Filling}
 use Rattle.broom.proofs.relocation.copy_page.Given as goal
 

@@ -1,14 +1,12 @@
-use Rattle.std.proofs.Common.{◌≡◌, ℕ, ◌+◌, ◌<◌, ◌≤◌, None, Some, sym, refl, ap, ◌∙◌, subst, arith}
+use Rattle.std.proofs.Common.{◌≡◌, ◌+◌, None, Some, sym, ap, ◌∙◌, subst, arith}
 use Rattle.geometry.specs.Geometry.{pages_of, sectors_of}
 use Rattle.geometry.specs.Limits.{Numbers}
 use Rattle.geometry.specs.MapWords.{FitsMap}
-use Rattle.geometry.specs.declared.map_word.MapWord.{MapWord}
-use Rattle.flash_rule.specs.declared.facts.Source.{Source}
 use Rattle.flash_rule.specs.declared.view.View.{View}
-use Rattle.flash_table.specs.Flash.{broom_view, own_blocks, geometry_of}
+use Rattle.flash_table.specs.Flash.{broom_view, geometry_of}
 use Rattle.flash_table.specs.declared.broom_seat.ReclaimedBlock.{ReclaimedBlock}
 use Rattle.broom.specs.Relocating.{Sweeps, Relocated, victim_page}
-use Rattle.broom.proofs.Sweeping.{relocated_source, sweeps_on, page_fits, stamp_dead, stamp_named, callers_same, look_went, look_callers, look_live, look_dead, found_dead_then, found_live_then}
+use Rattle.broom.proofs.Sweeping.{relocated_source, sweeps_on, page_fits, stamp_dead, callers_same, look_callers, look_live, look_dead, found_dead_then, found_live_then}
 use Rattle.broom.proofs.relocation.live_sector.Goals as goal
 use Rattle.broom.proofs.relocation.live_sector.Goals.{After-sectors, After-found}
 

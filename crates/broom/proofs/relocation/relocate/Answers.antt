@@ -1,8 +1,7 @@
-use Rattle.std.proofs.Common.{◌≡◌, ℕ, ◌+◌, ◌<◌, ◌≤◌, Some, sym, refl, ap, ◌∙◌, subst, arith}
+use Rattle.std.proofs.Common.{◌≡◌, ◌+◌, ◌≤◌, sym, refl, ap, ◌∙◌, subst, arith}
 use Rattle.geometry.specs.Geometry.{pages_of}
 use Rattle.flash_table.specs.declared.broom_seat.BroomBlocks.{BroomBlocks}
 use Rattle.flash_table.specs.declared.broom_seat.ReclaimedBlock.{ReclaimedBlock}
-use Rattle.flash_table.specs.declared.broom_seat.Reclaiming.TheVariants as reclaiming
 use Rattle.flash_table.specs.Flash.{broom_view, own_blocks, geometry_of}
 use Rattle.broom.specs.Relocating.{Sweeps, room_left, count_if}
 use Rattle.broom.proofs.Clearing.{clearing_none, clearing_more, same_victim}

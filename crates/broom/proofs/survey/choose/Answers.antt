@@ -8,7 +8,7 @@ use Rattle.broom.specs.declared.broom.Broom.{Broom}
 use Rattle.broom.specs.Ready.{IsReady, view_of}
 use Rattle.broom.specs.Told.{GainedNothing}
 use Rattle.broom.specs.Surveying.{PagesCounted, Chosen}
-use Rattle.broom.proofs.Choosing.{none_closed, all_live, chosen, changed, callers, rested_surveyed, closed_low}
+use Rattle.broom.proofs.Choosing.{none_closed, all_live, chosen, rested_surveyed, closed_low}
 use Rattle.broom.proofs.survey.choose.Goals as goal
 use Rattle.broom.proofs.survey.choose.Goals.{After-greedy}
 
@@ -90,7 +90,7 @@ returns-clause-told c =
     let pages : c.pages.result ≡ pages_of (geometry_of c.args.flash.now) = c.pages.ensures.value ∙ ap pages_of c.geometry.ensures in
     let is = count_is at b below c.index.result.now c.index.ensures in
     chosen c.args.flash.now c.args.broom.now (after at) c.load_states.new.seat c.load_states.new.states c.count_pages.new.counts c.load_states.new.closed c.requires.rested.seat c.load_states.ensures.told (counted at) (long at)
-    b below (choice at (Some b) c.in_ok-victim.ensures.value) (λ e. c.if-index-pages.false (sym is ∙ (e ∙ sym pages))) (states_kept at)
+    b below (subst (λ l. IsClosed l b) (c.deref-3.ensures.value ∙ closed_kept at) c.in_ok-victim.ensures.best.is_closed) (choice at (Some b) c.in_ok-victim.ensures.value) (λ e. c.if-index-pages.false (sym is ∙ (e ∙ sym pages))) (states_kept at)
 
 pub returns-in_err-victim-clause-ready : goal.returns-in_err-victim-clause-ready
 returns-in_err-victim-clause-ready c = ready (goal.at.returns-in_err-victim-clause-ready c).After-greedy

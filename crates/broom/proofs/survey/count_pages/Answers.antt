@@ -1,10 +1,9 @@
-use Rattle.std.proofs.Common.{◌≡◌, ℕ, [], ◌+◌, ◌<◌, ◌∷◌, ◌++◌, List, Option, None, Some, length, get_or, sym, ap, ◌∙◌, subst, arith}
-use Rattle.geometry.specs.Geometry.{blocks_of, sectors_of}
-use Rattle.geometry.specs.declared.map_word.MapWord.{MapWord}
+use Rattle.std.proofs.Common.{◌≡◌, ℕ, [], ◌<◌, ◌∷◌, ◌++◌, List, None, Some, length, sym, ap, ◌∙◌, subst, arith}
+use Rattle.geometry.specs.Geometry.{sectors_of}
 use Rattle.geometry.specs.Limits.{Numbers}
 use Rattle.broom.specs.declared.broom.TheConstants.{NOT_LOADED}
-use Rattle.flash_table.specs.Flash.{broom_view, own_blocks, geometry_of, device}
-use Rattle.broom.proofs.Counting.{CountedTo, Counts, counted_none, counted_more, counts_empty, counts_other, counts_live, counted_all, generation_at, look_within}
+use Rattle.flash_table.specs.Flash.{broom_view, own_blocks, geometry_of}
+use Rattle.broom.proofs.Counting.{Counts, counted_none, counted_more, counts_empty, counts_other, counts_live, counted_all, generation_at, look_within}
 use Rattle.broom.proofs.survey.count_pages.Goals as goal
 use Rattle.broom.proofs.survey.count_pages.Goals.{In-Some, then-states-block, else-states-block}
 
