@@ -1,3 +1,4 @@
+pub mod FreshBrooms
 pub mod Still
 pub mod Answered
 pub mod Looks

@@ -2,5 +2,6 @@
 pub mod Correct
 pub mod Volume
 pub mod Closing
--- Internal: the parts of a close.
+-- Internal: the parts of an open and of a close.
+pub mod Opening
 pub mod Gathering

@@ -45,7 +45,8 @@ fn two_passes_write_and_both_values_stay(rt: HostRuntime) -> Result<(), Fail> {
     assert_eq!(rt; geometry.brooms(), 0);
     assert_eq!(rt; geometry.sectors(), 2);
     assert_eq!(rt; geometry.page_bytes(), 8);
-    let (volume, passes) = Volume::open(rt.alloc(), &geometry)?;
+    let (volume, passes, brooms) = Volume::open(rt.alloc(), &geometry)?;
+    brooms.destroy_empty();
     match closes_with_both(
         rt.alloc(),
         volume,

@@ -101,7 +101,7 @@ fn gather(
 }
 
 // Gives all passes up.
-fn retire_all(flash: &Flash, passes: Vec<Pass>)
+pub(crate) fn retire_all(flash: &Flash, passes: Vec<Pass>)
     requires { All (IsReady flash.now) passes.items }
 {
     let mut passes = passes;

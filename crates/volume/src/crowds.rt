@@ -54,7 +54,8 @@ fn open_three(rt: &impl AllocGlobal, blocks: u32) -> Result<(Desk, Pass), Fail>
     ensures { IfOk result (λ r. IsReady (flash_of r.0.volume) r.1) }
 {
     let geometry = Geometry::new(1, blocks, 2, 1, 2, 10, 3, 0)?;
-    let (volume, mut passes) = Volume::open(rt.alloc(), &geometry)?;
+    let (volume, mut passes, brooms) = Volume::open(rt.alloc(), &geometry)?;
+    brooms.destroy_empty();
     let Some(c) = passes.pop() else {
         unreachable!()
     };

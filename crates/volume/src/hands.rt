@@ -1,11 +1,13 @@
 //! A small device for tests: two sectors, blocks of two pages, and pages of one word.
-ghost use Rattle.std.specs.Prelude.{◌≡◌, ◌<◌};
+ghost use Rattle.std.specs.Prelude.{◌≡◌, ◌<◌, All, IfOk, length};
 ghost use Rattle.geometry.specs.Geometry.{sectors_of, page_bytes_of};
 ghost use Rattle.flash_table.specs.Flash.{geometry_of};
+ghost use Rattle.broom.specs.Ready.{IsReady as IsBroomReady};
 ghost use Rattle.host.specs.Ready.{IsReady};
 ghost use Rattle.volume.specs.Volume.{flash_of};
 
 use crate::Volume;
+use broom::Broom;
 use flash_table::{Gate, Pass};
 use geometry::{Geometry, Got, Was};
 use std::process::Abort;
@@ -23,19 +25,56 @@ pub struct Desk {
 }
 
 impl Desk {
-    /// A device of so many blocks, with nothing written.
+    /// A device of so many blocks and no broom, with nothing written.
     pub fn open(rt: &impl AllocGlobal, blocks: u32) -> Result<Desk, Fail> {
-        let geometry = Geometry::new(1, blocks, 2, 1, 2, 10, 2, 0)?;
-        let (volume, mut passes) = Volume::open(rt.alloc(), &geometry)?;
-        let Some(b) = passes.pop() else {
-            unreachable!()
-        };
-        let Some(a) = passes.pop() else {
-            unreachable!()
-        };
-        passes.destroy_empty();
-        Ok(Desk { volume, a, b })
+        let (desk, brooms) = open_with(rt, blocks, 0)?;
+        brooms.destroy_empty();
+        Ok(desk)
     }
+}
+
+// A device of so many blocks and brooms.
+fn open_with(rt: &impl AllocGlobal, blocks: u32, brooms: u32) -> Result<(Desk, Vec<Broom>), Fail>
+    ensures count { IfOk result (λ r. length r.1.items ≡ brooms) }
+    ensures ready { IfOk result (λ r. All (IsBroomReady (flash_of r.0.volume)) r.1.items) }
+{
+    let geometry = Geometry::new(1, blocks, 2, 1, 2, 10, 2, brooms)?;
+    let (volume, mut passes, brooms) = Volume::open(rt.alloc(), &geometry)?;
+    let Some(b) = passes.pop() else {
+        unreachable!()
+    };
+    let Some(a) = passes.pop() else {
+        unreachable!()
+    };
+    passes.destroy_empty();
+    Ok((Desk { volume, a, b }, brooms))
+}
+
+/// A device of five blocks, with a broom whose spare is block 4.
+pub fn open_swept(rt: &impl AllocGlobal) -> Result<(Desk, Broom), Fail>
+    ensures { IfOk result (λ r. IsBroomReady (flash_of r.0.volume) r.1) }
+{
+    let (desk, mut brooms) = open_with(rt, 5, 1)?;
+    let Some(broom) = brooms.pop() else {
+        unreachable!()
+    };
+    brooms.destroy_empty();
+    Ok((desk, broom))
+}
+
+/// A device of seven blocks, with two brooms.
+pub fn open_swept_by_two(rt: &impl AllocGlobal) -> Result<(Desk, Broom, Broom), Fail>
+    ensures { IfOk result (λ r. IsBroomReady (flash_of r.0.volume) r.1 × IsBroomReady (flash_of r.0.volume) r.2) }
+{
+    let (desk, mut brooms) = open_with(rt, 7, 2)?;
+    let Some(second) = brooms.pop() else {
+        unreachable!()
+    };
+    let Some(first) = brooms.pop() else {
+        unreachable!()
+    };
+    brooms.destroy_empty();
+    Ok((desk, first, second))
 }
 
 /// The eight bytes of a page that is told by its first one.

@@ -2,6 +2,7 @@
 #![tactic(auto)]
 
 mod closing;
+mod opening;
 mod volume;
 
 pub use closing::Closed;

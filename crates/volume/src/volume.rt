@@ -1,4 +1,7 @@
 //! The calls of a device.
+use crate::closing::retire_all;
+use crate::opening::make_brooms;
+use broom::{Broom, Folded};
 use flash_table::{Flash, Gate, Pass, Retired};
 use geometry::{Geometry, Was};
 use host::{Held, Holding, NoBlock, ReadDone};
@@ -22,26 +25,38 @@ impl Volume {
     ghost use Rattle.flash_rule.specs.World.{data_word};
     ghost use Rattle.flash_rule.specs.Plays.{Called};
     ghost use Rattle.flash_table.specs.declared.pass.Pass.{Pass};
-    ghost use Rattle.flash_table.specs.Flash.{view_of, opened_of, geometry_of, device, first_view};
+    ghost use Rattle.flash_table.specs.Flash.{view_of, opened_of, geometry_of, device, first_view, first_broom, first_blocks};
     ghost use Rattle.flash_table.specs.Leaving.{retired_view};
+    ghost use Rattle.broom.specs.declared.broom.Broom.{Broom};
+    ghost use Rattle.broom.specs.Ends.{folded_view};
+    ghost use Rattle.broom.specs.Ready.{IsReady as IsBroomReady, view_of as broom_view, blocks_of_broom};
     ghost use Rattle.host.specs.Ready.{IsReady};
     ghost use Rattle.host.specs.Told.{Searched, Wrote, Refused, MetTold};
     ghost use Rattle.host.specs.Holding.{Holds, Found, pass_of, page_of};
     ghost use Rattle.volume.specs.Correct.{Correct, Read, Write, Trim, Found as Got, Replaced, known_by};
     ghost use Rattle.volume.specs.Volume.{flash_of};
 
-    /// A device with every sector empty, and its passes, pass t with number t. `Err` is want of memory.
-    pub fn open(alloc: Global, geometry: &Geometry) -> Result<(Volume, Vec<Pass>), AllocError>
+    /// A device with every sector empty, its passes, pass t with number t, and its brooms, broom i with number i. `Err` is want of memory.
+    pub fn open(
+        alloc: Global,
+        geometry: &Geometry,
+    ) -> Result<(Volume, Vec<Pass>, Vec<Broom>), AllocError>
         requires hosts { 0 < hosts_of geometry.now }
-        requires brooms { brooms_of geometry.now ≡ 0 }
         ensures geometry { IfOk result (λ r. geometry_of (flash_of r.0) ≡ geometry.now) }
-        ensures count { IfOk result (λ r. length r.1.items ≡ hosts_of geometry.now) }
+        ensures count { IfOk result (λ r. (length r.1.items ≡ hosts_of geometry.now) × (length r.2.items ≡ brooms_of geometry.now)) }
         ensures passes { IfOk result (λ r. (t : ℕ) (p : Pass) → slice_get r.1.items t ≡ Some p → view_of p ≡ first_view (device (flash_of r.0)) t) }
         ensures ready { IfOk result (λ r. All (IsReady (flash_of r.0)) r.1.items) }
+        ensures brooms { IfOk result (λ r. (i : ℕ) (b : Broom) → slice_get r.2.items i ≡ Some b → (broom_view b ≡ first_broom (device (flash_of r.0)) i) × (blocks_of_broom b ≡ first_blocks (device (flash_of r.0)) i)) }
+        ensures brooms_ready { IfOk result (λ r. All (IsBroomReady (flash_of r.0)) r.2.items) }
     {
-        let (flash, passes, brooms) = Flash::open(alloc, geometry)?;
-        brooms.destroy_empty();
-        Ok((Volume { flash }, passes))
+        let (flash, passes, seats) = Flash::open(alloc, geometry)?;
+        match make_brooms(&flash, alloc, seats) {
+            Ok(brooms) => Ok((Volume { flash }, passes, brooms)),
+            Err(AllocError) => {
+                retire_all(&flash, passes);
+                Err(AllocError)
+            }
+        }
     }
 
     /// Reads a sector into `out`, a buffer of one page.
@@ -182,5 +197,13 @@ impl Volume {
         ensures { retired_view result ≡ record (view_of pass) { owns = []; work = None } }
     {
         host::retire(&self.flash, pass)
+    }
+
+    /// Gives a broom up. The block that it copies to, full or not, and its spare are closed.
+    pub fn fold(&self, broom: Broom) -> Folded
+        requires { IsBroomReady (flash_of self.now) broom }
+        ensures { folded_view result ≡ record (broom_view broom) { owns = []; work = None } }
+    {
+        broom::fold(&self.flash, broom)
     }
 }

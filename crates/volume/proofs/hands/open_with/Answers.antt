@@ -4,7 +4,7 @@ use Rattle.geometry.specs.Geometry.{sectors_of, page_bytes_of}
 use Rattle.geometry.specs.Limits.{Numbers}
 use Rattle.geometry.specs.declared.limits.TheConstants.{WORD_BYTES}
 use Rattle.host.specs.Ready.{IsReady}
-use Rattle.volume.proofs.hands.Desk.open.Goals as goal
+use Rattle.volume.proofs.hands.open_with.Goals as goal
 
 pub invariant_of-result : goal.invariant_of-result
 invariant_of-result g c =

@@ -1,0 +1,98 @@
+-- The brooms of a new device are ready.
+use Rattle.std.proofs.Common.{◌≡◌, ℕ, ◌+◌, ◌<◌, All, List, [], ◌∷◌, ◌++◌, Option, None, Some, length, map, slice_get, get_or, sym, refl, ap, ◌∙◌, subst, arith, append_assoc}
+use Rattle.std.specs.Option.{option_map}
+use Rattle.std.proofs.lemmas.List.{map_push, length-map}
+use Rattle.std.proofs.lemmas.Option.{slice_get-get_or, slice_get-map}
+use Rattle.std.proofs.lemmas.List.Elements.{All-nil, All-same, All-push, All-head, All-rest}
+use Rattle.geometry.specs.Geometry.{numbers_of, brooms_of, hosts_of}
+use Rattle.geometry.specs.Limits.{Numbers}
+use Rattle.flash_rule.specs.declared.view.View.{View}
+use Rattle.flash_rule.specs.Views.{caller}
+use Rattle.flash_rule.proofs.Owning.{some_same, none_some}
+use Rattle.flash_table.specs.declared.flash.Flash.{Flash}
+use Rattle.flash_table.specs.declared.broom_seat.BroomBlocks.{BroomBlocks}
+use Rattle.flash_table.specs.declared.broom_seat.BroomSeat.{BroomSeat}
+use Rattle.flash_table.specs.declared.pass.OpenBlock.{OpenBlock}
+use Rattle.flash_table.specs.Flash.{IsBroomOf, broom_view, own_blocks, geometry_of, device, first_broom, first_blocks, spare_of}
+use Rattle.broom.specs.declared.broom.Broom.{Broom}
+use Rattle.broom.specs.Ready.{IsRested, IsReady, HasRoom, view_of, blocks_of_broom}
+use Rattle.volume.specs.Opening.{known_by_seat, known_by_broom}
+
+-- a seat that has done nothing and has its spare alone
+pub rested : (f : Flash) (s : BroomSeat) (i : ℕ) → 0 < hosts_of (geometry_of f) → i < brooms_of (geometry_of f) → IsBroomOf f s → broom_view s ≡ first_broom (device f) i → own_blocks s ≡ first_blocks (device f) i → IsRested f s
+rested f s i hosts low seat first blocks =
+    let seen : (broom_view s).seen ≡ [] = ap (λ (v : View). v.seen) first in
+    let work = ap (λ (v : View). v.work) first in
+    let limits = f.geometry.in_limits in
+    let space = limits.shared_blocks hosts in
+    let young = limits.endurance_low in
+    let spare = ap (λ (x : BroomBlocks). x.spare) blocks in
+    record {
+      seat = seat;
+      destination = λ o is. absurd (none_some o (sym (ap (λ (x : BroomBlocks). x.destination) blocks) ∙ is));
+      spare = λ o is.
+          let same = some_same _ o (sym spare ∙ is) in
+          subst (HasRoom (geometry_of f) 1) same (record { low = omega arith; room = omega arith; young = omega arith });
+      filed = λ w is. absurd (none_some w (sym work ∙ is));
+      reclaiming = ap (λ (x : BroomBlocks). x.reclaiming) blocks;
+      source = ap (λ (v : View). v.source) first;
+      callers = All-same (λ c. caller c < (broom_view s).numbers.hosts) (broom_view s).seen [] seen (All-nil (λ c. caller c < (broom_view s).numbers.hosts));
+      whole = ap (λ (v : View). v.whole) first;
+      alone = ap (λ (v : View). v.guest) first;
+    }
+
+-- the seats of a device on which nothing was done
+pub all_rested : (f : Flash) (seats : List BroomSeat) → 0 < hosts_of (geometry_of f) → length seats ≡ brooms_of (geometry_of f)
+    → ((i : ℕ) (s : BroomSeat) → slice_get seats i ≡ Some s → IsBroomOf f s × (broom_view s ≡ first_broom (device f) i) × (own_blocks s ≡ first_blocks (device f) i)) → All (IsRested f) seats
+all_rested f seats hosts count each k d low =
+    let s = get_or seats k d in
+    let h = each k s (slice_get-get_or seats k d low) in rested f s k hosts (omega arith) h.0 h.1 h.2
+
+-- what a list has at a place where its image has y
+behind_at : {X Y : Type 0} (g : X → Y) (o : Option X) (y : Y) → option_map g o ≡ Some y → (x : X) × (o ≡ Some x) × (g x ≡ y)
+behind_at g None y is = absurd (none_some y is)
+behind_at g (Some x) y is = (x, refl, some_same (g x) y is)
+
+-- a broom knows what its seat did
+pub of_seats : (seats : List BroomSeat) (brooms : List Broom) → map known_by_broom brooms ≡ map known_by_seat seats → (i : ℕ) (b : Broom) → slice_get brooms i ≡ Some b
+    → (s : BroomSeat) × (slice_get seats i ≡ Some s) × (known_by_seat s ≡ known_by_broom b)
+of_seats seats brooms same i b is =
+    behind_at known_by_seat (slice_get seats i) (known_by_broom b)
+    (sym (slice_get-map known_by_seat seats i) ∙ (ap (λ l. slice_get l i) (sym same) ∙ (slice_get-map known_by_broom brooms i ∙ ap (option_map known_by_broom) is)))
+
+-- and there are as many
+pub as_many : (seats : List BroomSeat) (brooms : List Broom) → map known_by_broom brooms ≡ map known_by_seat seats → length brooms ≡ length seats
+as_many seats brooms same = sym (length-map brooms known_by_broom) ∙ (ap (λ l. length l) same ∙ length-map seats known_by_seat)
+
+-- so each broom of a new device begins as its seat
+pub begins : (f : Flash) (seats : List BroomSeat) (brooms : List Broom) → map known_by_broom brooms ≡ map known_by_seat seats
+    → ((i : ℕ) (s : BroomSeat) → slice_get seats i ≡ Some s → IsBroomOf f s × (broom_view s ≡ first_broom (device f) i) × (own_blocks s ≡ first_blocks (device f) i)) → (i : ℕ) (b : Broom) → slice_get brooms i ≡ Some b
+    → (view_of b ≡ first_broom (device f) i) × (blocks_of_broom b ≡ first_blocks (device f) i)
+begins f seats brooms same each i b is =
+    let o = of_seats seats brooms same i b is in
+    let h = each i o.0 o.1 in (ap (λ x. x.0) (sym o.2) ∙ h.1, ap (λ x. x.1) (sym o.2) ∙ h.2)
+
+-- what holds of all holds of the first and of the others
+pub taken : {X : Type 0} (P : X → Type 0) (x : X) (xs ys : List X) → ys ≡ x ∷ xs → All P ys → P x × All P xs
+taken P x xs ys is all = (All-head P x xs (subst (All P) is all), All-rest P x xs ys is all)
+
+-- These brooms were made of the first seats, and these seats are left
+pub record Making (f : Flash) (all : List BroomSeat) (brooms : List Broom) (rest : List BroomSeat) : Type 0 where
+  pub known : map known_by_broom brooms ++ map known_by_seat rest ≡ map known_by_seat all
+  pub ready : All (IsReady f) brooms
+  pub rested : All (IsRested f) rest
+
+-- one seat more has become a broom
+pub one_made : (f : Flash) (all rest rest' : List BroomSeat) (brooms brooms' : List Broom) (s : BroomSeat) (b : Broom) → Making f all brooms rest → rest ≡ s ∷ rest' → brooms' ≡ brooms ++ b ∷ [] → view_of b ≡ broom_view s
+    → blocks_of_broom b ≡ own_blocks s → (IsRested f s → IsReady f b) → Making f all brooms' rest'
+one_made f all rest rest' brooms brooms' s b was next pushed view blocks ready =
+    let known : known_by_broom b ≡ known_by_seat s = λ i. (view i, blocks i) in
+    let others = taken (IsRested f) s rest' rest next was.rested in
+    record {
+      known = ap (λ l. map known_by_broom l ++ map known_by_seat rest') pushed
+          ∙ (ap (λ l. l ++ map known_by_seat rest') (map_push known_by_broom brooms b)
+          ∙ (append_assoc (map known_by_broom brooms) (known_by_broom b ∷ []) (map known_by_seat rest')
+          ∙ (ap (λ x. map known_by_broom brooms ++ x ∷ map known_by_seat rest') known ∙ (ap (λ l. map known_by_broom brooms ++ map known_by_seat l) (sym next) ∙ was.known))));
+      ready = subst (All (IsReady f)) (sym pushed) (All-push (IsReady f) brooms b was.ready (ready others.0));
+      rested = others.1;
+    }

@@ -1,0 +1,10 @@
+use Rattle.std.proofs.Common.{◌≡◌, ◌+◌, ◌≤◌, All, length}
+use Rattle.std.specs.Vec.Iter.{into_iter_items}
+use Rattle.volume.proofs.FreshBrooms.{Making}
+use Rattle.volume.proofs.opening.make_brooms.Given as goal
+
+abbrev pub invariant-loop-seat : goal.invariant-loop-seat
+invariant-loop-seat l = Making l.flash l.fn.seats.items l.brooms.items (into_iter_items l.seats) × (length l.brooms.items + length (into_iter_items l.seats) ≤ l.brooms.cap)
+
+abbrev pub decreases-loop-seat : goal.decreases-loop-seat
+decreases-loop-seat l = length (into_iter_items l.seats)

@@ -1,0 +1,15 @@
+-- What is kept of a broom's seat when the broom is made.
+use Rattle.flash_rule.specs.declared.view.View.{View}
+use Rattle.flash_table.specs.declared.broom_seat.BroomBlocks.{BroomBlocks}
+use Rattle.flash_table.specs.declared.broom_seat.BroomSeat.{BroomSeat}
+use Rattle.flash_table.specs.Flash.{broom_view, own_blocks}
+use Rattle.broom.specs.declared.broom.Broom.{Broom}
+use Rattle.broom.specs.Ready.{view_of, blocks_of_broom}
+
+-- what a seat knows, with the blocks of its own
+abbrev pub known_by_seat : BroomSeat → View × BroomBlocks
+known_by_seat s = (broom_view s, own_blocks s)
+
+-- and a broom
+abbrev pub known_by_broom : Broom → View × BroomBlocks
+known_by_broom b = (view_of b, blocks_of_broom b)
