@@ -6,3 +6,5 @@ pub mod Sweeping
 pub mod Copying
 pub mod Clearing
 pub mod Drains
+pub mod Wiping
+pub mod Renewing

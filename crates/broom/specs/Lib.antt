@@ -2,7 +2,10 @@
 pub mod Survey
 pub mod Ready
 pub mod Told
+pub mod Erasing
 pub mod Ends
 -- Internal: the parts of a drain.
 pub mod Surveying
 pub mod Relocating
+-- Internal: the parts of an erase.
+pub mod Renewing

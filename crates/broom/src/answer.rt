@@ -1,3 +1,5 @@
+//! What the calls of a broom answer.
+
 /// What a drain did.
 #[derive(Clone, Copy, Debug, PartialEq, Eq)]
 pub enum Drain {
@@ -9,4 +11,18 @@ pub enum Drain {
     NoSpare,
     /// The block's state has changed since the broom loaded it: another broom claimed it, or a reader came or went.
     Lost,
+}
+
+/// What an erase did.
+#[derive(Clone, Copy, Debug, PartialEq, Eq)]
+pub enum Erase {
+    /// Every word of the block is all ones, and its next generation began. A broom without a spare keeps the block as its spare; else it
+    /// is free.
+    Erased { block: u32, kept: bool },
+    /// It was the block's last erase. The block is never used again.
+    Retired { block: u32 },
+    /// The block has readers, or its word changed on the way.
+    Pinned,
+    /// The block isn't drained.
+    Stale,
 }

@@ -1,0 +1,73 @@
+use Rattle.std.proofs.Common.{rules, ◌≡◌, ℕ, MatchBool, refl, sym, ap, ◌∙◌, arith}
+use Rattle.geometry.specs.Geometry.{endurance_of}
+use Rattle.geometry.specs.Limits.{Numbers}
+use Rattle.geometry.specs.declared.pin_word.Phase.TheVariants.{Drained}
+use Rattle.flash_table.specs.declared.broom_seat.Reclaiming.TheVariants.{Nothing}
+use Rattle.flash_table.specs.Flash.{broom_view, own_blocks, geometry_of}
+use Rattle.broom.specs.Erasing.{DidKeep, DidFree}
+use Rattle.broom.proofs.Renewing.{WasWiped, was_wiped, its, did_retire, did_renew, told_erased, rested_retired, rested_renewed}
+use Rattle.broom.proofs.erasing.erase.Given.{Over}
+use Rattle.broom.proofs.erasing.erase.Goals as goal
+use Rattle.broom.proofs.erasing.erase.Goals.{After-wipe_all}
+
+-- every word of the block was wiped
+wiped : (g : Over) (c : After-wipe_all g) → WasWiped c.args.broom.now.seat c.args.block c.load_state-state.result c.wipe_all.new.seat
+wiped g c =
+    let drained : c.load_state-state.result.phase ≡ Drained = search rules in
+    let loaded : own_blocks c.load_state-state.new.broom ≡ own_blocks c.args.broom.now.seat = cc in
+    let wiped : own_blocks c.wipe_all.new.seat ≡ own_blocks c.condemn.new.broom = cc in
+    was_wiped c.args.flash.now c.args.broom.now.seat c.load_state-state.new.broom c.condemn.new.broom c.wipe_all.new.seat c.args.block c.load_state-state.result c.requires.broom.rested c.load_state-state.ensures.fits
+    drained (omega arith) c.load_state-state.ensures.told loaded c.if-not-condemn.ensures.told c.wipe_all.ensures.told wiped
+
+-- the endurance, as the device and as the broom's view have it
+endures : (g : Over) (c : After-wipe_all g) (n : ℕ) → n ≡ endurance_of (geometry_of c.args.flash.now) → n ≡ (broom_view c.args.broom.now.seat).numbers.endurance
+endures g c n is = is ∙ ap (λ (z : Numbers). z.endurance) (sym c.requires.broom.rested.seat.numbers)
+
+pub returns-then-state-endurance-clause-told : goal.returns-then-state-endurance-clause-told
+returns-then-state-endurance-clause-told g c =
+    let at = (goal.at.returns-then-state-endurance-clause-told g c).After-wipe_all in
+    let s = c.args.broom.now.seat in
+    let p = c.load_state-state.result in
+    let last = endures g at c.endurance.result (c.endurance.ensures.value ∙ ap endurance_of c.geometry.ensures) in (
+      refl,
+      did_retire s c.wipe_all.new.seat c.retire_block.new.broom c.args.block p (wiped g at) (c.if-state-endurance.true ∙ last)
+          (c.retire_block.ensures.told _ (its s c.wipe_all.new.seat c.args.block p (wiped g at))) c.retire_block.ensures.blocks,
+    )
+
+pub returns-then-state-endurance-clause-ready : goal.returns-then-state-endurance-clause-ready
+returns-then-state-endurance-clause-ready g c =
+    let did = returns-then-state-endurance-clause-told g c in
+    let h = c.requires.broom in
+    record {
+      rested = rested_retired c.args.flash.now c.args.broom.now.seat c.retire_block.new.broom c.args.block h.rested c.retire_block.ensures.broom did.1;
+      states = h.states;
+      counts = h.counts;
+      closed = h.closed;
+    }
+
+-- the block begins its next generation
+renewed : (g : Over) (c : goal.After-renew-kept g) → MatchBool c.renew-kept.result
+    (DidKeep (broom_view c.args.broom.now.seat) (own_blocks c.args.broom.now.seat) c.args.block (broom_view c.renew-kept.new.seat) (own_blocks c.renew-kept.new.seat))
+    (DidFree (broom_view c.args.broom.now.seat) (own_blocks c.args.broom.now.seat) c.args.block (broom_view c.renew-kept.new.seat) (own_blocks c.renew-kept.new.seat))
+renewed g c =
+    let at = (goal.at.returns-clause-told g c).After-wipe_all in
+    let s = c.args.broom.now.seat in
+    let p = c.load_state-state.result in
+    let is : c.endurance.result ≡ endurance_of (geometry_of c.args.flash.now) = c.endurance.ensures.value ∙ ap endurance_of c.geometry.ensures in
+    let same : c.endurance.result ≡ (broom_view s).numbers.endurance = endures g at c.endurance.result is in
+    let young = c.load_state-state.ensures.ranges.0 in
+    did_renew s c.wipe_all.new.seat c.renew-kept.new.seat c.args.block p (wiped g at) c.renew-kept.result (omega arith)
+    (c.renew-kept.ensures.told _ (its s c.wipe_all.new.seat c.args.block p (wiped g at)))
+
+pub returns-clause-told : goal.returns-clause-told
+returns-clause-told g c = told_erased c.args.broom.now (record c.args.broom.now { seat = c.renew-kept.new.seat }) c.args.block c.renew-kept.result (renewed g c)
+
+pub returns-clause-ready : goal.returns-clause-ready
+returns-clause-ready g c =
+    let h = c.requires.broom in
+    record {
+      rested = rested_renewed c.args.flash.now c.args.broom.now.seat c.renew-kept.new.seat c.args.block h.rested c.renew-kept.ensures.seat c.renew-kept.result c.requires.block (renewed g c);
+      states = h.states;
+      counts = h.counts;
+      closed = h.closed;
+    }
