@@ -1,6 +1,7 @@
 -- What public contracts rest on.
 pub mod Survey
 pub mod Ready
+pub mod Once
 pub mod Told
 pub mod Erasing
 pub mod Ends
