@@ -2,12 +2,13 @@
 ghost use Rattle.std.specs.Prelude.{◌≡◌, ◌<◌, All, IfOk, length};
 ghost use Rattle.geometry.specs.Geometry.{sectors_of, page_bytes_of};
 ghost use Rattle.flash_table.specs.Flash.{geometry_of};
+ghost use Rattle.broom.specs.Once.{IsReady-prop};
 ghost use Rattle.broom.specs.Ready.{IsReady as IsBroomReady};
 ghost use Rattle.host.specs.Ready.{IsReady};
 ghost use Rattle.volume.specs.Volume.{flash_of};
 
 use crate::Volume;
-use broom::Broom;
+use broom::{Broom, Drain};
 use flash_table::{Gate, Pass};
 use geometry::{Geometry, Got, Was};
 use std::process::Abort;
@@ -173,6 +174,27 @@ impl Hand<'_> {
     pub fn leave(self) {
         let Hand { volume, pass } = self;
         volume.retire(pass);
+    }
+}
+
+/// A broom at its device.
+pub struct Sweeper<'a> {
+    pub volume: &'a Volume,
+    pub broom: Broom,
+    ghost ready: { IsBroomReady (flash_of volume.now) broom } by { Prim.hlevel IsReady-prop },
+}
+
+impl Sweeper<'_> {
+    pub fn drain<G: Gate>(&mut self, gate: &mut G) -> Drain
+        ensures { self.new.volume ≡ self.old.volume }
+    {
+        self.volume.drain(&mut self.broom, gate)
+    }
+
+    /// The broom makes no more steps.
+    pub fn leave(self) {
+        let Sweeper { volume, broom } = self;
+        volume.fold(broom);
     }
 }
 

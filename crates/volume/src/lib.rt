@@ -13,6 +13,8 @@ mod caller;
 #[cfg(test)]
 mod crowds;
 #[cfg(test)]
+mod drains;
+#[cfg(test)]
 mod hands;
 #[cfg(test)]
 mod rows;

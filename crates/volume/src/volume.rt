@@ -1,7 +1,7 @@
 //! The calls of a device.
 use crate::closing::retire_all;
 use crate::opening::make_brooms;
-use broom::{Broom, Folded};
+use broom::{Broom, Drain, Folded};
 use flash_table::{Flash, Gate, Pass, Retired};
 use geometry::{Geometry, Was};
 use host::{Held, Holding, NoBlock, ReadDone};
@@ -29,6 +29,7 @@ impl Volume {
     ghost use Rattle.flash_table.specs.Leaving.{retired_view};
     ghost use Rattle.broom.specs.declared.broom.Broom.{Broom};
     ghost use Rattle.broom.specs.Ends.{folded_view};
+    ghost use Rattle.broom.specs.Told.{DrainTold};
     ghost use Rattle.broom.specs.Ready.{IsReady as IsBroomReady, view_of as broom_view, blocks_of_broom};
     ghost use Rattle.host.specs.Ready.{IsReady};
     ghost use Rattle.host.specs.Told.{Searched, Wrote, Refused, MetTold};
@@ -197,6 +198,16 @@ impl Volume {
         ensures { retired_view result ≡ record (view_of pass) { owns = []; work = None } }
     {
         host::retire(&self.flash, pass)
+    }
+
+    /// Surveys the device, claims the closed block with the fewest live pages, and moves those out of it. It stops at its gate before the
+    /// claim, and before each exchange of a map word.
+    pub fn drain<G: Gate>(&self, broom: &mut Broom, gate: &mut G) -> Drain
+        requires { IsBroomReady (flash_of self.now) broom.old }
+        ensures told { DrainTold broom.old result broom.new }
+        ensures ready { IsBroomReady (flash_of self.now) broom.new }
+    {
+        broom::drain(&self.flash, broom, gate)
     }
 
     /// Gives a broom up. The block that it copies to, full or not, and its spare are closed.
