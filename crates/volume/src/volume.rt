@@ -1,7 +1,7 @@
 //! The calls of a device.
 use crate::closing::retire_all;
 use crate::opening::make_brooms;
-use broom::{Broom, Drain, Folded};
+use broom::{Broom, Drain, Erase, Folded};
 use flash_table::{Flash, Gate, Pass, Retired};
 use geometry::{Geometry, Was};
 use host::{Held, Holding, NoBlock, ReadDone};
@@ -15,7 +15,7 @@ pub struct Volume {
 
 impl Volume {
     ghost use Rattle.std.specs.Prelude.{◌≡◌, ℕ, ◌<◌, All, List, [], None, Some, IfOk, OnErr, length, slice_get};
-    ghost use Rattle.geometry.specs.Geometry.{brooms_of, hosts_of, sectors_of, words_of, page_bytes_of};
+    ghost use Rattle.geometry.specs.Geometry.{blocks_of, brooms_of, hosts_of, sectors_of, words_of, page_bytes_of};
     ghost use Rattle.geometry.specs.History as call;
     ghost use Rattle.geometry.specs.History.{held};
     ghost use Rattle.geometry.specs.Sectors.{Answers};
@@ -29,6 +29,7 @@ impl Volume {
     ghost use Rattle.flash_table.specs.Leaving.{retired_view};
     ghost use Rattle.broom.specs.declared.broom.Broom.{Broom};
     ghost use Rattle.broom.specs.Ends.{folded_view};
+    ghost use Rattle.broom.specs.Erasing.{EraseTold};
     ghost use Rattle.broom.specs.Told.{DrainTold};
     ghost use Rattle.broom.specs.Ready.{IsReady as IsBroomReady, view_of as broom_view, blocks_of_broom};
     ghost use Rattle.host.specs.Ready.{IsReady};
@@ -208,6 +209,16 @@ impl Volume {
         ensures ready { IsBroomReady (flash_of self.now) broom.new }
     {
         broom::drain(&self.flash, broom, gate)
+    }
+
+    /// Erases a drained block that nobody reads. It stops at its gate once the block's state is loaded, before the block is condemned.
+    pub fn erase<G: Gate>(&self, broom: &mut Broom, block: u32, gate: &mut G) -> Erase
+        requires broom { IsBroomReady (flash_of self.now) broom.old }
+        requires block { block < blocks_of (geometry_of (flash_of self.now)) }
+        ensures told { EraseTold broom.old block result broom.new }
+        ensures ready { IsBroomReady (flash_of self.now) broom.new }
+    {
+        broom::erase(&self.flash, broom, block, gate)
     }
 
     /// Gives a broom up. The block that it copies to, full or not, and its spare are closed.
