@@ -28,10 +28,11 @@ returns-then-state-endurance-clause-told g c =
     let at = (goal.at.returns-then-state-endurance-clause-told g c).After-wipe_all in
     let s = c.args.broom.now.seat in
     let p = c.load_state-state.result in
-    let last = endures g at c.endurance.result (c.endurance.ensures.value ∙ ap endurance_of c.geometry.ensures) in (
+    let last = endures g at c.endurance.result (c.endurance.ensures.value ∙ ap endurance_of c.geometry.ensures) in
+    let given_up : own_blocks c.retire_block.new.broom ≡ record (own_blocks c.wipe_all.new.seat) { reclaiming = Nothing } = cc in (
       refl,
       did_retire s c.wipe_all.new.seat c.retire_block.new.broom c.args.block p (wiped g at) (c.if-state-endurance.true ∙ last)
-          (c.retire_block.ensures.told _ (its s c.wipe_all.new.seat c.args.block p (wiped g at))) c.retire_block.ensures.blocks,
+          (c.retire_block.ensures.told _ (its s c.wipe_all.new.seat c.args.block p (wiped g at))) given_up,
     )
 
 pub returns-then-state-endurance-clause-ready : goal.returns-then-state-endurance-clause-ready
