@@ -8,8 +8,8 @@ ghost use Rattle.host.specs.Ready.{IsReady};
 ghost use Rattle.volume.specs.Volume.{flash_of};
 
 use crate::Volume;
-use broom::{Broom, Drain};
-use flash_table::{Gate, Pass};
+use broom::{Broom, Drain, Erase};
+use flash_table::{Gate, NoGate, Pass};
 use geometry::{Geometry, Got, Was};
 use std::process::Abort;
 use std::test::Fail;
@@ -28,18 +28,23 @@ pub struct Desk {
 impl Desk {
     /// A device of so many blocks and no broom, with nothing written.
     pub fn open(rt: &impl AllocGlobal, blocks: u32) -> Result<Desk, Fail> {
-        let (desk, brooms) = open_with(rt, blocks, 0)?;
+        let (desk, brooms) = open_with(rt, blocks, 10, 0)?;
         brooms.destroy_empty();
         Ok(desk)
     }
 }
 
-// A device of so many blocks and brooms.
-fn open_with(rt: &impl AllocGlobal, blocks: u32, brooms: u32) -> Result<(Desk, Vec<Broom>), Fail>
+// A device of so many blocks, which may be erased so often, and brooms.
+fn open_with(
+    rt: &impl AllocGlobal,
+    blocks: u32,
+    endurance: u32,
+    brooms: u32,
+) -> Result<(Desk, Vec<Broom>), Fail>
     ensures count { IfOk result (λ r. length r.1.items ≡ brooms) }
     ensures ready { IfOk result (λ r. All (IsBroomReady (flash_of r.0.volume)) r.1.items) }
 {
-    let geometry = Geometry::new(1, blocks, 2, 1, 2, 10, 2, brooms)?;
+    let geometry = Geometry::new(1, blocks, 2, 1, 2, endurance, 2, brooms)?;
     let (volume, mut passes, brooms) = Volume::open(rt.alloc(), &geometry)?;
     let Some(b) = passes.pop() else {
         unreachable!()
@@ -55,7 +60,14 @@ fn open_with(rt: &impl AllocGlobal, blocks: u32, brooms: u32) -> Result<(Desk, V
 pub fn open_swept(rt: &impl AllocGlobal) -> Result<(Desk, Broom), Fail>
     ensures { IfOk result (λ r. IsBroomReady (flash_of r.0.volume) r.1) }
 {
-    let (desk, mut brooms) = open_with(rt, 5, 1)?;
+    open_swept_often(rt, 10)
+}
+
+/// The same, with blocks that may be erased so often.
+pub fn open_swept_often(rt: &impl AllocGlobal, endurance: u32) -> Result<(Desk, Broom), Fail>
+    ensures { IfOk result (λ r. IsBroomReady (flash_of r.0.volume) r.1) }
+{
+    let (desk, mut brooms) = open_with(rt, 5, endurance, 1)?;
     let Some(broom) = brooms.pop() else {
         unreachable!()
     };
@@ -67,7 +79,7 @@ pub fn open_swept(rt: &impl AllocGlobal) -> Result<(Desk, Broom), Fail>
 pub fn open_swept_by_two(rt: &impl AllocGlobal) -> Result<(Desk, Broom, Broom), Fail>
     ensures { IfOk result (λ r. IsBroomReady (flash_of r.0.volume) r.1 × IsBroomReady (flash_of r.0.volume) r.2) }
 {
-    let (desk, mut brooms) = open_with(rt, 7, 2)?;
+    let (desk, mut brooms) = open_with(rt, 7, 10, 2)?;
     let Some(second) = brooms.pop() else {
         unreachable!()
     };
@@ -189,6 +201,16 @@ impl Sweeper<'_> {
         ensures { self.new.volume ≡ self.old.volume }
     {
         self.volume.drain(&mut self.broom, gate)
+    }
+
+    /// What comes of a block of the device; any other number is that of no drained block.
+    pub fn erase(&mut self, block: u32) -> Erase
+        ensures { self.new.volume ≡ self.old.volume }
+    {
+        if block >= self.volume.geometry().blocks() {
+            return Erase::Stale;
+        }
+        self.volume.erase(&mut self.broom, block, &mut NoGate)
     }
 
     /// The broom makes no more steps.

@@ -1,4 +1,4 @@
-//! A flash device that many threads share: it is opened, read and written through passes, and closed.
+//! A flash device that many threads share: it is opened, read and written through passes, cleaned by brooms, and closed.
 #![tactic(auto)]
 
 mod closing;
@@ -14,6 +14,8 @@ mod caller;
 mod crowds;
 #[cfg(test)]
 mod drains;
+#[cfg(test)]
+mod erases;
 #[cfg(test)]
 mod hands;
 #[cfg(test)]

@@ -61,6 +61,13 @@ impl Volume {
         }
     }
 
+    /// The device's numbers: which sectors and blocks there are, and how many bytes a page has.
+    pub fn geometry(&self) -> &Geometry
+        ensures { result.now ≡ geometry_of (flash_of self.now) }
+    {
+        self.flash.geometry()
+    }
+
     /// Reads a sector into `out`, a buffer of one page.
     pub fn read(&self, pass: &mut Pass, sector: u32, out: &mut [u8]) -> ReadDone
         requires pass { IsReady (flash_of self.now) pass.old }
