@@ -1,8 +1,17 @@
 //! A broom that drains blocks beside two hosts.
-use crate::hands::{Desk, Hand, Sweeper, close, first_look, open_swept, open_swept_by_two};
+ghost use Rattle.std.specs.Prelude.{◌≡◌, Some};
+ghost use Rattle.geometry.specs.Geometry.{sectors_of, page_bytes_of};
+ghost use Rattle.flash_table.specs.Flash.{geometry_of};
+ghost use Rattle.host.specs.declared.holding.Holding.{Holding};
+ghost use Rattle.volume.specs.Kept.{IsKept, IsKept-prop};
+ghost use Rattle.volume.specs.Volume.{flash_of};
+
+use crate::Volume;
+use crate::hands::{Desk, Hand, Sweeper, close, first_look, open_swept, open_swept_by_two, page};
 use broom::Drain;
 use flash_table::{Gate, NoGate, Point};
 use geometry::Was;
+use host::Holding;
 use std::test::Fail;
 
 fn drained(block: u32, copied: u32) -> Drain {
@@ -162,5 +171,80 @@ fn two_brooms_drain_a_block_each_and_no_sector_changes(rt: HostRuntime) -> Resul
     second.leave();
     let Hand { volume: _, pass: a } = a;
     assert_eq!(rt; close(&rt, volume, a, b), (Some(4), Some(2)));
+    Ok(())
+}
+
+// Lets a host hold sector 1 before a block is claimed.
+struct HoldsBeforeClaim<'a> {
+    volume: &'a Volume,
+    holding: Option<Holding>,
+    ghost sectors: { sectors_of (geometry_of (flash_of volume.now)) ≡ 2 },
+    ghost bytes: { page_bytes_of (geometry_of (flash_of volume.now)) ≡ 8 },
+    ghost kept: { (x : Holding) → holding ≡ Some x → IsKept (flash_of volume.now) x } by { Prim.hlevel IsKept-prop },
+}
+
+impl Gate for HoldsBeforeClaim<'_> {
+    fn at(&mut self, point: Point) {
+        if point == Point::BeforeClaim {
+            let Some(holding) = self.holding.take() else {
+                return;
+            };
+            if let Some(_before) = self.holding.replace(hold_one(self.volume, holding)) {
+                unreachable!()
+            }
+        }
+    }
+}
+
+// Holds sector 1, where nothing is held.
+fn hold_one(volume: &Volume, holding: Holding) -> Holding
+    requires sectors { sectors_of (geometry_of (flash_of volume.now)) ≡ 2 }
+    requires kept { IsKept (flash_of volume.now) holding }
+    ensures { IsKept (flash_of volume.now) result }
+{
+    match holding {
+        Holding::Empty(pass) => volume.hold(pass, 1),
+        Holding::Held(held) => Holding::Held(held),
+    }
+}
+
+#[test]
+fn a_block_that_is_read_is_lost_and_then_drained_under_its_reader(
+    rt: HostRuntime,
+) -> Result<(), Fail> {
+    let (Desk { volume, a, b }, broom) = open_swept(&rt)?;
+    let mut broom = Sweeper {
+        volume: &volume,
+        broom,
+    };
+    let mut a = Hand {
+        volume: &volume,
+        pass: a,
+    };
+    assert_eq!(rt; a.write(0, 1), Some(Was::Empty));
+    assert_eq!(rt; a.write(1, 2), Some(Was::Empty));
+    assert_eq!(rt; a.write(0, 3), Some(Was::Written));
+    let mut gate = HoldsBeforeClaim {
+        volume: &volume,
+        holding: Some(Holding::Empty(b)),
+    };
+    assert_eq!(rt; broom.drain(&mut gate), Drain::Lost);
+    assert_eq!(rt; broom.drain(&mut NoGate), drained(0, 1));
+    assert_eq!(rt; a.read(1), first_look(Some(2)));
+    let HoldsBeforeClaim {
+        volume: device,
+        holding,
+    } = gate;
+    let mut held = match holding {
+        Some(Holding::Held(held)) => held,
+        Some(Holding::Empty(_pass)) => panic!(rt; "it is written"),
+        None => panic!(rt; "the gate was called"),
+    };
+    let mut out = [99; 8];
+    device.copy_into(&mut held, &mut out);
+    assert_eq!(rt; out, page(2));
+    device.retire(device.release(held));
+    broom.leave();
+    a.leave();
     Ok(())
 }
