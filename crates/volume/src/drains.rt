@@ -1,4 +1,4 @@
-//! A broom that drains blocks beside two hosts.
+//! A broom that drains blocks beside two hosts, and erases them.
 ghost use Rattle.std.specs.Prelude.{◌≡◌, Some};
 ghost use Rattle.geometry.specs.Geometry.{sectors_of, page_bytes_of};
 ghost use Rattle.flash_table.specs.Flash.{geometry_of};
@@ -8,7 +8,7 @@ ghost use Rattle.volume.specs.Volume.{flash_of};
 
 use crate::Volume;
 use crate::hands::{Desk, Hand, Sweeper, close, first_look, open_swept, open_swept_by_two, page};
-use broom::Drain;
+use broom::{Drain, Erase};
 use flash_table::{Gate, NoGate, Point};
 use geometry::Was;
 use host::Holding;
@@ -17,6 +17,12 @@ use std::test::Fail;
 fn drained(block: u32, copied: u32) -> Drain {
     Drain::Drained { block, copied }
 }
+
+// The first block is erased, by a broom that has copied into its spare, and is the next spare.
+const KEPT: Erase = Erase::Erased {
+    block: 0,
+    kept: true,
+};
 
 // Lets a host write 5 to sector 1 before a map word is exchanged.
 struct WritesBeforeMove<'a> {
@@ -52,10 +58,10 @@ fn a_write_before_the_exchange_stays(rt: HostRuntime) -> Result<(), Fail> {
     assert_eq!(rt; was, Some(Was::Written));
     assert_eq!(rt; a.read(1), first_look(Some(5)));
     assert_eq!(rt; broom.drain(&mut NoGate), Drain::NoSpare);
-    assert_eq!(rt; a.read(0), first_look(Some(3)));
+    assert_eq!(rt; broom.erase(0), KEPT);
     broom.leave();
-    a.leave();
-    volume.retire(b);
+    let Hand { volume: _, pass: a } = a;
+    assert_eq!(rt; close(&rt, volume, a, b), (Some(3), Some(5)));
     Ok(())
 }
 
@@ -120,6 +126,7 @@ fn a_block_whose_host_is_gone_is_drained(rt: HostRuntime) -> Result<(), Fail> {
     a.leave();
     assert_eq!(rt; broom.drain(&mut NoGate), drained(0, 1));
     assert_eq!(rt; b.read(0), first_look(Some(1)));
+    assert_eq!(rt; broom.erase(0), KEPT);
     broom.leave();
     b.leave();
     Ok(())
@@ -243,7 +250,9 @@ fn a_block_that_is_read_is_lost_and_then_drained_under_its_reader(
     let mut out = [99; 8];
     device.copy_into(&mut held, &mut out);
     assert_eq!(rt; out, page(2));
+    assert_eq!(rt; broom.erase(0), Erase::Pinned);
     device.retire(device.release(held));
+    assert_eq!(rt; broom.erase(0), KEPT);
     broom.leave();
     a.leave();
     Ok(())
