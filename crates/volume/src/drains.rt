@@ -59,9 +59,11 @@ fn a_write_before_the_exchange_stays(rt: HostRuntime) -> Result<(), Fail> {
     assert_eq!(rt; a.read(1), first_look(Some(5)));
     assert_eq!(rt; broom.drain(&mut NoGate), Drain::NoSpare);
     assert_eq!(rt; broom.erase(0), KEPT);
+    assert_eq!(rt; a.read(0), first_look(Some(3)));
+    assert_eq!(rt; a.read(1), first_look(Some(5)));
     broom.leave();
-    let Hand { volume: _, pass: a } = a;
-    assert_eq!(rt; close(&rt, volume, a, b), (Some(3), Some(5)));
+    a.leave();
+    volume.retire(b);
     Ok(())
 }
 
