@@ -24,3 +24,4 @@ pub mod EraseSteps
 pub mod ReclaimAllowed
 pub mod Steps
 pub mod BroomAllowed
+pub mod Histories

@@ -13,13 +13,13 @@ use Rattle.flash_rule.specs.declared.facts.Name.TheVariants.{Pass as APass}
 use Rattle.flash_rule.specs.declared.facts.Role.TheVariants.{Player}
 use Rattle.flash_rule.specs.declared.view.View.{View}
 use Rattle.flash_rule.specs.Views.{caller, calls_of}
+use Rattle.flash_rule.proofs.Histories.{nobody}
 use Rattle.flash_table.specs.declared.flash.Flash.{Flash}
 use Rattle.flash_table.specs.declared.pass.Pass.{Pass}
 use Rattle.flash_table.specs.Flash.{view_of, geometry_of, device, first_view}
 use Rattle.host.specs.Ready.{IsReady}
 use Rattle.host.specs.Told.{Wrote}
 use Rattle.volume.specs.Closing.{AreAll, AreFinal}
-use Rattle.volume.proofs.Still.{nobody}
 
 -- the one call of a host, where the other one has none
 only : (h : List Call) (t u : ℕ) (y : Call) → ¬ (t ≡ u) → ((k : ℕ) → k < 2 → (k ≡ t) ⊎ (k ≡ u)) → All (λ c. caller c < 2) h → calls_of t h ≡ y ∷ [] → calls_of u h ≡ [] → h ≡ y ∷ []

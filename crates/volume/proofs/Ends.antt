@@ -11,6 +11,7 @@ use Rattle.flash_rule.specs.declared.facts.Name.TheVariants.{Pass as APass}
 use Rattle.flash_rule.specs.declared.facts.Role.TheVariants.{Player}
 use Rattle.flash_rule.specs.declared.view.View.{View}
 use Rattle.flash_rule.specs.Views.{AreOfHosts, caller, calls_of}
+use Rattle.flash_rule.proofs.Histories.{callers_before, squeezed}
 use Rattle.flash_rule.proofs.Owning.{some_same}
 use Rattle.flash_table.specs.declared.flash.Flash.{Flash}
 use Rattle.flash_table.specs.declared.pass.Pass.{Pass}
@@ -19,15 +20,7 @@ use Rattle.host.specs.Ready.{IsReady}
 use Rattle.volume.specs.Closing.{AreAll, AreRead, AreFinal, HasLooked, HaveLooked}
 use Rattle.volume.specs.Gathering.{MetEach, HasRead}
 use Rattle.volume.proofs.Looks.{looked-trans}
-use Rattle.volume.proofs.Still.{squeezed, at_one}
-
--- the callers of a beginning
-first_callers : (hosts : ℕ) (k l : List Call) → All (λ c. caller c < hosts) (k ++ l) → All (λ c. caller c < hosts) k
-first_callers hosts [] l callers = All-nil (λ c. caller c < hosts)
-first_callers hosts (c ∷ k) l callers = All-cons (λ c. caller c < hosts) c k (All-head (λ c. caller c < hosts) c (k ++ l) callers) (first_callers hosts k l (All-tail (λ c. caller c < hosts) c (k ++ l) callers))
-
-callers_before : (hosts : ℕ) (k l : List Call) → Begins k l → All (λ c. caller c < hosts) l → All (λ c. caller c < hosts) k
-callers_before hosts k l b callers = first_callers hosts k b.0 (subst (λ x. All (λ c. caller c < hosts) x) (sym b.1) callers)
+use Rattle.volume.proofs.Still.{at_one}
 
 -- a pass of the rest of a row, where it stands
 there : (ps : List Pass) (j : ℕ) (p d : Pass) → slice_get ps j ≡ Some p → get_or ps j d ≡ p

@@ -1,0 +1,66 @@
+-- The calls of each host in a history that only grows: where no host has made a call in between, two histories are one.
+use Rattle.std.proofs.Common.{◌≡◌, ℕ, ◌<◌, eq-eqb, ne_eqb, List, [], ◌∷◌, ◌++◌, length, sym, refl, ap, ◌∙◌, subst, arith, append-nil, length-append}
+use Rattle.std.specs.Prelude.{All}
+use Rattle.std.proofs.lemmas.List.{append_cancel_left, nil_from_length}
+use Rattle.std.proofs.lemmas.List.Elements.{All-head, All-tail, All-nil, All-cons}
+use mathlib.Core.Logic.{dite}
+use native.Mathlib.Decide.{ℕ_discrete}
+use Rattle.geometry.specs.History.{Call, Begins}
+use Rattle.flash_rule.specs.Views.{caller, calls_of}
+
+-- a pass's calls in two parts of a history
+pub calls_of-append : (t : ℕ) (h k : List Call) → calls_of t (h ++ k) ≡ calls_of t h ++ calls_of t k
+calls_of-append t [] k = refl
+calls_of-append t (c ∷ h) k =
+    let there = calls_of-append t h k in
+    dite (ℕ_discrete (caller c) t)
+    (λ same. rw (eq-eqb (caller c) t same) (ap (λ l. c ∷ l) there))
+    (λ other. rw (ne_eqb (caller c) t other) there)
+
+-- a pass's calls grow with the history
+pub calls_grow : (t : ℕ) (h k : List Call) → Begins h k → Begins (calls_of t h) (calls_of t k)
+calls_grow t h k b = (calls_of t b.0, sym (calls_of-append t h b.0) ∙ ap (calls_of t) b.1)
+
+-- a list between two that are equal is that list
+pub between : {X : Type 0} (k l m : List X) → Begins k l → Begins l m → k ≡ m → l ≡ k
+between k l m a b same =
+    let first = ap (length {A = _}) a.1 in
+    let second = ap (length {A = _}) b.1 in
+    let whole = ap (length {A = _}) same in
+    let none : a.0 ≡ [] = nil_from_length a.0 (omega (arith, length-append k a.0, length-append l b.0)) in
+    sym a.1 ∙ (ap (λ x. k ++ x) none ∙ append-nil k)
+
+-- what a pass has called by the first and by the last of three histories, it has called by the one in the middle
+pub squeezed : (t : ℕ) (h k l mine : List Call) → Begins h k → Begins k l → calls_of t h ≡ mine → calls_of t l ≡ mine → calls_of t k ≡ mine
+squeezed t h k l mine a b first last =
+    between (calls_of t h) (calls_of t k) (calls_of t l) (calls_grow t h k a) (calls_grow t k l b) (first ∙ sym last) ∙ first
+
+-- calls of hosts of which each host has none are none
+pub nobody : (hosts : ℕ) (l : List Call) → All (λ c. caller c < hosts) l → ((t : ℕ) → t < hosts → calls_of t l ≡ []) → l ≡ []
+nobody hosts [] callers none = refl
+nobody hosts (c ∷ l) callers none =
+    let mine = none (caller c) (All-head (λ x. caller x < hosts) c l callers) in
+    let some : c ∷ calls_of (caller c) l ≡ [] = rw (eq-eqb (caller c) (caller c) refl) at mine in
+    absurd (cc)
+
+-- the callers of the rest of a history
+pub rest_callers : (hosts : ℕ) (k l : List Call) → All (λ c. caller c < hosts) (k ++ l) → All (λ c. caller c < hosts) l
+rest_callers hosts [] l callers = callers
+rest_callers hosts (c ∷ k) l callers = rest_callers hosts k l (All-tail (λ x. caller x < hosts) c (k ++ l) callers)
+
+-- where no host has called in between, nothing has changed
+pub still : (hosts : ℕ) (k l : List Call) → Begins k l → All (λ c. caller c < hosts) l → ((t : ℕ) → t < hosts → calls_of t l ≡ calls_of t k) → l ≡ k
+still hosts k l b callers same =
+    let rest : All (λ c. caller c < hosts) b.0 = rest_callers hosts k b.0 (subst (λ x. All (λ c. caller c < hosts) x) (sym b.1) callers) in
+    let none : b.0 ≡ [] = nobody hosts b.0 rest
+    (λ t low. append_cancel_left (calls_of t k) (calls_of t b.0) [] (sym (calls_of-append t k b.0) ∙ (ap (calls_of t) b.1 ∙ (same t low ∙ sym (append-nil (calls_of t k)))))) in
+    sym b.1 ∙ (ap (λ x. k ++ x) none ∙ append-nil k)
+
+-- the callers of the first part of a history
+pub first_callers : (hosts : ℕ) (k l : List Call) → All (λ c. caller c < hosts) (k ++ l) → All (λ c. caller c < hosts) k
+first_callers hosts [] l callers = All-nil (λ c. caller c < hosts)
+first_callers hosts (c ∷ k) l callers = All-cons (λ c. caller c < hosts) c k (All-head (λ c. caller c < hosts) c (k ++ l) callers) (first_callers hosts k l (All-tail (λ c. caller c < hosts) c (k ++ l) callers))
+
+-- the callers of a beginning of a history
+pub callers_before : (hosts : ℕ) (k l : List Call) → Begins k l → All (λ c. caller c < hosts) l → All (λ c. caller c < hosts) k
+callers_before hosts k l b callers = first_callers hosts k b.0 (subst (λ x. All (λ c. caller c < hosts) x) (sym b.1) callers)
