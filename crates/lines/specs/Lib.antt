@@ -1,0 +1,3 @@
+-- What public contracts rest on.
+pub mod Lines
+pub mod Playing

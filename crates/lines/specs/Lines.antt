@@ -1,0 +1,67 @@
+-- A line of a trace with its answer: whose it is, which calls it adds to the history, and when its answer is right.
+use Rattle.std.specs.Prelude.{◌≡◌, ◌⊎◌, ℕ, Bool, true, false, if◌then◌else◌, List, [], ◌∷◌, None, Some}
+use Rattle.geometry.specs.Sectors.{Sector, was_of}
+use Rattle.geometry.specs.History.{Call, Write, Trim}
+use Rattle.geometry.specs.declared.answer.Was.{Was}
+use Rattle.geometry.specs.declared.answer.Was.TheVariants as was
+use Rattle.trace.specs.declared.commands.Command.{Command}
+use Rattle.trace.specs.declared.commands.Op.{Op}
+use Rattle.trace.specs.declared.commands.Op.TheVariants as op
+use Rattle.lines.specs.declared.answer.Answer.{Answer}
+use Rattle.lines.specs.declared.answer.Kind.{Kind}
+use Rattle.lines.specs.declared.answer.Kind.TheVariants as kind
+
+-- a line with what it was answered
+abbrev pub Answered : Type 0
+Answered = Command × Answer
+
+-- the worker that does the line
+abbrev pub worker_of : Answered → ℕ
+worker_of x = x.0.worker
+
+-- the sector that it names
+abbrev pub sector_of : Answered → ℕ
+sector_of x = x.0.sector
+
+-- what a sector was, as an answer
+abbrev pub kind_of : Was → Kind
+kind_of was.Empty = kind.Empty
+kind_of was.Written = kind.Written
+
+-- whether a write was turned away
+abbrev pub is_full : Kind → Bool
+is_full kind.Empty = false
+is_full kind.Written = false
+is_full kind.Page = false
+is_full kind.Full = true
+
+-- the call that a pass makes where it does a line: a read makes none
+abbrev pub calls_by : ℕ → Op → ℕ → List ℕ → List Call
+calls_by t op.Read s value = []
+calls_by t op.Write s value = Write t s value ∷ []
+calls_by t op.Trim s value = Trim t s ∷ []
+calls_by t op.Meet s value = []
+
+-- the calls that a line has added, done by this pass: none where it was turned away
+abbrev pub calls_made : ℕ → Command → Answer → List Call
+calls_made t c a = if is_full a.kind then [] else calls_by t c.op c.sector c.page
+
+-- the calls that a line has added, done by the pass of its worker
+abbrev pub calls_in : Answered → List Call
+calls_in x = calls_made x.0.worker x.0 x.1
+
+-- a read tells what its sector holds
+abbrev pub IsFound : Sector → Kind → List ℕ → Type 0
+IsFound None k page = k ≡ kind.Empty
+IsFound (Some value) k page = (k ≡ kind.Page) × (page ≡ value)
+
+-- the right answer of an op whose sector holds this: a write may be turned away, and a meeting isn't answered by an array
+abbrev pub IsRight : Op → Sector → Kind → List ℕ → Type 0
+IsRight op.Read x k page = IsFound x k page
+IsRight op.Write x k page = (k ≡ kind.Full) ⊎ (k ≡ kind_of (was_of x))
+IsRight op.Trim x k page = k ≡ kind_of (was_of x)
+IsRight op.Meet x k page = ⊥
+
+-- a line's answer is right where its sector holds this
+abbrev pub is_right : Answered → Sector → Type 0
+is_right x sector = IsRight x.0.op sector x.1.kind x.1.page.items

@@ -1,0 +1,72 @@
+-- What a pass that plays lines does: it answers each at a history, one after another.
+use Rattle.std.specs.Prelude.{◌≡◌, ℕ, ◌+◌, ◌*◌, ◌<◌, ◌≤◌, ◌==◌, Bool, if◌then◌else◌, List, [], ◌∷◌, ◌++◌, length, count_by}
+use Rattle.geometry.specs.History.{Call, held, Begins}
+use Rattle.geometry.specs.declared.map_word.MapWord.{MapWord}
+use Rattle.flash_rule.specs.declared.view.View.{View}
+use Rattle.trace.specs.declared.commands.Command.{Command}
+use Rattle.trace.specs.declared.commands.Op.{Op}
+use Rattle.trace.specs.declared.commands.Op.TheVariants as op
+use Rattle.lines.specs.declared.answer.Answer.{Answer}
+use Rattle.lines.specs.Lines.{calls_made, is_full, IsRight}
+
+-- Pass t, which had seen this, has played the lines and has seen that at the end: each line has its right answer at a history of its own. The
+-- first history isn't before what the pass had seen, each next one not before the one before with its call, and the end not before the last one
+-- with its call
+abbrev pub Plays : ℕ → ℕ → List Call → List Command → List Answer → List Call → Type 0
+Plays n t seen [] [] last = Begins seen last
+Plays n t seen [] (a ∷ answers) last = ⊥
+Plays n t seen (c ∷ lines) [] last = ⊥
+Plays n t seen (c ∷ lines) (a ∷ answers) last =
+    (h : List Call) × Begins seen h × IsRight c.op (held n h c.sector) a.kind a.page.items × Plays n t (h ++ calls_made t c a) lines answers last
+
+-- the calls that lines have added, done by one pass
+abbrev pub calls_done : ℕ → List Command → List Answer → List Call
+calls_done t [] answers = []
+calls_done t (c ∷ lines) [] = []
+calls_done t (c ∷ lines) (a ∷ answers) = calls_made t c a ++ calls_done t lines answers
+
+-- whether a line has programmed a page
+abbrev pub one_done : Op → Bool → ℕ
+one_done op.Read full = 0
+one_done op.Write full = if full then 0 else 1
+one_done op.Trim full = 0
+one_done op.Meet full = 0
+
+-- how many of the lines are writes that were done
+abbrev pub writes_done : List Command → List Answer → ℕ
+writes_done [] answers = 0
+writes_done (c ∷ lines) [] = 0
+writes_done (c ∷ lines) (a ∷ answers) = one_done c.op (is_full a.kind) + writes_done lines answers
+
+-- how many answers turn a write away
+abbrev pub fulls : List Answer → ℕ
+fulls answers = count_by (λ a. is_full a.kind) answers
+
+-- how often a block was found taken
+abbrev pub times : ℕ → List ℕ → ℕ
+times b denied = count_by (λ c. c == b) denied
+
+-- A pass has played lines, with so many tries of each write. Its own calls have grown by just those of the lines that were done, in order; one page
+-- was programmed for each write that was done, and at most one block taken; and for each line that was turned away every block was found taken as
+-- often as it was tried. Nothing else has changed of what the pass knows
+pub record Played (t patience : ℕ) (v : View) (lines : List Command) (answers : List Answer) (w : View) : Type 0 where
+  pub changed : w ≡ record v {
+    seen = w.seen;
+    mine = w.mine;
+    looks = w.looks;
+    pin = w.pin;
+    known = w.known;
+    programs = w.programs;
+    owns = w.owns;
+    work = w.work;
+    taken = w.taken;
+    denied = w.denied;
+  }
+  pub plays : Plays v.numbers.sectors t v.seen lines answers w.seen
+  pub mine : w.mine ≡ v.mine ++ calls_done t lines answers
+  pub more : List MapWord
+  pub programs : w.programs ≡ v.programs ++ more
+  pub programmed : length more ≡ writes_done lines answers
+  pub kept : v.taken ≤ w.taken
+  pub taken : w.taken ≤ v.taken + writes_done lines answers
+  pub denied : (b : ℕ) → b < v.numbers.blocks → times b v.denied + patience * fulls answers ≤ times b w.denied

@@ -1,0 +1,32 @@
+ghost use Rattle.std.specs.Prelude.{◌≡◌};
+ghost use Rattle.lines.specs.Lines.{kind_of};
+
+use geometry::Was;
+
+/// What a line was answered. With `Page` a read found the value that stands in its answer's page; with `Full` a write found no block.
+#[derive(Clone, Copy, Debug, PartialEq, Eq)]
+pub enum Kind {
+    Empty,
+    Written,
+    Page,
+    Full,
+}
+
+impl Kind {
+    /// The answer of a write or a trim that was done.
+    pub fn of_was(was: Was) -> Kind
+        ensures { result ≡ kind_of was }
+    {
+        match was {
+            Was::Empty => Kind::Empty,
+            Was::Written => Kind::Written,
+        }
+    }
+}
+
+/// The place for a line's answer. The page is a buffer for what a read finds.
+#[derive(Drop)]
+pub struct Answer {
+    pub kind: Kind,
+    pub page: Vec<u8>,
+}
