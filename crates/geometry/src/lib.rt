@@ -26,8 +26,3 @@ pub use page_bytes::{put_word, word_at};
 pub use pin_word::{NEXT_PHASE, PAGE_WRITTEN, Phase, PinWord, READER, TAKEN, freed, kept};
 pub use table_order::{ERASED, page_word_at, pin_at, table_size};
 pub use victim::greedy;
-
-#[cfg(test)]
-mod tests;
-#[cfg(test)]
-mod word_tests;

@@ -2,7 +2,7 @@ ghost use Rattle.std.specs.Prelude.{◌≡◌};
 ghost use Rattle.geometry.specs.Geometry.{page_bytes_of};
 ghost use Rattle.ftl_one.specs.OneFtl.{geometry_of};
 
-use crate::OneFtl;
+use ftl_one::OneFtl;
 use geometry::{Geometry, Got, Was};
 use std::alloc::Global;
 use std::process::Abort;

@@ -1,4 +1,4 @@
-use crate::{MapWord, NEXT_PHASE, PAGE_WRITTEN, Phase, PinWord, TAKEN, freed, kept};
+use geometry::{MapWord, NEXT_PHASE, PAGE_WRITTEN, Phase, PinWord, TAKEN, freed, kept};
 use std::test::Fail;
 
 #[test]

@@ -2,7 +2,7 @@ ghost use Rattle.std.specs.Prelude.{◌≡◌, IfOk};
 ghost use Rattle.geometry.specs.Geometry.{blocks_of, pages_of, page_bytes_of};
 ghost use Rattle.die.specs.Die.{geometry_of};
 
-use crate::{Die, ERASED_STAMP};
+use die::{Die, ERASED_STAMP};
 use geometry::{Geometry, PageAddr};
 use std::process::Abort;
 use std::test::Fail;

@@ -1,4 +1,4 @@
-use crate::{Geometry, GeometryFault, put_word, word_at};
+use geometry::{Geometry, GeometryFault, put_word, word_at};
 use std::test::Fail;
 
 // The table of geometries, row by row: luns, blocks, pages, words, sectors, endurance, hosts, brooms.
