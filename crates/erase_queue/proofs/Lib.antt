@@ -1,1 +1,2 @@
-pub mod Distinct
+pub mod Places
+pub mod Course

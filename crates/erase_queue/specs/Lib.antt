@@ -1,4 +1,5 @@
 -- What public contracts rest on.
 pub mod Queue
--- Internal: the numbers under the lock.
-pub mod Numbers
+pub mod Moves
+-- Internal: the rule, and the passes that it begins with.
+pub mod Rule

@@ -1,11 +1,20 @@
 -- What contracts name of a queue and of its passes.
 use Rattle.std.specs.Prelude.{◌≡◌, ℕ, ◌+◌, ◌%◌, ◌^◌}
+use Rattle.crossbeam_queue.specs.Passes as port
 use Rattle.erase_queue.specs.declared.queue.EraseQueue.{EraseQueue}
 use Rattle.erase_queue.specs.declared.pass.QueuePass.{QueuePass}
+use Rattle.erase_queue.specs.declared.sight.Role.TheVariants.{User}
+use Rattle.erase_queue.specs.declared.sight.Sight.{Sight}
+use Rattle.erase_queue.specs.Moves.{DidPut, DidTake, StoodSome}
+use Rattle.erase_queue.specs.Rule.{counter, user_of}
 
 -- what the numbers of the queue are below, and how many of them it has room for
 abbrev pub limit_of : EraseQueue → ℕ
-limit_of q = q.limit
+limit_of q = port.ruled_capacity q.numbers
+
+-- what a pass knows of the queue's course
+abbrev pub sight_of : QueuePass → Sight
+sight_of p = port.view p.port
 
 -- how many puts of this pass were refused, modulo 2 ^ 64
 abbrev pub fulls_of : QueuePass → ℕ
@@ -19,12 +28,41 @@ empties_of p = p.empties
 abbrev pub one_more : ℕ → ℕ
 one_more count = (count + 1) % 2 ^ 64
 
--- The pass is of this queue: it was made for as many numbers
-abbrev pub IsPassOf : EraseQueue → QueuePass → Type 0
-IsPassOf q p = p.limit.value ≡ q.limit
+-- The pass was made with this queue and by no other, to put and take its numbers
+pub record IsPassOf (q : EraseQueue) (p : QueuePass) : Type 0 where
+  pub port : port.IsPassOf q.numbers p.port
+  pub role : (sight_of p).role ≡ User
+  pub limit : (sight_of p).limit ≡ limit_of q
 
--- A pass of this queue that has counted nothing
+-- A pass of this queue that has seen, done and counted nothing
 pub record IsNewPass (q : EraseQueue) (p : QueuePass) : Type 0 where
   pub queue : IsPassOf q p
+  pub sight : sight_of p ≡ user_of (counter (limit_of q))
   pub fulls : fulls_of p ≡ 0
   pub empties : empties_of p ≡ 0
+
+-- The number was put, and nothing was counted
+pub record WasPut (p : QueuePass) (block : ℕ) (q : QueuePass) : Type 0 where
+  pub did : DidPut (sight_of p) block (sight_of q)
+  pub fulls : fulls_of q ≡ fulls_of p
+  pub empties : empties_of q ≡ empties_of p
+
+-- The queue was full at one moment, with so many numbers, and that was counted. The pass has done nothing
+pub record WasFull (limit : ℕ) (p q : QueuePass) : Type 0 where
+  pub stood : StoodSome (sight_of p) limit
+  pub same : sight_of q ≡ sight_of p
+  pub fulls : fulls_of q ≡ one_more (fulls_of p)
+  pub empties : empties_of q ≡ empties_of p
+
+-- The number was taken, and nothing was counted
+pub record WasTaken (p : QueuePass) (block : ℕ) (q : QueuePass) : Type 0 where
+  pub did : DidTake (sight_of p) block (sight_of q)
+  pub fulls : fulls_of q ≡ fulls_of p
+  pub empties : empties_of q ≡ empties_of p
+
+-- The queue was empty at one moment, and that was counted. The pass has done nothing
+pub record WasEmpty (p q : QueuePass) : Type 0 where
+  pub stood : StoodSome (sight_of p) 0
+  pub same : sight_of q ≡ sight_of p
+  pub fulls : fulls_of q ≡ fulls_of p
+  pub empties : empties_of q ≡ one_more (empties_of p)

@@ -3,10 +3,12 @@
 
 mod pass;
 mod queue;
-mod standing;
+mod rule;
+mod sight;
 
 pub use pass::QueuePass;
 pub use queue::EraseQueue;
+pub use sight::{Role, Sight};
 
 #[cfg(test)]
 mod crowds;

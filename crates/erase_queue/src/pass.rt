@@ -1,28 +1,27 @@
 ghost use Rattle.std.specs.Prelude.{◌≡◌};
 ghost use Rattle.erase_queue.specs.Queue.{fulls_of, empties_of, one_more};
 
-use std::snapshot::Snapshot;
+use crate::sight::Sight;
+use crossbeam_queue::Pass;
 
 /// What a broom puts and takes numbers by. It counts the refusals.
 #[derive(Drop)]
 pub struct QueuePass {
+    pub(crate) port: Pass<usize, Sight>,
     fulls: u64,
     empties: u64,
-    // What the numbers of its queue are below: in proofs alone, it has no bytes.
-    limit: Snapshot<usize>,
 }
 
 impl QueuePass {
-    /// A pass of a queue whose numbers are below the limit.
-    pub(crate) fn new(limit: usize) -> QueuePass
-        ensures limit { result.limit.value ≡ limit }
+    pub(crate) fn new(port: Pass<usize, Sight>) -> QueuePass
+        ensures port { result.port ≡ port }
         ensures fulls { fulls_of result ≡ 0 }
         ensures empties { empties_of result ≡ 0 }
     {
         QueuePass {
+            port,
             fulls: 0,
             empties: 0,
-            limit: Snapshot::of(&limit),
         }
     }
 

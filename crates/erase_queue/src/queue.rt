@@ -1,86 +1,102 @@
-ghost use Rattle.std.specs.Prelude.{◌≡◌, ◌<◌, IfOk, IfSome, All, length, is_none, if◌then◌else◌};
-ghost use Rattle.std.specs.Sync.Mutex.{mutex_guard_value};
-ghost use Rattle.erase_queue.specs.Queue.{limit_of, fulls_of, empties_of, one_more, IsPassOf, IsNewPass};
+ghost use Rattle.std.specs.Prelude.{◌≡◌, ◌<◌, IfOk, IfSome, All, length, MatchBool, MatchOption};
+ghost use Rattle.crossbeam_queue.specs.Passes.{view, IsPassOf as IsPortOf, ruled_capacity};
+ghost use Rattle.erase_queue.specs.Moves.{DidPut, StoodSome};
+ghost use Rattle.erase_queue.specs.Queue.{limit_of, sight_of, IsPassOf, IsNewPass, WasPut, WasFull, WasTaken, WasEmpty};
+ghost use Rattle.erase_queue.specs.Rule.{dealer, counter};
 
 use crate::pass::QueuePass;
-use crate::standing::Standing;
+use crate::rule::{Begin, CountUp, Deal, Numbers, Put, Take};
+use crate::sight::Sight;
+use crossbeam_queue::Pass;
 use std::alloc::{AllocError, Global};
-use std::sync::{Mutex, MutexGuard, Wait};
+use std::sync::Wait;
 
-/// The numbers of blocks that are drained and not yet erased, shared by all brooms. Each stands there once at most.
+/// The numbers of blocks that are drained and not yet erased, shared by all brooms.
 #[derive(Drop)]
 pub struct EraseQueue {
-    limit: usize,
-    standing: Mutex<Standing>,
+    numbers: Numbers,
+}
+
+// Fixes what the numbers are below.
+fn fix_limit(numbers: &Numbers, first: &mut Pass<usize, Sight>, limit: usize)
+    requires port { IsPortOf numbers.now first.old }
+    requires view { view first.old ≡ counter 0 }
+    ensures port { IsPortOf numbers.now first.new }
+    ensures view { view first.new ≡ dealer (counter limit) }
+{
+    for _ in 0..limit {
+        numbers.another::<CountUp>(first);
+    }
+    numbers.another::<Begin>(first);
 }
 
 impl EraseQueue {
-    /// A queue for the numbers below the limit, with room for all of them, and a pass for each broom. No other call takes memory.
+    /// A queue with room for so many numbers, which are below that limit, and a pass for each broom. No other call takes memory.
+    #[tactic(auto, using(crate::proofs::Course::begins))]
     pub fn new(
         alloc: Global,
         limit: usize,
         brooms: usize,
     ) -> Result<(EraseQueue, Vec<QueuePass>), AllocError>
+        requires { 0 < limit }
         ensures limit { IfOk result (λ made. limit_of made.0 ≡ limit) }
         ensures count { IfOk result (λ made. length made.1.items ≡ brooms) }
         ensures passes { IfOk result (λ made. All (IsNewPass made.0) made.1.items) }
     {
         let mut passes = Vec::with_capacity(alloc, brooms)?;
+        let (numbers, mut first) = Numbers::ruled(alloc, limit)?;
+        fix_limit(&numbers, &mut first, limit);
         for _ in 0..brooms {
-            passes.push_reserved(QueuePass::new(limit));
+            passes.push_reserved(QueuePass::new(numbers.another::<Deal>(&mut first)));
         }
-        let standing = Mutex::new(Standing::new(alloc, limit)?);
-        Ok((EraseQueue { limit, standing }, passes))
+        Ok((EraseQueue { numbers }, passes))
     }
 
-    /// What the numbers are below.
+    /// What the numbers are below, and how many of them there is room for.
     pub fn limit(&self) -> usize
         ensures { result ≡ limit_of self.now }
     {
-        self.limit
+        self.numbers.capacity()
     }
 
-    /// Puts a number behind the others, unless it stands there already. The answer is false where there is no room for it.
+    /// Puts a number behind the others. The answer is false where there was no room for it.
     pub fn put(&self, rt: &impl Wait, pass: &mut QueuePass, block: usize) -> bool
         requires block { block < limit_of self.now }
         requires pass { IsPassOf self.now pass.old }
-        ensures fulls { fulls_of pass.new ≡ (if result then fulls_of pass.old else one_more (fulls_of pass.old)) }
-        ensures empties { empties_of pass.new ≡ empties_of pass.old }
+        ensures told { MatchBool result (WasPut pass.old block pass.new) (WasFull (limit_of self.now) pass.old pass.new) }
         ensures pass { IsPassOf self.now pass.new }
     {
-        let stands = self.lock(rt).put(block);
+        let stands = self.push(rt, pass, block);
         if !stands {
             pass.count_full();
         }
         stands
     }
 
+    // The same, and no refusal is counted.
+    fn push(&self, rt: &impl Wait, pass: &mut QueuePass, block: usize) -> bool
+        requires block { block < limit_of self.now }
+        requires pass { IsPassOf self.now pass.old }
+        ensures told { MatchBool result (DidPut (sight_of pass.old) block (sight_of pass.new)) ((sight_of pass.new ≡ sight_of pass.old) × StoodSome (sight_of pass.old) (limit_of self.now)) }
+        ensures pass { IsPassOf self.now pass.new }
+        ensures counts { pass.new ≡ record pass.old { port = pass.new.port } }
+    {
+        let pushed = self.numbers.push_as::<Put, _>(rt, &mut pass.port, block);
+        pushed.is_ok()
+    }
+
     /// Takes the number that has stood there longest.
+    #[tactic(auto, using(crate::proofs::Course::puts, crate::proofs::Course::takes, crate::proofs::Course::learns))]
     pub fn take(&self, rt: &impl Wait, pass: &mut QueuePass) -> Option<usize>
         requires { IsPassOf self.now pass.old }
+        ensures told { MatchOption result (WasEmpty pass.old pass.new) (λ block. WasTaken pass.old block pass.new) }
         ensures block { IfSome result (λ block. block < limit_of self.now) }
-        ensures empties { empties_of pass.new ≡ (if is_none result then one_more (empties_of pass.old) else empties_of pass.old) }
-        ensures fulls { fulls_of pass.new ≡ fulls_of pass.old }
         ensures pass { IsPassOf self.now pass.new }
     {
-        let taken = self.lock(rt).take();
+        let taken = self.numbers.pop_as::<Take, _>(rt, &mut pass.port);
         if taken.is_none() {
             pass.count_empty();
         }
         taken
-    }
-
-    // The numbers, for this thread alone. Their limit is that of the queue from `new` on, so the first round returns: what lies
-    // under a lock can't be tied to what stands beside it but by a test.
-    fn lock(&self, rt: &impl Wait) -> MutexGuard<'_, Standing>
-        ensures { (mutex_guard_value result).limit ≡ limit_of self.now }
-    {
-        for _ in rt.forever() {
-            let standing = self.standing.lock(rt);
-            if standing.limit == self.limit {
-                return standing;
-            }
-        }
-        unreachable!()
     }
 }
