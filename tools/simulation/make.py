@@ -7,8 +7,6 @@ from array import array
 
 from . import traces
 
-OP_SHARES = ("reads", "trims", "meets")
-
 
 def add_options(parser, sized=True):
     """The options of a trace that is made; without `sized` the caller gives the sectors and the lines."""
@@ -23,6 +21,7 @@ def add_options(parser, sized=True):
     parser.add_argument("--exponent", type=float, default=0.99, metavar="X", help="zipf: the sector of rank r is named in proportion to r to the power of -X (0.99)")
     parser.add_argument("--hot-sectors", type=float, default=20, metavar="PERCENT", help="hot-cold: the first sectors, of this share, are hot (20)")
     parser.add_argument("--hot-share", type=float, default=80, metavar="PERCENT", help="hot-cold: share of the lines that name a hot sector (80)")
+    parser.add_argument("--uniform-reads", action="store_true", help="reads and trims name any sector alike, and the kind is that of the writes")
     parser.add_argument("--data-bytes", type=int, default=8, metavar="N", help="with --data random: bytes of a write (8)")
     parser.add_argument("--seed", type=int, default=1, metavar="N", help="the same seed makes the same trace (1)")
 
@@ -56,6 +55,8 @@ def _mixed(options, random, sectors, writer):
     meets = trims + options.meets / 100
     for sector in sectors:
         share = random.random()
+        if options.uniform_reads and share < trims:
+            sector = int(random.random() * options.sectors)
         if share < reads:
             writer.read(sector)
         elif share < trims:

@@ -56,7 +56,7 @@ def erases_by_block(blocks, spread, path):
         axes.vlines(retired, 0, [used[number] for number in retired], color=RED, linewidth=max(0.5, min(8, 400 / len(blocks))), label="retired")
     axes.set_xlim(-0.5, len(blocks) - 0.5)
     axes.set_ylim(0)
-    axes.legend(loc="lower right")
+    axes.legend(loc="lower center", bbox_to_anchor=(0.5, 1), ncol=4, frameon=False)
     save(figure, path)
 
 
@@ -73,7 +73,8 @@ def amplification_over_time(pieces, path):
         so_far.append((programs + copies) / programs if programs else float("nan"))
     axes.plot(edges[1:], so_far, color=GOLD, linestyle="--", label="of all so far")
     axes.set_xlim(0, edges[-1])
-    axes.set_ylim(bottom=min(1, axes.get_ylim()[0]))
+    room = 0.05 * (max([value for value in parts if value is not None], default=2) - 1) or 0.05
+    axes.set_ylim(bottom=1 - room)
     axes.legend(loc="lower right")
     save(figure, path)
 

@@ -138,6 +138,12 @@ def gather(options, points, told_by_parallel):
     return [dict(zip(COLUMNS, row)) for row in rows], failures
 
 
+def label_of(column):
+    """What an axis of a plot says of a column."""
+    labels = {"utilisation": "sectors in percent of all pages", "write_amplification": "pages programmed by pages written"}
+    return labels.get(column, column)
+
+
 def series_of(rows, across, up, by):
     """The rows as lines of a plot: a line for each number of `by`, each of points with two numbers."""
     lines = {}

@@ -46,6 +46,12 @@ class Made(unittest.TestCase):
         hot = sum(sector < 10 for sector in sectors(done))
         self.assertAlmostEqual(hot / 200, 70, delta=1.5)
 
+    def test_reads_and_trims_may_be_uniform_beside_hot_writes(self):
+        done = make("hot-cold", "--sectors", "100", "--lines", "20000", "--hot-share", "100", "--reads", "30", "--trims", "20", "--uniform-reads")
+        hot = collections.Counter(line.split(",")[1] for line in done.lines if int(line.split(",")[2]) < 20)
+        self.assertEqual(hot["write"], sum(",write," in line for line in done.lines))
+        self.assertAlmostEqual((hot["read"] + hot["trim"]) / 100, 20, delta=2)
+
     def test_uniform_names_all_sectors_alike(self):
         counts = collections.Counter(sectors(make("uniform", "--sectors", "10", "--lines", "50000")))
         for sector in range(10):

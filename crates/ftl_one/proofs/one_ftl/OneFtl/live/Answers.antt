@@ -1,5 +1,4 @@
-use Rattle.std.proofs.Common.{◌∙◌, ℕ, List, get_or, sym, ap, subst, arith}
-use Rattle.geometry.specs.Geometry.{blocks_of}
+use Rattle.std.proofs.Common.{◌∙◌, ℕ, List, get_or, sym, ap, arith}
 use Rattle.ftl_one.specs.OneFtl.{geometry_of}
 use Rattle.ftl_one.specs.Store.{counts_of}
 use Rattle.ftl_one.specs.Stock.{live_of}
