@@ -15,12 +15,12 @@ use Rattle.ftl_one.specs.declared.role.Role.{Role}
 use Rattle.ftl_one.specs.declared.role.Role.TheVariants.{Free, Open, Closed, Spare, Retired}
 use Rattle.ftl_one.specs.declared.store.Store.{Store}
 use Rattle.ftl_one.specs.declared.one_ftl.OneFtl.{OneFtl}
-use Rattle.ftl_one.specs.Stock.{Stock, Block, Entry, is_open, is_free, is_spare, is_closed, open_of, free_of, spare_of, live_of, victim_of, change_at, unused, forget, forgotten, with_page, closed_if_full, filled, emptied, live_entries}
+use Rattle.ftl_one.specs.Stock.{Stock, Block, Entry, is_open, is_free, is_spare, is_closed, open_of, free_of, spare_of, live_of, victim_of, change_at, unused, forget, forgotten, with_page, closed_if_full, filled, emptied, live_entries, is_retired}
 use Rattle.ftl_one.specs.Entries.{live_count}
 use Rattle.ftl_one.specs.Store.{geometry_of, sectors_of, entries_of, erases_of, retired_of, counts_of, KeepsBlocks, Puts, Clears, Erases, HasRoom}
-use Rattle.ftl_one.specs.Lawful.{IsLawful, role_in, is_retired}
+use Rattle.ftl_one.specs.Lawful.{IsLawful, role_in}
 use Rattle.ftl_one.specs.Blocks.{block_in, blocks_in, weight}
-use Rattle.ftl_one.specs.Laws.{HasRetired}
+use Rattle.ftl_one.specs.Laws.{HasRetired, block_at}
 use Rattle.ftl_one.specs.OneFtl.{stock_of}
 use Rattle.ftl_one.proofs.BlocksLemmas.{table, length-table, get_or-table, table_is, table-change, table-map, position_alone, open_of-blocks, free_of-blocks, spare_of-blocks, victim_of-blocks}
 use Rattle.ftl_one.proofs.LawfulLemmas.{closed_else, inside, open≢retired}
@@ -240,6 +240,11 @@ length-blocks s roles = length-table (block_in s roles) (length roles)
 pub get_or-blocks : (s : Store) (roles : List Role) (b : ℕ) (d : Block) → b < length roles → get_or (blocks_in s roles) b d ≡ block_in s roles b
 unfolding blocks_in
 get_or-blocks s roles b d low = get_or-table (block_in s roles) (length roles) b d low
+
+-- a block of the stock is what the store and the role say of it
+pub block_at-stock : (f : OneFtl) (b : ℕ) → b < blocks_of (geometry_of f.store) → block_at (stock_of f) b ≡ block_in f.store f.roles.items b
+unfolding stock_of
+block_at-stock f b low = get_or-blocks f.store f.roles.items b (unused Retired) (omega (arith, low, f.roles_sized))
 
 -- the lowest free block is free
 pub free_found : (f : OneFtl) (b : ℕ) → free_of (stock_of f).blocks ≡ Some b → (b < length f.roles.items) × (role_in f.roles.items b ≡ Free)
