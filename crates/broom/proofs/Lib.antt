@@ -8,3 +8,4 @@ pub mod Clearing
 pub mod Drains
 pub mod Wiping
 pub mod Renewing
+pub mod Tying

@@ -5,6 +5,7 @@ pub mod Once
 pub mod Told
 pub mod Erasing
 pub mod Ends
+pub mod Meeting
 -- Internal: the parts of a drain.
 pub mod Surveying
 pub mod Relocating
