@@ -2,6 +2,7 @@ pub mod Leaving
 pub mod Loading
 pub mod Counting
 pub mod Choosing
+pub mod Emptying
 pub mod Sweeping
 pub mod Copying
 pub mod Clearing

@@ -2,6 +2,7 @@
 pub mod Survey
 pub mod Ready
 pub mod Once
+pub mod Emptying
 pub mod Told
 pub mod Erasing
 pub mod Ends

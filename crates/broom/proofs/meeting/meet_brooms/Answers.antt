@@ -1,7 +1,7 @@
-use Rattle.std.proofs.Common.{◌≡◌, sym, ap, ◌∙◌, subst}
+use Rattle.std.proofs.Common.{sym, ap, ◌∙◌, subst}
 use Rattle.flash_rule.specs.World.{sector_word}
 use Rattle.flash_rule.specs.declared.view.View.{View}
-use Rattle.flash_rule.specs.Seats.{host_of, lent_note, home, lender, given_note}
+use Rattle.flash_rule.specs.Seats.{host_of, lent_note, home}
 use Rattle.flash_rule.specs.BroomPlays.{Named}
 use Rattle.flash_table.specs.Flash.{broom_view, note_view}
 use Rattle.broom.specs.Ready.{view_of}

@@ -1,7 +1,7 @@
-use Rattle.std.proofs.Common.{◌≡◌, sym, refl, ap, ◌∙◌, subst}
+use Rattle.std.proofs.Common.{◌≡◌, sym, ap, ◌∙◌, subst}
 use Rattle.flash_rule.specs.World.{sector_word}
 use Rattle.flash_rule.specs.declared.view.View.{View}
-use Rattle.flash_rule.specs.Seats.{carried, host_of, lent_note, home, lender, giver, given_note}
+use Rattle.flash_rule.specs.Seats.{carried, host_of, lent_note, home, giver, given_note}
 use Rattle.flash_rule.specs.Plays.{Spared}
 use Rattle.flash_rule.specs.BroomPlays.{Named}
 use Rattle.flash_table.specs.Flash.{broom_view, note_view, view_of as pass_view}
