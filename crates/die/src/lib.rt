@@ -8,6 +8,3 @@ mod die;
 mod slots;
 
 pub use die::{Die, ERASED_BYTE, ERASED_STAMP};
-
-#[cfg(test)]
-mod tests;

@@ -2,6 +2,9 @@
 //! to standard output.
 #![tactic(auto)]
 
+#[cfg(test)]
+mod tests;
+
 use player::{Watched, session};
 use std::alloc::AllocError;
 use std::process::ExitCode;

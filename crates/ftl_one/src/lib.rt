@@ -11,6 +11,3 @@ mod store;
 
 pub use one_ftl::{Counts, OneFtl, WornOut};
 pub use role::Role;
-
-#[cfg(test)]
-mod tests;

@@ -28,8 +28,3 @@ pub use pin_word::{
 };
 pub use table_order::{ERASED, page_word_at, pin_at, table_size};
 pub use victim::greedy;
-
-#[cfg(test)]
-mod tests;
-#[cfg(test)]
-mod word_tests;

@@ -1,13 +1,13 @@
 -- What clap's clauses say of the program's own command line.
-use Rattle.std.proofs.Common.{◌≡◌, ℕ, Bool, true, List, Option, None, Some, refl, sym, ap, ◌∙◌, subst, inl, inr}
+use Rattle.std.proofs.Common.{◌≡◌, ℕ, true, List, Option, None, Some, refl, ap, ◌∙◌, subst, inl, inr}
 use Rattle.std.specs.Prelude.{Result, Ok, Err, MatchOption, unwrap_or}
-use Rattle.std.specs.Str.Parse.{ParsesUnsigned, digits_value, without_leading_plus}
-use Rattle.clap.specs.Words.{App, FailsBy, HasMatchesOf, Row, Text, app_of, fault_of, found_of, is_simple, is_simple_and_free, matches_of, one_of, rows_of}
+use Rattle.std.specs.Str.Parse.{ParsesUnsigned}
+use Rattle.clap.specs.Words.{App, FailsBy, HasMatchesOf, Text, fault_of, found_of, is_simple, is_simple_and_free, matches_of, rows_of}
 use Rattle.clap.specs.Matches.{ReadsOne}
 use Rattle.clap.specs.declared.error.Error.{Error}
 use Rattle.clap.specs.declared.parser.matches.ArgMatches.{ArgMatches}
 use Rattle.clap.proofs.OnLiterals.{clap_on_literals}
-use Rattle.player.specs.CommandLine.{IsNumberIn, WritesNumber, faults_given, flashplay, rows_given}
+use Rattle.player.specs.CommandLine.{IsNumberIn, faults_given, flashplay, rows_given}
 
 flashplay_is_simple : is_simple flashplay ≡ true
 unfolding clap_on_literals

@@ -1,4 +1,1 @@
 mod CommandLines
-mod Deliveries
-mod Playable
-mod Plays

@@ -10,13 +10,14 @@ use Rattle.geometry.specs.declared.geometry.Geometry.{Geometry}
 use Rattle.geometry.specs.declared.fault.GeometryFault.{GeometryFault}
 use Rattle.trace.specs.declared.fault.TraceFaultKind.{TraceFaultKind}
 use Rattle.trace.specs.declared.fault.TraceFaultKind.TheVariants as fault
+use Rattle.answers.specs.Delivery.{AppendsText}
+use Rattle.answers.specs.Outcome.{ExplainsRun}
+use Rattle.answers.specs.Streams.{Stream}
+use Rattle.answers.specs.declared.fault.RunFault.{RunFault}
+use Rattle.answers.specs.declared.fault.RunFault.TheVariants as run
+use Rattle.one_player.specs.Playing.{IsTextOf}
 use Rattle.player.specs.CommandLine.{AreOptionsOf, faults_given, numbers_given, rows_given}
-use Rattle.player.specs.Delivery.{AppendsText}
-use Rattle.player.specs.Outcome.{ExplainsRun}
-use Rattle.player.specs.Streams.{Stream}
 use Rattle.player.specs.declared.command_line.Options.{Options}
-use Rattle.player.specs.declared.fault.RunFault.{RunFault}
-use Rattle.player.specs.declared.fault.RunFault.TheVariants as run
 use Rattle.player.specs.declared.stop.Stop.{Stop}
 use Rattle.player.specs.declared.stop.Stop.TheVariants as stop
 
@@ -29,6 +30,7 @@ status_of_trace _ = 3
 abbrev pub status_of_run : RunFault → ℕ
 status_of_run (run.Trace found) = status_of_trace found.kind
 status_of_run run.Memory = 4
+status_of_run run.Threads = 4
 status_of_run run.Output = 1
 
 -- the exit status of a session that stopped
@@ -58,7 +60,7 @@ pub record Played (words : List Text) (input_old input_new output_old output_new
   pub geo : Geometry
   pub device : IsDescribed words geo
   pub end : IsAtEnd input_new.bytes
-  pub text : IfSome input_old.bytes (λ bytes. AppendsText geo bytes output_old.bytes output_new.bytes)
+  pub text : IfSome input_old.bytes (λ bytes. AppendsText (IsTextOf geo) bytes output_old.bytes output_new.bytes)
   pub input_unfailed : input_new.failures ≡ input_old.failures
   pub output_unfailed : output_new.failures ≡ output_old.failures
 
@@ -74,7 +76,7 @@ pub record Helped (words : List Text) (input_old input_new output_old output_new
 pub record Stopped (words : List Text) (found : RunFault) (input_old input_new output_old output_new : Stream) : Type 0 where
   pub geo : Geometry
   pub device : IsDescribed words geo
-  pub why : ExplainsRun found geo input_old input_new output_old output_new
+  pub why : ExplainsRun (IsTextOf geo) found geo input_old input_new output_old output_new
 
 -- why a session stopped. Nothing is on the output but after `Output` of a run and `Help`, and nothing was read but by
 -- a run

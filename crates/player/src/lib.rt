@@ -1,26 +1,15 @@
-//! Plays a trace on a flash layer and writes its answers.
+//! A session of the program: its arguments, its device, its run and its exit status.
 #![tactic(auto)]
 
-mod answer;
 mod arguments;
 mod command_line;
-mod delivery;
-mod desk;
-mod fault;
-mod line;
-mod one_thread;
 mod sessions;
 mod stop;
 
+pub use answers::RunFault;
 pub use arguments::options;
 pub use command_line::Options;
-pub use fault::RunFault;
-pub use one_thread::run;
+pub use one_player::run;
 pub use sessions::session;
 pub use stop::Stop;
 pub use trace::{TraceFault, TraceFaultKind, Watched};
-
-#[cfg(test)]
-mod caller;
-#[cfg(test)]
-mod tests;

@@ -1,17 +1,17 @@
 ghost use Rattle.std.specs.Prelude.{◌≡◌, Some, map, IfErr, IfOk};
 ghost use Rattle.geometry.specs.Geometry.{numbers_of};
 ghost use Rattle.geometry.specs.Limits.{first_fault};
+ghost use Rattle.answers.specs.Streams.{stream_of};
 ghost use Rattle.player.specs.CommandLine.{numbers_given};
 ghost use Rattle.player.specs.Session.{AnswersClap, EndsSession, Explains};
-ghost use Rattle.player.specs.Streams.{stream_of};
 
 use crate::arguments::options;
 use crate::command_line::Options;
-use crate::delivery::{OutputFailed, send};
-use crate::one_thread::run;
 use crate::stop::Stop;
+use answers::{OutputFailed, send};
 use clap::error::ErrorKind;
 use geometry::{Geometry, GeometryFault};
+use one_player::run;
 use std::alloc::Global;
 use std::io::{Read, Write};
 use trace::Watched;

@@ -1,7 +1,7 @@
 ghost use Rattle.std.specs.Prelude.{◌≡◌};
 ghost use Rattle.player.specs.Session.{status_of_run, status_of_trace};
 
-use crate::fault::RunFault;
+use answers::RunFault;
 use geometry::GeometryFault;
 use thiserror::Error;
 use trace::TraceFaultKind;
@@ -47,7 +47,7 @@ fn run_status(fault: RunFault) -> u8
 {
     match fault {
         RunFault::Trace(found) => trace_status(found.kind),
-        RunFault::Memory => 4,
+        RunFault::Memory | RunFault::Threads => 4,
         RunFault::Output => 1,
     }
 }

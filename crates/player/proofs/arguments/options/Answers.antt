@@ -1,4 +1,4 @@
-use Rattle.std.proofs.Common.{◌≡◌, List, ℕ, codes, map, subst, sym}
+use Rattle.std.proofs.Common.{◌≡◌, List, codes, map, subst}
 use Rattle.std.specs.Prelude.{Ok, Err}
 use Rattle.clap.specs.declared.parser.matches.ArgMatches.{ArgMatches}
 use Rattle.clap.specs.Words.{Row, Text, app_of, found_of, rows_of}

@@ -1,0 +1,83 @@
+ghost use Rattle.std.specs.Prelude.{◌≡◌, IfOk};
+ghost use Rattle.geometry.specs.Geometry.{blocks_of, pages_of, page_bytes_of};
+ghost use Rattle.die.specs.Die.{geometry_of};
+
+use die::{Die, ERASED_STAMP};
+use geometry::{Geometry, PageAddr};
+use std::process::Abort;
+use std::test::Fail;
+
+const FIRST: PageAddr = PageAddr { block: 0, page: 0 };
+
+// A die of one LUN, three blocks of two pages of one word, and endurance 2.
+#[derive(Drop)]
+struct Bench {
+    die: Die,
+    ghost blocks: { blocks_of (geometry_of die) ≡ 3 },
+    ghost pages: { pages_of (geometry_of die) ≡ 2 },
+    ghost bytes: { page_bytes_of (geometry_of die) ≡ 8 },
+}
+
+impl Bench {
+    fn new(rt: &(impl Abort + AllocGlobal)) -> Result<Bench, Fail> {
+        let geometry = Geometry::new(1, 3, 2, 1, 3, 2, 0, 0)?;
+        assert!(rt; geometry.blocks() == 3);
+        assert!(rt; geometry.pages() == 2);
+        assert!(rt; geometry.page_bytes() == 8);
+        Ok(Bench {
+            die: Die::new(rt.alloc(), &geometry)?,
+        })
+    }
+
+    fn program(&mut self, rt: &impl Abort, at: PageAddr, byte: u8, stamp: u32) -> u8 {
+        assert!(rt; at.block < 3 && at.page < 2);
+        assert!(rt; !self.die.retired(at.block));
+        assert!(rt; self.die.next(at.block) == at.page);
+        self.die.program(at, &[byte, 0, 0, 0, 0, 0, 0, 0], stamp)
+    }
+
+    fn copyback(&mut self, rt: &impl Abort, from: PageAddr, to: PageAddr) -> u8 {
+        assert!(rt; from.block < 3 && to.block < 3 && to.page < 2);
+        assert!(rt; !self.die.retired(from.block));
+        assert!(rt; !self.die.retired(to.block));
+        assert!(rt; from.page < self.die.next(from.block));
+        assert!(rt; self.die.next(to.block) == to.page);
+        let geometry = self.die.geometry();
+        assert!(rt; geometry.lun_of(from.block) == geometry.lun_of(to.block));
+        self.die.copyback(from, to)
+    }
+
+    fn erase(&mut self, rt: &impl Abort, block: u32) -> u8 {
+        assert!(rt; block < 3);
+        assert!(rt; !self.die.retired(block));
+        self.die.erase(block)
+    }
+
+    // What a read of a page shows: its bytes and its stamp.
+    fn read(&self, rt: &impl Abort, at: PageAddr) -> ([u8; 8], u64) {
+        assert!(rt; at.block < 3);
+        assert!(rt; !self.die.retired(at.block));
+        let mut out = [0; 8];
+        let stamp = self.die.read(at, &mut out);
+        (out, stamp)
+    }
+}
+
+#[test]
+fn a_die_keeps_and_erases_pages(rt: HostRuntime) -> Result<(), Fail> {
+    let mut bench = Bench::new(&rt)?;
+    let next = PageAddr { block: 0, page: 1 };
+    let copy = PageAddr { block: 1, page: 0 };
+    assert_eq!(rt; bench.program(&rt, FIRST, 1, 2), 0);
+    assert_eq!(rt; bench.read(&rt, FIRST), ([1, 0, 0, 0, 0, 0, 0, 0], 2));
+    assert_eq!(rt; bench.read(&rt, next), ([255; 8], ERASED_STAMP));
+    assert_eq!(rt; bench.copyback(&rt, FIRST, copy), 0);
+    assert_eq!(rt; bench.read(&rt, copy), ([1, 0, 0, 0, 0, 0, 0, 0], 2));
+    assert_eq!(rt; bench.erase(&rt, 0), 0);
+    assert_eq!(rt; bench.die.next(0), 0);
+    assert_eq!(rt; bench.read(&rt, FIRST), ([255; 8], ERASED_STAMP));
+    assert_eq!(rt; bench.erase(&rt, 0), 1);
+    assert!(rt; bench.die.retired(0));
+    assert_eq!(rt; bench.die.erases(0), 2);
+    Ok(())
+}

@@ -1,0 +1,66 @@
+use geometry::{Geometry, GeometryFault, put_word, word_at};
+use std::test::Fail;
+
+// The table of geometries, row by row: luns, blocks, pages, words, sectors, endurance, hosts, brooms.
+const FAULTS: [([u32; 8], GeometryFault); 12] = [
+    ([0, 2, 2, 1, 3, 10, 0, 0], GeometryFault::Luns),
+    ([2, 3, 2, 1, 3, 10, 0, 0], GeometryFault::Blocks),
+    ([1, 3, 1025, 1, 3, 10, 0, 0], GeometryFault::Pages),
+    ([1, 3, 2, 513, 3, 10, 0, 0], GeometryFault::Words),
+    ([1, 3, 2, 1, 0, 10, 0, 0], GeometryFault::Sectors),
+    ([1, 3, 2, 1, 3, 0, 0, 0], GeometryFault::Endurance),
+    ([1, 3, 2, 1, 3, 10, 0, 1], GeometryFault::Passes),
+    ([1, 3, 2, 1, 3, 10, 501, 0], GeometryFault::Passes),
+    ([1, 4096, 1024, 3, 1, 10, 0, 0], GeometryFault::TooManyWords),
+    ([1, 3, 2, 1, 4, 10, 0, 0], GeometryFault::TooFewBlocks),
+    ([1, 5, 2, 1, 3, 10, 2, 1], GeometryFault::TooFewBlocks),
+    ([1, 4, 2, 1, 1, 10, 2, 1], GeometryFault::TooFewBlocks),
+];
+
+fn geometry_of(n: [u32; 8]) -> Result<Geometry, GeometryFault> {
+    Geometry::new(n[0], n[1], n[2], n[3], n[4], n[5], n[6], n[7])
+}
+
+#[test]
+fn the_small_geometries_are_accepted(rt: HostRuntime) -> Result<(), Fail> {
+    let one_thread = geometry_of([1, 3, 2, 1, 3, 10, 0, 0])?;
+    assert_eq!(rt; one_thread.blocks(), 3);
+    assert_eq!(rt; one_thread.page_bytes(), 8);
+    let shared = geometry_of([1, 5, 2, 1, 2, 10, 2, 1])?;
+    assert_eq!(rt; shared.hosts(), 2);
+    assert_eq!(rt; shared.brooms(), 1);
+    Ok(())
+}
+
+#[test]
+fn each_faulty_row_has_its_fault(rt: HostRuntime) -> Result<(), Fail> {
+    for (numbers, fault) in FAULTS {
+        assert_eq!(rt; geometry_of(numbers), Err(fault), "{numbers:?}");
+    }
+    Ok(())
+}
+
+#[test]
+fn a_fault_is_printed_by_its_name(rt: HostRuntime) -> Result<(), Fail> {
+    let text = format!(in rt.alloc(); "{}", GeometryFault::TooFewBlocks)?;
+    assert_eq!(rt; text.as_str(), "TooFewBlocks");
+    Ok(())
+}
+
+#[test]
+fn blocks_are_dealt_to_luns_in_runs(rt: HostRuntime) -> Result<(), Fail> {
+    let two = geometry_of([2, 4, 2, 1, 3, 10, 0, 0])?;
+    assert_eq!(rt; two.blocks(), 4);
+    assert_eq!(rt; two.lun_of(1), 0);
+    assert_eq!(rt; two.lun_of(2), 1);
+    Ok(())
+}
+
+#[test]
+fn a_word_is_eight_bytes_least_first(rt: HostRuntime) -> Result<(), Fail> {
+    let mut page = [0u8; 16];
+    put_word(&mut page, 1, 0x0102_0304_0506_0708);
+    assert_eq!(rt; page, [0, 0, 0, 0, 0, 0, 0, 0, 8, 7, 6, 5, 4, 3, 2, 1]);
+    assert_eq!(rt; word_at(&page, 1), 0x0102_0304_0506_0708);
+    Ok(())
+}

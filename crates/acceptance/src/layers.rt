@@ -1,0 +1,288 @@
+ghost use Rattle.std.specs.Prelude.{◌≡◌};
+ghost use Rattle.geometry.specs.Geometry.{page_bytes_of};
+ghost use Rattle.ftl_one.specs.OneFtl.{geometry_of};
+
+use ftl_one::OneFtl;
+use geometry::{Geometry, Got, Was};
+use std::alloc::Global;
+use std::process::Abort;
+use std::test::Fail;
+
+// A layer whose pages have one word. A page holds one byte, then zeros.
+#[derive(Drop)]
+struct Bench {
+    ftl: OneFtl,
+    ghost bytes: { page_bytes_of (geometry_of ftl) ≡ 8 },
+}
+
+impl Bench {
+    fn new(
+        rt: &(impl Abort + AllocGlobal),
+        luns: u32,
+        blocks: u32,
+        pages: u32,
+        sectors: u32,
+        endurance: u32,
+    ) -> Result<Bench, Fail> {
+        let geometry = Geometry::new(luns, blocks, pages, 1, sectors, endurance, 0, 0)?;
+        assert!(rt; geometry.page_bytes() == 8);
+        assert!(rt; geometry.hosts() == 0);
+        Ok(Bench {
+            ftl: OneFtl::new(rt.alloc(), &geometry)?,
+        })
+    }
+
+    // What the sector was, or nothing where the layer is worn out.
+    fn write(&mut self, rt: &impl Abort, sector: u32, byte: u8) -> Option<Was> {
+        assert!(rt; sector < self.ftl.geometry().sectors());
+        self.ftl.write(sector, &[byte, 0, 0, 0, 0, 0, 0, 0]).ok()
+    }
+
+    fn trim(&mut self, rt: &impl Abort, sector: u32) -> Was {
+        assert!(rt; sector < self.ftl.geometry().sectors());
+        self.ftl.trim(sector)
+    }
+
+    // The sector's byte, if it is written.
+    fn read(&self, rt: &impl Abort, sector: u32) -> Option<u8> {
+        assert!(rt; sector < self.ftl.geometry().sectors());
+        let mut page = [99; 8];
+        match self.ftl.read(sector, &mut page) {
+            Got::Empty => {
+                assert!(rt; page == [99; 8]);
+                None
+            }
+            Got::Data => {
+                let byte = page[0];
+                assert!(rt; page == [byte, 0, 0, 0, 0, 0, 0, 0]);
+                Some(byte)
+            }
+        }
+    }
+}
+
+// A device with blocks of two pages and three sectors, what is written to it, how many of the writes are
+// refused, and the totals and the sectors at the end.
+#[derive(Clone, Copy)]
+struct Row {
+    name: &'static str,
+    luns: u32,
+    blocks: u32,
+    endurance: u32,
+    writes: &'static [(u32, u8)],
+    refused: u32,
+    totals: (u64, u64, u64),
+    sectors: [Option<u8>; 3],
+}
+
+fn check_row(rt: &(impl Abort + AllocGlobal), row: Row) -> Result<(), Fail> {
+    let Row {
+        name,
+        luns,
+        blocks,
+        endurance,
+        writes,
+        refused,
+        totals,
+        sectors,
+    } = row;
+    let mut bench = Bench::new(rt, luns, blocks, 2, 3, endurance)?;
+    let mut worn = 0u32;
+    for (sector, byte) in writes {
+        if bench.write(rt, *sector, *byte).is_none() {
+            worn = worn.wrapping_add(1);
+        }
+    }
+    assert_eq!(rt; worn, refused, "{name}");
+    let counts = bench.ftl.counts();
+    assert_eq!(rt; counts.programs, totals.0, "{name}");
+    assert_eq!(rt; counts.copies, totals.1, "{name}");
+    assert_eq!(rt; counts.erases, totals.2, "{name}");
+    assert_eq!(rt; bench.read(rt, 0), sectors[0], "{name}");
+    assert_eq!(rt; bench.read(rt, 1), sectors[1], "{name}");
+    assert_eq!(rt; bench.read(rt, 2), sectors[2], "{name}");
+    Ok(())
+}
+
+#[test]
+fn collection_and_wear_follow_the_worked_rows(rt: HostRuntime) -> Result<(), Fail> {
+    let rows = [
+        Row {
+            name: "a victim with no live page",
+            luns: 1,
+            blocks: 3,
+            endurance: 10,
+            writes: &[(0, 1), (1, 2), (0, 3), (1, 4), (2, 5)],
+            refused: 0,
+            totals: (5, 0, 1),
+            sectors: [Some(3), Some(4), Some(5)],
+        },
+        Row {
+            name: "one page is relocated",
+            luns: 1,
+            blocks: 3,
+            endurance: 10,
+            writes: &[(0, 1), (1, 2), (2, 3), (0, 4), (2, 5)],
+            refused: 0,
+            totals: (5, 1, 1),
+            sectors: [Some(4), Some(2), Some(5)],
+        },
+        Row {
+            name: "the only erase fails",
+            luns: 1,
+            blocks: 3,
+            endurance: 1,
+            writes: &[(0, 1), (1, 2), (0, 3), (1, 4), (2, 5), (0, 6), (1, 7)],
+            refused: 1,
+            totals: (6, 0, 1),
+            sectors: [Some(6), Some(4), Some(5)],
+        },
+        Row {
+            name: "the second block has the fewest live pages",
+            luns: 1,
+            blocks: 4,
+            endurance: 10,
+            writes: &[(0, 1), (1, 2), (2, 3), (2, 4), (2, 5), (2, 6), (0, 7)],
+            refused: 0,
+            totals: (7, 0, 1),
+            sectors: [Some(7), Some(2), Some(6)],
+        },
+        Row {
+            name: "a page goes to the other LUN",
+            luns: 2,
+            blocks: 4,
+            endurance: 10,
+            writes: &[(0, 1), (1, 2), (1, 3), (2, 4), (2, 5), (2, 6), (1, 7)],
+            refused: 0,
+            totals: (7, 1, 1),
+            sectors: [Some(1), Some(7), Some(6)],
+        },
+        Row {
+            name: "two sectors in turn until the device is worn out",
+            luns: 1,
+            blocks: 3,
+            endurance: 2,
+            writes: &[
+                (0, 1),
+                (1, 2),
+                (0, 3),
+                (1, 4),
+                (0, 5),
+                (1, 6),
+                (0, 7),
+                (1, 8),
+                (0, 9),
+                (1, 10),
+                (0, 11),
+                (1, 12),
+                (0, 13),
+            ],
+            refused: 1,
+            totals: (12, 0, 4),
+            sectors: [Some(11), Some(12), None],
+        },
+    ];
+    for row in rows {
+        check_row(&rt, row)?;
+    }
+    Ok(())
+}
+
+#[test]
+fn a_trim_empties_a_sector_and_programs_nothing(rt: HostRuntime) -> Result<(), Fail> {
+    let mut bench = Bench::new(&rt, 1, 3, 2, 3, 10)?;
+    assert_eq!(rt; bench.write(&rt, 0, 65), Some(Was::Empty));
+    assert_eq!(rt; bench.trim(&rt, 0), Was::Written);
+    assert_eq!(rt; bench.trim(&rt, 0), Was::Empty);
+    assert_eq!(rt; bench.read(&rt, 0), None);
+    assert_eq!(rt; bench.ftl.counts().programs, 1);
+    Ok(())
+}
+
+// A store that programs pages in order and collects nothing: where each sector's byte stands.
+#[derive(Drop)]
+struct Plain {
+    pages: Vec<u8>,
+    current: Vec<Option<usize>>,
+}
+
+impl Plain {
+    fn new(alloc: Global, sectors: u32) -> Result<Plain, Fail> {
+        Ok(Plain {
+            pages: Vec::new(alloc),
+            current: vec![in alloc; None; sectors as usize]?,
+        })
+    }
+
+    fn write(&mut self, sector: u32, byte: u8) -> Result<Was, Fail> {
+        let page = self.pages.len();
+        self.pages.push(byte)?;
+        Ok(match self.current.get_mut(sector as usize) {
+            None => Was::Empty,
+            Some(place) => match place.replace(page) {
+                None => Was::Empty,
+                Some(_) => Was::Written,
+            },
+        })
+    }
+
+    fn trim(&mut self, sector: u32) -> Was {
+        match self.current.get_mut(sector as usize) {
+            None => Was::Empty,
+            Some(place) => match place.take() {
+                None => Was::Empty,
+                Some(_) => Was::Written,
+            },
+        }
+    }
+
+    fn read(&self, sector: u32) -> Option<u8> {
+        let page = (*self.current.get(sector as usize)?)?;
+        self.pages.get(page).copied()
+    }
+}
+
+// The next number of a pseudo-random row.
+fn following(seed: u32) -> u32 {
+    seed.wrapping_mul(1_664_525).wrapping_add(1_013_904_223)
+}
+
+// Plays pseudo-random reads, writes and trims on the layer and on the plain store, and compares each answer.
+fn compare(rt: &(impl Abort + AllocGlobal), bench: &mut Bench, commands: u32) -> Result<(), Fail> {
+    let sectors = bench.ftl.geometry().sectors();
+    let mut plain = Plain::new(rt.alloc(), sectors)?;
+    let mut seed = 1;
+    for _ in 0..commands {
+        seed = following(seed);
+        let sector = (seed >> 8) % sectors;
+        let byte = (seed >> 16 & 255) as u8;
+        match seed >> 28 {
+            0 | 1 => assert_eq!(rt; bench.trim(rt, sector), plain.trim(sector)),
+            2..=5 => assert_eq!(rt; bench.read(rt, sector), plain.read(sector)),
+            _ => assert_eq!(rt;
+                bench.write(rt, sector, byte),
+                Some(plain.write(sector, byte)?)
+            ),
+        }
+    }
+    for sector in 0..sectors {
+        assert_eq!(rt; bench.read(rt, sector), plain.read(sector));
+    }
+    Ok(())
+}
+
+#[test]
+fn it_answers_as_a_plain_store_while_nothing_is_collected(rt: HostRuntime) -> Result<(), Fail> {
+    let mut bench = Bench::new(&rt, 1, 64, 64, 100, 10)?;
+    compare(&rt, &mut bench, 5000)?;
+    assert_eq!(rt; bench.ftl.counts().erases, 0);
+    Ok(())
+}
+
+#[test]
+fn a_full_device_reads_what_was_last_written(rt: HostRuntime) -> Result<(), Fail> {
+    let mut bench = Bench::new(&rt, 2, 16, 8, 110, 1_000_000)?;
+    compare(&rt, &mut bench, 30_000)?;
+    assert!(rt; bench.ftl.counts().erases > 1000);
+    Ok(())
+}

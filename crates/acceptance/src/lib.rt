@@ -1,0 +1,12 @@
+//! Tests of the public calls of the lower crates, by worked rows. They stand in a crate of their own, since a
+//! crate with tests is proved twice.
+#![tactic(auto)]
+
+#[cfg(test)]
+mod dies;
+#[cfg(test)]
+mod geometries;
+#[cfg(test)]
+mod layers;
+#[cfg(test)]
+mod words;

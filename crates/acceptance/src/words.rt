@@ -1,0 +1,157 @@
+use geometry::{MapWord, NEXT_PHASE, PAGE_WRITTEN, Phase, PinWord, TAKEN, freed, kept};
+use std::test::Fail;
+
+#[test]
+fn a_map_word_names_generation_block_and_page(rt: HostRuntime) -> Result<(), Fail> {
+    let page = MapWord {
+        generation: 1,
+        block: 2,
+        page: 3,
+    };
+    assert_eq!(rt; page.pack(), 0x8000_0001_0002_0003);
+    assert_eq!(rt; MapWord::unpack(0x8000_0001_0002_0003), Some(page));
+    let first = MapWord {
+        generation: 0,
+        block: 0,
+        page: 0,
+    };
+    assert_eq!(rt; first.pack(), 0x8000_0000_0000_0000);
+    assert_eq!(rt; MapWord::unpack(0), None);
+    assert_eq!(rt; MapWord::unpack(0x7fff_ffff_ffff_ffff), None);
+    Ok(())
+}
+
+#[test]
+fn a_pin_word_has_readers_phase_pages_and_generation(rt: HostRuntime) -> Result<(), Fail> {
+    let pin = PinWord {
+        readers: 2,
+        phase: Phase::Closed,
+        written: 2,
+        generation: 5,
+    };
+    assert_eq!(rt; pin.pack(), 0x0000_0005_0023_0002);
+    assert_eq!(rt; PinWord::unpack(0x0000_0005_0023_0002), Some(pin));
+    Ok(())
+}
+
+// The words of block 0 in a volume of two pages a block, from its first write until it is free again.
+const BLOCK_ZERO: [(u64, PinWord); 8] = [
+    (
+        0x0,
+        PinWord {
+            readers: 0,
+            phase: Phase::Free,
+            written: 0,
+            generation: 0,
+        },
+    ),
+    (
+        0x11_0000,
+        PinWord {
+            readers: 0,
+            phase: Phase::Open,
+            written: 1,
+            generation: 0,
+        },
+    ),
+    (
+        0x23_0000,
+        PinWord {
+            readers: 0,
+            phase: Phase::Closed,
+            written: 2,
+            generation: 0,
+        },
+    ),
+    (
+        0x23_0001,
+        PinWord {
+            readers: 1,
+            phase: Phase::Closed,
+            written: 2,
+            generation: 0,
+        },
+    ),
+    (
+        0x27_0001,
+        PinWord {
+            readers: 1,
+            phase: Phase::Drained,
+            written: 2,
+            generation: 0,
+        },
+    ),
+    (
+        0x27_0000,
+        PinWord {
+            readers: 0,
+            phase: Phase::Drained,
+            written: 2,
+            generation: 0,
+        },
+    ),
+    (
+        0x29_0000,
+        PinWord {
+            readers: 0,
+            phase: Phase::Erasing,
+            written: 2,
+            generation: 0,
+        },
+    ),
+    (
+        0x1_0000_0000,
+        PinWord {
+            readers: 0,
+            phase: Phase::Free,
+            written: 0,
+            generation: 1,
+        },
+    ),
+];
+
+#[test]
+fn a_block_goes_round_by_its_words(rt: HostRuntime) -> Result<(), Fail> {
+    for (word, pin) in BLOCK_ZERO {
+        assert_eq!(rt; PinWord::unpack(word), Some(pin), "{pin}");
+    }
+    Ok(())
+}
+
+#[test]
+fn owners_add_these_numbers(rt: HostRuntime) -> Result<(), Fail> {
+    assert_eq!(rt; TAKEN, 0x1_0000);
+    assert_eq!(rt; NEXT_PHASE, 0x2_0000);
+    assert_eq!(rt; PAGE_WRITTEN, 0x10_0000);
+    assert_eq!(rt; freed(2), 0xffd7_0000);
+    assert_eq!(rt; kept(2), 0xffd8_0000);
+    Ok(())
+}
+
+#[test]
+fn a_word_of_no_state_is_refused(rt: HostRuntime) -> Result<(), Fail> {
+    for word in [0x2_0000u64, 0xd_0000, 0x10_0000] {
+        assert_eq!(rt; PinWord::unpack(word), None, "{word}");
+    }
+    Ok(())
+}
+
+#[test]
+fn words_are_shown_in_words(rt: HostRuntime) -> Result<(), Fail> {
+    let page = MapWord {
+        generation: 1,
+        block: 2,
+        page: 3,
+    };
+    let text = format!(in rt.alloc(); "{page}")?;
+    assert_eq!(rt; text.as_str(), "block 2 page 3 generation 1");
+    let pin = PinWord {
+        readers: 2,
+        phase: Phase::Closed,
+        written: 2,
+        generation: 5,
+    };
+    let text = format!(in rt.alloc(); "{pin}")?;
+    assert_eq!(rt; text.as_str(), "closed, 2 written, generation 5, 2 readers");
+    Ok(())
+}

@@ -1,0 +1,91 @@
+-- A text that goes out piece by piece.
+use Rattle.std.proofs.Common.{◌≡◌, ℕ, List, [], ◌++◌, Option, None, Some, refl, subst, sym, ap, ◌∙◌, append_assoc, append-nil, take, drop}
+use Rattle.std.specs.Io.KnownBytes.{Appends, Keeps}
+use Rattle.std.proofs.lemmas.List.{take-append-drop}
+use Rattle.geometry.specs.History.{Begins}
+use Rattle.answers.specs.Delivery.{AppendsBeginning, IsUnderWay}
+
+pub Appends-nothing : (known : Option (List ℕ)) → Appends known known []
+Appends-nothing None = tt
+Appends-nothing (Some xs) = sym (append-nil xs)
+
+pub Appends-append : (a b c : Option (List ℕ)) (xs ys : List ℕ) → Appends a b xs → Appends b c ys → Appends a c (xs ++ ys)
+Appends-append None b c xs ys p q = tt
+Appends-append (Some known) None c xs ys p q = absurd p
+Appends-append (Some known) (Some grown) None xs ys p q = absurd q
+Appends-append (Some known) (Some grown) (Some last) xs ys p q = q ∙ (ap (λ front. front ++ ys) p ∙ append_assoc known xs ys)
+
+pub Appends-kept : (a b c : Option (List ℕ)) (xs : List ℕ) → Appends a b xs → Keeps b c → Appends a c xs
+Appends-kept None b c xs p q = tt
+Appends-kept (Some known) None c xs p q = absurd p
+Appends-kept (Some known) (Some grown) None xs p q = absurd q
+Appends-kept (Some known) (Some grown) (Some last) xs p q = q ∙ p
+
+-- nothing is out yet
+pub IsUnderWay-start : (known : Option (List ℕ)) (text : List ℕ) → IsUnderWay known known text text
+IsUnderWay-start known text = record { sent = []; out = Appends-nothing known; whole = refl }
+
+-- the next bytes of what waits went out
+pub IsUnderWay-take : (old new newer : Option (List ℕ)) (waiting text : List ℕ) (n : ℕ) → IsUnderWay old new waiting text → Appends new newer (take n waiting) → IsUnderWay old newer (drop n waiting) text
+IsUnderWay-take old new newer waiting text n u next =
+    record {
+      sent = u.sent ++ take n waiting;
+      out = Appends-append old new newer u.sent (take n waiting) u.out next;
+      whole = append_assoc u.sent (take n waiting) (drop n waiting) ∙ (ap (λ rest. u.sent ++ rest) (take-append-drop n waiting) ∙ u.whole);
+    }
+
+-- all that waited went out
+pub IsUnderWay-sent : (old new newer : Option (List ℕ)) (waiting text : List ℕ) → IsUnderWay old new waiting text → Appends new newer waiting → IsUnderWay old newer [] text
+IsUnderWay-sent old new newer waiting text u next =
+    record {
+      sent = u.sent ++ waiting;
+      out = Appends-append old new newer u.sent waiting u.out next;
+      whole = append-nil (u.sent ++ waiting) ∙ u.whole;
+    }
+
+-- the text grew by what waits last
+pub IsUnderWay-more : (old new : Option (List ℕ)) (waiting text more : List ℕ) → IsUnderWay old new waiting text → IsUnderWay old new (waiting ++ more) (text ++ more)
+IsUnderWay-more old new waiting text more u =
+    record {
+      sent = u.sent;
+      out = u.out;
+      whole = sym (append_assoc u.sent waiting more) ∙ ap (λ front. front ++ more) u.whole;
+    }
+
+-- with nothing waiting all is out
+pub Appends-whole : (old new : Option (List ℕ)) (text : List ℕ) → IsUnderWay old new [] text → Appends old new text
+Appends-whole old new text u =
+    let e : u.sent ≡ text = sym (append-nil u.sent) ∙ u.whole in
+    subst (Appends old new) e u.out
+
+-- what is out is a beginning
+pub AppendsBeginning-so_far : (old new newer : Option (List ℕ)) (waiting text : List ℕ) → IsUnderWay old new waiting text → Keeps new newer → AppendsBeginning old newer text
+AppendsBeginning-so_far old new newer waiting text u kept =
+    record { sent = u.sent; out = Appends-kept old new newer u.sent u.out kept; beginning = (waiting, u.whole) }
+
+-- and so is what is out when a piece of what waits went out
+pub AppendsBeginning-part : (old new newer : Option (List ℕ)) (waiting text whole : List ℕ) → IsUnderWay old new waiting text → AppendsBeginning new newer waiting → Begins text whole → AppendsBeginning old newer whole
+AppendsBeginning-part old new newer waiting text whole u part begins =
+    record {
+      sent = u.sent ++ part.sent;
+      out = Appends-append old new newer u.sent part.sent u.out part.out;
+      beginning = (
+        part.beginning.0 ++ begins.0,
+        append_assoc u.sent part.sent (part.beginning.0 ++ begins.0)
+            ∙ (ap (λ rest. u.sent ++ rest) (sym (append_assoc part.sent part.beginning.0 begins.0) ∙ ap (λ front. front ++ begins.0) part.beginning.1)
+            ∙ (sym (append_assoc u.sent waiting begins.0) ∙ (ap (λ front. front ++ begins.0) u.whole ∙ begins.1))),
+      );
+    }
+
+-- one stretch after another
+pub IsUnderWay-trans : (a b c : Option (List ℕ)) (later waiting text : List ℕ) → IsUnderWay a b waiting text → IsUnderWay b c later waiting → IsUnderWay a c later text
+IsUnderWay-trans a b c later waiting text u v =
+    record {
+      sent = u.sent ++ v.sent;
+      out = Appends-append a b c u.sent v.sent u.out v.out;
+      whole = append_assoc u.sent v.sent later ∙ (ap (λ rest. u.sent ++ rest) v.whole ∙ u.whole);
+    }
+
+pub IsUnderWay-all : (old new : Option (List ℕ)) (waiting later : List ℕ) → later ≡ [] → Appends old new waiting → IsUnderWay old new later waiting
+IsUnderWay-all old new waiting later none out =
+    subst (λ l. IsUnderWay old new l waiting) (sym none) (record { sent = waiting; out = out; whole = append-nil waiting })

@@ -1,0 +1,80 @@
+-- The answers of a trace's commands: one line each, over the array of sectors and its history.
+use Rattle.std.specs.Prelude.{ℕ, ◌+◌, Bool, List, [], ◌++◌, length, codes, Option, None, Some, slice_get, decimal, if◌then◌else◌}
+use Rattle.std.specs.Option.{option_map_or, option_to_list}
+use Rattle.std.specs.List.{flat_map, range_with_len}
+use Rattle.geometry.specs.Sectors.{Sector, was_of}
+use Rattle.geometry.specs.History.{Call, Write, Trim, held}
+use Rattle.geometry.specs.declared.answer.Was.{Was}
+use Rattle.geometry.specs.declared.answer.Was.TheVariants as was
+use Rattle.hex.specs.Hex.{encode_lower}
+use Rattle.trace.specs.Trace.{name_of}
+use Rattle.trace.specs.declared.commands.Command.{Command}
+use Rattle.trace.specs.declared.commands.Op.{Op}
+use Rattle.trace.specs.declared.commands.Op.TheVariants as op
+
+-- the call by which a command may change the array. Which pass makes it is no matter to the array, so all calls
+-- stand under pass 0
+abbrev pub call_by : Op → ℕ → List ℕ → Option Call
+call_by op.Read s value = None
+call_by op.Write s value = Some (Write 0 s value)
+call_by op.Trim s value = Some (Trim 0 s)
+call_by op.Meet s value = None
+
+abbrev pub call_of : Command → Option Call
+call_of command = call_by command.op command.sector command.page
+
+-- the calls that a command adds to the history: none where it is refused
+abbrev pub calls_of : Bool → Command → List Call
+calls_of refused command = if refused then [] else option_to_list (call_of command)
+
+-- what a command at a place gives, and nothing past the last one
+abbrev pub at_place : {X : Type 0} → List Command → ℕ → (Command → List X) → List X
+at_place commands k f = option_map_or f (slice_get commands k) []
+
+-- the history before the line at a place: the calls of all commands before it, without the refused ones
+abbrev pub history_before : (ℕ → Bool) → List Command → ℕ → List Call
+history_before refused commands n = flat_map (λ k. at_place commands k (calls_of (refused k))) (range_with_len 0 n)
+
+-- what a sector was, as an answer
+abbrev pub was_text : Was → List ℕ
+was_text was.Empty = codes "empty"
+was_text was.Written = codes "written"
+
+-- what a read finds, as an answer: the value in lower-case hexadecimal digits
+abbrev pub found_text : Sector → List ℕ
+found_text None = codes "empty"
+found_text (Some value) = encode_lower value
+
+-- the answer of a command whose sector holds this: a refused command answers the word of refusal
+abbrev pub answer_of : List ℕ → Bool → Op → Sector → List ℕ
+answer_of refusal refused op.Read sector = found_text sector
+answer_of refusal refused op.Write sector = if refused then refusal else was_text (was_of sector)
+answer_of refusal refused op.Trim sector = was_text (was_of sector)
+answer_of refusal refused op.Meet sector = codes "met"
+
+-- a line of the output
+abbrev pub line_text : ℕ → Op → ℕ → List ℕ → List ℕ
+line_text line op sector answer =
+    decimal line ++ codes "," ++ name_of op ++ codes "," ++ decimal sector ++ codes "," ++ answer ++ codes "\n"
+
+-- the line of the command at a place: it answers at the history before it. Lines count from 1
+abbrev pub line_at : List ℕ → ℕ → (ℕ → Bool) → List Command → ℕ → List ℕ
+line_at refusal sectors refused commands k =
+    at_place commands k (λ command. line_text (k + 1) command.op command.sector (answer_of refusal (refused k) command.op (held sectors (history_before refused commands k) command.sector)))
+
+-- the text of the first lines
+abbrev pub lines_before : List ℕ → ℕ → (ℕ → Bool) → List Command → ℕ → List ℕ
+lines_before refusal sectors refused commands n = flat_map (line_at refusal sectors refused commands) (range_with_len 0 n)
+
+-- the answers of commands of a device with so many sectors, the writes at the refused places turned away with a word
+abbrev pub answers : List ℕ → ℕ → (ℕ → Bool) → List Command → List ℕ
+answers refusal sectors refused commands = lines_before refusal sectors refused commands (length commands)
+
+-- the last line of a run of several threads
+abbrev pub end_text : List ℕ
+end_text = codes "end\n"
+
+-- the last line of a run of one thread: what its device programmed, copied and erased
+abbrev pub totals_text : ℕ → ℕ → ℕ → List ℕ
+totals_text programs copies erases =
+    codes "end," ++ decimal programs ++ codes "," ++ decimal copies ++ codes "," ++ decimal erases ++ codes "\n"

@@ -1,0 +1,8 @@
+-- What public contracts rest on.
+pub mod Answers
+pub mod Replies
+pub mod Streams
+pub mod Delivery
+pub mod Outcome
+pub mod Lines
+pub mod Playable

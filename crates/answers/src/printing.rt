@@ -1,0 +1,97 @@
+ghost use Rattle.std.specs.Prelude.{◌≡◌, ◌≢◌, ◌*◌, ◌≤◌, [], ◌++◌, length, IfOk, OnOk, OnErr};
+ghost use Rattle.std.specs.Io.KnownBytes.{Appends};
+ghost use Rattle.geometry.specs.Geometry.{page_bytes_of};
+ghost use Rattle.hex.specs.Hex.{encode_lower};
+ghost use Rattle.trace.specs.Watched.{failures_of, inner_of};
+ghost use Rattle.answers.specs.Answers.{end_text, line_text, totals_text};
+ghost use Rattle.answers.specs.Delivery.{AppendsBeginning, IsUnderWay};
+ghost use Rattle.answers.specs.Lines.{page_digits_of, waiting_of};
+ghost use Rattle.answers.specs.Replies.{reply_text};
+ghost use Rattle.answers.specs.declared.line.TheConstants.{PIECE_BYTES};
+
+use crate::delivery::{OutputFailed, send};
+use crate::line::{LINE_BYTES, PIECE_BYTES, put_end, put_line, put_totals};
+use crate::lines::Lines;
+use crate::reply::Reply;
+use geometry::Geometry;
+use std::alloc::{AllocError, Global};
+use std::io::Write;
+use trace::{Op, Watched};
+
+impl Lines {
+    /// No line waits yet. The lines are those of a device of this geometry.
+    pub fn new(alloc: Global, geometry: &Geometry) -> Result<Lines, AllocError>
+        ensures page { IfOk result (λ lines. page_digits_of lines ≡ 2 * page_bytes_of geometry.now) }
+        ensures waiting { IfOk result (λ lines. waiting_of lines ≡ []) }
+    {
+        let digits = 2 * geometry.page_bytes();
+        Ok(Lines {
+            digits: vec![in alloc; 0; digits]?,
+            waiting: Vec::with_capacity(alloc, PIECE_BYTES + LINE_BYTES + digits + 7)?,
+        })
+    }
+
+    /// Adds an answer line. A reply of a page tells these bytes.
+    pub fn answer(&mut self, line: u64, op: Op, sector: u32, reply: Reply, page: &[u8])
+        requires page { page_digits_of self.old ≡ 2 * length page.now }
+        requires room { length (waiting_of self.old) ≤ PIECE_BYTES }
+        ensures waiting { waiting_of self.new ≡ waiting_of self.old ++ line_text line op sector (reply_text reply (encode_lower page.now)) }
+        ensures page { page_digits_of self.new ≡ page_digits_of self.old }
+    {
+        reply.encode(page, &mut self.digits);
+        put_line(
+            &mut self.waiting,
+            line,
+            op,
+            sector,
+            reply.text(&self.digits),
+        );
+    }
+
+    /// Adds the last line of a run of several threads.
+    pub fn end(&mut self)
+        requires room { length (waiting_of self.old) ≤ PIECE_BYTES }
+        ensures waiting { waiting_of self.new ≡ waiting_of self.old ++ end_text }
+        ensures page { page_digits_of self.new ≡ page_digits_of self.old }
+    {
+        put_end(&mut self.waiting);
+    }
+
+    /// Adds the last line of a run of one thread, with its totals.
+    pub fn totals(&mut self, programs: u64, copies: u64, erases: u64)
+        requires room { length (waiting_of self.old) ≤ PIECE_BYTES }
+        ensures waiting { waiting_of self.new ≡ waiting_of self.old ++ totals_text programs copies erases }
+        ensures page { page_digits_of self.new ≡ page_digits_of self.old }
+    {
+        put_totals(&mut self.waiting, programs, copies, erases);
+    }
+
+    /// Hands on the lines that wait.
+    pub fn hand_on<W: Write>(&mut self, writer: &mut Watched<W>) -> Result<(), OutputFailed>
+        ensures sent { OnOk result (Appends (W.contents (inner_of writer.old)) (W.contents (inner_of writer.new)) (waiting_of self.old)) }
+        ensures empty { OnOk result (waiting_of self.new ≡ []) }
+        ensures page { page_digits_of self.new ≡ page_digits_of self.old }
+        ensures unfailed { OnOk result (failures_of writer.new ≡ failures_of writer.old) }
+        ensures part { OnErr result (AppendsBeginning (W.contents (inner_of writer.old)) (W.contents (inner_of writer.new)) (waiting_of self.old)) }
+        ensures failed { OnErr result (failures_of writer.new ≢ failures_of writer.old) }
+    {
+        send(writer, &self.waiting)?;
+        self.waiting.clear();
+        Ok(())
+    }
+
+    /// Hands on the lines that wait, if they are many: there is room for another line then.
+    pub fn make_room<W: Write>(&mut self, writer: &mut Watched<W>) -> Result<(), OutputFailed>
+        ensures moved { OnOk result (IsUnderWay (W.contents (inner_of writer.old)) (W.contents (inner_of writer.new)) (waiting_of self.new) (waiting_of self.old)) }
+        ensures room { OnOk result (length (waiting_of self.new) ≤ PIECE_BYTES) }
+        ensures page { page_digits_of self.new ≡ page_digits_of self.old }
+        ensures unfailed { OnOk result (failures_of writer.new ≡ failures_of writer.old) }
+        ensures part { OnErr result (AppendsBeginning (W.contents (inner_of writer.old)) (W.contents (inner_of writer.new)) (waiting_of self.old)) }
+        ensures failed { OnErr result (failures_of writer.new ≢ failures_of writer.old) }
+    {
+        if self.waiting.len() < PIECE_BYTES {
+            return Ok(());
+        }
+        self.hand_on(writer)
+    }
+}

@@ -1,0 +1,4 @@
+-- What public contracts rest on.
+pub mod Playing
+-- Internal.
+pub mod Steps

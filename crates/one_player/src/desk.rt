@@ -1,0 +1,90 @@
+ghost use Rattle.std.specs.Prelude.{◌≡◌, ◌≢◌, ◌+◌, ◌*◌, ◌≤◌, [], ◌++◌, codes, length, vec_len, IfOk, OnOk, OnErr};
+ghost use Rattle.std.specs.Io.KnownBytes.{Appends};
+ghost use Rattle.std.specs.List.{fold};
+ghost use Rattle.geometry.specs.Geometry.{page_bytes_of};
+ghost use Rattle.geometry.specs.History.{step};
+ghost use Rattle.geometry.specs.Sectors.{sector_at};
+ghost use Rattle.ftl_one.specs.OneFtl.{geometry_of, sectors_of, stock_of};
+ghost use Rattle.trace.specs.Watched.{failures_of, inner_of};
+ghost use Rattle.answers.specs.Answers.{answer_of, calls_of, line_text};
+ghost use Rattle.answers.specs.Delivery.{AppendsBeginning, IsUnderWay};
+ghost use Rattle.answers.specs.Lines.{page_digits_of, waiting_of};
+ghost use Rattle.answers.specs.Playable.{IsPlayable};
+ghost use Rattle.answers.specs.declared.line.TheConstants.{PIECE_BYTES};
+ghost use Rattle.one_player.specs.Playing.{end_text, is_refused, stock_after};
+
+use crate::perform::perform;
+use answers::{Lines, OutputFailed};
+use ftl_one::OneFtl;
+use geometry::Geometry;
+use std::alloc::{AllocError, Global};
+use std::io::Write;
+use trace::{Command, Watched};
+
+/// The room for a run: a page, and the lines that wait to be written.
+#[derive(Drop)]
+pub struct Desk {
+    page: Vec<u8>,
+    lines: Lines,
+    pub ghost digits: { page_digits_of lines ≡ 2 * vec_len page },
+}
+
+impl Desk {
+    pub fn new(alloc: Global, geometry: &Geometry) -> Result<Desk, AllocError>
+        ensures page { IfOk result (λ desk. vec_len desk.page ≡ page_bytes_of geometry.now) }
+        ensures lines { IfOk result (λ desk. waiting_of desk.lines ≡ []) }
+    {
+        Ok(Desk {
+            page: vec![in alloc; 0; geometry.page_bytes()]?,
+            lines: Lines::new(alloc, geometry)?,
+        })
+    }
+
+    /// Does a command, and adds its answer line to those that wait.
+    pub fn answer(&mut self, ftl: &mut OneFtl, command: &Command<'_>, line: u64)
+        requires playable { IsPlayable (geometry_of ftl.old) command.now }
+        requires page { vec_len self.old.page ≡ page_bytes_of (geometry_of ftl.old) }
+        requires room { length (waiting_of self.old.lines) ≤ PIECE_BYTES }
+        ensures page { vec_len self.new.page ≡ vec_len self.old.page }
+        ensures lines { waiting_of self.new.lines ≡ waiting_of self.old.lines ++ line_text line command.now.op command.now.sector (answer_of (codes "worn") (is_refused (geometry_of ftl.old) (stock_of ftl.old) command.now) command.now.op (sector_at (sectors_of ftl.old) command.now.sector)) }
+        ensures geometry { geometry_of ftl.new ≡ geometry_of ftl.old }
+        ensures array { sectors_of ftl.new ≡ fold step (sectors_of ftl.old) (calls_of (is_refused (geometry_of ftl.old) (stock_of ftl.old) command.now) command.now) }
+        ensures stock { stock_of ftl.new ≡ stock_after (geometry_of ftl.old) (stock_of ftl.old) command.now }
+    {
+        let reply = perform(ftl, command, &mut self.page);
+        self.lines
+            .answer(line, command.op, command.sector, reply, &self.page);
+    }
+
+    /// Adds the last line.
+    pub fn end(&mut self, ftl: &OneFtl)
+        requires room { length (waiting_of self.old.lines) ≤ PIECE_BYTES }
+        ensures lines { waiting_of self.new.lines ≡ waiting_of self.old.lines ++ end_text (stock_of ftl.now) }
+    {
+        let counts = ftl.counts();
+        self.lines
+            .totals(counts.programs, counts.copies, counts.erases);
+    }
+
+    /// Hands on the lines that wait.
+    pub fn hand_on<W: Write>(&mut self, writer: &mut Watched<W>) -> Result<(), OutputFailed>
+        ensures sent { OnOk result (Appends (W.contents (inner_of writer.old)) (W.contents (inner_of writer.new)) (waiting_of self.old.lines)) }
+        ensures unfailed { OnOk result (failures_of writer.new ≡ failures_of writer.old) }
+        ensures part { OnErr result (AppendsBeginning (W.contents (inner_of writer.old)) (W.contents (inner_of writer.new)) (waiting_of self.old.lines)) }
+        ensures failed { OnErr result (failures_of writer.new ≢ failures_of writer.old) }
+    {
+        self.lines.hand_on(writer)
+    }
+
+    /// Hands on the lines that wait, if they are many: there is room for another line then.
+    pub fn make_room<W: Write>(&mut self, writer: &mut Watched<W>) -> Result<(), OutputFailed>
+        ensures moved { OnOk result (IsUnderWay (W.contents (inner_of writer.old)) (W.contents (inner_of writer.new)) (waiting_of self.new.lines) (waiting_of self.old.lines)) }
+        ensures room { OnOk result (length (waiting_of self.new.lines) ≤ PIECE_BYTES) }
+        ensures page { vec_len self.new.page ≡ vec_len self.old.page }
+        ensures unfailed { OnOk result (failures_of writer.new ≡ failures_of writer.old) }
+        ensures part { OnErr result (AppendsBeginning (W.contents (inner_of writer.old)) (W.contents (inner_of writer.new)) (waiting_of self.old.lines)) }
+        ensures failed { OnErr result (failures_of writer.new ≢ failures_of writer.old) }
+    {
+        self.lines.make_room(writer)
+    }
+}

@@ -1,0 +1,11 @@
+//! Plays a trace on a flash layer for one thread, and writes its answers.
+#![tactic(auto)]
+
+mod desk;
+mod one_thread;
+mod perform;
+
+pub use one_thread::run;
+
+#[cfg(test)]
+mod caller;

@@ -1,0 +1,90 @@
+ghost use Rattle.std.specs.Prelude.{◌≡◌, ◌≢◌, [], codes, length, vec_len, All, IfErr, IfSome, OnOk, OnErr, Err};
+ghost use Rattle.std.specs.Io.KnownBytes.{Appends, IsAtEnd};
+ghost use Rattle.geometry.specs.Geometry.{hosts_of, page_bytes_of, sectors_of as sector_count_of};
+ghost use Rattle.geometry.specs.History.{after};
+ghost use Rattle.ftl_one.specs.OneFtl.{geometry_of, sectors_of, stock_of};
+ghost use Rattle.ftl_one.specs.Stock.{opening};
+ghost use Rattle.trace.specs.Watched.{failures_of, inner_of};
+ghost use Rattle.answers.specs.Delivery.{AppendsBeginning, AppendsText};
+ghost use Rattle.answers.specs.Lines.{waiting_of};
+ghost use Rattle.answers.specs.Outcome.{ExplainsRun};
+ghost use Rattle.answers.specs.Playable.{IsPlayable};
+ghost use Rattle.answers.specs.Streams.{stream_of};
+ghost use Rattle.one_player.specs.Playing.{IsTextOf, text_of_commands};
+
+use crate::desk::Desk;
+use answers::{OutputFailed, RunFault};
+use ftl_one::OneFtl;
+use geometry::Geometry;
+use std::alloc::Global;
+use std::io::{Read, Write};
+use trace::{Commands, Watched, load, parse};
+
+/// Plays a trace on a device for one thread, and writes its answers and the totals.
+///
+/// The whole trace is read and checked before the first command, and all memory is taken before the
+/// first byte is written.
+pub fn run<R: Read, W: Write>(
+    alloc: Global,
+    reader: &mut Watched<R>,
+    writer: &mut Watched<W>,
+    geometry: &Geometry,
+) -> Result<(), RunFault>
+    requires { hosts_of geometry.now ≡ 0 }
+
+    // The reader was read to its end, what was written is the text of all its bytes, and no call failed.
+    ensures end { OnOk result (IsAtEnd (R.remaining (inner_of reader.new))) }
+    ensures text { OnOk result (IfSome (R.remaining (inner_of reader.old)) (λ bytes. AppendsText (IsTextOf geometry.now) bytes (W.contents (inner_of writer.old)) (W.contents (inner_of writer.new)))) }
+    ensures reader_unfailed { OnOk result (failures_of reader.new ≡ failures_of reader.old) }
+    ensures writer_unfailed { OnOk result (failures_of writer.new ≡ failures_of writer.old) }
+
+    // A fault says what happened. Only a failed writer has taken bytes, and those are a beginning of the text.
+    ensures why { IfErr result (λ fault. ExplainsRun (IsTextOf geometry.now) fault geometry.now (stream_of R.remaining reader.old) (stream_of R.remaining reader.new) (stream_of W.contents writer.old) (stream_of W.contents writer.new)) }
+{
+    let text = match load(alloc, reader) {
+        Ok(text) => text,
+        Err(fault) => return Err(RunFault::Trace(fault)),
+    };
+    let commands = match parse(alloc, &text, geometry) {
+        Ok(commands) => commands,
+        Err(fault) => return Err(RunFault::Trace(fault)),
+    };
+    drop(text);
+    let Ok(mut ftl) = OneFtl::new(alloc, geometry) else {
+        return Err(RunFault::Memory);
+    };
+    let Ok(mut desk) = Desk::new(alloc, geometry) else {
+        return Err(RunFault::Memory);
+    };
+    match play(&mut ftl, &commands, &mut desk, writer) {
+        Ok(()) => Ok(()),
+        Err(OutputFailed) => Err(RunFault::Output),
+    }
+}
+
+// Plays commands on an unused layer, and writes the answers.
+fn play<W: Write>(
+    ftl: &mut OneFtl,
+    commands: &Commands,
+    desk: &mut Desk,
+    writer: &mut Watched<W>,
+) -> Result<(), OutputFailed>
+    requires array { sectors_of ftl.old ≡ after (sector_count_of (geometry_of ftl.old)) [] }
+    requires stock { stock_of ftl.old ≡ opening (geometry_of ftl.old) }
+    requires playable { All (IsPlayable (geometry_of ftl.old)) commands.now }
+    requires page { vec_len desk.old.page ≡ page_bytes_of (geometry_of ftl.old) }
+    requires lines { waiting_of desk.old.lines ≡ [] }
+    ensures sent { OnOk result (Appends (W.contents (inner_of writer.old)) (W.contents (inner_of writer.new)) (text_of_commands (geometry_of ftl.old) commands.now)) }
+    ensures part { OnErr result (AppendsBeginning (W.contents (inner_of writer.old)) (W.contents (inner_of writer.new)) (text_of_commands (geometry_of ftl.old) commands.now)) }
+    ensures unfailed { OnOk result (failures_of writer.new ≡ failures_of writer.old) }
+    ensures failed { OnErr result (failures_of writer.new ≢ failures_of writer.old) }
+{
+    for i in 0..commands.len() {
+        desk.make_room(writer)?;
+        let command = commands.command(i);
+        desk.answer(ftl, &command, i as u64 + 1);
+    }
+    desk.make_room(writer)?;
+    desk.end(ftl);
+    desk.hand_on(writer)
+}

@@ -1,0 +1,5 @@
+use Rattle.rounds.proofs.Told.{rounds_are_in_order}
+use Rattle.rounds.proofs.rounds.rounds_are_answered_in_order.Goals as goal
+
+pub returns : goal.returns
+returns c = rounds_are_in_order

@@ -1,0 +1,5 @@
+-- What public contracts rest on.
+pub mod Lines
+pub mod Rounds
+pub mod Meetings
+pub mod Told

@@ -1,0 +1,25 @@
+-- Rounds of lines that several workers play at once.
+use Rattle.std.specs.Prelude.{◌≡◌, ℕ, ◌<◌, All, List, [], ◌++◌}
+use Rattle.geometry.specs.Sectors.{Sector}
+use Rattle.geometry.specs.History.{Call, Begins}
+use Rattle.flash_rule.specs.Views.{caller, calls_of}
+use Rattle.rounds.specs.Lines.{made, lines_of, Plays}
+
+-- No sector at which a line makes a call is the sector of another worker's line. A sector that lines only read may be of all workers
+abbrev pub AreDisjoint : {X : Type 0} → (X → ℕ) → (X → ℕ) → (X → List Call) → List X → Type 0
+AreDisjoint worker sector calls xs = All (λ x. All (λ y. ¬ (calls x ≡ []) → sector x ≡ sector y → worker x ≡ worker y) xs) xs
+
+-- the lines are of these workers, and name sectors of the array
+pub record AreInRange {X : Type 0} (worker sector : X → ℕ) (hosts n : ℕ) (xs : List X) : Type 0 where
+  pub workers : All (λ x. worker x < hosts) xs
+  pub sectors : All (λ x. sector x < n) xs
+
+-- A round was played between two histories: each worker has played its own lines, by histories that begin the last one, and the calls of each in between are
+-- those of its lines, and no others
+pub record PlayedRound {X : Type 0} (worker sector : X → ℕ) (calls : X → List Call) (right : X → Sector → Type 0) (hosts n : ℕ) (first : List Call) (xs : List X) (last : List Call) : Type 0 where
+  pub later : Begins first last
+  pub callers : All (λ c. caller c < hosts) last
+  pub seen : ℕ → List Call
+  pub plays : (t : ℕ) → t < hosts → Plays sector calls right n first (lines_of worker t xs) (seen t)
+  pub whole : (t : ℕ) → t < hosts → Begins (seen t) last
+  pub own : (t : ℕ) → t < hosts → calls_of t last ≡ calls_of t first ++ made calls (lines_of worker t xs)

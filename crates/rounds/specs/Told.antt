@@ -1,0 +1,64 @@
+-- The lines of a trace with what they were told.
+use Rattle.std.specs.Prelude.{ℕ, ◌<◌, if◌then◌else◌, List, [], ◌∷◌, ◌++◌}
+use Rattle.geometry.specs.Sectors.{Sector}
+use Rattle.geometry.specs.History.{Call}
+use Rattle.flash_rule.specs.declared.view.View.{View}
+use Rattle.trace.specs.declared.commands.Command.{Command}
+use Rattle.lines.specs.declared.answer.Answer.{Answer}
+use Rattle.lines.specs.declared.answer.Kind.{Kind}
+use Rattle.lines.specs.Lines.{calls_by, is_full, IsRight}
+use Rattle.rounds.specs.Lines.{made, InOrder, LeaveSame}
+use Rattle.rounds.specs.Rounds.{AreDisjoint, AreInRange}
+use Rattle.rounds.specs.Meetings.{AreTied, HavePlayed, WereSwept}
+
+-- a line with the kind of its answer, and the bytes that a read found
+pub record Line : Type 0 where
+  pub command : Command
+  pub kind : Kind
+  pub page : List ℕ
+
+-- the worker that does the line, and the sector that it names
+abbrev pub worker_of : Line → ℕ
+worker_of x = x.command.worker
+
+abbrev pub sector_of : Line → ℕ
+sector_of x = x.command.sector
+
+-- the calls that it has added to the history: none where it was turned away
+abbrev pub calls_in : Line → List Call
+calls_in x = if is_full x.kind then [] else calls_by x.command.worker x.command.op x.command.sector x.command.page
+
+-- its answer is right where its sector holds this
+abbrev pub is_right : Line → Sector → Type 0
+is_right x sector = IsRight x.command.op sector x.kind x.page
+
+-- a command with its answer
+abbrev pub line : Command → Answer → Line
+line c a = record { command = c; kind = a.kind; page = a.page.items }
+
+-- commands with their answers, one each
+abbrev pub told : List Command → List Answer → List Line
+told [] answers = []
+told (c ∷ lines) [] = []
+told (c ∷ lines) (a ∷ answers) = line c a ∷ told lines answers
+
+-- lines that are rightly answered one after another, from an unused device on, and a history that leaves the array that they leave
+pub record AreAnswered (n : ℕ) (h : List Call) (xs : List Line) : Type 0 where
+  pub in_order : InOrder sector_of calls_in is_right n [] xs
+  pub same : LeaveSame n h (made calls_in xs)
+
+-- A round of lines at disjoint sectors, from one history that all passes have seen to the next: each pass has played its worker's lines, and the passes have met
+pub record RoundOf (hosts n : ℕ) (first last : List Call) (before played after : ℕ → View) (xs : List Line) : Type 0 where
+  pub some : 0 < hosts
+  pub range : AreInRange worker_of sector_of hosts n xs
+  pub disjoint : AreDisjoint worker_of sector_of calls_in xs
+  pub tied : AreTied hosts first before
+  pub play : HavePlayed worker_of sector_of calls_in is_right hosts n before xs played
+  pub swept : WereSwept hosts last played after
+
+-- After such a round the passes are tied to one history again, and its lines are answered in order behind all lines that were answered in order before it, though
+-- the workers have played them at once
+abbrev pub RoundsAreInOrder : Type 0
+RoundsAreInOrder =
+    (hosts n : ℕ) (first last : List Call) (before played after : ℕ → View) (xs all : List Line) → RoundOf hosts n first last before played after xs
+    → AreAnswered n first all → AreTied hosts last after × AreAnswered n last (all ++ xs)

@@ -1,0 +1,6 @@
+//! Rounds of a trace that several workers play at once: what was answered is what one worker alone would be answered.
+#![tactic(auto)]
+
+mod rounds;
+
+pub use rounds::rounds_are_answered_in_order;
