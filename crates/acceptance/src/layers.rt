@@ -103,14 +103,13 @@ fn check_row(rt: &(impl Abort + AllocGlobal), row: Row) -> Result<(), Fail> {
             worn = worn.wrapping_add(1);
         }
     }
-    assert_eq!(rt; worn, refused, "{name}");
     let counts = bench.ftl.counts();
-    assert_eq!(rt; counts.programs, totals.0, "{name}");
-    assert_eq!(rt; counts.copies, totals.1, "{name}");
-    assert_eq!(rt; counts.erases, totals.2, "{name}");
-    assert_eq!(rt; bench.read(rt, 0), sectors[0], "{name}");
-    assert_eq!(rt; bench.read(rt, 1), sectors[1], "{name}");
-    assert_eq!(rt; bench.read(rt, 2), sectors[2], "{name}");
+    let found = (
+        worn,
+        (counts.programs, counts.copies, counts.erases),
+        [bench.read(rt, 0), bench.read(rt, 1), bench.read(rt, 2)],
+    );
+    assert!(rt; found == (refused, totals, sectors), "{name}");
     Ok(())
 }
 

@@ -10,6 +10,7 @@ use Rattle.std.proofs.lemmas.Bool.{false≢true, cases_eq, cases_lt, cases_Bool,
 use Rattle.std.proofs.lemmas.Nat.{mul-le}
 use Rattle.geometry.specs.Geometry.{blocks_of, pages_of, endurance_of, sectors_of as sector_count_of, hosts_of}
 use Rattle.geometry.specs.Greedy.{greedy_of, IsGreedy, IsClosed}
+use Rattle.geometry.specs.declared.limits.TheConstants.{MAX_BLOCKS, MAX_ENDURANCE, MAX_PAGES}
 use Rattle.die.proofs.DieLemmas.{erases-block}
 use Rattle.ftl_one.specs.declared.role.Role.{Role}
 use Rattle.ftl_one.specs.declared.role.Role.TheVariants.{Free, Open, Closed, Spare, Retired}
@@ -299,8 +300,8 @@ total_small f =
     let within : k < blocks_of g = omega (arith, low, f.roles_sized) in
     let worn = mul-le (pages_of g + 1) (erases_of s k) (pages_of g + 1) (endurance_of g) (omega arith) (erases_within s k within) in
     omega (arith, worn, entries_within s k within)) in
-    let one = mul-le (pages_of g + 1) (endurance_of g) 1025 1000000 (omega (arith, s.die.geometry.in_limits.pages_high)) (omega (arith, s.die.geometry.in_limits.endurance_high)) in
-    let all = mul-le (length f.roles.items) m 4096 1025001024 (omega (arith, f.roles_sized, s.die.geometry.in_limits.blocks_high)) (omega (arith, one, s.die.geometry.in_limits.pages_high)) in
+    let one = mul-le (pages_of g + 1) (endurance_of g) (MAX_PAGES + 1) MAX_ENDURANCE (omega (arith, s.die.geometry.in_limits.pages_high)) (omega (arith, s.die.geometry.in_limits.endurance_high)) in
+    let all = mul-le (length f.roles.items) m MAX_BLOCKS ((MAX_PAGES + 1) * MAX_ENDURANCE + MAX_PAGES) (omega (arith, f.roles_sized, s.die.geometry.in_limits.blocks_high)) (omega (arith, one, s.die.geometry.in_limits.pages_high)) in
     omega (arith, f.bounded, most, all)
 
 -- the roles and the marks of the layer once one was rewritten
