@@ -19,8 +19,3 @@ pub use plays::{
 pub use reclaim_plays::{Claim, Condemn, Drain, FreeBlock, KeepBlock, LoadState, RetireBlock};
 pub use rule::Device;
 pub use view::View;
-
-#[cfg(test)]
-mod model;
-#[cfg(test)]
-mod tests;
