@@ -28,6 +28,7 @@ impl Volume {
     ghost use Rattle.flash_table.specs.declared.pass.Pass.{Pass};
     ghost use Rattle.flash_table.specs.Flash.{view_of, opened_of, geometry_of, device, first_view, first_broom, first_blocks};
     ghost use Rattle.flash_table.specs.Leaving.{retired_view};
+    ghost use Rattle.flash_table.specs.GivingUp.{closed_pass, closed_broom};
     ghost use Rattle.broom.specs.declared.broom.Broom.{Broom};
     ghost use Rattle.broom.specs.Ends.{folded_view};
     ghost use Rattle.broom.specs.Erasing.{EraseTold};
@@ -236,7 +237,7 @@ impl Volume {
     /// Gives a pass up. The block that it has open, full or not, is closed.
     pub fn retire(&self, pass: Pass) -> Retired
         requires { IsReady (flash_of self.now) pass }
-        ensures { retired_view result ≡ record (view_of pass) { owns = []; work = None } }
+        ensures { retired_view result ≡ closed_pass (view_of pass) (opened_of pass) }
     {
         host::retire(&self.flash, pass)
     }
@@ -264,7 +265,7 @@ impl Volume {
     /// Gives a broom up. The block that it copies to, full or not, and its spare are closed.
     pub fn fold(&self, broom: Broom) -> Folded
         requires { IsBroomReady (flash_of self.now) broom }
-        ensures { folded_view result ≡ record (broom_view broom) { owns = []; work = None } }
+        ensures { folded_view result ≡ closed_broom (broom_view broom) (blocks_of_broom broom) }
     {
         broom::fold(&self.flash, broom)
     }
