@@ -4,3 +4,4 @@ pub mod Sequential
 pub mod Orders
 pub mod Meetings
 pub mod Told
+pub mod Texts

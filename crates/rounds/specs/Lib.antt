@@ -3,3 +3,4 @@ pub mod Lines
 pub mod Rounds
 pub mod Meetings
 pub mod Told
+pub mod Texts

@@ -3,4 +3,4 @@
 
 mod rounds;
 
-pub use rounds::rounds_are_answered_in_order;
+pub use rounds::{lines_in_order_are_answers, rounds_are_answered_in_order};
