@@ -5,3 +5,6 @@ pub mod Orders
 pub mod Meetings
 pub mod Told
 pub mod Texts
+pub mod Merging
+pub mod Runs
+pub mod Planning

@@ -1,6 +1,6 @@
 -- Lines that are answered in order are the answers of their commands, as text.
-use Rattle.std.proofs.Common.{◌≡◌, ℕ, ◌+◌, ◌<◌, ◌⊎◌, ⊎_elim, List, [], ◌∷◌, ◌++◌, Bool, true, false, Option, None, Some, zero, suc, length, refl, sym, ap, ◌∙◌, subst, arith, append_assoc, append-nil, codes}
-use Rattle.std.specs.Prelude.{map, slice_get, if◌then◌else◌}
+use Rattle.std.proofs.Common.{◌≡◌, ℕ, ◌+◌, ⊎_elim, List, [], ◌∷◌, ◌++◌, Bool, true, false, None, Some, zero, suc, length, refl, sym, ap, ◌∙◌, subst, append_assoc, append-nil, codes}
+use Rattle.std.specs.Prelude.{slice_get, if◌then◌else◌}
 use Rattle.std.specs.List.{fold}
 use Rattle.std.specs.Option.{option_map, option_map_or}
 use Rattle.std.proofs.lemmas.Bool.{false≢true}
@@ -12,14 +12,14 @@ use Rattle.geometry.specs.Sectors.{Sector, sector_at}
 use Rattle.trace.specs.declared.commands.Command.{Command}
 use Rattle.trace.specs.declared.commands.Op.{Op}
 use Rattle.trace.specs.declared.commands.Op.TheVariants as op
-use Rattle.answers.specs.Answers.{answers, answer_of, calls_of, history_before, lines_before, line_text}
+use Rattle.answers.specs.Answers.{answer_of, calls_of, history_before, lines_before, line_text}
 use Rattle.answers.proofs.Texts.{array_more, lines_more}
 use Rattle.lines.specs.declared.answer.Kind.{Kind}
 use Rattle.lines.specs.declared.answer.Kind.TheVariants as kind
-use Rattle.lines.specs.Lines.{calls_by, is_full, kind_of, IsRight, IsFound}
+use Rattle.lines.specs.Lines.{calls_by, is_full, IsRight}
 use Rattle.rounds.specs.Lines.{InOrder, LeaveSame}
 use Rattle.rounds.specs.Told.{Line, sector_of, calls_in, is_right}
-use Rattle.rounds.specs.Texts.{answer_text, lines_text, commands_in, refused_in, IsTextOfSome, OrderIsText}
+use Rattle.rounds.specs.Texts.{answer_text, lines_text, commands_in, refused_in, OrderIsText}
 
 -- a right answer is the text that the array gives
 answer_is : (o : Op) (x : Sector) (k : Kind) (page : List ℕ) → IsRight o x k page → answer_text k page ≡ answer_of (codes "full") (is_full k) o x

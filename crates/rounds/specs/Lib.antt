@@ -4,3 +4,6 @@ pub mod Rounds
 pub mod Meetings
 pub mod Told
 pub mod Texts
+pub mod Merging
+pub mod Runs
+pub mod Plans
