@@ -64,7 +64,7 @@ rest_same n (x ∷ xs) [] e = absurd (cc)
 rest_same n (x ∷ xs) (y ∷ ys) e = ap (drop 1) e
 
 -- a worker's own line
-own_line : (c : Command) → is_meet c.op ≡ false → is_line_of c.worker c ≡ true
+pub own_line : (c : Command) → is_meet c.op ≡ false → is_line_of c.worker c ≡ true
 own_line c plain = ap (λ b. not b && (c.worker == c.worker)) plain ∙ eq-eqb c.worker c.worker refl
 
 -- rows that are the same up to the commands merge to the same lines
