@@ -31,13 +31,14 @@ pub fn parse(alloc: Global, text: &[u8], geometry: &Geometry) -> Result<Commands
     let mut commands = Commands::new(alloc);
     let mut at = 0;
     'records: loop {
+        let line = next_line(&commands);
         match next_cut(text, at) {
             Cut::End => return Ok(commands),
-            Cut::Fields => return Err(fault(&commands, TraceFaultKind::Fields)),
+            Cut::Fields => return Err(fault(line, TraceFaultKind::Fields)),
             Cut::Record(_, None) => return parse_rest(alloc, text, at, geometry, given, commands),
             Cut::Record(end, Some(row)) => {
                 if let Err(kind) = add(&row, geometry, &mut given, &mut commands) {
-                    return Err(fault(&commands, kind));
+                    return Err(fault(line, kind));
                 }
                 at = end;
             }
@@ -68,9 +69,10 @@ fn parse_rest(
     let mut byte_record = ByteRecord::new(alloc);
     let mut at = start;
     'records: loop {
+        let line = next_line(&commands);
         let end = match next_cut(text, at) {
             Cut::End => return Ok(commands),
-            Cut::Fields => return Err(fault(&commands, TraceFaultKind::Fields)),
+            Cut::Fields => return Err(fault(line, TraceFaultKind::Fields)),
             Cut::Record(end, _) => end,
         };
         match next_record(&mut rows, &mut byte_record) {
@@ -79,17 +81,23 @@ fn parse_rest(
             Err(_) => return Err(TraceFault::whole(TraceFaultKind::Memory)),
         }
         if let Err(kind) = add(&row_of(&byte_record), geometry, &mut given, &mut commands) {
-            return Err(fault(&commands, kind));
+            return Err(fault(line, kind));
         }
         at = end;
     }
 }
 
-// The fault of the record behind these commands, or want of memory at it.
-fn fault(commands: &Commands, kind: TraceFaultKind) -> TraceFault
-    ensures { result ≡ fault_at (length commands.now + 1) kind }
+// The number of the record behind these commands.
+fn next_line(commands: &Commands) -> u64
+    ensures { result ≡ length commands.now + 1 }
 {
-    let line = commands.len() as u64 + 1;
+    commands.len() as u64 + 1
+}
+
+// The fault of a record, or want of memory at it.
+fn fault(line: u64, kind: TraceFaultKind) -> TraceFault
+    ensures { result ≡ fault_at line kind }
+{
     match kind {
         TraceFaultKind::Memory => TraceFault::whole(kind),
         _ => TraceFault { line, kind },

@@ -10,20 +10,20 @@ pub returns-in-Fields-clause-fault : goal.returns-in-Fields-clause-fault
 returns-in-Fields-clause-fault c =
     let other = c.in-Fields.ensures in
     let refused = refuses_fields c.args.geometry.now other.fields other.count in
-    rw c.fault.ensures
+    rw (c.fault.ensures, c.next_line-line.ensures)
     (states_fault c.args.text.now c.args.geometry.now c.records.commands other.fields _ _ Fields c.records.invariant.so_far other.first (inr refused))
 
 pub returns-in-Fields-clause-first : goal.returns-in-Fields-clause-first
 returns-in-Fields-clause-first c =
     let other = c.in-Fields.ensures in
-    rw c.fault.ensures
+    rw (c.fault.ensures, c.next_line-line.ensures)
     (first_other c.args.text.now c.args.geometry.now c.records.commands other.fields _ _ c.records.invariant.so_far other.first other.count)
 
 pub returns-in-Err-clause-fault : goal.returns-in-Err-clause-fault
 returns-in-Err-clause-fault c =
     let next = c.in-Record-default-Some.ensures in
     let told = rw c.in-Record-default-Some.field-1-is at next.told in
-    rw c.fault-in-Err.ensures
+    rw (c.fault-in-Err.ensures, c.next_line-line.ensures)
     (states_fault c.args.text.now c.args.geometry.now c.records.commands next.fields _ _ _ c.records.invariant.so_far next.first (rw told c.in-Err.ensures.refused))
 
 pub records-preserved : goal.records-preserved

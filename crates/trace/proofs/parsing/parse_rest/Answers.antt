@@ -10,13 +10,13 @@ pub returns-in-Fields-clause-fault : goal.returns-in-Fields-clause-fault
 returns-in-Fields-clause-fault c =
     let other = c.in-Fields.ensures in
     let refused = refuses_fields c.args.geometry.now other.fields other.count in
-    rw c.fault.ensures
+    rw (c.fault.ensures, c.next_line-line.ensures)
     (states_fault c.args.text.now c.args.geometry.now c.records.commands other.fields _ _ Fields c.records.invariant.so_far other.first (inr refused))
 
 pub returns-in-Fields-clause-first : goal.returns-in-Fields-clause-first
 returns-in-Fields-clause-first c =
     let other = c.in-Fields.ensures in
-    rw c.fault.ensures
+    rw (c.fault.ensures, c.next_line-line.ensures)
     (first_other c.args.text.now c.args.geometry.now c.records.commands other.fields _ _ c.records.invariant.so_far other.first other.count)
 
 pub returns-in-Err-clause-fault : goal.returns-in-Err-clause-fault
@@ -27,7 +27,7 @@ returns-in-Err-add-clause-fault c =
     let next = c.in-Record.ensures in
     let taken = rw c.in-Ok-true.field-0-test at c.in-Ok-true.ensures.takes in
     let same = same_first _ _ _ _ _ taken (c.records.invariant.left ∙ next.first) in
-    rw c.fault-in-Err-add.ensures
+    rw (c.fault-in-Err-add.ensures, c.next_line-line.ensures)
     (states_fault c.args.text.now c.args.geometry.now c.records.commands next.fields _ _ _ c.records.invariant.so_far next.first (rw (sym same.0 ∙ c.row_of.ensures) c.in-Err-add.ensures.refused))
 
 pub records-preserved : goal.records-preserved
