@@ -1,20 +1,16 @@
 -- How the fields and the records of a text are cut, by the steps of csv's machine.
-use Rattle.std.proofs.Common.{◌≡◌, ◌≢◌, ℕ, zero, suc, ◌+◌, ◌-◌, ◌<◌, ◌≤◌, Bool, true, false, List, [], ◌∷◌, ◌++◌, length, take, drop, get_or, Option, Some, None, refl, ap, sym, subst, ◌∙◌, add-one, arith, append_assoc, append-nil, inl, inr, length-drop, get_or-drop}
-use Rattle.std.specs.Prelude.{◌==◌, ◌||◌, ◌&&◌, IfSome, if◌then◌else◌}
-use Rattle.std.proofs.lemmas.List.{drop-drop, drop_all, drop_more, length_push, take_more}
+use Rattle.std.proofs.Common.{◌≡◌, ◌≢◌, ℕ, ◌+◌, ◌-◌, ◌<◌, ◌≤◌, Bool, true, false, List, [], ◌∷◌, ◌++◌, length, take, drop, get_or, refl, ap, sym, ◌∙◌, arith, length-drop, get_or-drop}
+use Rattle.std.specs.Prelude.{◌==◌, ◌||◌}
+use Rattle.std.proofs.lemmas.List.{drop-drop, drop_all, drop_more, take_more}
 use Rattle.std.proofs.lemmas.Bool.{eqb-true}
-use Rattle.csv.specs.Machine.{Read, Runs, ends_at_end, field_after, fields_after, in_field, is_end, next_record, start_field, step}
-use Rattle.csv.specs.Reading.{default_config, is_bom, strip_bom}
-use Rattle.csv.specs.declared.parser.Action.{Action}
+use Rattle.csv.specs.Machine.{Runs, next_record, step}
+use Rattle.csv.specs.Reading.{default_config}
 use Rattle.csv.specs.declared.parser.Action.TheVariants as act
 use Rattle.csv.specs.declared.parser.State.{State}
 use Rattle.csv.specs.declared.parser.State.TheVariants as st
 use Rattle.csv.proofs.ReadFacts.{part-rest, run-copies, runs-step}
-use Rattle.csv.proofs.RoundTrip.{after-quote-same, record-same, start-same}
-use Rattle.trace.specs.Cutting.{EndsPlain, EndsQuoted, HasOtherFields, IsField, IsRecord, Joins, begins_with, ends_field, ends_no_line, is_field_end, is_line_end, lines_of, read_on}
-use Rattle.trace.specs.Rows.{records_after}
-use Rattle.trace.specs.Trace.{records_of}
-use Rattle.trace.proofs.RowFacts.{after-none, after-some, both}
+use Rattle.csv.proofs.RoundTrip.{after-quote-same, start-same}
+use Rattle.trace.specs.Cutting.{EndsPlain, EndsQuoted, IsField, Joins, begins_with, ends_field, is_field_end, is_line_end, read_on}
 
 -- ---- bytes
 
@@ -157,9 +153,9 @@ opens text start h = record {
   high = omega (arith, within 34 start text h);
   value = [];
   reads = λ fields.
-    ap (read_on st.StartField fields []) (begins 34 (drop start text) h)
-    ∙ quote-opens fields (drop 1 (drop start text))
-    ∙ ap (read_on st.InQuoted fields []) (behind start text);
+      ap (read_on st.StartField fields []) (begins 34 (drop start text) h)
+      ∙ quote-opens fields (drop 1 (drop start text))
+      ∙ ap (read_on st.InQuoted fields []) (behind start text);
 }
 
 -- the value of a field whose quotes are open, up to a place
@@ -174,14 +170,16 @@ reads-quoted text start at quote o h fields = o.reads fields ∙ reads-joined st
 pub open-end : (text : List ℕ) (start at quote : ℕ) → IsOpen text start at → EndsQuoted text at quote → quote ≡ length text → (value : List ℕ) × IsField text start quote value
 open-end text start at quote o h e =
     let over : drop quote text ≡ [] = drop_all quote text (omega (arith, e)) in
-    let value = grown text start at quote o in
-    (value, record {
-      low = omega (arith, o.low, h.joins.low);
-      high = h.joins.high;
-      reads = λ fields. reads-quoted text start at quote o h.joins fields ∙ ap (read_on st.InQuoted fields value) over
-        ∙ quotes-end fields value ∙ ap (read_on st.InField fields value) (sym over);
-      stops = ap ends_field over;
-    })
+    let value = grown text start at quote o in (
+      value,
+      record {
+        low = omega (arith, o.low, h.joins.low);
+        high = h.joins.high;
+        reads = λ fields. reads-quoted text start at quote o h.joins fields ∙ ap (read_on st.InQuoted fields value) over
+            ∙ quotes-end fields value ∙ ap (read_on st.InField fields value) (sym over);
+        stops = ap ends_field over;
+      },
+    )
 
 reads-closed : (text : List ℕ) (start at quote : ℕ) (o : IsOpen text start at) → Joins st.InQuoted text at quote → begins_with 34 (drop quote text) ≡ true → (fields : List (List ℕ))
     → read_on st.StartField fields [] (drop start text) ≡ read_on st.AfterQuote fields (grown text start at quote o) (drop (quote + 1) text)
@@ -204,21 +202,23 @@ open-more text start at quote o h n q =
       high = omega (arith, inside);
       value = value ++ 34 ∷ [];
       reads = λ fields. reads-closed text start at quote o h.joins (h.stops n) fields
-        ∙ ap (read_on st.AfterQuote fields value) (begins 34 (drop (quote + 1) text) q)
-        ∙ quote-again fields value (drop 1 (drop (quote + 1) text))
-        ∙ ap (read_on st.InQuoted fields (value ++ 34 ∷ [])) (behind (quote + 1) text ∙ ap (λ k. drop k text) next);
+          ∙ ap (read_on st.AfterQuote fields value) (begins 34 (drop (quote + 1) text) q)
+          ∙ quote-again fields value (drop 1 (drop (quote + 1) text))
+          ∙ ap (read_on st.InQuoted fields (value ++ 34 ∷ [])) (behind (quote + 1) text ∙ ap (λ k. drop k text) next);
     }
 
 -- one quote, and then bytes without quotes
 pub open-closed : (text : List ℕ) (start at quote end : ℕ) → IsOpen text start at → EndsQuoted text at quote → quote ≢ length text → begins_with 34 (drop (quote + 1) text) ≡ false
     → EndsPlain text (quote + 1) end → (value : List ℕ) × IsField text start end value
 open-closed text start at quote end o h n q e =
-    let value = grown text start at quote o in
-    (value ++ take (end - (quote + 1)) (drop (quote + 1) text), record {
-      low = omega (arith, o.low, h.joins.low, e.joins.low);
-      high = e.joins.high;
-      reads = λ fields. reads-closed text start at quote o h.joins (h.stops n) fields
-        ∙ after-quotes fields value (drop (quote + 1) text) q
-        ∙ reads-joined st.InField text (quote + 1) end fields value e.joins;
-      stops = e.stops;
-    })
+    let value = grown text start at quote o in (
+      value ++ take (end - (quote + 1)) (drop (quote + 1) text),
+      record {
+        low = omega (arith, o.low, h.joins.low, e.joins.low);
+        high = e.joins.high;
+        reads = λ fields. reads-closed text start at quote o h.joins (h.stops n) fields
+            ∙ after-quotes fields value (drop (quote + 1) text) q
+            ∙ reads-joined st.InField text (quote + 1) end fields value e.joins;
+        stops = e.stops;
+      },
+    )

@@ -1,19 +1,19 @@
 -- How the records of a text are cut, from the fields that are cut.
-use Rattle.std.proofs.Common.{◌≡◌, ◌≢◌, ℕ, zero, suc, ◌+◌, ◌-◌, ◌<◌, ◌≤◌, Bool, true, false, List, [], ◌∷◌, ◌++◌, length, take, drop, get_or, Option, Some, None, refl, ap, sym, ◌∙◌, add-one, arith, length-drop}
-use Rattle.std.specs.Prelude.{◌==◌, ◌||◌, ◌&&◌, not, nat_eq, IfSome, if◌then◌else◌}
+use Rattle.std.proofs.Common.{◌≡◌, ◌≢◌, ℕ, ◌+◌, ◌<◌, ◌≤◌, Bool, true, false, List, [], ◌∷◌, ◌++◌, length, take, drop, get_or, Option, Some, None, refl, ap, sym, ◌∙◌, arith, length-drop}
+use Rattle.std.specs.Prelude.{◌==◌, ◌||◌, ◌&&◌, not, nat_eq, IfSome}
 use Rattle.std.specs.Cmp.Lexicographic.{pointwise}
 use Rattle.std.proofs.lemmas.List.{drop-drop, drop_all, drop_more, length_push}
 use Rattle.std.proofs.lemmas.Bool.{and_parts, eqb-true}
 use Rattle.std.proofs.lemmas.Bool.Decides.{Decides-eqb}
 use Rattle.std.proofs.lemmas.Slice.Eq.{starts_is}
-use Rattle.csv.specs.Machine.{Read, ends_at_end, field_after, fields_after, in_field, is_end, next_record, start_field, step}
+use Rattle.csv.specs.Machine.{Read, ends_at_end, field_after, fields_after, in_field, is_end, next_record, step}
 use Rattle.csv.specs.Reading.{default_config, is_bom, strip_bom}
 use Rattle.csv.specs.declared.parser.Action.{Action}
 use Rattle.csv.specs.declared.parser.Action.TheVariants as act
 use Rattle.csv.specs.declared.parser.State.{State}
 use Rattle.csv.specs.declared.parser.State.TheVariants as st
 use Rattle.csv.proofs.RoundTrip.{record-same}
-use Rattle.trace.specs.Cutting.{AreValues, CutsField, HasOtherFields, HasValues, IsField, IsMarkEnd, IsRecord, StartsRecord, begins_with, ends_field, ends_no_line, fields_of_row, is_line_end, lines_of, read_on}
+use Rattle.trace.specs.Cutting.{AreValues, CutsField, HasOtherFields, IsField, IsMarkEnd, IsRecord, StartsRecord, begins_with, ends_field, ends_no_line, fields_of_row, is_line_end, lines_of, read_on}
 use Rattle.trace.specs.Rows.{records_after}
 use Rattle.trace.specs.Trace.{records_of}
 use Rattle.trace.specs.declared.cutting.Field.{Field}
@@ -140,22 +140,6 @@ pub starts-more : (text : List ℕ) (from at : ℕ) → lines_of (drop from text
     → lines_of (drop from text) ≡ lines_of (drop (at + 1) text)
 starts-more text from at e below h = e ∙ ap lines_of (drop_more text at 0 below) ∙ lines-skip (get_or text at 0) (drop (at + 1) text) h
 
-pub starts-at : (text : List ℕ) (from at : ℕ) → from ≤ at → lines_of (drop from text) ≡ lines_of (drop at text) → at < length text → is_line_end (get_or text at 0) ≡ false → StartsRecord text from at
-starts-at text from at low e below h = record {
-  low = low;
-  high = omega arith;
-  same = e;
-  stops = ap ends_no_line (drop_more text at 0 below) ∙ ap not h;
-}
-
-pub starts-end : (text : List ℕ) (from at : ℕ) → from ≤ at → lines_of (drop from text) ≡ lines_of (drop at text) → at ≡ length text → StartsRecord text from at
-starts-end text from at low e h = record {
-  low = low;
-  high = omega arith;
-  same = e;
-  stops = ap ends_no_line (drop_all at text (omega (arith, h)));
-}
-
 pub reads-first : (text : List ℕ) (from start : ℕ) → StartsRecord text from start → start ≢ length text → Reads text start [] start
 reads-first text from start h n = record {
   low = omega arith;
@@ -178,9 +162,9 @@ reads-next text start fields at end value r f h = record {
   low = omega (arith, r.low, f.low);
   high = omega (arith, within 44 end text h);
   same = ended text start fields at end value r f
-    ∙ ap (read_on st.InField fields value) (begins 44 (drop end text) h)
-    ∙ comma-ends fields value (drop 1 (drop end text))
-    ∙ ap (read_on st.StartField (fields ++ value ∷ []) []) (behind end text);
+      ∙ ap (read_on st.InField fields value) (begins 44 (drop end text) h)
+      ∙ comma-ends fields value (drop 1 (drop end text))
+      ∙ ap (read_on st.StartField (fields ++ value ∷ []) []) (behind end text);
 }
 
 -- ---- the last field
@@ -269,8 +253,8 @@ more_fields s fields field (c ∷ xs) h = by (is_end (step default_config s c).1
   where
     by : (b : Bool) → is_end (step default_config s c).1 ≡ b
         → (is_inside (step default_config s c).0 ≡ true → (p : Read)
-            × (next_record default_config (step default_config s c).0 (fields_after (step default_config s c).1 fields field) (field_after (step default_config s c).1 c field) xs ≡ Some p)
-            × (length (fields_after (step default_config s c).1 fields field) < length p.0))
+        × (next_record default_config (step default_config s c).0 (fields_after (step default_config s c).1 fields field) (field_after (step default_config s c).1 c field) xs ≡ Some p)
+        × (length (fields_after (step default_config s c).1 fields field) < length p.0))
         → (p : Read) × (read_on s fields field (c ∷ xs) ≡ Some p) × (length fields < length p.0)
     by true e more =
         ((fields_after (step default_config s c).1 fields field, (step default_config s c).0, xs), rw e refl, fields-ended (step default_config s c).1 fields field e)

@@ -64,7 +64,12 @@ pub(crate) fn next_cut(text: &[u8], at: usize) -> Cut<'_>
 }
 
 // The fields of a record, if all are known.
-fn plain_row<'t>(worker: Field<'t>, op: Field<'t>, sector: Field<'t>, digits: Field<'t>) -> Option<Row<'t>>
+fn plain_row<'t>(
+    worker: Field<'t>,
+    op: Field<'t>,
+    sector: Field<'t>,
+    digits: Field<'t>,
+) -> Option<Row<'t>>
     ensures { AreValues result worker.entry op.entry sector.entry digits.entry }
 {
     Some(Row {
@@ -116,7 +121,11 @@ fn is_field_end(byte: u8) -> bool
 fn has(text: &[u8], at: usize, byte: u8) -> bool
     ensures { result ≡ begins_with byte (drop at text.now) }
 {
-    if at < text.len() { text[at] == byte } else { false }
+    if at < text.len() {
+        text[at] == byte
+    } else {
+        false
+    }
 }
 
 // The field that begins here.

@@ -28,9 +28,17 @@ fn each_faulty_record_has_its_fault(rt: HostRuntime) -> Result<(), Fail> {
     for (name, text, fault) in [
         ("three fields", "0,read,2", kind::Fields),
         ("five fields", "0,read,2,,", kind::Fields),
-        ("an open quote in the fifth field", "0,read,2,,\"", kind::Fields),
+        (
+            "an open quote in the fifth field",
+            "0,read,2,,\"",
+            kind::Fields,
+        ),
         ("a quoted comma", "\"0,read\",0,", kind::Fields),
-        ("a quoted line end", "\"0,read,0,\n0,read,0,\n", kind::Fields),
+        (
+            "a quoted line end",
+            "\"0,read,0,\n0,read,0,\n",
+            kind::Fields,
+        ),
         ("commas behind two quotes", "\"\",,,,,,", kind::Fields),
         ("a worker too large", "500,read,0,", kind::Worker),
         ("a worker that is no number", "x,read,0,", kind::Worker),
@@ -142,7 +150,11 @@ fn records_end_as_csv_says(rt: HostRuntime) -> Result<(), Fail> {
         ("CR alone", "0,read,0,\r0,read,1,\r", 2),
         ("empty lines between", "\n0,read,0,\n\n\n0,read,1,", 2),
         ("a byte order mark", "\u{feff}0,read,0,\n", 1),
-        ("a mark before a quote", "\u{feff}\"0\",read,0,\n0,read,1,\n", 2),
+        (
+            "a mark before a quote",
+            "\u{feff}\"0\",read,0,\n0,read,1,\n",
+            2,
+        ),
         (
             "a quoted line end is none",
             "0,write,0,\"\"\n0,trim,0,\"\"\n",

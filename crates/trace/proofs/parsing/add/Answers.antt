@@ -1,4 +1,4 @@
-use Rattle.std.proofs.Common.{◌≡◌, ◌∙◌, ◌*◌, inr, sym, arith}
+use Rattle.std.proofs.Common.{◌≡◌, ◌*◌, inr, sym, arith}
 use Rattle.std.proofs.lemmas.Result.{err_from_is_err_and}
 use Rattle.geometry.specs.Geometry.{page_bytes_of}
 use Rattle.trace.proofs.CheckFacts.{adds_accepted, refuses_by_page, refuses_op, refuses_sector, refuses_worker}
