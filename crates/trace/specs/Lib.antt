@@ -1,5 +1,6 @@
 -- What public contracts rest on.
 pub mod Commands
+pub mod Faults
 pub mod Loading
 pub mod Page
 pub mod Trace

@@ -4,7 +4,7 @@ use Rattle.geometry.specs.History.{Call, Write, Trim, step, after, held}
 use Rattle.geometry.specs.Sectors.{Sector, Answers, sector_at}
 use Rattle.geometry.proofs.Histories.{held_written, held_by_write, held_by_trim}
 use Rattle.ftl_one.specs.OneFtl as ftl
-use Rattle.one_player.proofs.caller.reads_back.Goals as goal
+use Rattle.acceptance.proofs.caller.reads_back.Goals as goal
 
 pub returns : goal.returns
 returns c =
