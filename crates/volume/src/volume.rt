@@ -59,7 +59,7 @@ impl Volume {
         match make_brooms(&flash, alloc, seats) {
             Ok(brooms) => Ok((Volume { flash }, passes, brooms)),
             Err(AllocError) => {
-                retire_all(&flash, passes);
+                retire_all(&flash, passes.into_iter());
                 Err(AllocError)
             }
         }
