@@ -1,5 +1,5 @@
 -- The steps around a copy: the spare becomes the destination, the map word is moved, and a full destination is closed.
-use Rattle.std.proofs.Common.{◌≡◌, ℕ, ◌+◌, ◌-◌, ◌<◌, ◌≤◌, Bool, true, false, MatchBool, ◌⊎◌, inl, inr, ⊎_elim, List, Option, None, Some, sym, refl, ap, ◌∙◌, subst, arith}
+use Rattle.std.proofs.Common.{◌≡◌, ℕ, ◌+◌, ◌-◌, ◌<◌, ◌≤◌, Bool, true, false, MatchBool, ◌⊎◌, inl, inr, ⊎_elim, List, [], ◌∷◌, ◌++◌, length, append-nil, Option, None, Some, sym, refl, ap, ◌∙◌, subst, arith}
 use Rattle.geometry.specs.Geometry.{pages_of}
 use Rattle.geometry.specs.History.{Begins, Call}
 use Rattle.geometry.specs.Limits.{Numbers}
@@ -8,11 +8,13 @@ use Rattle.geometry.specs.declared.map_word.MapWord.{MapWord}
 use Rattle.geometry.proofs.Histories.{Begins-refl}
 use Rattle.flash_rule.specs.declared.facts.Owned.{Owned}
 use Rattle.flash_rule.specs.declared.facts.Source.{Source}
+use Rattle.flash_rule.specs.declared.facts.Work.{Work}
 use Rattle.flash_rule.specs.declared.view.View.{View}
 use Rattle.flash_rule.specs.Views.{AreOfHosts, owned_at}
 use Rattle.flash_rule.specs.Plays.{CanClose, next_page}
 use Rattle.flash_rule.specs.BroomPlays.{Moved}
 use Rattle.flash_rule.proofs.Owning.{some_same, none_some}
+use Rattle.flash_rule.proofs.Points.{eq_self}
 use Rattle.flash_table.specs.declared.flash.Flash.{Flash}
 use Rattle.flash_table.specs.declared.pass.OpenBlock.{OpenBlock}
 use Rattle.flash_table.specs.declared.broom_seat.BroomBlocks.{BroomBlocks}
@@ -23,7 +25,9 @@ use Rattle.flash_table.specs.Owning.{owned_of}
 use Rattle.flash_table.specs.Flash.{IsBroomOf, broom_view, own_blocks, geometry_of}
 use Rattle.flash_table.proofs.Blocks.{destination_at}
 use Rattle.broom.specs.Ready.{HasRoom, IsFiled}
-use Rattle.broom.specs.Relocating.{IsSweeping, Sweeps, Relocated, FoundDead, FoundLive, Opened, Copied, Tidied, Cleared, room_in, room_left, count_if}
+use Rattle.broom.specs.Relocating.{IsSweeping, Sweeps, Relocated, FoundDead, FoundLive, Opened, Copied, Tidied, Cleared, room_in, room_left}
+use Rattle.broom.specs.Emptying.{Programmed, Emptied, victim_page, pages_left, pages_to_fill, count_if}
+use Rattle.broom.proofs.Emptying.{pages_more, pages_full, programmed_none, programmed_one, emptied_none, emptied_more}
 use Rattle.broom.proofs.Sweeping.{relocated_none, relocated_then, sweeps_on}
 
 -- ---- the destination is opened
@@ -38,6 +42,33 @@ module _ (f : Flash) (s t : BroomSeat) (h : Opened s t) where
       (λ (some : (p : OpenBlock) × ((own_blocks s).destination ≡ Some p)). ap (room_left pages) (h.kept some.0 some.1))
       (λ (none : (own_blocks s).destination ≡ None).
       let before : room_in pages (own_blocks s).destination ≡ 0 = ap (room_in pages) none in ap (room_left pages) (h.opened none) ∙ (omega arith))
+      (some_or_none (own_blocks s).destination)
+
+  pub opened_left : (pages : ℕ) → pages_to_fill pages (own_blocks t) ≡ pages_to_fill pages (own_blocks s)
+  opened_left pages =
+      ⊎_elim
+      (λ (some : (p : OpenBlock) × ((own_blocks s).destination ≡ Some p)). ap (pages_to_fill pages) (h.kept some.0 some.1))
+      (λ (none : (own_blocks s).destination ≡ None).
+      ap (pages_to_fill pages) (h.opened none) ∙ (append-nil (pages_left pages (own_blocks s).spare) ∙ ap (λ (o : Option OpenBlock). pages_left pages o ++ pages_left pages (own_blocks s).spare) (sym none)))
+      (some_or_none (own_blocks s).destination)
+
+  pub opened_kept : (pages : ℕ) → 1 ≤ length (pages_left pages (own_blocks s).destination) → (own_blocks t).spare ≡ (own_blocks s).spare
+  opened_kept pages room =
+      ⊎_elim
+      (λ (some : (p : OpenBlock) × ((own_blocks s).destination ≡ Some p)). ap (λ (x : BroomBlocks). x.spare) (h.kept some.0 some.1))
+      (λ (none : (own_blocks s).destination ≡ None).
+      let empty : length (pages_left pages (own_blocks s).destination) ≡ 0 = ap (λ (o : Option OpenBlock). length (pages_left pages o)) none in absurd (omega arith))
+      (some_or_none (own_blocks s).destination)
+
+  pub opened_used : (pages : ℕ) (o : OpenBlock) → (own_blocks t).destination ≡ Some o → o.written < pages → length (pages_left pages (own_blocks s).destination) < 1 → (own_blocks t).spare ≡ None
+  opened_used pages o is room empty =
+      ⊎_elim
+      (λ (some : (p : OpenBlock) × ((own_blocks s).destination ≡ Some p)).
+      let same : (own_blocks s).destination ≡ Some o = ap (λ (x : BroomBlocks). x.destination) (sym (h.kept some.0 some.1)) ∙ is in
+      let long : length (pages_left pages (own_blocks s).destination) ≡ length (pages_left pages (Some (record o { written = o.written + 1 }))) + 1 =
+      ap (λ (d : Option OpenBlock). length (pages_left pages d)) same ∙ (ap (length {A = MapWord}) (pages_more pages o room) ∙ (omega arith)) in
+      absurd (omega arith))
+      (λ (none : (own_blocks s).destination ≡ None). ap (λ (x : BroomBlocks). x.spare) (h.opened none))
       (some_or_none (own_blocks s).destination)
 
   pub opened_some : (pages : ℕ) → 0 < room_left pages (own_blocks s) → (o : OpenBlock) × ((own_blocks t).destination ≡ Some o)
@@ -144,6 +175,11 @@ module _ (f : Flash) (s : BroomSeat) (o : OpenBlock) (is : (own_blocks s).destin
           cleared = ap (λ (x : View). x.cleared) e;
           source = ap (λ (x : View). x.source) e;
           room = ap (room_left (pages_of (geometry_of f))) blocks ∙ (omega arith);
+          programs = ap (λ (x : View). x.programs) e;
+          named = ap (λ (x : View). x.named) e;
+          left = let p : ℕ = pages_of (geometry_of f) in ap (pages_to_fill p) blocks ∙ ap (λ (l : List MapWord). l ++ pages_left p (own_blocks s).spare) (sym (ap (pages_left p) is ∙ pages_full p o full));
+          spare = ap (λ (x : BroomBlocks). x.spare) blocks;
+          work = inr (ap (λ (x : View). x.work) e, ap (λ (x : BroomBlocks). x.destination) blocks);
         }
 
     pub closed_sweeps : (x : ReclaimedBlock) → IsBroomOf f t → IsSweeping f (pages_of (geometry_of f) + 1) s x → Sweeps f t x
@@ -161,7 +197,7 @@ module _ (f : Flash) (s : BroomSeat) (o : OpenBlock) (is : (own_blocks s).destin
         }
 
   pub left_tidied : Tidied (pages_of (geometry_of f)) (broom_view s) (own_blocks s) (broom_view s) (own_blocks s)
-  left_tidied = record { went = relocated_none (broom_view s); cleared = refl; source = refl; room = refl }
+  left_tidied = record { went = relocated_none (broom_view s); cleared = refl; source = refl; room = refl; programs = refl; named = refl; left = refl; spare = refl; work = inl refl }
 
   pub left_sweeps : (x : ReclaimedBlock) → ¬ (o.written ≡ pages_of (geometry_of f)) → IsSweeping f (pages_of (geometry_of f) + 1) s x → Sweeps f s x
   left_sweeps x left g =
@@ -181,8 +217,20 @@ module _ (f : Flash) (s : BroomSeat) (o : OpenBlock) (is : (own_blocks s).destin
       }
 
 -- ---- one page of the victim
-pub dead_cleared : (pages : ℕ) (v w : View) (x y : BroomBlocks) → FoundDead v w → y ≡ x → Cleared pages v x 0 w y
-dead_cleared pages v w x y dead same = record { went = dead.went; cleared = dead.cleared; source = dead.source; room = (let e = ap (room_left pages) same in omega arith) }
+pub dead_cleared : (pages : ℕ) (v w : View) (x y : BroomBlocks) (page : MapWord) → FoundDead v page w → y ≡ x → Cleared pages v x page 0 w y
+dead_cleared pages v w x y page dead same =
+    record {
+      went = dead.went;
+      cleared = dead.cleared;
+      source = dead.source;
+      room = (let e = ap (room_left pages) same in omega arith);
+      find = dead.find;
+      named = dead.named;
+      copies = [];
+      each = ap count_if (sym dead.dead);
+      moved = omega arith;
+      programmed = programmed_none pages v w x y dead.programs dead.work same;
+    }
 
 module _ (f : Flash) (a b c d e g : BroomSeat) (page : MapWord) (sector : ℕ) (live : FoundLive (broom_view a) page sector (broom_view b)) (same : own_blocks b ≡ own_blocks a) (opens : Opened b c) (o : OpenBlock)
     (left : o.written < pages_of (geometry_of f)) (is : (own_blocks c).destination ≡ Some o) (copy : MapWord) where
@@ -193,7 +241,42 @@ module _ (f : Flash) (a b c d e g : BroomSeat) (page : MapWord) (sector : ℕ) (
   module _ (copied : Copied (broom_view c) o source_of copy (broom_view d)) (filled : own_blocks d ≡ record (own_blocks c) { destination = Some (record o { written = o.written + 1 }) })
       (n : ℕ) (moved : Bool) (told : Moved (broom_view d) source_of n (broom_view e)) (outcome : MatchBool moved (n ≡ map_word page) (¬ (n ≡ map_word page))) (stay : own_blocks e ≡ own_blocks d)
       (tidy : Tidied (pages_of (geometry_of f)) (broom_view e) (own_blocks e) (broom_view g) (own_blocks g)) where
-    pub live_cleared : Cleared (pages_of (geometry_of f)) (broom_view a) (own_blocks a) (count_if moved) (broom_view g) (own_blocks g)
+    -- the pages to be filled, but for the one that was filled
+    left_of : pages_to_fill (pages_of (geometry_of f)) (own_blocks a) ≡ copy ∷ pages_to_fill (pages_of (geometry_of f)) (own_blocks g)
+    left_of =
+        let p : ℕ = pages_of (geometry_of f) in
+        let spare : List MapWord = pages_left p (own_blocks c).spare in
+        let begun : pages_to_fill p (own_blocks a) ≡ pages_left p (own_blocks c).destination ++ spare = ap (pages_to_fill p) (sym same) ∙ sym (opened_left f b c opens p) in
+        let first : pages_left p (own_blocks c).destination ++ spare ≡ copy ∷ (pages_left p (Some (record o { written = o.written + 1 })) ++ spare) =
+        ap (λ (l : List MapWord). l ++ spare) (ap (pages_left p) is ∙ pages_more p o left) ∙ ap (λ (m : MapWord). m ∷ (pages_left p (Some (record o { written = o.written + 1 })) ++ spare)) (sym copied.is) in
+        let rest : pages_left p (Some (record o { written = o.written + 1 })) ++ spare ≡ pages_to_fill p (own_blocks g) = ap (pages_to_fill p) (sym (stay ∙ filled)) ∙ sym tidy.left in
+        begun ∙ (first ∙ ap (λ (l : List MapWord). copy ∷ l) rest)
+
+    spare_is : (own_blocks g).spare ≡ (own_blocks c).spare
+    spare_is = tidy.spare ∙ ap (λ (y : BroomBlocks). y.spare) (stay ∙ filled)
+
+    -- the page filled last, as long as the destination isn't closed
+    work_is : (broom_view e).work ≡ Some copied.can.copied.work
+    work_is = ap (λ (v : View). v.work) told.changed ∙ copied.can.copied.is
+
+    programmed : Programmed (pages_of (geometry_of f)) (broom_view a) (own_blocks a) (copy ∷ []) (broom_view g) (own_blocks g)
+    programmed =
+        let p : ℕ = pages_of (geometry_of f) in
+        let lengths : length (pages_left p (own_blocks b).destination) ≡ length (pages_left p (own_blocks a).destination) = ap (λ (y : BroomBlocks). length (pages_left p y.destination)) same in
+        programmed_one p (broom_view a) (broom_view g) (own_blocks a) (own_blocks g) copy
+        (tidy.programs ∙ (ap (λ (v : View). v.programs) told.changed ∙ (copied.programs ∙ ap (λ (l : List MapWord). l ++ copy ∷ []) (ap (λ (v : View). v.programs) opens.view ∙ live.programs)))) left_of
+        (λ some. spare_is ∙ (opened_kept f b c opens p (omega arith) ∙ ap (λ (y : BroomBlocks). y.spare) same)) (λ none. spare_is ∙ opened_used f b c opens p o is left (omega arith))
+        (λ k there.
+        ⊎_elim
+        (λ (stays : (broom_view g).work ≡ (broom_view e).work).
+        let one = some_same k copied.can.copied.work (sym there ∙ (stays ∙ work_is)) in ap (λ (x : Work). x.page) one ∙ copied.can.copied.page)
+        (λ (closed : ((broom_view g).work ≡ None) × ((own_blocks g).destination ≡ None)). absurd (none_some k (sym closed.0 ∙ there))) tidy.work)
+        (λ d there.
+        ⊎_elim
+        (λ (stays : (broom_view g).work ≡ (broom_view e).work). (copied.can.copied.work, stays ∙ work_is))
+        (λ (closed : ((broom_view g).work ≡ None) × ((own_blocks g).destination ≡ None)). absurd (none_some d (sym closed.1 ∙ there))) tidy.work)
+
+    pub live_cleared : Cleared (pages_of (geometry_of f)) (broom_view a) (own_blocks a) page (count_if moved) (broom_view g) (own_blocks g)
     live_cleared =
         let p : ℕ = pages_of (geometry_of f) in
         let first : Relocated (broom_view a) 0 (broom_view c) = subst (λ (v : View). Relocated (broom_view a) 0 v) (sym opens.view) live.went in
@@ -215,24 +298,34 @@ module _ (f : Flash) (a b c d e g : BroomSeat) (page : MapWord) (sector : ℕ) (
           cleared = omega arith;
           source = tidy.source ∙ ap (λ (v : View). v.source) told.changed;
           room = omega arith;
-        }
+          find = Some (sector, map_word page);
+          named = tidy.named ∙ (ap (λ (v : View). v.named) told.changed ∙ (copied.named ∙ (ap (λ (v : View). v.named) opens.view ∙ live.named)));
+          copies = copy ∷ [];
+          each = ap count_if (sym (eq_self (map_word page)));
+          moved = most moved;
+          programmed = programmed;
+        } where
+          most : (b : Bool) → count_if b ≤ 1
+          most true = omega arith
+          most false = omega arith
 
 -- ---- page after page
 -- The pages of the victim below this one are cleared, so many of them were moved, and there is room for the others
-pub record Clearing (f : Flash) (v : View) (x : ReclaimedBlock) (page copied : ℕ) (s : BroomSeat) : Type 0 where
+pub record Clearing (f : Flash) (v : View) (y : BroomBlocks) (x : ReclaimedBlock) (page copied : ℕ) (s : BroomSeat) : Type 0 where
   pub sweeps : Sweeps f s x
   pub went : Relocated v copied (broom_view s)
   pub cleared : (broom_view s).cleared ≡ page
   pub source : (broom_view s).source ≡ None
   pub room : x.written ≤ page + room_left (pages_of (geometry_of f)) (own_blocks s)
   pub few : copied ≤ page
+  pub emptied : Emptied (pages_of (geometry_of f)) (record x { written = page }) v y copied (broom_view s) (own_blocks s)
 
-pub clearing_none : (f : Flash) (s : BroomSeat) (x : ReclaimedBlock) → Sweeps f s x → (broom_view s).cleared ≡ 0 → (broom_view s).source ≡ None → x.written ≤ room_left (pages_of (geometry_of f)) (own_blocks s) → Clearing f (broom_view s) x 0 0 s
-clearing_none f s x sweeps cleared source room = record { sweeps = sweeps; went = relocated_none (broom_view s); cleared = cleared; source = source; room = omega arith; few = omega arith }
+pub clearing_none : (f : Flash) (s : BroomSeat) (x : ReclaimedBlock) → Sweeps f s x → (broom_view s).cleared ≡ 0 → (broom_view s).source ≡ None → x.written ≤ room_left (pages_of (geometry_of f)) (own_blocks s) → Clearing f (broom_view s) (own_blocks s) x 0 0 s
+clearing_none f s x sweeps cleared source room = record { sweeps = sweeps; went = relocated_none (broom_view s); cleared = cleared; source = source; room = omega arith; few = omega arith; emptied = emptied_none (pages_of (geometry_of f)) x (broom_view s) (own_blocks s) }
 
-pub clearing_more : (f : Flash) (v : View) (x : ReclaimedBlock) (page copied now : ℕ) (moved : Bool) (s t : BroomSeat) → Clearing f v x page copied s → Sweeps f t x
-    → Cleared (pages_of (geometry_of f)) (broom_view s) (own_blocks s) (count_if moved) (broom_view t) (own_blocks t) → now ≡ copied + count_if moved → Clearing f v x (page + 1) now t
-clearing_more f v x page copied now moved s t h sweeps told sum =
+pub clearing_more : (f : Flash) (v : View) (y : BroomBlocks) (x : ReclaimedBlock) (page copied now : ℕ) (moved : Bool) (s t : BroomSeat) → Clearing f v y x page copied s → Sweeps f t x
+    → Cleared (pages_of (geometry_of f)) (broom_view s) (own_blocks s) (victim_page x page) (count_if moved) (broom_view t) (own_blocks t) → now ≡ copied + count_if moved → Clearing f v y x (page + 1) now t
+clearing_more f v y x page copied now moved s t h sweeps told sum =
     let c1 = h.cleared in
     let c2 = told.cleared in
     let r1 = h.room in
@@ -246,6 +339,7 @@ clearing_more f v x page copied now moved s t h sweeps told sum =
       source = told.source;
       room = omega arith;
       few = omega arith;
+      emptied = emptied_more (pages_of (geometry_of f)) x page copied (count_if moved) now v (broom_view s) (broom_view t) y (own_blocks s) (own_blocks t) h.emptied told.find told.named told.copies told.each told.moved sum told.programmed;
     } where
       most : (b : Bool) → count_if b ≤ 1
       most true = omega arith

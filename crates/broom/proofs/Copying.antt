@@ -175,6 +175,8 @@ module _ (f : Flash) (v : View) (y : BroomBlocks) (o : OpenBlock) (value : List 
           went = went;
           cleared = ap (λ (y : View). y.cleared) e;
           is = refl;
+          programs = ap (λ (y : View). y.programs) e;
+          named = ap (λ (y : View). y.named) e;
           can = record {
             is = ap (λ (y : View). y.source) e ∙ source;
             value = value;

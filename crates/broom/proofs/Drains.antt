@@ -5,7 +5,6 @@ use Rattle.geometry.specs.Geometry.{blocks_of, pages_of}
 use Rattle.geometry.specs.History.{Begins, Call}
 use Rattle.geometry.specs.Limits.{Numbers}
 use Rattle.geometry.specs.PinWords.{FitsPin, pin_word}
-use Rattle.geometry.specs.declared.map_word.MapWord.{MapWord}
 use Rattle.geometry.specs.declared.pin_word.Phase.{Phase}
 use Rattle.geometry.specs.declared.pin_word.Phase.TheVariants.{Free, Open, Closed, Victim, Drained, Erasing, Retired}
 use Rattle.geometry.specs.declared.pin_word.PinWord.{PinWord}
@@ -23,13 +22,15 @@ use Rattle.flash_table.specs.declared.broom_seat.ReclaimedBlock.{ReclaimedBlock}
 use Rattle.flash_table.specs.declared.broom_seat.Reclaiming.TheVariants.{Nothing, Draining}
 use Rattle.flash_table.specs.Flash.{IsBroomOf, broom_view, own_blocks, geometry_of, device}
 use Rattle.broom.specs.declared.broom.Broom.{Broom}
-use Rattle.broom.specs.Survey.{is_closed, generation_in, looks_of}
+use Rattle.broom.specs.Survey.{is_closed, generation_in, written_in, looks_of}
+use Rattle.broom.specs.Emptying.{Emptied}
 use Rattle.broom.specs.Ready.{IsRested, IsReady, view_of}
-use Rattle.broom.specs.Told.{Surveyed, DidDrain}
+use Rattle.broom.specs.Told.{Surveyed, DidDrain, victim_in}
 use Rattle.broom.specs.Surveying.{IsInRange, Chosen}
 use Rattle.broom.specs.Relocating.{Sweeps, Relocated, room_in, room_left}
 use Rattle.broom.proofs.Loading.{enumerate_once}
 use Rattle.broom.proofs.Counting.{generation_at}
+use Rattle.broom.proofs.Emptying.{emptied_same}
 
 closed_phase : (p : Phase) → is_closed p ≡ true → p ≡ Closed
 closed_phase Free e = absurd (cc)
@@ -77,6 +78,9 @@ module _ (f : Flash) (v : View) (b : ℕ) (r : Broom) (chosen : Chosen v b r) (r
     generation_is : q.generation ≡ generation_in chosen.survey.states b
     generation_is = ap (λ (p : PinWord). p.generation) (sym here) ∙ sym (generation_at chosen.survey.states b q chosen.low)
 
+    written_is : q.written ≡ written_in chosen.survey.states b
+    written_is = ap (λ (p : PinWord). p.written) (sym here) ∙ sym (get_or-map (λ (p : PinWord). p.written) chosen.survey.states b q 0 chosen.low)
+
     -- the block as the broom's victim
     abbrev pub victim_of_state : ReclaimedBlock
     victim_of_state = record { block = b; generation = q.generation; written = q.written }
@@ -114,7 +118,8 @@ module _ (f : Flash) (v : View) (b : ℕ) (r : Broom) (chosen : Chosen v b r) (r
 
       -- ---- the drain ends
       module _ (u w : BroomSeat) (copied : ℕ) (went : Relocated (broom_view t) copied (broom_view u)) (bare : (broom_view u).source ≡ None) (sweeps : Sweeps f u victim_of_state) (owned : List Owned)
-          (drained : broom_view w ≡ record (broom_view u) { owns = owned; drains = (broom_view u).drains ++ record { block = b; generation = q.generation } ∷ [] }) (free : own_blocks w ≡ record (own_blocks u) { reclaiming = Nothing }) (none : v.source ≡ None) where
+          (drained : broom_view w ≡ record (broom_view u) { owns = owned; drains = (broom_view u).drains ++ record { block = b; generation = q.generation } ∷ [] }) (free : own_blocks w ≡ record (own_blocks u) { reclaiming = Nothing }) (none : v.source ≡ None)
+          (cleared : (broom_view u).cleared ≡ q.written) (y : BroomBlocks) (same : own_blocks r.seat ≡ y) (emptied : Emptied (pages_of (geometry_of f)) victim_of_state (broom_view t) (own_blocks t) copied (broom_view u) (own_blocks u)) where
         named_is : (broom_view t).named ≡ v.named ++ looks_of chosen.survey.pages
         named_is = ap (λ (y : View). y.named) claimed ∙ ap (λ (y : View). y.named) chosen.changed
 
@@ -140,7 +145,7 @@ module _ (f : Flash) (v : View) (b : ℕ) (r : Broom) (chosen : Chosen v b r) (r
           owns = owned;
           work = (broom_view u).work;
           programs = (broom_view u).programs;
-          cleared = (broom_view u).cleared;
+          cleared = written_in chosen.survey.states b;
           moves = v.moves + copied;
           drains = v.drains ++ record { block = b; generation = generation_in chosen.survey.states b } ∷ [];
         }
@@ -168,22 +173,38 @@ module _ (f : Flash) (v : View) (b : ℕ) (r : Broom) (chosen : Chosen v b r) (r
               owns = owned;
               work = x.work;
               programs = x.programs;
-              cleared = x.cleared;
+              cleared = (cleared ∙ written_is) i;
               source = (bare ∙ sym none) i;
               moves = v.moves + copied;
               drains = v.drains ++ record { block = b; generation = generation_is i } ∷ [];
             })
 
-        pub did_drain : DidDrain v b copied (broom_view w)
+        -- its pages, with the survey behind and the drain ahead
+        whole_emptied : Emptied v.numbers.pages (victim_in chosen.survey b) (record v { named = v.named ++ looks_of chosen.survey.pages }) y copied (broom_view w) (own_blocks w)
+        whole_emptied =
+            let pages : pages_of (geometry_of f) ≡ v.numbers.pages = ap (λ (z : Numbers). z.pages) (sym numbers) in
+            let victim : victim_of_state ≡ victim_in chosen.survey b = λ i. record { block = b; generation = generation_is i; written = written_is i } in
+            let programs : (broom_view t).programs ≡ v.programs = ap (λ (z : View). z.programs) claimed ∙ ap (λ (z : View). z.programs) chosen.changed in
+            let work : (broom_view t).work ≡ v.work = ap (λ (z : View). z.work) claimed ∙ ap (λ (z : View). z.work) chosen.changed in
+            let open_ones : BroomBlocks → Option OpenBlock × Option OpenBlock = λ z. (z.destination, z.spare) in
+            let before = ap open_ones blocks ∙ ap open_ones same in
+            let after = ap open_ones free in
+            let P : ℕ × ReclaimedBlock → Type 0 = λ k. Emptied k.0 k.1 (record v { named = v.named ++ looks_of chosen.survey.pages }) y copied (broom_view w) (own_blocks w) in
+            subst P (λ i. (pages i, victim i))
+            (emptied_same (pages_of (geometry_of f)) copied victim_of_state (broom_view t) (record v { named = v.named ++ looks_of chosen.survey.pages }) (broom_view u) (broom_view w) (own_blocks t) y (own_blocks u) (own_blocks w) named_is programs work
+            (ap (λ (z : View). z.named) drained) (ap (λ (z : View). z.programs) drained) (ap (λ (z : View). z.work) drained) before after emptied)
+
+        pub did_drain : DidDrain v y b copied (broom_view w) (own_blocks w)
         did_drain =
             let e = all in
-            let programs : (broom_view t).programs ≡ v.programs = ap (λ (y : View). y.programs) claimed ∙ ap (λ (y : View). y.programs) chosen.changed in
-            let last : (broom_view w).programs ≡ (broom_view u).programs = ap (λ (y : View). y.programs) drained in
             record {
               survey = chosen.survey;
               made = made_whole;
               victim = chosen.victim;
-              programmed = let P : List MapWord × List MapWord → Type 0 = λ y. Begins y.0 y.1 in subst P (λ i. (programs i, sym last i)) went.programmed;
+              emptied = whole_emptied;
+              room = λ o is.
+                  let left = (sweeps.destination o (sym (ap (λ (z : BroomBlocks). z.destination) free) ∙ is)).room in subst (λ (z : Numbers). o.written < z.pages) (sym numbers) left;
+              reclaiming = ap (λ (z : BroomBlocks). z.reclaiming) free ∙ (sym ready.rested.reclaiming ∙ ap (λ (z : BroomBlocks). z.reclaiming) same);
               changed = e
                   ∙ (λ i. record v {
                     seen = (sym e i).seen;
@@ -194,7 +215,7 @@ module _ (f : Flash) (v : View) (b : ℕ) (r : Broom) (chosen : Chosen v b r) (r
                     owns = (sym e i).owns;
                     work = (sym e i).work;
                     programs = (sym e i).programs;
-                    cleared = (sym e i).cleared;
+                    cleared = written_in chosen.survey.states b;
                     moves = v.moves + copied;
                     drains = v.drains ++ record { block = b; generation = generation_in chosen.survey.states b } ∷ [];
                   });

@@ -2,9 +2,11 @@ pub mod Leaving
 pub mod Loading
 pub mod Counting
 pub mod Choosing
+pub mod Emptying
 pub mod Sweeping
 pub mod Copying
 pub mod Clearing
 pub mod Drains
 pub mod Wiping
 pub mod Renewing
+pub mod Tying

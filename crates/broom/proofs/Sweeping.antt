@@ -1,5 +1,5 @@
 -- The steps of a broom that drains its victim, put together.
-use Rattle.std.proofs.Common.{◌≡◌, ℕ, ◌+◌, ◌<◌, ◌≤◌, List, ◌++◌, ◌∷◌, [], Option, None, Some, IfSome, sym, refl, ap, ◌∙◌, subst, arith}
+use Rattle.std.proofs.Common.{◌≡◌, ℕ, ◌+◌, ◌<◌, ◌≤◌, List, ◌++◌, ◌∷◌, [], Option, None, Some, IfSome, ne_eqb, append-nil, sym, refl, ap, ◌∙◌, subst, arith}
 use Rattle.geometry.specs.History.{Begins, Call}
 use Rattle.geometry.specs.Limits.{Numbers}
 use Rattle.geometry.specs.MapWords.{FitsMap, map_word}
@@ -19,7 +19,8 @@ use Rattle.flash_table.specs.declared.broom_seat.BroomSeat.{BroomSeat}
 use Rattle.flash_table.specs.declared.broom_seat.ReclaimedBlock.{ReclaimedBlock}
 use Rattle.flash_table.specs.Owning.{reclaimed_as}
 use Rattle.flash_table.specs.Flash.{IsBroomOf, broom_view, own_blocks, geometry_of}
-use Rattle.broom.specs.Relocating.{IsSweeping, Relocated, FoundDead, FoundLive, victim_page}
+use Rattle.broom.specs.Emptying.{victim_page, looks_in}
+use Rattle.broom.specs.Relocating.{IsSweeping, Relocated, FoundDead, FoundLive}
 
 -- ---- one part after another
 pub relocated_none : (v : View) → Relocated v 0 v
@@ -88,9 +89,19 @@ page_fits f most s x p h below =
 
 -- ---- the stamp of the next page
 module _ (v w : View) (x : ReclaimedBlock) (n : ℕ) (told : GotStamp v (reclaimed_as Victim x) n w) where
-  pub stamp_dead : v.numbers.sectors ≤ n → FoundDead v w
-  stamp_dead none =
-      let e = told.dead none in record { went = relocated_source v w None (v.cleared + 1) e; cleared = ap (λ (y : View). y.cleared) e; source = ap (λ (y : View). y.source) e }
+  pub stamp_dead : (page : MapWord) → v.numbers.sectors ≤ n → FoundDead v page w
+  stamp_dead page none =
+      let e = told.dead none in
+      record {
+        went = relocated_source v w None (v.cleared + 1) e;
+        cleared = ap (λ (y : View). y.cleared) e;
+        source = ap (λ (y : View). y.source) e;
+        programs = ap (λ (y : View). y.programs) e;
+        work = ap (λ (y : View). y.work) e;
+        find = None;
+        named = ap (λ (y : View). y.named) e ∙ sym (append-nil v.named);
+        dead = refl;
+      }
 
   pub stamp_named : n < v.numbers.sectors → w ≡ record v { source = Some (record { page = victim_page x v.cleared; stamp = n; value = None }) }
   stamp_named low = told.sector low
@@ -122,25 +133,65 @@ module _ (v w : View) (s : ℕ) (named : Option MapWord) (told : Named v s (sect
         let word : sector_word named ≡ map_word page = ap sector_word here in
         let t = told.page (λ e. absurd (let m : map_word page ≡ 0 = sym word ∙ e in omega arith)) in
         let live = told.live (record { page = page; stamp = s; value = None }) t.1 is refl word t.4 in
-        record { went = look_went; cleared = live.1; low = low; value = t.1; whole = t.5; source = live.0 }
+        record {
+          went = look_went;
+          cleared = live.1;
+          programs = ap (λ (y : View). y.programs) told.changed;
+          named = ap (λ (y : View). y.named) told.changed ∙ ap (λ n. v.named ++ (s, n) ∷ []) word;
+          low = low;
+          value = t.1;
+          whole = t.5;
+          source = live.0;
+        }
 
-    pub look_dead : IfSome named FitsMap → FitsMap page → ¬ (named ≡ Some page) → FoundDead v w
+    pub look_dead : IfSome named FitsMap → FitsMap page → ¬ (named ≡ Some page) → FoundDead v page w
     look_dead fits fits' else =
-        let dead = told.dead (record { page = page; stamp = s; value = None }) is refl (unlike named fits else) in record { went = look_went; cleared = dead.1; source = dead.0 } where
+        let dead = told.dead (record { page = page; stamp = s; value = None }) is refl (unlike named fits else) in
+        record {
+          went = look_went;
+          cleared = dead.1;
+          source = dead.0;
+          programs = ap (λ (y : View). y.programs) told.changed;
+          work = ap (λ (y : View). y.work) told.changed;
+          find = Some (s, sector_word named);
+          named = ap (λ (y : View). y.named) told.changed;
+          dead = ne_eqb (sector_word named) (map_word page) (unlike named fits else);
+        } where
           unlike : (o : Option MapWord) → IfSome o FitsMap → ¬ (o ≡ Some page) → ¬ (sector_word o ≡ map_word page)
           unlike None _ _ e = absurd (omega arith)
           unlike (Some m) fits else e = else (ap (λ k. Some k) (map_same m page fits fits' e))
 
 -- ---- both
-pub found_dead_then : (u v w : View) → Relocated u 0 v → v.cleared ≡ u.cleared → FoundDead v w → FoundDead u w
-found_dead_then u v w first same h = record { went = relocated_then u v w 0 0 0 refl first h.went; cleared = h.cleared ∙ ap (λ n. n + 1) same; source = h.source }
+-- a part that looks nowhere and programs nothing
+pub record Untouched (v w : View) : Type 0 where
+  pub programs : w.programs ≡ v.programs
+  pub work : w.work ≡ v.work
+  pub named : w.named ≡ v.named
 
-pub found_live_then : (u v w : View) (page : MapWord) (s : ℕ) → Relocated u 0 v → v.cleared ≡ u.cleared → FoundLive v page s w → FoundLive u page s w
-found_live_then u v w page s first same h =
+pub untouched_source : (v w : View) (source : Option Source) (cleared : ℕ) → w ≡ record v { source = source; cleared = cleared } → Untouched v w
+untouched_source v w source cleared e = record { programs = ap (λ (y : View). y.programs) e; work = ap (λ (y : View). y.work) e; named = ap (λ (y : View). y.named) e }
+
+pub found_dead_then : (u v w : View) (page : MapWord) → Relocated u 0 v → v.cleared ≡ u.cleared → Untouched u v → FoundDead v page w → FoundDead u page w
+found_dead_then u v w page first same none h =
+    record {
+      went = relocated_then u v w 0 0 0 refl first h.went;
+      cleared = h.cleared ∙ ap (λ n. n + 1) same;
+      source = h.source;
+      programs = h.programs ∙ none.programs;
+      work = h.work ∙ none.work;
+      find = h.find;
+      named = h.named ∙ ap (λ (l : List (ℕ × ℕ)). l ++ looks_in (h.find ∷ [])) none.named;
+      dead = h.dead;
+    }
+
+pub found_live_then : (u v w : View) (page : MapWord) (s : ℕ) → Relocated u 0 v → v.cleared ≡ u.cleared → Untouched u v → FoundLive v page s w → FoundLive u page s w
+found_live_then u v w page s first same none h =
     let numbers : v.numbers ≡ u.numbers = ap (λ (x : View). x.numbers) first.changed in
     record {
       went = relocated_then u v w 0 0 0 refl first h.went;
       cleared = h.cleared ∙ same;
+      programs = h.programs ∙ none.programs;
+      named = h.named ∙ ap (λ (l : List (ℕ × ℕ)). l ++ (s, map_word page) ∷ []) none.named;
       low = subst (λ (z : Numbers). s < z.sectors) numbers h.low;
       value = h.value;
       whole = subst (λ (z : Numbers). IsValue z h.value) numbers h.whole;

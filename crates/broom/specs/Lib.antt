@@ -2,9 +2,11 @@
 pub mod Survey
 pub mod Ready
 pub mod Once
+pub mod Emptying
 pub mod Told
 pub mod Erasing
 pub mod Ends
+pub mod Meeting
 -- Internal: the parts of a drain.
 pub mod Surveying
 pub mod Relocating

@@ -1,7 +1,8 @@
 -- How a broom that drains its victim goes on, and what each part of it tells.
-use Rattle.std.specs.Prelude.{◌≡◌, ℕ, ◌+◌, ◌-◌, ◌<◌, ◌≤◌, Bool, true, false, List, Option, None, Some}
+use Rattle.std.specs.Prelude.{◌≡◌, ℕ, ◌+◌, ◌-◌, ◌<◌, ◌≤◌, ◌⊎◌, false, List, [], ◌∷◌, ◌++◌, Option, None, Some, length}
 use Rattle.geometry.specs.Geometry.{blocks_of, pages_of, endurance_of}
 use Rattle.geometry.specs.History.{Begins}
+use Rattle.geometry.specs.MapWords.{map_word}
 use Rattle.geometry.specs.declared.map_word.MapWord.{MapWord}
 use Rattle.flash_rule.specs.declared.facts.Source.{Source}
 use Rattle.flash_rule.specs.declared.view.View.{View}
@@ -17,11 +18,8 @@ use Rattle.flash_table.specs.declared.broom_seat.ReclaimedBlock.{ReclaimedBlock}
 use Rattle.flash_table.specs.declared.broom_seat.Reclaiming.TheVariants.{Draining}
 use Rattle.flash_table.specs.Owning.{owned_of}
 use Rattle.flash_table.specs.Flash.{IsBroomOf, broom_view, own_blocks, geometry_of}
+use Rattle.broom.specs.Emptying.{Programmed, pages_to_fill, looks_in, is_live, count_if}
 use Rattle.broom.specs.Ready.{HasRoom, IsFiled}
-
--- a page of the victim, in its generation
-abbrev pub victim_page : ReclaimedBlock → ℕ → MapWord
-victim_page x page = record { generation = x.generation; block = x.block; page = page }
 
 -- The broom drains this victim. Its destination has fewer pages written than this, and nothing is written in its spare
 pub record IsSweeping (f : Flash) (most : ℕ) (s : BroomSeat) (x : ReclaimedBlock) : Type 0 where
@@ -48,11 +46,6 @@ room_in pages (Some o) = pages - o.written
 abbrev pub room_left : ℕ → BroomBlocks → ℕ
 room_left pages x = room_in pages x.destination + room_in pages x.spare
 
--- one or none
-abbrev pub count_if : Bool → ℕ
-count_if true = 1
-count_if false = 0
-
 -- The broom went on with its victim: so many pages were moved, and what was programmed, seen and looked at was added at the ends
 pub record Relocated (v : View) (copied : ℕ) (w : View) : Type 0 where
   pub changed : w ≡ record v { seen = w.seen; named = w.named; owns = w.owns; work = w.work; programs = w.programs; cleared = w.cleared; source = w.source; moves = v.moves + copied }
@@ -60,16 +53,23 @@ pub record Relocated (v : View) (copied : ℕ) (w : View) : Type 0 where
   pub named : Begins v.named w.named
   pub programmed : Begins v.programs w.programs
 
--- The next page of the victim was found dead
-pub record FoundDead (v w : View) : Type 0 where
+-- The next page of the victim was found dead: by its stamp, or by a look at its sector
+pub record FoundDead (v : View) (page : MapWord) (w : View) : Type 0 where
   pub went : Relocated v 0 w
   pub cleared : w.cleared ≡ v.cleared + 1
   pub source : w.source ≡ None
+  pub programs : w.programs ≡ v.programs
+  pub work : w.work ≡ v.work
+  pub find : Option (ℕ × ℕ)
+  pub named : w.named ≡ v.named ++ looks_in (find ∷ [])
+  pub dead : is_live page find ≡ false
 
 -- Or it was found live, by a look at this sector, and is now the source
 pub record FoundLive (v : View) (page : MapWord) (sector : ℕ) (w : View) : Type 0 where
   pub went : Relocated v 0 w
   pub cleared : w.cleared ≡ v.cleared
+  pub programs : w.programs ≡ v.programs
+  pub named : w.named ≡ v.named ++ (sector, map_word page) ∷ []
   pub low : sector < v.numbers.sectors
   pub value : List ℕ
   pub whole : IsValue v.numbers value
@@ -87,6 +87,8 @@ pub record Copied (v : View) (o : OpenBlock) (x : Source) (copy : MapWord) (w : 
   pub cleared : w.cleared ≡ v.cleared
   pub is : copy ≡ next_page (owned_of o)
   pub can : CanMove w x copy
+  pub programs : w.programs ≡ v.programs ++ copy ∷ []
+  pub named : w.named ≡ v.named
 
 -- The destination is closed where it is full, and nothing else is done
 pub record Tidied (pages : ℕ) (v : View) (x : BroomBlocks) (w : View) (y : BroomBlocks) : Type 0 where
@@ -94,10 +96,22 @@ pub record Tidied (pages : ℕ) (v : View) (x : BroomBlocks) (w : View) (y : Bro
   pub cleared : w.cleared ≡ v.cleared
   pub source : w.source ≡ v.source
   pub room : room_left pages y ≡ room_left pages x
+  pub programs : w.programs ≡ v.programs
+  pub named : w.named ≡ v.named
+  pub left : pages_to_fill pages y ≡ pages_to_fill pages x
+  pub spare : y.spare ≡ x.spare
+  pub work : (w.work ≡ v.work) ⊎ ((w.work ≡ None) × (y.destination ≡ None))
 
--- The next page of the victim is cleared, and this many were moved. No more than one page of the room was used
-pub record Cleared (pages : ℕ) (v : View) (x : BroomBlocks) (copied : ℕ) (w : View) (y : BroomBlocks) : Type 0 where
+-- The next page of the victim is cleared, and this many were moved. No more than one page of the room was used: the next one where the
+-- page was live, and none where it was dead
+pub record Cleared (pages : ℕ) (v : View) (x : BroomBlocks) (page : MapWord) (copied : ℕ) (w : View) (y : BroomBlocks) : Type 0 where
   pub went : Relocated v copied w
   pub cleared : w.cleared ≡ v.cleared + 1
   pub source : w.source ≡ None
   pub room : room_left pages x ≤ room_left pages y + 1
+  pub find : Option (ℕ × ℕ)
+  pub named : w.named ≡ v.named ++ looks_in (find ∷ [])
+  pub copies : List MapWord
+  pub each : length copies ≡ count_if (is_live page find)
+  pub moved : copied ≤ length copies
+  pub programmed : Programmed pages v x copies w y

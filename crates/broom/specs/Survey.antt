@@ -40,6 +40,10 @@ lies_in b generation (Some m) = m.block == b && m.generation == generation
 abbrev pub generation_in : List PinWord → ℕ → ℕ
 generation_in states b = slice_index (map (λ p. p.generation) states) b
 
+-- the pages written of a block as loaded
+abbrev pub written_in : List PinWord → ℕ → ℕ
+written_in states b = slice_index (map (λ p. p.written) states) b
+
 -- the live pages of a block: how many sectors' words named a page of it, in its generation as loaded
 abbrev pub live_pages : Survey → ℕ → ℕ
 live_pages x b = count_by (lies_in b (generation_in x.states b)) x.pages

@@ -7,6 +7,7 @@ mod broom;
 mod draining;
 mod erasing;
 mod folding;
+mod meeting;
 mod relocation;
 mod survey;
 
@@ -15,3 +16,4 @@ pub use broom::Broom;
 pub use draining::drain;
 pub use erasing::erase;
 pub use folding::{Folded, fold, fold_seat};
+pub use meeting::{meet_brooms, stand};

@@ -6,7 +6,8 @@ ghost use Rattle.flash_table.specs.Flash.{IsBroomOf, broom_view, own_blocks, geo
 ghost use Rattle.flash_table.specs.declared.flash.Flash.{Flash};
 ghost use Rattle.flash_table.specs.declared.pass.OpenBlock.{OpenBlock};
 ghost use Rattle.flash_table.specs.declared.broom_seat.ReclaimedBlock.{ReclaimedBlock};
-ghost use Rattle.broom.specs.Relocating.{IsSweeping, Sweeps, Relocated, FoundDead, FoundLive, Opened, Copied, Tidied, Cleared, victim_page, room_left, count_if};
+ghost use Rattle.broom.specs.Relocating.{IsSweeping, Sweeps, Relocated, FoundDead, FoundLive, Opened, Copied, Tidied, Cleared, room_left};
+ghost use Rattle.broom.specs.Emptying.{Emptied, victim_page, count_if};
 
 use flash_table::{BroomSeat, Flash, Gate, Point, Reclaiming};
 use geometry::MapWord;
@@ -22,7 +23,7 @@ fn found(named: Option<MapWord>, page: MapWord) -> bool
 fn live_sector(flash: &Flash, seat: &mut BroomSeat, page: MapWord) -> Option<u32>
     requires next { (x : ReclaimedBlock) × Sweeps flash.now seat.old x × ((page ≡ victim_page x page.page) × (page.page < x.written)) }
     requires cleared { page.page ≡ (broom_view seat.old).cleared }
-    ensures told { MatchOption result (FoundDead (broom_view seat.old) (broom_view seat.new)) (λ sector. FoundLive (broom_view seat.old) page sector (broom_view seat.new)) }
+    ensures told { MatchOption result (FoundDead (broom_view seat.old) page (broom_view seat.new)) (λ sector. FoundLive (broom_view seat.old) page sector (broom_view seat.new)) }
     ensures sweeps { (x : ReclaimedBlock) → Sweeps flash.now seat.old x → Sweeps flash.now seat.new x }
     ensures blocks { own_blocks seat.new ≡ own_blocks seat.old }
 {
@@ -96,7 +97,7 @@ fn clear_page<G: Gate>(flash: &Flash, seat: &mut BroomSeat, page: MapWord, gate:
     requires next { (x : ReclaimedBlock) × Sweeps flash.now seat.old x × ((page ≡ victim_page x page.page) × (page.page < x.written)) }
     requires cleared { page.page ≡ (broom_view seat.old).cleared }
     requires room { 0 < room_left (pages_of (geometry_of flash.now)) (own_blocks seat.old) }
-    ensures told { Cleared (pages_of (geometry_of flash.now)) (broom_view seat.old) (own_blocks seat.old) (count_if result) (broom_view seat.new) (own_blocks seat.new) }
+    ensures told { Cleared (pages_of (geometry_of flash.now)) (broom_view seat.old) (own_blocks seat.old) page (count_if result) (broom_view seat.new) (own_blocks seat.new) }
     ensures sweeps { (x : ReclaimedBlock) → Sweeps flash.now seat.old x → Sweeps flash.now seat.new x }
 {
     let Some(sector) = live_sector(flash, seat, page) else {
@@ -116,7 +117,8 @@ pub(crate) fn relocate<G: Gate>(flash: &Flash, seat: &mut BroomSeat, gate: &mut 
     requires cleared { (broom_view seat.old).cleared ≡ 0 }
     requires source { (broom_view seat.old).source ≡ None }
     ensures told { Relocated (broom_view seat.old) result (broom_view seat.new) }
-    ensures cleared { (x : ReclaimedBlock) → Sweeps flash.now seat.old x → x.written ≤ (broom_view seat.new).cleared }
+    ensures emptied { (x : ReclaimedBlock) → Sweeps flash.now seat.old x → Emptied (pages_of (geometry_of flash.now)) x (broom_view seat.old) (own_blocks seat.old) result (broom_view seat.new) (own_blocks seat.new) }
+    ensures cleared { (x : ReclaimedBlock) → Sweeps flash.now seat.old x → (broom_view seat.new).cleared ≡ x.written }
     ensures source { (broom_view seat.new).source ≡ None }
     ensures sweeps { (x : ReclaimedBlock) → Sweeps flash.now seat.old x → Sweeps flash.now seat.new x }
 {

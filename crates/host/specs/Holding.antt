@@ -3,7 +3,10 @@ use Rattle.std.specs.Prelude.{◌≡◌, ℕ, List, None, Some}
 use Rattle.geometry.specs.Geometry.{sectors_of}
 use Rattle.geometry.specs.History.{held}
 use Rattle.geometry.specs.declared.map_word.MapWord.{MapWord}
+use Rattle.geometry.specs.declared.page_addr.PageAddr.{PageAddr}
+use Rattle.flash_rule.specs.declared.carried.Carried.{Carried}
 use Rattle.flash_rule.specs.declared.view.View.{View}
+use Rattle.flash_rule.specs.Plays.{Spared}
 use Rattle.flash_table.specs.declared.flash.Flash.{Flash}
 use Rattle.flash_table.specs.declared.pass.Pass.{Pass}
 use Rattle.flash_table.specs.Flash.{view_of, geometry_of}
@@ -21,9 +24,22 @@ pass_of h = h.pass
 abbrev pub page_of : Held → MapWord
 page_of h = h.page
 
+-- where a page is, whatever its generation
+abbrev pub addr_of : MapWord → PageAddr
+addr_of m = record { block = m.block; page = m.page }
+
+-- the page there in one generation of its block
+abbrev pub page_in : PageAddr → ℕ → MapWord
+page_in a generation = record { generation = generation; block = a.block; page = a.page }
+
 -- The pass has an accepted pin on the page, which holds this value
 abbrev pub Holds : Flash → Held → List ℕ → Type 0
 Holds f h value = IsPinned f (pass_of h) (page_of h) value
+
+-- The player of whom the pass has heard last is another one. By what was heard, it programmed no page that the pass did, and erased the
+-- held page's block in earlier generations only
+abbrev pub IsSpared : Held → Type 0
+IsSpared h = (c : Carried) → (view_of (pass_of h)).copy ≡ Some c → Spared (view_of (pass_of h)) (page_of h) c
 
 -- A search for a sector's page ends with a hold of the value that the sector had at its last look, or with the pass, where it was empty there
 abbrev pub Found : Flash → View → ℕ → Holding → Type 0

@@ -1,15 +1,16 @@
 //! Holds: a page is pinned, and can be read again and again, until it is released.
 ghost use Rattle.std.specs.Prelude.{◌≡◌, ℕ, ◌<◌, List, length};
+ghost use Rattle.geometry.specs.declared.page_addr.PageAddr.{PageAddr};
 ghost use Rattle.geometry.specs.Geometry.{sectors_of, words_of, page_bytes_of};
 ghost use Rattle.flash_rule.specs.declared.facts.Pin.TheVariants as pin;
 ghost use Rattle.flash_rule.specs.World.{data_word};
 ghost use Rattle.flash_table.specs.Flash.{view_of, opened_of, geometry_of};
 ghost use Rattle.host.specs.Ready.{IsReady};
-ghost use Rattle.host.specs.Holding.{Holds, Found, pass_of, page_of};
+ghost use Rattle.host.specs.Holding.{Holds, IsSpared, Found, pass_of, page_of, page_in, addr_of};
 
 use crate::searching::{read_page, search};
 use flash_table::{Flash, NoGate, Pass};
-use geometry::MapWord;
+use geometry::{MapWord, PageAddr};
 
 /// A page that a pass has pinned: its block isn't erased until the hold is released.
 pub struct Held {
@@ -45,6 +46,34 @@ impl Held {
     {
         &self.pass
     }
+
+    /// The pass, and the page that it pins in this generation of its block.
+    pub fn parts(self) -> (Pass, PageAddr, u32)
+        ensures pass { result.0 ≡ pass_of self }
+        ensures page { result.1 ≡ addr_of (page_of self) }
+        ensures generation { result.2 ≡ (page_of self).generation }
+    {
+        let Held { pass, page } = self;
+        let addr = PageAddr {
+            block: page.block,
+            page: page.page,
+        };
+        (pass, addr, page.generation)
+    }
+
+    /// A hold of its parts.
+    pub fn from_parts(pass: Pass, page: PageAddr, generation: u32) -> Held
+        requires { (value : List ℕ) × ((view_of pass).pin ≡ pin.Accepted (page_in page generation) value) }
+        ensures pass { pass_of result ≡ pass }
+        ensures page { page_of result ≡ page_in page generation }
+    {
+        let page = MapWord {
+            generation,
+            block: page.block,
+            page: page.page,
+        };
+        Held { pass, page }
+    }
 }
 
 /// Pins the page that holds a sector's value.
@@ -66,6 +95,7 @@ pub fn copy_into(flash: &Flash, held: &mut Held, out: &mut [u8])
     requires page { length out.old ≡ page_bytes_of (geometry_of flash.now) }
     ensures value { (value : List ℕ) → Holds flash.now held.old value → (out.new ≡ value) × Holds flash.now held.new value }
     ensures same { view_of (pass_of held.new) ≡ view_of (pass_of held.old) }
+    ensures spared { IsSpared held.old }
     ensures page { page_of held.new ≡ page_of held.old }
 {
     read_page(flash, &mut held.pass, held.page, out);
@@ -77,6 +107,7 @@ pub fn word(flash: &Flash, held: &mut Held, i: u32) -> u64
     requires word { i < words_of (geometry_of flash.now) }
     ensures value { (value : List ℕ) → Holds flash.now held.old value → (result ≡ data_word value i) × Holds flash.now held.new value }
     ensures same { view_of (pass_of held.new) ≡ view_of (pass_of held.old) }
+    ensures spared { IsSpared held.old }
     ensures page { page_of held.new ≡ page_of held.old }
 {
     let start = flash.page_start(held.page);

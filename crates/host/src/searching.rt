@@ -2,7 +2,9 @@
 ghost use Rattle.std.specs.Prelude.{◌≡◌, ℕ, ◌<◌, List, MatchBool, IfSome, IfNone, None, Some, length};
 ghost use Rattle.geometry.specs.Geometry.{blocks_of, sectors_of, page_bytes_of};
 ghost use Rattle.geometry.specs.History.{held};
+ghost use Rattle.flash_rule.specs.declared.carried.Carried.{Carried};
 ghost use Rattle.flash_rule.specs.declared.facts.Pin.TheVariants as pin;
+ghost use Rattle.flash_rule.specs.Plays.{Spared};
 ghost use Rattle.flash_table.specs.Flash.{IsPassOf, view_of, opened_of, geometry_of};
 ghost use Rattle.host.specs.Ready.{IsReady, IsPinned};
 ghost use Rattle.host.specs.Told.{Searched, CameLate};
@@ -64,6 +66,7 @@ pub(crate) fn read_page(flash: &Flash, pass: &mut Pass, page: MapWord, out: &mut
     requires pinned { (value : List ℕ) × IsPinned flash.now pass.old page value }
     requires out { length out.old ≡ page_bytes_of (geometry_of flash.now) }
     ensures value { (value : List ℕ) → IsPinned flash.now pass.old page value → (out.new ≡ value) × IsPinned flash.now pass.new page value }
+    ensures spared { (value : List ℕ) (c : Carried) → IsPinned flash.now pass.old page value → (view_of pass.old).copy ≡ Some c → Spared (view_of pass.old) page c }
     ensures same { view_of pass.new ≡ view_of pass.old }
     ensures opened { opened_of pass.new ≡ opened_of pass.old }
 {

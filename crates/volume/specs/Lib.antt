@@ -1,5 +1,6 @@
 -- What public contracts rest on.
 pub mod Correct
+pub mod Undisturbed
 pub mod Volume
 pub mod Closing
 -- Internal: the parts of an open and of a close.

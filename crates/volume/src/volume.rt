@@ -24,6 +24,7 @@ impl Volume {
     ghost use Rattle.flash_rule.specs.declared.facts.Pin.TheVariants as pin;
     ghost use Rattle.flash_rule.specs.World.{data_word};
     ghost use Rattle.flash_rule.specs.Plays.{Called};
+    ghost use Rattle.flash_rule.specs.Seats.{carried};
     ghost use Rattle.flash_table.specs.declared.pass.Pass.{Pass};
     ghost use Rattle.flash_table.specs.Flash.{view_of, opened_of, geometry_of, device, first_view, first_broom, first_blocks};
     ghost use Rattle.flash_table.specs.Leaving.{retired_view};
@@ -31,11 +32,13 @@ impl Volume {
     ghost use Rattle.broom.specs.Ends.{folded_view};
     ghost use Rattle.broom.specs.Erasing.{EraseTold};
     ghost use Rattle.broom.specs.Told.{DrainTold};
+    ghost use Rattle.broom.specs.Meeting.{StoodTold, BroomsMet};
     ghost use Rattle.broom.specs.Ready.{IsReady as IsBroomReady, view_of as broom_view, blocks_of_broom};
     ghost use Rattle.host.specs.Ready.{IsReady};
     ghost use Rattle.host.specs.Told.{Searched, Wrote, Refused, MetTold};
     ghost use Rattle.host.specs.Holding.{Holds, Found, pass_of, page_of};
     ghost use Rattle.volume.specs.Correct.{Correct, Read, Write, Trim, Found as Got, Replaced, known_by};
+    ghost use Rattle.volume.specs.Undisturbed.{Undisturbed};
     ghost use Rattle.volume.specs.Volume.{flash_of};
 
     /// A device with every sector empty, its passes, pass t with number t, and its brooms, broom i with number i. `Err` is want of memory.
@@ -160,6 +163,7 @@ impl Volume {
         requires held { (value : List ℕ) × Holds (flash_of self.now) held.old value }
         requires page { length out.old ≡ page_bytes_of (geometry_of (flash_of self.now)) }
         ensures value { (value : List ℕ) → Holds (flash_of self.now) held.old value → (out.new ≡ value) × Holds (flash_of self.now) held.new value }
+        ensures undisturbed { (value : List ℕ) → Holds (flash_of self.now) held.old value → Undisturbed (flash_of self.now) value held.old (view_of (pass_of held.old)).copy held.new }
         ensures same { view_of (pass_of held.new) ≡ view_of (pass_of held.old) }
         ensures page { page_of held.new ≡ page_of held.old }
     {
@@ -171,6 +175,7 @@ impl Volume {
         requires held { (value : List ℕ) × Holds (flash_of self.now) held.old value }
         requires word { i < words_of (geometry_of (flash_of self.now)) }
         ensures value { (value : List ℕ) → Holds (flash_of self.now) held.old value → (result ≡ data_word value i) × Holds (flash_of self.now) held.new value }
+        ensures undisturbed { (value : List ℕ) → Holds (flash_of self.now) held.old value → Undisturbed (flash_of self.now) value held.old (view_of (pass_of held.old)).copy held.new }
         ensures same { view_of (pass_of held.new) ≡ view_of (pass_of held.old) }
         ensures page { page_of held.new ≡ page_of held.old }
     {
@@ -198,6 +203,34 @@ impl Volume {
         ensures second_opened { opened_of second.new ≡ opened_of second.old }
     {
         host::meet(&self.flash, first, second)
+    }
+
+    /// Ties what two brooms have done and seen: by one look of the first, and then one of the second. It changes no answer.
+    pub fn meet_brooms(&self, first: &mut Broom, second: &mut Broom)
+        requires first { IsBroomReady (flash_of self.now) first.old }
+        requires second { IsBroomReady (flash_of self.now) second.old }
+        ensures told { BroomsMet (broom_view first.old) (broom_view second.old) (broom_view first.new) (broom_view second.new) }
+        ensures first { IsBroomReady (flash_of self.now) first.new }
+        ensures second { IsBroomReady (flash_of self.now) second.new }
+        ensures first_blocks { blocks_of_broom first.new ≡ blocks_of_broom first.old }
+        ensures second_blocks { blocks_of_broom second.new ≡ blocks_of_broom second.old }
+    {
+        broom::meet_brooms(&self.flash, first, second)
+    }
+
+    /// Ties what a broom has done to a page that is held, and what the hold's pass has seen to the broom. It changes no answer.
+    pub fn stand(&self, held: Held, broom: &mut Broom) -> Held
+        requires held { (value : List ℕ) × Holds (flash_of self.now) held value }
+        requires broom { IsBroomReady (flash_of self.now) broom.old }
+        ensures undisturbed { (value : List ℕ) → Holds (flash_of self.now) held value → Undisturbed (flash_of self.now) value held (Some (carried (broom_view broom.old))) result }
+        ensures told { StoodTold (view_of (pass_of held)) (broom_view broom.old) (page_of held) (view_of (pass_of result)) (broom_view broom.new) }
+        ensures opened { opened_of (pass_of result) ≡ opened_of (pass_of held) }
+        ensures broom { IsBroomReady (flash_of self.now) broom.new }
+        ensures blocks { blocks_of_broom broom.new ≡ blocks_of_broom broom.old }
+    {
+        let (mut pass, page, generation) = held.parts();
+        broom::stand(&self.flash, &mut pass, page, generation, broom);
+        Held::from_parts(pass, page, generation)
     }
 
     /// Gives a pass up. The block that it has open, full or not, is closed.

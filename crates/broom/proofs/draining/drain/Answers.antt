@@ -59,7 +59,8 @@ drain-requires-clause-cleared g c =
     let f = c.args.flash.now in
     let at = (goal.at.drain-requires-clause-cleared g c).After-relocate-copied in
     let x = victim_of_state f (view_of c.args.broom.now) c.in-Some.block c.choose.new.broom c.in-Some.ensures.told c.choose.ensures.ready c.index-state.result.now c.index-state.ensures in
-    let h = swept g at in (x, h.draining, (h.low, c.relocate-copied.ensures.cleared x (sweeping g (goal.at.After-relocate-copied g at).Else-not-claim)))
+    let h = swept g at in
+    let all = c.relocate-copied.ensures.cleared x (sweeping g (goal.at.After-relocate-copied g at).Else-not-claim) in (x, h.draining, (h.low, omega arith))
 
 pub returns-clause-told : goal.returns-clause-told
 returns-clause-told g c =
@@ -72,9 +73,10 @@ returns-clause-told g c =
     let x = victim_of_state f v b r c.in-Some.ensures.told c.choose.ensures.ready q c.index-state.ensures in
     let h = swept g at in
     let told = c.relocate-copied.ensures in
+    let began = sweeping g (goal.at.After-relocate-copied g at).Else-not-claim in
     did_drain f v b r c.in-Some.ensures.told c.choose.ensures.ready q c.index-state.ensures c.claim.new.broom c.claim.ensures.broom (with_owned (owned_as b q Victim) (view_of r).owns) c.if-not-claim.ensures.told c.if-not-claim.ensures.blocks
     c.requires.rested.seat.numbers c.relocate-copied.new.seat c.drain.new.broom c.relocate-copied.result told.told told.source h (without b (broom_view c.relocate-copied.new.seat).owns) (c.drain.ensures.told x h.draining) c.drain.ensures.blocks
-    c.requires.rested.source
+    c.requires.rested.source (told.cleared x began) (own_blocks c.args.broom.now.seat) c.choose.ensures.blocks (told.emptied x began)
 
 pub returns-clause-ready : goal.returns-clause-ready
 returns-clause-ready g c =
@@ -87,11 +89,12 @@ returns-clause-ready g c =
     let x = victim_of_state f v b r c.in-Some.ensures.told c.choose.ensures.ready q c.index-state.ensures in
     let h = swept g at in
     let told = c.relocate-copied.ensures in
+    let began = sweeping g (goal.at.After-relocate-copied g at).Else-not-claim in
     let ready = c.choose.ensures.ready in
     record {
       rested = drained_rested f v b r c.in-Some.ensures.told ready q c.index-state.ensures c.claim.new.broom c.claim.ensures.broom (with_owned (owned_as b q Victim) (view_of r).owns) c.if-not-claim.ensures.told c.if-not-claim.ensures.blocks
           c.requires.rested.seat.numbers c.relocate-copied.new.seat c.drain.new.broom c.relocate-copied.result told.told told.source h (without b (broom_view c.relocate-copied.new.seat).owns) (c.drain.ensures.told x h.draining) c.drain.ensures.blocks
-          c.requires.rested.source c.drain.ensures.broom;
+          c.requires.rested.source (told.cleared x began) (own_blocks c.args.broom.now.seat) c.choose.ensures.blocks (told.emptied x began) c.drain.ensures.broom;
       states = ready.states;
       counts = ready.counts;
       closed = ready.closed;

@@ -12,7 +12,7 @@ use Rattle.flash_table.specs.declared.pass.OpenBlock.{OpenBlock}
 use Rattle.flash_table.specs.Flash.{broom_view, own_blocks, geometry_of}
 use Rattle.broom.specs.Relocating.{IsSweeping, Sweeps, FoundLive, Copied, room_left}
 use Rattle.broom.proofs.Sweeping.{page_fits, sweeps_on}
-use Rattle.broom.proofs.Clearing.{opened_some, opened_sweeps, copy_fits, moved_callers, live_cleared}
+use Rattle.broom.proofs.Clearing.{dead_cleared, opened_some, opened_sweeps, copy_fits, moved_callers, live_cleared}
 use Rattle.broom.proofs.relocation.clear_page.Given.{Over}
 use Rattle.broom.proofs.relocation.clear_page.Goals as goal
 use Rattle.broom.proofs.relocation.clear_page.Goals.{After-open_destination, After-copy_page-copy, After-move_to-moved}
@@ -116,6 +116,10 @@ pub close_if_full-requires-clause-destination : goal.close_if_full-requires-clau
 close_if_full-requires-clause-destination g c =
     let at = (goal.at.close_if_full-requires-clause-destination g c).After-open_destination in
     let d = destination g at in (record d.0 { written = d.0.written + 1 }, ap (λ (x : BroomBlocks). x.destination) (c.move_to-moved.ensures.blocks ∙ c.copy_page-copy.ensures.blocks d.0 d.1))
+
+pub returns-in_default-clause-told : goal.returns-in_default-clause-told
+returns-in_default-clause-told g c =
+    dead_cleared (pages_of (geometry_of c.args.flash.now)) (broom_view c.args.seat.now) (broom_view c.live_sector.new.seat) (own_blocks c.args.seat.now) (own_blocks c.live_sector.new.seat) c.args.page c.in_default.ensures.told c.live_sector.ensures.blocks
 
 pub returns-clause-told : goal.returns-clause-told
 returns-clause-told g c =

@@ -5,8 +5,9 @@ use Rattle.geometry.specs.MapWords.{FitsMap}
 use Rattle.flash_rule.specs.declared.view.View.{View}
 use Rattle.flash_table.specs.Flash.{broom_view, geometry_of}
 use Rattle.flash_table.specs.declared.broom_seat.ReclaimedBlock.{ReclaimedBlock}
-use Rattle.broom.specs.Relocating.{Sweeps, Relocated, victim_page}
-use Rattle.broom.proofs.Sweeping.{relocated_source, sweeps_on, page_fits, stamp_dead, callers_same, look_callers, look_live, look_dead, found_dead_then, found_live_then}
+use Rattle.broom.specs.Emptying.{victim_page}
+use Rattle.broom.specs.Relocating.{Sweeps, Relocated}
+use Rattle.broom.proofs.Sweeping.{Untouched, untouched_source, relocated_source, sweeps_on, page_fits, stamp_dead, callers_same, look_callers, look_live, look_dead, found_dead_then, found_live_then}
 use Rattle.broom.proofs.relocation.live_sector.Goals as goal
 use Rattle.broom.proofs.relocation.live_sector.Goals.{After-sectors, After-found}
 
@@ -20,7 +21,7 @@ returns-then-stamp-from-clause-told c =
     let sectors = sectors_are (goal.at.returns-then-stamp-from-clause-told c).After-sectors in
     let past = c.if-stamp-from.true in
     let from = c.from.ensures in
-    stamp_dead (broom_view c.args.seat.now) (broom_view c.get_stamp-stamp.new.broom) t.0 c.get_stamp-stamp.result (c.get_stamp-stamp.ensures.told t.0 t.1.draining) (omega arith)
+    stamp_dead (broom_view c.args.seat.now) (broom_view c.get_stamp-stamp.new.broom) t.0 c.get_stamp-stamp.result (c.get_stamp-stamp.ensures.told t.0 t.1.draining) c.args.page (omega arith)
 
 pub returns-then-stamp-from-clause-sweeps : goal.returns-then-stamp-from-clause-sweeps
 returns-then-stamp-from-clause-sweeps c x h =
@@ -48,6 +49,9 @@ source_is c =
 began : (c : After-found) → Relocated (broom_view c.args.seat.now) 0 (broom_view c.get_stamp-stamp.new.broom)
 began c = let v = broom_view c.args.seat.now in relocated_source v (broom_view c.get_stamp-stamp.new.broom) (Some (record { page = c.args.page; stamp = c.get_stamp-stamp.result; value = None })) v.cleared (source_is c)
 
+alone : (c : After-found) → Untouched (broom_view c.args.seat.now) (broom_view c.get_stamp-stamp.new.broom)
+alone c = let v = broom_view c.args.seat.now in untouched_source v (broom_view c.get_stamp-stamp.new.broom) (Some (record { page = c.args.page; stamp = c.get_stamp-stamp.result; value = None })) v.cleared (source_is c)
+
 sweeping : (c : After-found) (x : ReclaimedBlock) → Sweeps c.args.flash.now c.args.seat.now x → Sweeps c.args.flash.now c.broom_look-named.new.broom x
 sweeping c x h =
     let v = broom_view c.args.seat.now in
@@ -69,7 +73,7 @@ returns-then-found-clause-told c =
     let below = c.if-stamp-from.false in
     let from = c.from.ensures in
     let numbers : w.numbers.sectors ≡ v.numbers.sectors = ap (λ (z : View). z.numbers.sectors) e in
-    found_live_then v w y c.args.page c.get_stamp-stamp.result (began at) (ap (λ (z : View). z.cleared) e)
+    found_live_then v w y c.args.page c.get_stamp-stamp.result (began at) (ap (λ (z : View). z.cleared) e) (alone at)
     (look_live w y c.get_stamp-stamp.result c.broom_look-named.result c.broom_look-named.ensures.told c.args.page (ap (λ (z : View). z.source) e) (omega arith) c.if-found.ensures)
 
 pub returns-then-found-clause-sweeps : goal.returns-then-found-clause-sweeps
@@ -84,7 +88,7 @@ returns-else-found-clause-told c =
     let e = source_is at in
     let t = c.requires.next in
     let fits = subst FitsMap (sym t.2.0) (page_fits c.args.flash.now (pages_of (geometry_of c.args.flash.now)) c.args.seat.now t.0 c.args.page.page t.1 t.2.1) in
-    found_dead_then v w y (began at) (ap (λ (z : View). z.cleared) e)
+    found_dead_then v w y c.args.page (began at) (ap (λ (z : View). z.cleared) e) (alone at)
     (look_dead w y c.get_stamp-stamp.result c.broom_look-named.result c.broom_look-named.ensures.told c.args.page (ap (λ (z : View). z.source) e) c.broom_look-named.ensures.fits fits c.if-found.ensures)
 
 pub returns-else-found-clause-sweeps : goal.returns-else-found-clause-sweeps

@@ -1,0 +1,71 @@
+-- What a broom leaves of the room that it copies to, once it has emptied its victim.
+use Rattle.std.specs.Prelude.{◌≡◌, ℕ, ◌+◌, ◌-◌, ◌<◌, ◌≤◌, ◌==◌, Bool, true, false, List, [], ◌∷◌, ◌++◌, Option, None, Some, length, map}
+use Rattle.std.specs.List.{range_with_len}
+use Rattle.geometry.specs.MapWords.{map_word}
+use Rattle.geometry.specs.declared.map_word.MapWord.{MapWord}
+use Rattle.flash_rule.specs.declared.facts.Work.{Work}
+use Rattle.flash_rule.specs.declared.view.View.{View}
+use Rattle.flash_table.specs.declared.pass.OpenBlock.{OpenBlock}
+use Rattle.flash_table.specs.declared.broom_seat.BroomBlocks.{BroomBlocks}
+use Rattle.flash_table.specs.declared.broom_seat.ReclaimedBlock.{ReclaimedBlock}
+
+-- a page of the victim, in its generation
+abbrev pub victim_page : ReclaimedBlock → ℕ → MapWord
+victim_page x page = record { generation = x.generation; block = x.block; page = page }
+
+-- a page of an open block, in its generation
+abbrev pub page_at : OpenBlock → ℕ → MapWord
+page_at o page = record { generation = o.generation; block = o.block; page = page }
+
+-- the pages that are left in a block, in order, if there is one
+abbrev pub pages_left : ℕ → Option OpenBlock → List MapWord
+pages_left pages None = []
+pages_left pages (Some o) = map (page_at o) (range_with_len o.written (pages - o.written))
+
+-- the pages that a broom copies to, in order: those left in its destination, and then those of its spare
+abbrev pub pages_to_fill : ℕ → BroomBlocks → List MapWord
+pages_to_fill pages x = pages_left pages x.destination ++ pages_left pages x.spare
+
+-- one or none
+abbrev pub count_if : Bool → ℕ
+count_if true = 1
+count_if false = 0
+
+-- the looks at the victim's pages: of each page the sector that its stamp names, with the map word found there, or nothing where the stamp
+-- names no sector
+abbrev pub looks_in : List (Option (ℕ × ℕ)) → List (ℕ × ℕ)
+looks_in [] = []
+looks_in (None ∷ finds) = looks_in finds
+looks_in (Some look ∷ finds) = look ∷ looks_in finds
+
+-- a page is live where the map word found names it
+abbrev pub is_live : MapWord → Option (ℕ × ℕ) → Bool
+is_live page None = false
+is_live page (Some look) = look.1 == map_word page
+
+-- how many of the victim's pages were live, from this one on
+abbrev pub live_from : ReclaimedBlock → ℕ → List (Option (ℕ × ℕ)) → ℕ
+live_from x page [] = 0
+live_from x page (find ∷ finds) = count_if (is_live (victim_page x page) find) + live_from x (page + 1) finds
+
+-- These pages were programmed, in this order: the first ones of those to be filled, of which the others are left. The spare stays as long
+-- as the destination had a page for each of them, and else it is the destination. The page filled last is the last of these
+pub record Programmed (pages : ℕ) (v : View) (x : BroomBlocks) (copies : List MapWord) (w : View) (y : BroomBlocks) : Type 0 where
+  pub listed : w.programs ≡ v.programs ++ copies
+  pub left : pages_to_fill pages x ≡ copies ++ pages_to_fill pages y
+  pub spare_kept : length copies ≤ length (pages_left pages x.destination) → y.spare ≡ x.spare
+  pub spare_used : length (pages_left pages x.destination) < length copies → y.spare ≡ None
+  pub idle : copies ≡ [] → (w.work ≡ v.work) × (y.destination ≡ x.destination)
+  pub filled : (k : Work) → ¬ (copies ≡ []) → w.work ≡ Some k → (earlier : List MapWord) × (copies ≡ earlier ++ k.page ∷ [])
+  pub filling : (o : OpenBlock) → ¬ (copies ≡ []) → y.destination ≡ Some o → (k : Work) × (w.work ≡ Some k)
+
+-- A victim was emptied: each of its written pages was visited, in order, and a look made for each one whose stamp names a sector. For each
+-- live page one was programmed, and for no other; of these so many were moved
+pub record Emptied (pages : ℕ) (victim : ReclaimedBlock) (v : View) (x : BroomBlocks) (copied : ℕ) (w : View) (y : BroomBlocks) : Type 0 where
+  pub finds : List (Option (ℕ × ℕ))
+  pub visited : length finds ≡ victim.written
+  pub named : w.named ≡ v.named ++ looks_in finds
+  pub copies : List MapWord
+  pub each : length copies ≡ live_from victim 0 finds
+  pub moved : copied ≤ length copies
+  pub programmed : Programmed pages v x copies w y

@@ -1,0 +1,25 @@
+-- What holds of a page from when a pass has pinned it until it is released, whatever other threads do meanwhile: its block is not erased,
+-- and none of its programmed pages is programmed again.
+use Rattle.std.specs.Prelude.{◌≡◌, ℕ, ◌<◌, List, Option, Some, IfSome, slice_get}
+use Rattle.geometry.specs.declared.map_word.MapWord.{MapWord}
+use Rattle.flash_rule.specs.declared.carried.Carried.{Carried}
+use Rattle.flash_rule.specs.declared.facts.Cycle.{Cycle}
+use Rattle.flash_rule.specs.Plays.{Disjoint}
+use Rattle.flash_table.specs.declared.flash.Flash.{Flash}
+use Rattle.flash_table.specs.Flash.{view_of}
+use Rattle.host.specs.declared.holding.Held.{Held}
+use Rattle.host.specs.Holding.{Holds, pass_of, page_of}
+
+-- the erases of this list that are of the page's block are all of earlier generations of it
+abbrev pub AreEarlier : List Cycle → MapWord → Type 0
+AreEarlier erases m = (k : ℕ) (c : Cycle) → slice_get erases k ≡ Some c → c.block ≡ m.block → c.generation < m.generation
+
+-- A hold before and after, and what was heard of another player: what it had programmed and erased by then
+pub record Undisturbed (f : Flash) (value : List ℕ) (old : Held) (heard : Option Carried) (new : Held) : Type 0 where
+  -- the same page is pinned, in the same generation of its block, and holds the same value
+  pub page : page_of new ≡ page_of old
+  pub holds : Holds f new value
+  -- the other player has not erased the page's block in this generation or a later one
+  pub unerased : IfSome heard (λ c. AreEarlier c.erases (page_of new))
+  -- and has programmed no page, in one generation of its block, that this pass has
+  pub once : IfSome heard (λ c. Disjoint (view_of (pass_of new)).programs c.programs)
