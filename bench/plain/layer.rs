@@ -20,7 +20,7 @@ impl Geometry {
             Some("Luns")
         } else if !(3..=4096).contains(&self.blocks) || self.blocks % self.luns != 0 {
             Some("Blocks")
-        } else if !(1..=1024).contains(&self.pages) {
+        } else if !(1..=16384).contains(&self.pages) {
             Some("Pages")
         } else if !(1..=512).contains(&self.words) {
             Some("Words")

@@ -64,20 +64,33 @@ impl Bench {
 }
 
 #[test]
-fn a_die_keeps_and_erases_pages(rt: HostRuntime) -> Result<(), Fail> {
+fn a_die_keeps_and_copies_pages(rt: HostRuntime) -> Result<(), Fail> {
     let mut bench = Bench::new(&rt)?;
     let next = PageAddr { block: 0, page: 1 };
     let copy = PageAddr { block: 1, page: 0 };
-    assert_eq!(rt; bench.program(&rt, FIRST, 1, 2), 0);
-    assert_eq!(rt; bench.read(&rt, FIRST), ([1, 0, 0, 0, 0, 0, 0, 0], 2));
-    assert_eq!(rt; bench.read(&rt, next), ([255; 8], ERASED_STAMP));
-    assert_eq!(rt; bench.copyback(&rt, FIRST, copy), 0);
-    assert_eq!(rt; bench.read(&rt, copy), ([1, 0, 0, 0, 0, 0, 0, 0], 2));
-    assert_eq!(rt; bench.erase(&rt, 0), 0);
-    assert_eq!(rt; bench.die.next(0), 0);
-    assert_eq!(rt; bench.read(&rt, FIRST), ([255; 8], ERASED_STAMP));
-    assert_eq!(rt; bench.erase(&rt, 0), 1);
-    assert!(rt; bench.die.retired(0));
-    assert_eq!(rt; bench.die.erases(0), 2);
+    let programmed = bench.program(&rt, FIRST, 1, 2);
+    let copied = bench.copyback(&rt, FIRST, copy);
+    let reads = [
+        bench.read(&rt, FIRST),
+        bench.read(&rt, next),
+        bench.read(&rt, copy),
+    ];
+    let page = ([1, 0, 0, 0, 0, 0, 0, 0], 2);
+    assert_eq!(rt; (programmed, copied), (0, 0));
+    assert_eq!(rt; reads, [page, ([255; 8], ERASED_STAMP), page]);
+    Ok(())
+}
+
+#[test]
+fn the_last_erase_retires_a_block(rt: HostRuntime) -> Result<(), Fail> {
+    let mut bench = Bench::new(&rt)?;
+    bench.program(&rt, FIRST, 1, 2);
+    let first = bench.erase(&rt, 0);
+    let programmed = bench.die.next(0);
+    let read = bench.read(&rt, FIRST);
+    let second = bench.erase(&rt, 0);
+    assert_eq!(rt; (first, second), (0, 1));
+    assert_eq!(rt; (programmed, read), (0, ([255; 8], ERASED_STAMP)));
+    assert_eq!(rt; (bench.die.retired(0), bench.die.erases(0)), (true, 2));
     Ok(())
 }

@@ -5,7 +5,7 @@ use std::test::Fail;
 const FAULTS: [([u32; 8], GeometryFault); 12] = [
     ([0, 2, 2, 1, 3, 10, 0, 0], GeometryFault::Luns),
     ([2, 3, 2, 1, 3, 10, 0, 0], GeometryFault::Blocks),
-    ([1, 3, 1025, 1, 3, 10, 0, 0], GeometryFault::Pages),
+    ([1, 3, 16385, 1, 3, 10, 0, 0], GeometryFault::Pages),
     ([1, 3, 2, 513, 3, 10, 0, 0], GeometryFault::Words),
     ([1, 3, 2, 1, 0, 10, 0, 0], GeometryFault::Sectors),
     ([1, 3, 2, 1, 3, 0, 0, 0], GeometryFault::Endurance),
@@ -37,6 +37,58 @@ fn each_faulty_row_has_its_fault(rt: HostRuntime) -> Result<(), Fail> {
     for (numbers, fault) in FAULTS {
         assert_eq!(rt; geometry_of(numbers), Err(fault), "{numbers:?}");
     }
+    Ok(())
+}
+
+// Each limit at both ends: the last numbers that are accepted.
+const ENDS: [[u32; 8]; 12] = [
+    [8, 8, 2, 1, 3, 10, 0, 0],
+    [1, 4096, 2, 1, 3, 10, 0, 0],
+    [1, 4, 1, 1, 2, 10, 0, 0],
+    [1, 3, 1025, 1, 3, 10, 0, 0],
+    [1, 3, 16384, 1, 3, 10, 0, 0],
+    [1, 3, 2, 512, 3, 10, 0, 0],
+    [1, 3, 2, 1, 1, 10, 0, 0],
+    [1, 4096, 512, 1, 1_048_576, 10, 0, 0],
+    [1, 3, 2, 1, 3, 1, 0, 0],
+    [1, 3, 2, 1, 3, 1_000_000, 0, 0],
+    [1, 512, 2, 1, 24, 10, 500, 0],
+    [1, 66, 2, 1, 2, 10, 1, 32],
+];
+
+// And the first that are refused.
+const BEYOND: [([u32; 8], GeometryFault); 12] = [
+    ([9, 9, 2, 1, 3, 10, 0, 0], GeometryFault::Luns),
+    ([1, 2, 2, 1, 1, 10, 0, 0], GeometryFault::Blocks),
+    ([1, 4097, 2, 1, 3, 10, 0, 0], GeometryFault::Blocks),
+    ([1, 3, 0, 1, 3, 10, 0, 0], GeometryFault::Pages),
+    ([1, 3, 2, 0, 3, 10, 0, 0], GeometryFault::Words),
+    (
+        [1, 4096, 512, 1, 1_048_577, 10, 0, 0],
+        GeometryFault::Sectors,
+    ),
+    ([1, 3, 2, 1, 3, 1_000_001, 0, 0], GeometryFault::Endurance),
+    ([1, 512, 2, 1, 24, 10, 501, 0], GeometryFault::Passes),
+    ([1, 66, 2, 1, 2, 10, 1, 33], GeometryFault::Passes),
+    ([1, 512, 2, 1, 25, 10, 500, 0], GeometryFault::TooFewBlocks),
+    ([1, 66, 2, 1, 3, 10, 1, 32], GeometryFault::TooFewBlocks),
+    ([1, 65, 2, 1, 2, 10, 1, 32], GeometryFault::TooFewBlocks),
+];
+
+#[test]
+fn each_limit_is_where_it_is_said_to_be(rt: HostRuntime) -> Result<(), Fail> {
+    for numbers in ENDS {
+        assert!(rt; geometry_of(numbers).is_ok(), "{numbers:?}");
+    }
+    for (numbers, fault) in BEYOND {
+        assert_eq!(rt; geometry_of(numbers), Err(fault), "{numbers:?}");
+    }
+    // A table of exactly 16,777,216 words, and one of a word more.
+    assert!(rt; geometry_of([1, 1000, 1048, 15, 8216, 10, 0, 0]).is_ok());
+    assert_eq!(rt;
+        geometry_of([1, 1000, 1048, 15, 8217, 10, 0, 0]),
+        Err(GeometryFault::TooManyWords)
+    );
     Ok(())
 }
 

@@ -59,6 +59,16 @@ impl Bench {
             }
         }
     }
+
+    // A block's erases and live pages, and whether it is retired.
+    fn wear(&self, rt: &impl Abort, block: u32) -> (u32, u32, bool) {
+        assert!(rt; block < self.ftl.geometry().blocks());
+        (
+            self.ftl.erases(block),
+            self.ftl.live(block),
+            self.ftl.retired(block),
+        )
+    }
 }
 
 // A device with blocks of two pages and three sectors, what is written to it, how many of the writes are
@@ -93,14 +103,13 @@ fn check_row(rt: &(impl Abort + AllocGlobal), row: Row) -> Result<(), Fail> {
             worn = worn.wrapping_add(1);
         }
     }
-    assert_eq!(rt; worn, refused, "{name}");
     let counts = bench.ftl.counts();
-    assert_eq!(rt; counts.programs, totals.0, "{name}");
-    assert_eq!(rt; counts.copies, totals.1, "{name}");
-    assert_eq!(rt; counts.erases, totals.2, "{name}");
-    assert_eq!(rt; bench.read(rt, 0), sectors[0], "{name}");
-    assert_eq!(rt; bench.read(rt, 1), sectors[1], "{name}");
-    assert_eq!(rt; bench.read(rt, 2), sectors[2], "{name}");
+    let found = (
+        worn,
+        (counts.programs, counts.copies, counts.erases),
+        [bench.read(rt, 0), bench.read(rt, 1), bench.read(rt, 2)],
+    );
+    assert!(rt; found == (refused, totals, sectors), "{name}");
     Ok(())
 }
 
@@ -196,6 +205,20 @@ fn a_trim_empties_a_sector_and_programs_nothing(rt: HostRuntime) -> Result<(), F
     assert_eq!(rt; bench.trim(&rt, 0), Was::Empty);
     assert_eq!(rt; bench.read(&rt, 0), None);
     assert_eq!(rt; bench.ftl.counts().programs, 1);
+    Ok(())
+}
+
+// Two sectors are written by turns. The victims are blocks 0, 1, 2 and 0, whose second erase fails.
+#[test]
+fn the_blocks_tell_their_wear(rt: HostRuntime) -> Result<(), Fail> {
+    let mut bench = Bench::new(&rt, 1, 3, 2, 3, 2)?;
+    for byte in 0..6u8 {
+        assert!(rt; bench.write(&rt, 0, byte).is_some());
+        assert!(rt; bench.write(&rt, 1, byte).is_some());
+    }
+    assert_eq!(rt; bench.wear(&rt, 0), (2, 0, true));
+    assert_eq!(rt; bench.wear(&rt, 1), (1, 0, false));
+    assert_eq!(rt; bench.wear(&rt, 2), (1, 2, false));
     Ok(())
 }
 

@@ -29,8 +29,8 @@ fn a_pin_word_has_readers_phase_pages_and_generation(rt: HostRuntime) -> Result<
         written: 2,
         generation: 5,
     };
-    assert_eq!(rt; pin.pack(), 0x0000_0005_0023_0002);
-    assert_eq!(rt; PinWord::unpack(0x0000_0005_0023_0002), Some(pin));
+    assert_eq!(rt; pin.pack(), 0x0000_0005_0002_3002);
+    assert_eq!(rt; PinWord::unpack(0x0000_0005_0002_3002), Some(pin));
     Ok(())
 }
 
@@ -46,7 +46,7 @@ const BLOCK_ZERO: [(u64, PinWord); 8] = [
         },
     ),
     (
-        0x11_0000,
+        0x1_1000,
         PinWord {
             readers: 0,
             phase: Phase::Open,
@@ -55,7 +55,7 @@ const BLOCK_ZERO: [(u64, PinWord); 8] = [
         },
     ),
     (
-        0x23_0000,
+        0x2_3000,
         PinWord {
             readers: 0,
             phase: Phase::Closed,
@@ -64,7 +64,7 @@ const BLOCK_ZERO: [(u64, PinWord); 8] = [
         },
     ),
     (
-        0x23_0001,
+        0x2_3001,
         PinWord {
             readers: 1,
             phase: Phase::Closed,
@@ -73,7 +73,7 @@ const BLOCK_ZERO: [(u64, PinWord); 8] = [
         },
     ),
     (
-        0x27_0001,
+        0x2_7001,
         PinWord {
             readers: 1,
             phase: Phase::Drained,
@@ -82,7 +82,7 @@ const BLOCK_ZERO: [(u64, PinWord); 8] = [
         },
     ),
     (
-        0x27_0000,
+        0x2_7000,
         PinWord {
             readers: 0,
             phase: Phase::Drained,
@@ -91,7 +91,7 @@ const BLOCK_ZERO: [(u64, PinWord); 8] = [
         },
     ),
     (
-        0x29_0000,
+        0x2_9000,
         PinWord {
             readers: 0,
             phase: Phase::Erasing,
@@ -120,17 +120,17 @@ fn a_block_goes_round_by_its_words(rt: HostRuntime) -> Result<(), Fail> {
 
 #[test]
 fn owners_add_these_numbers(rt: HostRuntime) -> Result<(), Fail> {
-    assert_eq!(rt; TAKEN, 0x1_0000);
-    assert_eq!(rt; NEXT_PHASE, 0x2_0000);
-    assert_eq!(rt; PAGE_WRITTEN, 0x10_0000);
-    assert_eq!(rt; freed(2), 0xffd7_0000);
-    assert_eq!(rt; kept(2), 0xffd8_0000);
+    assert_eq!(rt; TAKEN, 0x1000);
+    assert_eq!(rt; NEXT_PHASE, 0x2000);
+    assert_eq!(rt; PAGE_WRITTEN, 0x1_0000);
+    assert_eq!(rt; freed(2), 0xfffd_7000);
+    assert_eq!(rt; kept(2), 0xfffd_8000);
     Ok(())
 }
 
 #[test]
 fn a_word_of_no_state_is_refused(rt: HostRuntime) -> Result<(), Fail> {
-    for word in [0x2_0000u64, 0xd_0000, 0x10_0000] {
+    for word in [0x2000u64, 0xd000, 0x1_0000] {
         assert_eq!(rt; PinWord::unpack(word), None, "{word}");
     }
     Ok(())

@@ -133,7 +133,7 @@ module _ (v w : View) (x : Source) (n : ℕ) (moved : Bool) (told : Moved v x n 
       let e = told.changed in
       record {
         changed = e
-            ∙ (λ i. record v { seen = w.seen; named = (sym e i).named; owns = (sym e i).owns; work = (sym e i).work; programs = (sym e i).programs; cleared = (sym e i).cleared; source = (sym e i).source; moves = moves_are i });
+            ∙ (λ i. record v { seen = w.seen; named = (sym e i).named; owns = (sym e i).owns; work = (sym e i).work; programs = (sym e i).programs; cleared = (sym e i).cleared; source = (sym e i).source; moves = moves_are i; ceded = (sym e i).ceded });
         later = told.later;
         named = subst (λ (l : List (ℕ × ℕ)). Begins v.named l) (sym (ap (λ (y : View). y.named) e)) (Begins-refl v.named);
         programmed = subst (λ (l : List MapWord). Begins v.programs l) (sym (ap (λ (y : View). y.programs) e)) (Begins-refl v.programs);
@@ -157,7 +157,7 @@ module _ (f : Flash) (s : BroomSeat) (o : OpenBlock) (is : (own_blocks s).destin
             let written : t.0.written ≡ e.written = ap (λ (x : Owned). x.written) same in omega arith;
       }
 
-  module _ (t : BroomSeat) (owns : List Owned) (told : broom_view t ≡ record (broom_view s) { owns = owns; work = None }) (blocks : own_blocks t ≡ record (own_blocks s) { destination = None }) (full : o.written ≡ pages_of (geometry_of f)) where
+  module _ (t : BroomSeat) (owns ceded : List Owned) (told : broom_view t ≡ record (broom_view s) { owns = owns; work = None; ceded = ceded }) (blocks : own_blocks t ≡ record (own_blocks s) { destination = None }) (full : o.written ≡ pages_of (geometry_of f)) where
     pub closed_tidied : Tidied (pages_of (geometry_of f)) (broom_view s) (own_blocks s) (broom_view t) (own_blocks t)
     closed_tidied =
         let v = broom_view s in
@@ -167,7 +167,7 @@ module _ (f : Flash) (s : BroomSeat) (o : OpenBlock) (is : (own_blocks s).destin
         record {
           went = record {
             changed = e
-                ∙ (λ i. record v { seen = (sym e i).seen; named = (sym e i).named; owns = (sym e i).owns; work = (sym e i).work; programs = (sym e i).programs; cleared = (sym e i).cleared; source = (sym e i).source; moves = none i });
+                ∙ (λ i. record v { seen = (sym e i).seen; named = (sym e i).named; owns = (sym e i).owns; work = (sym e i).work; programs = (sym e i).programs; cleared = (sym e i).cleared; source = (sym e i).source; moves = none i; ceded = (sym e i).ceded });
             later = subst (λ (l : List Call). Begins v.seen l) (sym (ap (λ (x : View). x.seen) e)) (Begins-refl v.seen);
             named = subst (λ (l : List (ℕ × ℕ)). Begins v.named l) (sym (ap (λ (x : View). x.named) e)) (Begins-refl v.named);
             programmed = subst (λ (l : List MapWord). Begins v.programs l) (sym (ap (λ (x : View). x.programs) e)) (Begins-refl v.programs);

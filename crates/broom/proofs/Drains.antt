@@ -117,8 +117,8 @@ module _ (f : Flash) (v : View) (b : ℕ) (r : Broom) (chosen : Chosen v b r) (r
             some_block (Some p) e = (p, refl)
 
       -- ---- the drain ends
-      module _ (u w : BroomSeat) (copied : ℕ) (went : Relocated (broom_view t) copied (broom_view u)) (bare : (broom_view u).source ≡ None) (sweeps : Sweeps f u victim_of_state) (owned : List Owned)
-          (drained : broom_view w ≡ record (broom_view u) { owns = owned; drains = (broom_view u).drains ++ record { block = b; generation = q.generation } ∷ [] }) (free : own_blocks w ≡ record (own_blocks u) { reclaiming = Nothing }) (none : v.source ≡ None)
+      module _ (u w : BroomSeat) (copied : ℕ) (went : Relocated (broom_view t) copied (broom_view u)) (bare : (broom_view u).source ≡ None) (sweeps : Sweeps f u victim_of_state) (owned ceded : List Owned)
+          (drained : broom_view w ≡ record (broom_view u) { owns = owned; drains = (broom_view u).drains ++ record { block = b; generation = q.generation } ∷ []; ceded = ceded }) (free : own_blocks w ≡ record (own_blocks u) { reclaiming = Nothing }) (none : v.source ≡ None)
           (cleared : (broom_view u).cleared ≡ q.written) (y : BroomBlocks) (same : own_blocks r.seat ≡ y) (emptied : Emptied (pages_of (geometry_of f)) victim_of_state (broom_view t) (own_blocks t) copied (broom_view u) (own_blocks u)) where
         named_is : (broom_view t).named ≡ v.named ++ looks_of chosen.survey.pages
         named_is = ap (λ (y : View). y.named) claimed ∙ ap (λ (y : View). y.named) chosen.changed
@@ -148,21 +148,22 @@ module _ (f : Flash) (v : View) (b : ℕ) (r : Broom) (chosen : Chosen v b r) (r
           cleared = written_in chosen.survey.states b;
           moves = v.moves + copied;
           drains = v.drains ++ record { block = b; generation = generation_in chosen.survey.states b } ∷ [];
+          ceded = ceded;
         }
         all =
             let c : Cycle = record { block = b; generation = q.generation } in
             let x : View = broom_view u in
             let e1 : broom_view w
-            ≡ record (broom_view t) { seen = x.seen; named = x.named; owns = owned; work = x.work; programs = x.programs; cleared = x.cleared; source = x.source; moves = (broom_view t).moves + copied; drains = (broom_view t).drains ++ c ∷ [] } =
-            drained ∙ (λ i. record (went.changed i) { owns = owned; drains = (went.changed i).drains ++ c ∷ [] }) in
+            ≡ record (broom_view t) { seen = x.seen; named = x.named; owns = owned; work = x.work; programs = x.programs; cleared = x.cleared; source = x.source; moves = (broom_view t).moves + copied; drains = (broom_view t).drains ++ c ∷ []; ceded = ceded } =
+            drained ∙ (λ i. record (went.changed i) { owns = owned; drains = (went.changed i).drains ++ c ∷ []; ceded = ceded }) in
             let e2 : broom_view w
-            ≡ record (view_of r) { seen = x.seen; named = x.named; owns = owned; work = x.work; programs = x.programs; cleared = x.cleared; source = x.source; moves = (view_of r).moves + copied; drains = (view_of r).drains ++ c ∷ [] } =
-            e1 ∙ (λ i. record (claimed i) { seen = x.seen; named = x.named; owns = owned; work = x.work; programs = x.programs; cleared = x.cleared; source = x.source; moves = (claimed i).moves + copied; drains = (claimed i).drains ++ c ∷ [] }) in
+            ≡ record (view_of r) { seen = x.seen; named = x.named; owns = owned; work = x.work; programs = x.programs; cleared = x.cleared; source = x.source; moves = (view_of r).moves + copied; drains = (view_of r).drains ++ c ∷ []; ceded = ceded } =
+            e1 ∙ (λ i. record (claimed i) { seen = x.seen; named = x.named; owns = owned; work = x.work; programs = x.programs; cleared = x.cleared; source = x.source; moves = (claimed i).moves + copied; drains = (claimed i).drains ++ c ∷ []; ceded = ceded }) in
             let k = chosen.changed in
             let e3 : broom_view w
-            ≡ record v { seen = x.seen; loaded = (view_of r).loaded; named = x.named; busy = (view_of r).busy; stale = (view_of r).stale; owns = owned; work = x.work; programs = x.programs; cleared = x.cleared; source = x.source; moves = v.moves + copied; drains = v.drains ++ c ∷ [] } =
+            ≡ record v { seen = x.seen; loaded = (view_of r).loaded; named = x.named; busy = (view_of r).busy; stale = (view_of r).stale; owns = owned; work = x.work; programs = x.programs; cleared = x.cleared; source = x.source; moves = v.moves + copied; drains = v.drains ++ c ∷ []; ceded = ceded } =
             e2
-            ∙ (λ i. record (k i) { seen = x.seen; named = x.named; owns = owned; work = x.work; programs = x.programs; cleared = x.cleared; source = x.source; moves = (k i).moves + copied; drains = (k i).drains ++ c ∷ [] }) in
+            ∙ (λ i. record (k i) { seen = x.seen; named = x.named; owns = owned; work = x.work; programs = x.programs; cleared = x.cleared; source = x.source; moves = (k i).moves + copied; drains = (k i).drains ++ c ∷ []; ceded = ceded }) in
             e3
             ∙ (λ i. record v {
               seen = x.seen;
@@ -177,6 +178,7 @@ module _ (f : Flash) (v : View) (b : ℕ) (r : Broom) (chosen : Chosen v b r) (r
               source = (bare ∙ sym none) i;
               moves = v.moves + copied;
               drains = v.drains ++ record { block = b; generation = generation_is i } ∷ [];
+              ceded = ceded;
             })
 
         -- its pages, with the survey behind and the drain ahead
@@ -218,6 +220,7 @@ module _ (f : Flash) (v : View) (b : ℕ) (r : Broom) (chosen : Chosen v b r) (r
                     cleared = written_in chosen.survey.states b;
                     moves = v.moves + copied;
                     drains = v.drains ++ record { block = b; generation = generation_in chosen.survey.states b } ∷ [];
+                    ceded = (sym e i).ceded;
                   });
             }
 

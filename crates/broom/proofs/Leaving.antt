@@ -1,5 +1,6 @@
 -- A broom that gives its open blocks up.
-use Rattle.std.proofs.Common.{◌≡◌, ◌<◌, true, false, List, Option, None, Some, is_some, sym, refl, ap, ◌∙◌, subst}
+use Rattle.std.proofs.Common.{◌≡◌, ◌<◌, ◌++◌, true, false, List, Option, None, Some, is_some, sym, refl, ap, ◌∙◌, subst}
+use Rattle.std.proofs.lemmas.List.{append-nil}
 use Rattle.flash_rule.specs.declared.facts.Owned.{Owned}
 use Rattle.flash_rule.specs.declared.facts.Work.{Work}
 use Rattle.flash_rule.specs.declared.view.View.{View}
@@ -9,7 +10,8 @@ use Rattle.flash_rule.proofs.Owning.{some_same, none_some}
 use Rattle.flash_table.specs.declared.broom_seat.BroomBlocks.{BroomBlocks}
 use Rattle.flash_table.specs.declared.broom_seat.BroomSeat.{BroomSeat}
 use Rattle.flash_table.specs.declared.pass.OpenBlock.{OpenBlock}
-use Rattle.flash_table.specs.Owning.{owned_of}
+use Rattle.flash_table.specs.GivingUp.{left_closed}
+use Rattle.flash_table.specs.Owning.{owned_of, closed_list}
 use Rattle.flash_table.specs.Flash.{broom_view, own_blocks}
 use Rattle.flash_table.proofs.Blocks.{destination_at}
 use Rattle.broom.specs.Ready.{IsFiled}
@@ -31,14 +33,15 @@ nothing None never = refl
 nothing (Some w) never = absurd (never w refl)
 
 -- a broom without a destination fills no page
-pub stays_idle : (v : View) (x : BroomBlocks) → IsFiled v x → x.destination ≡ None → v ≡ record v { work = None }
+pub stays_idle : (v : View) (x : BroomBlocks) → IsFiled v x → x.destination ≡ None → v ≡ record v { work = None; ceded = v.ceded ++ closed_list x.destination }
 stays_idle v x filed none =
     let idle : v.work ≡ None = nothing v.work (λ w is. let d = filed w is in none_some d.0 (sym none ∙ d.1)) in
-    λ i. record v { work = idle i }
+    let ceded : v.ceded ≡ v.ceded ++ closed_list x.destination = sym (append-nil v.ceded) ∙ ap (λ (l : List Owned). v.ceded ++ l) (ap closed_list (sym none)) in
+    λ i. record v { work = idle i; ceded = ceded i }
 
 -- and none after its destination is closed
-pub closes_one : (v w : View) (owns : List Owned) → w ≡ record v { owns = owns; work = None } → w ≡ record v { owns = w.owns; work = None }
-closes_one v w owns is = is ∙ (λ i. record v { owns = (sym is i).owns; work = None })
+pub closes_one : (v w : View) (x : BroomBlocks) (o : OpenBlock) → x.destination ≡ Some o → w ≡ left_closed v o → w ≡ record v { owns = w.owns; work = None; ceded = v.ceded ++ closed_list x.destination }
+closes_one v w x o at is = is ∙ (λ i. record v { owns = (sym is i).owns; work = None; ceded = v.ceded ++ closed_list (sym at i) })
 
 -- there is a block, or none
 pub the_block : (x : Option OpenBlock) → is_some x ≡ true → (o : OpenBlock) × (x ≡ Some o)

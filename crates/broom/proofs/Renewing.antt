@@ -1,16 +1,18 @@
 -- A block that was condemned and wiped, and what the broom owns and tells once its generation is over.
 use Rattle.std.proofs.Common.{◌≡◌, ℕ, ◌+◌, ◌<◌, eq-eqb, ne_eqb, Bool, true, false, MatchBool, List, [], ◌∷◌, ◌++◌, None, Some, sym, refl, ap, ◌∙◌, subst, append-nil, arith}
+use Rattle.std.proofs.lemmas.List.{append-nil}
 use mathlib.Core.Logic.{dite}
 use native.Mathlib.Decide.{ℕ_discrete}
 use Rattle.geometry.specs.Geometry.{endurance_of}
 use Rattle.geometry.specs.Limits.{Numbers}
 use Rattle.geometry.specs.PinWords.{FitsPin, pin_word}
-use Rattle.geometry.specs.declared.pin_word.Phase.TheVariants.{Drained, Erasing}
+use Rattle.geometry.specs.declared.pin_word.Phase.TheVariants.{Drained, Erasing, Retired}
 use Rattle.geometry.specs.declared.pin_word.PinWord.{PinWord}
 use Rattle.geometry.proofs.PinBits.{pin_same}
 use Rattle.flash_rule.specs.declared.facts.Owned.{Owned}
 use Rattle.flash_rule.specs.declared.view.View.{View}
 use Rattle.flash_rule.specs.Views.{owned_at, without, with_owned, AreOfHosts}
+use Rattle.flash_rule.specs.Ceded.{freed_as}
 use Rattle.flash_rule.specs.BroomPlays.{Loaded, owned_as, cycle_of}
 use Rattle.flash_rule.proofs.Owning.{none_some, some_same}
 use Rattle.flash_table.specs.declared.flash.Flash.{Flash}
@@ -22,6 +24,7 @@ use Rattle.flash_table.specs.declared.broom_seat.Reclaiming.TheVariants as recla
 use Rattle.flash_table.specs.declared.pass.OpenBlock.{OpenBlock}
 use Rattle.flash_table.specs.Flash.{IsBroomOf, broom_view, own_blocks, geometry_of, device}
 use Rattle.flash_table.specs.Erasing.{NowErases, words_in_block}
+use Rattle.flash_table.specs.GivingUp.{left_retired}
 use Rattle.flash_table.specs.Owning.{AreApart, blocks_list, owned_of, owned_list, reclaimed_list, reclaimed_as}
 use Rattle.flash_table.proofs.Rows.{at_first, past_first, just_at}
 use Rattle.broom.specs.declared.broom.Broom.{Broom}
@@ -123,29 +126,30 @@ module _ (s t u : BroomSeat) (b : ℕ) (p : PinWord) (h : WasWiped s b p t) wher
   abbrev e : Owned
   e = owned_as b p Erasing
 
-  did_erase : (owns : List Owned) (of_owns : List Owned → List Owned) → broom_view u ≡ record (broom_view t) { owns = of_owns (broom_view t).owns } → of_owns (with_owned e v.owns) ≡ owns → DidErase v b p owns (broom_view u)
-  did_erase owns of_owns told is =
+  did_erase : (owns more : List Owned) (of_owns : List Owned → List Owned) → broom_view u ≡ record (broom_view t) { owns = of_owns (broom_view t).owns; ceded = (broom_view t).ceded ++ more } → of_owns (with_owned e v.owns) ≡ owns
+      → DidErase v b p owns (v.ceded ++ more) (broom_view u)
+  did_erase owns more of_owns told is =
       record {
         fits = h.fits;
         drained = h.drained;
         unread = h.unread;
         changed = told
-            ∙ ((λ j. record (h.changed j) { owns = of_owns (h.changed j).owns })
-            ∙ (λ j. record v { loaded = v.loaded ++ (b, pin_word p) ∷ []; erases = v.erases ++ cycle_of e ∷ []; wiped = words_in_block v.numbers; owns = is j }));
+            ∙ ((λ j. record (h.changed j) { owns = of_owns (h.changed j).owns; ceded = (h.changed j).ceded ++ more })
+            ∙ (λ j. record v { loaded = v.loaded ++ (b, pin_word p) ∷ []; erases = v.erases ++ cycle_of e ∷ []; wiped = words_in_block v.numbers; owns = is j; ceded = v.ceded ++ more }));
       }
 
   given_up : own_blocks u ≡ record (own_blocks t) { reclaiming = reclaiming.Nothing } → own_blocks u ≡ own_blocks s
   given_up blocks = blocks ∙ ((λ j. record (h.blocks j) { reclaiming = reclaiming.Nothing }) ∙ (λ j. record (own_blocks s) { reclaiming = sym h.rested j }))
 
-  pub did_retire : p.generation + 1 ≡ v.numbers.endurance → broom_view u ≡ record (broom_view t) { owns = without b (broom_view t).owns } → own_blocks u ≡ record (own_blocks t) { reclaiming = reclaiming.Nothing }
+  pub did_retire : p.generation + 1 ≡ v.numbers.endurance → broom_view u ≡ left_retired (broom_view t) (condemned b p) → own_blocks u ≡ record (own_blocks t) { reclaiming = reclaiming.Nothing }
       → DidRetire v (own_blocks s) b (broom_view u) (own_blocks u)
-  did_retire last told blocks = record { state = p; erased = did_erase v.owns (without b) told (without_again e v.owns h.fresh); last = last; blocks = given_up blocks }
+  did_retire last told blocks = record { state = p; erased = did_erase v.owns (owned_as b p Retired ∷ []) (without b) told (without_again e v.owns h.fresh); last = last; blocks = given_up blocks }
 
   did_free : p.generation + 1 < v.numbers.endurance → Freed (broom_view t) (own_blocks t) (condemned b p) (broom_view u) (own_blocks u) → DidFree v (own_blocks s) b (broom_view u) (own_blocks u)
   did_free another told =
       record {
         state = p;
-        erased = did_erase v.owns (without b) told.changed (without_again e v.owns h.fresh);
+        erased = did_erase v.owns (freed_as (owned_as b p Erasing) ∷ []) (without b) told.changed (without_again e v.owns h.fresh);
         another = another;
         spare = (told.spare.0, ap (λ (x : BroomBlocks). x.spare) (sym h.blocks) ∙ told.spare.1);
         blocks = given_up told.blocks;
@@ -155,7 +159,10 @@ module _ (s t u : BroomSeat) (b : ℕ) (p : PinWord) (h : WasWiped s b p t) wher
   did_keep another told =
       record {
         state = p;
-        erased = did_erase (owned_of (renewed b p) ∷ v.owns) (with_owned (owned_of (renewed b p))) told.changed (ap (λ (l : List Owned). owned_of (renewed b p) ∷ l) (without_again e v.owns h.fresh));
+        erased = subst (λ (l : List Owned). DidErase v b p (owned_of (renewed b p) ∷ v.owns) l (broom_view u)) (append-nil v.ceded)
+            (did_erase (owned_of (renewed b p) ∷ v.owns) [] (with_owned (owned_of (renewed b p)))
+            (told.changed ∙ (λ j. record (broom_view t) { owns = with_owned (owned_of (renewed b p)) (broom_view t).owns; ceded = sym (append-nil (broom_view t).ceded) j }))
+            (ap (λ (l : List Owned). owned_of (renewed b p) ∷ l) (without_again e v.owns h.fresh)));
         another = another;
         none = ap (λ (x : BroomBlocks). x.spare) (sym h.blocks) ∙ told.none;
         blocks = told.blocks
@@ -177,9 +184,9 @@ told_erased before after b false told = (refl, told)
 
 -- ---- the broom rests again
 -- where its destination is as before, and its spare is as before or a renewed block
-rested_erased : (f : Flash) (s u : BroomSeat) (b : ℕ) (p : PinWord) (owns : List Owned) → IsRested f s → IsBroomOf f u → DidErase (broom_view s) b p owns (broom_view u)
+rested_erased : (f : Flash) (s u : BroomSeat) {owns ceded : List Owned} (b : ℕ) (p : PinWord) → IsRested f s → IsBroomOf f u → DidErase (broom_view s) b p owns ceded (broom_view u)
     → (own_blocks u).destination ≡ (own_blocks s).destination → ((o : OpenBlock) → (own_blocks u).spare ≡ Some o → HasRoom (geometry_of f) 1 o) → (own_blocks u).reclaiming ≡ reclaiming.Nothing → IsRested f u
-rested_erased f s u b p owns h seat did destination spare reclaims =
+rested_erased f s u b p h seat did destination spare reclaims =
     let changed = did.changed in
     record {
       seat = seat;
@@ -194,23 +201,23 @@ rested_erased f s u b p owns h seat did destination spare reclaims =
     }
 
 -- with the blocks as before
-same_blocks : (f : Flash) (s u : BroomSeat) (b : ℕ) (p : PinWord) (owns : List Owned) → IsRested f s → IsBroomOf f u → DidErase (broom_view s) b p owns (broom_view u) → own_blocks u ≡ own_blocks s → IsRested f u
-same_blocks f s u b p owns h seat did blocks =
-    rested_erased f s u b p owns h seat did (ap (λ (x : BroomBlocks). x.destination) blocks) (λ o is. h.spare o (ap (λ (x : BroomBlocks). x.spare) (sym blocks) ∙ is)) (ap (λ (x : BroomBlocks). x.reclaiming) blocks ∙ h.reclaiming)
+same_blocks : (f : Flash) (s u : BroomSeat) {owns ceded : List Owned} (b : ℕ) (p : PinWord) → IsRested f s → IsBroomOf f u → DidErase (broom_view s) b p owns ceded (broom_view u) → own_blocks u ≡ own_blocks s → IsRested f u
+same_blocks f s u b p h seat did blocks =
+    rested_erased f s u b p h seat did (ap (λ (x : BroomBlocks). x.destination) blocks) (λ o is. h.spare o (ap (λ (x : BroomBlocks). x.spare) (sym blocks) ∙ is)) (ap (λ (x : BroomBlocks). x.reclaiming) blocks ∙ h.reclaiming)
 
 module _ (f : Flash) (s u : BroomSeat) (b : ℕ) (h : IsRested f s) (seat : IsBroomOf f u) where
   pub rested_retired : DidRetire (broom_view s) (own_blocks s) b (broom_view u) (own_blocks u) → IsRested f u
-  rested_retired did = same_blocks f s u b did.state (broom_view s).owns h seat did.erased did.blocks
+  rested_retired did = same_blocks f s u b did.state h seat did.erased did.blocks
 
   rested_freed : DidFree (broom_view s) (own_blocks s) b (broom_view u) (own_blocks u) → IsRested f u
-  rested_freed did = same_blocks f s u b did.state (broom_view s).owns h seat did.erased did.blocks
+  rested_freed did = same_blocks f s u b did.state h seat did.erased did.blocks
 
   rested_kept : b < (device f).blocks → DidKeep (broom_view s) (own_blocks s) b (broom_view u) (own_blocks u) → IsRested f u
   rested_kept low did =
       let n : OpenBlock = renewed b did.state in
       let young : did.state.generation + 1 < endurance_of (geometry_of f) = subst (λ (z : Numbers). did.state.generation + 1 < z.endurance) h.seat.numbers did.another in
       let room : HasRoom (geometry_of f) 1 n = record { low = low; room = omega arith; young = young } in
-      rested_erased f s u b did.state (owned_of n ∷ (broom_view s).owns) h seat did.erased (ap (λ (x : BroomBlocks). x.destination) did.blocks)
+      rested_erased f s u b did.state h seat did.erased (ap (λ (x : BroomBlocks). x.destination) did.blocks)
       (λ o is. subst (HasRoom (geometry_of f) 1) (some_same n o (sym (ap (λ (x : BroomBlocks). x.spare) did.blocks) ∙ is)) room)
       (ap (λ (x : BroomBlocks). x.reclaiming) did.blocks ∙ h.reclaiming)
 

@@ -30,18 +30,18 @@ relocated_none v =
 
 -- a view whose fields were set, by its own fields
 settled : (v w : View) (moves : ℕ) (x : View)
-    → w ≡ record v { seen = x.seen; named = x.named; owns = x.owns; work = x.work; programs = x.programs; cleared = x.cleared; source = x.source; moves = moves }
-    → w ≡ record v { seen = w.seen; named = w.named; owns = w.owns; work = w.work; programs = w.programs; cleared = w.cleared; source = w.source; moves = moves }
+    → w ≡ record v { seen = x.seen; named = x.named; owns = x.owns; work = x.work; programs = x.programs; cleared = x.cleared; source = x.source; moves = moves; ceded = x.ceded }
+    → w ≡ record v { seen = w.seen; named = w.named; owns = w.owns; work = w.work; programs = w.programs; cleared = w.cleared; source = w.source; moves = moves; ceded = w.ceded }
 settled v w moves x e =
     e
-    ∙ (λ i. record v { seen = (sym e i).seen; named = (sym e i).named; owns = (sym e i).owns; work = (sym e i).work; programs = (sym e i).programs; cleared = (sym e i).cleared; source = (sym e i).source; moves = moves })
+    ∙ (λ i. record v { seen = (sym e i).seen; named = (sym e i).named; owns = (sym e i).owns; work = (sym e i).work; programs = (sym e i).programs; cleared = (sym e i).cleared; source = (sym e i).source; moves = moves; ceded = (sym e i).ceded })
 
 pub relocated_then : (u v w : View) (a b n : ℕ) → a + b ≡ n → Relocated u a v → Relocated v b w → Relocated u n w
 relocated_then u v w a b n sum first second =
     let moves : v.moves + b ≡ u.moves + n = let m : v.moves ≡ u.moves + a = ap (λ (x : View). x.moves) first.changed in omega arith in
     record {
       changed = second.changed
-          ∙ (λ i. record (first.changed i) { seen = w.seen; named = w.named; owns = w.owns; work = w.work; programs = w.programs; cleared = w.cleared; source = w.source; moves = moves i });
+          ∙ (λ i. record (first.changed i) { seen = w.seen; named = w.named; owns = w.owns; work = w.work; programs = w.programs; cleared = w.cleared; source = w.source; moves = moves i; ceded = w.ceded });
       later = Begins-trans u.seen v.seen w.seen first.later second.later;
       named = Begins-trans u.named v.named w.named first.named second.named;
       programmed = Begins-trans u.programs v.programs w.programs first.programmed second.programmed;

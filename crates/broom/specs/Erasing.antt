@@ -1,10 +1,12 @@
 -- What an erase tells of what its broom knows, before and after.
 use Rattle.std.specs.Prelude.{◌≡◌, ℕ, ◌+◌, ◌<◌, true, false, List, [], ◌∷◌, ◌++◌, None, Some}
 use Rattle.geometry.specs.PinWords.{FitsPin, pin_word}
-use Rattle.geometry.specs.declared.pin_word.Phase.TheVariants.{Drained}
+use Rattle.geometry.specs.declared.pin_word.Phase.TheVariants.{Drained, Erasing, Retired}
 use Rattle.geometry.specs.declared.pin_word.PinWord.{PinWord}
 use Rattle.flash_rule.specs.declared.facts.Owned.{Owned}
 use Rattle.flash_rule.specs.declared.view.View.{View}
+use Rattle.flash_rule.specs.Ceded.{freed_as}
+use Rattle.flash_rule.specs.BroomPlays.{owned_as}
 use Rattle.flash_table.specs.declared.broom_seat.BroomBlocks.{BroomBlocks}
 use Rattle.flash_table.specs.declared.pass.OpenBlock.{OpenBlock}
 use Rattle.flash_table.specs.Erasing.{words_in_block}
@@ -30,8 +32,8 @@ pub record FoundPinned (v : View) (b : ℕ) (w : View) : Type 0 where
   pub changed : w ≡ record v { loaded = v.loaded ++ (b, pin_word state) ∷ []; busy = v.busy ++ b ∷ [] }
 
 -- This state of the block was loaded, as drained and without readers, and in it the block was condemned: its erase is listed, and all of
--- its words were wiped. The broom now owns these blocks
-pub record DidErase (v : View) (b : ℕ) (state : PinWord) (owns : List Owned) (w : View) : Type 0 where
+-- its words were wiped. The broom now owns these blocks, and has given up those
+pub record DidErase (v : View) (b : ℕ) (state : PinWord) (owns ceded : List Owned) (w : View) : Type 0 where
   pub fits : FitsPin state
   pub drained : state.phase ≡ Drained
   pub unread : state.readers ≡ 0
@@ -40,6 +42,7 @@ pub record DidErase (v : View) (b : ℕ) (state : PinWord) (owns : List Owned) (
     erases = v.erases ++ record { block = b; generation = state.generation } ∷ [];
     wiped = words_in_block v.numbers;
     owns = owns;
+    ceded = ceded;
   }
 
 -- a block as a new generation begins: open, with nothing written
@@ -49,23 +52,23 @@ renewed b state = record { block = b; generation = state.generation + 1; written
 -- The block was erased and has another generation to live. The broom had no spare, and has the block as its spare now
 pub record DidKeep (v : View) (x : BroomBlocks) (b : ℕ) (w : View) (y : BroomBlocks) : Type 0 where
   pub state : PinWord
-  pub erased : DidErase v b state (owned_of (renewed b state) ∷ v.owns) w
+  pub erased : DidErase v b state (owned_of (renewed b state) ∷ v.owns) v.ceded w
   pub another : state.generation + 1 < v.numbers.endurance
   pub none : x.spare ≡ None
   pub blocks : y ≡ record x { spare = Some (renewed b state) }
 
--- The block was erased and has another generation to live. The broom had a spare, and owns what it owned before
+-- The block was erased and has another generation to live. The broom had a spare, owns what it owned before, and left the block free
 pub record DidFree (v : View) (x : BroomBlocks) (b : ℕ) (w : View) (y : BroomBlocks) : Type 0 where
   pub state : PinWord
-  pub erased : DidErase v b state v.owns w
+  pub erased : DidErase v b state v.owns (v.ceded ++ freed_as (owned_as b state Erasing) ∷ []) w
   pub another : state.generation + 1 < v.numbers.endurance
   pub spare : (o : OpenBlock) × (x.spare ≡ Some o)
   pub blocks : y ≡ x
 
--- The block was erased in its last generation. The broom owns what it owned before
+-- The block was erased in its last generation. The broom owns what it owned before, and left the block retired
 pub record DidRetire (v : View) (x : BroomBlocks) (b : ℕ) (w : View) (y : BroomBlocks) : Type 0 where
   pub state : PinWord
-  pub erased : DidErase v b state v.owns w
+  pub erased : DidErase v b state v.owns (v.ceded ++ owned_as b state Retired ∷ []) w
   pub last : state.generation + 1 ≡ v.numbers.endurance
   pub blocks : y ≡ x
 

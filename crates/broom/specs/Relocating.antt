@@ -48,7 +48,7 @@ room_left pages x = room_in pages x.destination + room_in pages x.spare
 
 -- The broom went on with its victim: so many pages were moved, and what was programmed, seen and looked at was added at the ends
 pub record Relocated (v : View) (copied : ℕ) (w : View) : Type 0 where
-  pub changed : w ≡ record v { seen = w.seen; named = w.named; owns = w.owns; work = w.work; programs = w.programs; cleared = w.cleared; source = w.source; moves = v.moves + copied }
+  pub changed : w ≡ record v { seen = w.seen; named = w.named; owns = w.owns; work = w.work; programs = w.programs; cleared = w.cleared; source = w.source; moves = v.moves + copied; ceded = w.ceded }
   pub later : Begins v.seen w.seen
   pub named : Begins v.named w.named
   pub programmed : Begins v.programs w.programs

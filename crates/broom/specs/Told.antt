@@ -66,6 +66,7 @@ pub record DidDrain (v : View) (x : BroomBlocks) (block copied : ℕ) (w : View)
     cleared = (victim_in survey block).written;
     moves = v.moves + copied;
     drains = v.drains ++ record { block = block; generation = generation_in survey.states block } ∷ [];
+    ceded = w.ceded;
   }
 
 -- What each answer of a drain tells. The blocks of the broom's own stay where it drained none. A drain has nothing to do with the queue

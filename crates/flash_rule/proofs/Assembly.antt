@@ -17,6 +17,7 @@ use Rattle.flash_rule.specs.declared.facts.Pin.TheVariants.{Clear}
 use Rattle.flash_rule.specs.declared.view.View.{View}
 use Rattle.flash_rule.specs.Views.{one_if, total, is_pass, pin_is_on, pins_on, weight, role_weight, owned_at, AreOfHosts, calls_of}
 use Rattle.flash_rule.specs.World.{World, is_owned, is_nameable, is_still}
+use Rattle.flash_rule.specs.Ceded.{LawfulCeded}
 use Rattle.flash_rule.specs.Rule.{IsCurrent, LawfulSector, LawfulBlock, LawfulKind, LawfulView, Lawful}
 use Rattle.flash_rule.specs.Onward.{Onward}
 use Rattle.flash_rule.proofs.Points.{total_set}
@@ -25,8 +26,8 @@ use Rattle.flash_rule.proofs.Frames.{others}
 -- The seat with the view v makes a step after which it has the view w, and the table is g' instead of g
 pub assembled : (z : Numbers) (g g' : World) (vs : List View) (id : ℕ) (v w : View) → Lawful z g vs → get_elem? vs id ≡ some v → Onward z g g' id id → LawfulView z g' id w
     → ((s : ℕ) → s < z.sectors → LawfulSector z g' s) → AreOfHosts z g'.history → ((b : ℕ) → b < z.blocks → LawfulBlock z g' (set vs id w) b)
-    → ((t : ℕ) → g'.passes ≤ t → calls_of t g'.history ≡ []) → weight z w ≡ weight z v → g'.passes ≤ z.hosts → Lawful z g' (set vs id w)
-assembled z g g' vs id v w law at on own sectors callers blocks strangers weighs dealt =
+    → ((t : ℕ) → g'.passes ≤ t → calls_of t g'.history ≡ []) → weight z w ≡ weight z v → g'.passes ≤ z.hosts → LawfulCeded z g'.pins (set vs id w) → Lawful z g' (set vs id w)
+assembled z g g' vs id v w law at on own sectors callers blocks strangers weighs dealt ceded =
     record {
       limits = law.limits;
       sectors = sectors;
@@ -38,6 +39,7 @@ assembled z g g' vs id v w law at on own sectors callers blocks strangers weighs
       strangers = strangers;
       seats = (let s = total_set (weight z) vs id v w at in let e = law.seats in omega arith);
       dealt = dealt;
+      ceded = ceded;
     }
 
 -- The owner of a block keeps it over a step

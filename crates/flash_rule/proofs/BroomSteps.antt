@@ -99,7 +99,7 @@ module _ (z : Numbers) (g : World) (vs : List View) (id : ℕ) (v : View) (n : N
           dealer = holds.dealer;
         };
       })
-      (λ b. refl) refl refl
+      (λ b. refl) refl refl refl refl refl
 
   -- ---- the source
   module _ (x : Source) (is : v.source ≡ Some x) where

@@ -18,11 +18,12 @@ use Rattle.flash_rule.specs.Rule.{LawfulOwned, LawfulView, IsDealt, IsFilling}
 use Rattle.flash_rule.specs.Onward.{Onward}
 use Rattle.flash_rule.specs.Seats.{Ruled, spare, spares, next_spare, new_broom, dealt_broom}
 use Rattle.flash_rule.proofs.Points.{put_here, put_else, eq_self}
-use Rattle.flash_rule.proofs.Owning.{some_same, none_some, with_here, with_else, without_here, without_else, owned_else, one_with_open, one_without}
+use Rattle.flash_rule.proofs.Owning.{some_same, none_some, nothing, with_here, with_else, without_here, without_else, owned_else, one_with_open, one_without}
+use Rattle.flash_rule.proofs.Ceding.{ceded_split}
 use Rattle.flash_rule.proofs.Frames.{counted, knowledge_kept}
 use Rattle.flash_rule.proofs.Assembly.{owner_kept}
 use Rattle.flash_rule.proofs.Still.{pin_stays}
-use Rattle.flash_rule.proofs.Splitting.{Owner, split_with, current_kept, name_here, name_else, player_same, nothing}
+use Rattle.flash_rule.proofs.Splitting.{Owner, split_with, current_kept, name_here, name_else, player_same}
 
 -- the dealer's spares, one by one
 pub first_spare : (n from : ℕ) → owned_at from (spares (suc n) from) ≡ Some (spare from)
@@ -165,7 +166,8 @@ module _ (z : Numbers) (id : ℕ) (v : View) where
         g',
         fits,
         split_with z g g' vs id v (dealt_broom v) (new_broom v) law at refl refl on refl own added (λ c. refl) refl owners weighs (omega arith) law.dealt
-            (λ s low. current_kept z g g' s refl refl refl refl (law.sectors s low)),
+            (λ s low. current_kept z g g' s refl refl refl refl (law.sectors s low))
+            (ceded_split z g.pins vs id v (dealt_broom v) (new_broom v) law.ceded at refl refl refl refl refl),
       )
     where
       dealt_more : (g g' : World) → g'.passes ≡ g.passes → g.brooms ≤ g'.brooms → (m : Name) → IsDealt g m → IsDealt g' m

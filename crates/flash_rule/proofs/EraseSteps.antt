@@ -1,5 +1,6 @@
 -- The eraser's steps on the pin word of its block: the wiped block gets free or is kept in its next generation, or it retires.
-use Rattle.std.proofs.Common.{◌≡◌, ◌≢◌, ℕ, ◌+◌, ◌*◌, ◌<◌, true, false, List, Some, set, sym, refl, ap, ◌∙◌, subst, arith}
+use Rattle.std.proofs.Common.{◌≡◌, ◌≢◌, ℕ, ◌+◌, ◌*◌, ◌<◌, inl, inr, true, false, List, [], ◌∷◌, ◌++◌, Some, set, sym, refl, ap, ◌∙◌, subst, arith}
+use Rattle.std.proofs.lemmas.List.{append-nil}
 use mathlib.Core.Option.{some}
 use lib.ListN.{get_elem?}
 use Rattle.geometry.specs.Limits.{Numbers}
@@ -8,15 +9,17 @@ use Rattle.geometry.specs.declared.pin_word.Phase.TheVariants.{Free, Open, Victi
 use Rattle.flash_rule.specs.declared.facts.Owned.{Owned}
 use Rattle.flash_rule.specs.declared.facts.Source.{Source}
 use Rattle.flash_rule.specs.declared.view.View.{View}
-use Rattle.flash_rule.specs.Views.{owned_at, without, with_owned}
+use Rattle.flash_rule.specs.Views.{may_own, owned_at, without, with_owned}
 use Rattle.flash_rule.specs.World.{World, put, is_intact, is_nameable, half_cycle, IsBlank}
+use Rattle.flash_rule.specs.Ceded.{rank, freed_as}
 use Rattle.flash_rule.specs.Rule.{LawfulOwned, LawfulSource, Lawful}
 use Rattle.flash_rule.specs.BroomPlays.{IsErasing, CanRenew}
 use Rattle.flash_rule.proofs.Points.{put_here}
 use Rattle.flash_rule.proofs.Places.{row_within}
-use Rattle.flash_rule.proofs.Owning.{some_same, with_here, with_else, without_else, one_with_open, one_without}
+use Rattle.flash_rule.proofs.Owning.{owns_none_else, may_own_else, some_same, with_here, with_else, without_else, one_with_open, one_without}
 use Rattle.flash_rule.proofs.PinSteps.{turned}
-use Rattle.flash_rule.proofs.Reclaiming.{turns, entry_set, entry_gone, owner_numbers, owns_none_else}
+use Rattle.flash_rule.proofs.Ceding.{ceded_owned, ceded_last}
+use Rattle.flash_rule.proofs.Reclaiming.{turns, entry_set, entry_gone, owner_numbers}
 
 module _ (z : Numbers) (g : World) (vs : List View) (id : ℕ) (v : View) (o : Owned) (law : Lawful z g vs) (at : get_elem? vs id ≡ some v) (erasing : IsErasing v o) where
   entry : LawfulOwned z g id v.work v.cleared v.wiped o.block o
@@ -50,23 +53,32 @@ module _ (z : Numbers) (g : World) (vs : List View) (id : ℕ) (v : View) (o : O
   pub eraser_numbers : v.numbers ≡ z
   eraser_numbers = owner_numbers z v o (law.views id v at).kind erasing.own
 
+  eraser_owns : may_own v.role ≡ true
+  eraser_owns = may_own_else v.role (λ is. owns_none_else v.owns o erasing.own ((law.views id v at).kind.owns_none is))
+
   -- ---- retire
   abbrev pub retired_state : PinWord
   retired_state = record (g.pins o.block) { phase = Retired }
 
-  abbrev pub forgoer : View
-  forgoer = record v { owns = without o.block v.owns }
+  abbrev pub retired_block : Owned
+  retired_block = record o { phase = Retired }
+
+  abbrev pub retirer : View
+  retirer = record v { owns = without o.block v.owns; ceded = v.ceded ++ retired_block ∷ [] }
 
   abbrev pub retire_world : World
   retire_world = turned g o.block retired_state id g.programmer g.eraser
 
   -- a block that is being erased retires
-  pub retires : Lawful z retire_world (set vs id forgoer)
+  pub retires : Lawful z retire_world (set vs id retirer)
   retires =
       let b : ℕ = o.block in
       let h = law.views id v at in
       let block = law.blocks b entry.low in
-      turns z g vs id v b retired_state (without b v.owns) v.erases v.cleared v.wiped v.drains g.eraser law at entry.low
+      turns z g vs id v b retired_state (without b v.owns) v.erases v.cleared v.wiped v.drains (v.ceded ++ retired_block ∷ []) g.eraser law at entry.low
+      (ceded_last z g.pins vs id v retirer law.ceded at refl b retired_state entry.low
+      (inr (refl, (let e : rank (g.pins b).phase ≡ 5 = ap rank is_erasing in omega arith), omega arith))
+      retired_block (λ i. record { block = b; phase = Retired; generation = sym entry.generation i; written = sym entry.written i }) refl (sym (append-nil v.drains)) eraser_owns)
       (record {
         onward = record {
           generation = omega arith;
@@ -117,15 +129,20 @@ module _ (z : Numbers) (g : World) (vs : List View) (id : ℕ) (v : View) (o : O
   abbrev pub freed_state : PinWord
   freed_state = record (g.pins o.block) { phase = Free; written = 0; generation = (g.pins o.block).generation + 1 }
 
+  abbrev pub freer : View
+  freer = record v { owns = without o.block v.owns; ceded = v.ceded ++ freed_as o ∷ [] }
+
   abbrev pub free_world : World
   free_world = turned g o.block freed_state id g.programmer g.eraser
 
   -- a wiped block is free in its next generation
-  pub frees : CanRenew v o → Lawful z free_world (set vs id forgoer)
+  pub frees : CanRenew v o → Lawful z free_world (set vs id freer)
   frees can =
       let b : ℕ = o.block in
       let h = law.views id v at in
-      turns z g vs id v b freed_state (without b v.owns) v.erases v.cleared v.wiped v.drains g.eraser law at entry.low
+      turns z g vs id v b freed_state (without b v.owns) v.erases v.cleared v.wiped v.drains (v.ceded ++ freed_as o ∷ []) g.eraser law at entry.low
+      (ceded_last z g.pins vs id v freer law.ceded at refl b freed_state entry.low (inl (omega arith)) (freed_as o)
+      (λ i. record { block = b; phase = Free; generation = sym entry.generation i + 1; written = 0 }) refl (sym (append-nil v.drains)) eraser_owns)
       (record {
         onward = record {
           generation = omega arith;
@@ -188,7 +205,8 @@ module _ (z : Numbers) (g : World) (vs : List View) (id : ℕ) (v : View) (o : O
         dead = λ is. absurd (cc);
         clean = λ is. absurd (cc);
       } in
-      turns z g vs id v b kept_state (with_owned kept_block v.owns) v.erases v.cleared v.wiped v.drains g.eraser law at entry.low
+      turns z g vs id v b kept_state (with_owned kept_block v.owns) v.erases v.cleared v.wiped v.drains v.ceded g.eraser law at entry.low
+      (ceded_owned z g.pins vs id v keeper law.ceded at refl b kept_state refl refl refl (inl (omega arith)))
       (record {
         onward = record {
           generation = omega arith;
@@ -211,7 +229,7 @@ module _ (z : Numbers) (g : World) (vs : List View) (id : ℕ) (v : View) (o : O
         there = λ c unlike. with_else kept_block c v.owns unlike;
         here = λ e is. subst (λ (y : Owned). LawfulOwned z keep_world id v.work v.cleared v.wiped b y) (entry_set kept_block e v.owns is) fresh;
         opens = λ _ e is. sym (ap (λ (y : Owned). y.phase) (entry_set kept_block e v.owns is));
-        owns_none = λ is. absurd (owns_none_else v o erasing.own (h.kind.owns_none is));
+        owns_none = λ is. absurd (owns_none_else v.owns o erasing.own (h.kind.owns_none is));
         reclaims = one_with_open kept_block v.owns refl h.kind.reclaims;
         idle = λ is. (h.kind.idle is).3;
         erases = λ n _ old. old;

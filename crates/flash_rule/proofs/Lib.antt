@@ -4,6 +4,7 @@ pub mod Owning
 pub mod Frames
 pub mod Places
 pub mod Assembly
+pub mod Ceding
 pub mod Still
 pub mod PinSteps
 pub mod OwnSteps
@@ -25,3 +26,5 @@ pub mod ReclaimAllowed
 pub mod Steps
 pub mod BroomAllowed
 pub mod Histories
+pub mod Forcing
+pub mod ForcedWords

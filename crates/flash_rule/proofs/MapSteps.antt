@@ -21,6 +21,7 @@ use Rattle.flash_rule.specs.Plays.{Placed}
 use Rattle.flash_rule.proofs.Points.{put_else, put_all}
 use Rattle.flash_rule.proofs.Frames.{counted, knowledge_kept}
 use Rattle.flash_rule.proofs.Assembly.{assembled, block_kept, sector_kept}
+use Rattle.flash_rule.proofs.Ceding.{ceded_still}
 use Rattle.flash_rule.proofs.Still.{pin_stays, pass_numbers}
 
 calls_else : (t : ℕ) (h : List Call) (c : Call) → caller c ≢ t → calls_of t (h ++ c ∷ []) ≡ calls_of t h
@@ -139,7 +140,7 @@ module _ (z : Numbers) (g : World) (vs : List View) (id : ℕ) (v : View) (t s :
       called_by_hosts
       (λ b low. block_kept z g g' vs id v placer b at (law.blocks b low) refl refl (λ p i. refl) refl (λ o is. (o, is)))
       (λ u free. calls_else u g.history c (λ same. let d = named.1 in let e : t ≡ u = sym by_me ∙ same in absurd (omega arith)) ∙ law.strangers u free)
-      refl law.dealt
+      refl law.dealt (ceded_still z g.pins vs id v placer law.ceded at refl refl refl)
 
   -- what the pass is told
   pub placed : LawfulSector z g s → (n : ℕ) → n ≡ sector_word (g.map s) → Placed v c s n placer

@@ -25,6 +25,7 @@ use Rattle.flash_rule.proofs.Points.{put_here, put_else, put_all}
 use Rattle.flash_rule.proofs.Owning.{some_same, none_some}
 use Rattle.flash_rule.proofs.Frames.{counted, knowledge_kept}
 use Rattle.flash_rule.proofs.Assembly.{assembled, block_kept, sector_kept}
+use Rattle.flash_rule.proofs.Ceding.{ceded_still}
 use Rattle.flash_rule.proofs.Still.{pin_stays, met_now}
 use Rattle.flash_rule.proofs.Calls.{filled}
 use Rattle.flash_rule.proofs.BroomSteps.{numbers_same, callers_now, clears, seer, sees, its, source_named, source_clears, source_value}
@@ -160,7 +161,7 @@ module _ (z : Numbers) (g : World) (vs : List View) (id : ℕ) (v : View) (n : N
         (λ unlike. sector_kept z g exchanged_world s (law.sectors s s_low) (put_else g.map x.stamp (Some copy) s unlike) refl (λ b _ is. (refl, is, omega arith, λ p i _. refl))))
         law.callers
         (λ b b_low. block_kept z g exchanged_world vs id v (mover (v.moves + 1)) b at (law.blocks b b_low) refl refl (λ p i. refl) refl (λ o is. (o, is)))
-        law.strangers refl law.dealt
+        law.strangers refl law.dealt (ceded_still z g.pins vs id v (mover (v.moves + 1)) law.ceded at refl refl refl)
 
     pub move_told_here : (word : ℕ) → word ≡ map_word x.page → Moved v x word (mover (v.moves + 1))
     move_told_here word found =

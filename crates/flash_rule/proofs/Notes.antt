@@ -25,6 +25,7 @@ use Rattle.flash_rule.specs.Onward.{Onward}
 use Rattle.flash_rule.specs.Seats.{Ruled, newcomer, name_of, carried, lender, lent_note, host_of, giver, given_note, home, gone}
 use Rattle.flash_rule.proofs.Points.{total_set}
 use Rattle.flash_rule.proofs.Owning.{some_same, none_some}
+use Rattle.flash_rule.proofs.Ceding.{ceded_split, ceded_gone}
 use Rattle.flash_rule.proofs.Frames.{counted, others, knowledge_kept, copy_kept}
 use Rattle.flash_rule.proofs.Assembly.{owner_kept}
 use Rattle.flash_rule.proofs.Still.{pin_stays}
@@ -141,7 +142,8 @@ module _ (z : Numbers) (id : ℕ) (v : View) (n : Name) (role : v.role ≡ Playe
       (note_lawful z g' new v n n numbers role knows (name_here g.badge n new) (as_dealt g n new n named.1)) in (
         g',
         fits,
-        split z g g' vs id v (lender v) (lent_note v) law at refl refl refl on refl own added (λ b. refl) refl refl (omega arith) (omega arith) law.dealt (λ s low. current_kept z g g' s refl refl refl refl (law.sectors s low)),
+        split z g g' vs id v (lender v) (lent_note v) law at refl refl refl on refl own added (λ b. refl) refl refl (omega arith) (omega arith) law.dealt (λ s low. current_kept z g g' s refl refl refl refl (law.sectors s low))
+            (ceded_split z g.pins vs id v (lender v) (lent_note v) law.ceded at refl refl refl refl refl),
       )
 
   -- GIVE BACK
@@ -176,7 +178,8 @@ module _ (z : Numbers) (id : ℕ) (v : View) (n : Name) (role : v.role ≡ Playe
       (note_lawful z g' new v n m numbers role knows (name_here g.badge m new) (as_dealt g m new m was.1)) in (
         g',
         fits,
-        split z g g' vs id v (giver v) (given_note v) law at refl refl refl on refl own added (λ b. refl) refl refl (omega arith) (omega arith) law.dealt (λ s low. current_kept z g g' s refl refl refl refl (law.sectors s low)),
+        split z g g' vs id v (giver v) (given_note v) law at refl refl refl on refl own added (λ b. refl) refl refl (omega arith) (omega arith) law.dealt (λ s low. current_kept z g g' s refl refl refl refl (law.sectors s low))
+            (ceded_split z g.pins vs id v (giver v) (given_note v) law.ceded at refl refl refl refl refl),
       )
 
 -- a badge put where it is said to be
@@ -233,8 +236,8 @@ module _ (z : Numbers) (g : World) (vs : List View) (id other : ℕ) (v w u : Vi
             (λ unlike. (k.0, k.1, set_else (set vs id u) other (g.owner b) gone unlike ∙ k.2, k.3));
       }
 
-  pub join : (g.badge n ≡ id) ⊎ (g.badge n ≡ other) → LawfulView z (badged g n id) id u → ((b : ℕ) → pins_on b u ≡ pins_on b v) → u.owns ≡ v.owns → weight z u ≡ weight z v → Lawful z (badged g n id) (set (set vs id u) other gone)
-  join was own same owns weighs =
+  pub join : (g.badge n ≡ id) ⊎ (g.badge n ≡ other) → LawfulView z (badged g n id) id u → ((b : ℕ) → pins_on b u ≡ pins_on b v) → u.owns ≡ v.owns → weight z u ≡ weight z v → u.role ≡ v.role → u.ceded ≡ v.ceded → u.drains ≡ v.drains → Lawful z (badged g n id) (set (set vs id u) other gone)
+  join was own same owns weighs role ceded drains =
       let g' = badged g n id in
       let on : Onward z g g' id other = badge_moves z g id other n id was in
       let there' : get_elem? (set vs id u) other ≡ some w = set_else vs id other u apart ∙ there in
@@ -253,6 +256,7 @@ module _ (z : Numbers) (g : World) (vs : List View) (id other : ℕ) (v w u : Vi
         strangers = law.strangers;
         seats = (let s = total_set (weight z) vs id v u at in let t = total_set (weight z) (set vs id u) other w gone there' in let e = law.seats in let none : weight z w ≡ 0 = ap (λ r. role_weight z.hosts r w.passes) note in omega arith);
         dealt = law.dealt;
+        ceded = ceded_gone z g.pins vs id other v w u gone law.ceded at apart there (ap may_own note) role ceded drains refl refl;
       }
 
 module _ (z : Numbers) (id other : ℕ) (v w : View) (n m : Name) (c : Carried) (role : v.role ≡ Player n) (note : w.role ≡ Note) (guest : w.guest ≡ Some m) (copy : w.copy ≡ Some c) where
@@ -300,7 +304,7 @@ module _ (z : Numbers) (id other : ℕ) (v w : View) (n m : Name) (c : Carried) 
           dealer = λ is. let e : Player n ≡ Dealer = sym role ∙ is in absurd (cc);
         };
       } in
-      (g', fits, join z g vs id other v w (host_of v w) m law at apart there' note (inr was.0) own (λ b. refl) refl refl)
+      (g', fits, join z g vs id other v w (host_of v w) m law at apart there' note (inr was.0) own (λ b. refl) refl refl refl refl refl)
 
   -- COME HOME
   pub comes_home : m ≡ n → ¬ (v.role ≡ Player c.of) → Joins (Ruled z) id v other w (home v w) gone
@@ -343,4 +347,4 @@ module _ (z : Numbers) (id other : ℕ) (v w : View) (n m : Name) (c : Carried) 
           dealer = λ is. let e : Player n ≡ Dealer = sym role ∙ is in absurd (cc);
         };
       } in
-      (g', fits, join z g vs id other v w (home v w) m law at apart there' note (inr was.0) own (λ b. refl) refl refl)
+      (g', fits, join z g vs id other v w (home v w) m law at apart there' note (inr was.0) own (λ b. refl) refl refl refl refl refl)

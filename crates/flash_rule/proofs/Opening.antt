@@ -1,5 +1,5 @@
 -- The table at the start meets the rule.
-use Rattle.std.proofs.Common.{◌≡◌, ℕ, zero, suc, ◌*◌, ◌+◌, ◌-◌, ◌<◌, ◌≤◌, eq-eqb, ne_eqb, true, false, List, [], ◌∷◌, ◌++◌, None, Some, length, replicate, sym, refl, ap, ◌∙◌, subst, arith, length-append}
+use Rattle.std.proofs.Common.{◌≡◌, ℕ, zero, suc, ◌*◌, ◌+◌, ◌-◌, ◌<◌, ◌≤◌, inl, eq-eqb, ne_eqb, true, false, List, [], ◌∷◌, ◌++◌, None, Some, length, replicate, slice_get, sym, refl, ap, ◌∙◌, subst, arith, length-append}
 use Rattle.std.proofs.lemmas.List.{length-replicate}
 use Rattle.std.proofs.lemmas.List.Elements.{All-nil}
 use Rattle.std.proofs.Math.ListN.{get_or}
@@ -19,9 +19,10 @@ use Rattle.flash_rule.specs.declared.facts.Owned.{Owned}
 use Rattle.flash_rule.specs.declared.view.View.{View}
 use Rattle.flash_rule.specs.Views.{owned_at, caller}
 use Rattle.flash_rule.specs.World.{World, Fits, is_owned, is_reclaimed, blank_word}
+use Rattle.flash_rule.specs.Ceded.{IsCededBy, drained_of, LawfulCeded}
 use Rattle.flash_rule.specs.Rule.{LawfulBlock, LawfulOwned, LawfulView, Lawful}
 use Rattle.flash_rule.specs.Seats.{Ruled, spare, spares, dealer, opening_words}
-use Rattle.flash_rule.proofs.Owning.{none_some, some_same}
+use Rattle.flash_rule.proofs.Owning.{none_some, some_same, nothing}
 use Rattle.flash_rule.proofs.Places.{row_within}
 use Rattle.std.proofs.lemmas.Bool.Decides.{nat_tests}
 
@@ -186,6 +187,25 @@ module _ (z : Numbers) (limits : IsWithinLimits z) where
       idle : (b : ℕ) (o : Owned) → owned_at b (dealer z).owns ≡ Some o → is_reclaimed o.phase ≡ true → ⊥
       idle b o is busy = let r = spare_is z.brooms (z.blocks - z.brooms) b o is in let no : false ≡ true = ap (λ (x : Owned). is_reclaimed x.phase) r.2 ∙ busy in absurd (cc)
 
+  opening_ceded : LawfulCeded z opening_pin (dealer z ∷ [])
+  opening_ceded =
+      record {
+        reached = λ id k o h. absurd (no_entry id k o h);
+        once = λ id k o j i e h. absurd (no_entry id k o h);
+        drained = λ id v is. let e = the_dealer id v is in ap (λ (x : View). x.drains) (sym e) ∙ ap (λ (x : View). drained_of x.ceded) e;
+        left = λ b low nobodys. dite (dec_lt b (z.blocks - z.brooms))
+            (λ below. let p = blank_pin b in inl (record { free = phase_low b below; generation = p.2; written = p.1 }))
+            (λ above. let no : true ≡ false = sym (ap is_owned (phase_high b above)) ∙ nobodys in absurd (cc));
+        owners = λ id v is _. ap (λ (x : View). x.ceded) (sym (the_dealer id v is));
+      }
+    where
+      the_dealer : (id : ℕ) (v : View) → get_elem? (dealer z ∷ []) id ≡ some v → dealer z ≡ v
+      the_dealer zero v is = some-injective (dealer z) v is
+      the_dealer (suc id) v is = absurd (some-ne-none v (sym is))
+
+      no_entry : (id k : ℕ) (o : Owned) → IsCededBy (dealer z ∷ []) id k o → ⊥
+      no_entry id k o h = nothing k o (ap (λ (x : View). slice_get x.ceded k) (the_dealer id h.view h.seat) ∙ h.entry)
+
   opening_lawful : Lawful z opening_world (dealer z ∷ [])
   opening_lawful =
       record {
@@ -197,6 +217,7 @@ module _ (z : Numbers) (limits : IsWithinLimits z) where
         strangers = λ t _. refl;
         seats = omega arith;
         dealt = omega arith;
+        ceded = opening_ceded;
       }
     where
       only : (id : ℕ) (v : View) → get_elem? (dealer z ∷ []) id ≡ some v → LawfulView z opening_world id v

@@ -1,5 +1,6 @@
 -- The owner's steps on the pin word of an open block: count and close.
 use Rattle.std.proofs.Common.{◌≡◌, ◌≢◌, ℕ, ◌+◌, ◌<◌, ◌≤◌, ◌⊎◌, inl, inr, ⊎_elim, true, false, List, [], ◌∷◌, ◌++◌, Option, None, Some, length, set, slice_get, sym, refl, ap, ◌∙◌, subst, arith}
+use Rattle.std.proofs.lemmas.List.{append-nil}
 use mathlib.Core.Option.{some}
 use mathlib.Core.Logic.{dite}
 use native.Mathlib.Decide.{ℕ_discrete}
@@ -16,12 +17,14 @@ use Rattle.flash_rule.specs.declared.facts.Work.{Work}
 use Rattle.flash_rule.specs.declared.view.View.{View}
 use Rattle.flash_rule.specs.Views.{is_player, may_own, pins_on, owned_at, without, with_owned}
 use Rattle.flash_rule.specs.World.{World, put, is_owned, is_intact, is_still, half_cycle}
+use Rattle.flash_rule.specs.Ceded.{rank}
 use Rattle.flash_rule.specs.Rule.{IsProgrammed, IsFilling, LawfulKind, LawfulOwned, LawfulWork, LawfulView, Lawful}
 use Rattle.flash_rule.specs.Onward.{Onward}
 use Rattle.flash_rule.specs.Plays.{next_page, IsSettled}
 use Rattle.flash_rule.proofs.Points.{put_here, total_set}
-use Rattle.flash_rule.proofs.Owning.{some_same, none_some, with_here, with_else, without_here, without_else, one_with_open, one_without, get_last, put3, put3_here, put3_else}
+use Rattle.flash_rule.proofs.Owning.{owns_none_else, may_own_else, some_same, none_some, with_here, with_else, without_here, without_else, one_with_open, one_without, get_last, put3, put3_here, put3_else}
 use Rattle.flash_rule.proofs.Frames.{counted, knowledge_kept}
+use Rattle.flash_rule.proofs.Ceding.{ceded_owned, ceded_last}
 use Rattle.flash_rule.proofs.PinSteps.{moved, pin_moves, pin_moved, moved_else, seat_set}
 
 -- a seat with work is a player's
@@ -207,13 +210,17 @@ module _ (z : Numbers) (g : World) (vs : List View) (id : ℕ) (v : View) (o : O
           owner = λ _. (counter, more, ap (λ j. get_elem? (set vs id counter) j) (put_here g.owner b id) ∙ seat_set vs id v counter at, with_here more v.owns);
         })
         (λ c _. refl) (λ c unlike e is. (e, with_else more c v.owns unlike ∙ is)) refl
+        (ceded_owned z g.pins vs id v counter law.ceded at refl b q refl refl (ap is_owned is_open) (inr (refl, omega arith, omega arith)))
       where
         player_same : (n m : Name) → Player n ≡ Player m → n ≡ m
         player_same n m e = cc
 
   -- ---- close
+  abbrev pub closed_block : Owned
+  closed_block = record o { phase = Closed }
+
   abbrev pub closer : View
-  closer = record v { owns = without o.block v.owns; work = None }
+  closer = record v { owns = without o.block v.owns; work = None; ceded = v.ceded ++ closed_block ∷ [] }
 
   abbrev pub closed_state : PinWord
   closed_state = record (g.pins o.block) { phase = Closed }
@@ -303,3 +310,7 @@ module _ (z : Numbers) (g : World) (vs : List View) (id : ℕ) (v : View) (o : O
         owner = λ is. let e : false ≡ true = sym (ap (λ (p : PinWord). is_owned p.phase) here) ∙ is in absurd (cc);
       })
       (λ c _. refl) (λ c unlike e is. (e, without_else b c v.owns unlike ∙ is)) refl
+      (ceded_last z g.pins vs id v closer law.ceded at refl b q own_low
+      (inr (refl, (let e : rank (g.pins b).phase ≡ 1 = ap rank phase_is in omega arith), omega arith))
+      closed_block (λ i. record { block = b; phase = Closed; generation = sym mine.generation i; written = sym mine.written i }) refl (sym (append-nil v.drains))
+      (may_own_else v.role (λ is. owns_none_else v.owns o own (kind.owns_none is))))

@@ -7,8 +7,10 @@ use Rattle.geometry.specs.declared.map_word.MapWord.{MapWord}
 use Rattle.geometry.specs.declared.pin_word.PinWord.{PinWord}
 use Rattle.geometry.specs.declared.pin_word.Phase.TheVariants.{Open}
 use Rattle.flash_rule.specs.declared.facts.Owned.{Owned}
+use Rattle.flash_rule.specs.declared.facts.Role.{Role}
+use Rattle.flash_rule.specs.declared.facts.Role.TheVariants.{Dealer, Player, Note, Gone}
 use Rattle.flash_rule.specs.declared.facts.Work.{Work}
-use Rattle.flash_rule.specs.Views.{owned_at, without, with_owned}
+use Rattle.flash_rule.specs.Views.{may_own, owned_at, without, with_owned}
 use Rattle.flash_rule.specs.World.{World, put, is_reclaimed}
 use Rattle.flash_rule.specs.Rule.{IsFilling, LawfulOwned, ReclaimsOne}
 use Rattle.flash_rule.proofs.Points.{eq_self}
@@ -18,6 +20,10 @@ some_same x y e = cc
 
 pub none_some : {X : Type 0} (x : X) → ¬ (None ≡ Some x)
 none_some x e = absurd (cc)
+
+pub nothing : {X : Type 0} (k : ℕ) (x : X) → slice_get [] k ≡ Some x → ⊥
+nothing zero x e = none_some x e
+nothing (suc k) x e = none_some x e
 
 pub without_here : (b : ℕ) (os : List Owned) → owned_at b (without b os) ≡ None
 without_here b [] = refl
@@ -108,6 +114,16 @@ one_at_rest o owns rested b c x y here there first second = only b x here first 
   only : (d : ℕ) (e : Owned) → owned_at d (with_owned o owns) ≡ Some e → is_reclaimed e.phase ≡ true → d ≡ o.block
   only d e is reclaimed =
       dite (ℕ_discrete d o.block) (λ same. same) (λ unlike. absurd (not_reclaimed e (rested d e (sym (with_else o d owns unlike) ∙ is)) reclaimed))
+
+-- ---- whose blocks they are
+pub owns_none_else : (owns : List Owned) (o : Owned) → owned_at o.block owns ≡ Some o → ¬ (owns ≡ [])
+owns_none_else owns o own none = absurd (none_some o (sym (ap (λ (l : List Owned). owned_at o.block l) none) ∙ own))
+
+pub may_own_else : (r : Role) → ¬ (may_own r ≡ false) → may_own r ≡ true
+may_own_else (Player n) owns = refl
+may_own_else Dealer owns = refl
+may_own_else Note owns = absurd (owns refl)
+may_own_else Gone owns = absurd (owns refl)
 
 -- An owned block that the step doesn't concern
 pub owned_else : (z : Numbers) (g g' : World) (id : ℕ) (doing doing' : Option Work) (cleared wiped b : ℕ) (o : Owned) → g'.pins b ≡ g.pins b → g'.owner b ≡ g.owner b

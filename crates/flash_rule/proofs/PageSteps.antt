@@ -27,6 +27,7 @@ use Rattle.flash_rule.proofs.Points.{eq_self}
 use Rattle.flash_rule.proofs.Owning.{some_same}
 use Rattle.flash_rule.proofs.Frames.{counted, knowledge_kept}
 use Rattle.flash_rule.proofs.Assembly.{assembled, block_kept, sector_kept}
+use Rattle.flash_rule.proofs.Ceding.{ceded_still}
 use Rattle.flash_rule.proofs.Still.{pin_stays, pass_of, intact_age, met}
 
 pub word_here : (f : ℕ → ℕ → ℕ → ℕ) (b p i x : ℕ) → put_word f b p i x b p i ≡ x
@@ -228,7 +229,7 @@ module _ (z : Numbers) (g : World) (vs : List View) (id : ℕ) (v : View) (o : O
         owner = k.owner;
       })
       (λ unlike. block_kept z g g' vs id v putter c at (law.blocks c low) refl refl (λ q j. else_block c q j unlike) refl (λ e is. (e, is))))
-      law.strangers refl law.dealt
+      law.strangers refl law.dealt (ceded_still z g.pins vs id v putter law.ceded at refl refl refl)
 
 -- ---- get
 

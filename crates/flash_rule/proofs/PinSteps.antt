@@ -1,5 +1,5 @@
 -- Steps that change one pin word: take, count, close.
-use Rattle.std.proofs.Common.{◌≡◌, ◌≢◌, ℕ, zero, suc, ◌+◌, ◌*◌, ◌<◌, ◌≤◌, inl, true, false, List, [], ◌∷◌, ◌++◌, Option, Some, set, sym, refl, ap, ◌∙◌, subst, arith}
+use Rattle.std.proofs.Common.{◌≡◌, ◌≢◌, ℕ, zero, suc, ◌+◌, ◌*◌, ◌<◌, ◌≤◌, inl, inr, true, false, List, [], ◌∷◌, ◌++◌, Option, Some, set, sym, refl, ap, ◌∙◌, subst, arith}
 use mathlib.Core.Option.{some, some-ne-none}
 use mathlib.Core.Logic.{dite}
 use native.Mathlib.Decide.{ℕ_discrete}
@@ -18,12 +18,14 @@ use Rattle.flash_rule.specs.declared.facts.Work.{Work}
 use Rattle.flash_rule.specs.declared.view.View.{View}
 use Rattle.flash_rule.specs.Views.{is_pass, may_own, pins_on, weight, owned_at, with_owned}
 use Rattle.flash_rule.specs.World.{World, put, is_owned, is_intact, is_nameable, is_still, half_cycle, age_of}
+use Rattle.flash_rule.specs.Ceded.{rank, LawfulCeded}
 use Rattle.flash_rule.specs.Rule.{IsCurrent, IsProgrammed, IsFilling, LawfulBlock, LawfulOwned, LawfulView, Lawful}
 use Rattle.flash_rule.specs.Onward.{PinOnward, Untouched, Onward}
 use Rattle.flash_rule.proofs.Points.{put_here, put_else, put_all, total_set}
 use Rattle.flash_rule.proofs.Owning.{some_same, with_here, with_else, owned_else, one_with_open}
 use Rattle.flash_rule.proofs.Frames.{counted, knowledge_kept}
 use Rattle.flash_rule.proofs.Assembly.{assembled, block_kept, named_kept}
+use Rattle.flash_rule.proofs.Ceding.{ceded_owned}
 use Rattle.flash_rule.proofs.Still.{pin_stays, still}
 
 pub seat_set : (vs : List View) (id : ℕ) (v w : View) → get_elem? vs id ≡ some v → get_elem? (set vs id w) id ≡ some w
@@ -93,8 +95,8 @@ module _ (z : Numbers) (g : World) (vs : List View) (id : ℕ) (v w : View) (b :
       → ((s : ℕ) (m : MapWord) → s < z.sectors → g.map s ≡ Some m → m.block ≡ b → IsCurrent z g s m → (q.generation ≡ (g.pins b).generation) × (is_nameable q.phase ≡ true) × ((g.pins b).written ≤ q.written))
       → LawfulBlock z (turned g b q owner programmer eraser) (set vs id w) b
       → ((c : ℕ) → c ≢ b → pins_on c w ≡ pins_on c v) → ((c : ℕ) → c ≢ b → (o : Owned) → owned_at c v.owns ≡ Some o → (o' : Owned) × (owned_at c w.owns ≡ Some o'))
-      → weight z w ≡ weight z v → Lawful z (turned g b q owner programmer eraser) (set vs id w)
-  pin_turned on own nameable here counted keeps weighs =
+      → weight z w ≡ weight z v → LawfulCeded z (put g.pins b q) (set vs id w) → Lawful z (turned g b q owner programmer eraser) (set vs id w)
+  pin_turned on own nameable here counted keeps weighs ceded =
       let g' = turned g b q owner programmer eraser in
       assembled z g g' vs id v w law at on own
       (λ s low. named_kept z g g' s (law.sectors s low) refl refl (λ m is current.
@@ -114,7 +116,7 @@ module _ (z : Numbers) (g : World) (vs : List View) (id : ℕ) (v w : View) (b :
       (λ c low. dite (ℕ_discrete c b)
       (λ same. subst (λ j. LawfulBlock z g' (set vs id w) j) (sym same) here)
       (λ unlike. block_kept z g g' vs id v w c at (law.blocks c low) (put_else g.pins b q c unlike) (put_else g.owner b owner c unlike) (λ p i. refl) (counted c unlike) (keeps c unlike)))
-      law.strangers weighs law.dealt
+      law.strangers weighs law.dealt ceded
 
 module _ (z : Numbers) (g : World) (vs : List View) (id : ℕ) (v w : View) (b : ℕ) (q : PinWord) (owner : ℕ) (programmer : ℕ → ℕ → ℕ → Option (Name × ℕ)) (law : Lawful z g vs) (at : get_elem? vs id ≡ some v) where
   -- the same where the block stays nameable if it was
@@ -122,7 +124,7 @@ module _ (z : Numbers) (g : World) (vs : List View) (id : ℕ) (v w : View) (b :
       → (is_nameable (g.pins b).phase ≡ true → (q.generation ≡ (g.pins b).generation) × (is_nameable q.phase ≡ true) × ((g.pins b).written ≤ q.written))
       → LawfulBlock z (moved g b q owner programmer) (set vs id w) b
       → ((c : ℕ) → c ≢ b → pins_on c w ≡ pins_on c v) → ((c : ℕ) → c ≢ b → (o : Owned) → owned_at c v.owns ≡ Some o → (o' : Owned) × (owned_at c w.owns ≡ Some o'))
-      → weight z w ≡ weight z v → Lawful z (moved g b q owner programmer) (set vs id w)
+      → weight z w ≡ weight z v → LawfulCeded z (put g.pins b q) (set vs id w) → Lawful z (moved g b q owner programmer) (set vs id w)
   pin_moved on own nameable =
       pin_turned z g vs id v w b q owner programmer g.eraser law at on own (λ s m low is same current. nameable (ap (λ j. is_nameable (g.pins j).phase) (sym same) ∙ current.phase))
 
@@ -246,6 +248,7 @@ module _ (z : Numbers) (g : World) (vs : List View) (id : ℕ) (v : View) (b : �
         owner = λ _. (taker, newly_owned, ap (λ j. get_elem? (set vs id taker) j) (put_here g.owner b id) ∙ seat_set vs id v taker at, with_here newly_owned v.owns);
       })
       (λ c _. refl) (λ c unlike o is. (o, with_else newly_owned c v.owns unlike ∙ is)) refl
+      (ceded_owned z g.pins vs id v taker law.ceded at refl b taken_state refl refl refl (inr (refl, (let e : rank (g.pins b).phase ≡ 0 = ap rank free in omega arith), omega arith)))
     where
       pass_may_own : (r : Role) → is_pass r ≡ true → may_own r ≡ true
       pass_may_own (Player n) is = refl
@@ -266,4 +269,4 @@ module _ (z : Numbers) (g : World) (vs : List View) (id : ℕ) (v : View) (b : �
         knowledge = record { seen = knows.seen; pin = knows.pin; known = knows.known; programs = knows.programs; erases = knows.erases; copy = knows.copy };
         holding = record { name = holds.name; calls = holds.calls; owned = holds.owned; work = holds.work; source = holds.source; whole = holds.whole; guest = holds.guest; dealer = holds.dealer };
       })
-      (λ c. refl) refl refl
+      (λ c. refl) refl refl refl refl refl

@@ -30,6 +30,7 @@ use Rattle.geometry.proofs.PinBits.{adds, takes_off, reads}
 use Rattle.flash_rule.proofs.Places.{fits_pin}
 use Rattle.flash_rule.proofs.Frames.{counted, knowledge_kept}
 use Rattle.flash_rule.proofs.Assembly.{owner_kept, state_fits}
+use Rattle.flash_rule.proofs.Ceding.{ceded_read}
 use Rattle.flash_rule.proofs.PinSteps.{moved, pin_moves, pin_moved}
 use Rattle.flash_rule.proofs.Still.{sum_set, sum_below, age_low, pass_numbers}
 
@@ -113,7 +114,7 @@ module _ (z : Numbers) (g : World) (vs : List View) (id : ℕ) (v : View) (b : �
         rest = λ still p from below. block.rest (sym (ap (λ (p : PinWord). is_still p.phase) is) ∙ still) p (subst (λ (x : PinWord). x.written ≤ p) is from) below;
         owner = λ owned. owner_kept z g g' vs id v reader b at block (sym (ap (λ (p : PinWord). is_owned p.phase) is) ∙ owned) (put_here g.owner b (g.owner b)) (λ o is. (o, is));
       })
-      there (λ c _ o is. (o, is)) refl
+      there (λ c _ o is. (o, is)) refl (ceded_read z g.pins vs id v reader law.ceded at refl b q refl refl refl)
 
 -- ---- what a pin finds
 over_age : (p : PinWord) → ¬ (p.phase ≡ Free) → is_intact p.phase ≡ false → age_of p ≡ 2 * p.generation + 1
@@ -131,7 +132,7 @@ true_or_false : (t : Bool) → (t ≡ true) ⊎ (t ≡ false)
 true_or_false true = inl refl
 true_or_false false = inr refl
 
-intact_or_not : (p : PinWord) (n : ℕ) → Intact p n ⊎ (¬ Intact p n)
+pub intact_or_not : (p : PinWord) (n : ℕ) → Intact p n ⊎ (¬ Intact p n)
 intact_or_not p n =
     dite (ℕ_discrete p.generation n)
     (λ same. ⊎_elim (λ is. inl (record { same = same; phase = is })) (λ not. inr (λ i. let e = i.phase in let no : true ≡ false = sym e ∙ not in absurd (cc))) (true_or_false (is_intact p.phase)))

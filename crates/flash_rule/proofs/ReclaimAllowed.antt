@@ -22,6 +22,7 @@ use Rattle.flash_rule.specs.declared.facts.Owned.{Owned}
 use Rattle.flash_rule.specs.declared.view.View.{View}
 use Rattle.flash_rule.specs.Views.{is_broom, owned_at, without, with_owned}
 use Rattle.flash_rule.specs.World.{World, Fits, put, is_owned}
+use Rattle.flash_rule.specs.Ceded.{freed_as}
 use Rattle.flash_rule.specs.Rule.{Lawful}
 use Rattle.flash_rule.specs.Seats.{Ruled}
 use Rattle.flash_rule.specs.Plays.{Sitter}
@@ -33,7 +34,7 @@ use Rattle.flash_rule.proofs.Assembly.{state_fits}
 use Rattle.flash_rule.proofs.PinSteps.{turned}
 use Rattle.flash_rule.proofs.Reclaiming.{unowned, notes, owner_numbers, broom_live}
 use Rattle.flash_rule.proofs.ReclaimSteps.{claims, claimed_state, claimer, condemns, condemned_state, condemner, listed, drains_block, drained_state, drainer}
-use Rattle.flash_rule.proofs.EraseSteps.{retires, retired_state, forgoer, frees, freed_state, keeps_block, kept_state, keeper, erasing_low, erasing_written, is_erasing}
+use Rattle.flash_rule.proofs.EraseSteps.{retires, retired_state, retirer, frees, freed_state, freer, keeps_block, kept_state, keeper, erasing_low, erasing_written, is_erasing}
 
 drained_or_not : (f : Phase) → (f ≡ Drained) ⊎ (¬ (f ≡ Drained))
 drained_or_not Free = inr (λ e. absurd (cc))
@@ -151,7 +152,7 @@ module _ (z : Numbers) (slots id : ℕ) (me : Sitter) where
         ruled,
         (
           refl,
-          λ c q can' is first second.
+          λ c q can' is first.
               let same : p ≡ q = bits.pin_same p q can.fits can'.fits first in subst (λ (x : ℕ × PinWord). Claimed v x.0 x.1 n w) (λ i. (same_block numbers b c is i, same i)) told,
         ),
       ) in
@@ -190,7 +191,7 @@ module _ (z : Numbers) (slots id : ℕ) (me : Sitter) where
         ruled,
         (
           refl,
-          λ c q can' is first second.
+          λ c q can' is first.
               let same : p ≡ q = bits.pin_same p q can.fits can'.fits first in subst (λ (x : ℕ × PinWord). Condemned v x.0 x.1 n w) (λ i. (same_block numbers b c is i, same i)) told,
         ),
       ) in
@@ -224,7 +225,7 @@ module _ (z : Numbers) (slots id : ℕ) (me : Sitter) where
         keeps,
         tt,
         ruled_plus z id me t g fits o.block mine.low (drained_state z g t.views id v o law at) w NEXT_PHASE sum (drains_block z g t.views id v o law at can),
-        (refl, λ e can' is. ap (λ (y : Owned). record v { owns = without y.block v.owns; drains = v.drains ++ cycle_of y ∷ [] }) (same_owned numbers o e can.own can'.own is)),
+        (refl, λ e can' is. ap (λ (y : Owned). record v { owns = without y.block v.owns; drains = v.drains ++ cycle_of y ∷ []; ceded = v.ceded ++ record y { phase = Drained } ∷ [] }) (same_owned numbers o e can.own can'.own is)),
       )
 
   -- ---- free, keep, retire
@@ -236,14 +237,14 @@ module _ (z : Numbers) (slots id : ℕ) (me : Sitter) where
       let own = can.erasing.own in
       let numbers = owner_numbers z v o (law.views id v at).kind own in
       let low = erasing_low z g t.views id v o law at can.erasing in
-      let w : View = forgoer z g t.views id v o law at can.erasing in
+      let w : View = freer z g t.views id v o law at can.erasing in
       let sum = ap (λ (y : ℕ). pin_word (g.pins o.block) + freed_added y) (sym (erasing_written z g t.views id v o law at can.erasing))
       ∙ bits.frees (g.pins o.block) (state_fits z g t.views law o.block low) (is_erasing z g t.views id v o law at can.erasing) in (
         w,
         keeps,
         tt,
         ruled_plus z id me t g fits o.block low (freed_state z g t.views id v o law at can.erasing) w (freed_added o.written) sum (frees z g t.views id v o law at can.erasing can),
-        (refl, λ e can' is _. ap (λ (y : Owned). record v { owns = without y.block v.owns }) (same_owned numbers o e own can'.erasing.own is)),
+        (refl, λ e can' is. ap (λ (y : Owned). record v { owns = without y.block v.owns; ceded = v.ceded ++ freed_as y ∷ [] }) (same_owned numbers o e own can'.erasing.own is)),
       )
 
   -- or keeps it
@@ -263,7 +264,7 @@ module _ (z : Numbers) (slots id : ℕ) (me : Sitter) where
         ruled_plus z id me t g fits o.block low (kept_state z g t.views id v o law at can.erasing) w (kept_added o.written) sum (keeps_block z g t.views id v o law at can.erasing can),
         (
           refl,
-          λ e can' is _. ap (λ (y : Owned). record v { owns = with_owned (record { block = y.block; phase = Open; generation = y.generation + 1; written = 0 }) v.owns }) (same_owned numbers o e own can'.erasing.own is),
+          λ e can' is. ap (λ (y : Owned). record v { owns = with_owned (record { block = y.block; phase = Open; generation = y.generation + 1; written = 0 }) v.owns }) (same_owned numbers o e own can'.erasing.own is),
         ),
       )
 
@@ -274,11 +275,11 @@ module _ (z : Numbers) (slots id : ℕ) (me : Sitter) where
       let erasing = can.erasing in
       let numbers = owner_numbers z v o (law.views id v at).kind erasing.own in
       let low = erasing_low z g t.views id v o law at erasing in
-      let w : View = forgoer z g t.views id v o law at erasing in
+      let w : View = retirer z g t.views id v o law at erasing in
       let sum = bits.next_phase (g.pins o.block) Erasing Retired (is_erasing z g t.views id v o law at erasing) refl in (
         w,
         keeps,
         tt,
         ruled_plus z id me t g fits o.block low (retired_state z g t.views id v o law at erasing) w NEXT_PHASE sum (retires z g t.views id v o law at erasing),
-        (refl, λ e can' is. ap (λ (y : Owned). record v { owns = without y.block v.owns }) (same_owned numbers o e erasing.own can'.erasing.own is)),
+        (refl, λ e can' is. ap (λ (y : Owned). record v { owns = without y.block v.owns; ceded = v.ceded ++ record y { phase = Retired } ∷ [] }) (same_owned numbers o e erasing.own can'.erasing.own is)),
       )

@@ -1,5 +1,5 @@
 -- A broom's steps on the pin word of a block up to its erase: claim, drain, condemn.
-use Rattle.std.proofs.Common.{◌≡◌, ℕ, ◌*◌, ◌<◌, ⊎_elim, true, false, List, [], ◌∷◌, ◌++◌, Option, Some, length, set, slice_get, sym, refl, ap, ◌∙◌, subst, arith}
+use Rattle.std.proofs.Common.{◌≡◌, ℕ, ◌*◌, ◌<◌, inr, ⊎_elim, true, false, List, [], ◌∷◌, ◌++◌, Option, Some, length, set, slice_get, sym, refl, ap, ◌∙◌, subst, arith}
 use mathlib.Core.Option.{some}
 use lib.ListN.{get_elem?}
 use Rattle.geometry.specs.Limits.{Numbers}
@@ -13,10 +13,12 @@ use Rattle.flash_rule.specs.declared.facts.Cycle.{Cycle}
 use Rattle.flash_rule.specs.declared.view.View.{View}
 use Rattle.flash_rule.specs.Views.{is_pass, is_broom, may_own, owned_at, without, with_owned}
 use Rattle.flash_rule.specs.World.{World, put, is_owned, is_intact, is_nameable, is_still, half_cycle, age_of}
+use Rattle.flash_rule.specs.Ceded.{rank}
 use Rattle.flash_rule.specs.Rule.{Erases, LawfulOwned, Lawful}
 use Rattle.flash_rule.specs.BroomPlays.{owned_as, cycle_of, IsAtRest, CanDrain}
 use Rattle.flash_rule.proofs.Points.{put_here}
-use Rattle.flash_rule.proofs.Owning.{some_same, with_here, with_else, without_else, one_at_rest, one_without, get_last, put2, put2_here, put2_else}
+use Rattle.flash_rule.proofs.Owning.{owns_none_else, may_own_else, some_same, with_here, with_else, without_else, one_at_rest, one_without, get_last, put2, put2_here, put2_else}
+use Rattle.flash_rule.proofs.Ceding.{ceded_owned, ceded_last}
 use Rattle.flash_rule.proofs.PinSteps.{turned}
 use Rattle.flash_rule.proofs.Reclaiming.{turns, broom_player, broom_no_pass, broom_may_own, entry_set, entry_gone}
 
@@ -65,7 +67,8 @@ module _ (z : Numbers) (g : World) (vs : List View) (id : ℕ) (v : View) (b : �
         dead = λ _ p s below. absurd (omega arith);
         clean = λ is. absurd (cc);
       } in
-      turns z g vs id v b q (with_owned claimed_block v.owns) v.erases 0 v.wiped v.drains g.eraser law at low
+      turns z g vs id v b q (with_owned claimed_block v.owns) v.erases 0 v.wiped v.drains v.ceded g.eraser law at low
+      (ceded_owned z g.pins vs id v claimer law.ceded at refl b q refl refl refl (inr (refl, (let e : rank (g.pins b).phase ≡ 2 = ap rank closed in omega arith), omega arith)))
       (record {
         onward = record {
           generation = omega arith;
@@ -149,7 +152,8 @@ module _ (z : Numbers) (g : World) (vs : List View) (id : ℕ) (v : View) (b : �
         dead = λ is. absurd (cc);
         clean = λ _ p i _ _ below. absurd (omega arith);
       } in
-      turns z g vs id v b q (with_owned condemned_block v.owns) (v.erases ++ cycle_of condemned_block ∷ []) v.cleared 0 v.drains (listed n) law at low
+      turns z g vs id v b q (with_owned condemned_block v.owns) (v.erases ++ cycle_of condemned_block ∷ []) v.cleared 0 v.drains v.ceded (listed n) law at low
+      (ceded_owned z g.pins vs id v condemner law.ceded at refl b q refl refl refl (inr (refl, (let e : rank (g.pins b).phase ≡ 4 = ap rank drained in omega arith), omega arith)))
       (record {
         onward = record {
           generation = omega arith;
@@ -188,8 +192,11 @@ module _ (z : Numbers) (g : World) (vs : List View) (id : ℕ) (v : View) (o : O
   abbrev pub drained_state : PinWord
   drained_state = record (g.pins o.block) { phase = Drained }
 
+  abbrev pub drained_block : Owned
+  drained_block = record o { phase = Drained }
+
   abbrev pub drainer : View
-  drainer = record v { owns = without o.block v.owns; drains = v.drains ++ cycle_of o ∷ [] }
+  drainer = record v { owns = without o.block v.owns; drains = v.drains ++ cycle_of o ∷ []; ceded = v.ceded ++ drained_block ∷ [] }
 
   abbrev pub drain_world : World
   drain_world = turned g o.block drained_state id g.programmer g.eraser
@@ -204,7 +211,11 @@ module _ (z : Numbers) (g : World) (vs : List View) (id : ℕ) (v : View) (o : O
       let victim : (g.pins b).phase ≡ Victim = mine.phase ∙ can.victim in
       let written_is = mine.written in
       let cleared = can.cleared in
-      turns z g vs id v b drained_state (without b v.owns) v.erases v.cleared v.wiped (v.drains ++ cycle_of o ∷ []) g.eraser law at mine.low
+      turns z g vs id v b drained_state (without b v.owns) v.erases v.cleared v.wiped (v.drains ++ cycle_of o ∷ []) (v.ceded ++ drained_block ∷ []) g.eraser law at mine.low
+      (ceded_last z g.pins vs id v drainer law.ceded at refl b drained_state mine.low
+      (inr (refl, (let e : rank (g.pins b).phase ≡ 3 = ap rank victim in omega arith), omega arith))
+      drained_block (λ i. record { block = b; phase = Drained; generation = sym mine.generation i; written = sym mine.written i }) refl refl
+      (may_own_else v.role (λ is. owns_none_else v.owns o can.own (h.kind.owns_none is))))
       (record {
         onward = record {
           generation = omega arith;

@@ -18,10 +18,11 @@ use Rattle.flash_rule.specs.declared.facts.Cycle.{Cycle}
 use Rattle.flash_rule.specs.declared.view.View.{View}
 use Rattle.flash_rule.specs.Views.{is_pass, is_broom, is_player, is_live_role, may_own, pins_on, owned_at, without, with_owned}
 use Rattle.flash_rule.specs.World.{World, put, is_owned, is_nameable, is_still, age_of, IsBlank}
+use Rattle.flash_rule.specs.Ceded.{LawfulCeded}
 use Rattle.flash_rule.specs.Rule.{IsCurrent, Erases, ReclaimsOne, LawfulOwned, LawfulSource, LawfulKind, LawfulView, Lawful}
 use Rattle.flash_rule.specs.Onward.{PinOnward, Onward}
 use Rattle.flash_rule.proofs.Points.{put_here, put_else, total_set}
-use Rattle.flash_rule.proofs.Owning.{some_same, none_some, with_here, without_here, owned_else}
+use Rattle.flash_rule.proofs.Owning.{owns_none_else, some_same, none_some, with_here, without_here, owned_else}
 use Rattle.flash_rule.proofs.Frames.{counted, knowledge_kept}
 use Rattle.flash_rule.proofs.Still.{still}
 use Rattle.flash_rule.proofs.PinSteps.{turned, pin_turns, pin_turned, seat_set}
@@ -55,9 +56,6 @@ broom_may_own Note is = absurd (cc)
 broom_may_own Gone is = absurd (cc)
 
 -- ---- who owns a block has the table's numbers
-pub owns_none_else : (v : View) (o : Owned) → owned_at o.block v.owns ≡ Some o → ¬ (v.owns ≡ [])
-owns_none_else v o own none = absurd (none_some o (sym (ap (λ l. owned_at o.block l) none) ∙ own))
-
 owner_live : (r : Role) → ¬ (may_own r ≡ false) → is_live_role r ≡ true
 owner_live (Player n) owns = refl
 owner_live Dealer owns = refl
@@ -65,7 +63,7 @@ owner_live Note owns = absurd (owns refl)
 owner_live Gone owns = absurd (owns refl)
 
 pub owner_numbers : (z : Numbers) (v : View) (o : Owned) → LawfulKind z v → owned_at o.block v.owns ≡ Some o → v.numbers ≡ z
-owner_numbers z v o kind own = kind.numbers (owner_live v.role (λ is. owns_none_else v o own (kind.owns_none is)))
+owner_numbers z v o kind own = kind.numbers (owner_live v.role (λ is. owns_none_else v.owns o own (kind.owns_none is)))
 
 -- ---- the entry of a block that was set or given up
 pub entry_set : (o e : Owned) (owns : List Owned) → owned_at o.block (with_owned o owns) ≡ Some e → o ≡ e
@@ -97,7 +95,7 @@ module _ (z : Numbers) (g : World) (vs : List View) (id : ℕ) (v : View) (law :
         knowledge = record { seen = knows.seen; pin = knows.pin; known = knows.known; programs = knows.programs; erases = knows.erases; copy = knows.copy };
         holding = record { name = holds.name; calls = holds.calls; owned = holds.owned; work = holds.work; source = holds.source; whole = holds.whole; guest = holds.guest; dealer = holds.dealer };
       })
-      (λ c. refl) refl refl
+      (λ c. refl) refl refl refl refl refl
 
 -- The state q of the block b, and what its seat has then, fit together: the new state is onward of the old one, which is nobody else's and
 -- not open; what a map word names of the block it may still name; other blocks of the seat stay; and no more is cleared or wiped than was
@@ -124,13 +122,13 @@ pub record IsTurn (z : Numbers) (g : World) (id : ℕ) (v : View) (b : ℕ) (q :
   pub wiped : wiped' ≤ v.wiped
   pub source : (x : Source) → v.source ≡ Some x → LawfulSource z g v.owns v.cleared x → (x.page.block ≢ b) × (cleared' ≡ v.cleared)
 
-module _ (z : Numbers) (g : World) (vs : List View) (id : ℕ) (v : View) (b : ℕ) (q : PinWord) (owns : List Owned) (erases : List Cycle) (cleared wiped : ℕ) (drains : List Cycle) (eraser : ℕ → ℕ → Option (Name × ℕ)) (law : Lawful z g vs) (at : get_elem? vs id ≡ some v) (low : b < z.blocks) where
+module _ (z : Numbers) (g : World) (vs : List View) (id : ℕ) (v : View) (b : ℕ) (q : PinWord) (owns : List Owned) (erases : List Cycle) (cleared wiped : ℕ) (drains : List Cycle) (ceded : List Owned) (eraser : ℕ → ℕ → Option (Name × ℕ)) (law : Lawful z g vs) (at : get_elem? vs id ≡ some v) (low : b < z.blocks) where
   abbrev pub turner : View
-  turner = record v { owns = owns; erases = erases; cleared = cleared; wiped = wiped; drains = drains }
+  turner = record v { owns = owns; erases = erases; cleared = cleared; wiped = wiped; drains = drains; ceded = ceded }
 
   -- the rule after such a change
-  pub turns : IsTurn z g id v b q owns erases cleared wiped eraser → Lawful z (turned g b q id g.programmer eraser) (set vs id turner)
-  turns t =
+  pub turns : LawfulCeded z (put g.pins b q) (set vs id turner) → IsTurn z g id v b q owns erases cleared wiped eraser → Lawful z (turned g b q id g.programmer eraser) (set vs id turner)
+  turns given t =
       let h = law.views id v at in
       let kind = h.kind in
       let holds = h.holding in
@@ -215,4 +213,4 @@ module _ (z : Numbers) (g : World) (vs : List View) (id : ℕ) (v : View) (b : �
             let e = t.owner (sym (ap (λ (p : PinWord). is_owned p.phase) here) ∙ is) in
             (turner, e.0, ap (λ j. get_elem? (set vs id turner) j) (put_here g.owner b id) ∙ seat_set vs id v turner at, e.1);
       })
-      (λ c _. refl) (λ c unlike e is. (e, t.there c unlike ∙ is)) refl
+      (λ c _. refl) (λ c unlike e is. (e, t.there c unlike ∙ is)) refl given

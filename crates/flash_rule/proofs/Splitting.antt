@@ -18,13 +18,15 @@ use Rattle.flash_rule.specs.declared.facts.Pin.TheVariants.{Clear}
 use Rattle.flash_rule.specs.declared.view.View.{View}
 use Rattle.flash_rule.specs.Views.{one_if, total, is_player, is_live_role, pin_is_on, pins_on, weight, role_weight, owned_at, AreOfHosts, calls_of, same_name}
 use Rattle.flash_rule.specs.World.{World, put_name, is_owned, is_still, is_nameable}
+use Rattle.flash_rule.specs.Ceded.{LawfulCeded}
 use Rattle.geometry.specs.History.{held}
 use Rattle.geometry.specs.declared.pin_word.Phase.TheVariants.{Free}
 use Rattle.flash_rule.specs.Rule.{LawfulSector, LawfulBlock, LawfulView, Lawful, IsDealt}
 use Rattle.flash_rule.specs.Onward.{Onward}
 use Rattle.flash_rule.specs.Seats.{Ruled, new_pass, dealt_pass}
 use Rattle.flash_rule.proofs.Points.{total_set, eq_self}
-use Rattle.flash_rule.proofs.Owning.{none_some}
+use Rattle.flash_rule.proofs.Owning.{none_some, nothing}
+use Rattle.flash_rule.proofs.Ceding.{ceded_split}
 use Rattle.flash_rule.proofs.Frames.{counted, others, knowledge_kept}
 use Rattle.flash_rule.proofs.Assembly.{owner_kept, sector_kept}
 use Rattle.flash_rule.proofs.Still.{pin_stays}
@@ -75,10 +77,6 @@ alike zero b c = refl
 alike (suc n) zero c = refl
 alike (suc n) (suc b) c = alike n b c
 
-pub nothing : {X : Type 0} (k : ℕ) (x : X) → slice_get [] k ≡ Some x → ⊥
-nothing zero x e = none_some x e
-nothing (suc k) x e = none_some x e
-
 fresh_name : (g : World) (t : ℕ) → g.passes ≤ t → (m : Name) → IsDealt g m → ¬ (m ≡ Pass t)
 fresh_name g t high (Pass u) low e = let same : u ≡ t = broom_or_pass u t e in absurd (omega arith)
 fresh_name g t high (Broom j) low e = absurd (cc)
@@ -122,8 +120,8 @@ module _ (z : Numbers) (g g' : World) (vs : List View) (id : ℕ) (v l r : View)
 
   pub split_with : Onward z g g' id id → g'.history ≡ g.history → LawfulView z g' id l → LawfulView z g' (length vs) r → ((b : ℕ) → pins_on b l ≡ pins_on b v) → r.pin ≡ Clear
       → ((b : ℕ) → b < z.blocks → is_owned (g.pins b).phase ≡ true → Owner g' (set vs id l ++ r ∷ []) b)
-      → weight z l + weight z r ≡ weight z v → g.passes ≤ g'.passes → g'.passes ≤ z.hosts → ((s : ℕ) → s < z.sectors → LawfulSector z g' s) → Lawful z g' (set vs id l ++ r ∷ [])
-  split_with on history own new same clear owners weighs more dealt sectors =
+      → weight z l + weight z r ≡ weight z v → g.passes ≤ g'.passes → g'.passes ≤ z.hosts → ((s : ℕ) → s < z.sectors → LawfulSector z g' s) → LawfulCeded z g.pins (set vs id l ++ r ∷ []) → Lawful z g' (set vs id l ++ r ∷ [])
+  split_with on history own new same clear owners weighs more dealt sectors ceded =
       record {
         limits = law.limits;
         sectors = sectors;
@@ -141,13 +139,14 @@ module _ (z : Numbers) (g g' : World) (vs : List View) (id : ℕ) (v l r : View)
         strangers = λ t free. ap (calls_of t) history ∙ law.strangers t (omega arith);
         seats = (let s = total_set (weight z) vs id v l at in let t = total_end (weight z) (set vs id l) r in let e = law.seats in omega arith);
         dealt = dealt;
+        ceded = subst (λ (f : ℕ → PinWord). LawfulCeded z f (set vs id l ++ r ∷ [])) (sym pins) ceded;
       }
 
   -- where the seat keeps its blocks, each block keeps its owner
   pub split : g'.owner ≡ g.owner → Onward z g g' id id → g'.history ≡ g.history → LawfulView z g' id l → LawfulView z g' (length vs) r → ((b : ℕ) → pins_on b l ≡ pins_on b v) → r.pin ≡ Clear → l.owns ≡ v.owns
-      → weight z l + weight z r ≡ weight z v → g.passes ≤ g'.passes → g'.passes ≤ z.hosts → ((s : ℕ) → s < z.sectors → LawfulSector z g' s) → Lawful z g' (set vs id l ++ r ∷ [])
-  split owner on history own new same clear owns weighs more dealt sectors =
-      split_with on history own new same clear owners weighs more dealt sectors where
+      → weight z l + weight z r ≡ weight z v → g.passes ≤ g'.passes → g'.passes ≤ z.hosts → ((s : ℕ) → s < z.sectors → LawfulSector z g' s) → LawfulCeded z g.pins (set vs id l ++ r ∷ []) → Lawful z g' (set vs id l ++ r ∷ [])
+  split owner on history own new same clear owns weighs more dealt sectors ceded =
+      split_with on history own new same clear owners weighs more dealt sectors ceded where
         owners : (b : ℕ) → b < z.blocks → is_owned (g.pins b).phase ≡ true → Owner g' (set vs id l ++ r ∷ []) b
         owners b low owned =
             let k = owner_kept z g g' vs id v l b at (law.blocks b low) owned (ap (λ f. f b) owner) (λ o is. (o, ap (λ (x : List Owned). owned_at b x) owns ∙ is)) in
@@ -240,5 +239,6 @@ module _ (z : Numbers) (id : ℕ) (v : View) where
         g',
         fits,
         split z g g' vs id v (dealt_pass v) (new_pass v) law at refl refl refl on refl own added (λ b. refl) refl refl weighs (omega arith) (omega arith)
-            (λ s low. current_kept z g g' s refl refl refl refl (law.sectors s low)),
+            (λ s low. current_kept z g g' s refl refl refl refl (law.sectors s low))
+            (ceded_split z g.pins vs id v (dealt_pass v) (new_pass v) law.ceded at refl refl refl refl refl),
       )

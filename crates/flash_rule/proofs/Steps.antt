@@ -57,7 +57,7 @@ pass_player Dealer is = absurd (cc)
 pass_player Note is = absurd (cc)
 pass_player Gone is = absurd (cc)
 
-free_or_not : (f : Phase) → (f ≡ Free) ⊎ (¬ (f ≡ Free))
+pub free_or_not : (f : Phase) → (f ≡ Free) ⊎ (¬ (f ≡ Free))
 free_or_not Free = inl refl
 free_or_not Open = inr (λ e. absurd (cc))
 free_or_not Closed = inr (λ e. absurd (cc))
@@ -250,9 +250,9 @@ module _ (z : Numbers) (slots id : ℕ) (me : Sitter) where
 
   -- ---- close
   -- the owner of an open block gives it up, with nothing uncounted
-  pub close_allowed : (o : Owned) → is_player me.0.role ≡ true → me.0.numbers ≡ z → CanClose me.0 o
+  pub close_allowed : (o : Owned) → me.0.numbers ≡ z → CanClose me.0 o
       → Allows (Ruled z) slots id me (pin_index z o.block) (λ n. (n + NEXT_PHASE) % 2 ^ 64) (close_told (step slots (pin_index z o.block) NEXT_PHASE 0 none) me)
-  close_allowed o player numbers can t (g, fits, law) _ at _ =
+  close_allowed o numbers can t (g, fits, law) _ at _ =
       let low = own_low z g t.views id me.0 o law at can.own can.opened in
       let p : PinWord = g.pins o.block in
       let k : ℕ = pin_index z o.block in
@@ -277,7 +277,9 @@ module _ (z : Numbers) (slots id : ℕ) (me : Sitter) where
           refl,
           λ o' can' is.
               let sectors : me.0.numbers.sectors ≡ z.sectors = ap (λ (y : Numbers). y.sectors) numbers in
-              let blocks : o.block ≡ o'.block = omega arith in ap (λ (c : ℕ). record me.0 { owns = without c me.0.owns; work = None }) blocks,
+              let blocks : o.block ≡ o'.block = omega arith in
+              let same : o ≡ o' = some_same o o' (sym can.own ∙ (ap (λ c. owned_at c me.0.owns) blocks ∙ can'.own)) in
+              ap (λ (y : Owned). record me.0 { owns = without y.block me.0.owns; work = None; ceded = me.0.ceded ++ record y { phase = Closed } ∷ [] }) same,
         ),
       )
 

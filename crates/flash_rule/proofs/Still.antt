@@ -28,6 +28,7 @@ use Rattle.flash_rule.specs.Rule.{IsCurrent, LawfulKind, LawfulKnowledge, Lawful
 use Rattle.flash_rule.specs.Onward.{PinOnward, Onward}
 use Rattle.flash_rule.specs.Plays.{Looked, Met, Disjoint, is_unpinned}
 use Rattle.flash_rule.proofs.Assembly.{assembled, block_kept}
+use Rattle.flash_rule.proofs.Ceding.{ceded_still}
 
 pub pin_stays : (p : PinWord) → PinOnward p p
 pin_stays p = record { generation = omega arith; age = omega arith; written = λ _. omega arith; held = λ _ intact. (refl, intact); was = λ _ intact _. intact; free = λ _ free. free }
@@ -50,11 +51,11 @@ all_stays z g id other =
 
 -- a seat that keeps its blocks and its pinned block
 pub still : (z : Numbers) (g : World) (vs : List View) (id : ℕ) (v w : View) → Lawful z g vs → get_elem? vs id ≡ some v → LawfulView z g id w
-    → ((b : ℕ) → pins_on b w ≡ pins_on b v) → w.owns ≡ v.owns → weight z w ≡ weight z v → Lawful z g (set vs id w)
-still z g vs id v w law at own counted owns weighs =
+    → ((b : ℕ) → pins_on b w ≡ pins_on b v) → w.owns ≡ v.owns → weight z w ≡ weight z v → w.role ≡ v.role → w.ceded ≡ v.ceded → w.drains ≡ v.drains → Lawful z g (set vs id w)
+still z g vs id v w law at own counted owns weighs role ceded drains =
     assembled z g g vs id v w law at (all_stays z g id id) own law.sectors law.callers
     (λ b low. block_kept z g g vs id v w b at (law.blocks b low) refl refl (λ p i. refl) (counted b) (λ o is. (o, ap (λ l. owned_at b l) owns ∙ is)))
-    law.strangers weighs law.dealt
+    law.strangers weighs law.dealt (ceded_still z g.pins vs id v w law.ceded at role ceded drains)
 
 -- sums of lists of numbers
 pub sum_set : (l : List ℕ) (k x : ℕ) → k < length l → sum_of (set l k x) + get_or l k 0 ≡ sum_of l + x
@@ -195,7 +196,7 @@ module _ (z : Numbers) (g : World) (vs : List View) (id : ℕ) (v : View) (s : �
           dealer = holds.dealer;
         };
       })
-      (λ b. no_pin pin free b ∙ sym (no_pin v.pin unpinned b)) refl refl
+      (λ b. no_pin pin free b ∙ sym (no_pin v.pin unpinned b)) refl refl refl refl refl
 
   own_calls : (t : ℕ) → v.role ≡ Player (Pass t) → calls_of t g.history ≡ v.mine
   own_calls t is = ((law.views id v at).holding.calls t is).0

@@ -22,6 +22,7 @@ use Rattle.flash_rule.proofs.Owning.{some_same}
 use Rattle.flash_rule.proofs.Frames.{counted, knowledge_kept}
 use Rattle.flash_rule.proofs.Places.{row_same}
 use Rattle.flash_rule.proofs.Assembly.{assembled, block_kept, sector_kept}
+use Rattle.flash_rule.proofs.Ceding.{ceded_still}
 use Rattle.flash_rule.proofs.Still.{pin_stays}
 use Rattle.flash_rule.proofs.PageSteps.{word_here, word_else}
 
@@ -193,4 +194,4 @@ module _ (z : Numbers) (g : World) (vs : List View) (id : ℕ) (v : View) (n : N
         owner = k.owner;
       })
       (λ unlike. block_kept z g wipe_world vs id v (wiper v) c at (law.blocks c low) refl refl (λ q j. other_block c q j unlike) refl (λ e is. (e, is))))
-      law.strangers refl law.dealt
+      law.strangers refl law.dealt (ceded_still z g.pins vs id v (wiper v) law.ceded at refl refl refl)

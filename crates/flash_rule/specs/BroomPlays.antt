@@ -8,7 +8,7 @@ use Rattle.geometry.specs.TableOrder.{pin_index, page_index}
 use Rattle.geometry.specs.declared.map_word.MapWord.{MapWord}
 use Rattle.geometry.specs.declared.pin_word.PinWord.{PinWord}
 use Rattle.geometry.specs.declared.pin_word.Phase.{Phase}
-use Rattle.geometry.specs.declared.pin_word.Phase.TheVariants.{Open, Closed, Victim, Drained, Erasing}
+use Rattle.geometry.specs.declared.pin_word.Phase.TheVariants.{Open, Closed, Victim, Drained, Erasing, Retired}
 use Rattle.geometry.specs.declared.pin_word.TheConstants.{NEXT_PHASE}
 use Rattle.flash_rule.specs.declared.facts.Owned.{Owned}
 use Rattle.flash_rule.specs.declared.facts.Source.{Source}
@@ -17,6 +17,7 @@ use Rattle.flash_rule.specs.declared.carried.Carried.{Carried}
 use Rattle.flash_rule.specs.declared.view.View.{View}
 use Rattle.flash_rule.specs.Views.{owned_at, without, with_owned, AreOfHosts}
 use Rattle.flash_rule.specs.World.{data_word, blank_word}
+use Rattle.flash_rule.specs.Ceded.{freed_as}
 use Rattle.flash_rule.specs.Rule.{IsValue}
 use Rattle.flash_rule.specs.Plays.{Sitter, Met, CanPlace}
 
@@ -141,7 +142,7 @@ pub record Claimed (v : View) (b : ℕ) (p : PinWord) (n : ℕ) (w : View) : Typ
 abbrev pub claim_told : Step (Unit {0}) → Sitter → ℕ → Sitter → Type 0
 claim_told st me n after =
     (after.1 ≡ me.1)
-    × ((b : ℕ) (p : PinWord) → CanClaim me.0 b p → st.word ≡ pin_index me.0.numbers b → st.first ≡ pin_word p → st.second ≡ pin_word p + NEXT_PHASE → Claimed me.0 b p n after.0)
+    × ((b : ℕ) (p : PinWord) → CanClaim me.0 b p → st.word ≡ pin_index me.0.numbers b → st.first ≡ pin_word p → Claimed me.0 b p n after.0)
 
 -- CONDEMN. A broom at rest expects the drained state without readers that it loaded last of this block
 pub record CanCondemn (v : View) (b : ℕ) (p : PinWord) : Type 0 where
@@ -162,9 +163,9 @@ pub record Condemned (v : View) (b : ℕ) (p : PinWord) (n : ℕ) (w : View) : T
 abbrev pub condemn_told : Step (Unit {0}) → Sitter → ℕ → Sitter → Type 0
 condemn_told st me n after =
     (after.1 ≡ me.1)
-    × ((b : ℕ) (p : PinWord) → CanCondemn me.0 b p → st.word ≡ pin_index me.0.numbers b → st.first ≡ pin_word p → st.second ≡ pin_word p + NEXT_PHASE → Condemned me.0 b p n after.0)
+    × ((b : ℕ) (p : PinWord) → CanCondemn me.0 b p → st.word ≡ pin_index me.0.numbers b → st.first ≡ pin_word p → Condemned me.0 b p n after.0)
 
--- DRAIN. All counted pages of an own victim are cleared; the block is nobody's from now on
+-- DRAIN. All counted pages of an own victim are cleared; the block is nobody's from now on, drained as it was
 pub record CanDrain (v : View) (o : Owned) : Type 0 where
   pub own : owned_at o.block v.owns ≡ Some o
   pub victim : o.phase ≡ Victim
@@ -173,7 +174,7 @@ pub record CanDrain (v : View) (o : Owned) : Type 0 where
 abbrev pub drain_told : Step (Unit {0}) → Sitter → ℕ → Sitter → Type 0
 drain_told st me n after =
     (after.1 ≡ me.1)
-    × ((o : Owned) → CanDrain me.0 o → st.word ≡ pin_index me.0.numbers o.block → after.0 ≡ record me.0 { owns = without o.block me.0.owns; drains = me.0.drains ++ cycle_of o ∷ [] })
+    × ((o : Owned) → CanDrain me.0 o → st.word ≡ pin_index me.0.numbers o.block → after.0 ≡ record me.0 { owns = without o.block me.0.owns; drains = me.0.drains ++ cycle_of o ∷ []; ceded = me.0.ceded ++ record o { phase = Drained } ∷ [] })
 
 -- the broom erases this block of its own
 pub record IsErasing (v : View) (o : Owned) : Type 0 where
@@ -204,17 +205,18 @@ pub record CanRenew (v : View) (o : Owned) : Type 0 where
   pub clean : block_words v ≤ v.wiped
   pub another : o.generation + 1 < v.numbers.endurance
 
--- FREE. The wiped block is free in its next generation, and nobody's
+-- FREE. The wiped block is nobody's from now on, free in its next generation with nothing written
 abbrev pub freed_told : Step (Unit {0}) → Sitter → ℕ → Sitter → Type 0
 freed_told st me n after =
     (after.1 ≡ me.1)
-    × ((o : Owned) → CanRenew me.0 o → st.word ≡ pin_index me.0.numbers o.block → st.first ≡ freed_added o.written → after.0 ≡ record me.0 { owns = without o.block me.0.owns })
+    × ((o : Owned) → CanRenew me.0 o → st.word ≡ pin_index me.0.numbers o.block
+    → after.0 ≡ record me.0 { owns = without o.block me.0.owns; ceded = me.0.ceded ++ freed_as o ∷ [] })
 
 -- KEEP. The wiped block stays the broom's, open in its next generation with nothing written
 abbrev pub kept_told : Step (Unit {0}) → Sitter → ℕ → Sitter → Type 0
 kept_told st me n after =
     (after.1 ≡ me.1)
-    × ((o : Owned) → CanRenew me.0 o → st.word ≡ pin_index me.0.numbers o.block → st.first ≡ kept_added o.written
+    × ((o : Owned) → CanRenew me.0 o → st.word ≡ pin_index me.0.numbers o.block
     → after.0 ≡ record me.0 { owns = with_owned (record { block = o.block; phase = Open; generation = o.generation + 1; written = 0 }) me.0.owns })
 
 -- The block that is being erased is in its last generation
@@ -222,8 +224,9 @@ pub record CanRetire (v : View) (o : Owned) : Type 0 where
   pub erasing : IsErasing v o
   pub last : o.generation + 1 ≡ v.numbers.endurance
 
--- RETIRE. The block that was being erased for the last time is nobody's from now on, for good
+-- RETIRE. The block that was being erased for the last time is nobody's from now on, for good, and retired as it was
 abbrev pub retired_told : Step (Unit {0}) → Sitter → ℕ → Sitter → Type 0
 retired_told st me n after =
     (after.1 ≡ me.1)
-    × ((o : Owned) → CanRetire me.0 o → st.word ≡ pin_index me.0.numbers o.block → after.0 ≡ record me.0 { owns = without o.block me.0.owns })
+    × ((o : Owned) → CanRetire me.0 o → st.word ≡ pin_index me.0.numbers o.block
+    → after.0 ≡ record me.0 { owns = without o.block me.0.owns; ceded = me.0.ceded ++ record o { phase = Retired } ∷ [] })

@@ -8,7 +8,7 @@ use Rattle.geometry.specs.PinWords.{pin_word, FitsPin}
 use Rattle.geometry.specs.TableOrder.{pin_index, page_index}
 use Rattle.geometry.specs.declared.map_word.MapWord.{MapWord}
 use Rattle.geometry.specs.declared.pin_word.PinWord.{PinWord}
-use Rattle.geometry.specs.declared.pin_word.Phase.TheVariants.{Free, Open}
+use Rattle.geometry.specs.declared.pin_word.Phase.TheVariants.{Free, Open, Closed}
 use Rattle.flash_rule.specs.declared.facts.Name.TheVariants.{Pass}
 use Rattle.flash_rule.specs.declared.facts.Role.TheVariants.{Player}
 use Rattle.flash_rule.specs.declared.facts.Owned.{Owned}
@@ -162,7 +162,7 @@ count_told st me n after =
     × ((o : Owned) (w : Work) → CanCount me.0 o w → st.word ≡ pin_index me.0.numbers o.block
     → after.0 ≡ record me.0 { programs = me.0.programs ++ w.page ∷ []; owns = with_owned (record o { written = o.written + 1 }) me.0.owns })
 
--- CLOSE. The block is nobody's from now on; nothing uncounted is left
+-- CLOSE. The block is nobody's from now on, closed as it was; nothing uncounted is left
 pub record CanClose (v : View) (o : Owned) : Type 0 where
   pub own : owned_at o.block v.owns ≡ Some o
   pub opened : o.phase ≡ Open
@@ -171,7 +171,7 @@ pub record CanClose (v : View) (o : Owned) : Type 0 where
 abbrev pub close_told : Step (Unit {0}) → Sitter → ℕ → Sitter → Type 0
 close_told st me n after =
     (after.1 ≡ me.1)
-    × ((o : Owned) → CanClose me.0 o → st.word ≡ pin_index me.0.numbers o.block → after.0 ≡ record me.0 { owns = without o.block me.0.owns; work = None })
+    × ((o : Owned) → CanClose me.0 o → st.word ≡ pin_index me.0.numbers o.block → after.0 ≡ record me.0 { owns = without o.block me.0.owns; work = None; ceded = me.0.ceded ++ record o { phase = Closed } ∷ [] })
 
 -- PIN. The candidate is accepted where the block is intact in its generation, else the pin is stray. The block's age is known
 pub record Pinned (v : View) (m : MapWord) (value : List ℕ) (n : ℕ) (w : View) : Type 0 where

@@ -21,6 +21,7 @@ use Rattle.flash_rule.specs.declared.facts.Cycle.{Cycle}
 use Rattle.flash_rule.specs.declared.carried.Carried.{Carried}
 use Rattle.flash_rule.specs.declared.view.View.{View}
 use Rattle.flash_rule.specs.Views.{total, is_pass, is_player, is_live_role, may_own, weight, pins_on, owned_at, AreOfHosts, calls_of}
+use Rattle.flash_rule.specs.Ceded.{LawfulCeded}
 use Rattle.flash_rule.specs.World.{World, is_owned, is_nameable, is_still, is_reclaimed, age_of, Intact, HoldsValue, IsBlank, blank_word}
 
 -- A value has the bytes of one page
@@ -195,7 +196,7 @@ pub record LawfulView (z : Numbers) (g : World) (id : ℕ) (v : View) : Type 0 w
   pub holding : LawfulHolding z g id v
 
 -- The rule, over the sectors, the calls, the blocks and the seats. Each call of the history is of a host, passes not handed out
--- yet have no calls, and the seats stand for as many passes as there are hosts
+-- yet have no calls, the seats stand for as many passes as there are hosts, and the blocks given up are as they were left
 pub record Lawful (z : Numbers) (g : World) (vs : List View) : Type 0 where
   pub limits : IsWithinLimits z
   pub sectors : (s : ℕ) → s < z.sectors → LawfulSector z g s
@@ -205,3 +206,4 @@ pub record Lawful (z : Numbers) (g : World) (vs : List View) : Type 0 where
   pub strangers : (t : ℕ) → g.passes ≤ t → calls_of t g.history ≡ []
   pub seats : total (weight z) vs ≡ z.hosts
   pub dealt : g.passes ≤ z.hosts
+  pub ceded : LawfulCeded z g.pins vs

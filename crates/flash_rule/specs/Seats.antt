@@ -45,6 +45,7 @@ newcomer z role =
       lost = [];
       moves = 0;
       drains = [];
+      ceded = [];
       busy = [];
       stale = [];
       passes = 0;

@@ -4,6 +4,7 @@
 mod broom_plays;
 mod carried;
 mod facts;
+mod forced;
 mod plays;
 mod reclaim_plays;
 mod rule;
@@ -12,6 +13,7 @@ mod view;
 pub use broom_plays::{BroomLook, GetSource, GetStamp, MoveTo, Wipe};
 pub use carried::Carried;
 pub use facts::{Cycle, Name, Owned, Pin, Role, Source, Work};
+pub use forced::pin_words_are_forced;
 pub use plays::{
     AddReader, Close, ComeHome, Count, DealBroom, DealPass, GetWord, GiveBack, Lend, Look,
     PlaceTrim, PlaceWrite, PutWord, Take, TakeIn, TakeReader,
@@ -19,8 +21,3 @@ pub use plays::{
 pub use reclaim_plays::{Claim, Condemn, Drain, FreeBlock, KeepBlock, LoadState, RetireBlock};
 pub use rule::Device;
 pub use view::View;
-
-#[cfg(test)]
-mod model;
-#[cfg(test)]
-mod tests;

@@ -52,6 +52,8 @@ pub struct View {
     pub ghost moves: { ℕ },
     /// The victims that were drained.
     pub ghost drains: { List Cycle },
+    /// The blocks that were given up, each as it was left.
+    pub ghost ceded: { List Owned },
     /// The blocks found with readers, and those found in no drained state.
     pub ghost busy: { List ℕ },
     pub ghost stale: { List ℕ },

@@ -7,8 +7,8 @@ use Rattle.flash_rule.specs.declared.facts.Role.TheVariants.{Dealer}
 use Rattle.flash_rule.specs.declared.view.View.{View}
 use Rattle.flash_rule.specs.Views.{is_pass, owned_at, without}
 use Rattle.flash_rule.specs.Seats.{Ruled, dealt_pass, new_pass, spare, spares, next_spare, dealt_broom, new_broom}
-use Rattle.flash_rule.proofs.Owning.{get_last}
-use Rattle.flash_rule.proofs.Splitting.{deals_pass, nothing}
+use Rattle.flash_rule.proofs.Owning.{get_last, nothing}
+use Rattle.flash_rule.proofs.Splitting.{deals_pass}
 use Rattle.flash_rule.proofs.DealingBrooms.{first_spare, other_spares, deals_broom}
 use Rattle.flash_table.specs.declared.flash.Flash.{Flash}
 use Rattle.flash_table.specs.declared.pass.Pass.{Pass}

@@ -52,10 +52,10 @@ module _ (z k : Numbers) (same : k ≡ z) (slots id : ℕ) (me : Sitter) where
   count_here word o x is player numbers can = let P : Numbers × ℕ → Type 0 = λ y. Allows (Ruled y.0) slots id me y.1 (λ n. (n + PAGE_WRITTEN) % 2 ^ 64) (count_told (step slots y.1 PAGE_WRITTEN 0 none) me) in
       subst P (λ i. (sym same i, sym is i)) (count_allowed z slots id me o x player numbers can)
 
-  pub close_here : (word : ℕ) (o : Owned) → word ≡ pin_index z o.block → is_player me.0.role ≡ true → me.0.numbers ≡ z → CanClose me.0 o
+  pub close_here : (word : ℕ) (o : Owned) → word ≡ pin_index z o.block → me.0.numbers ≡ z → CanClose me.0 o
       → Allows (Ruled k) slots id me word (λ n. (n + NEXT_PHASE) % 2 ^ 64) (close_told (step slots word NEXT_PHASE 0 none) me)
-  close_here word o is player numbers can = let P : Numbers × ℕ → Type 0 = λ y. Allows (Ruled y.0) slots id me y.1 (λ n. (n + NEXT_PHASE) % 2 ^ 64) (close_told (step slots y.1 NEXT_PHASE 0 none) me) in
-      subst P (λ i. (sym same i, sym is i)) (close_allowed z slots id me o player numbers can)
+  close_here word o is numbers can = let P : Numbers × ℕ → Type 0 = λ y. Allows (Ruled y.0) slots id me y.1 (λ n. (n + NEXT_PHASE) % 2 ^ 64) (close_told (step slots y.1 NEXT_PHASE 0 none) me) in
+      subst P (λ i. (sym same i, sym is i)) (close_allowed z slots id me o numbers can)
 
 -- ---- pins
 module _ (z k : Numbers) (same : k ≡ z) (slots id : ℕ) (me : Sitter) where

@@ -28,7 +28,7 @@ use Rattle.flash_rule.proofs.Points.{eq_self}
 use Rattle.flash_table.specs.declared.flash.Flash.{Flash}
 use Rattle.flash_table.specs.declared.pass.Pass.{Pass}
 use Rattle.flash_table.specs.declared.pass.OpenBlock.{OpenBlock}
-use Rattle.flash_table.specs.Owning.{owned_of, owned_list}
+use Rattle.flash_table.specs.Owning.{owned_of, owned_list, closed_as, closed_list}
 use Rattle.flash_table.specs.Flash.{IsPassOf, Taken, Denied, Strayed, view_of, device}
 
 pub pass_player : (r : Role) → is_pass r ≡ true → is_player r ≡ true
@@ -78,12 +78,14 @@ module _ (f : Flash) (p : Pass) (h : IsPassOf f p) (slots n : ℕ) (after : Sitt
   close_can o is t = let P : OpenBlock → Type 0 = λ x. CanClose (view_of p) (owned_of x) × (x.block < (device f).blocks) in subst P (same_block t.0 o p.opened t.1 is) (t.2, t.3)
 
   pub close_view : (word : ℕ) (o : OpenBlock) → p.opened ≡ Some o → (x : OpenBlock) × (p.opened ≡ Some x) × CanClose (view_of p) (owned_of x) × (x.block < (device f).blocks)
-      → word ≡ pin_index (device f) o.block → close_told (step slots word NEXT_PHASE 0 none) p.seat.me n after → after.0 ≡ record (view_of p) { owns = []; work = None }
+      → word ≡ pin_index (device f) o.block → close_told (step slots word NEXT_PHASE 0 none) p.seat.me n after → after.0 ≡ record (view_of p) { owns = []; work = None; ceded = (view_of p).ceded ++ closed_list p.opened }
   close_view word o is t at told =
       let can = close_can o is t in
       let owns : (view_of p).owns ≡ owned_of o ∷ [] = p.owns ∙ ap owned_list is in
       let changed = told.1 (owned_of o) can.0 (at ∙ ap (λ y. pin_index y o.block) (sym h.numbers)) in
-      changed ∙ ap (λ (l : List Owned). record (view_of p) { owns = l; work = None }) (ap (λ (l : List Owned). without o.block l) owns ∙ without_one (owned_of o))
+      let nothing : without o.block (view_of p).owns ≡ [] = ap (λ (l : List Owned). without o.block l) owns ∙ without_one (owned_of o) in
+      let closed : closed_as o ∷ [] ≡ closed_list p.opened = ap closed_list (sym is) in
+      changed ∙ (λ i. record (view_of p) { owns = nothing i; work = None; ceded = (view_of p).ceded ++ closed i })
 
   -- ---- count
   pub count_can : (o : OpenBlock) → p.opened ≡ Some o

@@ -30,6 +30,7 @@ use Rattle.flash_table.specs.declared.broom_seat.Reclaiming.{Reclaiming}
 use Rattle.flash_table.specs.declared.broom_seat.Reclaiming.TheVariants as reclaiming
 use Rattle.flash_table.specs.declared.pass.OpenBlock.{OpenBlock}
 use Rattle.flash_table.specs.Owning.{owned_of, reclaimed_as}
+use Rattle.flash_table.specs.GivingUp.{left_closed, left_drained}
 use Rattle.flash_table.specs.Flash.{IsBroomOf, broom_view, own_blocks, device}
 use Rattle.flash_table.proofs.Blocks.{all_open, draining_at}
 use Rattle.flash_table.proofs.Told.{same_block}
@@ -69,7 +70,7 @@ module _ (f : Flash) (s : BroomSeat) (h : IsBroomOf f s) (slots n : ℕ) (after 
   count_view word o x can at told = told.1 (owned_of o) x can (at ∙ ap (λ y. pin_index y o.block) (sym h.numbers))
 
   pub close_view : (word : ℕ) (o : OpenBlock) → CanClose (broom_view s) (owned_of o) → word ≡ pin_index (device f) o.block → close_told (step slots word NEXT_PHASE 0 none) s.seat.me n after
-      → after.0 ≡ record (broom_view s) { owns = without o.block (broom_view s).owns; work = None }
+      → after.0 ≡ left_closed (broom_view s) o
   close_view word o can at told = told.1 (owned_of o) can (at ∙ ap (λ y. pin_index y o.block) (sym h.numbers))
 
 -- ---- the block that a broom drains or erases is one
@@ -124,12 +125,12 @@ module _ (f : Flash) (s : BroomSeat) (h : IsBroomOf f s) (slots n : ℕ) (after 
   pub loaded_view : (word b : ℕ) → b < (device f).blocks → word ≡ pin_index (device f) b → state_told (step slots word 0 0 none) s.seat.me n after → Loaded (broom_view s) b n after.0
   loaded_view word b low at told = told.1 b (low_here f s h b low) (pin_there word b at)
 
-  pub claimed_view : (word b old new : ℕ) (p : PinWord) → CanClaim (broom_view s) b p → word ≡ pin_index (device f) b → old ≡ pin_word p → new ≡ old + NEXT_PHASE → claim_told (step slots word old new none) s.seat.me n after
+  pub claimed_view : (word b old : ℕ) (p : PinWord) → CanClaim (broom_view s) b p → word ≡ pin_index (device f) b → old ≡ pin_word p → claim_told (step slots word old (old + NEXT_PHASE) none) s.seat.me n after
       → Claimed (broom_view s) b p n after.0
-  claimed_view word b old new p can at packed next told = told.1 b p can (pin_there word b at) packed (next ∙ ap (λ m. m + NEXT_PHASE) packed)
+  claimed_view word b old p can at packed told = told.1 b p can (pin_there word b at) packed
 
   pub drained_view : (word : ℕ) (o : ReclaimedBlock) → CanDrain (broom_view s) (reclaimed_as Victim o) → word ≡ pin_index (device f) o.block → drain_told (step slots word NEXT_PHASE 0 none) s.seat.me n after
-      → after.0 ≡ record (broom_view s) { owns = without o.block (broom_view s).owns; drains = (broom_view s).drains ++ record { block = o.block; generation = o.generation } ∷ [] }
+      → after.0 ≡ left_drained (broom_view s) o
   drained_view word o can at told = told.1 (reclaimed_as Victim o) can (pin_there word o.block at)
 
 -- ---- sectors and pages

@@ -2,5 +2,6 @@
 pub mod Flash
 pub mod Leaving
 pub mod Erasing
+pub mod GivingUp
 -- Internal: the plain data of a seat beside its view.
 pub mod Owning

@@ -2,7 +2,7 @@
 use Rattle.std.specs.Prelude.{◌≡◌, ℕ, List, [], ◌∷◌, ◌++◌, Option, None, Some}
 use Rattle.std.proofs.Props.{props}
 use Rattle.geometry.specs.declared.pin_word.Phase.{Phase}
-use Rattle.geometry.specs.declared.pin_word.Phase.TheVariants.{Open, Victim, Erasing}
+use Rattle.geometry.specs.declared.pin_word.Phase.TheVariants.{Open, Closed, Victim, Erasing}
 use Rattle.flash_rule.specs.declared.facts.Owned.{Owned}
 use Rattle.flash_rule.specs.Views.{owned_at}
 use Rattle.flash_table.specs.declared.pass.OpenBlock.{OpenBlock}
@@ -14,6 +14,15 @@ use Rattle.flash_table.specs.declared.broom_seat.BroomBlocks.{BroomBlocks}
 -- an open block as its owner's view has it
 abbrev pub owned_of : OpenBlock → Owned
 owned_of o = record { block = o.block; phase = Open; generation = o.generation; written = o.written }
+
+-- that block once its owner has given it up
+abbrev pub closed_as : OpenBlock → Owned
+closed_as o = record { block = o.block; phase = Closed; generation = o.generation; written = o.written }
+
+-- what a seat with this open block, or none, gives up by closing it
+abbrev pub closed_list : Option OpenBlock → List Owned
+closed_list None = []
+closed_list (Some o) = closed_as o ∷ []
 
 -- the blocks owned by a seat with this open block, or none
 abbrev pub owned_list : Option OpenBlock → List Owned

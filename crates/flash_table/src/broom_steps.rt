@@ -2,9 +2,10 @@
 ghost use Rattle.std.specs.Prelude.{◌≡◌, ℕ, ◌+◌, ◌<◌, [], ◌∷◌, ◌++◌, length, Some, None};
 ghost use Rattle.geometry.specs.Geometry.{blocks_of, pages_of};
 ghost use Rattle.flash_rule.specs.declared.facts.Work.{Work};
-ghost use Rattle.flash_rule.specs.Views.{without, with_owned};
+ghost use Rattle.flash_rule.specs.Views.{with_owned};
 ghost use Rattle.flash_rule.specs.Plays.{CanPut, CanCount, CanClose, words_in, next_page};
 ghost use Rattle.flash_table.specs.Owning.{owned_of};
+ghost use Rattle.flash_table.specs.GivingUp.{left_closed};
 ghost use Rattle.flash_table.specs.Flash.{IsBroomOf, broom_view, own_blocks, geometry_of};
 ghost use Rattle.flash_table.specs.declared.pass.OpenBlock.{OpenBlock};
 
@@ -63,7 +64,7 @@ impl Flash {
     pub fn close_destination(&self, broom: &mut BroomSeat)
         requires broom { IsBroomOf self.now broom.old }
         requires settled { (o : OpenBlock) × ((own_blocks broom.old).destination ≡ Some o) × CanClose (broom_view broom.old) (owned_of o) × (o.block < blocks_of (geometry_of self.now)) }
-        ensures told { (o : OpenBlock) → (own_blocks broom.old).destination ≡ Some o → broom_view broom.new ≡ record (broom_view broom.old) { owns = without o.block (broom_view broom.old).owns; work = None } }
+        ensures told { (o : OpenBlock) → (own_blocks broom.old).destination ≡ Some o → broom_view broom.new ≡ left_closed (broom_view broom.old) o }
         ensures blocks { own_blocks broom.new ≡ record (own_blocks broom.old) { destination = None } }
         ensures broom { IsBroomOf self.now broom.new }
     {

@@ -1,8 +1,9 @@
 //! The steps by which a broom erases a block, one atomic operation each.
 ghost use Rattle.std.specs.Prelude.{◌≡◌, ◌+◌, ◌<◌, MatchBool, Some, None};
 ghost use Rattle.geometry.specs.Geometry.{blocks_of};
-ghost use Rattle.flash_rule.specs.Views.{without, with_owned};
+ghost use Rattle.flash_rule.specs.Views.{with_owned};
 ghost use Rattle.flash_table.specs.Owning.{owned_of};
+ghost use Rattle.flash_table.specs.GivingUp.{left_free, left_retired};
 ghost use Rattle.flash_table.specs.Flash.{IsBroomOf, broom_view, own_blocks, geometry_of, device};
 ghost use Rattle.flash_table.specs.Erasing.{IsUnread, NowErases, FoundBusy, Erases, CanLiveOn, IsLastErase, words_in_block};
 ghost use Rattle.flash_table.specs.declared.broom_seat.ReclaimedBlock.{ReclaimedBlock};
@@ -68,7 +69,7 @@ impl Flash {
     pub fn free_block(&self, broom: &mut BroomSeat)
         requires broom { IsBroomOf self.now broom.old }
         requires wiped { (o : ReclaimedBlock) × CanLiveOn self.now broom.old o }
-        ensures told { (o : ReclaimedBlock) → (own_blocks broom.old).reclaiming ≡ reclaiming.Erasing o → broom_view broom.new ≡ record (broom_view broom.old) { owns = without o.block (broom_view broom.old).owns } }
+        ensures told { (o : ReclaimedBlock) → (own_blocks broom.old).reclaiming ≡ reclaiming.Erasing o → broom_view broom.new ≡ left_free (broom_view broom.old) o }
         ensures blocks { own_blocks broom.new ≡ record (own_blocks broom.old) { reclaiming = reclaiming.Nothing } }
         ensures broom { IsBroomOf self.now broom.new }
     {
@@ -115,7 +116,7 @@ impl Flash {
     pub fn retire_block(&self, broom: &mut BroomSeat)
         requires broom { IsBroomOf self.now broom.old }
         requires last { (o : ReclaimedBlock) × IsLastErase self.now broom.old o }
-        ensures told { (o : ReclaimedBlock) → (own_blocks broom.old).reclaiming ≡ reclaiming.Erasing o → broom_view broom.new ≡ record (broom_view broom.old) { owns = without o.block (broom_view broom.old).owns } }
+        ensures told { (o : ReclaimedBlock) → (own_blocks broom.old).reclaiming ≡ reclaiming.Erasing o → broom_view broom.new ≡ left_retired (broom_view broom.old) o }
         ensures blocks { own_blocks broom.new ≡ record (own_blocks broom.old) { reclaiming = reclaiming.Nothing } }
         ensures broom { IsBroomOf self.now broom.new }
     {

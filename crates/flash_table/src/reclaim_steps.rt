@@ -3,8 +3,9 @@ ghost use Rattle.std.specs.Prelude.{◌≡◌, ◌<◌, ◌≤◌, [], ◌∷◌
 ghost use Rattle.geometry.specs.Geometry.{blocks_of, pages_of, endurance_of};
 ghost use Rattle.geometry.specs.PinWords.{FitsPin, pin_word};
 ghost use Rattle.geometry.specs.declared.pin_word.Phase.TheVariants as phase;
-ghost use Rattle.flash_rule.specs.Views.{without, with_owned};
+ghost use Rattle.flash_rule.specs.Views.{with_owned};
 ghost use Rattle.flash_rule.specs.BroomPlays.{Loaded, IsLastLoaded, owned_as};
+ghost use Rattle.flash_table.specs.GivingUp.{left_drained};
 ghost use Rattle.flash_table.specs.Flash.{IsBroomOf, broom_view, own_blocks, geometry_of};
 ghost use Rattle.flash_table.specs.declared.broom_seat.ReclaimedBlock.{ReclaimedBlock};
 ghost use Rattle.flash_table.specs.declared.broom_seat.Reclaiming.TheVariants as reclaiming;
@@ -67,7 +68,7 @@ impl Flash {
     pub fn drain(&self, broom: &mut BroomSeat)
         requires broom { IsBroomOf self.now broom.old }
         requires cleared { (o : ReclaimedBlock) × ((own_blocks broom.old).reclaiming ≡ reclaiming.Draining o) × ((o.block < blocks_of (geometry_of self.now)) × (o.written ≤ (broom_view broom.old).cleared)) }
-        ensures told { (o : ReclaimedBlock) → (own_blocks broom.old).reclaiming ≡ reclaiming.Draining o → broom_view broom.new ≡ record (broom_view broom.old) { owns = without o.block (broom_view broom.old).owns; drains = (broom_view broom.old).drains ++ record { block = o.block; generation = o.generation } ∷ [] } }
+        ensures told { (o : ReclaimedBlock) → (own_blocks broom.old).reclaiming ≡ reclaiming.Draining o → broom_view broom.new ≡ left_drained (broom_view broom.old) o }
         ensures blocks { own_blocks broom.new ≡ record (own_blocks broom.old) { reclaiming = reclaiming.Nothing } }
         ensures broom { IsBroomOf self.now broom.new }
     {

@@ -13,6 +13,7 @@ ghost use Rattle.flash_rule.specs.declared.facts.Work.{Work};
 ghost use Rattle.flash_rule.specs.World.{sector_word, data_word, is_intact};
 ghost use Rattle.flash_rule.specs.Plays.{Looked, Called, CanPlace, CanPut, CanCount, CanClose, IsOn, words_in, next_page, is_unpinned};
 ghost use Rattle.flash_table.specs.Owning.{owned_of};
+ghost use Rattle.flash_table.specs.GivingUp.{closed_pass};
 ghost use Rattle.flash_table.specs.Flash.{IsPassOf, Taken, Denied, view_of, geometry_of, opened_of};
 ghost use Rattle.flash_table.specs.declared.pass.OpenBlock.{OpenBlock};
 
@@ -174,7 +175,7 @@ impl Flash {
     pub fn close(&self, pass: &mut Pass)
         requires pass { IsPassOf self.now pass.old }
         requires settled { (o : OpenBlock) × (opened_of pass.old ≡ Some o) × CanClose (view_of pass.old) (owned_of o) × (o.block < blocks_of (geometry_of self.now)) }
-        ensures told { view_of pass.new ≡ record (view_of pass.old) { owns = []; work = None } }
+        ensures told { view_of pass.new ≡ closed_pass (view_of pass.old) (opened_of pass.old) }
         ensures opened { opened_of pass.new ≡ None }
         ensures pass { IsPassOf self.now pass.new }
     {

@@ -10,10 +10,10 @@ use Rattle.ftl_one.specs.declared.role.Role.{Role}
 use Rattle.ftl_one.specs.declared.role.Role.TheVariants.{Free, Open, Closed, Spare, Retired}
 use Rattle.ftl_one.specs.declared.store.Store.{Store}
 use Rattle.ftl_one.specs.declared.one_ftl.OneFtl.{OneFtl}
-use Rattle.ftl_one.specs.Stock.{Entry, live_entries, is_free, is_closed, open_of, free_of, spare_of}
+use Rattle.ftl_one.specs.Stock.{Entry, live_entries, is_free, is_closed, open_of, free_of, spare_of, is_retired}
 use Rattle.ftl_one.specs.Entries.{live_count}
 use Rattle.ftl_one.specs.Store.{geometry_of, entries_of, erases_of, retired_of, counts_of, HasRoomFor, Clears, Erases}
-use Rattle.ftl_one.specs.Lawful.{IsLawful, role_in, is_retired, has_pages}
+use Rattle.ftl_one.specs.Lawful.{IsLawful, role_in, has_pages}
 use Rattle.ftl_one.specs.OneFtl.{stock_of}
 use Rattle.ftl_one.proofs.LawfulLemmas.{closed_else, lawful-collect, closed≢spare}
 use Rattle.ftl_one.proofs.FtlLemmas.{none_found, closed_by, open_of-stock, free_of-stock, spare_found}

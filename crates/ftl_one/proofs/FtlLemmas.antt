@@ -10,17 +10,18 @@ use Rattle.std.proofs.lemmas.Bool.{false≢true, cases_eq, cases_lt, cases_Bool,
 use Rattle.std.proofs.lemmas.Nat.{mul-le}
 use Rattle.geometry.specs.Geometry.{blocks_of, pages_of, endurance_of, sectors_of as sector_count_of, hosts_of}
 use Rattle.geometry.specs.Greedy.{greedy_of, IsGreedy, IsClosed}
+use Rattle.geometry.specs.declared.limits.TheConstants.{MAX_BLOCKS, MAX_ENDURANCE, MAX_PAGES}
 use Rattle.die.proofs.DieLemmas.{erases-block}
 use Rattle.ftl_one.specs.declared.role.Role.{Role}
 use Rattle.ftl_one.specs.declared.role.Role.TheVariants.{Free, Open, Closed, Spare, Retired}
 use Rattle.ftl_one.specs.declared.store.Store.{Store}
 use Rattle.ftl_one.specs.declared.one_ftl.OneFtl.{OneFtl}
-use Rattle.ftl_one.specs.Stock.{Stock, Block, Entry, is_open, is_free, is_spare, is_closed, open_of, free_of, spare_of, live_of, victim_of, change_at, unused, forget, forgotten, with_page, closed_if_full, filled, emptied, live_entries}
+use Rattle.ftl_one.specs.Stock.{Stock, Block, Entry, is_open, is_free, is_spare, is_closed, open_of, free_of, spare_of, live_of, victim_of, change_at, unused, forget, forgotten, with_page, closed_if_full, filled, emptied, live_entries, is_retired}
 use Rattle.ftl_one.specs.Entries.{live_count}
 use Rattle.ftl_one.specs.Store.{geometry_of, sectors_of, entries_of, erases_of, retired_of, counts_of, KeepsBlocks, Puts, Clears, Erases, HasRoom}
-use Rattle.ftl_one.specs.Lawful.{IsLawful, role_in, is_retired}
+use Rattle.ftl_one.specs.Lawful.{IsLawful, role_in}
 use Rattle.ftl_one.specs.Blocks.{block_in, blocks_in, weight}
-use Rattle.ftl_one.specs.Laws.{HasRetired}
+use Rattle.ftl_one.specs.Laws.{HasRetired, block_at}
 use Rattle.ftl_one.specs.OneFtl.{stock_of}
 use Rattle.ftl_one.proofs.BlocksLemmas.{table, length-table, get_or-table, table_is, table-change, table-map, position_alone, open_of-blocks, free_of-blocks, spare_of-blocks, victim_of-blocks}
 use Rattle.ftl_one.proofs.LawfulLemmas.{closed_else, inside, open≢retired}
@@ -241,6 +242,11 @@ pub get_or-blocks : (s : Store) (roles : List Role) (b : ℕ) (d : Block) → b 
 unfolding blocks_in
 get_or-blocks s roles b d low = get_or-table (block_in s roles) (length roles) b d low
 
+-- a block of the stock is what the store and the role say of it
+pub block_at-stock : (f : OneFtl) (b : ℕ) → b < blocks_of (geometry_of f.store) → block_at (stock_of f) b ≡ block_in f.store f.roles.items b
+unfolding stock_of
+block_at-stock f b low = get_or-blocks f.store f.roles.items b (unused Retired) (omega (arith, low, f.roles_sized))
+
 -- the lowest free block is free
 pub free_found : (f : OneFtl) (b : ℕ) → free_of (stock_of f).blocks ≡ Some b → (b < length f.roles.items) × (role_in f.roles.items b ≡ Free)
 free_found f b e =
@@ -294,8 +300,8 @@ total_small f =
     let within : k < blocks_of g = omega (arith, low, f.roles_sized) in
     let worn = mul-le (pages_of g + 1) (erases_of s k) (pages_of g + 1) (endurance_of g) (omega arith) (erases_within s k within) in
     omega (arith, worn, entries_within s k within)) in
-    let one = mul-le (pages_of g + 1) (endurance_of g) 1025 1000000 (omega (arith, s.die.geometry.in_limits.pages_high)) (omega (arith, s.die.geometry.in_limits.endurance_high)) in
-    let all = mul-le (length f.roles.items) m 4096 1025001024 (omega (arith, f.roles_sized, s.die.geometry.in_limits.blocks_high)) (omega (arith, one, s.die.geometry.in_limits.pages_high)) in
+    let one = mul-le (pages_of g + 1) (endurance_of g) (MAX_PAGES + 1) MAX_ENDURANCE (omega (arith, s.die.geometry.in_limits.pages_high)) (omega (arith, s.die.geometry.in_limits.endurance_high)) in
+    let all = mul-le (length f.roles.items) m MAX_BLOCKS ((MAX_PAGES + 1) * MAX_ENDURANCE + MAX_PAGES) (omega (arith, f.roles_sized, s.die.geometry.in_limits.blocks_high)) (omega (arith, one, s.die.geometry.in_limits.pages_high)) in
     omega (arith, f.bounded, most, all)
 
 -- the roles and the marks of the layer once one was rewritten

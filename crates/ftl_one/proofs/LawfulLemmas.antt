@@ -3,7 +3,8 @@ use Rattle.std.proofs.Common.{◌≡◌, ◌≢◌, ◌⊎◌, inl, inr, ℕ, �
 use Rattle.std.proofs.lemmas.Bool.{cases_eq, cases_lt}
 use Rattle.ftl_one.specs.declared.role.Role.{Role}
 use Rattle.ftl_one.specs.declared.role.Role.TheVariants.{Free, Open, Closed, Spare, Retired}
-use Rattle.ftl_one.specs.Lawful.{IsLawful, is_retired, has_pages}
+use Rattle.ftl_one.specs.Lawful.{IsLawful, has_pages}
+use Rattle.ftl_one.specs.Stock.{is_retired}
 
 some_same : (b c : ℕ) → Some b ≡ Some c → b ≡ c
 some_same b c h = cc

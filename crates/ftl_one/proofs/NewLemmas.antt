@@ -7,9 +7,9 @@ use Rattle.geometry.specs.Geometry.{blocks_of, pages_of}
 use Rattle.ftl_one.specs.declared.role.Role.{Role}
 use Rattle.ftl_one.specs.declared.role.Role.TheVariants.{Free, Open, Closed, Spare, Retired}
 use Rattle.ftl_one.specs.declared.store.Store.{Store}
-use Rattle.ftl_one.specs.Stock.{Block, Entry, unused, is_closed}
+use Rattle.ftl_one.specs.Stock.{Block, Entry, unused, is_closed, is_retired}
 use Rattle.ftl_one.specs.Store.{geometry_of, entries_of, erases_of, retired_of, IsNew}
-use Rattle.ftl_one.specs.Lawful.{IsLawful, role_in, is_retired, has_pages}
+use Rattle.ftl_one.specs.Lawful.{IsLawful, role_in, has_pages}
 use Rattle.ftl_one.specs.Blocks.{block_in, blocks_in}
 use Rattle.ftl_one.proofs.BlocksLemmas.{table_is}
 

@@ -2,10 +2,7 @@
 use Rattle.std.specs.Prelude.{◌≡◌, ℕ, ◌<◌, ◌≤◌, Bool, true, false, List, Option, None, Some, length, map, slice_index_or}
 use Rattle.ftl_one.specs.declared.role.Role.{Role}
 use Rattle.ftl_one.specs.declared.role.Role.TheVariants.{Free, Open, Closed, Spare, Retired}
-
-abbrev pub is_retired : Role → Bool
-is_retired Retired = true
-is_retired _ = false
+use Rattle.ftl_one.specs.Stock.{is_retired}
 
 -- a block of this role has pages
 abbrev pub has_pages : Role → Bool

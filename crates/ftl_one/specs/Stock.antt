@@ -51,6 +51,10 @@ abbrev pub is_spare : Role → Bool
 is_spare Spare = true
 is_spare _ = false
 
+abbrev pub is_retired : Role → Bool
+is_retired Retired = true
+is_retired _ = false
+
 -- the open block, the lowest free block, and the spare
 abbrev pub open_of : List Block → Option ℕ
 open_of blocks = position (λ block. is_open block.role) blocks

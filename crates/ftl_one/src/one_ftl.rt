@@ -42,12 +42,12 @@ pub struct OneFtl {
 }
 
 impl OneFtl {
-    ghost use Rattle.ftl_one.specs.Laws.{CollectsAtMostOne, ErasesNothing, HasRetired};
+    ghost use Rattle.ftl_one.specs.Laws.{CollectsAtMostOne, ErasesNothing, HasRetired, block_at};
     ghost use Rattle.std.specs.Prelude.{◌≢◌, [], IfOk, IfSome, IfNone, OnOk, OnErr, ◌^◌};
     ghost use Rattle.geometry.specs.Sectors.{sector_at, was_of, Answers};
     ghost use Rattle.geometry.specs.History.{Write, Trim, step, after};
     ghost use Rattle.ftl_one.specs.OneFtl.{geometry_of, sectors_of, stock_of};
-    ghost use Rattle.ftl_one.specs.Stock.{Stock, next, opening, opened, open_of, free_of, spare_of, victim_of, ready, collect, write_of};
+    ghost use Rattle.ftl_one.specs.Stock.{Stock, next, opening, opened, open_of, free_of, spare_of, victim_of, ready, collect, write_of, live_of, is_retired};
 
     /// A layer with every sector empty.
     pub fn new(alloc: Global, geometry: &Geometry) -> Result<OneFtl, AllocError>
@@ -137,6 +137,30 @@ impl OneFtl {
         ensures erases { result.erases ≡ (stock_of self.now).erases }
     {
         self.counts
+    }
+
+    /// How many erase commands a block has had, the one that failed included.
+    pub fn erases(&self, block: u32) -> u32
+        requires { block < blocks_of (geometry_of self.now) }
+        ensures { result ≡ (block_at (stock_of self.now) block).erases }
+    {
+        self.store.erases(block)
+    }
+
+    /// How many pages of a block are the current page of a sector.
+    pub fn live(&self, block: u32) -> u32
+        requires { block < blocks_of (geometry_of self.now) }
+        ensures { result ≡ live_of (block_at (stock_of self.now) block) }
+    {
+        self.store.live()[block as usize]
+    }
+
+    /// Whether a block's last erase has failed, so that it is never used again.
+    pub fn retired(&self, block: u32) -> bool
+        requires { block < blocks_of (geometry_of self.now) }
+        ensures { result ≡ is_retired (block_at (stock_of self.now) block).role }
+    {
+        matches!(self.roles[block as usize], Role::Retired)
     }
 
     // The open block: the one that there is, or the lowest free block, or the spare after a collection.

@@ -55,6 +55,14 @@ impl Store {
         &self.live
     }
 
+    /// How many erase commands a block has had.
+    pub fn erases(&self, block: u32) -> u32
+        requires { block < blocks_of (geometry_of self.now) }
+        ensures { result ≡ erases_of self.now block }
+    {
+        self.die.erases(block)
+    }
+
     pub fn read(&self, sector: u32, out: &mut [u8]) -> Got
         requires sector { sector < sector_count_of (geometry_of self.now) }
         requires page { length out.old ≡ page_bytes_of (geometry_of self.now) }

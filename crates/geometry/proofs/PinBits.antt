@@ -8,7 +8,7 @@ use Rattle.geometry.specs.PinWords.{FitsPin, phase_bits, pin_word, freed_added, 
 use Rattle.geometry.specs.declared.pin_word.PinWord.{PinWord}
 use Rattle.geometry.specs.declared.pin_word.Phase.{Phase}
 use Rattle.geometry.specs.declared.pin_word.Phase.TheVariants.{Free, Open, Closed, Victim, Drained, Erasing, Retired}
-use Rattle.geometry.specs.declared.pin_word.TheConstants.{TAKEN, NEXT_PHASE, PAGE_WRITTEN}
+use Rattle.geometry.specs.declared.pin_word.TheConstants.{TAKEN, NEXT_PHASE, PAGE_WRITTEN, PHASES, PAGES_WRITTEN}
 
 -- a phase's bits as a number of sixteen
 phase_number : Phase → ℕ
@@ -20,7 +20,7 @@ phase_number Drained = 7
 phase_number Erasing = 9
 phase_number Retired = 11
 
-phase_numbered : (p : Phase) → (phase_bits p ≡ phase_number p * 65536) × (phase_number p < 16)
+phase_numbered : (p : Phase) → (phase_bits p ≡ phase_number p * TAKEN) × (phase_number p < 16)
 unfolding phase_number
 phase_numbered Free = (refl, omega arith)
 phase_numbered Open = (refl, omega arith)
@@ -101,19 +101,19 @@ or_one_even a = let h : bit_or (a * 2 ^ 1 + 0) (0 * 2 ^ 1 + 1) ≡ bit_or a 0 * 
 or_one_odd : (a : ℕ) → bit_or (a * 2 + 1) 1 ≡ a * 2 + 1
 or_one_odd a = or_block 1 a 0 1 1 (omega arith) (omega arith) ∙ ap (λ x. x * 2 + 1) (or_zero_r a)
 
-or_taken : (a r : ℕ) → r < 65536 → bit_or (a * 65536 + r) 65536 ≡ bit_or a 1 * 65536 + r
-or_taken a r low = or_block 16 a 1 r 0 low (omega arith) ∙ ap (λ x. bit_or a 1 * 65536 + x) (or_zero_r r)
+or_taken : (a r : ℕ) → r < TAKEN → bit_or (a * TAKEN + r) TAKEN ≡ bit_or a 1 * TAKEN + r
+or_taken a r low = or_block 12 a 1 r 0 low (omega arith) ∙ ap (λ x. bit_or a 1 * TAKEN + x) (or_zero_r r)
 
 -- the taking bit makes a free block open
 pub takes_free : (p : PinWord) → FitsPin p → p.phase ≡ Free → bit_or (pin_word p) TAKEN ≡ pin_word (record p { phase = Open })
 takes_free p fits free =
     let bits : phase_bits p.phase ≡ 0 = ap phase_bits free in
     let low = fits.readers in
-    let a : ℕ = p.written * 8 + p.generation * 32768 in
-    let e : pin_word p ≡ (a * 2) * 65536 + p.readers = omega arith in
+    let a : ℕ = p.written * PHASES + p.generation * (PHASES * PAGES_WRITTEN) in
+    let e : pin_word p ≡ (a * 2) * TAKEN + p.readers = omega arith in
     let o = or_one_even a in
     let f = or_taken (a * 2) p.readers low in
-    let goal : bit_or (a * 2) 1 * 65536 + p.readers ≡ pin_word (record p { phase = Open }) = omega arith in ap (λ x. bit_or x TAKEN) e ∙ (f ∙ goal)
+    let goal : bit_or (a * 2) 1 * TAKEN + p.readers ≡ pin_word (record p { phase = Open }) = omega arith in ap (λ x. bit_or x TAKEN) e ∙ (f ∙ goal)
 
 -- a taken phase has the lowest bit
 odd : (f : Phase) → ¬ (f ≡ Free) → (n : ℕ) × (phase_number f ≡ n * 2 + 1)
@@ -134,11 +134,11 @@ takes_taken p fits taken =
     let bits = phase_numbered p.phase in
     let bits_is = bits.0 in
     let low = fits.readers in
-    let a : ℕ = n.0 + p.written * 8 + p.generation * 32768 in
-    let e : pin_word p ≡ (a * 2 + 1) * 65536 + p.readers = omega arith in
+    let a : ℕ = n.0 + p.written * PHASES + p.generation * (PHASES * PAGES_WRITTEN) in
+    let e : pin_word p ≡ (a * 2 + 1) * TAKEN + p.readers = omega arith in
     let o = or_one_odd a in
     let f = or_taken (a * 2 + 1) p.readers low in
-    let goal : bit_or (a * 2 + 1) 1 * 65536 + p.readers ≡ pin_word p = omega arith in ap (λ x. bit_or x TAKEN) e ∙ (f ∙ goal)
+    let goal : bit_or (a * 2 + 1) 1 * TAKEN + p.readers ≡ pin_word p = omega arith in ap (λ x. bit_or x TAKEN) e ∙ (f ∙ goal)
 
 -- a map word tells the page that it names
 pub map_same : (m n : MapWord) → FitsMap m → FitsMap n → map_word m ≡ map_word n → m ≡ n

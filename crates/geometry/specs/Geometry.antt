@@ -1,7 +1,6 @@
 -- The numbers of a `Geometry`, which other crates' clauses name by these functions.
 use Rattle.std.specs.Prelude.{ℕ, ◌*◌, ◌/◌}
 use Rattle.geometry.specs.declared.geometry.Geometry.{Geometry}
-use Rattle.geometry.specs.declared.limits.TheConstants.{WORD_BYTES}
 use Rattle.geometry.specs.Limits.{Numbers}
 
 abbrev pub luns_of : Geometry → ℕ
@@ -34,7 +33,7 @@ numbers_of g = record { luns = g.luns; blocks = g.blocks; pages = g.pages; words
 
 -- how many bytes a page has
 abbrev pub page_bytes_of : Geometry → ℕ
-page_bytes_of g = WORD_BYTES * g.words
+page_bytes_of g = 8 * g.words
 
 -- the LUN in which a block lies: the blocks are dealt to the LUNs in equal runs
 abbrev pub lun_of : Geometry → ℕ → ℕ

@@ -2,7 +2,6 @@
 use Rattle.std.specs.Prelude.{◌≡◌, ℕ, ◌+◌, ◌-◌, ◌*◌, ◌%◌, ◌≤◌, ◌<◌, ◌==◌, Bool, not, ◌&&◌, ◌||◌, nat_lt, nat_le, List, [], ◌∷◌, Option, None, Some, if◌then◌else◌}
 use Rattle.geometry.specs.declared.fault.GeometryFault.{GeometryFault}
 use Rattle.geometry.specs.declared.fault.GeometryFault.TheVariants.{Luns, Blocks, Pages, Words, Sectors, Endurance, Passes, TooManyWords, TooFewBlocks}
-use Rattle.geometry.specs.declared.limits.TheConstants.{MAX_LUNS, MIN_BLOCKS, MAX_BLOCKS, MAX_PAGES, MAX_WORDS, MAX_SECTORS, MAX_ENDURANCE, MAX_HOSTS, MAX_BROOMS, MAX_TABLE_WORDS}
 
 -- the numbers that make a device
 pub record Numbers : Type 0 where
@@ -34,17 +33,18 @@ has_room_of blocks pages sectors hosts brooms =
 abbrev pub is_outside : ℕ → ℕ → ℕ → Bool
 is_outside low high n = nat_lt n low || nat_lt high n
 
--- the faults in the order in which they are looked for, each with its test
+-- the faults in the order in which they are looked for, each with its test. The limits stand here as numerals, so that the
+-- constants of the code are held to them
 abbrev pub fault_tests : Numbers → List (Bool × GeometryFault)
 fault_tests n =
-    (is_outside 1 MAX_LUNS n.luns, Luns)
-    ∷ ((is_outside MIN_BLOCKS MAX_BLOCKS n.blocks || not (n.blocks % n.luns == 0), Blocks)
-    ∷ ((is_outside 1 MAX_PAGES n.pages, Pages)
-    ∷ ((is_outside 1 MAX_WORDS n.words, Words)
-    ∷ ((is_outside 1 MAX_SECTORS n.sectors, Sectors)
-    ∷ ((is_outside 1 MAX_ENDURANCE n.endurance, Endurance)
-    ∷ ((nat_lt MAX_HOSTS n.hosts || nat_lt MAX_BROOMS n.brooms || (n.hosts == 0 && nat_lt 0 n.brooms), Passes)
-    ∷ ((nat_lt MAX_TABLE_WORDS (table_words_of n.blocks n.pages n.words n.sectors), TooManyWords)
+    (is_outside 1 8 n.luns, Luns)
+    ∷ ((is_outside 3 4096 n.blocks || not (n.blocks % n.luns == 0), Blocks)
+    ∷ ((is_outside 1 16384 n.pages, Pages)
+    ∷ ((is_outside 1 512 n.words, Words)
+    ∷ ((is_outside 1 1048576 n.sectors, Sectors)
+    ∷ ((is_outside 1 1000000 n.endurance, Endurance)
+    ∷ ((nat_lt 500 n.hosts || nat_lt 32 n.brooms || (n.hosts == 0 && nat_lt 0 n.brooms), Passes)
+    ∷ ((nat_lt 16777216 (table_words_of n.blocks n.pages n.words n.sectors), TooManyWords)
     ∷ ((not (has_room_of n.blocks n.pages n.sectors n.hosts n.brooms), TooFewBlocks)
     ∷ []))))))))
 
@@ -60,22 +60,22 @@ first_fault n = first_that_holds (fault_tests n)
 -- the numbers break no limit
 pub record IsWithinLimits (n : Numbers) : Type 0 where
   pub luns_low : 1 ≤ n.luns
-  pub luns_high : n.luns ≤ MAX_LUNS
-  pub blocks_low : MIN_BLOCKS ≤ n.blocks
-  pub blocks_high : n.blocks ≤ MAX_BLOCKS
+  pub luns_high : n.luns ≤ 8
+  pub blocks_low : 3 ≤ n.blocks
+  pub blocks_high : n.blocks ≤ 4096
   pub whole_luns : n.blocks % n.luns ≡ 0
   pub pages_low : 1 ≤ n.pages
-  pub pages_high : n.pages ≤ MAX_PAGES
+  pub pages_high : n.pages ≤ 16384
   pub words_low : 1 ≤ n.words
-  pub words_high : n.words ≤ MAX_WORDS
+  pub words_high : n.words ≤ 512
   pub sectors_low : 1 ≤ n.sectors
-  pub sectors_high : n.sectors ≤ MAX_SECTORS
+  pub sectors_high : n.sectors ≤ 1048576
   pub endurance_low : 1 ≤ n.endurance
-  pub endurance_high : n.endurance ≤ MAX_ENDURANCE
-  pub hosts_high : n.hosts ≤ MAX_HOSTS
-  pub brooms_high : n.brooms ≤ MAX_BROOMS
+  pub endurance_high : n.endurance ≤ 1000000
+  pub hosts_high : n.hosts ≤ 500
+  pub brooms_high : n.brooms ≤ 32
   pub lone : n.hosts ≡ 0 → n.brooms ≡ 0
-  pub table : table_words_of n.blocks n.pages n.words n.sectors ≤ MAX_TABLE_WORDS
+  pub table : table_words_of n.blocks n.pages n.words n.sectors ≤ 16777216
   pub one_thread : n.hosts ≡ 0 → n.sectors < (n.blocks - 1) * n.pages
   pub shared_blocks : 0 < n.hosts → n.hosts + 2 * n.brooms < n.blocks
   pub shared_space : 0 < n.hosts → n.sectors ≤ (n.blocks - (n.hosts + 2 * n.brooms)) * n.pages

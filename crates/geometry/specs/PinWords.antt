@@ -1,5 +1,6 @@
 -- The word of a block.
-use Rattle.std.specs.Prelude.{◌≡◌, ℕ, ◌+◌, ◌-◌, ◌*◌, ◌<◌}
+use Rattle.std.specs.Prelude.{◌≡◌, ℕ, ◌+◌, ◌-◌, ◌*◌, ◌<◌, ◌≤◌}
+use Rattle.geometry.specs.Limits.{Numbers}
 use Rattle.geometry.specs.declared.pin_word.Phase.{Phase}
 use Rattle.geometry.specs.declared.pin_word.Phase.TheVariants.{Free, Open, Closed, Victim, Drained, Erasing, Retired}
 use Rattle.geometry.specs.declared.pin_word.PinWord.{PinWord}
@@ -20,6 +21,13 @@ pub record FitsPin (p : PinWord) : Type 0 where
   pub readers : p.readers < READERS
   pub written : p.written < PAGES_WRITTEN
   pub generation : p.generation < GENERATIONS
+  pub free : p.phase ≡ Free → p.written ≡ 0
+
+-- a state that a block of a device can be in, each host reading one page at most
+pub record IsStateOf (n : Numbers) (p : PinWord) : Type 0 where
+  pub readers : p.readers ≤ n.hosts
+  pub written : p.written ≤ n.pages
+  pub generation : p.generation < n.endurance
   pub free : p.phase ≡ Free → p.written ≡ 0
 
 -- the word of a block in this state

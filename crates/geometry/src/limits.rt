@@ -5,7 +5,7 @@ pub const MIN_BLOCKS: u32 = 3;
 /// The most blocks of a device, over all its LUNs.
 pub const MAX_BLOCKS: u32 = 4096;
 /// The most pages of a block.
-pub const MAX_PAGES: u32 = 1024;
+pub const MAX_PAGES: u32 = 16_384;
 /// The most 64-bit words of a page.
 pub const MAX_WORDS: u32 = 512;
 /// The most sectors.

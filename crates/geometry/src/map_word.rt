@@ -1,23 +1,27 @@
 //! The word of a sector in the shared table: which page holds the sector's data.
 ghost use Rattle.std.specs.Prelude.{◌≡◌, ◌<◌, IfSome, IfNone};
-ghost use Rattle.geometry.specs.MapWords.{FitsMap, map_word};
+ghost use Rattle.geometry.specs.Geometry.{numbers_of};
+ghost use Rattle.geometry.specs.MapWords.{FitsMap, IsPageOf, map_word};
 ghost use Rattle.geometry.specs.declared.map_word.MapWord.{MapWord};
 
+use crate::geometry::Geometry;
 use std::fmt;
 use std::fmt::{Display, Formatter};
 
 /// The word of a sector that no page holds.
 pub const UNMAPPED: u64 = 0;
-/// Bit 63 of the word of a sector that a page holds.
-pub const MAPPED: u64 = 0x8000_0000_0000_0000;
-/// One more generation: bits 32 to 62.
-pub const MAP_GENERATION: u64 = 0x1_0000_0000;
-/// One block further: bits 16 to 31. The page has the bits below.
-pub const MAP_BLOCK: u64 = 0x1_0000;
-/// Generations in a map word are below this.
-pub const MAP_GENERATIONS: u64 = 0x8000_0000;
-/// Blocks in a map word are below this.
+/// Pages are below this: a block has at most 16,384. They have bits 0 to 15.
+const MAP_PAGES: u64 = 0x1_0000;
+/// Blocks are below this: a device has at most 4,096.
 pub const MAP_BLOCKS: u64 = 0x1_0000;
+/// Generations are below this: a block is erased at most 1,000,000 times.
+pub const MAP_GENERATIONS: u64 = 0x8000_0000;
+/// One block further. Blocks have bits 16 to 31.
+pub const MAP_BLOCK: u64 = MAP_PAGES;
+/// One more generation. The generation has bits 32 to 62.
+pub const MAP_GENERATION: u64 = MAP_BLOCKS * MAP_BLOCK;
+/// Bit 63 of the word of a sector that a page holds.
+pub const MAPPED: u64 = MAP_GENERATIONS * MAP_GENERATION;
 
 /// A page of one generation of its block.
 #[derive(Clone, Copy, PartialEq, Eq, Debug)]
@@ -58,6 +62,13 @@ impl MapWord {
 pub fn map_word_names_one_page()
     ensures { (m n : MapWord) → FitsMap m → FitsMap n → map_word m ≡ map_word n → m ≡ n }
 {}
+
+/// The fields have room for every page of every device.
+pub fn every_page_fits(geometry: &Geometry)
+    ensures { (page : MapWord) → IsPageOf (numbers_of geometry.now) page → FitsMap page }
+{
+    let _geometry = *geometry;
+}
 
 /// For people who debug: `block 2 page 3 generation 1`.
 impl Display for MapWord {

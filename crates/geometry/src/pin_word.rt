@@ -1,27 +1,34 @@
 //! The word of a block in the shared table: who reads it, and in which state it is.
 ghost use Rattle.std.specs.Prelude.{◌≡◌, ◌≢◌, ◌<◌, IfSome, IfNone};
 ghost use Rattle.geometry.specs.declared.pin_word.PinWord.{PinWord};
-ghost use Rattle.geometry.specs.PinWords.{FitsPin, phase_bits, pin_word, freed_added, kept_added};
+ghost use Rattle.geometry.specs.Geometry.{numbers_of};
+ghost use Rattle.geometry.specs.PinWords.{FitsPin, IsStateOf, phase_bits, pin_word, freed_added, kept_added};
 
+use crate::geometry::Geometry;
 use std::fmt;
 use std::fmt::{Display, Formatter};
 
-/// One reader more. Readers have bits 0 to 15.
-pub const READER: u64 = 1;
-/// Bit 16: somebody has taken the block since it was free.
-pub const TAKEN: u64 = 0x1_0000;
-/// From a taken block's phase to the next one. Phases have bits 17 to 19.
-pub const NEXT_PHASE: u64 = 0x2_0000;
-/// One page written more. Pages written have bits 20 to 31.
-pub const PAGE_WRITTEN: u64 = 0x10_0000;
-/// One generation more. The generation has bits 32 to 63.
-pub const GENERATION: u64 = 0x1_0000_0000;
-/// Readers are below this.
-pub const READERS: u64 = 0x1_0000;
-/// Pages written are below this.
-pub const PAGES_WRITTEN: u64 = 0x1000;
-/// Generations are below this.
+// How many values each field of a word has, from the lowest bit up: every other number here follows.
+
+/// Readers are below this: each of at most 500 hosts has one page pinned at a time. They have bits 0 to 11.
+pub const READERS: u64 = 0x1000;
+/// The phases of a taken block are below this.
+const PHASES: u64 = 8;
+/// Pages written are below this: a block has at most 16,384 pages.
+pub const PAGES_WRITTEN: u64 = 0x1_0000;
+/// Generations are below this: a block is erased at most 1,000,000 times.
 pub const GENERATIONS: u64 = 0x1_0000_0000;
+
+/// One reader more.
+pub const READER: u64 = 1;
+/// Bit 12: somebody has taken the block since it was free.
+pub const TAKEN: u64 = READERS;
+/// From a taken block's phase to the next one. Phases have bits 13 to 15.
+pub const NEXT_PHASE: u64 = 2 * TAKEN;
+/// One page written more. Pages written have bits 16 to 31.
+pub const PAGE_WRITTEN: u64 = PHASES * NEXT_PHASE;
+/// One generation more. The generation has bits 32 to 63.
+pub const GENERATION: u64 = PAGES_WRITTEN * PAGE_WRITTEN;
 
 /// The bits of each phase.
 const FREE: u64 = 0;
@@ -134,6 +141,13 @@ impl PinWord {
 pub fn pin_word_tells_one_state()
     ensures { (p q : PinWord) → FitsPin p → FitsPin q → pin_word p ≡ pin_word q → p ≡ q }
 {}
+
+/// The fields have room for every state of a block, of every device.
+pub fn every_state_fits(geometry: &Geometry)
+    ensures { (pin : PinWord) → IsStateOf (numbers_of geometry.now) pin → FitsPin pin }
+{
+    let _geometry = *geometry;
+}
 
 /// What the owner of an erased block with so many pages written adds to make it free, one generation on.
 pub fn freed(written: u32) -> u64

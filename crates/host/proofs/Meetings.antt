@@ -1,8 +1,10 @@
 -- Two passes that meet: what goes along with their notes, and what each of them knows in the end.
-use Rattle.std.proofs.Common.{◌≡◌, ℕ, ◌+◌, true, false, [], Option, Some, None, is_some, sym, refl, ap, ◌∙◌}
+use Rattle.std.proofs.Common.{◌≡◌, ℕ, ◌+◌, ◌++◌, true, false, List, [], Option, Some, None, is_some, sym, refl, ap, ◌∙◌}
+use Rattle.std.proofs.lemmas.List.{append-nil}
 use Rattle.flash_rule.specs.declared.facts.Name.{Name}
 use Rattle.flash_rule.specs.declared.facts.Role.{Role}
 use Rattle.flash_rule.specs.declared.facts.Role.TheVariants.{Player}
+use Rattle.flash_rule.specs.declared.facts.Owned.{Owned}
 use Rattle.flash_rule.specs.declared.carried.Carried.{Carried}
 use Rattle.flash_rule.specs.declared.view.View.{View}
 use Rattle.flash_rule.specs.Views.{is_pass}
@@ -12,7 +14,7 @@ use Rattle.flash_rule.proofs.Still.{pass_of}
 use Rattle.flash_table.specs.declared.flash.Flash.{Flash}
 use Rattle.flash_table.specs.declared.pass.Pass.{Pass}
 use Rattle.flash_table.specs.declared.pass.OpenBlock.{OpenBlock}
-use Rattle.flash_table.specs.Owning.{owned_list}
+use Rattle.flash_table.specs.Owning.{owned_list, closed_list}
 use Rattle.flash_table.specs.Flash.{view_of, opened_of}
 use Rattle.host.specs.Ready.{IsRested}
 use Rattle.host.specs.Told.{MetTold}
@@ -70,10 +72,12 @@ module _ (v v' w : View) (n : ℕ) (pass : is_pass v.role ≡ true) (pass' : is_
       }
 
 -- a pass with nothing open owns nothing and fills nothing
-pub nothing_left : (f : Flash) (p : Pass) → IsRested f p → opened_of p ≡ None → view_of p ≡ record (view_of p) { owns = []; work = None }
+pub nothing_left : (f : Flash) (p : Pass) → IsRested f p → opened_of p ≡ None → view_of p ≡ record (view_of p) { owns = []; work = None; ceded = (view_of p).ceded ++ closed_list (opened_of p) }
 nothing_left f p rested closed =
     let owns : (view_of p).owns ≡ [] = p.owns ∙ ap owned_list closed in
-    let work = rested.idle closed in λ i. record (view_of p) { owns = owns i; work = work i }
+    let work = rested.idle closed in
+    let ceded : (view_of p).ceded ≡ (view_of p).ceded ++ closed_list (opened_of p) = sym (append-nil (view_of p).ceded) ∙ ap (λ (l : List Owned). (view_of p).ceded ++ l) (ap closed_list (sym closed)) in
+    λ i. record (view_of p) { owns = owns i; work = work i; ceded = ceded i }
 
 -- without a block that is open there is none
 pub closed : (x : Option OpenBlock) → is_some x ≡ false → x ≡ None

@@ -9,7 +9,7 @@ use Rattle.geometry.specs.Limits.{Numbers}
 use Rattle.geometry.specs.MapWords.{FitsMap}
 use Rattle.geometry.specs.declared.answer.Was.{Was}
 use Rattle.geometry.specs.declared.map_word.MapWord.{MapWord}
-use Rattle.geometry.specs.declared.pin_word.Phase.TheVariants.{Open}
+use Rattle.geometry.specs.declared.pin_word.Phase.TheVariants.{Open, Closed}
 use Rattle.flash_rule.specs.declared.facts.Owned.{Owned}
 use Rattle.flash_rule.specs.declared.facts.Work.{Work}
 use Rattle.flash_rule.specs.declared.view.View.{View}
@@ -143,31 +143,41 @@ module _ (f : Flash) (v : View) (p q : Pass) (o : OpenBlock) (h : Starts f v p o
       left_or_full = let left = h.left in lt_or_eq (o.written + 1) (pages_of (geometry_of f)) (omega arith)
 
       -- the last step
-      last : view_of w ≡ record (view_of r) { owns = (view_of w).owns; work = (view_of w).work }
+      last : view_of w ≡ record (view_of r) { owns = (view_of w).owns; work = (view_of w).work; ceded = (view_of w).ceded }
       last =
           ⊎_elim
-          (λ (left : o.written + 1 < pages_of (geometry_of f)). let same = (e.kept left).0 in same ∙ (λ i. record (view_of r) { owns = (sym same i).owns; work = (sym same i).work }))
-          (λ (full : o.written + 1 ≡ pages_of (geometry_of f)). let same = (e.full full).0 in same ∙ (λ i. record (view_of r) { owns = (sym same i).owns; work = (sym same i).work }))
+          (λ (left : o.written + 1 < pages_of (geometry_of f)). let same = (e.kept left).0 in same ∙ (λ i. record (view_of r) { owns = (sym same i).owns; work = (sym same i).work; ceded = (sym same i).ceded }))
+          (λ (full : o.written + 1 ≡ pages_of (geometry_of f)). let same = (e.full full).0 in same ∙ (λ i. record (view_of r) { owns = (sym same i).owns; work = (sym same i).work; ceded = (sym same i).ceded }))
           left_or_full
 
       -- all steps
-      whole : view_of w ≡ record v { seen = (view_of r).seen; mine = v.mine ++ c ∷ []; programs = v.programs ++ page ∷ []; owns = (view_of w).owns; work = (view_of w).work; taken = (view_of p).taken; denied = (view_of p).denied }
+      whole : view_of w ≡ record v { seen = (view_of r).seen; mine = v.mine ++ c ∷ []; programs = v.programs ++ page ∷ []; owns = (view_of w).owns; work = (view_of w).work; taken = (view_of p).taken; denied = (view_of p).denied; ceded = (view_of w).ceded }
       whole =
           let owns = (view_of w).owns in
           let work = (view_of w).work in
+          let ceded = (view_of w).ceded in
           let seen = (view_of r).seen in
           let mine : View → List Call = λ y. y.mine ++ c ∷ [] in
           let programs : View → List MapWord = λ y. y.programs ++ page ∷ [] in
           last
-          ∙ ((λ i. record (told.changed i) { owns = owns; work = work })
-          ∙ ((λ i. record (x.changed i) { seen = seen; mine = mine (x.changed i); owns = owns; work = work })
-          ∙ (λ i. record (h.changed i) { seen = seen; mine = mine (h.changed i); programs = programs (h.changed i); owns = owns; work = work })))
+          ∙ ((λ i. record (told.changed i) { owns = owns; work = work; ceded = ceded })
+          ∙ ((λ i. record (x.changed i) { seen = seen; mine = mine (x.changed i); owns = owns; work = work; ceded = ceded })
+          ∙ (λ i. record (h.changed i) { seen = seen; mine = mine (h.changed i); programs = programs (h.changed i); owns = owns; work = work; ceded = ceded })))
 
       -- the block, where a page is left in it, or where none is
       owns_left : o.written + 1 < pages_of (geometry_of f) → (view_of w).owns ≡ record { block = page.block; phase = Open; generation = page.generation; written = page.page + 1 } ∷ []
       owns_left left =
           let entry : MapWord → List Owned = λ m. record { block = m.block; phase = Open; generation = m.generation; written = m.page + 1 } ∷ [] in
           ap (λ (y : View). y.owns) (e.kept left).0 ∙ (ap (λ (y : View). y.owns) told.changed ∙ (ap (λ (y : View). y.owns) x.changed ∙ ap entry (sym x.next)))
+
+      -- the blocks given up, before the last step and after it
+      given_before : (view_of r).ceded ≡ v.ceded
+      given_before = ap (λ (y : View). y.ceded) told.changed ∙ (ap (λ (y : View). y.ceded) x.changed ∙ ap (λ (y : View). y.ceded) h.changed)
+
+      given_at_last : o.written + 1 ≡ pages_of (geometry_of f) → (view_of w).ceded ≡ v.ceded ++ record { block = page.block; phase = Closed; generation = page.generation; written = page.page + 1 } ∷ []
+      given_at_last full =
+          let entry : MapWord → List Owned = λ m. record { block = m.block; phase = Closed; generation = m.generation; written = m.page + 1 } ∷ [] in
+          ap (λ (y : View). y.ceded) (e.full full).0 ∙ (λ i. given_before i ++ entry (sym x.next i))
 
       pages_same : v.numbers.pages ≡ pages_of (geometry_of f)
       pages_same = ap (λ (y : View). y.numbers.pages) (sym h.changed) ∙ ap (λ (z : Numbers). z.pages) h.pass.numbers
@@ -196,9 +206,9 @@ module _ (f : Flash) (v : View) (p q : Pass) (o : OpenBlock) (h : Starts f v p o
           let on = block_is in
           let low = h.low in
           let left = h.left in
-          let others : View → View = λ y. record v { seen = y.seen; mine = v.mine ++ Write t s value ∷ []; programs = y.programs; owns = y.owns; work = y.work; taken = y.taken; denied = y.denied } in
+          let others : View → View = λ y. record v { seen = y.seen; mine = v.mine ++ Write t s value ∷ []; programs = y.programs; owns = y.owns; work = y.work; taken = y.taken; denied = y.denied; ceded = y.ceded } in
           record {
-            changed = all ∙ ((λ i. record v { seen = (view_of r).seen; mine = v.mine ++ calls (is i); programs = v.programs ++ page ∷ []; owns = (view_of w).owns; work = (view_of w).work; taken = (view_of p).taken; denied = (view_of p).denied }) ∙ ap others (sym all));
+            changed = all ∙ ((λ i. record v { seen = (view_of r).seen; mine = v.mine ++ calls (is i); programs = v.programs ++ page ∷ []; owns = (view_of w).owns; work = (view_of w).work; taken = (view_of p).taken; denied = (view_of p).denied; ceded = (view_of w).ceded }) ∙ ap others (sym all));
             before = told.before;
             later = subst (λ l. Begins l told.before) begin told.later;
             now = seen ∙ (told.now ∙ ap (λ d. told.before ++ calls d) is);
@@ -210,6 +220,8 @@ module _ (f : Flash) (v : View) (p q : Pass) (o : OpenBlock) (h : Starts f v p o
             begun = λ none. let k = h.begun none in (at ∙ k.0, taken ∙ k.1, denied ∙ (k.2 ∙ ap (λ n. v.denied ++ range_with_len 0 n) (sym on)));
             kept = λ more. owns_left (omega arith);
             closed = λ full. ap (λ (y : View). y.owns) (e.full (omega arith)).0;
+            none_given_up = λ more. ap (λ (y : View). y.ceded) (e.kept (omega arith)).0 ∙ given_before;
+            given_up = λ full. given_at_last (omega arith);
           }
 
       -- what else the write leaves as it was

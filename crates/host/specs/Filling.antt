@@ -6,7 +6,7 @@ use Rattle.flash_rule.specs.declared.facts.Work.{Work}
 use Rattle.flash_rule.specs.declared.view.View.{View}
 use Rattle.flash_rule.specs.Plays.{CanPlace, next_page}
 use Rattle.flash_table.specs.declared.pass.OpenBlock.{OpenBlock}
-use Rattle.flash_table.specs.Owning.{owned_of}
+use Rattle.flash_table.specs.Owning.{owned_of, closed_as}
 
 -- The lowest free block was taken: it is open, with nothing written, and the blocks below it were tried in order and found taken
 pub record TookLowest (v : View) (w : View) (opened : Option OpenBlock) : Type 0 where
@@ -24,7 +24,7 @@ pub record Filled (v : View) (o : OpenBlock) (s : ℕ) (value : List ℕ) (page 
   pub changed : w ≡ record v { work = Some work; programs = v.programs ++ page ∷ []; owns = owned_of (record o { written = o.written + 1 }) ∷ [] }
   pub placeable : CanPlace w s page value
 
--- A block with a page left stays open, and nothing changes; a full one is closed
+-- A block with a page left stays open, and nothing changes; a full one is closed and given up
 pub record ClosedIfFull (pages : ℕ) (v : View) (o : OpenBlock) (w : View) (opened : Option OpenBlock) : Type 0 where
   pub kept : o.written < pages → (w ≡ v) × (opened ≡ Some o)
-  pub full : o.written ≡ pages → (w ≡ record v { owns = []; work = None }) × (opened ≡ None)
+  pub full : o.written ≡ pages → (w ≡ record v { owns = []; work = None; ceded = v.ceded ++ closed_as o ∷ [] }) × (opened ≡ None)

@@ -4,7 +4,7 @@ use Rattle.std.specs.List.{range_with_len}
 use Rattle.geometry.specs.History.{Call, Write, was, Begins}
 use Rattle.geometry.specs.declared.answer.Was.{Was}
 use Rattle.geometry.specs.declared.map_word.MapWord.{MapWord}
-use Rattle.geometry.specs.declared.pin_word.Phase.TheVariants.{Open}
+use Rattle.geometry.specs.declared.pin_word.Phase.TheVariants.{Open, Closed}
 use Rattle.flash_rule.specs.declared.facts.Owned.{Owned}
 use Rattle.flash_rule.specs.declared.facts.Pin.TheVariants.{Clear}
 use Rattle.flash_rule.specs.declared.view.View.{View}
@@ -29,9 +29,10 @@ pub record Searched (v : View) (tries : ℕ) (w : View) : Type 0 where
 
 -- A write that is done: the pass sees a history that begins with all that it had seen, followed by this call alone, and the answer is what
 -- the sector was before it. One page was programmed, the next one of the block that was open, or the first one of a block that was taken,
--- the lowest that was free: the blocks below it were tried in order and found taken. The block stays open as long as a page is left
+-- the lowest that was free: the blocks below it were tried in order and found taken. The block stays open as long as a page is left,
+-- and then it is given up as closed and full
 pub record Wrote (v : View) (t s : ℕ) (value : List ℕ) (answer : Was) (w : View) : Type 0 where
-  pub changed : w ≡ record v { seen = w.seen; mine = v.mine ++ Write t s value ∷ []; programs = w.programs; owns = w.owns; work = w.work; taken = w.taken; denied = w.denied }
+  pub changed : w ≡ record v { seen = w.seen; mine = v.mine ++ Write t s value ∷ []; programs = w.programs; owns = w.owns; work = w.work; taken = w.taken; denied = w.denied; ceded = w.ceded }
   pub before : List Call
   pub later : Begins v.seen before
   pub now : w.seen ≡ before ++ Write t s value ∷ []
@@ -43,6 +44,8 @@ pub record Wrote (v : View) (t s : ℕ) (value : List ℕ) (answer : Was) (w : V
   pub begun : v.owns ≡ [] → (page.page ≡ 0) × (w.taken ≡ v.taken + 1) × (w.denied ≡ v.denied ++ range_with_len 0 page.block)
   pub kept : page.page + 1 < v.numbers.pages → w.owns ≡ record { block = page.block; phase = Open; generation = page.generation; written = page.page + 1 } ∷ []
   pub closed : page.page + 1 ≡ v.numbers.pages → w.owns ≡ []
+  pub none_given_up : page.page + 1 < v.numbers.pages → w.ceded ≡ v.ceded
+  pub given_up : page.page + 1 ≡ v.numbers.pages → w.ceded ≡ v.ceded ++ record { block = page.block; phase = Closed; generation = page.generation; written = page.page + 1 } ∷ []
 
 -- A write that found no block: the pass had none open, each block, in order, was found taken by a take of this call, and nothing else has changed
 pub record Refused (v : View) (w : View) : Type 0 where

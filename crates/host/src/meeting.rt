@@ -1,7 +1,8 @@
 //! What two passes have seen is tied; and a pass is given up.
-ghost use Rattle.std.specs.Prelude.{◌≡◌, None, []};
+ghost use Rattle.std.specs.Prelude.{◌≡◌};
 ghost use Rattle.flash_table.specs.Flash.{view_of, opened_of};
 ghost use Rattle.flash_table.specs.Leaving.{retired_view};
+ghost use Rattle.flash_table.specs.GivingUp.{closed_pass};
 ghost use Rattle.host.specs.Ready.{IsReady};
 ghost use Rattle.host.specs.Told.{MetTold};
 
@@ -28,7 +29,7 @@ pub fn meet(flash: &Flash, first: &mut Pass, second: &mut Pass)
 /// Gives a pass up. The block that it has open, full or not, is closed.
 pub fn retire(flash: &Flash, pass: Pass) -> Retired
     requires { IsReady flash.now pass }
-    ensures { retired_view result ≡ record (view_of pass) { owns = []; work = None } }
+    ensures { retired_view result ≡ closed_pass (view_of pass) (opened_of pass) }
 {
     let mut pass = pass;
     if pass.opened().is_some() {

@@ -33,6 +33,7 @@ abbrev pub is_full : Kind → Bool
 is_full kind.Empty = false
 is_full kind.Written = false
 is_full kind.Page = false
+is_full kind.Met = false
 is_full kind.Full = true
 
 -- the call that a pass makes where it does a line: a read makes none
@@ -55,12 +56,12 @@ abbrev pub IsFound : Sector → Kind → List ℕ → Type 0
 IsFound None k page = k ≡ kind.Empty
 IsFound (Some value) k page = (k ≡ kind.Page) × (page ≡ value)
 
--- the right answer of an op whose sector holds this: a write may be turned away, and a meeting isn't answered by an array
+-- the right answer of an op whose sector holds this: a write may be turned away anywhere, and a meeting asks nothing of it
 abbrev pub IsRight : Op → Sector → Kind → List ℕ → Type 0
 IsRight op.Read x k page = IsFound x k page
 IsRight op.Write x k page = (k ≡ kind.Full) ⊎ (k ≡ kind_of (was_of x))
 IsRight op.Trim x k page = k ≡ kind_of (was_of x)
-IsRight op.Meet x k page = ⊥
+IsRight op.Meet x k page = k ≡ kind.Met
 
 -- a line's answer is right where its sector holds this
 abbrev pub is_right : Answered → Sector → Type 0

@@ -3,12 +3,14 @@ ghost use Rattle.lines.specs.Lines.{kind_of};
 
 use geometry::Was;
 
-/// What a line was answered. With `Page` a read found the value that stands in its answer's page; with `Full` a write found no block.
+/// What a line was answered. With `Page` a read found the value that stands in its answer's page; with `Met` a round has ended; with `Full` a write
+/// found no block.
 #[derive(Clone, Copy, Debug, PartialEq, Eq)]
 pub enum Kind {
     Empty,
     Written,
     Page,
+    Met,
     Full,
 }
 

@@ -46,7 +46,7 @@ fn flashplay<'a>(alloc: Global) -> Result<Command<'a>, AllocError>
         command,
         "pages",
         "64",
-        "Pages of a block, from 1 to 1024",
+        "Pages of a block, from 1 to 16384",
     )?;
     let command = with(
         alloc,

@@ -102,14 +102,14 @@ module _ (f : Flash) where
   both_ready (x ∷ y ∷ z ∷ xs) p q long h h' = absurd (omega (arith, long))
 
   -- each has written its sector: the sectors are both values
-  pub both_values : (xs : List Pass) (a b p q : Pass) (first second : List ℕ) (was was' : Was) (sectors : List Sector) → length xs ≡ 2 → hosts_of (geometry_of f) ≡ 2 → sectors_of (geometry_of f) ≡ 2
+  pub both_values : (xs : List Pass) (a b p q : Pass) (first second : List ℕ) (was was' : Was) (seen : List Call) (sectors : List Sector) → length xs ≡ 2 → hosts_of (geometry_of f) ≡ 2 → sectors_of (geometry_of f) ≡ 2
       → view_of a ≡ first_view (device f) 0 → view_of b ≡ first_view (device f) 1
       → ((t : ℕ) → (view_of a).role ≡ Player (APass t) → Wrote (view_of a) t 0 first was (view_of p)) → ((t : ℕ) → (view_of b).role ≡ Player (APass t) → Wrote (view_of b) t 1 second was' (view_of q))
-      → (AreAll (hosts_of (geometry_of f)) (set (set xs 0 p) 1 q) → AreFinal (device f) (set (set xs 0 p) 1 q) sectors) → sectors ≡ Some first ∷ Some second ∷ []
-  both_values [] a b p q first second was was' sectors long hosts count new new' wrote wrote' final = absurd (omega (arith, long))
-  both_values (x ∷ []) a b p q first second was was' sectors long hosts count new new' wrote wrote' final = absurd (omega (arith, long))
-  both_values (x ∷ y ∷ z ∷ xs) a b p q first second was was' sectors long hosts count new new' wrote wrote' final = absurd (omega (arith, long))
-  both_values (x ∷ y ∷ []) a b p q first second was was' sectors long hosts count new new' wrote wrote' final =
+      → (AreAll (hosts_of (geometry_of f)) (set (set xs 0 p) 1 q) → AreFinal (device f) (set (set xs 0 p) 1 q) seen sectors) → sectors ≡ Some first ∷ Some second ∷ []
+  both_values [] a b p q first second was was' seen sectors long hosts count new new' wrote wrote' final = absurd (omega (arith, long))
+  both_values (x ∷ []) a b p q first second was was' seen sectors long hosts count new new' wrote wrote' final = absurd (omega (arith, long))
+  both_values (x ∷ y ∷ z ∷ xs) a b p q first second was was' seen sectors long hosts count new new' wrote wrote' final = absurd (omega (arith, long))
+  both_values (x ∷ y ∷ []) a b p q first second was was' seen sectors long hosts count new new' wrote wrote' final =
       let role = ap (λ (v : View). v.role) new in
       let role' = ap (λ (v : View). v.role) new' in
       let w = wrote 0 role in
@@ -123,6 +123,6 @@ module _ (f : Flash) where
       (λ (same : t ≡ 0). (p, (0, refl), is ∙ ap (λ n. Player (APass n)) (sym same)))
       (λ (same : t ≡ 1). (q, (1, refl), is' ∙ ap (λ n. Player (APass n)) (sym same)))
       (zero_or_one t (omega (arith, low, hosts))) in
-      let end : AreFinal (device f) (p ∷ q ∷ []) sectors = final all in
+      let end : AreFinal (device f) (p ∷ q ∷ []) seen sectors = final all in
       let callers : All (λ c. caller c < 2) end.history = subst (λ n. All (λ c. caller c < n) end.history) hosts end.callers in
       end.array ∙ (ap (λ n. after n end.history) count ∙ both_stay end.history first second callers (end.own 0 p (0, refl) is ∙ mine) (end.own 1 q (1, refl) is' ∙ mine'))

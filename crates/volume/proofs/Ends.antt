@@ -1,11 +1,11 @@
 -- What the meetings of one pass with all others, before and after it reads, tell of the sectors that it has read.
-use Rattle.std.proofs.Common.{◌≡◌, ℕ, zero, suc, ◌<◌, All, List, [], ◌∷◌, ◌++◌, Some, length, slice_get, get_or, sym, ap, ◌∙◌, subst, arith}
+use Rattle.std.proofs.Common.{◌≡◌, ℕ, zero, suc, ◌<◌, All, List, [], ◌∷◌, ◌++◌, None, Some, length, slice_get, get_or, sym, ap, ◌∙◌, subst, arith}
 use Rattle.std.proofs.lemmas.List.Elements.{All-cons, All-head, All-tail, All-nil}
 use Rattle.std.proofs.lemmas.Option.{slice_get_within, get_or_from_slice_get}
 use Rattle.geometry.specs.Geometry.{sectors_of, hosts_of}
-use Rattle.geometry.specs.History.{Call, after, Begins}
+use Rattle.geometry.specs.History.{Call, after, held, Begins}
 use Rattle.geometry.specs.Limits.{Numbers}
-use Rattle.geometry.specs.Sectors.{Sector}
+use Rattle.geometry.specs.Sectors.{Sector, sector_at}
 use Rattle.geometry.proofs.Histories.{Begins-trans}
 use Rattle.flash_rule.specs.declared.facts.Name.TheVariants.{Pass as APass}
 use Rattle.flash_rule.specs.declared.facts.Role.TheVariants.{Player}
@@ -17,7 +17,7 @@ use Rattle.flash_table.specs.declared.flash.Flash.{Flash}
 use Rattle.flash_table.specs.declared.pass.Pass.{Pass}
 use Rattle.flash_table.specs.Flash.{view_of, geometry_of, device}
 use Rattle.host.specs.Ready.{IsReady}
-use Rattle.volume.specs.Closing.{AreAll, AreRead, AreFinal, HasLooked, HaveLooked}
+use Rattle.volume.specs.Closing.{AreAll, AreRead, AreFinal, HasLooked, HaveLooked, HasLeft}
 use Rattle.volume.specs.Gathering.{MetEach, HasRead}
 use Rattle.volume.proofs.Looks.{looked-trans}
 use Rattle.volume.proofs.Still.{at_one}
@@ -61,18 +61,6 @@ module _ (f : Flash) (first now read : Pass) (ps qs : List Pass) (met : MetEach 
     own_first : (s t : ℕ) → (view_of first).role ≡ Player (APass t) → calls_of t (h.history s) ≡ (view_of first).mine
     own_first s t role = h.own s t (same_role ∙ role) ∙ same_mine
 
-    pub are_read : length sectors ≡ n → AreRead n (first ∷ ps) sectors
-    are_read long =
-        record {
-          long = long;
-          history = h.history;
-          later = λ s p in_row. later s in_row.0 p in_row.1;
-          grows = h.grows;
-          own = λ s t p is role.
-              let same = some_same first p is in subst (λ (x : Pass). calls_of t (h.history s) ≡ (view_of x).mine) same (own_first s t (ap (λ (x : Pass). (view_of x).role) same ∙ role));
-          each = λ s low. h.each s (omega (arith, long));
-        }
-
     -- and after it
     module _ (last : Pass) (rs : List Pass) (again : MetEach (view_of read) qs (view_of last) rs) (ready_first : IsReady f last) (ready_before : All (IsReady f) ps) (ready_after : All (IsReady f) rs) where
       own : (s t k : ℕ) (p : Pass) → slice_get (first ∷ ps) k ≡ Some p → (view_of p).role ≡ Player (APass t) → calls_of t (h.history s) ≡ (view_of p).mine
@@ -98,11 +86,28 @@ module _ (f : Flash) (first now read : Pass) (ps qs : List Pass) (met : MetEach 
           let whole : AreOfHosts (device f) (view_of last).seen = subst (λ (z : Numbers). AreOfHosts z (view_of last).seen) ready_first.rested.pass.numbers ready_first.rested.callers in
           callers_before (device f).hosts (h.history s) (view_of last).seen (Begins-trans (h.history s) (view_of read).seen (view_of last).seen (h.last s) again.first.later) whole
 
-      pub are_final : n ≡ sectors_of (geometry_of f) → length sectors ≡ n → AreAll (hosts_of (geometry_of f)) (first ∷ ps) → AreFinal (device f) (first ∷ ps) sectors
+      seen : (s : ℕ) → Begins (h.history s) (view_of last).seen
+      seen s = Begins-trans (h.history s) (view_of read).seen (view_of last).seen (h.last s) again.first.later
+
+      pub are_read : n ≡ sectors_of (geometry_of f) → length sectors ≡ n → AreRead (device f) (first ∷ ps) (view_of last).seen sectors
+      are_read size long =
+          record {
+            long = long ∙ size;
+            history = h.history;
+            later = λ s p in_row. later s in_row.0 p in_row.1;
+            grows = h.grows;
+            seen = seen;
+            callers = callers;
+            own = λ s t p is role. own s t 0 p is role;
+            each = λ s low. subst (λ k. sector_at sectors s ≡ held k (h.history s) s) size (h.each s (omega (arith, long, size)));
+          }
+
+      pub are_final : n ≡ sectors_of (geometry_of f) → length sectors ≡ n → AreAll (hosts_of (geometry_of f)) (first ∷ ps) → AreFinal (device f) (first ∷ ps) (view_of last).seen sectors
       are_final size long given =
           record {
             history = h.history 0;
             later = λ p in_row. later 0 in_row.0 p in_row.1;
+            seen = seen 0;
             callers = callers 0;
             own = λ t p in_row role. own 0 t in_row.0 p in_row.1 role;
             array =
@@ -110,6 +115,14 @@ module _ (f : Flash) (first now read : Pass) (ps qs : List Pass) (met : MetEach 
                 (λ t low. let p = given t low in ((view_of p.0).mine, λ s. own s t p.1.0 p.0 p.1.1 p.2))
                 ∙ ap (λ k. after k (h.history 0)) size;
           }
+
+-- a pass that has looked, given up
+pub has_left : (v w u : View) → HasLooked v w → u ≡ record w { owns = []; work = None } → HasLeft v u
+has_left v w u looked left =
+    record {
+      changed = left ∙ (λ i. record (looked.changed i) { seen = (sym left i).seen; looks = (sym left i).looks; pin = (sym left i).pin; known = (sym left i).known; copy = (sym left i).copy; owns = []; work = None });
+      later = subst (λ (l : List Call). Begins v.seen l) (sym (ap (λ (x : View). x.seen) left)) looked.later;
+    }
 
 -- the pass that has met all others, has read and has met them again, and these
 pub looked_after : (first now read last : Pass) (ps qs rs : List Pass) → MetEach (view_of first) ps (view_of now) qs → HasLooked (view_of now) (view_of read) → MetEach (view_of read) qs (view_of last) rs → HaveLooked (first ∷ ps) (last ∷ rs)

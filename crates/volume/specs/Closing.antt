@@ -1,5 +1,5 @@
 -- What the sectors are that a device is closed with.
-use Rattle.std.specs.Prelude.{◌≡◌, ℕ, ◌+◌, ◌<◌, List, Option, Vec, map, option_map, length, Some, slice_get}
+use Rattle.std.specs.Prelude.{◌≡◌, ℕ, ◌+◌, ◌<◌, List, Option, Vec, map, option_map, length, [], None, Some, slice_get}
 use Rattle.std.specs.Global.{Global}
 use Rattle.geometry.specs.Limits.{Numbers}
 use Rattle.geometry.specs.Sectors.{Sector, sector_at}
@@ -10,6 +10,7 @@ use Rattle.flash_rule.specs.declared.view.View.{View}
 use Rattle.flash_rule.specs.Views.{AreOfHosts, calls_of}
 use Rattle.flash_table.specs.declared.pass.Pass.{Pass}
 use Rattle.flash_table.specs.Flash.{view_of}
+use Rattle.flash_table.specs.Leaving.{retired_view}
 use Rattle.volume.specs.declared.closing.Closed.{Closed}
 
 -- the array that a row of values is
@@ -20,6 +21,10 @@ array_of values = map (option_map (λ value. value.items)) values
 abbrev pub sectors_of : Closed → List Sector
 sectors_of c = array_of c.sectors.items
 
+-- what the first pass knew last
+abbrev pub last_view : Closed → View
+last_view c = retired_view c.first
+
 -- the pass stands in the list
 abbrev pub IsIn : List Pass → Pass → Type 0
 IsIn passes p = (k : ℕ) × (slice_get passes k ≡ Some p)
@@ -28,23 +33,33 @@ IsIn passes p = (k : ℕ) × (slice_get passes k ≡ Some p)
 abbrev pub AreAll : ℕ → List Pass → Type 0
 AreAll hosts passes = (t : ℕ) → t < hosts → (p : Pass) × IsIn passes p × ((view_of p).role ≡ Player (APass t))
 
--- The sectors were read one after another: each is what it is after a history that begins with all that the passes had seen, and the
--- histories grow. The first pass, which reads, has no calls in them but its own
-pub record AreRead (n : ℕ) (passes : List Pass) (sectors : List Sector) : Type 0 where
-  pub long : length sectors ≡ n
+-- The sectors were read one after another: each is what it is after a history that begins with all that the passes had seen, and with
+-- which begins all that the first pass, which reads, has seen in the end; the histories grow. Their calls are of hosts, and of the first
+-- pass they have its own and no others
+pub record AreRead (z : Numbers) (passes : List Pass) (last : List Call) (sectors : List Sector) : Type 0 where
+  pub long : length sectors ≡ z.sectors
   pub history : ℕ → List Call
   pub later : (s : ℕ) (p : Pass) → IsIn passes p → Begins (view_of p).seen (history s)
   pub grows : (s : ℕ) → Begins (history s) (history (s + 1))
+  pub seen : (s : ℕ) → Begins (history s) last
+  pub callers : (s : ℕ) → AreOfHosts z (history s)
   pub own : (s t : ℕ) (p : Pass) → slice_get passes 0 ≡ Some p → (view_of p).role ≡ Player (APass t) → calls_of t (history s) ≡ (view_of p).mine
-  pub each : (s : ℕ) → s < n → sector_at sectors s ≡ held n (history s) s
+  pub each : (s : ℕ) → s < z.sectors → sector_at sectors s ≡ held z.sectors (history s) s
 
--- The sectors are those after one history: it begins with all that each pass had seen, and its calls are those of the passes, each with just its own
-pub record AreFinal (z : Numbers) (passes : List Pass) (sectors : List Sector) : Type 0 where
+-- The sectors are those after one history: it begins with all that each pass had seen, the first pass has seen all of it in the end, and
+-- its calls are those of the passes, each with just its own
+pub record AreFinal (z : Numbers) (passes : List Pass) (last : List Call) (sectors : List Sector) : Type 0 where
   pub history : List Call
   pub later : (p : Pass) → IsIn passes p → Begins (view_of p).seen history
+  pub seen : Begins history last
   pub callers : AreOfHosts z history
   pub own : (t : ℕ) (p : Pass) → IsIn passes p → (view_of p).role ≡ Player (APass t) → calls_of t history ≡ (view_of p).mine
   pub array : sectors ≡ after z.sectors history
+
+-- The pass has looked and was then given up: it owns no block and fills no page, and nothing else has changed
+pub record HasLeft (v w : View) : Type 0 where
+  pub changed : w ≡ record v { seen = w.seen; looks = w.looks; pin = w.pin; known = w.known; copy = w.copy; owns = []; work = None }
+  pub later : Begins v.seen w.seen
 
 -- The pass has looked, and nothing else has changed: its calls, its programs, its counts of takes and its block are as they were
 pub record HasLooked (v w : View) : Type 0 where

@@ -1,25 +1,29 @@
 //! The end of a device: what its sectors hold when all passes are given up.
-ghost use Rattle.std.specs.Prelude.{◌≡◌, ℕ, ◌<◌, All, IfOk, IfErr, OnErr, length, slice_get, option_map};
+ghost use Rattle.std.specs.Prelude.{◌≡◌, ℕ, ◌<◌, All, Some, IfOk, IfErr, OnErr, length, slice_get, option_map};
+ghost use Rattle.std.specs.Vec.Iter.{into_iter_items};
 ghost use Rattle.geometry.specs.Geometry.{sectors_of as sector_count_of, hosts_of, page_bytes_of};
 ghost use Rattle.geometry.specs.History.{held};
 ghost use Rattle.flash_rule.specs.Views.{AreOfHosts};
 ghost use Rattle.flash_table.specs.declared.pass.Pass.{Pass};
 ghost use Rattle.flash_table.specs.Flash.{view_of, geometry_of, device};
 ghost use Rattle.host.specs.Ready.{IsReady};
-ghost use Rattle.volume.specs.Closing.{array_of, sectors_of, AreAll, AreRead, AreFinal, HasLooked, HaveLooked};
+ghost use Rattle.volume.specs.Closing.{array_of, sectors_of, last_view, AreAll, AreRead, AreFinal, HasLooked, HaveLooked, HasLeft};
 ghost use Rattle.volume.specs.Gathering.{MetEach, HasRead};
 ghost use Rattle.volume.specs.Volume.{flash_of};
 
 use crate::volume::Volume;
-use flash_table::{Flash, Pass};
+use flash_table::{Flash, Pass, Retired};
 use geometry::Got;
 use host::{meet, read, retire};
 use std::alloc::{AllocError, Global};
+use std::vec::IntoIter;
 
 /// What is left of a device: the value of each sector, or `None` for an empty one.
 #[derive(Drop)]
 pub struct Closed {
     pub sectors: Vec<Option<Vec<u8>>>,
+    /// What is left of the first pass, which has read the sectors.
+    pub first: Retired,
 }
 
 // The first pass meets each other one.
@@ -84,8 +88,8 @@ fn gather(
 ) -> Result<Vec<Option<Vec<u8>>>, AllocError>
     requires some { 0 < length passes.old }
     requires passes { All (IsReady flash.now) passes.old }
-    ensures read { IfOk result (λ sectors. AreRead (sector_count_of (geometry_of flash.now)) passes.old (array_of sectors.items)) }
-    ensures one_history { IfOk result (λ sectors. AreAll (hosts_of (geometry_of flash.now)) passes.old → AreFinal (device flash.now) passes.old (array_of sectors.items)) }
+    ensures read { IfOk result (λ sectors. (q : Pass) → slice_get passes.new 0 ≡ Some q → AreRead (device flash.now) passes.old (view_of q).seen (array_of sectors.items)) }
+    ensures one_history { IfOk result (λ sectors. (q : Pass) → slice_get passes.new 0 ≡ Some q → AreAll (hosts_of (geometry_of flash.now)) passes.old → AreFinal (device flash.now) passes.old (view_of q).seen (array_of sectors.items)) }
     ensures looked { HaveLooked passes.old passes.new }
     ensures passes { All (IsReady flash.now) passes.new }
 {
@@ -100,12 +104,12 @@ fn gather(
     Ok(sectors)
 }
 
-// Gives all passes up.
-pub(crate) fn retire_all(flash: &Flash, passes: Vec<Pass>)
-    requires { All (IsReady flash.now) passes.items }
+// Gives these passes up.
+pub(crate) fn retire_all(flash: &Flash, passes: IntoIter<Pass>)
+    requires { All (IsReady flash.now) (into_iter_items passes) }
 {
     let mut passes = passes;
-    while let Some(pass) = passes.pop() {
+    while let Some(pass) = passes.next() {
         retire(flash, pass);
     }
     passes.destroy_empty();
@@ -118,8 +122,9 @@ impl Volume {
         requires passes { All (IsReady (flash_of self)) passes.items }
 
         // Where all passes are given, the sectors are those after one history; else each is what it is after a history that grows.
-        ensures one_history { IfOk result (λ closed. AreAll (hosts_of (geometry_of (flash_of self))) passes.items → AreFinal (device (flash_of self)) passes.items (sectors_of closed)) }
-        ensures read { IfOk result (λ closed. AreRead (sector_count_of (geometry_of (flash_of self))) passes.items (sectors_of closed)) }
+        ensures one_history { IfOk result (λ closed. AreAll (hosts_of (geometry_of (flash_of self))) passes.items → AreFinal (device (flash_of self)) passes.items (last_view closed).seen (sectors_of closed)) }
+        ensures read { IfOk result (λ closed. AreRead (device (flash_of self)) passes.items (last_view closed).seen (sectors_of closed)) }
+        ensures first { IfOk result (λ closed. (p : Pass) → slice_get passes.items 0 ≡ Some p → HasLeft (view_of p) (last_view closed)) }
 
         // All is handed back as it was, but that the passes have looked.
         ensures volume { IfErr result (λ back. flash_of back.0 ≡ flash_of self) }
@@ -130,7 +135,12 @@ impl Volume {
         let Ok(sectors) = gather(&self.flash, alloc, &mut passes) else {
             return Err((self, passes));
         };
+        let mut passes = passes.into_iter();
+        let Some(first) = passes.next() else {
+            unreachable!()
+        };
+        let first = retire(&self.flash, first);
         retire_all(&self.flash, passes);
-        Ok(Closed { sectors })
+        Ok(Closed { sectors, first })
     }
 }

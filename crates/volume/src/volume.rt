@@ -37,6 +37,7 @@ impl Volume {
     ghost use Rattle.flash_table.specs.declared.pass.Pass.{Pass};
     ghost use Rattle.flash_table.specs.Flash.{view_of, opened_of, device, first_view, first_broom, first_blocks};
     ghost use Rattle.flash_table.specs.Leaving.{retired_view};
+    ghost use Rattle.flash_table.specs.GivingUp.{closed_pass, closed_broom};
     ghost use Rattle.broom.specs.declared.broom.Broom.{Broom};
     ghost use Rattle.erase_queue.specs.Queue.{IsNewPass};
     ghost use Rattle.broom.specs.Ends.{folded_view, folded_place};
@@ -95,7 +96,7 @@ impl Volume {
         match make_brooms(&flash, &queue, alloc, seats, places) {
             Ok(brooms) => Ok((Volume { flash, queue }, passes, brooms)),
             Err(AllocError) => {
-                retire_all(&flash, passes);
+                retire_all(&flash, passes.into_iter());
                 Err(AllocError)
             }
         }
@@ -278,7 +279,7 @@ impl Volume {
     /// Gives a pass up. The block that it has open, full or not, is closed.
     pub fn retire(&self, pass: Pass) -> Retired
         requires { IsReady (flash_of self.now) pass }
-        ensures { retired_view result ≡ record (view_of pass) { owns = []; work = None } }
+        ensures { retired_view result ≡ closed_pass (view_of pass) (opened_of pass) }
     {
         host::retire(&self.flash, pass)
     }
@@ -331,7 +332,7 @@ impl Volume {
     /// queue; where that is full, it stays drained and nobody erases it.
     pub fn fold(&self, rt: &impl Wait, broom: Broom) -> Folded
         requires { IsBroomReady self.now broom }
-        ensures view { folded_view result ≡ record (broom_view broom) { owns = []; work = None } }
+        ensures view { folded_view result ≡ closed_broom (broom_view broom) (blocks_of_broom broom) }
         ensures place { LeftAt (limit_of (queue_of self.now)) broom (folded_place result) }
     {
         broom::fold(&self.flash, &self.queue, rt, broom)
@@ -341,7 +342,7 @@ impl Volume {
     pub fn fold_new(&self, broom: Broom) -> Folded
         requires ready { IsBroomReady self.now broom }
         requires aside { aside_of broom ≡ None }
-        ensures view { folded_view result ≡ record (broom_view broom) { owns = []; work = None } }
+        ensures view { folded_view result ≡ closed_broom (broom_view broom) (blocks_of_broom broom) }
         ensures place { folded_place result ≡ place_of broom }
     {
         broom::fold_new(&self.flash, broom)
@@ -351,7 +352,7 @@ impl Volume {
     /// set aside stays drained, and nobody erases it.
     pub fn retire_broom(&self, broom: Broom) -> Folded
         requires { IsBroomReady self.now broom }
-        ensures view { folded_view result ≡ record (broom_view broom) { owns = []; work = None } }
+        ensures view { folded_view result ≡ closed_broom (broom_view broom) (blocks_of_broom broom) }
         ensures place { folded_place result ≡ place_of broom }
     {
         broom::retire_broom(&self.flash, broom)

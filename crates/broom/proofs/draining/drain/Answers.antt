@@ -75,7 +75,7 @@ returns-clause-told g c =
     let told = c.relocate-copied.ensures in
     let began = sweeping g (goal.at.After-relocate-copied g at).Else-not-claim in
     did_drain f v b r c.in-Some.ensures.told c.choose.ensures.ready q c.index-state.ensures c.claim.new.broom c.claim.ensures.broom (with_owned (owned_as b q Victim) (view_of r).owns) c.if-not-claim.ensures.told c.if-not-claim.ensures.blocks
-    c.requires.rested.seat.numbers c.relocate-copied.new.seat c.drain.new.broom c.relocate-copied.result told.told told.source h (without b (broom_view c.relocate-copied.new.seat).owns) (c.drain.ensures.told x h.draining) c.drain.ensures.blocks
+    c.requires.rested.seat.numbers c.relocate-copied.new.seat c.drain.new.broom c.relocate-copied.result told.told told.source h (without b (broom_view c.relocate-copied.new.seat).owns) _ (c.drain.ensures.told x h.draining) c.drain.ensures.blocks
     c.requires.rested.source (told.cleared x began) (own_blocks c.args.broom.now.seat) c.choose.ensures.blocks (told.emptied x began)
 
 pub returns-clause-ready : goal.returns-clause-ready
@@ -93,7 +93,7 @@ returns-clause-ready g c =
     let ready = c.choose.ensures.ready in
     record {
       rested = drained_rested f v b r c.in-Some.ensures.told ready q c.index-state.ensures c.claim.new.broom c.claim.ensures.broom (with_owned (owned_as b q Victim) (view_of r).owns) c.if-not-claim.ensures.told c.if-not-claim.ensures.blocks
-          c.requires.rested.seat.numbers c.relocate-copied.new.seat c.drain.new.broom c.relocate-copied.result told.told told.source h (without b (broom_view c.relocate-copied.new.seat).owns) (c.drain.ensures.told x h.draining) c.drain.ensures.blocks
+          c.requires.rested.seat.numbers c.relocate-copied.new.seat c.drain.new.broom c.relocate-copied.result told.told told.source h (without b (broom_view c.relocate-copied.new.seat).owns) _ (c.drain.ensures.told x h.draining) c.drain.ensures.blocks
           c.requires.rested.source (told.cleared x began) (own_blocks c.args.broom.now.seat) c.choose.ensures.blocks (told.emptied x began) c.drain.ensures.broom;
       states = ready.states;
       counts = ready.counts;

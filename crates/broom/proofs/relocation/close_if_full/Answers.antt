@@ -23,7 +23,7 @@ returns-then-destination-pages-clause-told c =
     let at = goal.at.returns-then-destination-pages-clause-told c in
     let o = c.in-Some.destination in
     let is = opened at.In-Some in
-    closed_tidied c.args.flash.now c.args.seat.now o is c.close_destination.new.broom (without o.block (broom_view c.args.seat.now).owns) (c.close_destination.ensures.told o is) c.close_destination.ensures.blocks
+    closed_tidied c.args.flash.now c.args.seat.now o is c.close_destination.new.broom (without o.block (broom_view c.args.seat.now).owns) _ (c.close_destination.ensures.told o is) c.close_destination.ensures.blocks
     (c.if-destination-pages.true ∙ pages_are at.After-pages)
 
 pub returns-then-destination-pages-clause-sweeps : goal.returns-then-destination-pages-clause-sweeps
@@ -31,7 +31,7 @@ returns-then-destination-pages-clause-sweeps c x =
     let at = goal.at.returns-then-destination-pages-clause-sweeps c in
     let o = c.in-Some.destination in
     let is = opened at.In-Some in
-    closed_sweeps c.args.flash.now c.args.seat.now o is c.close_destination.new.broom (without o.block (broom_view c.args.seat.now).owns) (c.close_destination.ensures.told o is) c.close_destination.ensures.blocks
+    closed_sweeps c.args.flash.now c.args.seat.now o is c.close_destination.new.broom (without o.block (broom_view c.args.seat.now).owns) _ (c.close_destination.ensures.told o is) c.close_destination.ensures.blocks
     (c.if-destination-pages.true ∙ pages_are at.After-pages) x c.close_destination.ensures.broom
 
 pub returns-else-destination-pages-clause-told : goal.returns-else-destination-pages-clause-told

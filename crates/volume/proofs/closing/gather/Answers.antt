@@ -1,36 +1,41 @@
-use Rattle.std.proofs.Common.{List, ◌∷◌, sym, refl, subst}
+use Rattle.std.proofs.Common.{All, List, ◌∷◌, sym, refl, subst}
 use Rattle.std.proofs.lemmas.List.Elements.{All-rest}
 use Rattle.geometry.specs.Geometry.{sectors_of, hosts_of}
+use Rattle.flash_rule.proofs.Owning.{some_same}
 use Rattle.flash_table.specs.declared.pass.Pass.{Pass}
-use Rattle.flash_table.specs.Flash.{geometry_of, device}
+use Rattle.flash_table.specs.Flash.{geometry_of, device, view_of}
 use Rattle.host.specs.Ready.{IsReady}
 use Rattle.volume.specs.Closing.{array_of, AreAll, AreRead, AreFinal, HaveLooked}
 use Rattle.volume.proofs.Ends.{looked_between, looked_after, are_read, are_final}
 use Rattle.volume.proofs.closing.gather.Goals as goal
+use Rattle.volume.proofs.closing.gather.Goals.{After-meet_each-2}
 
 pub returns-in_err-sectors-clause-looked : goal.returns-in_err-sectors-clause-looked
 returns-in_err-sectors-clause-looked c =
     let h = looked_between c.args.flash.now c.in-Some.first.now c.meet_each.new.first c.read_all.new.pass c.in-Some.others.now c.meet_each.new.others c.meet_each.ensures.told c.read_all.ensures.looked in
     subst (λ (l : List Pass). HaveLooked l (c.read_all.new.pass ∷ c.meet_each.new.others)) (sym c.in-Some.ensures.cases.0) h
 
-pub returns-clause-read : goal.returns-clause-read
-returns-clause-read c =
-    let told = c.in_ok-sectors.ensures in
-    let n = sectors_of (geometry_of c.args.flash.now) in
-    let values = array_of c.in_ok-sectors.sectors.items in
-    let h = are_read c.args.flash.now c.in-Some.first.now c.meet_each.new.first c.read_all.new.pass c.in-Some.others.now c.meet_each.new.others c.meet_each.ensures.told told.looked n values told.read told.long in
-    subst (λ (l : List Pass). AreRead n l values) (sym c.in-Some.ensures.cases.0) h
+-- the other passes, ready before and after
+others_ready : (c : After-meet_each-2) → All (IsReady c.args.flash.now) c.in-Some.others.now
+others_ready c = All-rest (IsReady c.args.flash.now) c.in-Some.first.now c.in-Some.others.now c.args.passes.now c.in-Some.ensures.cases.0 c.requires.passes
 
-pub returns-clause-one_history : goal.returns-clause-one_history
-returns-clause-one_history c =
+pub returns-clause-read : goal.returns-clause-read
+returns-clause-read c q is =
     let f = c.args.flash.now in
     let told = c.in_ok-sectors.ensures in
-    let n = sectors_of (geometry_of f) in
     let values = array_of c.in_ok-sectors.sectors.items in
-    let row = c.in-Some.ensures.cases.0 in
-    let others = All-rest (IsReady f) c.in-Some.first.now c.in-Some.others.now c.args.passes.now row c.requires.passes in
-    let h = are_final f c.in-Some.first.now c.meet_each.new.first c.read_all.new.pass c.in-Some.others.now c.meet_each.new.others c.meet_each.ensures.told told.looked n values told.read c.meet_each-2.new.first c.meet_each-2.new.others c.meet_each-2.ensures.told c.meet_each-2.ensures.first others c.meet_each-2.ensures.others refl told.long in
-    subst (λ (l : List Pass). AreAll (hosts_of (geometry_of f)) l → AreFinal (device f) l values) (sym row) h
+    let others = others_ready (goal.at.returns-clause-read c).After-meet_each-2 in
+    let h = are_read f c.in-Some.first.now c.meet_each.new.first c.read_all.new.pass c.in-Some.others.now c.meet_each.new.others c.meet_each.ensures.told told.looked (sectors_of (geometry_of f)) values told.read c.meet_each-2.new.first c.meet_each-2.new.others c.meet_each-2.ensures.told c.meet_each-2.ensures.first others c.meet_each-2.ensures.others refl told.long in
+    subst (λ (x : List Pass × Pass). AreRead (device f) x.0 (view_of x.1).seen values) (λ i. (sym c.in-Some.ensures.cases.0 i, some_same c.meet_each-2.new.first q is i)) h
+
+pub returns-clause-one_history : goal.returns-clause-one_history
+returns-clause-one_history c q is =
+    let f = c.args.flash.now in
+    let told = c.in_ok-sectors.ensures in
+    let values = array_of c.in_ok-sectors.sectors.items in
+    let others = others_ready (goal.at.returns-clause-one_history c).After-meet_each-2 in
+    let h = are_final f c.in-Some.first.now c.meet_each.new.first c.read_all.new.pass c.in-Some.others.now c.meet_each.new.others c.meet_each.ensures.told told.looked (sectors_of (geometry_of f)) values told.read c.meet_each-2.new.first c.meet_each-2.new.others c.meet_each-2.ensures.told c.meet_each-2.ensures.first others c.meet_each-2.ensures.others refl told.long in
+    subst (λ (x : List Pass × Pass). AreAll (hosts_of (geometry_of f)) x.0 → AreFinal (device f) x.0 (view_of x.1).seen values) (λ i. (sym c.in-Some.ensures.cases.0 i, some_same c.meet_each-2.new.first q is i)) h
 
 pub returns-clause-looked : goal.returns-clause-looked
 returns-clause-looked c =

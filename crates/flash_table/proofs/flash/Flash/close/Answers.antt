@@ -5,7 +5,7 @@ use Rattle.flash_rule.proofs.Places.{pin_within}
 use Rattle.flash_table.specs.Flash.{device}
 use Rattle.flash_table.specs.Owning.{owned_of}
 use Rattle.flash_table.proofs.Here.{close_here}
-use Rattle.flash_table.proofs.Told.{pass_player, stays_pass, close_can, close_view}
+use Rattle.flash_table.proofs.Told.{stays_pass, close_can, close_view}
 use Rattle.flash_table.proofs.flash.Flash.close.Goals as goal
 
 pub fetch_add-requires : goal.fetch_add-requires
@@ -19,7 +19,7 @@ fetch_add-requires c =
     let size = f.size in (
       c.requires.pass.table,
       omega arith,
-      close_here (device f) (numbers_of f.table.shared.key) (ap numbers_of f.key) _ _ _ c.pin_at-word.result (owned_of o) at (pass_player _ c.requires.pass.role) c.requires.pass.numbers can.0,
+      close_here (device f) (numbers_of f.table.shared.key) (ap numbers_of f.key) _ _ _ c.pin_at-word.result (owned_of o) at c.requires.pass.numbers can.0,
     )
 
 pub invariant_of-pass : goal.invariant_of-pass

@@ -10,7 +10,7 @@ use Rattle.flash_table.proofs.Here.{close_here}
 use Rattle.flash_table.proofs.Blocks.{closed_just}
 use Rattle.flash_table.proofs.Rows.{just_now}
 use Rattle.flash_table.proofs.Told.{same_block}
-use Rattle.flash_table.proofs.ToldBrooms.{broom_player, stays_broom, close_can, close_view}
+use Rattle.flash_table.proofs.ToldBrooms.{stays_broom, close_can, close_view}
 use Rattle.flash_table.proofs.flash.Flash.close_destination.Goals as goal
 
 pub fetch_add-requires : goal.fetch_add-requires
@@ -24,7 +24,7 @@ fetch_add-requires c =
     let size = f.size in (
       c.requires.broom.table,
       omega arith,
-      close_here (device f) (numbers_of f.table.shared.key) (ap numbers_of f.key) _ _ _ c.pin_at-word.result (owned_of o) at (broom_player f s c.requires.broom) c.requires.broom.numbers can.0,
+      close_here (device f) (numbers_of f.table.shared.key) (ap numbers_of f.key) _ _ _ c.pin_at-word.result (owned_of o) at c.requires.broom.numbers can.0,
     )
 
 pub invariant_of-broom : goal.invariant_of-broom

@@ -1,8 +1,8 @@
-use Rattle.std.proofs.Common.{[], ◌∷◌, ◌++◌, ◌<◌, ◌≤◌, ap, ◌∙◌, arith}
+use Rattle.std.proofs.Common.{◌<◌, ◌≤◌, ap, ◌∙◌, arith}
 use Rattle.geometry.specs.Geometry.{numbers_of, blocks_of}
 use Rattle.geometry.specs.declared.pin_word.Phase.TheVariants.{Victim}
 use Rattle.flash_rule.specs.declared.view.View.{View}
-use Rattle.flash_rule.specs.Views.{without}
+use Rattle.flash_table.specs.GivingUp.{left_drained}
 use Rattle.flash_rule.proofs.Places.{pin_within}
 use Rattle.flash_table.specs.Flash.{device, broom_view, own_blocks, geometry_of}
 use Rattle.flash_table.specs.Owning.{reclaimed_as}
@@ -47,8 +47,7 @@ returns-clause-told c e is =
     let can = drain_can f s c.requires.broom o c.in-Draining.is asked.1 in
     let same = draining_same o e (own_blocks s).reclaiming c.in-Draining.is is in
     let changed = drained_view f s c.requires.broom f.table.shared.table_id.slots c.fetch_add.result c.fetch_add.new.seat.me c.pin_at-word.result o can c.pin_at-word.ensures c.fetch_add.ensures.2 in
-    let P : ReclaimedBlock → View = λ y. record (broom_view s) { owns = without y.block (broom_view s).owns; drains = (broom_view s).drains ++ record { block = y.block; generation = y.generation } ∷ [] } in
-    changed ∙ ap P same
+    changed ∙ ap (left_drained (broom_view s)) same
 
 pub returns-clause-broom : goal.returns-clause-broom
 returns-clause-broom c =

@@ -4,8 +4,7 @@ use Rattle.flash_rule.specs.declared.view.View.{View}
 use Rattle.flash_rule.proofs.Places.{pin_within}
 use Rattle.flash_table.specs.Flash.{device, broom_view, own_blocks}
 use Rattle.flash_table.specs.Erasing.{CanLiveOn}
-use Rattle.flash_rule.specs.Views.{without}
-use Rattle.flash_table.specs.declared.broom_seat.ReclaimedBlock.{ReclaimedBlock}
+use Rattle.flash_table.specs.GivingUp.{left_free}
 use Rattle.flash_table.proofs.HereErasing.{freed_here}
 use Rattle.flash_table.proofs.Blocks.{erased_just}
 use Rattle.flash_table.proofs.Rows.{just_now}
@@ -33,7 +32,7 @@ invariant_of-broom c =
     let s = c.args.broom.now in
     let o = c.in-Erasing.erased in
     let t = of_erased f s c.requires.broom (λ x. CanLiveOn f s x) o c.in-Erasing.is c.requires.wiped.0 c.requires.wiped.1.erases.its c.requires.wiped.1 in
-    let changed = freed_view f s c.requires.broom f.table.shared.table_id.slots c.fetch_add.result c.fetch_add.new.seat.me c.pin_at-word.result c.freed.result o (can_renew f s c.requires.broom o t) c.pin_at-word.ensures c.freed.ensures c.fetch_add.ensures.2 in
+    let changed = freed_view f s c.requires.broom f.table.shared.table_id.slots c.fetch_add.result c.fetch_add.new.seat.me c.pin_at-word.result c.freed.result o (can_renew f s c.requires.broom o t) c.pin_at-word.ensures c.fetch_add.ensures.2 in
     record {
       bare = c.fetch_add.ensures.2.0 ∙ s.bare;
       owns = just_now _ _ _ (ap (λ (w : View). w.owns) changed) (erased_just (own_blocks s) (broom_view s).owns s.owns o c.in-Erasing.is);
@@ -46,8 +45,8 @@ returns-clause-told c x is =
     let o = c.in-Erasing.erased in
     let t = of_erased f s c.requires.broom (λ x. CanLiveOn f s x) o c.in-Erasing.is c.requires.wiped.0 c.requires.wiped.1.erases.its c.requires.wiped.1 in
     let same = same_erased (own_blocks s).reclaiming o x c.in-Erasing.is is in
-    let changed = freed_view f s c.requires.broom f.table.shared.table_id.slots c.fetch_add.result c.fetch_add.new.seat.me c.pin_at-word.result c.freed.result o (can_renew f s c.requires.broom o t) c.pin_at-word.ensures c.freed.ensures c.fetch_add.ensures.2 in
-    changed ∙ ap (λ (y : ReclaimedBlock). record (broom_view s) { owns = without y.block (broom_view s).owns }) same
+    let changed = freed_view f s c.requires.broom f.table.shared.table_id.slots c.fetch_add.result c.fetch_add.new.seat.me c.pin_at-word.result c.freed.result o (can_renew f s c.requires.broom o t) c.pin_at-word.ensures c.fetch_add.ensures.2 in
+    changed ∙ ap (left_free (broom_view s)) same
 
 pub returns-clause-broom : goal.returns-clause-broom
 returns-clause-broom c =
@@ -55,5 +54,5 @@ returns-clause-broom c =
     let s = c.args.broom.now in
     let o = c.in-Erasing.erased in
     let t = of_erased f s c.requires.broom (λ x. CanLiveOn f s x) o c.in-Erasing.is c.requires.wiped.0 c.requires.wiped.1.erases.its c.requires.wiped.1 in
-    let changed = freed_view f s c.requires.broom f.table.shared.table_id.slots c.fetch_add.result c.fetch_add.new.seat.me c.pin_at-word.result c.freed.result o (can_renew f s c.requires.broom o t) c.pin_at-word.ensures c.freed.ensures c.fetch_add.ensures.2 in
+    let changed = freed_view f s c.requires.broom f.table.shared.table_id.slots c.fetch_add.result c.fetch_add.new.seat.me c.pin_at-word.result c.freed.result o (can_renew f s c.requires.broom o t) c.pin_at-word.ensures c.fetch_add.ensures.2 in
     stays_broom f s _ c.requires.broom c.fetch_add.ensures.0 (ap (λ (w : View). w.role) changed) (ap (λ (w : View). w.numbers) changed)

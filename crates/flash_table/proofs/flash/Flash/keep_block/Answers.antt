@@ -37,7 +37,7 @@ invariant_of-broom c =
     let s = c.args.broom.now in
     let o = c.in-Erasing.erased in
     let t = of_erased f s c.requires.broom (λ x. CanLiveOn f s x) o c.in-Erasing.is c.requires.wiped.0 c.requires.wiped.1.erases.its c.requires.wiped.1 in
-    let changed = kept_view f s c.requires.broom f.table.shared.table_id.slots c.fetch_add.result c.fetch_add.new.seat.me c.pin_at-word.result c.kept.result o (can_renew f s c.requires.broom o t) c.pin_at-word.ensures c.kept.ensures c.fetch_add.ensures.2 in
+    let changed = kept_view f s c.requires.broom f.table.shared.table_id.slots c.fetch_add.result c.fetch_add.new.seat.me c.pin_at-word.result c.kept.result o (can_renew f s c.requires.broom o t) c.pin_at-word.ensures c.fetch_add.ensures.2 in
     let e : OpenBlock = record { block = o.block; generation = o.generation + 1; written = 0 } in
     record {
       bare = c.fetch_add.ensures.2.0 ∙ s.bare;
@@ -51,7 +51,7 @@ returns-clause-told c x is =
     let o = c.in-Erasing.erased in
     let t = of_erased f s c.requires.broom (λ x. CanLiveOn f s x) o c.in-Erasing.is c.requires.wiped.0 c.requires.wiped.1.erases.its c.requires.wiped.1 in
     let same = same_erased (own_blocks s).reclaiming o x c.in-Erasing.is is in
-    let changed = kept_view f s c.requires.broom f.table.shared.table_id.slots c.fetch_add.result c.fetch_add.new.seat.me c.pin_at-word.result c.kept.result o (can_renew f s c.requires.broom o t) c.pin_at-word.ensures c.kept.ensures c.fetch_add.ensures.2 in
+    let changed = kept_view f s c.requires.broom f.table.shared.table_id.slots c.fetch_add.result c.fetch_add.new.seat.me c.pin_at-word.result c.kept.result o (can_renew f s c.requires.broom o t) c.pin_at-word.ensures c.fetch_add.ensures.2 in
     changed ∙ ap (λ (y : ReclaimedBlock). record (broom_view s) { owns = with_owned (owned_of (record { block = y.block; generation = y.generation + 1; written = 0 })) (broom_view s).owns }) same
 
 pub returns-clause-blocks : goal.returns-clause-blocks
@@ -66,5 +66,5 @@ returns-clause-broom c =
     let s = c.args.broom.now in
     let o = c.in-Erasing.erased in
     let t = of_erased f s c.requires.broom (λ x. CanLiveOn f s x) o c.in-Erasing.is c.requires.wiped.0 c.requires.wiped.1.erases.its c.requires.wiped.1 in
-    let changed = kept_view f s c.requires.broom f.table.shared.table_id.slots c.fetch_add.result c.fetch_add.new.seat.me c.pin_at-word.result c.kept.result o (can_renew f s c.requires.broom o t) c.pin_at-word.ensures c.kept.ensures c.fetch_add.ensures.2 in
+    let changed = kept_view f s c.requires.broom f.table.shared.table_id.slots c.fetch_add.result c.fetch_add.new.seat.me c.pin_at-word.result c.kept.result o (can_renew f s c.requires.broom o t) c.pin_at-word.ensures c.fetch_add.ensures.2 in
     stays_broom f s _ c.requires.broom c.fetch_add.ensures.0 (ap (λ (w : View). w.role) changed) (ap (λ (w : View). w.numbers) changed)

@@ -4,8 +4,7 @@ use Rattle.flash_rule.specs.declared.view.View.{View}
 use Rattle.flash_rule.proofs.Places.{pin_within}
 use Rattle.flash_table.specs.Flash.{device, broom_view, own_blocks}
 use Rattle.flash_table.specs.Erasing.{IsLastErase}
-use Rattle.flash_rule.specs.Views.{without}
-use Rattle.flash_table.specs.declared.broom_seat.ReclaimedBlock.{ReclaimedBlock}
+use Rattle.flash_table.specs.GivingUp.{left_retired}
 use Rattle.flash_table.proofs.HereErasing.{retired_here}
 use Rattle.flash_table.proofs.Blocks.{erased_just}
 use Rattle.flash_table.proofs.Rows.{just_now}
@@ -47,7 +46,7 @@ returns-clause-told c x is =
     let t = of_erased f s c.requires.broom (λ x. IsLastErase f s x) o c.in-Erasing.is c.requires.last.0 c.requires.last.1.erases.its c.requires.last.1 in
     let same = same_erased (own_blocks s).reclaiming o x c.in-Erasing.is is in
     let changed = retired_view f s c.requires.broom f.table.shared.table_id.slots c.fetch_add.result c.fetch_add.new.seat.me c.pin_at-word.result o (can_retire f s c.requires.broom o t) c.pin_at-word.ensures c.fetch_add.ensures.2 in
-    changed ∙ ap (λ (y : ReclaimedBlock). record (broom_view s) { owns = without y.block (broom_view s).owns }) same
+    changed ∙ ap (left_retired (broom_view s)) same
 
 pub returns-clause-broom : goal.returns-clause-broom
 returns-clause-broom c =

@@ -1,6 +1,7 @@
-use Rattle.std.proofs.Common.{ℕ, ◌<◌, sym, ap, ◌∙◌, subst}
+use Rattle.std.proofs.Common.{ℕ, ◌<◌, All, sym, ap, ◌∙◌, subst}
 use Rattle.geometry.specs.Geometry.{hosts_of, brooms_of}
 use Rattle.geometry.specs.declared.geometry.Geometry.{Geometry}
+use Rattle.host.specs.Ready.{IsReady}
 use Rattle.volume.proofs.Answered.{all_fresh}
 use Rattle.volume.proofs.FreshBrooms.{all_rested, as_many, begins, fresh_queued}
 use Rattle.volume.proofs.volume.Volume.open_over.Goals as goal
@@ -12,7 +13,7 @@ make_brooms-requires-clause-seats c =
     all_rested c.in_ok-flash.flash c.in_ok-flash.seats.items (subst (λ (g : Geometry). 0 < hosts_of g) (sym same) c.requires.hosts) (told.count.1 ∙ ap brooms_of (sym same)) told.brooms
 
 pub retire_all-requires : goal.retire_all-requires
-retire_all-requires c = all_fresh c.in_ok-flash.flash c.in_ok-flash.passes.items c.in_ok-flash.ensures.passes
+retire_all-requires c = subst (All (IsReady c.in_ok-flash.flash)) (sym c.into_iter.ensures.rest) (all_fresh c.in_ok-flash.flash c.in_ok-flash.passes.items c.in_ok-flash.ensures.passes)
 
 pub returns-in-Ok-clause-count : goal.returns-in-Ok-clause-count
 returns-in-Ok-clause-count c = (c.in_ok-flash.ensures.count.0, as_many c.in_ok-flash.seats.items c.in-Ok.brooms.items c.in-Ok.ensures.same ∙ c.in_ok-flash.ensures.count.1)

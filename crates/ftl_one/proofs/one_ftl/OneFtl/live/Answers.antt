@@ -1,0 +1,19 @@
+use Rattle.std.proofs.Common.{◌∙◌, ℕ, List, get_or, sym, ap, arith}
+use Rattle.ftl_one.specs.OneFtl.{geometry_of}
+use Rattle.ftl_one.specs.Store.{counts_of}
+use Rattle.ftl_one.specs.Stock.{live_of}
+use Rattle.ftl_one.proofs.StoreLemmas.{count-entries_of}
+use Rattle.ftl_one.proofs.FtlLemmas.{block_at-stock}
+use Rattle.ftl_one.proofs.one_ftl.OneFtl.live.Goals as goal
+
+pub bounds-live-block : goal.bounds-live-block
+unfolding geometry_of
+bounds-live-block c = omega (arith, c.requires, c.live.ensures.size)
+
+pub returns : goal.returns
+unfolding geometry_of counts_of
+returns c =
+    let f = c.args.self.now in
+    let b = c.args.block in
+    ap (λ (xs : List ℕ). get_or xs b 0) c.live.ensures.value
+    ∙ (count-entries_of f.store b c.requires ∙ sym (ap live_of (block_at-stock f b c.requires)))

@@ -1,0 +1,158 @@
+ghost use Rattle.std.specs.Prelude.{◌≡◌, ◌<◌, ℕ, All, length};
+ghost use Rattle.geometry.specs.Geometry.{sectors_of, page_bytes_of};
+ghost use Rattle.flash_rule.specs.declared.facts.Name.TheVariants as name;
+ghost use Rattle.flash_rule.specs.declared.facts.Role.TheVariants as role;
+ghost use Rattle.flash_table.specs.Flash.{view_of, geometry_of};
+ghost use Rattle.host.specs.Ready.{IsReady};
+ghost use Rattle.trace.specs.declared.commands.Op.TheVariants as op;
+ghost use Rattle.volume.specs.Volume.{flash_of};
+ghost use Rattle.lines.specs.Lines.{is_full};
+ghost use Rattle.lines.specs.Playing.{Played};
+ghost use Rattle.playing.specs.Playable.{IsLine, HasPage, HasRoom, HaveRoom, lines_at};
+ghost use Rattle.playing.specs.Line.{PlayedLine, kind_found};
+
+use flash_table::{Gate, Pass, Point};
+use geometry::Got;
+use lines::{Answer, Kind};
+use trace::{Command, Commands, Op};
+use volume::Volume;
+
+// What a read found, as an answer.
+fn found(got: Got) -> Kind
+    ensures { result ≡ kind_found got }
+{
+    match got {
+        Got::Empty => Kind::Empty,
+        Got::Data => Kind::Page,
+    }
+}
+
+// Writes a page to a sector, in so many tries.
+fn write_patiently<G: Gate>(
+    volume: &Volume,
+    pass: &mut Pass,
+    sector: u32,
+    bytes: &[u8],
+    patience: u32,
+    gate: &mut G,
+) -> Kind
+    requires pass { IsReady (flash_of volume.now) pass.old }
+    requires sector { sector < sectors_of (geometry_of (flash_of volume.now)) }
+    requires page { length bytes.now ≡ page_bytes_of (geometry_of (flash_of volume.now)) }
+    ensures told { (t : ℕ) → (view_of pass.old).role ≡ role.Player (name.Pass t) → PlayedLine t patience (view_of pass.old) op.Write sector bytes.now result bytes.now (is_full result) (view_of pass.new) }
+    ensures pass { IsReady (flash_of volume.now) pass.new }
+{
+    for tried in 0..patience {
+        if let Ok(was) = volume.write_gated(pass, sector, bytes, gate) {
+            return Kind::of_was(was);
+        }
+    }
+    Kind::Full
+}
+
+// Does a line, with a buffer of a page: a read leaves there what it found, and a write's bytes are made there.
+fn play_line<G: Gate>(
+    volume: &Volume,
+    pass: &mut Pass,
+    line: &Command<'_>,
+    patience: u32,
+    gate: &mut G,
+    page: &mut [u8],
+) -> Kind
+    requires pass { IsReady (flash_of volume.now) pass.old }
+    requires line { IsLine (geometry_of (flash_of volume.now)) line.now }
+    requires page { length page.old ≡ page_bytes_of (geometry_of (flash_of volume.now)) }
+    ensures told { (t : ℕ) → (view_of pass.old).role ≡ role.Player (name.Pass t) → PlayedLine t patience (view_of pass.old) line.now.op line.now.sector line.now.page result page.new (is_full result) (view_of pass.new) }
+    ensures pass { IsReady (flash_of volume.now) pass.new }
+{
+    match line.op {
+        Op::Read => found(volume.read_gated(pass, line.sector, page, gate).got),
+        Op::Write => {
+            line.page.copy_into(page);
+            write_patiently(volume, pass, line.sector, page, patience, gate)
+        }
+        Op::Trim => Kind::of_was(volume.trim(pass, line.sector)),
+        Op::Meet => unreachable!(),
+    }
+}
+
+/// Plays lines one after another by one pass, and keeps an answer for each. A write that finds no block is tried again, up to `patience` calls in
+/// all, and is then answered `Full`.
+pub fn play<G: Gate>(
+    volume: &Volume,
+    pass: &mut Pass,
+    lines: &[Command<'_>],
+    patience: u32,
+    gate: &mut G,
+    answers: &mut [Answer],
+)
+    requires pass { IsReady (flash_of volume.now) pass.old }
+    requires lines { All (IsLine (geometry_of (flash_of volume.now))) lines.now }
+    requires count { length answers.old ≡ length lines.now }
+    requires pages { All (HasPage (geometry_of (flash_of volume.now))) answers.old }
+    ensures told { (t : ℕ) → (view_of pass.old).role ≡ role.Player (name.Pass t) → Played t patience (view_of pass.old) lines.now answers.new (view_of pass.new) }
+    ensures pages { All (HasPage (geometry_of (flash_of volume.now))) answers.new }
+    ensures pass { IsReady (flash_of volume.now) pass.new }
+{
+    for i in 0..lines.len() {
+        let answer = &mut answers[i];
+        answer.kind = play_line(volume, pass, &lines[i], patience, gate, &mut answer.page);
+        gate.at(Point::Answered);
+    }
+}
+
+// Does a line with its answer's own page if it is a read, and else with a buffer of a page.
+fn answer_line<G: Gate>(
+    volume: &Volume,
+    pass: &mut Pass,
+    line: &Command<'_>,
+    patience: u32,
+    gate: &mut G,
+    buffer: &mut [u8],
+    answer: &mut Answer,
+)
+    requires pass { IsReady (flash_of volume.now) pass.old }
+    requires line { IsLine (geometry_of (flash_of volume.now)) line.now }
+    requires buffer { length buffer.old ≡ page_bytes_of (geometry_of (flash_of volume.now)) }
+    requires page { HasRoom (geometry_of (flash_of volume.now)) line.now answer.old }
+    ensures told { (t : ℕ) → (view_of pass.old).role ≡ role.Player (name.Pass t) → PlayedLine t patience (view_of pass.old) line.now.op line.now.sector line.now.page answer.new.kind answer.new.page.items (is_full answer.new.kind) (view_of pass.new) }
+    ensures page { HasRoom (geometry_of (flash_of volume.now)) line.now answer.new }
+    ensures pass { IsReady (flash_of volume.now) pass.new }
+{
+    match line.op {
+        Op::Read => {
+            answer.kind = play_line(volume, pass, line, patience, gate, &mut answer.page);
+        }
+        _ => {
+            answer.kind = play_line(volume, pass, line, patience, gate, buffer);
+        }
+    }
+}
+
+/// Plays the lines at these places of a trace, as `play` does, with a buffer of a page for what is written. Only a read's answer needs a page.
+pub fn play_at<G: Gate>(
+    volume: &Volume,
+    pass: &mut Pass,
+    commands: &Commands,
+    places: &[usize],
+    patience: u32,
+    gate: &mut G,
+    buffer: &mut [u8],
+    answers: &mut [Answer],
+)
+    requires pass { IsReady (flash_of volume.now) pass.old }
+    requires there { All (λ p. p < length commands.now) places.now }
+    requires lines { All (IsLine (geometry_of (flash_of volume.now))) (lines_at commands.now places.now) }
+    requires count { length answers.old ≡ length places.now }
+    requires pages { HaveRoom (geometry_of (flash_of volume.now)) (lines_at commands.now places.now) answers.old }
+    requires buffer { length buffer.old ≡ page_bytes_of (geometry_of (flash_of volume.now)) }
+    ensures told { (t : ℕ) → (view_of pass.old).role ≡ role.Player (name.Pass t) → Played t patience (view_of pass.old) (lines_at commands.now places.now) answers.new (view_of pass.new) }
+    ensures pages { HaveRoom (geometry_of (flash_of volume.now)) (lines_at commands.now places.now) answers.new }
+    ensures pass { IsReady (flash_of volume.now) pass.new }
+{
+    for i in 0..places.len() {
+        let line = commands.command(places[i]);
+        answer_line(volume, pass, &line, patience, gate, buffer, &mut answers[i]);
+        gate.at(Point::Answered);
+    }
+}

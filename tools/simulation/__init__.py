@@ -1,0 +1,1 @@
+"""Traces, reports and sweeps round `flashplay`. None of it is proved."""

@@ -1,0 +1,100 @@
+"""The answers of a run of `flashplay`, counted."""
+
+from dataclasses import dataclass, field
+
+from .faults import BROKEN, Fault, LineFault
+from .lines import number_in, numbered_lines, shown
+
+# What each op may answer; a read may also answer the page.
+ANSWERS = {
+    b"read": {b"empty"},
+    b"write": {b"empty", b"written", b"worn", b"full"},
+    b"trim": {b"empty", b"written"},
+    b"meet": {b"met"},
+}
+REFUSALS = (b"worn", b"full")
+# The totals of a run by one thread; a run by many ends with the first of these words alone.
+TOTALS = (b"end", b"programs", b"copies", b"erases")
+
+
+@dataclass
+class Answers:
+    """How many lines of each op gave each answer; the pages of the reads; and the totals, where the run tells them."""
+
+    lines: int = 0
+    counts: dict = field(default_factory=dict)
+    first_refused: int | None = None
+    page_bytes: int | None = None
+    programs: int | None = None
+    copies: int | None = None
+    erases: int | None = None
+
+    def count(self, op, answer):
+        return self.counts.get((op.encode(), answer.encode()), 0)
+
+    def accepted_writes(self):
+        return self.count("write", "empty") + self.count("write", "written")
+
+    def refused_writes(self):
+        return sum(self.count("write", answer.decode()) for answer in REFUSALS)
+
+    def write_amplification(self):
+        """Pages programmed, for writes and for copies, by the pages programmed for writes."""
+        return (self.programs + self.copies) / self.programs if self.programs else None
+
+
+def read_answers(source):
+    """Reads the answers of a whole run, and counts them."""
+    answers = Answers()
+    ended = False
+    for number, line in numbered_lines(source):
+        if ended:
+            raise LineFault(number, "the run has ended with the line before")
+        if line.startswith(b"end"):
+            _end(answers, number, line)
+            ended = True
+        else:
+            _count(answers, number, line)
+    if not ended:
+        raise Fault(f"the answers don't end with a line `end`: they are cut short after line {answers.lines}", BROKEN)
+    return answers
+
+
+def _count(answers, number, line):
+    fields = line.split(b",")
+    if len(fields) != 4:
+        raise LineFault(number, f"an answer has 4 fields, and this line {len(fields)}")
+    counted, op, sector, answer = fields
+    if number_in(counted, number, "line number") != number:
+        raise LineFault(number, f"it is counted as line {counted.decode()}")
+    if op not in ANSWERS:
+        raise LineFault(number, f"{shown(op)} is no op")
+    number_in(sector, number, "sector")
+    if answer not in ANSWERS[op]:
+        answer = _page(answers, number, op, answer)
+    key = op, answer
+    answers.counts[key] = answers.counts.get(key, 0) + 1
+    answers.lines = number
+    if answers.first_refused is None and answer in REFUSALS:
+        answers.first_refused = number
+
+
+def _page(answers, number, op, digits):
+    if op != b"read" or len(digits) % 16 or not digits:
+        raise LineFault(number, f"{shown(digits)} is no answer of a {op.decode()}")
+    if answers.page_bytes is None:
+        answers.page_bytes = len(digits) // 2
+    if len(digits) != 2 * answers.page_bytes:
+        raise LineFault(number, f"a page of {len(digits) // 2} bytes, where others have {answers.page_bytes}")
+    return b"data"
+
+
+def _end(answers, number, line):
+    fields = line.split(b",")
+    if fields[0] != b"end" or len(fields) not in (1, len(TOTALS)):
+        raise LineFault(number, f"{shown(line)} is no last line")
+    if len(fields) == len(TOTALS):
+        names = (name.decode() for name in TOTALS[1:])
+        answers.programs, answers.copies, answers.erases = (number_in(text, number, name) for text, name in zip(fields[1:], names))
+        if answers.programs != answers.accepted_writes():
+            raise LineFault(number, f"{answers.programs:,} programs, where {answers.accepted_writes():,} writes were accepted")

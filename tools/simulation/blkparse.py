@@ -1,0 +1,61 @@
+"""The requests of blkparse's text, in its default format."""
+
+import re
+
+from .faults import LineFault
+from .lines import number_in, shown
+from .requests import READ, TRIM, WRITE, PassedOver, Request
+
+SECTOR_BYTES = 512
+EVENT = re.compile(rb"\s*\d+,\d+\s")
+# The counts that follow the events: of each processor, of a device, and of all.
+SUMMARY = re.compile(rb"CPU ?\d+ \(|Total \(")
+OPS = {b"R": READ, b"W": WRITE, b"D": TRIM}
+HEAD_FIELDS = 7
+# The events that can be taken: where a request is queued, issued to the driver, and complete, which tells its error last.
+QUEUED, ISSUED, COMPLETE = b"Q", b"D", b"C"
+
+
+def requests(lines, action):
+    """A line of an event is `device processor sequence time process action kind sector + count [who]`."""
+    in_summary = False
+    for number, line in lines:
+        if EVENT.match(line):
+            yield _event(number, line, action)
+        elif SUMMARY.match(line):
+            in_summary = True
+        elif line.strip() and not in_summary and not line.startswith(b"Input file "):
+            raise LineFault(number, f"{shown(line)} is no event of blkparse")
+
+
+def _event(line, text, wanted):
+    fields = text.split()
+    if len(fields) < HEAD_FIELDS:
+        raise LineFault(line, "the event is cut short")
+    device, processor, sequence, time, process, action, kind = fields[:HEAD_FIELDS]
+    number_in(processor, line, "processor")
+    number_in(sequence, line, "sequence number")
+    number_in(process, line, "process")
+    number_in(time.replace(b".", b"", 1), line, "time")
+    if not action.isalpha():
+        raise LineFault(line, f"{shown(action)} is no action of blkparse")
+    if action != wanted:
+        return PassedOver("other action")
+    return _of_kind(line, device, action, kind, fields[HEAD_FIELDS:])
+
+
+def _of_kind(line, device, action, kind, rest):
+    if not rest or not rest[-1].endswith(b"]"):
+        raise LineFault(line, "the event is cut short")
+    # A flush before the request is an F before its letter.
+    op = OPS.get(kind.lstrip(b"F")[:1])
+    if op is None:
+        return PassedOver("flush" if kind.startswith(b"F") else "command without data")
+    if len(rest) < 2 or rest[1] != b"+":
+        return PassedOver("command without data")
+    if len(rest) < 4:
+        raise LineFault(line, "the event is cut short")
+    if action == COMPLETE and rest[-1] != b"[0]":
+        return PassedOver("failed request")
+    sector, count = number_in(rest[0], line, "sector"), number_in(rest[2], line, "count")
+    return Request(line, op, device, sector * SECTOR_BYTES, count * SECTOR_BYTES)

@@ -1,0 +1,76 @@
+"""The numbers of a device, and plays on it."""
+
+import contextlib
+import pathlib
+import subprocess
+from dataclasses import dataclass
+
+from .faults import Fault
+
+TOP = pathlib.Path(__file__).resolve().parents[2]
+LAUNCHER = TOP / "flashplay"
+# The options of flashplay and their defaults.
+DEFAULTS = {"luns": 1, "blocks": 64, "pages": 64, "words": 64, "sectors": 3072, "endurance": 1000}
+READ_AT_ONCE = 1 << 20
+
+
+@dataclass
+class Totals:
+    """What a run tells at its end, and how many of its writes were refused."""
+
+    lines: int
+    programs: int
+    copies: int
+    erases: int
+    worn: int
+
+
+def add_options(parser):
+    for name, default in DEFAULTS.items():
+        parser.add_argument(f"--{name}", type=int, metavar="N", help=f"as for flashplay ({default})")
+
+
+def numbers_of(options):
+    """The device that the options name."""
+    given = {name: getattr(options, name) for name in DEFAULTS}
+    return {name: DEFAULTS[name] if number is None else number for name, number in given.items()}
+
+
+def words_of(device):
+    return [word for name, number in device.items() for word in (f"--{name}", str(number))]
+
+
+def build():
+    """Has the launcher build the program where it isn't built."""
+    done = subprocess.run([LAUNCHER, "--help"], stdin=subprocess.DEVNULL, stdout=subprocess.DEVNULL)
+    if done.returncode != 0:
+        raise Fault(f"{LAUNCHER} failed with status {done.returncode}")
+
+
+def play(device, feed):
+    """Plays the trace that `feed` writes, and answers its totals. The answers are read as they come, and let go."""
+    with subprocess.Popen([LAUNCHER, *words_of(device)], stdin=subprocess.PIPE, stdout=subprocess.PIPE, stderr=subprocess.PIPE) as run:
+        # The program answers nothing before it has read the whole trace; if it reads no more, it says why.
+        with contextlib.suppress(BrokenPipeError):
+            feed(run.stdin)
+        with contextlib.suppress(BrokenPipeError):
+            run.stdin.close()
+        lines, worn, tail = _read_answers(run.stdout)
+        errors = run.stderr.read().decode("utf-8", "replace").strip()
+    if run.returncode != 0:
+        raise Fault(f"flashplay {' '.join(words_of(device))} ended with status {run.returncode}: {errors}")
+    programs, copies, erases = (int(text) for text in tail.split(b",")[1:])
+    return Totals(lines - 1, programs, copies, erases, worn)
+
+
+def _read_answers(source):
+    """How many lines there are, how many of them are refusals, and the last one."""
+    lines, worn, rest = 0, 0, b""
+    while piece := source.read(READ_AT_ONCE):
+        rest += piece
+        whole, mark, rest_of_line = rest.rpartition(b"\n")
+        if mark:
+            lines += whole.count(b"\n") + 1
+            worn += (whole + mark).count(b",worn\n")
+            last, rest = whole[whole.rfind(b"\n") + 1 :], rest_of_line
+    return lines, worn, last if lines else b""

@@ -1,0 +1,41 @@
+"""The requests of fio's iolog, versions 2 and 3."""
+
+from .faults import LineFault
+from .lines import number_in, shown
+from .requests import READ, TRIM, WRITE, PassedOver, Request
+
+VERSIONS = {b"fio version 2 iolog": 2, b"fio version 3 iolog": 3}
+FILE_ACTIONS = {b"add", b"open", b"close"}
+OPS = {b"read": READ, b"write": WRITE, b"trim": TRIM}
+NO_DATA = {b"wait", b"sync", b"datasync", b"sync_file_range", b"syncfs"}
+
+
+def requests(lines):
+    """Version 2 has lines `file action` and `file action offset length`; version 3 has a timestamp before them."""
+    number, head = next(lines, (1, b""))
+    version = VERSIONS.get(head.strip())
+    if version is None:
+        raise LineFault(number, f"an iolog begins with `fio version 2 iolog` or `fio version 3 iolog`, and this one with {shown(head)}")
+    for number, line in lines:
+        fields = line.split()
+        if not fields:
+            continue
+        if version == 3:
+            number_in(fields.pop(0), number, "timestamp")
+        yield _request(number, fields)
+
+
+def _request(line, fields):
+    if len(fields) < 2:
+        raise LineFault(line, "a file and an action are wanted")
+    name, action, *numbers = fields
+    op = OPS.get(action)
+    if op is None:
+        if action not in FILE_ACTIONS and action not in NO_DATA:
+            raise LineFault(line, f"{shown(action)} is no action of an iolog")
+        for field in numbers:
+            number_in(field, line, "number")
+        return PassedOver("file action" if action in FILE_ACTIONS else action.decode())
+    if len(numbers) != 2:
+        raise LineFault(line, f"a {op} has an offset and a length, and this one {len(numbers)} numbers")
+    return Request(line, op, name, number_in(numbers[0], line, "offset"), number_in(numbers[1], line, "length"))

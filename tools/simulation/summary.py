@@ -1,0 +1,134 @@
+"""What a report says of a run, as text and as one flat object."""
+
+from dataclasses import asdict, dataclass
+
+from .faults import BROKEN, Fault
+from .wear import spread
+
+GIGABYTE = 10**9
+SPREAD = ("least", "quartile_1", "median", "quartile_3", "most")
+
+
+@dataclass
+class Summary:
+    """What can't be known from what was given is None."""
+
+    lines: int
+    reads_empty: int
+    reads_data: int
+    writes_empty: int
+    writes_written: int
+    writes_worn: int
+    writes_full: int
+    writes_refused: int
+    first_refused_line: int | None
+    trims_empty: int
+    trims_written: int
+    meets: int
+    programs: int | None
+    copies: int | None
+    erases: int | None
+    write_amplification: float | None
+    page_bytes: int | None
+    bytes_written: int | None
+    erases_per_gigabyte: float | None
+    blocks: int | None = None
+    retired_blocks: int | None = None
+    live_pages: int | None = None
+    erases_least: float | None = None
+    erases_quartile_1: float | None = None
+    erases_median: float | None = None
+    erases_quartile_3: float | None = None
+    erases_most: float | None = None
+
+
+def summarise(answers, page_bytes, blocks):
+    """A summary of the answers. The size that a page counts for may be None, and is that of the reads then; so may the blocks' wear."""
+    page_bytes = page_bytes or answers.page_bytes
+    written = None if page_bytes is None else page_bytes * answers.accepted_writes()
+    known = written and answers.erases is not None
+    summary = Summary(
+        lines=answers.lines,
+        reads_empty=answers.count("read", "empty"),
+        reads_data=answers.count("read", "data"),
+        writes_empty=answers.count("write", "empty"),
+        writes_written=answers.count("write", "written"),
+        writes_worn=answers.count("write", "worn"),
+        writes_full=answers.count("write", "full"),
+        writes_refused=answers.refused_writes(),
+        first_refused_line=answers.first_refused,
+        trims_empty=answers.count("trim", "empty"),
+        trims_written=answers.count("trim", "written"),
+        meets=answers.count("meet", "met"),
+        programs=answers.programs,
+        copies=answers.copies,
+        erases=answers.erases,
+        write_amplification=answers.write_amplification(),
+        page_bytes=page_bytes,
+        bytes_written=written,
+        erases_per_gigabyte=answers.erases * GIGABYTE / written if known else None,
+    )
+    if blocks is not None:
+        _add_wear(summary, blocks)
+    return summary
+
+
+def _add_wear(summary, blocks):
+    erases = [block.erases for block in blocks]
+    if summary.erases not in (None, sum(erases)):
+        raise Fault(f"the wear file has {sum(erases):,} erases and the answers {summary.erases:,}: they are of two runs", BROKEN)
+    summary.blocks = len(blocks)
+    summary.retired_blocks = sum(block.retired for block in blocks)
+    summary.live_pages = sum(block.live for block in blocks)
+    for name, number in zip(SPREAD, spread(erases)):
+        setattr(summary, f"erases_{name}", number)
+
+
+def as_object(summary):
+    return asdict(summary)
+
+
+def as_text(summary):
+    s = summary
+    rows = [
+        ("commands", f"{s.lines:,}"),
+        ("reads", f"{s.reads_empty + s.reads_data:,}: {s.reads_data:,} of data, {s.reads_empty:,} empty"),
+        ("writes", f"{s.writes_empty + s.writes_written + s.writes_refused:,}: {s.writes_empty:,} to empty sectors, {s.writes_written:,} to written ones"),
+        ("writes refused", _refused(s)),
+        ("trims", f"{s.trims_empty + s.trims_written:,}: {s.trims_written:,} of written sectors, {s.trims_empty:,} of empty ones"),
+        ("meets", f"{s.meets:,}"),
+    ]
+    if s.programs is not None:
+        rows += [
+            ("write amplification", _amplification(s)),
+            ("erases", f"{s.erases:,}{_per_gigabyte(s)}"),
+        ]
+    if s.blocks is not None:
+        least, *quartiles, most = (getattr(s, f"erases_{name}") for name in SPREAD)
+        rows += [
+            ("erases of a block", f"least {least:g}, quartiles {' '.join(f'{number:g}' for number in quartiles)}, most {most:g}"),
+            ("blocks", f"{s.blocks:,}, {s.retired_blocks:,} of them retired; {s.live_pages:,} live pages"),
+        ]
+    width = max(len(name) for name, _ in rows)
+    return "\n".join(f"{name:{width}}  {text}" for name, text in rows)
+
+
+def _refused(s):
+    if not s.writes_refused:
+        return "0"
+    kinds = [f"{count:,} {kind}" for kind, count in (("worn", s.writes_worn), ("full", s.writes_full)) if count]
+    return f"{s.writes_refused:,} ({', '.join(kinds)}), the first of them line {s.first_refused_line:,}"
+
+
+def _amplification(s):
+    if s.write_amplification is None:
+        return "nothing was written"
+    return f"{s.write_amplification:.3f} ({s.programs:,} pages written, {s.copies:,} copied)"
+
+
+def _per_gigabyte(s):
+    if s.page_bytes is None:
+        return "; no read shows the size of a page, so give --page-bytes to see the erases per gigabyte written"
+    if s.erases_per_gigabyte is None:
+        return ""
+    return f", {s.erases_per_gigabyte:,.1f} per gigabyte written ({s.bytes_written:,} bytes, pages of {s.page_bytes})"

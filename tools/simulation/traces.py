@@ -1,0 +1,61 @@
+"""The traces that `flashplay` plays, as they are written."""
+
+from .faults import Fault
+
+# The most bytes of a trace that `flashplay` takes.
+MOST_BYTES = 268_435_456
+CHUNK = 65_536
+
+
+class TraceWriter:
+    """Writes the lines of a trace. Each command is of worker 0; what a write holds is up to `data`, by the number of its line."""
+
+    def __init__(self, sink, data):
+        self.lines = 0
+        self._sink = sink
+        self._data = data
+        self._bytes = 0
+        self._waiting = []
+        self._waiting_bytes = 0
+
+    def write(self, sector):
+        self._put(b"0,write,%d,%b\n" % (sector, self._data(self.lines + 1)))
+
+    def read(self, sector):
+        self._put(b"0,read,%d,\n" % sector)
+
+    def trim(self, sector):
+        self._put(b"0,trim,%d,\n" % sector)
+
+    def meet(self):
+        self._put(b"0,meet,0,\n")
+
+    def _put(self, line):
+        if self._bytes + len(line) > MOST_BYTES:
+            raise Fault(f"the trace would have more than {MOST_BYTES:,} bytes, the most that flashplay takes; --lines ends it earlier")
+        self._bytes += len(line)
+        self.lines += 1
+        self._waiting.append(line)
+        self._waiting_bytes += len(line)
+        if self._waiting_bytes >= CHUNK:
+            self.flush()
+
+    def flush(self):
+        self._sink.write(b"".join(self._waiting))
+        self._sink.flush()
+        self._waiting.clear()
+        self._waiting_bytes = 0
+
+
+def line_number(line):
+    """Eight digits: in a read's answer they tell the line of the write that it saw, in hexadecimal."""
+    return b"%08x" % line
+
+
+def zeros(line):
+    return b""
+
+
+def random_bytes(random, count):
+    """As many random bytes for each write."""
+    return lambda line: b"%0*x" % (2 * count, random.getrandbits(8 * count))

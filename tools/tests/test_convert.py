@@ -1,0 +1,155 @@
+import os
+import shutil
+import subprocess
+import sys
+import tempfile
+import unittest
+
+from tests.tools import LOGS, TOOLS, convert
+
+
+class Formats(unittest.TestCase):
+    def test_an_iolog_of_version_2_becomes_its_trace(self):
+        done = convert("fio", (LOGS / "fio_2.log").read_bytes())
+        self.assertEqual(done.lines, ["0,write,0,00000001", "0,write,1,00000002", "0,read,1,", "0,trim,0,"])
+        self.assertEqual(done.errors, "trace: 3 requests became 4 lines; passed over: 1 of datasync, 3 of file action, 1 of sync, 1 of wait\n")
+
+    def test_an_iolog_that_fio_3_33_wrote_becomes_its_trace(self):
+        log = (LOGS / "fio_3.log").read_bytes()
+        done = convert("fio", log, sectors=16)
+        ios = [line.split() for line in log.decode().splitlines()[1:]]
+        wanted = [(op, int(offset) // 4096) for _, _, op, offset, _ in (io for io in ios if len(io) == 5)]
+        told = [(line.split(",")[1], int(line.split(",")[2])) for line in done.lines]
+        self.assertEqual(told, wanted)
+        self.assertEqual(len(told), 40)
+
+    @unittest.skipUnless(shutil.which("fio"), "fio isn't installed: apt-get install fio")
+    def test_the_iolog_of_the_fio_that_is_installed_is_read(self):
+        with tempfile.TemporaryDirectory() as folder:
+            words = ["--name=job", "--ioengine=null", "--filename=disk", "--size=64k", "--rw=randrw", "--bs=4k", f"--write_iolog={folder}/log"]
+            subprocess.run(["fio", *words], cwd=folder, check=True, capture_output=True)
+            with open(f"{folder}/log", "rb") as log:
+                done = convert("fio", log.read(), sectors=16)
+        self.assertEqual((done.status, len(done.lines)), (0, 16), done.errors)
+
+    def test_a_csv_of_msr_cambridge_becomes_its_trace(self):
+        done = convert("msr", (LOGS / "msr.csv").read_bytes())
+        self.assertEqual(
+            done.lines,
+            ["0,write,0,00000001", "0,read,0,", "0,read,1,", *(f"0,write,{page},0000000{page + 1}" for page in (3, 4, 5, 6)), "0,read,1,"],
+        )
+
+    def test_the_names_of_the_columns_may_stand_above_a_csv(self):
+        log = b"Timestamp,Hostname,DiskNumber,Type,Offset,Size,ResponseTime\r\n1,hm,0,Read,0,1,1\r\n"
+        self.assertEqual(convert("msr", log).lines, ["0,read,0,"])
+
+    def test_the_text_of_blkparse_becomes_its_trace_where_requests_are_issued_queued_or_complete(self):
+        log = (LOGS / "blkparse.txt").read_bytes()
+        begin = ["0,write,0,00000001", "0,write,1,00000002", "0,write,2,00000003", "0,write,3,00000004", "0,read,0,", "0,write,0,00000006"]
+        # Of the discard of sectors 1 to 32 the pages that lie in it whole; then a read of half a page.
+        rest = ["0,trim,1,", "0,trim,2,", "0,trim,3,", "0,read,2,", "0,write,3,0000000b"]
+        self.assertEqual(convert("blkparse", log).lines, [*begin, *rest, "0,write,4,0000000c"])
+        self.assertEqual(convert("blkparse", log, "--action", "Q").lines, [*begin, *rest, "0,write,4,0000000c"])
+        # The last of the writes failed.
+        self.assertEqual(convert("blkparse", log, "--action", "C").lines, [*begin, *rest])
+
+
+class Places(unittest.TestCase):
+    log = b"1,a,0,Write,40960,8192,1\n2,a,0,Write,8192,4096,1\n3,a,0,Read,40960,4096,1\n"
+
+    def test_what_lies_past_the_device_is_refused_and_named(self):
+        done = convert("msr", self.log, sectors=11)
+        self.assertEqual((done.status, done.text), (3, ""))
+        self.assertIn("line 1: page 11 lies past the device of 11 sectors", done.errors)
+
+    def test_it_is_folded_into_the_device_by_wrap(self):
+        self.assertEqual(convert("msr", self.log, "--wrap", sectors=8).lines, ["0,write,2,00000001", "0,write,3,00000002", "0,write,2,00000003", "0,read,2,"])
+
+    def test_pages_are_numbered_as_they_come_by_dense(self):
+        self.assertEqual(convert("msr", self.log, "--dense", sectors=3).lines, ["0,write,0,00000001", "0,write,1,00000002", "0,write,2,00000003", "0,read,0,"])
+
+    def test_more_pages_than_sectors_are_refused_by_dense(self):
+        done = convert("msr", self.log, "--dense", sectors=2)
+        self.assertEqual(done.status, 3)
+        self.assertIn("line 2: with this line the log touches more than the 2 pages", done.errors)
+
+    def test_a_trim_of_pages_that_nothing_touched_needs_no_sector_by_dense(self):
+        log = b"fio version 2 iolog\nf trim 0 1099511627776\nf write 8192 4096\nf trim 0 1099511627776\nf trim 8192 4096\n"
+        self.assertEqual(convert("fio", log, "--dense", sectors=1).lines, ["0,write,0,00000001", "0,trim,0,", "0,trim,0,"])
+
+    def test_a_trim_is_of_whole_pages(self):
+        log = b"fio version 2 iolog\nf trim 1 4096\nf trim 1 8191\nf trim 0 8191\n"
+        self.assertEqual(convert("fio", log).lines, ["0,trim,1,", "0,trim,0,"])
+
+    def test_a_second_device_is_refused_taken_alone_or_numbered_beside_the_first(self):
+        log = b"1,a,0,Read,0,1,1\n2,a,1,Write,0,1,1\n"
+        refused = convert("msr", log)
+        self.assertEqual((refused.status, refused.lines), (3, ["0,read,0,"]))
+        self.assertIn("line 2: the log names a second device, a_1 beside a_0", refused.errors)
+        self.assertEqual(convert("msr", log, "--device", "a_1").lines, ["0,write,0,00000001"])
+        self.assertEqual(convert("msr", log, "--dense").lines, ["0,read,0,", "0,write,1,00000002"])
+        self.assertEqual(convert("msr", log, "--device", "b_0").errors, "trace: no request of the device b_0\n")
+
+    def test_the_data_may_be_zeros_and_the_trace_cut_short(self):
+        done = convert("msr", self.log, "--data", "zeros", "--lines", "2")
+        self.assertEqual(done.lines, ["0,write,10,", "0,write,11,"])
+
+
+class BrokenLines(unittest.TestCase):
+    def refuses(self, name, rows):
+        for text, line, told in rows:
+            with self.subTest(text):
+                done = convert(name, text)
+                self.assertEqual(done.status, 3)
+                self.assertIn(f"trace: line {line}: {told}", done.errors)
+
+    def test_of_an_iolog_are_named(self):
+        self.refuses("fio", [
+            (b"", 1, "an iolog begins with"),
+            (b"fio version 1 iolog\n", 1, "an iolog begins with"),
+            (b"fio version 2 iolog\nf write 0 4096\nf write 0\n", 3, "a write has an offset and a length, and this one 1 numbers"),
+            (b"fio version 2 iolog\nf write 0 -1\n", 2, "the length '-1' is no whole number"),
+            (b"fio version 2 iolog\nf\n", 2, "a file and an action are wanted"),
+            (b"fio version 3 iolog\n1 f add\nf write 0 4096\n", 3, "the timestamp 'f' is no whole number"),
+            (b"fio version 3 iolog\n1 f write 0 1\n2 f erase 0 1\n", 3, "'erase' is no action of an iolog"),
+        ])
+
+    def test_of_msr_cambridge_are_named(self):
+        self.refuses("msr", [
+            (b"1,hm,0,Read,0,1\n", 1, "7 fields are wanted, and these are 6"),
+            (b"1,hm,0,Read,0,1,1\n1,hm,0,Trim,0,1,1\n", 2, "the type 'Trim' is neither Read nor Write"),
+            (b"1,hm,0,Read,x,1,1\n", 1, "the offset 'x' is no whole number"),
+            (b"1,hm,0,Read,0,\xff,1\n", 1, "the size '\\\\xff' is no whole number"),
+            (b"1,hm,0,Read,0,1,1\n" + b"x" * 70_000, 2, "more than 65,536 bytes"),
+        ])
+
+    def test_of_blkparse_are_named(self):
+        self.refuses("blkparse", [
+            (b"no event\n", 1, "'no event' is no event of blkparse"),
+            (b"8,0 0 1 0.1 5 D\n", 1, "the event is cut short"),
+            (b"8,0 0 1 0.1 5 D W 0 + 8 [a]\n8,0 0 2 0.2 5 D W 8 + 8\n", 2, "the event is cut short"),
+            (b"8,0 0 1 0.1 5 D W z + 8 [a]\n", 1, "the sector 'z' is no whole number"),
+            (b"8,0 0 x 0.1 5 D W 0 + 8 [a]\n", 1, "the sequence number 'x' is no whole number"),
+        ])
+
+    def test_stop_the_trace_behind_what_came_before(self):
+        done = convert("msr", b"1,hm,0,Read,0,1,1\nbroken\n")
+        self.assertEqual((done.status, done.lines), (3, ["0,read,0,"]))
+
+
+class Memory(unittest.TestCase):
+    def test_does_not_grow_with_the_log(self):
+        line = b"1,hm,0,Write,4096,8192,1\n"
+        self.assertLess(self.kilobytes(line * 200_000), self.kilobytes(line) + 2048)
+
+    def kilobytes(self, log):
+        """The most memory that the conversion of a log takes."""
+        words = [sys.executable, TOOLS / "trace", "convert", "msr", "--page-bytes", "4096", "--sectors", "3", "--quiet"]
+        with tempfile.TemporaryFile() as source:
+            source.write(log)
+            source.seek(0)
+            process = subprocess.Popen(words, stdin=source, stdout=subprocess.DEVNULL)
+            _, status, usage = os.wait4(process.pid, 0)
+        process.returncode = os.waitstatus_to_exitcode(status)
+        self.assertEqual(process.returncode, 0)
+        return usage.ru_maxrss
