@@ -1,8 +1,7 @@
 //! A small device for tests: two sectors, blocks of two pages, and pages of one word.
-ghost use Rattle.std.specs.Prelude.{◌≡◌, ℕ, ◌<◌, All, IfOk, List, length};
+ghost use Rattle.std.specs.Prelude.{◌≡◌, ◌<◌, All, IfOk, length};
 ghost use Rattle.geometry.specs.Geometry.{sectors_of, page_bytes_of};
 ghost use Rattle.flash_table.specs.Flash.{geometry_of};
-ghost use Rattle.host.specs.Holding.{Holds};
 ghost use Rattle.host.specs.Ready.{IsReady};
 ghost use Rattle.volume.specs.Brooms.{IsBroomReady, IsBroomReady-prop};
 ghost use Rattle.volume.specs.Volume.{flash_of};
@@ -11,7 +10,6 @@ use crate::Volume;
 use broom::{Broom, Drain, Erase};
 use flash_table::{Gate, NoGate, Pass};
 use geometry::{Geometry, Got, Was};
-use host::Held;
 use std::process::Abort;
 use std::sync::Wait;
 use std::test::Fail;
@@ -225,15 +223,6 @@ impl Sweeper<'_> {
         ensures { self.new.volume ≡ self.old.volume }
     {
         self.volume.erase_one(rt, &mut self.broom, &mut NoGate)
-    }
-
-    /// The broom stands by a hold.
-    pub fn stand(&mut self, held: Held) -> Held
-        requires { (value : List ℕ) × Holds (flash_of self.old.volume.now) held value }
-        ensures held { (value : List ℕ) × Holds (flash_of self.old.volume.now) result value }
-        ensures volume { self.new.volume ≡ self.old.volume }
-    {
-        self.volume.stand(held, &mut self.broom)
     }
 
     /// The broom makes no more steps.

@@ -11,7 +11,7 @@ use crate::Volume;
 use crate::hands::{Desk, Hand, Sweeper, first_look, open_swept_often};
 use broom::{Broom, Drain, Erase};
 use erase_queue::EraseQueue;
-use flash_table::Pass;
+use flash_table::{NoGate, Pass};
 use geometry::{Geometry, Was};
 use host::{Held, Holding};
 use std::process::Abort;
@@ -52,71 +52,90 @@ fn release_word(volume: &Volume, held: Held) -> (u64, Pass)
 #[test]
 fn a_held_block_is_put_back_until_it_is_released(rt: HostRuntime) -> Result<(), Fail> {
     for (endurance, answer) in [(10, erased(0)), (1, Erase::Retired { block: 0 })] {
-        let (Desk { volume, a, b }, broom) = open_swept_often(&rt, endurance)?;
-        let mut broom = Sweeper {
-            volume: &volume,
-            broom,
-        };
+        let (Desk { volume, a, b }, mut broom) = open_swept_often(&rt, endurance)?;
         let mut a = Hand {
             volume: &volume,
             pass: a,
         };
-        assert_eq!(rt; broom.erase_one(&rt), Erase::QueueEmpty);
+        let empty = volume.erase_one(&rt, &mut broom, &mut NoGate);
+        assert_eq!(rt; empty, Erase::QueueEmpty);
         assert_eq!(rt; a.write(0, 1), Some(Was::Empty));
         assert_eq!(rt; a.write(1, 2), Some(Was::Empty));
         let held = hold_first(&rt, &volume, b);
         assert_eq!(rt; a.write(0, 3), Some(Was::Written));
         assert_eq!(rt; a.write(1, 4), Some(Was::Written));
-        assert_eq!(rt; broom.drain_one(&rt), drained(0));
-        assert_eq!(rt; broom.erase_one(&rt), Erase::Pinned);
-        let held = broom.stand(held);
+        let drain = volume.drain_one(&rt, &mut broom, &mut NoGate);
+        assert_eq!(rt; drain, drained(0));
+        let pinned = volume.erase_one(&rt, &mut broom, &mut NoGate);
+        assert_eq!(rt; pinned, Erase::Pinned);
+        let held = volume.stand(held, &mut broom);
         let (word, b) = release_word(&volume, held);
         assert_eq!(rt; word, 1);
-        assert_eq!(rt; broom.erase_one(&rt), answer);
-        assert_eq!(rt; broom.erase_one(&rt), Erase::QueueEmpty);
+        let erase = volume.erase_one(&rt, &mut broom, &mut NoGate);
+        assert_eq!(rt; erase, answer);
+        let empty = volume.erase_one(&rt, &mut broom, &mut NoGate);
+        assert_eq!(rt; empty, Erase::QueueEmpty);
         assert_eq!(rt; a.write(0, 5), Some(Was::Written));
         let held = hold_first(&rt, &volume, b);
         let begun = if endurance == 10 { (0, 1) } else { (2, 0) };
         assert_eq!(rt; (held.block(), held.generation()), begun);
         volume.retire(volume.release(held));
         a.leave();
-        broom.leave();
+        volume.retire_broom(broom);
     }
     Ok(())
 }
 
-// The two writes of a pair, and then a turn of the broom and one erase more, beside a hold.
+// What a pair of writes, a turn that drains and two that erase answer.
+#[derive(Clone, Copy, Debug, PartialEq, Eq)]
+struct Row {
+    writes: (Option<Was>, Option<Was>),
+    drain: Drain,
+    erases: (Erase, Erase),
+}
+
+// The row in which a held block is put back first, and then the other block has this answer.
+fn row(drain: Drain, second: Erase) -> Row {
+    Row {
+        writes: (Some(Was::Written), Some(Was::Written)),
+        drain,
+        erases: (Erase::Pinned, second),
+    }
+}
+
+// Plays the row of one pair. The broom stands by the hold after it.
 fn play_pair(
-    rt: &(impl Abort + Wait),
+    rt: &impl Wait,
+    volume: &Volume,
     a: &mut Hand,
-    broom: &mut Sweeper,
+    broom: &mut Broom,
     held: Held,
-    (pair, block, second): (u8, u32, Erase),
-) -> Held
-    requires volume { broom.old.volume.now ≡ a.old.volume.now }
-    requires held { (value : List ℕ) × Holds (flash_of a.old.volume.now) held value }
-    ensures held { (value : List ℕ) × Holds (flash_of a.old.volume.now) result value }
-    ensures hand { a.new.volume ≡ a.old.volume }
-    ensures sweeper { broom.new.volume ≡ broom.old.volume }
+    pair: u8,
+) -> (Row, Held)
+    requires broom { IsBroomReady volume.now broom.old }
+    requires held { (value : List ℕ) × Holds (flash_of volume.now) held value }
+    ensures broom { IsBroomReady volume.now broom.new }
+    ensures held { (value : List ℕ) × Holds (flash_of volume.now) result.1 value }
 {
     let byte = pair.wrapping_mul(2);
-    assert!(rt; a.write(0, byte.wrapping_sub(1)) == Some(Was::Written));
-    assert!(rt; a.write(1, byte) == Some(Was::Written));
-    assert!(rt; broom.drain_one(rt) == drained(block));
-    assert!(rt; broom.erase_one(rt) == Erase::Pinned);
-    assert!(rt; broom.erase_one(rt) == second);
-    broom.stand(held)
+    let writes = (a.write(0, byte.wrapping_sub(1)), a.write(1, byte));
+    let drain = volume.drain_one(rt, broom, &mut NoGate);
+    let first = volume.erase_one(rt, broom, &mut NoGate);
+    let second = volume.erase_one(rt, broom, &mut NoGate);
+    let held = volume.stand(held, broom);
+    let row = Row {
+        writes,
+        drain,
+        erases: (first, second),
+    };
+    (row, held)
 }
 
 #[test]
 fn a_hold_that_is_never_released_keeps_its_block_while_others_wear_out(
     rt: HostRuntime,
 ) -> Result<(), Fail> {
-    let (Desk { volume, a, b }, broom) = open_swept_often(&rt, 2)?;
-    let mut broom = Sweeper {
-        volume: &volume,
-        broom,
-    };
+    let (Desk { volume, a, b }, mut broom) = open_swept_often(&rt, 2)?;
     let mut a = Hand {
         volume: &volume,
         pass: a,
@@ -124,34 +143,29 @@ fn a_hold_that_is_never_released_keeps_its_block_while_others_wear_out(
     assert_eq!(rt; a.write(0, 1), Some(Was::Empty));
     assert_eq!(rt; a.write(1, 2), Some(Was::Empty));
     let held = hold_first(&rt, &volume, b);
-    let held = play_pair(&rt, &mut a, &mut broom, held, (2, 0, Erase::Pinned));
-    let held = play_pair(&rt, &mut a, &mut broom, held, (3, 1, erased(1)));
-    let held = play_pair(&rt, &mut a, &mut broom, held, (4, 2, erased(2)));
-    let held = play_pair(
-        &rt,
-        &mut a,
-        &mut broom,
-        held,
-        (5, 1, Erase::Retired { block: 1 }),
-    );
-    let held = play_pair(
-        &rt,
-        &mut a,
-        &mut broom,
-        held,
-        (6, 2, Erase::Retired { block: 2 }),
-    );
+    let (second, held) = play_pair(&rt, &volume, &mut a, &mut broom, held, 2);
+    assert_eq!(rt; second, row(drained(0), Erase::Pinned));
+    let (third, held) = play_pair(&rt, &volume, &mut a, &mut broom, held, 3);
+    assert_eq!(rt; third, row(drained(1), erased(1)));
+    let (fourth, held) = play_pair(&rt, &volume, &mut a, &mut broom, held, 4);
+    assert_eq!(rt; fourth, row(drained(2), erased(2)));
+    let (fifth, held) = play_pair(&rt, &volume, &mut a, &mut broom, held, 5);
+    assert_eq!(rt; fifth, row(drained(1), Erase::Retired { block: 1 }));
+    let (sixth, held) = play_pair(&rt, &volume, &mut a, &mut broom, held, 6);
+    assert_eq!(rt; sixth, row(drained(2), Erase::Retired { block: 2 }));
     assert_eq!(rt; a.write(0, 13), None);
-    assert_eq!(rt; broom.drain_one(&rt), Drain::NothingToGain);
+    let nothing = volume.drain_one(&rt, &mut broom, &mut NoGate);
+    assert_eq!(rt; nothing, Drain::NothingToGain);
     assert_eq!(rt; a.read(0), first_look(Some(0x0b)));
     assert_eq!(rt; a.read(1), first_look(Some(0x0c)));
     let (word, b) = release_word(&volume, held);
     assert_eq!(rt; word, 1);
-    assert_eq!(rt; broom.erase_one(&rt), erased(0));
+    let last = volume.erase_one(&rt, &mut broom, &mut NoGate);
+    assert_eq!(rt; last, erased(0));
     assert_eq!(rt; a.write(0, 13), Some(Was::Written));
     volume.retire(b);
     a.leave();
-    broom.leave();
+    volume.fold(&rt, broom);
     Ok(())
 }
 
