@@ -95,7 +95,7 @@ struct Row {
 }
 
 // The row in which a held block is put back first, and then the other block has this answer.
-fn row(drain: Drain, second: Erase) -> Row {
+fn played(drain: Drain, second: Erase) -> Row {
     Row {
         writes: (Some(Was::Written), Some(Was::Written)),
         drain,
@@ -144,15 +144,15 @@ fn a_hold_that_is_never_released_keeps_its_block_while_others_wear_out(
     assert_eq!(rt; a.write(1, 2), Some(Was::Empty));
     let held = hold_first(&rt, &volume, b);
     let (second, held) = play_pair(&rt, &volume, &mut a, &mut broom, held, 2);
-    assert_eq!(rt; second, row(drained(0), Erase::Pinned));
+    assert_eq!(rt; second, played(drained(0), Erase::Pinned));
     let (third, held) = play_pair(&rt, &volume, &mut a, &mut broom, held, 3);
-    assert_eq!(rt; third, row(drained(1), erased(1)));
+    assert_eq!(rt; third, played(drained(1), erased(1)));
     let (fourth, held) = play_pair(&rt, &volume, &mut a, &mut broom, held, 4);
-    assert_eq!(rt; fourth, row(drained(2), erased(2)));
+    assert_eq!(rt; fourth, played(drained(2), erased(2)));
     let (fifth, held) = play_pair(&rt, &volume, &mut a, &mut broom, held, 5);
-    assert_eq!(rt; fifth, row(drained(1), Erase::Retired { block: 1 }));
+    assert_eq!(rt; fifth, played(drained(1), Erase::Retired { block: 1 }));
     let (sixth, held) = play_pair(&rt, &volume, &mut a, &mut broom, held, 6);
-    assert_eq!(rt; sixth, row(drained(2), Erase::Retired { block: 2 }));
+    assert_eq!(rt; sixth, played(drained(2), Erase::Retired { block: 2 }));
     assert_eq!(rt; a.write(0, 13), None);
     let nothing = volume.drain_one(&rt, &mut broom, &mut NoGate);
     assert_eq!(rt; nothing, Drain::NothingToGain);
