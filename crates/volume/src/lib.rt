@@ -22,5 +22,3 @@ mod hands;
 mod rows;
 #[cfg(test)]
 mod schedules;
-#[cfg(test)]
-mod turns;
