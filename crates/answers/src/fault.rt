@@ -1,19 +1,34 @@
-use thiserror::Error;
+ghost use Rattle.std.specs.Prelude.{Some};
+ghost use Rattle.answers.specs.Faults.{run_text};
+
+use std::error::Error;
+use std::fmt;
 use trace::TraceFault;
 
 /// Why a run gave no whole output.
-#[derive(Clone, Copy, Debug, PartialEq, Eq, Error)]
+#[derive(Clone, Copy, Debug, PartialEq, Eq)]
 pub enum RunFault {
     /// The trace could not be read, or has a fault.
-    #[error(transparent)]
     Trace(TraceFault),
     /// Memory ran out before the first answer was written.
-    #[error("memory: refused")]
     Memory,
     /// A thread could not be started.
-    #[error("threads: refused")]
     Threads,
     /// The writer failed; a beginning of the output went out.
-    #[error("output: failed")]
     Output,
 }
+
+impl fmt::Display for RunFault {
+    ghost output = { λ fault. Some (run_text fault) };
+
+    fn fmt<W: fmt::Write>(&self, f: &mut fmt::Formatter<W>) -> fmt::Result {
+        match self {
+            RunFault::Trace(fault) => write!(f, "{fault}"),
+            RunFault::Memory => f.write_str("memory: refused"),
+            RunFault::Threads => f.write_str("threads: refused"),
+            RunFault::Output => f.write_str("output: failed"),
+        }
+    }
+}
+
+impl Error for RunFault {}

@@ -5,31 +5,30 @@
 #[cfg(test)]
 mod tests;
 
-use player::{Watched, session};
-use std::alloc::AllocError;
+use player::{Stop, Watched, read_words, session, tell};
+use std::io::Write;
 use std::process::ExitCode;
-use std::{env, io};
 
 fn main(rt: HostRuntime) -> ExitCode {
-    match play(&rt) {
-        Ok(status) => ExitCode::from(status),
-        Err(_) => {
-            let _ = eprintln!(rt; "memory: refused");
-            ExitCode::from(4)
-        }
-    }
+    let mut errors = Watched::new(rt.stderr());
+    let status = match play(&rt, &mut errors) {
+        Ok(status) => status,
+        Err(stop) => tell(&stop, &mut errors),
+    };
+    ExitCode::from(status)
 }
 
 // Runs a session on the arguments and the standard streams.
-fn play(rt: &HostRuntime) -> io::Result<u8> {
+fn play<E: Write>(rt: &HostRuntime, errors: &mut Watched<E>) -> Result<u8, Stop> {
     let alloc = rt.alloc();
-    let arguments: Vec<String> = env::args(rt)?.collect(alloc)?;
+    let arguments = read_words(rt, alloc)?;
     let mut words = Vec::new(alloc);
     for argument in &arguments {
-        words.push(argument.as_str())?;
+        if words.push(argument.as_str()).is_err() {
+            return Err(Stop::Memory);
+        }
     }
     let mut input = Watched::new(rt.stdin());
     let mut output = Watched::new(rt.stdout());
-    let mut errors = Watched::new(rt.stderr());
-    Ok(session(alloc, &words, &mut input, &mut output, &mut errors))
+    Ok(session(alloc, &words, &mut input, &mut output, errors))
 }

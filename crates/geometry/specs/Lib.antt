@@ -8,3 +8,4 @@ pub mod MapWords
 pub mod PinWords
 pub mod TableOrder
 pub mod Greedy
+pub mod Faults

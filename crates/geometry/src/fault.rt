@@ -1,33 +1,58 @@
-use thiserror::Error;
+ghost use Rattle.std.specs.Prelude.{◌≡◌, ◌≤◌, Some, length};
+ghost use Rattle.geometry.specs.Faults.{fault_name};
+
+use std::error::Error;
+use std::fmt;
 
 /// Why eight numbers make no device. The first that applies is answered, in the order here.
-#[derive(Clone, Copy, Debug, PartialEq, Eq, Error)]
+#[derive(Clone, Copy, Debug, PartialEq, Eq)]
 pub enum GeometryFault {
     /// The LUNs are out of range.
-    #[error("Luns")]
     Luns,
     /// The blocks are out of range, or no multiple of the LUNs.
-    #[error("Blocks")]
     Blocks,
     /// The pages of a block are out of range.
-    #[error("Pages")]
     Pages,
     /// The words of a page are out of range.
-    #[error("Words")]
     Words,
     /// The sectors are out of range.
-    #[error("Sectors")]
     Sectors,
     /// The endurance is out of range.
-    #[error("Endurance")]
     Endurance,
     /// There are too many hosts or brooms, or brooms without a host.
-    #[error("Passes")]
     Passes,
     /// The table of all words would be too large.
-    #[error("TooManyWords")]
     TooManyWords,
     /// The blocks leave too little room for the sectors beside what collection needs.
-    #[error("TooFewBlocks")]
     TooFewBlocks,
 }
+
+impl GeometryFault {
+    /// The fault's name, as it is printed.
+    pub fn name(self) -> &'static str
+        ensures name { result.now ≡ fault_name self }
+        ensures short { length result.now ≤ 12 }
+    {
+        match self {
+            GeometryFault::Luns => "Luns",
+            GeometryFault::Blocks => "Blocks",
+            GeometryFault::Pages => "Pages",
+            GeometryFault::Words => "Words",
+            GeometryFault::Sectors => "Sectors",
+            GeometryFault::Endurance => "Endurance",
+            GeometryFault::Passes => "Passes",
+            GeometryFault::TooManyWords => "TooManyWords",
+            GeometryFault::TooFewBlocks => "TooFewBlocks",
+        }
+    }
+}
+
+impl fmt::Display for GeometryFault {
+    ghost output = { λ fault. Some (fault_name fault) };
+
+    fn fmt<W: fmt::Write>(&self, f: &mut fmt::Formatter<W>) -> fmt::Result {
+        f.write_str(self.name())
+    }
+}
+
+impl Error for GeometryFault {}

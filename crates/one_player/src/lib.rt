@@ -6,6 +6,3 @@ mod one_thread;
 mod perform;
 
 pub use one_thread::run;
-
-#[cfg(test)]
-mod caller;

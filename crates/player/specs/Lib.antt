@@ -1,3 +1,4 @@
 -- What public contracts rest on.
 pub mod CommandLine
 pub mod Session
+pub mod Telling

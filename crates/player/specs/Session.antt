@@ -1,5 +1,5 @@
 -- How a session of the program ends.
-use Rattle.std.specs.Prelude.{◌≡◌, ◌≢◌, ◌⊎◌, ℕ, List, [], IfSome, Some, Result, Ok, Err}
+use Rattle.std.specs.Prelude.{◌≡◌, ◌≢◌, ◌⊎◌, ◌≤◌, ⊤, ℕ, List, [], IfSome, Some, Result, Ok, Err}
 use Rattle.std.specs.Io.KnownBytes.{Appends, IsAtEnd}
 use Rattle.clap.specs.Words.{IsAmong, Text, kind_of}
 use Rattle.clap.specs.declared.error.Error.{Error}
@@ -10,13 +10,14 @@ use Rattle.geometry.specs.declared.geometry.Geometry.{Geometry}
 use Rattle.geometry.specs.declared.fault.GeometryFault.{GeometryFault}
 use Rattle.trace.specs.declared.fault.TraceFaultKind.{TraceFaultKind}
 use Rattle.trace.specs.declared.fault.TraceFaultKind.TheVariants as fault
-use Rattle.answers.specs.Delivery.{AppendsText}
+use Rattle.answers.specs.Delivery.{AppendsBeginning, AppendsText}
 use Rattle.answers.specs.Outcome.{ExplainsRun}
 use Rattle.answers.specs.Streams.{Stream}
 use Rattle.answers.specs.declared.fault.RunFault.{RunFault}
 use Rattle.answers.specs.declared.fault.RunFault.TheVariants as run
 use Rattle.one_player.specs.Playing.{IsTextOf}
 use Rattle.player.specs.CommandLine.{AreOptionsOf, faults_given, numbers_given, rows_given}
+use Rattle.player.specs.Telling.{TellsEnding}
 use Rattle.player.specs.declared.command_line.Options.{Options}
 use Rattle.player.specs.declared.stop.Stop.{Stop}
 use Rattle.player.specs.declared.stop.Stop.TheVariants as stop
@@ -36,6 +37,7 @@ status_of_run run.Output = 1
 -- the exit status of a session that stopped
 abbrev pub status_of : Stop → ℕ
 status_of (stop.Arguments error) = 2
+status_of (stop.Encoding place) = 2
 status_of (stop.Geometry found) = 2
 status_of (stop.Run found) = status_of_run found
 status_of stop.Help = 1
@@ -78,16 +80,23 @@ pub record Stopped (words : List Text) (found : RunFault) (input_old input_new o
   pub device : IsDescribed words geo
   pub why : ExplainsRun (IsTextOf geo) found geo input_old input_new output_old output_new
 
+-- some of a text went out, and then the writer failed
+pub record AppendsSome (old new : Stream) : Type 0 where
+  pub text : List ℕ
+  pub part : AppendsBeginning old.bytes new.bytes text
+  pub failed : new.failures ≢ old.failures
+
 -- why a session stopped. Nothing is on the output but after `Output` of a run and `Help`, and nothing was read but by
 -- a run
 abbrev pub ExplainsStop : Stop → List Text → Stream → Stream → Stream → Stream → Type 0
 ExplainsStop (stop.Arguments error) words input_old input_new output_old output_new =
     IsAmong (kind_of error) (faults_given words) × (kind_of error ≢ kind.DisplayHelp) × (input_new ≡ input_old) × (output_new ≡ output_old)
+ExplainsStop (stop.Encoding place) words input_old input_new output_old output_new = ⊥
 ExplainsStop (stop.Geometry found) words input_old input_new output_old output_new =
     DescribesNone words found × (input_new ≡ input_old) × (output_new ≡ output_old)
 ExplainsStop (stop.Run found) words input_old input_new output_old output_new = Stopped words found input_old input_new output_old output_new
 ExplainsStop stop.Help words input_old input_new output_old output_new =
-    IsAmong kind.DisplayHelp (faults_given words) × (input_new ≡ input_old) × (output_new.failures ≢ output_old.failures)
+    IsAmong kind.DisplayHelp (faults_given words) × (input_new ≡ input_old) × AppendsSome output_old output_new
 ExplainsStop stop.Memory words input_old input_new output_old output_new = (input_new ≡ input_old) × (output_new ≡ output_old)
 
 -- how an attempt ended
@@ -101,11 +110,12 @@ abbrev pub status_after : Result (Unit {0}) Stop → ℕ
 status_after (Ok _) = 0
 status_after (Err why) = status_of why
 
--- how a session ended, and that the status tells it
-pub record EndsSession (status : ℕ) (words : List Text) (input_old input_new output_old output_new : Stream) : Type 0 where
+-- how a session ended, and that the status and what was told on standard error tell it
+pub record EndsSession (status : ℕ) (words : List Text) (input_old input_new output_old output_new errors_old errors_new : Stream) : Type 0 where
   pub ending : Result (Unit {0}) Stop
   pub status_is : status ≡ status_after ending
   pub why : Explains ending words input_old input_new output_old output_new
+  pub told : TellsEnding ending errors_old errors_new
 
 -- what comes of the words that clap refused with an error: the help is written, and every other text is told elsewhere
 abbrev pub AnswersClap : Error → Result (Unit {0}) Stop → Stream → Stream → Type 0
@@ -113,8 +123,19 @@ AnswersClap error (Ok _) output_old output_new =
     (kind_of error ≡ kind.DisplayHelp) × (output_new.failures ≡ output_old.failures) × (text : List ℕ) × Appends output_old.bytes output_new.bytes text
 AnswersClap error (Err (stop.Arguments told)) output_old output_new =
     (told ≡ error) × (kind_of error ≢ kind.OutOfMemory) × (kind_of error ≢ kind.DisplayHelp) × (output_new ≡ output_old)
+AnswersClap error (Err (stop.Encoding place)) output_old output_new = ⊥
 AnswersClap error (Err (stop.Geometry found)) output_old output_new = ⊥
 AnswersClap error (Err (stop.Run found)) output_old output_new = ⊥
 AnswersClap error (Err stop.Help) output_old output_new =
-    (kind_of error ≡ kind.DisplayHelp) × (output_new.failures ≢ output_old.failures)
-AnswersClap error (Err stop.Memory) output_old output_new = output_new ≡ output_old
+    (kind_of error ≡ kind.DisplayHelp) × AppendsSome output_old output_new
+AnswersClap error (Err stop.Memory) output_old output_new =
+    ((kind_of error ≡ kind.OutOfMemory) ⊎ (kind_of error ≡ kind.DisplayHelp)) × (output_new ≡ output_old)
+
+-- why the words of a command line could not be read; arguments count from 1
+abbrev pub IsUnread : Stop → Type 0
+IsUnread (stop.Arguments error) = ⊥
+IsUnread (stop.Encoding place) = 1 ≤ place
+IsUnread (stop.Geometry found) = ⊥
+IsUnread (stop.Run found) = ⊥
+IsUnread stop.Help = ⊥
+IsUnread stop.Memory = ⊤

@@ -3,13 +3,17 @@
 
 mod arguments;
 mod command_line;
+mod environment;
 mod sessions;
 mod stop;
+mod telling;
 
 pub use answers::RunFault;
 pub use arguments::options;
 pub use command_line::Options;
+pub use environment::read_words;
 pub use one_player::run;
 pub use sessions::session;
 pub use stop::Stop;
+pub use telling::tell;
 pub use trace::{TraceFault, TraceFaultKind, Watched};

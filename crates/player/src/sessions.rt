@@ -8,6 +8,7 @@ ghost use Rattle.player.specs.Session.{AnswersClap, EndsSession, Explains};
 use crate::arguments::options;
 use crate::command_line::Options;
 use crate::stop::Stop;
+use crate::telling::tell;
 use answers::{OutputFailed, send};
 use clap::error::ErrorKind;
 use geometry::{Geometry, GeometryFault};
@@ -33,26 +34,15 @@ pub fn session<'a, R: Read, W: Write, E: Write>(
     writer: &mut Watched<W>,
     errors: &mut Watched<E>,
 ) -> u8
-    ensures ending { EndsSession result (map (λ w. w.now) words.entry.now) (stream_of R.remaining reader.old) (stream_of R.remaining reader.new) (stream_of W.contents writer.old) (stream_of W.contents writer.new) }
+    ensures ending { EndsSession result (map (λ w. w.now) words.entry.now) (stream_of R.remaining reader.old) (stream_of R.remaining reader.new) (stream_of W.contents writer.old) (stream_of W.contents writer.new) (stream_of E.contents errors.old) (stream_of E.contents errors.new) }
 
     // A session that ends well tells nothing there.
     ensures quiet { result ≡ 0 → stream_of E.contents errors.new ≡ stream_of E.contents errors.old }
 {
     match attempt(alloc, words, reader, writer) {
         Ok(()) => 0,
-        Err(stop) => {
-            tell(&stop, errors);
-            stop.status()
-        }
+        Err(stop) => tell(&stop, errors),
     }
-}
-
-// Tells why a session stopped.
-fn tell<E: Write>(stop: &Stop, errors: &mut Watched<E>) {
-    let _ = match stop {
-        Stop::Arguments(error) => write!(errors, "{error}"),
-        other => writeln!(errors, "{other}"),
-    };
 }
 
 // Reads the arguments, makes the device and plays the trace.

@@ -3,26 +3,22 @@ ghost use Rattle.player.specs.Session.{status_of_run, status_of_trace};
 
 use answers::RunFault;
 use geometry::GeometryFault;
-use thiserror::Error;
 use trace::TraceFaultKind;
 
 /// Why a session ended without its answers.
-#[derive(Debug, Drop, Error)]
+#[derive(Debug, Drop)]
 pub enum Stop {
-    /// The arguments are refused. Its text ends its own line.
-    #[error(transparent)]
+    /// The arguments are refused.
     Arguments(clap::Error),
+    /// The argument of this number isn't UTF-8; they count from 1.
+    Encoding(u64),
     /// The numbers make no device.
-    #[error("geometry: {0}")]
     Geometry(GeometryFault),
     /// The run stopped.
-    #[error(transparent)]
     Run(RunFault),
     /// The help could not be written.
-    #[error("output: failed")]
     Help,
     /// Memory ran out before the run.
-    #[error("memory: refused")]
     Memory,
 }
 
@@ -34,7 +30,7 @@ impl Stop {
         ensures { result ≡ status_of self.now }
     {
         match self {
-            Stop::Arguments(_) | Stop::Geometry(_) => 2,
+            Stop::Arguments(_) | Stop::Encoding(_) | Stop::Geometry(_) => 2,
             Stop::Run(fault) => run_status(*fault),
             Stop::Help => 1,
             Stop::Memory => 4,

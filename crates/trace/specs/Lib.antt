@@ -1,10 +1,12 @@
 -- What public contracts rest on.
 pub mod Commands
+pub mod Faults
 pub mod Loading
 pub mod Page
 pub mod Trace
 pub mod Watched
 -- Internal.
+pub mod Cutting
 pub mod Parsing
 pub mod Rows
 pub mod Stored

@@ -1,0 +1,93 @@
+ghost use Rattle.std.specs.Prelude.{◌≡◌, ◌+◌, ◌≤◌, ◌++◌, codes, length, option_map};
+ghost use Rattle.trace.specs.Faults.{fault_text};
+ghost use Rattle.answers.specs.Faults.{run_text};
+ghost use Rattle.answers.specs.Streams.{stream_of};
+ghost use Rattle.player.specs.Session.{status_of};
+ghost use Rattle.player.specs.Telling.{IsTold, TellsStop, line_of};
+ghost use Rattle.player.specs.declared.telling.TheConstants.{LINE_BYTES};
+
+use crate::stop::Stop;
+use answers::{RunFault, send};
+use arrayvec::ArrayString;
+use std::io::Write;
+use trace::{TraceFault, Watched};
+
+// The room for a line on standard error.
+const LINE_BYTES: usize = 64;
+
+type Line = ArrayString<LINE_BYTES>;
+
+/// Tells why a session stopped: in one line, handed on at once, or in the text of `clap`. The answer
+/// is the exit status, and whether the line was written changes nothing.
+pub fn tell<E: Write>(stop: &Stop, errors: &mut Watched<E>) -> u8
+    ensures status { result ≡ status_of stop.now }
+    ensures told { TellsStop stop.now (stream_of E.contents errors.old) (stream_of E.contents errors.new) }
+{
+    let Some(line) = line(stop) else {
+        if let Stop::Arguments(error) = stop {
+            let _ = write!(errors, "{error}");
+        }
+        return stop.status();
+    };
+    tell_line(line.as_str(), errors);
+    stop.status()
+}
+
+// Hands on a line, and doesn't mind whether it went out.
+fn tell_line<E: Write>(line: &str, errors: &mut Watched<E>)
+    ensures { IsTold line.now (stream_of E.contents errors.old) (stream_of E.contents errors.new) }
+{
+    let _ = send(errors, line.as_bytes());
+}
+
+// The line that tells a stop, where its text isn't clap's.
+fn line(stop: &Stop) -> Option<Line>
+    ensures { option_map (λ l. l.bytes) result ≡ line_of stop.now }
+{
+    match stop {
+        Stop::Arguments(_) => None,
+        Stop::Encoding(place) => {
+            let mut digits = itoa::Buffer::new();
+            Some(joined("argument ", digits.format(*place), ": not UTF-8\n"))
+        }
+        Stop::Geometry(fault) => Some(joined("geometry: ", fault.name(), "\n")),
+        Stop::Run(fault) => Some(run_line(*fault)),
+        Stop::Help => Some(joined("output: ", "failed", "\n")),
+        Stop::Memory => Some(joined("memory: ", "refused", "\n")),
+    }
+}
+
+// The line that tells why a run stopped.
+fn run_line(fault: RunFault) -> Line
+    ensures { result.bytes ≡ run_text fault ++ codes "\n" }
+{
+    match fault {
+        RunFault::Trace(found) => trace_line(found),
+        RunFault::Memory => joined("memory: ", "refused", "\n"),
+        RunFault::Threads => joined("threads: ", "refused", "\n"),
+        RunFault::Output => joined("output: ", "failed", "\n"),
+    }
+}
+
+// The line that names a trace's fault.
+fn trace_line(fault: TraceFault) -> Line
+    ensures { result.bytes ≡ fault_text fault ++ codes "\n" }
+{
+    let mut digits = itoa::Buffer::new();
+    let mut line = joined("line ", digits.format(fault.line), ": ");
+    line.push_str(fault.kind.name());
+    line.push_str("\n");
+    line
+}
+
+// Three texts, one behind the other.
+fn joined(first: &str, second: &str, third: &str) -> Line
+    requires room { length first.now + length second.now + length third.now ≤ LINE_BYTES }
+    ensures bytes { result.bytes ≡ first.now ++ second.now ++ third.now }
+{
+    let mut line = ArrayString::new();
+    line.push_str(first);
+    line.push_str(second);
+    line.push_str(third);
+    line
+}
