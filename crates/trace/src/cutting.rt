@@ -2,7 +2,6 @@
 // copied: what stands between quotes is only passed over.
 
 ghost use Rattle.std.specs.Prelude.{◌≡◌, ◌≤◌, length, drop, true};
-ghost use Rattle.csv.specs.Reading.{strip_bom};
 ghost use Rattle.trace.specs.Cutting.{CutsField, IsCut, EndsField, EndsPlain, EndsQuoted, IsMarkEnd, StartsRecord, begins_with, is_field_end, is_line_end, AreValues};
 
 // U+FEFF in UTF-8.
