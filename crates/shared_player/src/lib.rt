@@ -1,0 +1,13 @@
+//! Playing a trace on a shared device by many workers at once: each is a thread with a pass of its own, and brooms collect garbage beside them.
+#![tactic(auto)]
+
+mod crew;
+mod post;
+mod starts;
+mod sweeper;
+mod turns;
+
+pub use crew::{Back, play_posts};
+pub use post::Post;
+pub use starts::{AllStart, NoShift, Starts};
+pub use sweeper::Sweeper;

@@ -1,0 +1,36 @@
+//! A worker's post: its pass, and the lines of the round that are its own.
+ghost use Rattle.std.specs.Arc.{arc_value};
+ghost use Rattle.shared_player.specs.Able.{IsAble, IsAble-prop};
+
+use flash_table::Pass;
+use lines::Answer;
+use std::alloc::Global;
+use std::sync::Arc;
+use trace::Commands;
+use volume::Volume;
+
+/// What a worker needs for a round: its pass, the places of its lines in the trace, a place for the answer of each, and a buffer of a page. A post
+/// that is dropped gives up its pass.
+pub struct Post {
+    pub volume: Arc<Volume, Global>,
+    pub commands: Arc<Commands, Global>,
+    pub pass: Pass,
+    pub places: Vec<usize>,
+    pub answers: Vec<Answer>,
+    pub buffer: Vec<u8>,
+    pub ghost able: { IsAble (arc_value volume) (arc_value commands) pass places.items answers.items buffer.items } by { IsAble-prop (arc_value volume) (arc_value commands) pass places.items answers.items buffer.items },
+}
+
+impl Drop for Post {
+    fn drop(self) {
+        let Post {
+            volume,
+            commands: _,
+            pass,
+            places: _,
+            answers: _,
+            buffer: _,
+        } = self;
+        volume.retire(pass);
+    }
+}
