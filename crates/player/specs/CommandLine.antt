@@ -17,17 +17,19 @@ option_rule name default =
 abbrev pub file_rule : Text → Rule
 file_rule name = record (new_rule name) { long = Some name; value_names = 1 }
 
--- the program's command line
-abbrev pub flashplay : App
-flashplay =
-    with_rule (with_rule (with_rule (with_rule (with_rule (with_rule (with_rule (new_app (codes "flashplay"))
+-- the program's command line: the numbers of a device, and the file of the wear
+abbrev pub with_numbers : App
+with_numbers =
+    with_rule (with_rule (with_rule (with_rule (with_rule (with_rule (new_app (codes "flashplay"))
     (option_rule (codes "luns") (codes "1")))
     (option_rule (codes "blocks") (codes "64")))
     (option_rule (codes "pages") (codes "64")))
     (option_rule (codes "words") (codes "64")))
     (option_rule (codes "sectors") (codes "3072")))
-    (option_rule (codes "endurance") (codes "1000")))
-    (file_rule (codes "wear"))
+    (option_rule (codes "endurance") (codes "1000"))
+
+abbrev pub flashplay : App
+flashplay = with_rule with_numbers (file_rule (codes "wear"))
 
 -- what clap finds for each option in the words of a command line, the defaults included
 unfoldable pub rows_given : List Text → List Row

@@ -1,6 +1,6 @@
-ghost use Rattle.std.specs.Prelude.{◌≡◌, map, IfOk};
-ghost use Rattle.clap.specs.Words.{FailsBy, app_of, found_of, rows_of, with_rule};
-ghost use Rattle.player.specs.CommandLine.{AreOptionsOf, IsNumberOf, faults_given, file_rule, flashplay, option_rule, rows_given};
+ghost use Rattle.std.specs.Prelude.{◌≡◌, codes, map, Some, IfOk, IfSome};
+ghost use Rattle.clap.specs.Words.{FailsBy, app_of, first_of, found_of, rows_of, with_rule};
+ghost use Rattle.player.specs.CommandLine.{AreOptionsOf, IsNumberOf, faults_given, file_rule, flashplay, option_rule, rows_given, with_numbers};
 
 use crate::command_line::{BLOCKS, ENDURANCE, LUNS, Options, PAGES, SECTORS, WORDS};
 use clap::{Arg, ArgMatches, Command, Error, value_parser};
@@ -27,9 +27,32 @@ pub fn options<'a>(alloc: Global, words: &'a [&'a str]) -> Result<Options<'a>, E
     })
 }
 
+/// The file that the words name for the wear, where they are accepted.
+pub fn wear_name<'a>(alloc: Global, words: &'a [&'a str]) -> Option<&'a str>
+    ensures { IfSome result (λ name. first_of (codes "wear") (rows_given (map (λ w. w.now) words.entry.now)) ≡ Some name.now) }
+{
+    match options(alloc, words) {
+        Ok(given) => given.wear,
+        Err(_) => None,
+    }
+}
+
 // The command line as clap knows it.
 fn flashplay<'a>(alloc: Global) -> Result<Command<'a>, AllocError>
     ensures { IfOk result (λ command. app_of command ≡ flashplay) }
+{
+    let command = with_numbers(alloc)?;
+    with_file(
+        alloc,
+        command,
+        "wear",
+        "Writes each block's erases and live pages to this file after the run",
+    )
+}
+
+// The command with the numbers of a device.
+fn with_numbers<'a>(alloc: Global) -> Result<Command<'a>, AllocError>
+    ensures { IfOk result (λ command. app_of command ≡ with_numbers) }
 {
     let command = Command::new(alloc, "flashplay").about(
         "Plays a trace on a page-mapped flash layer: the trace comes from standard input, its answers go to standard output.",
@@ -63,18 +86,12 @@ fn flashplay<'a>(alloc: Global) -> Result<Command<'a>, AllocError>
         "3072",
         "Sectors of one page each, from 1 to 1048576",
     )?;
-    let command = with(
+    with(
         alloc,
         command,
         "endurance",
         "1000",
         "Erase cycles of a block, from 1 to 1000000; the last one fails",
-    )?;
-    with_file(
-        alloc,
-        command,
-        "wear",
-        "Writes each block's erases and live pages to this file after the run",
     )
 }
 
