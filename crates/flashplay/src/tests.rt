@@ -89,13 +89,24 @@ fn a_session_answers_each_line(rt: HostRuntime) -> Result<(), Fail> {
 
 #[test]
 fn the_wear_is_told_where_a_file_is_named_for_it(rt: HostRuntime) -> Result<(), Fail> {
-    let words = ["flashplay", "--blocks=3", "--pages=2", "--words=1", "--sectors=3", "--wear=file"];
+    let words = [
+        "flashplay",
+        "--blocks=3",
+        "--pages=2",
+        "--words=1",
+        "--sectors=3",
+        "--wear=file",
+    ];
     assert_eq!(rt; wear_name(rt.alloc(), words.as_slice()), Some("file"));
     assert_eq!(rt; wear_name(rt.alloc(), SMALL.as_slice()), None);
-    let input = b"0,write,0,01\n0,write,1,02\n0,write,2,03\n0,write,0,04\n0,write,2,05\n0,trim,1,\n".as_slice();
+    let input =
+        b"0,write,0,01\n0,write,1,02\n0,write,2,03\n0,write,0,04\n0,write,2,05\n0,trim,1,\n".as_slice();
     let ended = play(rt.alloc(), words.as_slice(), input);
     assert_eq!(rt; ended.status, 0);
-    assert!(rt; ended.wear.as_slice() == b"block,erases,live,retired\n0,1,0,0\n1,0,1,0\n2,0,1,0\n".as_slice());
+    assert!(rt;
+        ended.wear.as_slice()
+            == b"block,erases,live,retired\n0,1,0,0\n1,0,1,0\n2,0,1,0\n".as_slice()
+    );
     assert!(rt; play(rt.alloc(), SMALL.as_slice(), input).wear.is_empty());
     Ok(())
 }
