@@ -10,3 +10,5 @@ pub mod Drains
 pub mod Wiping
 pub mod Renewing
 pub mod Tying
+pub mod Keeping
+pub mod Turning

@@ -133,6 +133,8 @@ module _ (v v' w : View) (found : Option MapWord) (mine : v.role ≡ Player (nam
           apart = apart;
           programs = λ j k x here there. theirs.programs k j x there here;
           erases = λ j k x here there. theirs.erases k j x there here;
+          programmed_once = (met.programmed_once.0, theirs.programmed_once.0);
+          erased_once = (met.erased_once.0, theirs.erased_once.0);
           heard = ap (λ (x : View). x.copy) told.changed;
           told = ap (λ (x : View). x.copy) last.changed;
         }
@@ -176,4 +178,5 @@ module _ (v x : View) (page : MapWord) (mine : v.role ≡ Player (name_of v.role
           brought = met.seen;
           spared = spared.erases;
           programs = spared.programs;
+          programmed_once = spared.programmed_once;
         }

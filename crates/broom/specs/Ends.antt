@@ -1,7 +1,13 @@
 -- What a broom that makes no more steps knew last.
+use Rattle.erase_queue.specs.declared.pass.QueuePass.{QueuePass}
 use Rattle.flash_rule.specs.declared.view.View.{View}
 use Rattle.flash_table.specs.Leaving.{retired_broom_view}
 use Rattle.broom.specs.declared.folding.Folded.{Folded}
 
+-- what such a broom knew of its device
 abbrev pub folded_view : Folded → View
 folded_view b = retired_broom_view b.seat
+
+-- its place at the queue of drained blocks
+abbrev pub folded_place : Folded → QueuePass
+folded_place b = b.place

@@ -72,10 +72,11 @@ pub record DidRetire (v : View) (x : BroomBlocks) (b : ℕ) (w : View) (y : Broo
   pub last : state.generation + 1 ≡ v.numbers.endurance
   pub blocks : y ≡ x
 
--- What each answer of an erase of this block tells
+-- What each answer of an erase of this block tells. An erase has nothing to do with the queue
 abbrev pub EraseTold : Broom → ℕ → Erase → Broom → Type 0
 EraseTold before b (erase.Erased block true) after = (block ≡ b) × DidKeep (view_of before) (blocks_of_broom before) b (view_of after) (blocks_of_broom after)
 EraseTold before b (erase.Erased block false) after = (block ≡ b) × DidFree (view_of before) (blocks_of_broom before) b (view_of after) (blocks_of_broom after)
 EraseTold before b (erase.Retired block) after = (block ≡ b) × DidRetire (view_of before) (blocks_of_broom before) b (view_of after) (blocks_of_broom after)
 EraseTold before b erase.Pinned after = FoundPinned (view_of before) b (view_of after) × (blocks_of_broom after ≡ blocks_of_broom before)
 EraseTold before b erase.Stale after = FoundStale (view_of before) b (view_of after) × (blocks_of_broom after ≡ blocks_of_broom before)
+EraseTold before b erase.QueueEmpty after = ⊥

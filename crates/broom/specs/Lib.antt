@@ -7,6 +7,7 @@ pub mod Told
 pub mod Erasing
 pub mod Ends
 pub mod Meeting
+pub mod Handing
 -- Internal: the parts of a drain.
 pub mod Surveying
 pub mod Relocating

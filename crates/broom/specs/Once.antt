@@ -7,9 +7,11 @@ use Rattle.flash_rule.specs.declared.facts.Name.TheVariants.{Broom as ABroom}
 use Rattle.flash_rule.specs.declared.facts.Role.{Role}
 use Rattle.flash_rule.specs.declared.facts.Role.TheVariants.{Player}
 use Rattle.flash_rule.specs.declared.facts.Work.{Work}
+use Rattle.erase_queue.specs.declared.queue.EraseQueue.{EraseQueue}
 use Rattle.flash_table.specs.declared.flash.Flash.{Flash}
 use Rattle.flash_table.specs.declared.pass.OpenBlock.{OpenBlock}
 use Rattle.broom.specs.declared.broom.Broom.{Broom}
+use Rattle.broom.specs.Handing.{IsQueued}
 use Rattle.broom.specs.Ready.{IsReady}
 
 same_number : (i j : ℕ) → Player (ABroom i) ≡ Player (ABroom j) → i ≡ j
@@ -30,3 +32,7 @@ filed-prop w d s t =
 
 pub IsReady-prop : (f : Flash) (b : Broom) → IsProp (IsReady f b)
 IsReady-prop f b = hlevel (props, number-prop, filed-prop)
+
+-- and so is that it has its place at the queue
+pub IsQueued-prop : (q : EraseQueue) (b : Broom) → IsProp (IsQueued q b)
+IsQueued-prop q b = hlevel props

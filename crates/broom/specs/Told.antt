@@ -69,9 +69,10 @@ pub record DidDrain (v : View) (x : BroomBlocks) (block copied : ℕ) (w : View)
     ceded = w.ceded;
   }
 
--- What each answer of a drain tells. The blocks of the broom's own stay where it drained none
+-- What each answer of a drain tells. The blocks of the broom's own stay where it drained none. A drain has nothing to do with the queue
 abbrev pub DrainTold : Broom → Drain → Broom → Type 0
 DrainTold before (drain.Drained block copied) after = DidDrain (view_of before) (blocks_of_broom before) block copied (view_of after) (blocks_of_broom after)
 DrainTold before drain.NothingToGain after = GainedNothing (view_of before) (view_of after) × (blocks_of_broom after ≡ blocks_of_broom before)
 DrainTold before drain.NoSpare after = HadNoSpare before after
 DrainTold before drain.Lost after = LostClaim (view_of before) (view_of after) × (blocks_of_broom after ≡ blocks_of_broom before)
+DrainTold before drain.QueueFull after = ⊥

@@ -11,6 +11,8 @@ pub enum Drain {
     NoSpare,
     /// The block's state has changed since the broom loaded it: another broom claimed it, or a reader came or went.
     Lost,
+    /// The broom has a drained block set aside, and the queue has no room for it. Only `drain_one` answers this.
+    QueueFull,
 }
 
 /// What an erase did.
@@ -25,4 +27,6 @@ pub enum Erase {
     Pinned,
     /// The block isn't drained.
     Stale,
+    /// No drained block is set aside, and none stands in the queue. Only `erase_one` answers this.
+    QueueEmpty,
 }

@@ -3,17 +3,20 @@ ghost use Rattle.geometry.specs.Geometry.{blocks_of};
 ghost use Rattle.flash_table.specs.declared.flash.Flash.{Flash};
 ghost use Rattle.flash_table.specs.Flash.{broom_view, own_blocks, geometry_of};
 
+use erase_queue::QueuePass;
 use flash_table::BroomSeat;
 use geometry::{Geometry, Phase, PinWord};
 use std::alloc::{AllocError, Global};
 
 /// A broom's seat, with the room for its survey: for each block its state as loaded, the number of its live pages, and whether it is
-/// closed.
+/// closed. Blocks that it has drained go to the queue by its place there, and one for which the queue had no room is set aside.
 pub struct Broom {
     pub(crate) seat: BroomSeat,
     pub(crate) states: Vec<PinWord>,
     pub(crate) counts: Vec<u32>,
     pub(crate) closed: Vec<bool>,
+    pub(crate) place: QueuePass,
+    pub(crate) aside: Option<u32>,
 }
 
 // What each place of a survey has before the first one.
@@ -34,30 +37,42 @@ fn row<T: Copy>(alloc: Global, places: usize, value: T) -> Result<Vec<T>, AllocE
 }
 
 impl Broom {
+    ghost use Rattle.std.specs.Prelude.{None};
     ghost use Rattle.broom.specs.Ready.{IsRested, IsReady, view_of, blocks_of_broom};
+    ghost use Rattle.broom.specs.Handing.{place_of, aside_of};
 
-    /// A broom with the room for its surveys of a device of this geometry. `Err` is want of memory, and gives the seat back.
-    pub fn new(alloc: Global, seat: BroomSeat, geometry: &Geometry) -> Result<Broom, BroomSeat>
+    /// A broom with the room for its surveys of a device of this geometry, and nothing set aside. `Err` is want of memory, and gives the
+    /// seat and the place back.
+    pub fn new(
+        alloc: Global,
+        seat: BroomSeat,
+        place: QueuePass,
+        geometry: &Geometry,
+    ) -> Result<Broom, (BroomSeat, QueuePass)>
         ensures view { IfOk result (λ b. view_of b ≡ broom_view seat) }
         ensures blocks { IfOk result (λ b. blocks_of_broom b ≡ own_blocks seat) }
         ensures ready { IfOk result (λ b. (f : Flash) → geometry_of f ≡ geometry.now → IsRested f seat → IsReady f b) }
-        ensures refused { IfErr result (λ s. (broom_view s ≡ broom_view seat) × (own_blocks s ≡ own_blocks seat) × ((f : Flash) → IsRested f seat → IsRested f s)) }
+        ensures queue { IfOk result (λ b. (place_of b ≡ place) × (aside_of b ≡ None)) }
+        ensures refused { IfErr result (λ back. (broom_view back.0 ≡ broom_view seat) × (own_blocks back.0 ≡ own_blocks seat) × ((f : Flash) → IsRested f seat → IsRested f back.0)) }
+        ensures place { IfErr result (λ back. back.1 ≡ place) }
     {
         let blocks = geometry.blocks() as usize;
         let Ok(states) = row(alloc, blocks, NOT_LOADED) else {
-            return Err(seat);
+            return Err((seat, place));
         };
         let Ok(counts) = row(alloc, blocks, 0) else {
-            return Err(seat);
+            return Err((seat, place));
         };
         let Ok(closed) = row(alloc, blocks, false) else {
-            return Err(seat);
+            return Err((seat, place));
         };
         Ok(Broom {
             seat,
             states,
             counts,
             closed,
+            place,
+            aside: None,
         })
     }
 }

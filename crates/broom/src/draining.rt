@@ -1,5 +1,8 @@
 //! Draining: a closed block's live pages are copied elsewhere, so that no map word names it any more.
+ghost use Rattle.geometry.specs.Geometry.{blocks_of};
+ghost use Rattle.flash_table.specs.Flash.{geometry_of};
 ghost use Rattle.broom.specs.Ready.{IsReady};
+ghost use Rattle.broom.specs.Handing.{HandsNothing, IsBelow};
 ghost use Rattle.broom.specs.Told.{DrainTold};
 
 use crate::answer::Drain;
@@ -14,6 +17,8 @@ pub fn drain<G: Gate>(flash: &Flash, broom: &mut Broom, gate: &mut G) -> Drain
     requires { IsReady flash.now broom.old }
     ensures told { DrainTold broom.old result broom.new }
     ensures ready { IsReady flash.now broom.new }
+    ensures queue { HandsNothing broom.old broom.new }
+    ensures block { IsBelow (blocks_of (geometry_of flash.now)) result }
 {
     if broom.seat.blocks().spare.is_none() {
         return Drain::NoSpare;

@@ -6,6 +6,7 @@ ghost use Rattle.flash_table.specs.Erasing.{Erases, CanLiveOn, words_in_block};
 ghost use Rattle.flash_table.specs.declared.broom_seat.ReclaimedBlock.{ReclaimedBlock};
 ghost use Rattle.flash_table.specs.declared.broom_seat.Reclaiming.TheVariants as reclaiming;
 ghost use Rattle.broom.specs.Ready.{IsReady};
+ghost use Rattle.broom.specs.Handing.{HandsNothing};
 ghost use Rattle.broom.specs.Renewing.{Kept, Freed};
 ghost use Rattle.broom.specs.Erasing.{EraseTold};
 
@@ -20,6 +21,7 @@ pub fn erase<G: Gate>(flash: &Flash, broom: &mut Broom, block: u32, gate: &mut G
     requires block { block < blocks_of (geometry_of flash.now) }
     ensures told { EraseTold broom.old block result broom.new }
     ensures ready { IsReady flash.now broom.new }
+    ensures queue { HandsNothing broom.old broom.new }
 {
     let state = flash.load_state(&mut broom.seat, block);
     if state.phase != Phase::Drained {

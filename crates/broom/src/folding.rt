@@ -6,31 +6,66 @@ ghost use Rattle.flash_table.specs.declared.pass.OpenBlock.{OpenBlock};
 ghost use Rattle.flash_table.specs.Leaving.{retired_broom_view};
 ghost use Rattle.flash_table.specs.Owning.{closed_list};
 ghost use Rattle.flash_table.specs.GivingUp.{closed_broom};
+ghost use Rattle.erase_queue.specs.Queue.{limit_of};
 ghost use Rattle.broom.specs.Ready.{IsReady, IsRested, IsFiled, view_of, blocks_of_broom};
-ghost use Rattle.broom.specs.Ends.{folded_view};
+ghost use Rattle.broom.specs.Ends.{folded_view, folded_place};
+ghost use Rattle.broom.specs.Handing.{IsQueued, LeftAt, aside_of, place_of};
 
 use crate::broom::Broom;
+use crate::handing::relieve;
+use erase_queue::{EraseQueue, QueuePass};
 use flash_table::{BroomSeat, Flash, RetiredBroom};
+use std::sync::Wait;
 
-/// The seat of a broom that makes no more steps. It may be dropped.
+/// The seat of a broom that makes no more steps, with its place at the queue. It may be dropped.
 #[derive(Drop)]
 pub struct Folded {
     seat: RetiredBroom,
+    place: QueuePass,
 }
 
-/// Gives a broom up. The block that it copies to, full or not, and its spare are closed.
-pub fn fold(flash: &Flash, broom: Broom) -> Folded
+/// Gives a broom up. The block that it copies to, full or not, and its spare are closed. A block that is set aside is put into the queue;
+/// where that is full, it stays drained and nobody erases it.
+#[tactic(auto, using(crate::proofs::Keeping::still_at))]
+pub fn fold(flash: &Flash, queue: &EraseQueue, rt: &impl Wait, broom: Broom) -> Folded
+    requires ready { IsReady flash.now broom }
+    requires queued { IsQueued queue.now broom }
+    ensures view { folded_view result ≡ closed_broom (view_of broom) (blocks_of_broom broom) }
+    ensures place { LeftAt (limit_of queue.now) broom (folded_place result) }
+{
+    let mut broom = broom;
+    relieve(queue, rt, &mut broom);
+    retire_broom(flash, broom)
+}
+
+/// Gives up a broom that has set nothing aside, as one that was just made.
+pub fn fold_new(flash: &Flash, broom: Broom) -> Folded
+    requires ready { IsReady flash.now broom }
+    requires aside { aside_of broom ≡ None }
+    ensures view { folded_view result ≡ closed_broom (view_of broom) (blocks_of_broom broom) }
+    ensures place { folded_place result ≡ place_of broom }
+{
+    retire_broom(flash, broom)
+}
+
+/// Gives a broom up without its queue, and so waits for nobody. The block that it copies to and its spare are closed. A block that is set
+/// aside stays drained, and nobody erases it.
+pub fn retire_broom(flash: &Flash, broom: Broom) -> Folded
     requires { IsReady flash.now broom }
-    ensures { folded_view result ≡ closed_broom (view_of broom) (blocks_of_broom broom) }
+    ensures view { folded_view result ≡ closed_broom (view_of broom) (blocks_of_broom broom) }
+    ensures place { folded_place result ≡ place_of broom }
 {
     let Broom {
         seat,
         states: _,
         counts: _,
         closed: _,
+        place,
+        aside: _,
     } = broom;
     Folded {
         seat: fold_seat(flash, seat),
+        place,
     }
 }
 

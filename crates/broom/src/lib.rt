@@ -1,5 +1,5 @@
-//! Garbage collection on the shared device: a broom copies what is live out of a block, and erases it, beside the hosts. No call waits for
-//! anybody, and only `Broom::new` takes memory.
+//! Garbage collection on the shared device: a broom copies what is live out of a block, and erases it, beside the hosts. Only `Broom::new`
+//! takes memory, and only the calls that take a runtime handle, which put into the queue of drained blocks and take from it, may wait.
 #![tactic(auto)]
 
 mod answer;
@@ -7,13 +7,16 @@ mod broom;
 mod draining;
 mod erasing;
 mod folding;
+mod handing;
 mod meeting;
 mod relocation;
 mod survey;
+mod turns;
 
 pub use answer::{Drain, Erase};
 pub use broom::Broom;
 pub use draining::drain;
 pub use erasing::erase;
-pub use folding::{Folded, fold, fold_seat};
+pub use folding::{Folded, fold, fold_new, fold_seat, retire_broom};
 pub use meeting::{meet_brooms, stand};
+pub use turns::{drain_one, erase_one};

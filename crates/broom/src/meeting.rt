@@ -3,6 +3,7 @@ ghost use Rattle.std.specs.Prelude.{◌≡◌, ℕ, List};
 ghost use Rattle.geometry.specs.declared.page_addr.PageAddr.{PageAddr};
 ghost use Rattle.flash_table.specs.Flash.{IsPassOf, view_of as pass_view, opened_of};
 ghost use Rattle.broom.specs.Ready.{IsReady, view_of, blocks_of_broom};
+ghost use Rattle.broom.specs.Handing.{HandsNothing};
 ghost use Rattle.broom.specs.Meeting.{IsPinned, StoodTold, BroomsMet, page_in};
 
 use crate::broom::Broom;
@@ -18,6 +19,8 @@ pub fn meet_brooms(flash: &Flash, first: &mut Broom, second: &mut Broom)
     ensures second { IsReady flash.now second.new }
     ensures first_blocks { blocks_of_broom first.new ≡ blocks_of_broom first.old }
     ensures second_blocks { blocks_of_broom second.new ≡ blocks_of_broom second.old }
+    ensures first_queue { HandsNothing first.old first.new }
+    ensures second_queue { HandsNothing second.old second.new }
 {
     let note = flash.broom_lend(&mut second.seat);
     flash.broom_take_in(&mut first.seat, note);
@@ -37,6 +40,7 @@ pub fn stand(flash: &Flash, pass: &mut Pass, page: PageAddr, generation: u32, br
     ensures opened { opened_of pass.new ≡ opened_of pass.old }
     ensures broom { IsReady flash.now broom.new }
     ensures blocks { blocks_of_broom broom.new ≡ blocks_of_broom broom.old }
+    ensures queue { HandsNothing broom.old broom.new }
 {
     let page = MapWord {
         generation,

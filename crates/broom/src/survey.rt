@@ -5,6 +5,7 @@ ghost use Rattle.flash_rule.specs.Views.{AreOfHosts};
 ghost use Rattle.flash_table.specs.Flash.{IsBroomOf, broom_view, own_blocks, geometry_of, device};
 ghost use Rattle.broom.specs.Survey as survey;
 ghost use Rattle.broom.specs.Ready.{IsReady, view_of, blocks_of_broom};
+ghost use Rattle.broom.specs.Handing.{HandsNothing};
 ghost use Rattle.broom.specs.Told.{GainedNothing};
 ghost use Rattle.broom.specs.Surveying.{StatesLoaded, PagesCounted, Chosen};
 
@@ -72,6 +73,7 @@ pub(crate) fn choose(flash: &Flash, broom: &mut Broom) -> Option<u32>
     ensures told { MatchOption result (GainedNothing (view_of broom.old) (view_of broom.new)) (λ block. Chosen (view_of broom.old) block broom.new) }
     ensures ready { IsReady flash.now broom.new }
     ensures blocks { blocks_of_broom broom.new ≡ blocks_of_broom broom.old }
+    ensures queue { HandsNothing broom.old broom.new }
 {
     load_states(flash, &mut broom.seat, &mut broom.states, &mut broom.closed);
     count_pages(flash, &mut broom.seat, &broom.states, &mut broom.counts);

@@ -28,7 +28,7 @@ use Rattle.flash_rule.proofs.Owning.{some_same}
 use Rattle.flash_rule.proofs.Frames.{counted, knowledge_kept}
 use Rattle.flash_rule.proofs.Assembly.{assembled, block_kept, sector_kept}
 use Rattle.flash_rule.proofs.Ceding.{ceded_still}
-use Rattle.flash_rule.proofs.Still.{pin_stays, pass_of, intact_age, met}
+use Rattle.flash_rule.proofs.Still.{pin_stays, pass_of, intact_age, met, programs_once}
 
 pub word_here : (f : ℕ → ℕ → ℕ → ℕ) (b p i x : ℕ) → put_word f b p i x b p i ≡ x
 word_here f b p i x = rw (eq_self b) (rw (eq_self p) (rw (eq_self i) refl))
@@ -266,6 +266,7 @@ spared z g vs id v m value c law at pinned copied =
     record {
       other = copy.other;
       programs = apart.1;
+      programmed_once = (programs_once z g (Pass t.0) v.programs (h.knowledge.programs (Pass t.0) t.1), programs_once z g c.of c.programs copy.programs);
       erases = λ k x is same.
           let begun = (copy.erases k x is).1 in
           let here : age_of (g.pins x.block) ≡ age_of (g.pins m.block) = ap (λ b. age_of (g.pins b)) same in

@@ -20,15 +20,17 @@ use Rattle.flash_rule.specs.declared.facts.Role.{Role}
 use Rattle.flash_rule.specs.declared.facts.Role.TheVariants.{Dealer, Player, Note, Gone}
 use Rattle.flash_rule.specs.declared.facts.Pin.{Pin}
 use Rattle.flash_rule.specs.declared.facts.Pin.TheVariants.{Clear, Candidate, Accepted, Stray}
+use Rattle.flash_rule.specs.declared.facts.Cycle.{Cycle}
 use Rattle.flash_rule.specs.declared.carried.Carried.{Carried}
 use Rattle.flash_rule.specs.declared.view.View.{View}
 use Rattle.flash_rule.specs.Views.{one_if, is_pass, is_live_role, pin_is_on, pins_on, weight, owned_at, AreOfHosts, calls_of, sum_of}
 use Rattle.flash_rule.specs.World.{World, is_intact, is_nameable, age_of, half_cycle}
-use Rattle.flash_rule.specs.Rule.{IsCurrent, LawfulKind, LawfulKnowledge, LawfulPin, LawfulView, LawfulCopy, Lawful, IsValue}
+use Rattle.flash_rule.specs.Rule.{IsCurrent, Programs, Erases, LawfulKind, LawfulKnowledge, LawfulPin, LawfulView, LawfulCopy, Lawful, IsValue}
 use Rattle.flash_rule.specs.Onward.{PinOnward, Onward}
-use Rattle.flash_rule.specs.Plays.{Looked, Met, Disjoint, is_unpinned}
+use Rattle.flash_rule.specs.Plays.{Looked, Met, Disjoint, Once, is_unpinned}
 use Rattle.flash_rule.proofs.Assembly.{assembled, block_kept}
 use Rattle.flash_rule.proofs.Ceding.{ceded_still}
+use Rattle.flash_rule.proofs.Owning.{some_same}
 
 pub pin_stays : (p : PinWord) → PinOnward p p
 pin_stays p = record { generation = omega arith; age = omega arith; written = λ _. omega arith; held = λ _ intact. (refl, intact); was = λ _ intact _. intact; free = λ _ free. free }
@@ -112,6 +114,16 @@ pass_of Gone is = absurd (cc)
 pub pass_numbers : (z : Numbers) (v : View) → LawfulKind z v → is_pass v.role ≡ true → v.numbers ≡ z
 pass_numbers z v kind is = let t = pass_of v.role is in kind.numbers (ap is_live_role t.1)
 
+-- a list whose entries each name their own place has no entry twice
+same_place : (a : Name) (j : ℕ) (b : Name) (k : ℕ) (x : Option (Name × ℕ)) → x ≡ Some (a, j) → x ≡ Some (b, k) → j ≡ k
+same_place a j b k x here there = ap (λ (y : Name × ℕ). y.1) (some_same {X = Name × ℕ} (a, j) (b, k) (sym here ∙ there))
+
+pub programs_once : (z : Numbers) (g : World) (n : Name) (list : List MapWord) → Programs z g n list → Once list
+programs_once z g n list h j k m here there = same_place n j n k (g.programmer m.block m.page m.generation) (h j m here).2 (h k m there).2
+
+pub erases_once : (z : Numbers) (g : World) (n : Name) (list : List Cycle) → Erases z g n list → Once list
+erases_once z g n list h j k c here there = same_place n j n k (g.eraser c.block c.generation) (h j c here).2 (h k c there).2
+
 -- the player of the copies is another one, so no page and no erase is in both lists
 pub met : (z : Numbers) (g : World) (v : View) (n : Name) (c : Carried) → v.role ≡ Player n → LawfulKnowledge z g v → LawfulCopy z g v.role c
     → Begins c.seen g.history × Disjoint v.programs c.programs × Disjoint v.erases c.erases
@@ -148,6 +160,8 @@ met_now z g v n player h w role seen programs erases c is =
       seen = subst (λ l. Begins c.seen l) (sym seen) m.0;
       programs = subst (λ l. Disjoint l c.programs) (sym programs) m.1;
       erases = subst (λ l. Disjoint l c.erases) (sym erases) m.2;
+      programmed_once = (subst (λ (l : List MapWord). Once l) (sym programs) (programs_once z g n v.programs (h.programs n player)), programs_once z g c.of c.programs copy.programs);
+      erased_once = (subst (λ (l : List Cycle). Once l) (sym erases) (erases_once z g n v.erases (h.erases n player)), erases_once z g c.of c.erases copy.erases);
     }
 
 -- a page that a map word names has room in the word

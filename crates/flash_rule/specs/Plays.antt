@@ -37,12 +37,19 @@ is_unpinned (Stray b) = false
 abbrev pub Disjoint : {X : Type 0} → List X → List X → Type 0
 Disjoint {X} xs ys = (j k : ℕ) (x : X) → slice_get xs j ≡ Some x → ¬ (slice_get ys k ≡ Some x)
 
--- the copies are of another player, the history that was seen begins with the copied one, and that player programmed and erased nothing that this one did
+-- no entry stands twice in the list
+abbrev pub Once : {X : Type 0} → List X → Type 0
+Once {X} xs = (j k : ℕ) (x : X) → slice_get xs j ≡ Some x → slice_get xs k ≡ Some x → j ≡ k
+
+-- The copies are of another player, the history that was seen begins with the copied one, that player programmed and erased nothing that this one did,
+-- and neither of them did anything twice
 pub record Met (w : View) (c : Carried) : Type 0 where
   pub other : ¬ (w.role ≡ Player c.of)
   pub seen : Begins c.seen w.seen
   pub programs : Disjoint w.programs c.programs
   pub erases : Disjoint w.erases c.erases
+  pub programmed_once : Once w.programs × Once c.programs
+  pub erased_once : Once w.erases × Once c.erases
 
 -- LOOK. The pass sees the history of this moment, whose calls are of hosts. The word found is 0 where the sector is empty after it, and else names a page with the
 -- sector's value, which is now a candidate
@@ -135,10 +142,12 @@ put_told st me n after =
     × ((o : Owned) → CanPut me.0 o → st.word ≡ page_index me.0.numbers o.block (next_page o).page + length (words_in me.0.work o)
     → after.0 ≡ record me.0 { work = Some (record { page = next_page o; words = words_in me.0.work o ++ st.first ∷ [] }) })
 
--- The copies are of another player, which programmed no page that this one did, and has not erased this page's block since its generation began
+-- The copies are of another player, which programmed no page that this one did, and has not erased this page's block since its generation began;
+-- and neither of them programmed a page twice
 pub record Spared (v : View) (m : MapWord) (c : Carried) : Type 0 where
   pub other : ¬ (v.role ≡ Player c.of)
   pub programs : Disjoint v.programs c.programs
+  pub programmed_once : Once v.programs × Once c.programs
   pub erases : (k : ℕ) (x : Cycle) → slice_get c.erases k ≡ Some x → x.block ≡ m.block → x.generation < m.generation
 
 -- GET WORD. A word of an accepted pin's page is the value's, and nobody has erased the page's block; the view stays

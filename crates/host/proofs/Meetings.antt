@@ -69,6 +69,7 @@ module _ (v v' w : View) (n : ℕ) (pass : is_pass v.role ≡ true) (pass' : is_
         shared = last.seen;
         apart = apart;
         programs = disjoint_sym u w last.programs;
+        once = (met.programmed_once.0, last.programmed_once.0);
       }
 
 -- a pass with nothing open owns nothing and fills nothing

@@ -9,7 +9,7 @@ use Rattle.flash_rule.specs.declared.facts.Owned.{Owned}
 use Rattle.flash_rule.specs.declared.facts.Pin.TheVariants.{Clear}
 use Rattle.flash_rule.specs.declared.view.View.{View}
 use Rattle.flash_rule.specs.Views.{sum_of}
-use Rattle.flash_rule.specs.Plays.{Disjoint, next_page}
+use Rattle.flash_rule.specs.Plays.{Disjoint, Once, next_page}
 
 -- A pin that came too late was given back: the ages that the pass knows have risen, within their bound
 pub record CameLate (v w : View) : Type 0 where
@@ -53,7 +53,8 @@ pub record Refused (v : View) (w : View) : Type 0 where
   pub nothing_open : v.owns ≡ []
   pub grown : w.denied ≡ v.denied ++ range_with_len 0 v.numbers.blocks
 
--- Two passes that met: each has seen what both had seen, and the second one what the first has; they have programmed no page both
+-- Two passes that met: each has seen what both had seen, and the second one what the first has; they have programmed no page both,
+-- and none of them one page twice
 pub record MetTold (v v' x x' : View) : Type 0 where
   pub first : x ≡ record v { seen = x.seen; looks = v.looks + 1; pin = x.pin; known = x.known; copy = x.copy }
   pub second : x' ≡ record v' { seen = x'.seen; looks = v'.looks + 1; pin = x'.pin; known = x'.known; copy = x'.copy }
@@ -62,3 +63,4 @@ pub record MetTold (v v' x x' : View) : Type 0 where
   pub shared : Begins x.seen x'.seen
   pub apart : ¬ (v.role ≡ v'.role)
   pub programs : Disjoint x.programs x'.programs
+  pub once : Once x.programs × Once x'.programs

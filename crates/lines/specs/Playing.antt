@@ -61,6 +61,7 @@ pub record Played (t patience : ℕ) (v : View) (lines : List Command) (answers 
     work = w.work;
     taken = w.taken;
     denied = w.denied;
+    ceded = w.ceded;
   }
   pub plays : Plays v.numbers.sectors t v.seen lines answers w.seen
   pub mine : w.mine ≡ v.mine ++ calls_done t lines answers

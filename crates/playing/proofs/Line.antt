@@ -24,7 +24,7 @@ use Rattle.lines.specs.Lines.{kind_of, is_full, IsFound}
 use Rattle.lines.specs.Playing.{times}
 use Rattle.playing.specs.Line.{PlayedLine, kind_found, merge}
 
--- a change of no more than the ten fields
+-- a change of no more than the eleven fields
 merged : (v w only : View) → only ≡ merge v only → w ≡ only → w ≡ merge v w
 merged v w only within e = e ∙ (within ∙ ap (merge v) (sym e))
 

@@ -17,7 +17,7 @@ abbrev pub kind_found : Got → Kind
 kind_found got.Empty = kind.Empty
 kind_found got.Data = kind.Page
 
--- what a pass knows, with the ten fields of another view that playing may change
+-- what a pass knows, with the eleven fields of another view that playing may change
 abbrev pub merge : View → View → View
 merge v w = record v {
   seen = w.seen;
@@ -30,6 +30,7 @@ merge v w = record v {
   work = w.work;
   taken = w.taken;
   denied = w.denied;
+  ceded = w.ceded;
 }
 
 -- A pass has played one line, with so many tries of a write: the line has its right answer at a history, not before what the pass had seen, and the

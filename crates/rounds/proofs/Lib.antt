@@ -4,3 +4,7 @@ pub mod Sequential
 pub mod Orders
 pub mod Meetings
 pub mod Told
+pub mod Texts
+pub mod Merging
+pub mod Runs
+pub mod Planning

@@ -1,6 +1,17 @@
 ghost use Rattle.rounds.specs.Told.{RoundsAreInOrder};
+ghost use Rattle.rounds.specs.Texts.{OrderIsText};
+ghost use Rattle.rounds.specs.Runs.{RunBegins, RunGoesOn, MeetingGoesOn, RunIsText};
 
 /// Lines that workers play at once, at disjoint sectors, are answered as one after another.
 pub fn rounds_are_answered_in_order()
-    ensures { RoundsAreInOrder }
+    ensures round { RoundsAreInOrder }
+    ensures text { OrderIsText }
+{}
+
+/// A run of rounds with meetings between them has the text of its trace's answers.
+pub fn runs_are_answered_in_order()
+    ensures begins { RunBegins }
+    ensures round { RunGoesOn }
+    ensures meeting { MeetingGoesOn }
+    ensures text { RunIsText }
 {}

@@ -6,9 +6,10 @@ use Rattle.geometry.specs.declared.geometry.Geometry.{Geometry}
 use Rattle.hex.specs.Hex.{decode_of}
 use Rattle.hex.specs.declared.error.FromHexError.{FromHexError}
 use Rattle.std.specs.Prelude.{Bool, false, MatchBool, if◌then◌else◌, slice_index_or}
+use Rattle.std.specs.Bool.{OnTrue}
 use Rattle.std.specs.Str.{bytes_eq}
 use Rattle.trace.specs.Parsing.{Adds, RefusesBy, fault_at}
-use Rattle.trace.specs.Trace.{all_or_first, checked, command_of, commands_of, is_of_record, name_of, number_below, op_of, page_of, page_of_bytes, whole_fault, workers_of, ◌>>=◌}
+use Rattle.trace.specs.Trace.{IsFirstFault, all_or_first, checked, command_of, commands_of, is_of_record, name_of, number_below, op_of, page_of, page_of_bytes, whole_fault, workers_of, ◌>>=◌}
 use Rattle.trace.specs.declared.commands.Command.{Command}
 use Rattle.trace.specs.declared.commands.Op.{Op}
 use Rattle.trace.specs.declared.commands.Op.TheVariants as op
@@ -37,37 +38,37 @@ refuses_fields geo (x ∷ y ∷ z ∷ []) n = refl
 refuses_fields geo (x ∷ y ∷ z ∷ w ∷ []) n = absurd (n refl)
 refuses_fields geo (x ∷ y ∷ z ∷ w ∷ v ∷ fs) n = refl
 
-module _ (geo : Geometry) (fs : List (List ℕ)) (a b c d : List ℕ) (fields : fs ≡ a ∷ b ∷ c ∷ d ∷ []) where
-  pub refuses_worker : (k : TraceFaultKind) → number_below (workers_of geo) fault.Worker a ≡ Err k → command_of geo fs ≡ Err k
+module _ (geo : Geometry) (a b c d : List ℕ) where
+  pub refuses_worker : (k : TraceFaultKind) → number_below (workers_of geo) fault.Worker a ≡ Err k → command_of geo (a ∷ b ∷ c ∷ d ∷ []) ≡ Err k
   unfolding command_of
-  refuses_worker k p = rw (fields, p) refl
+  refuses_worker k p = rw p refl
 
   module _ (worker : ℕ) (p : number_below (workers_of geo) fault.Worker a ≡ Ok worker) where
-    pub refuses_op : (k : TraceFaultKind) → op_of b ≡ Err k → command_of geo fs ≡ Err k
+    pub refuses_op : (k : TraceFaultKind) → op_of b ≡ Err k → command_of geo (a ∷ b ∷ c ∷ d ∷ []) ≡ Err k
     unfolding command_of
-    refuses_op k q = rw (fields, p, q) refl
+    refuses_op k q = rw (p, q) refl
 
     module _ (o : Op) (q : op_of b ≡ Ok o) where
-      pub refuses_sector : (k : TraceFaultKind) → number_below (sectors_of geo) fault.Sector c ≡ Err k → command_of geo fs ≡ Err k
+      pub refuses_sector : (k : TraceFaultKind) → number_below (sectors_of geo) fault.Sector c ≡ Err k → command_of geo (a ∷ b ∷ c ∷ d ∷ []) ≡ Err k
       unfolding command_of
-      refuses_sector k r = rw (fields, p, q, r) refl
+      refuses_sector k r = rw (p, q, r) refl
 
       module _ (sector : ℕ) (r : number_below (sectors_of geo) fault.Sector c ≡ Ok sector) where
-        refuses_page : (k : TraceFaultKind) → page_of (page_bytes_of geo) o worker sector d ≡ Err k → command_of geo fs ≡ Err k
+        refuses_page : (k : TraceFaultKind) → page_of (page_bytes_of geo) o worker sector d ≡ Err k → command_of geo (a ∷ b ∷ c ∷ d ∷ []) ≡ Err k
         unfolding command_of
-        refuses_page k s = rw (fields, p, q, r, s) refl
+        refuses_page k s = rw (p, q, r, s) refl
 
         accepts : (page : List ℕ) → page_of (page_bytes_of geo) o worker sector d ≡ Ok page
-            → command_of geo fs ≡ Ok (record { worker = worker; op = o; sector = sector; page = page })
+            → command_of geo (a ∷ b ∷ c ∷ d ∷ []) ≡ Ok (record { worker = worker; op = o; sector = sector; page = page })
         unfolding command_of
-        accepts page s = rw (fields, p, q, r, s) refl
+        accepts page s = rw (p, q, r, s) refl
 
-        pub refuses_by_page : (k : TraceFaultKind) → RefusesBy (page_of (page_bytes_of geo) o worker sector d) k → RefusesBy (command_of geo fs) k
+        pub refuses_by_page : (k : TraceFaultKind) → RefusesBy (page_of (page_bytes_of geo) o worker sector d) k → RefusesBy (command_of geo (a ∷ b ∷ c ∷ d ∷ [])) k
         refuses_by_page k (inl memory) = inl memory
         refuses_by_page k (inr s) = inr (refuses_page k s)
 
         pub adds_accepted : (page : List ℕ) (old new : List Command) → page_of (page_bytes_of geo) o worker sector d ≡ Ok page
-            → new ≡ old ++ record { worker = worker; op = o; sector = sector; page = page } ∷ [] → Adds (command_of geo fs) old new
+            → new ≡ old ++ record { worker = worker; op = o; sector = sector; page = page } ∷ [] → Adds (command_of geo (a ∷ b ∷ c ∷ d ∷ [])) old new
         adds_accepted page old new s grown = rw (accepts page s) grown
 
 -- ---- the faults of a check are those of a record
@@ -193,6 +194,21 @@ pub states_fault : (text : List ℕ) (geo : Geometry) (commands : List Command) 
 states_fault text geo commands fields rows left k e first (inl memory) = rw memory refl
 states_fault text geo commands fields rows left k e first (inr h) =
     stated text geo (length commands + 1) k (command_of_record geo fields k h) (commands_of-fault text geo commands fields left k (rw first at e) h)
+
+-- a record of other than four fields behind commands is the first fault
+pub first_other : (text : List ℕ) (geo : Geometry) (commands : List Command) (fields : List (List ℕ)) (rows left : List (List (List ℕ)))
+    → checked geo text ≡ map Ok commands ++ map (command_of geo) rows → rows ≡ fields ∷ left → length fields ≢ 4
+    → OnTrue (is_of_record (fault_at (length commands + 1) fault.Fields).kind) (IsFirstFault (checked geo text) (fault_at (length commands + 1) fault.Fields))
+first_other text geo commands fields rows left e first count = record {
+  before = commands;
+  after = map (command_of geo) left;
+  order = e ∙ rw (first, refuses_fields geo fields count) refl;
+  line = refl;
+}
+
+-- two ways to begin one list
+pub same_first : {A : Type 0} (xs : List A) (x y : A) (left right : List A) → xs ≡ x ∷ left → xs ≡ y ∷ right → (x ≡ y) × (left ≡ right)
+same_first xs x y left right p q = (cc, cc)
 
 -- one command more
 more : (text : List ℕ) (geo : Geometry) (old new : List Command) (fields : List (List ℕ)) (left : List (List (List ℕ))) (command : Command)

@@ -1,5 +1,7 @@
 pub mod CheckFacts
 pub mod CommandFacts
+pub mod CutFacts
 pub mod DigitFacts
 pub mod NumberFacts
+pub mod RecordFacts
 pub mod RowFacts

@@ -33,7 +33,7 @@ some-option_map f None q e h = cc (rw (← e) at h)
 -- ---- a record takes at least a byte
 
 -- what holds of both branches
-both : {A : Type 0} (P : A → Type 0) (b : Bool) (x y : A) → P x → P y → P (if b then x else y)
+pub both : {A : Type 0} (P : A → Type 0) (b : Bool) (x y : A) → P x → P y → P (if b then x else y)
 both P true x y p q = p
 both P false x y p q = q
 
@@ -107,7 +107,7 @@ leaves_less s (c ∷ rest) p e h = by (is_end (step default_config s c).1) refl 
 -- ---- the records of a text, one after the other
 
 -- more rounds than bytes find the same records
-rounds : (n m : ℕ) (s : State) (bytes : List ℕ) → ends_at_end s ≡ false → length bytes < n → length bytes < m → records_from default_config n s bytes ≡ records_from default_config m s bytes
+pub rounds : (n m : ℕ) (s : State) (bytes : List ℕ) → ends_at_end s ≡ false → length bytes < n → length bytes < m → records_from default_config n s bytes ≡ records_from default_config m s bytes
 unfolding records_from
 rounds zero m s bytes e h k = absurd (omega arith)
 rounds (suc n) zero s bytes e h k = absurd (omega arith)
@@ -120,12 +120,12 @@ rounds (suc n) (suc m) s bytes e h k = by (next_record default_config s [] [] by
     by (Some p) q more = let l = leaves_less s bytes p e q in rw q (ap (λ v. p.0 ∷ v) (more p.1 p.2 l.between (omega arith) (omega arith)))
 
 -- no record is left
-after-none : (s : State) (bytes : List ℕ) → next_record default_config s [] [] bytes ≡ None → records_after s bytes ≡ []
+pub after-none : (s : State) (bytes : List ℕ) → next_record default_config s [] [] bytes ≡ None → records_after s bytes ≡ []
 unfolding records_from
 after-none s bytes q = rw (add-one, q) refl
 
 -- the first of those that are left
-after-some : (s : State) (bytes : List ℕ) (p : Read) → ends_at_end s ≡ false → next_record default_config s [] [] bytes ≡ Some p → records_after s bytes ≡ p.0 ∷ records_after p.1 p.2
+pub after-some : (s : State) (bytes : List ℕ) (p : Read) → ends_at_end s ≡ false → next_record default_config s [] [] bytes ≡ Some p → records_after s bytes ≡ p.0 ∷ records_after p.1 p.2
 unfolding records_from
 after-some s bytes p e q =
     let l = leaves_less s bytes p e q in

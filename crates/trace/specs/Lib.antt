@@ -6,6 +6,7 @@ pub mod Page
 pub mod Trace
 pub mod Watched
 -- Internal.
+pub mod Cutting
 pub mod Parsing
 pub mod Rows
 pub mod Stored

@@ -3,14 +3,17 @@ use Rattle.std.specs.Prelude.{◌≡◌, ◌≢◌, ℕ, ◌+◌, ◌<◌, List,
 use Rattle.std.specs.Io.KnownBytes.{Consumes}
 use Rattle.trace.specs.declared.fault.TraceFaultKind.{TraceFaultKind}
 use Rattle.trace.specs.declared.fault.TraceFaultKind.TheVariants as fault
-use Rattle.trace.specs.declared.limits.TheConstants.{MAX_TRACE_BYTES}
 
--- from a reader that held more than MAX_TRACE_BYTES bytes exactly one byte more was taken
+-- the most bytes of a trace
+abbrev pub most_bytes : ℕ
+most_bytes = 268435456
+
+-- from a reader that held more bytes than that exactly one byte more was taken
 pub record TookOneTooMany (old new : Option (List ℕ)) : Type 0 where
-  pub held : IfSome old (λ bytes. MAX_TRACE_BYTES < length bytes)
+  pub held : IfSome old (λ bytes. most_bytes < length bytes)
   pub taken : List ℕ
   pub took : Consumes old new taken
-  pub count : length taken ≡ MAX_TRACE_BYTES + 1
+  pub count : length taken ≡ most_bytes + 1
 
 -- why a trace was not loaded: a read failed, or none did and memory ran out or the trace is too big
 abbrev pub ExplainsLoad : TraceFaultKind → ℕ → ℕ → Option (List ℕ) → Option (List ℕ) → Type 0

@@ -5,7 +5,6 @@ use Rattle.std.specs.Str.Parse.{digits_value}
 use Rattle.csv.specs.Reading.{default_config, records, strip_bom}
 use Rattle.geometry.specs.Geometry.{hosts_of, page_bytes_of, sectors_of}
 use Rattle.geometry.specs.declared.geometry.Geometry.{Geometry}
-use Rattle.geometry.specs.declared.limits.TheConstants.{LONE_WORKERS}
 use Rattle.hex.specs.Hex.{decode_of}
 use Rattle.hex.specs.declared.error.FromHexError.{FromHexError}
 use Rattle.trace.specs.Page.{page_with}
@@ -15,7 +14,6 @@ use Rattle.trace.specs.declared.commands.Op.TheVariants as op
 use Rattle.trace.specs.declared.fault.TraceFault.{TraceFault}
 use Rattle.trace.specs.declared.fault.TraceFaultKind.{TraceFaultKind}
 use Rattle.trace.specs.declared.fault.TraceFaultKind.TheVariants as fault
-use Rattle.trace.specs.declared.limits.TheConstants.{MAX_DIGITS}
 
 -- the name of an op, in a trace and in the answers
 abbrev pub name_of : Op → List ℕ
@@ -30,18 +28,18 @@ abbrev pub ◌>>=◌ : {A B : Type 0} → Result A TraceFaultKind → (A → Res
 Ok x >>= f = f x
 Err e >>= f = Err e
 
--- a number has one to MAX_DIGITS decimal digits; zeros may lead
+-- a number has one to seven decimal digits; zeros may lead
 abbrev pub is_number : List ℕ → Bool
-is_number text = nat_lt 0 (length text) && nat_le (length text) MAX_DIGITS && all_ascii_digits text
+is_number text = nat_lt 0 (length text) && nat_le (length text) 7 && all_ascii_digits text
 
 -- the number that a field writes, if it is below the bound, and else this fault
 unfoldable pub number_below : ℕ → TraceFaultKind → List ℕ → Result ℕ TraceFaultKind
 number_below bound otherwise text =
     if is_number text && nat_lt (digits_value 10 text) bound then Ok (digits_value 10 text) else Err otherwise
 
--- how many workers a trace may name: the hosts, or LONE_WORKERS for a device of one thread
+-- how many workers a trace may name: the hosts, or 500 for a device of one thread
 abbrev pub workers_of : Geometry → ℕ
-workers_of geo = if hosts_of geo == 0 then LONE_WORKERS else hosts_of geo
+workers_of geo = if hosts_of geo == 0 then 500 else hosts_of geo
 
 -- the op that a field names
 unfoldable pub op_of : List ℕ → Result Op TraceFaultKind

@@ -3,6 +3,7 @@
 #![tactic(auto)]
 
 mod commands;
+mod cutting;
 mod digits;
 mod fault;
 mod limits;

@@ -1,6 +1,6 @@
 ghost use Rattle.std.specs.Prelude.{◌≡◌, ◌≤◌, vec_len, IfOk, IfErr, IfSome, OnOk};
 ghost use Rattle.std.specs.Io.KnownBytes.{IsAtEnd};
-ghost use Rattle.trace.specs.Loading.{ExplainsLoad};
+ghost use Rattle.trace.specs.Loading.{ExplainsLoad, most_bytes};
 ghost use Rattle.trace.specs.Watched.{failures_of, inner_of};
 
 use crate::fault::{TraceFault, TraceFaultKind};
@@ -16,7 +16,7 @@ pub fn load<R: Read>(alloc: Global, reader: &mut Watched<R>) -> Result<Vec<u8>, 
     // All that the reader held, read to the end, with no read that failed.
     ensures bytes { IfOk result (λ text. IfSome (R.remaining (inner_of reader.old)) (λ held. text.items ≡ held)) }
     ensures end { OnOk result (IsAtEnd (R.remaining (inner_of reader.new))) }
-    ensures within { IfOk result (λ text. vec_len text ≤ MAX_TRACE_BYTES) }
+    ensures within { IfOk result (λ text. vec_len text ≤ most_bytes) }
     ensures unfailed { OnOk result (failures_of reader.new ≡ failures_of reader.old) }
 
     // A refusal has line 0 and its reason.

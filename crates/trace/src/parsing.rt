@@ -1,15 +1,16 @@
-ghost use Rattle.std.specs.Prelude.{◌≡◌, IfOk, IfErr, MatchBool, OnOk};
+ghost use Rattle.std.specs.Prelude.{◌≡◌, ◌≤◌, ◌+◌, length, IfOk, IfErr, MatchBool, OnOk};
 ghost use Rattle.std.specs.Bool.{OnTrue};
-ghost use Rattle.csv.specs.Records.{fields_of};
-ghost use Rattle.trace.specs.Parsing.{Adds, MakesPage, RefusesBy, fault_at, page_len};
+ghost use Rattle.trace.specs.Cutting.{fields_of_row};
+ghost use Rattle.trace.specs.Parsing.{Adds, AreSoFar, MakesPage, RefusesBy, fault_at, page_len};
 ghost use Rattle.trace.specs.Trace.{AreCommands, IsFirstFault, checked, command_of, commands_of, is_of_record, number_below, op_of, page_of, whole_fault, workers_of};
 ghost use Rattle.trace.specs.declared.fault.TraceFaultKind.TheVariants.{Memory};
 
 use crate::commands::{Commands, Op};
+use crate::cutting::{Cut, Row, next_cut};
 use crate::digits::decode;
 use crate::fault::{TraceFault, TraceFaultKind};
 use crate::limits::MAX_DIGITS;
-use crate::rows::{field, next_record, records};
+use crate::rows::{next_record, records, row_of};
 use csv::ByteRecord;
 use geometry::{Geometry, LONE_WORKERS, WORD_BYTES};
 use std::alloc::Global;
@@ -26,21 +27,71 @@ pub fn parse(alloc: Global, text: &[u8], geometry: &Geometry) -> Result<Commands
         (fault ≡ whole_fault Memory)) }
     ensures first { IfErr result (λ fault. OnTrue (is_of_record fault.kind) (IsFirstFault (checked geometry.now text.now) fault)) }
 {
-    let mut rows = records(alloc, text);
-    let mut row = ByteRecord::new(alloc);
     let mut given = Vec::new(alloc);
     let mut commands = Commands::new(alloc);
+    let mut at = 0;
     'records: loop {
-        match next_record(&mut rows, &mut row) {
-            Ok(true) => {}
-            Ok(false) => return Ok(commands),
-            Err(_) => return Err(TraceFault::whole(TraceFaultKind::Memory)),
-        }
-        let line = commands.len() as u64 + 1;
-        if let Err(kind) = add(&row, geometry, &mut given, &mut commands) {
-            return Err(fault(line, kind));
+        let line = next_line(&commands);
+        match next_cut(text, at) {
+            Cut::End => return Ok(commands),
+            Cut::Fields => return Err(fault(line, TraceFaultKind::Fields)),
+            Cut::Record(_, None) => return parse_rest(alloc, text, at, geometry, given, commands),
+            Cut::Record(end, Some(row)) => {
+                if let Err(kind) = add(&row, geometry, &mut given, &mut commands) {
+                    return Err(fault(line, kind));
+                }
+                at = end;
+            }
         }
     }
+}
+
+// The same from a record on that has a quote: `csv` reads it and those behind it. The fields of each
+// are counted first, so that a record of too many is never copied.
+fn parse_rest(
+    alloc: Global,
+    text: &[u8],
+    start: usize,
+    geometry: &Geometry,
+    mut given: Vec<u8>,
+    mut commands: Commands,
+) -> Result<Commands, TraceFault>
+    requires place { start ≤ length text.now }
+    requires so_far { AreSoFar geometry.now text.now start commands }
+    ensures commands { IfOk result (λ commands. commands_of text.now geometry.now ≡ Ok commands) }
+    ensures each { IfOk result (λ commands. AreCommands (checked geometry.now text.now) commands) }
+    ensures fault { IfErr result (λ fault. MatchBool (is_of_record fault.kind)
+        (commands_of text.now geometry.now ≡ Err fault)
+        (fault ≡ whole_fault Memory)) }
+    ensures first { IfErr result (λ fault. OnTrue (is_of_record fault.kind) (IsFirstFault (checked geometry.now text.now) fault)) }
+{
+    let mut rows = records(alloc, &text[start..]);
+    let mut byte_record = ByteRecord::new(alloc);
+    let mut at = start;
+    'records: loop {
+        let line = next_line(&commands);
+        let end = match next_cut(text, at) {
+            Cut::End => return Ok(commands),
+            Cut::Fields => return Err(fault(line, TraceFaultKind::Fields)),
+            Cut::Record(end, _) => end,
+        };
+        match next_record(&mut rows, &mut byte_record) {
+            Ok(true) => {}
+            Ok(false) => unreachable!(),
+            Err(_) => return Err(TraceFault::whole(TraceFaultKind::Memory)),
+        }
+        if let Err(kind) = add(&row_of(&byte_record), geometry, &mut given, &mut commands) {
+            return Err(fault(line, kind));
+        }
+        at = end;
+    }
+}
+
+// The number of the record behind these commands.
+fn next_line(commands: &Commands) -> u64
+    ensures { result ≡ length commands.now + 1 }
+{
+    commands.len() as u64 + 1
 }
 
 // The fault of a record, or want of memory at it.
@@ -55,22 +106,19 @@ fn fault(line: u64, kind: TraceFaultKind) -> TraceFault
 
 // Checks a record and adds its command. The bytes of its data pass through `given`.
 fn add(
-    row: &ByteRecord,
+    row: &Row,
     geometry: &Geometry,
     given: &mut Vec<u8>,
     commands: &mut Commands,
 ) -> Result<(), TraceFaultKind>
-    ensures added { OnOk result (Adds (command_of geometry.now (fields_of row.now)) commands.old commands.new) }
-    ensures refused { IfErr result (RefusesBy (command_of geometry.now (fields_of row.now))) }
+    ensures added { OnOk result (Adds (command_of geometry.now (fields_of_row row.now)) commands.old commands.new) }
+    ensures refused { IfErr result (RefusesBy (command_of geometry.now (fields_of_row row.now))) }
 {
-    if row.len() != 4 {
-        return Err(TraceFaultKind::Fields);
-    }
-    let worker = number_below(workers(geometry), TraceFaultKind::Worker, field(row, 0))?;
-    let op = op_named(field(row, 1))?;
-    let sector = number_below(geometry.sectors(), TraceFaultKind::Sector, field(row, 2))?;
+    let worker = number_below(workers(geometry), TraceFaultKind::Worker, row.worker)?;
+    let op = op_named(row.op)?;
+    let sector = number_below(geometry.sectors(), TraceFaultKind::Sector, row.sector)?;
     let size = (geometry.words() * WORD_BYTES) as u16;
-    read_data(size, op, worker, sector, field(row, 3), given)?;
+    read_data(size, op, worker, sector, row.digits, given)?;
     match commands.push(worker, op, sector, given, page_len(op, size)) {
         Ok(()) => Ok(()),
         Err(_) => Err(TraceFaultKind::Memory),

@@ -1,10 +1,12 @@
-// The records of a trace, one at a time.
+// The records of a text as `csv` reads them, one at a time.
 
 ghost use Rattle.std.specs.Prelude.{◌≡◌, ◌<◌, [], IfOk, length, slice_index_or};
 ghost use Rattle.csv.specs.Records.{fields_of};
+ghost use Rattle.trace.specs.Cutting.{fields_of_row};
 ghost use Rattle.trace.specs.Rows.{IsReading, TakesNext, records_left};
 ghost use Rattle.trace.specs.Trace.{records_of};
 
+use crate::cutting::Row;
 use csv::{ByteRecord, Error, Reader, ReaderBuilder};
 use std::alloc::Global;
 
@@ -27,8 +29,21 @@ pub(crate) fn next_record(rows: &mut Reader<&[u8]>, row: &mut ByteRecord) -> Res
     rows.read_byte_record(row)
 }
 
+// The fields of a record that has four.
+pub(crate) fn row_of(byte_record: &ByteRecord) -> Row<'_>
+    requires { length (fields_of byte_record.now) ≡ 4 }
+    ensures { fields_of byte_record.now ≡ fields_of_row result }
+{
+    Row {
+        worker: field(byte_record, 0),
+        op: field(byte_record, 1),
+        sector: field(byte_record, 2),
+        digits: field(byte_record, 3),
+    }
+}
+
 // A field of a record that has it.
-pub(crate) fn field(row: &ByteRecord, i: usize) -> &[u8]
+fn field(row: &ByteRecord, i: usize) -> &[u8]
     requires { i < length (fields_of row.now) }
     ensures { result.now ≡ slice_index_or (fields_of row.now) i [] }
 {

@@ -28,11 +28,24 @@ fn each_faulty_record_has_its_fault(rt: HostRuntime) -> Result<(), Fail> {
     for (name, text, fault) in [
         ("three fields", "0,read,2", kind::Fields),
         ("five fields", "0,read,2,,", kind::Fields),
+        (
+            "an open quote in the fifth field",
+            "0,read,2,,\"",
+            kind::Fields,
+        ),
+        ("a quoted comma", "\"0,read\",0,", kind::Fields),
+        (
+            "a quoted line end",
+            "\"0,read,0,\n0,read,0,\n",
+            kind::Fields,
+        ),
+        ("commas behind two quotes", "\"\",,,,,,", kind::Fields),
         ("a worker too large", "500,read,0,", kind::Worker),
         ("a worker that is no number", "x,read,0,", kind::Worker),
         ("a space before the worker", " 0,read,0,", kind::Worker),
         ("eight digits", "00000000,read,0,", kind::Worker),
         ("an op in upper case", "0,READ,0,", kind::Op),
+        ("a quote within an op", "0,re\"ad,0,", kind::Op),
         ("a sector with a sign", "0,read,-1,", kind::Sector),
         ("a sector too large", "0,read,3,", kind::Sector),
         ("an odd number of digits", "0,write,0,4", kind::Hex),
@@ -87,6 +100,20 @@ fn accepted_records_are_commands(rt: HostRuntime) -> Result<(), Fail> {
         ),
         ("a trim", "7,trim,0,", Op::Trim, 0, b"".as_slice()),
         (
+            "numbers of seven digits",
+            "0000007,trim,0000002,",
+            Op::Trim,
+            2,
+            b"".as_slice(),
+        ),
+        (
+            "digits behind their quotes",
+            "\"7\",\"write\",\"0\",\"41\"42",
+            Op::Write,
+            0,
+            b"AB\0\0\0\0\0\0".as_slice(),
+        ),
+        (
             "a quote that the text's end closes",
             "7,write,0,\"41",
             Op::Write,
@@ -120,8 +147,14 @@ fn records_end_as_csv_says(rt: HostRuntime) -> Result<(), Fail> {
         ("no line end", "0,read,0,", 1),
         ("LF", "0,read,0,\n0,read,1,\n", 2),
         ("CRLF", "0,read,0,\r\n0,read,1,\r\n", 2),
+        ("CR alone", "0,read,0,\r0,read,1,\r", 2),
         ("empty lines between", "\n0,read,0,\n\n\n0,read,1,", 2),
         ("a byte order mark", "\u{feff}0,read,0,\n", 1),
+        (
+            "a mark before a quote",
+            "\u{feff}\"0\",read,0,\n0,read,1,\n",
+            2,
+        ),
         (
             "a quoted line end is none",
             "0,write,0,\"\"\n0,trim,0,\"\"\n",
@@ -156,6 +189,21 @@ fn the_first_faulty_record_is_answered_by_its_number(rt: HostRuntime) -> Result<
             "a mark on the second line",
             "0,read,0,\n\u{feff}0,read,0,\n",
             at(2, kind::Worker),
+        ),
+        (
+            "a mark behind a quoted record",
+            "0,\"read\",0,\n\u{feff}0,read,0,\n",
+            at(2, kind::Worker),
+        ),
+        (
+            "five fields behind a quoted record",
+            "0,\"read\",0,\n0,read,0,,\n",
+            at(2, kind::Fields),
+        ),
+        (
+            "a quoted record behind a plain one",
+            "0,read,0,\n0,\"read\",3,\n",
+            at(2, kind::Sector),
         ),
         ("a doubled quote", "0,\"re\"\"ad\",0,\n", at(1, kind::Op)),
     ] {
@@ -209,6 +257,25 @@ fn long_data_is_too_long_or_no_digits(rt: HostRuntime) -> Result<(), Fail> {
         first_fault(rt.alloc(), text.as_slice())?,
         at(1, TraceFaultKind::Hex)
     );
+    Ok(())
+}
+
+#[test]
+fn numbers_end_at_their_limits(rt: HostRuntime) -> Result<(), Fail> {
+    use TraceFaultKind as kind;
+    let largest = Geometry::new(1, 4096, 1024, 1, 1_048_576, 10, 0, 0)?;
+    for (text, fault) in [
+        ("499,read,0,", None),
+        ("500,read,0,", at(1, kind::Worker)),
+        ("0000499,read,0,", None),
+        ("00000499,read,0,", at(1, kind::Worker)),
+        ("0,read,1048575,", None),
+        ("0,read,1048576,", at(1, kind::Sector)),
+        ("0,read,01048575,", at(1, kind::Sector)),
+    ] {
+        let found = parse(rt.alloc(), text.as_bytes(), &largest).err();
+        assert_eq!(rt; found, fault, "{text}");
+    }
     Ok(())
 }
 
@@ -293,6 +360,70 @@ fn a_trace_is_read_to_its_end(rt: HostRuntime) -> Result<(), Fail> {
     Ok(())
 }
 
+// So many writes of a page, and then one of its first byte.
+fn long_trace(alloc: Global, line: &[u8], lines: usize) -> Result<Vec<u8>, Fail> {
+    let mut text = Vec::new(alloc);
+    for _ in 0..lines {
+        text.extend_from_slice(line)?;
+    }
+    text.extend_from_slice(b"0,write,1,09")?;
+    Ok(text)
+}
+
+#[test]
+fn a_trace_of_100000_lines_is_loaded_and_parsed(rt: HostRuntime) -> Result<(), Fail> {
+    let plain = b"499,write,2,0102030405060708\n".as_slice();
+    let quoted = b"499,\"write\",2,0102030405060708\n".as_slice();
+    for (line, size) in [(plain, 1), (quoted, 20_000)] {
+        let text = long_trace(rt.alloc(), line, 99_999)?;
+        assert!(rt; text.len() > 1 << 20);
+        let mut reader = Watched::new(Pieces {
+            rest: text.as_slice(),
+            size,
+            fails_at: None,
+        });
+        let loaded = load(rt.alloc(), &mut reader)?;
+        assert!(rt; loaded.as_slice() == text.as_slice());
+        assert_eq!(rt; reader.failures(), 0);
+        let commands = commands(rt.alloc(), loaded.as_slice())?;
+        assert_eq!(rt; commands.len(), 100_000);
+        for (i, byte) in [(99_998, 1), (99_999, 9)] {
+            let page = commands.command(i).page;
+            let mut bytes = [0u8; 8];
+            assert_eq!(rt; page.len(), 8);
+            page.copy_into(&mut bytes);
+            assert_eq!(rt; bytes[0], byte);
+        }
+    }
+    Ok(())
+}
+
+#[test]
+fn the_fault_of_line_100001_is_told(rt: HostRuntime) -> Result<(), Fail> {
+    let mut text = long_trace(rt.alloc(), b"0,read,0,\n", 99_999)?;
+    text.extend_from_slice(b"\n0,read,3,")?;
+    assert_eq!(rt;
+        first_fault(rt.alloc(), text.as_slice())?,
+        at(100_001, TraceFaultKind::Sector)
+    );
+    Ok(())
+}
+
+#[test]
+fn ten_million_commas_are_a_record_of_too_many_fields(rt: HostRuntime) -> Result<(), Fail> {
+    for front in ["", "\"\"", "0,\"read\",0,\n"] {
+        let mut text = Vec::from_slice(rt.alloc(), front.as_bytes())?;
+        let start = text.len();
+        text.resize(start + 10_000_000, b',')?;
+        let line = if front.len() > 2 { 2 } else { 1 };
+        assert_eq!(rt;
+            first_fault(rt.alloc(), text.as_slice())?,
+            at(line, TraceFaultKind::Fields)
+        );
+    }
+    Ok(())
+}
+
 #[test]
 fn a_reader_that_fails_ends_the_load(rt: HostRuntime) -> Result<(), Fail> {
     let mut reader = Watched::new(Pieces {
@@ -346,5 +477,46 @@ fn a_write_that_takes_nothing_is_a_failure(rt: HostRuntime) -> Result<(), Fail> 
     assert_eq!(rt; writer.failures(), 1);
     assert!(rt; writer.flush().is_err());
     assert_eq!(rt; writer.failures(), 2);
+    Ok(())
+}
+
+// Reads and writes all that it is asked to, and counts its flushes.
+#[derive(Drop)]
+struct Steady {
+    flushes: u64,
+}
+
+impl Read for Steady {
+    fn read(&mut self, buf: &mut [u8]) -> io::Result<usize> {
+        buf.fill(7);
+        Ok(buf.len())
+    }
+}
+
+impl Write for Steady {
+    fn write(&mut self, buf: &[u8]) -> io::Result<usize> {
+        Ok(buf.len())
+    }
+
+    fn flush(&mut self) -> io::Result<()> {
+        self.flushes = self.flushes.wrapping_add(1);
+        Ok(())
+    }
+}
+
+#[test]
+fn what_never_fails_has_no_failure(rt: HostRuntime) -> Result<(), Fail> {
+    let mut watched = Watched::new(Steady { flushes: 0 });
+    let mut bytes = Vec::new(rt.alloc());
+    for size in [1, 2, 511, 4_096, 65_536, 80_000] {
+        bytes.resize(size, 0)?;
+        assert_eq!(rt; watched.read(bytes.as_mut_slice())?, size);
+        assert_eq!(rt; bytes.as_slice().first(), Some(&7));
+        assert_eq!(rt; watched.write(bytes.as_slice())?, size);
+        watched.flush()?;
+    }
+    assert_eq!(rt; watched.failures(), 0);
+    assert_eq!(rt; watched.inner().flushes, 6);
+    assert_eq!(rt; watched.into_inner().flushes, 6);
     Ok(())
 }

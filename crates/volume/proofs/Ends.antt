@@ -1,5 +1,5 @@
 -- What the meetings of one pass with all others, before and after it reads, tell of the sectors that it has read.
-use Rattle.std.proofs.Common.{◌≡◌, ℕ, zero, suc, ◌<◌, All, List, [], ◌∷◌, ◌++◌, None, Some, length, slice_get, get_or, sym, ap, ◌∙◌, subst, arith}
+use Rattle.std.proofs.Common.{◌≡◌, ℕ, zero, suc, ◌<◌, All, List, [], ◌∷◌, ◌++◌, Option, None, Some, length, slice_get, get_or, sym, refl, ap, ◌∙◌, subst, arith}
 use Rattle.std.proofs.lemmas.List.Elements.{All-cons, All-head, All-tail, All-nil}
 use Rattle.std.proofs.lemmas.Option.{slice_get_within, get_or_from_slice_get}
 use Rattle.geometry.specs.Geometry.{sectors_of, hosts_of}
@@ -17,7 +17,10 @@ use Rattle.flash_table.specs.declared.flash.Flash.{Flash}
 use Rattle.flash_table.specs.declared.pass.Pass.{Pass}
 use Rattle.flash_table.specs.Flash.{view_of, geometry_of, device}
 use Rattle.host.specs.Ready.{IsReady}
-use Rattle.volume.specs.Closing.{AreAll, AreRead, AreFinal, HasLooked, HaveLooked, HasLeft}
+use Rattle.flash_table.specs.declared.pass.OpenBlock.{OpenBlock}
+use Rattle.flash_table.specs.Owning.{owned_list, closed_list}
+use Rattle.flash_table.specs.GivingUp.{closed_pass}
+use Rattle.volume.specs.Closing.{AreAll, AreRead, AreFinal, HasLooked, HaveLooked, HasLeft, closed_blocks}
 use Rattle.volume.specs.Gathering.{MetEach, HasRead}
 use Rattle.volume.proofs.Looks.{looked-trans}
 use Rattle.volume.proofs.Still.{at_one}
@@ -116,11 +119,20 @@ module _ (f : Flash) (first now read : Pass) (ps qs : List Pass) (met : MetEach 
                 ∙ ap (λ k. after k (h.history 0)) size;
           }
 
+-- what a pass closes is the block that it owns, if there is one
+closed_owned : (x : Option OpenBlock) → closed_list x ≡ closed_blocks (owned_list x)
+closed_owned None = refl
+closed_owned (Some o) = refl
+
 -- a pass that has looked, given up
-pub has_left : (v w u : View) → HasLooked v w → u ≡ record w { owns = []; work = None } → HasLeft v u
-has_left v w u looked left =
+pub has_left : (v w u : View) (opened : Option OpenBlock) → w.owns ≡ owned_list opened → HasLooked v w → u ≡ closed_pass w opened → HasLeft v u
+has_left v w u opened owns looked left =
+    let before : w.owns ≡ v.owns = ap (λ (x : View). x.owns) looked.changed in
+    let ceded : w.ceded ≡ v.ceded = ap (λ (x : View). x.ceded) looked.changed in
+    let closed : closed_list opened ≡ closed_blocks v.owns = closed_owned opened ∙ ap closed_blocks (sym owns ∙ before) in
     record {
-      changed = left ∙ (λ i. record (looked.changed i) { seen = (sym left i).seen; looks = (sym left i).looks; pin = (sym left i).pin; known = (sym left i).known; copy = (sym left i).copy; owns = []; work = None });
+      changed = left
+          ∙ (λ i. record (looked.changed i) { seen = (sym left i).seen; looks = (sym left i).looks; pin = (sym left i).pin; known = (sym left i).known; copy = (sym left i).copy; owns = []; work = None; ceded = ceded i ++ closed i });
       later = subst (λ (l : List Call). Begins v.seen l) (sym (ap (λ (x : View). x.seen) left)) looked.later;
     }
 

@@ -1,21 +1,26 @@
 -- The brooms of a new device are ready.
-use Rattle.std.proofs.Common.{◌≡◌, ℕ, ◌+◌, ◌<◌, All, List, [], ◌∷◌, ◌++◌, Option, None, Some, length, map, slice_get, get_or, sym, refl, ap, ◌∙◌, subst, arith, append_assoc}
+use Rattle.std.proofs.Common.{◌≡◌, ℕ, ◌+◌, ◌<◌, All, List, [], ◌∷◌, ◌++◌, Option, None, Some, IfSome, length, map, slice_get, get_or, sym, refl, ap, ◌∙◌, subst, arith, append_assoc}
 use Rattle.std.specs.Option.{option_map}
-use Rattle.std.proofs.lemmas.List.{map_push, length-map}
+use Rattle.std.proofs.lemmas.List.{map_push, length-map, length_push}
 use Rattle.std.proofs.lemmas.Option.{slice_get-get_or, slice_get-map}
-use Rattle.std.proofs.lemmas.List.Elements.{All-nil, All-same, All-push, All-head, All-rest}
+use Rattle.std.proofs.lemmas.List.Elements.{All-nil, All-same, All-push, All-pop, All-head, All-rest}
 use Rattle.geometry.specs.Geometry.{numbers_of, brooms_of, hosts_of}
 use Rattle.geometry.specs.Limits.{Numbers}
 use Rattle.flash_rule.specs.declared.view.View.{View}
 use Rattle.flash_rule.specs.Views.{caller}
 use Rattle.flash_rule.proofs.Owning.{some_same, none_some}
+use Rattle.erase_queue.specs.declared.pass.QueuePass.{QueuePass}
+use Rattle.erase_queue.specs.declared.queue.EraseQueue.{EraseQueue}
+use Rattle.erase_queue.specs.Queue.{limit_of, IsNewPass}
 use Rattle.flash_table.specs.declared.flash.Flash.{Flash}
 use Rattle.flash_table.specs.declared.broom_seat.BroomBlocks.{BroomBlocks}
 use Rattle.flash_table.specs.declared.broom_seat.BroomSeat.{BroomSeat}
 use Rattle.flash_table.specs.declared.pass.OpenBlock.{OpenBlock}
 use Rattle.flash_table.specs.Flash.{IsBroomOf, broom_view, own_blocks, geometry_of, device, first_broom, first_blocks, spare_of}
 use Rattle.broom.specs.declared.broom.Broom.{Broom}
+use Rattle.broom.specs.Handing.{IsQueued, place_of, aside_of}
 use Rattle.broom.specs.Ready.{IsRested, IsReady, HasRoom, view_of, blocks_of_broom}
+use Rattle.volume.specs.Brooms.{IsFresh}
 use Rattle.volume.specs.Opening.{known_by_seat, known_by_broom}
 
 -- a seat that has done nothing and has its spare alone
@@ -76,23 +81,35 @@ begins f seats brooms same each i b is =
 pub taken : {X : Type 0} (P : X → Type 0) (x : X) (xs ys : List X) → ys ≡ x ∷ xs → All P ys → P x × All P xs
 taken P x xs ys is all = (All-head P x xs (subst (All P) is all), All-rest P x xs ys is all)
 
--- These brooms were made of the first seats, and these seats are left
-pub record Making (f : Flash) (all : List BroomSeat) (brooms : List Broom) (rest : List BroomSeat) : Type 0 where
+-- a broom that was just made has its place at the queue
+pub fresh_queued : (f : Flash) (q : EraseQueue) (b : Broom) → IsFresh f q b → IsQueued q b
+fresh_queued f q b h = record { place = h.place.queue; aside = subst (λ (o : Option ℕ). IfSome o (λ block. block < limit_of q)) (sym h.aside) tt }
+
+-- These brooms were made of the first seats and the last places, and these seats and places are left
+pub record Making (f : Flash) (q : EraseQueue) (all : List BroomSeat) (brooms : List Broom) (rest : List BroomSeat) (places : List QueuePass) : Type 0 where
   pub known : map known_by_broom brooms ++ map known_by_seat rest ≡ map known_by_seat all
-  pub ready : All (IsReady f) brooms
+  pub fresh : All (IsFresh f q) brooms
   pub rested : All (IsRested f) rest
+  pub new : All (IsNewPass q) places
+  pub count : length places ≡ length rest
 
 -- one seat more has become a broom
-pub one_made : (f : Flash) (all rest rest' : List BroomSeat) (brooms brooms' : List Broom) (s : BroomSeat) (b : Broom) → Making f all brooms rest → rest ≡ s ∷ rest' → brooms' ≡ brooms ++ b ∷ [] → view_of b ≡ broom_view s
-    → blocks_of_broom b ≡ own_blocks s → (IsRested f s → IsReady f b) → Making f all brooms' rest'
-one_made f all rest rest' brooms brooms' s b was next pushed view blocks ready =
+pub one_made : (f : Flash) (q : EraseQueue) (all rest rest' : List BroomSeat) (places places' : List QueuePass) (brooms brooms' : List Broom) (s : BroomSeat) (p : QueuePass) (b : Broom) → Making f q all brooms rest places → rest ≡ s ∷ rest'
+    → places ≡ places' ++ p ∷ [] → brooms' ≡ brooms ++ b ∷ [] → view_of b ≡ broom_view s → blocks_of_broom b ≡ own_blocks s → (place_of b ≡ p) × (aside_of b ≡ None) → (IsRested f s → IsReady f b) → Making f q all brooms' rest' places'
+one_made f q all rest rest' places places' brooms brooms' s p b was next left pushed view blocks place ready =
     let known : known_by_broom b ≡ known_by_seat s = λ i. (view i, blocks i) in
     let others = taken (IsRested f) s rest' rest next was.rested in
+    let popped = All-pop (IsNewPass q) places places' (Some p) left was.new in
+    let fewer = ap (length {A = BroomSeat}) next in
+    let less = ap (length {A = QueuePass}) left in
+    let as_many = was.count in
     record {
+      new = popped.0;
+      count = omega (arith, length_push places' p);
       known = ap (λ l. map known_by_broom l ++ map known_by_seat rest') pushed
           ∙ (ap (λ l. l ++ map known_by_seat rest') (map_push known_by_broom brooms b)
           ∙ (append_assoc (map known_by_broom brooms) (known_by_broom b ∷ []) (map known_by_seat rest')
           ∙ (ap (λ x. map known_by_broom brooms ++ x ∷ map known_by_seat rest') known ∙ (ap (λ l. map known_by_broom brooms ++ map known_by_seat l) (sym next) ∙ was.known))));
-      ready = subst (All (IsReady f)) (sym pushed) (All-push (IsReady f) brooms b was.ready (ready others.0));
+      fresh = subst (All (IsFresh f q)) (sym pushed) (All-push (IsFresh f q) brooms b was.fresh (record { ready = ready others.0; place = subst (IsNewPass q) (sym place.0) popped.1; aside = place.1 }));
       rested = others.1;
     }

@@ -5,3 +5,4 @@ pub mod Looks
 pub mod Sweeps
 pub mod Ends
 pub mod Callers
+pub mod Queued

@@ -1,11 +1,13 @@
 -- What the sectors are that a device is closed with.
-use Rattle.std.specs.Prelude.{◌≡◌, ℕ, ◌+◌, ◌<◌, List, Option, Vec, map, option_map, length, [], None, Some, slice_get}
+use Rattle.std.specs.Prelude.{◌≡◌, ℕ, ◌+◌, ◌<◌, ◌++◌, List, Option, Vec, map, option_map, length, [], None, Some, slice_get}
 use Rattle.std.specs.Global.{Global}
 use Rattle.geometry.specs.Limits.{Numbers}
 use Rattle.geometry.specs.Sectors.{Sector, sector_at}
 use Rattle.geometry.specs.History.{Call, after, held, Begins}
 use Rattle.flash_rule.specs.declared.facts.Name.TheVariants.{Pass as APass}
 use Rattle.flash_rule.specs.declared.facts.Role.TheVariants.{Player}
+use Rattle.geometry.specs.declared.pin_word.Phase.TheVariants.{Closed as ClosedPhase}
+use Rattle.flash_rule.specs.declared.facts.Owned.{Owned}
 use Rattle.flash_rule.specs.declared.view.View.{View}
 use Rattle.flash_rule.specs.Views.{AreOfHosts, calls_of}
 use Rattle.flash_table.specs.declared.pass.Pass.{Pass}
@@ -56,9 +58,14 @@ pub record AreFinal (z : Numbers) (passes : List Pass) (last : List Call) (secto
   pub own : (t : ℕ) (p : Pass) → IsIn passes p → (view_of p).role ≡ Player (APass t) → calls_of t history ≡ (view_of p).mine
   pub array : sectors ≡ after z.sectors history
 
--- The pass has looked and was then given up: it owns no block and fills no page, and nothing else has changed
+-- these open blocks as their owner leaves them when it closes them
+abbrev pub closed_blocks : List Owned → List Owned
+closed_blocks owns = map (λ (o : Owned). record o { phase = ClosedPhase }) owns
+
+-- The pass has looked and was then given up: it has closed the block that it owned, if there was one, and fills no page, and nothing
+-- else has changed
 pub record HasLeft (v w : View) : Type 0 where
-  pub changed : w ≡ record v { seen = w.seen; looks = w.looks; pin = w.pin; known = w.known; copy = w.copy; owns = []; work = None }
+  pub changed : w ≡ record v { seen = w.seen; looks = w.looks; pin = w.pin; known = w.known; copy = w.copy; owns = []; work = None; ceded = v.ceded ++ closed_blocks v.owns }
   pub later : Begins v.seen w.seen
 
 -- The pass has looked, and nothing else has changed: its calls, its programs, its counts of takes and its block are as they were

@@ -2,6 +2,7 @@
 pub mod Correct
 pub mod Undisturbed
 pub mod Volume
+pub mod Brooms
 pub mod Closing
 -- Internal: the parts of an open and of a close.
 pub mod Opening

@@ -4,7 +4,7 @@ use Rattle.std.specs.Prelude.{◌≡◌, ℕ, ◌<◌, List, Option, Some, IfSom
 use Rattle.geometry.specs.declared.map_word.MapWord.{MapWord}
 use Rattle.flash_rule.specs.declared.carried.Carried.{Carried}
 use Rattle.flash_rule.specs.declared.facts.Cycle.{Cycle}
-use Rattle.flash_rule.specs.Plays.{Disjoint}
+use Rattle.flash_rule.specs.Plays.{Disjoint, Once}
 use Rattle.flash_table.specs.declared.flash.Flash.{Flash}
 use Rattle.flash_table.specs.Flash.{view_of}
 use Rattle.host.specs.declared.holding.Held.{Held}
@@ -23,3 +23,5 @@ pub record Undisturbed (f : Flash) (value : List ℕ) (old : Held) (heard : Opti
   pub unerased : IfSome heard (λ c. AreEarlier c.erases (page_of new))
   -- and has programmed no page, in one generation of its block, that this pass has
   pub once : IfSome heard (λ c. Disjoint (view_of (pass_of new)).programs c.programs)
+  -- nor has either of them programmed one twice
+  pub each_once : IfSome heard (λ c. Once (view_of (pass_of new)).programs × Once c.programs)

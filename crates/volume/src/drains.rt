@@ -105,7 +105,7 @@ fn hosts_leave_a_brooms_spare_alone(rt: HostRuntime) -> Result<(), Fail> {
     assert_eq!(rt; a.trim(0), Was::Written);
     a.leave();
     volume.retire(b);
-    volume.fold(broom);
+    volume.fold(&rt, broom);
     Ok(())
 }
 

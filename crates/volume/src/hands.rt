@@ -1,17 +1,19 @@
 //! A small device for tests: two sectors, blocks of two pages, and pages of one word.
-ghost use Rattle.std.specs.Prelude.{◌≡◌, ◌<◌, All, IfOk, length};
+ghost use Rattle.std.specs.Prelude.{◌≡◌, ℕ, ◌<◌, All, IfOk, List, length};
 ghost use Rattle.geometry.specs.Geometry.{sectors_of, page_bytes_of};
 ghost use Rattle.flash_table.specs.Flash.{geometry_of};
-ghost use Rattle.broom.specs.Once.{IsReady-prop};
-ghost use Rattle.broom.specs.Ready.{IsReady as IsBroomReady};
+ghost use Rattle.host.specs.Holding.{Holds};
 ghost use Rattle.host.specs.Ready.{IsReady};
+ghost use Rattle.volume.specs.Brooms.{IsBroomReady, IsBroomReady-prop};
 ghost use Rattle.volume.specs.Volume.{flash_of};
 
 use crate::Volume;
 use broom::{Broom, Drain, Erase};
 use flash_table::{Gate, NoGate, Pass};
 use geometry::{Geometry, Got, Was};
+use host::Held;
 use std::process::Abort;
+use std::sync::Wait;
 use std::test::Fail;
 
 /// A device with the passes of two hosts, A with number 0 and B with number 1.
@@ -42,7 +44,7 @@ fn open_with(
     brooms: u32,
 ) -> Result<(Desk, Vec<Broom>), Fail>
     ensures count { IfOk result (λ r. length r.1.items ≡ brooms) }
-    ensures ready { IfOk result (λ r. All (IsBroomReady (flash_of r.0.volume)) r.1.items) }
+    ensures ready { IfOk result (λ r. All (IsBroomReady r.0.volume) r.1.items) }
 {
     let geometry = Geometry::new(1, blocks, 2, 1, 2, endurance, 2, brooms)?;
     let (volume, mut passes, brooms) = Volume::open(rt.alloc(), &geometry)?;
@@ -58,14 +60,14 @@ fn open_with(
 
 /// A device of five blocks, with a broom whose spare is block 4.
 pub fn open_swept(rt: &impl AllocGlobal) -> Result<(Desk, Broom), Fail>
-    ensures { IfOk result (λ r. IsBroomReady (flash_of r.0.volume) r.1) }
+    ensures { IfOk result (λ r. IsBroomReady r.0.volume r.1) }
 {
     open_swept_often(rt, 10)
 }
 
 /// The same, with blocks that may be erased so often.
 pub fn open_swept_often(rt: &impl AllocGlobal, endurance: u32) -> Result<(Desk, Broom), Fail>
-    ensures { IfOk result (λ r. IsBroomReady (flash_of r.0.volume) r.1) }
+    ensures { IfOk result (λ r. IsBroomReady r.0.volume r.1) }
 {
     let (desk, mut brooms) = open_with(rt, 5, endurance, 1)?;
     let Some(broom) = brooms.pop() else {
@@ -77,7 +79,7 @@ pub fn open_swept_often(rt: &impl AllocGlobal, endurance: u32) -> Result<(Desk, 
 
 /// A device of seven blocks, with two brooms.
 pub fn open_swept_by_two(rt: &impl AllocGlobal) -> Result<(Desk, Broom, Broom), Fail>
-    ensures { IfOk result (λ r. IsBroomReady (flash_of r.0.volume) r.1 × IsBroomReady (flash_of r.0.volume) r.2) }
+    ensures { IfOk result (λ r. IsBroomReady r.0.volume r.1 × IsBroomReady r.0.volume r.2) }
 {
     let (desk, mut brooms) = open_with(rt, 7, 10, 2)?;
     let Some(second) = brooms.pop() else {
@@ -193,7 +195,7 @@ impl Hand<'_> {
 pub struct Sweeper<'a> {
     pub volume: &'a Volume,
     pub broom: Broom,
-    ghost ready: { IsBroomReady (flash_of volume.now) broom } by { Prim.hlevel IsReady-prop },
+    ghost ready: { IsBroomReady volume.now broom } by { Prim.hlevel IsBroomReady-prop },
 }
 
 impl Sweeper<'_> {
@@ -213,10 +215,31 @@ impl Sweeper<'_> {
         self.volume.erase(&mut self.broom, block, &mut NoGate)
     }
 
+    pub fn drain_one(&mut self, rt: &impl Wait) -> Drain
+        ensures { self.new.volume ≡ self.old.volume }
+    {
+        self.volume.drain_one(rt, &mut self.broom, &mut NoGate)
+    }
+
+    pub fn erase_one(&mut self, rt: &impl Wait) -> Erase
+        ensures { self.new.volume ≡ self.old.volume }
+    {
+        self.volume.erase_one(rt, &mut self.broom, &mut NoGate)
+    }
+
+    /// The broom stands by a hold.
+    pub fn stand(&mut self, held: Held) -> Held
+        requires { (value : List ℕ) × Holds (flash_of self.old.volume.now) held value }
+        ensures held { (value : List ℕ) × Holds (flash_of self.old.volume.now) result value }
+        ensures volume { self.new.volume ≡ self.old.volume }
+    {
+        self.volume.stand(held, &mut self.broom)
+    }
+
     /// The broom makes no more steps.
     pub fn leave(self) {
         let Sweeper { volume, broom } = self;
-        volume.fold(broom);
+        volume.retire_broom(broom);
     }
 }
 

@@ -1,21 +1,30 @@
 //! The calls of a device.
+ghost use Rattle.std.specs.Prelude.{◌≡◌};
+ghost use Rattle.erase_queue.specs.Queue.{limit_of};
+ghost use Rattle.flash_table.specs.Flash.{geometry_of};
+ghost use Rattle.geometry.specs.Geometry.{blocks_of};
+
 use crate::closing::retire_all;
 use crate::opening::make_brooms;
 use broom::{Broom, Drain, Erase, Folded};
+use erase_queue::{EraseQueue, QueuePass};
 use flash_table::{Flash, Gate, Pass, Retired};
 use geometry::{Geometry, Was};
 use host::{Held, Holding, NoBlock, ReadDone};
 use std::alloc::{AllocError, Global};
+use std::sync::Wait;
 
 /// A flash device. Each thread reads and writes it through a pass of its own.
 #[derive(Drop)]
 pub struct Volume {
     pub(crate) flash: Flash,
+    queue: EraseQueue,
+    ghost limit: { limit_of queue ≡ blocks_of (geometry_of flash) },
 }
 
 impl Volume {
-    ghost use Rattle.std.specs.Prelude.{◌≡◌, ℕ, ◌<◌, All, List, [], None, Some, IfOk, OnErr, length, slice_get};
-    ghost use Rattle.geometry.specs.Geometry.{blocks_of, brooms_of, hosts_of, sectors_of, words_of, page_bytes_of};
+    ghost use Rattle.std.specs.Prelude.{ℕ, ◌<◌, All, List, [], None, Some, IfOk, OnErr, length, slice_get};
+    ghost use Rattle.geometry.specs.Geometry.{brooms_of, hosts_of, sectors_of, words_of, page_bytes_of};
     ghost use Rattle.geometry.specs.History as call;
     ghost use Rattle.geometry.specs.History.{held};
     ghost use Rattle.geometry.specs.Sectors.{Answers};
@@ -26,21 +35,24 @@ impl Volume {
     ghost use Rattle.flash_rule.specs.Plays.{Called};
     ghost use Rattle.flash_rule.specs.Seats.{carried};
     ghost use Rattle.flash_table.specs.declared.pass.Pass.{Pass};
-    ghost use Rattle.flash_table.specs.Flash.{view_of, opened_of, geometry_of, device, first_view, first_broom, first_blocks};
+    ghost use Rattle.flash_table.specs.Flash.{view_of, opened_of, device, first_view, first_broom, first_blocks};
     ghost use Rattle.flash_table.specs.Leaving.{retired_view};
     ghost use Rattle.flash_table.specs.GivingUp.{closed_pass, closed_broom};
     ghost use Rattle.broom.specs.declared.broom.Broom.{Broom};
-    ghost use Rattle.broom.specs.Ends.{folded_view};
+    ghost use Rattle.erase_queue.specs.Queue.{IsNewPass};
+    ghost use Rattle.broom.specs.Ends.{folded_view, folded_place};
     ghost use Rattle.broom.specs.Erasing.{EraseTold};
     ghost use Rattle.broom.specs.Told.{DrainTold};
     ghost use Rattle.broom.specs.Meeting.{StoodTold, BroomsMet};
-    ghost use Rattle.broom.specs.Ready.{IsReady as IsBroomReady, view_of as broom_view, blocks_of_broom};
+    ghost use Rattle.broom.specs.Handing.{DrainOneTold, EraseOneTold, HandsNothing, IsBelow, LeftAt, aside_of, place_of};
+    ghost use Rattle.broom.specs.Ready.{view_of as broom_view, blocks_of_broom};
     ghost use Rattle.host.specs.Ready.{IsReady};
     ghost use Rattle.host.specs.Told.{Searched, Wrote, Refused, MetTold};
     ghost use Rattle.host.specs.Holding.{Holds, Found, pass_of, page_of};
     ghost use Rattle.volume.specs.Correct.{Correct, Read, Write, Trim, Found as Got, Replaced, known_by};
     ghost use Rattle.volume.specs.Undisturbed.{Undisturbed};
-    ghost use Rattle.volume.specs.Volume.{flash_of};
+    ghost use Rattle.volume.specs.Brooms.{IsBroomReady, IsFresh};
+    ghost use Rattle.volume.specs.Volume.{flash_of, queue_of};
 
     /// A device with every sector empty, its passes, pass t with number t, and its brooms, broom i with number i. `Err` is want of memory.
     pub fn open(
@@ -53,11 +65,36 @@ impl Volume {
         ensures passes { IfOk result (λ r. (t : ℕ) (p : Pass) → slice_get r.1.items t ≡ Some p → view_of p ≡ first_view (device (flash_of r.0)) t) }
         ensures ready { IfOk result (λ r. All (IsReady (flash_of r.0)) r.1.items) }
         ensures brooms { IfOk result (λ r. (i : ℕ) (b : Broom) → slice_get r.2.items i ≡ Some b → (broom_view b ≡ first_broom (device (flash_of r.0)) i) × (blocks_of_broom b ≡ first_blocks (device (flash_of r.0)) i)) }
-        ensures brooms_ready { IfOk result (λ r. All (IsBroomReady (flash_of r.0)) r.2.items) }
+        ensures brooms_ready { IfOk result (λ r. All (IsBroomReady r.0) r.2.items) }
+        ensures brooms_fresh { IfOk result (λ r. All (IsFresh (flash_of r.0) (queue_of r.0)) r.2.items) }
+    {
+        let blocks = geometry.blocks() as usize;
+        let (queue, places) = EraseQueue::new(alloc, blocks, geometry.brooms() as usize)?;
+        Volume::open_over(alloc, geometry, queue, places)
+    }
+
+    // The same, over this queue, at which the brooms have these places.
+    pub(crate) fn open_over(
+        alloc: Global,
+        geometry: &Geometry,
+        queue: EraseQueue,
+        places: Vec<QueuePass>,
+    ) -> Result<(Volume, Vec<Pass>, Vec<Broom>), AllocError>
+        requires hosts { 0 < hosts_of geometry.now }
+        requires limit { limit_of queue ≡ blocks_of geometry.now }
+        requires places { All (IsNewPass queue) places.items }
+        requires count { length places.items ≡ brooms_of geometry.now }
+        ensures geometry { IfOk result (λ r. geometry_of (flash_of r.0) ≡ geometry.now) }
+        ensures count { IfOk result (λ r. (length r.1.items ≡ hosts_of geometry.now) × (length r.2.items ≡ brooms_of geometry.now)) }
+        ensures passes { IfOk result (λ r. (t : ℕ) (p : Pass) → slice_get r.1.items t ≡ Some p → view_of p ≡ first_view (device (flash_of r.0)) t) }
+        ensures ready { IfOk result (λ r. All (IsReady (flash_of r.0)) r.1.items) }
+        ensures brooms { IfOk result (λ r. (i : ℕ) (b : Broom) → slice_get r.2.items i ≡ Some b → (broom_view b ≡ first_broom (device (flash_of r.0)) i) × (blocks_of_broom b ≡ first_blocks (device (flash_of r.0)) i)) }
+        ensures brooms_ready { IfOk result (λ r. All (IsBroomReady r.0) r.2.items) }
+        ensures brooms_fresh { IfOk result (λ r. All (IsFresh (flash_of r.0) (queue_of r.0)) r.2.items) }
     {
         let (flash, passes, seats) = Flash::open(alloc, geometry)?;
-        match make_brooms(&flash, alloc, seats) {
-            Ok(brooms) => Ok((Volume { flash }, passes, brooms)),
+        match make_brooms(&flash, &queue, alloc, seats, places) {
+            Ok(brooms) => Ok((Volume { flash, queue }, passes, brooms)),
             Err(AllocError) => {
                 retire_all(&flash, passes.into_iter());
                 Err(AllocError)
@@ -207,27 +244,32 @@ impl Volume {
     }
 
     /// Ties what two brooms have done and seen: by one look of the first, and then one of the second. It changes no answer.
+    #[tactic(auto, using(crate::proofs::Queued::still_ready))]
     pub fn meet_brooms(&self, first: &mut Broom, second: &mut Broom)
-        requires first { IsBroomReady (flash_of self.now) first.old }
-        requires second { IsBroomReady (flash_of self.now) second.old }
+        requires first { IsBroomReady self.now first.old }
+        requires second { IsBroomReady self.now second.old }
         ensures told { BroomsMet (broom_view first.old) (broom_view second.old) (broom_view first.new) (broom_view second.new) }
-        ensures first { IsBroomReady (flash_of self.now) first.new }
-        ensures second { IsBroomReady (flash_of self.now) second.new }
+        ensures first { IsBroomReady self.now first.new }
+        ensures second { IsBroomReady self.now second.new }
         ensures first_blocks { blocks_of_broom first.new ≡ blocks_of_broom first.old }
         ensures second_blocks { blocks_of_broom second.new ≡ blocks_of_broom second.old }
+        ensures first_queue { HandsNothing first.old first.new }
+        ensures second_queue { HandsNothing second.old second.new }
     {
         broom::meet_brooms(&self.flash, first, second)
     }
 
     /// Ties what a broom has done to a page that is held, and what the hold's pass has seen to the broom. It changes no answer.
+    #[tactic(auto, using(crate::proofs::Queued::still_ready))]
     pub fn stand(&self, held: Held, broom: &mut Broom) -> Held
         requires held { (value : List ℕ) × Holds (flash_of self.now) held value }
-        requires broom { IsBroomReady (flash_of self.now) broom.old }
+        requires broom { IsBroomReady self.now broom.old }
         ensures undisturbed { (value : List ℕ) → Holds (flash_of self.now) held value → Undisturbed (flash_of self.now) value held (Some (carried (broom_view broom.old))) result }
         ensures told { StoodTold (view_of (pass_of held)) (broom_view broom.old) (page_of held) (view_of (pass_of result)) (broom_view broom.new) }
         ensures opened { opened_of (pass_of result) ≡ opened_of (pass_of held) }
-        ensures broom { IsBroomReady (flash_of self.now) broom.new }
+        ensures broom { IsBroomReady self.now broom.new }
         ensures blocks { blocks_of_broom broom.new ≡ blocks_of_broom broom.old }
+        ensures queue { HandsNothing broom.old broom.new }
     {
         let (mut pass, page, generation) = held.parts();
         broom::stand(&self.flash, &mut pass, page, generation, broom);
@@ -244,29 +286,75 @@ impl Volume {
 
     /// Surveys the device, claims the closed block with the fewest live pages, and moves those out of it. It stops at its gate before the
     /// claim, and before each exchange of a map word.
+    #[tactic(auto, using(crate::proofs::Queued::still_ready))]
     pub fn drain<G: Gate>(&self, broom: &mut Broom, gate: &mut G) -> Drain
-        requires { IsBroomReady (flash_of self.now) broom.old }
+        requires { IsBroomReady self.now broom.old }
         ensures told { DrainTold broom.old result broom.new }
-        ensures ready { IsBroomReady (flash_of self.now) broom.new }
+        ensures ready { IsBroomReady self.now broom.new }
+        ensures queue { HandsNothing broom.old broom.new }
+        ensures block { IsBelow (blocks_of (geometry_of (flash_of self.now))) result }
     {
         broom::drain(&self.flash, broom, gate)
     }
 
     /// Erases a drained block that nobody reads. It stops at its gate once the block's state is loaded, before the block is condemned.
+    #[tactic(auto, using(crate::proofs::Queued::still_ready))]
     pub fn erase<G: Gate>(&self, broom: &mut Broom, block: u32, gate: &mut G) -> Erase
-        requires broom { IsBroomReady (flash_of self.now) broom.old }
+        requires broom { IsBroomReady self.now broom.old }
         requires block { block < blocks_of (geometry_of (flash_of self.now)) }
         ensures told { EraseTold broom.old block result broom.new }
-        ensures ready { IsBroomReady (flash_of self.now) broom.new }
+        ensures ready { IsBroomReady self.now broom.new }
+        ensures queue { HandsNothing broom.old broom.new }
     {
         broom::erase(&self.flash, broom, block, gate)
     }
 
-    /// Gives a broom up. The block that it copies to, full or not, and its spare are closed.
-    pub fn fold(&self, broom: Broom) -> Folded
-        requires { IsBroomReady (flash_of self.now) broom }
-        ensures { folded_view result ≡ closed_broom (broom_view broom) (blocks_of_broom broom) }
+    /// A drain whose block goes to the queue of drained blocks, or is set aside where the queue is full. What is set aside already is put
+    /// first, and where it finds no room nothing is drained.
+    pub fn drain_one<G: Gate>(&self, rt: &impl Wait, broom: &mut Broom, gate: &mut G) -> Drain
+        requires { IsBroomReady self.now broom.old }
+        ensures told { DrainOneTold (limit_of (queue_of self.now)) broom.old result broom.new }
+        ensures ready { IsBroomReady self.now broom.new }
     {
-        broom::fold(&self.flash, broom)
+        broom::drain_one(&self.flash, &self.queue, rt, broom, gate)
+    }
+
+    /// An erase of the block that is set aside, or else of the queue's first. A block that has readers is put back, at the queue's end.
+    pub fn erase_one<G: Gate>(&self, rt: &impl Wait, broom: &mut Broom, gate: &mut G) -> Erase
+        requires { IsBroomReady self.now broom.old }
+        ensures told { EraseOneTold (limit_of (queue_of self.now)) broom.old result broom.new }
+        ensures ready { IsBroomReady self.now broom.new }
+    {
+        broom::erase_one(&self.flash, &self.queue, rt, broom, gate)
+    }
+
+    /// Gives a broom up. The block that it copies to, full or not, and its spare are closed. A block that is set aside is put into the
+    /// queue; where that is full, it stays drained and nobody erases it.
+    pub fn fold(&self, rt: &impl Wait, broom: Broom) -> Folded
+        requires { IsBroomReady self.now broom }
+        ensures view { folded_view result ≡ closed_broom (broom_view broom) (blocks_of_broom broom) }
+        ensures place { LeftAt (limit_of (queue_of self.now)) broom (folded_place result) }
+    {
+        broom::fold(&self.flash, &self.queue, rt, broom)
+    }
+
+    /// Gives up a broom that has set nothing aside, as one that was just made.
+    pub fn fold_new(&self, broom: Broom) -> Folded
+        requires ready { IsBroomReady self.now broom }
+        requires aside { aside_of broom ≡ None }
+        ensures view { folded_view result ≡ closed_broom (broom_view broom) (blocks_of_broom broom) }
+        ensures place { folded_place result ≡ place_of broom }
+    {
+        broom::fold_new(&self.flash, broom)
+    }
+
+    /// Gives a broom up without the queue, and so waits for nobody. The block that it copies to and its spare are closed. A block that is
+    /// set aside stays drained, and nobody erases it.
+    pub fn retire_broom(&self, broom: Broom) -> Folded
+        requires { IsBroomReady self.now broom }
+        ensures view { folded_view result ≡ closed_broom (broom_view broom) (blocks_of_broom broom) }
+        ensures place { folded_place result ≡ place_of broom }
+    {
+        broom::retire_broom(&self.flash, broom)
     }
 }

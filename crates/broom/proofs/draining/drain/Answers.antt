@@ -99,3 +99,6 @@ returns-clause-ready g c =
       counts = ready.counts;
       closed = ready.closed;
     }
+
+pub returns-clause-block : goal.returns-clause-block
+returns-clause-block g c = low_block c.args.flash.now (view_of c.args.broom.now) c.in-Some.block c.choose.new.broom c.in-Some.ensures.told c.choose.ensures.ready

@@ -14,7 +14,7 @@ use Rattle.broom.proofs.survey.choose.Goals.{After-greedy}
 
 -- the broom with what the survey found
 abbrev after : After-greedy → Broom
-after c = record { seat = c.count_pages.new.seat; states = with_items c.args.broom.now.states c.load_states.new.states; counts = with_items c.args.broom.now.counts c.count_pages.new.counts; closed = with_items c.args.broom.now.closed c.load_states.new.closed }
+after c = record c.args.broom.now { seat = c.count_pages.new.seat; states = with_items c.args.broom.now.states c.load_states.new.states; counts = with_items c.args.broom.now.counts c.count_pages.new.counts; closed = with_items c.args.broom.now.closed c.load_states.new.closed }
 
 states_kept : (c : After-greedy) → (with_items c.args.broom.now.states c.load_states.new.states).items ≡ c.load_states.new.states
 states_kept c = let long = c.load_states.auto.states in let before = c.deref_mut.ensures.len in with_items_is c.args.broom.now.states c.load_states.new.states (omega arith)

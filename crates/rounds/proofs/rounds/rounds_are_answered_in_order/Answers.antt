@@ -1,5 +1,6 @@
 use Rattle.rounds.proofs.Told.{rounds_are_in_order}
+use Rattle.rounds.proofs.Texts.{order_is_text}
 use Rattle.rounds.proofs.rounds.rounds_are_answered_in_order.Goals as goal
 
 pub returns : goal.returns
-returns c = rounds_are_in_order
+returns c = record { round = rounds_are_in_order; text = order_is_text }

@@ -1,22 +1,36 @@
-use Rattle.std.proofs.Common.{◌∙◌, append-nil}
-use Rattle.trace.proofs.CheckFacts.{commands_of-commands, one_more_command, states_fault}
+use Rattle.std.proofs.Common.{◌∙◌, append-nil, inr}
+use Rattle.trace.specs.declared.fault.TraceFaultKind.TheVariants.{Fields}
+use Rattle.trace.proofs.CheckFacts.{commands_of-commands, first_other, one_more_command, refuses_fields, states_fault}
 use Rattle.trace.proofs.parsing.parse.Goals as goal
 
-pub returns-in-Ok-false-clause-commands : goal.returns-in-Ok-false-clause-commands
-returns-in-Ok-false-clause-commands c =
-    let none = rw c.in-Ok-false.field-0-test at c.in-Ok-false.ensures.takes in
-    commands_of-commands _ _ c.records.commands (rw none at c.records.invariant.so_far ∙ append-nil _)
+pub returns-in-End-clause-commands : goal.returns-in-End-clause-commands
+returns-in-End-clause-commands c = commands_of-commands _ _ c.records.commands (rw c.in-End.ensures at c.records.invariant.so_far ∙ append-nil _)
 
-pub returns-in-Err-add-clause-fault : goal.returns-in-Err-add-clause-fault
-returns-in-Err-add-clause-fault c =
-    let first = rw c.in-Ok-true.field-0-test at c.in-Ok-true.ensures.takes in
-    rw (c.fault.ensures, c.len.ensures.len)
-    (states_fault c.args.text.now c.args.geometry.now c.records.commands _ _ _ _ c.records.invariant.so_far first c.in-Err-add.ensures.refused)
+pub returns-in-Fields-clause-fault : goal.returns-in-Fields-clause-fault
+returns-in-Fields-clause-fault c =
+    let other = c.in-Fields.ensures in
+    let refused = refuses_fields c.args.geometry.now other.fields other.count in
+    rw (c.fault.ensures, c.next_line-line.ensures)
+    (states_fault c.args.text.now c.args.geometry.now c.records.commands other.fields _ _ Fields c.records.invariant.so_far other.first (inr refused))
+
+pub returns-in-Fields-clause-first : goal.returns-in-Fields-clause-first
+returns-in-Fields-clause-first c =
+    let other = c.in-Fields.ensures in
+    rw (c.fault.ensures, c.next_line-line.ensures)
+    (first_other c.args.text.now c.args.geometry.now c.records.commands other.fields _ _ c.records.invariant.so_far other.first other.count)
+
+pub returns-in-Err-clause-fault : goal.returns-in-Err-clause-fault
+returns-in-Err-clause-fault c =
+    let next = c.in-Record-default-Some.ensures in
+    let told = rw c.in-Record-default-Some.field-1-is at next.told in
+    rw (c.fault-in-Err.ensures, c.next_line-line.ensures)
+    (states_fault c.args.text.now c.args.geometry.now c.records.commands next.fields _ _ _ c.records.invariant.so_far next.first (rw told c.in-Err.ensures.refused))
 
 pub records-preserved : goal.records-preserved
 records-preserved c =
-    let first = rw c.in-Ok-true.field-0-test at c.in-Ok-true.ensures.takes in
+    let next = c.in-Record-default-Some.ensures in
+    let told = rw c.in-Record-default-Some.field-1-is at next.told in
     record {
-      reading = c.in-Ok-true.ensures.reading c.in-Ok-true.field-0-test;
-      so_far = one_more_command c.args.text.now c.args.geometry.now c.records.commands c.add.new.commands _ _ _ c.records.invariant.so_far first c.in_default.ensures.added;
+      place = next.high;
+      so_far = one_more_command c.args.text.now c.args.geometry.now c.records.commands c.add.new.commands next.fields _ _ c.records.invariant.so_far next.first (rw told c.in_default.ensures.added);
     }

@@ -1,9 +1,12 @@
-use Rattle.std.proofs.Common.{◌+◌, length, sym, ap, arith}
+use Rattle.std.proofs.Common.{◌≡◌, ◌+◌, None, length, sym, ap, arith}
 use Rattle.std.proofs.lemmas.List.{length_push}
+use Rattle.std.proofs.lemmas.List.Elements.{All-weaker}
 use Rattle.std.specs.Vec.Iter.{into_iter_items}
 use Rattle.flash_table.specs.declared.broom_seat.BroomSeat.{BroomSeat}
 use Rattle.broom.specs.declared.broom.Broom.{Broom}
-use Rattle.broom.specs.Ready.{IsRested}
+use Rattle.broom.specs.Handing.{aside_of}
+use Rattle.broom.specs.Ready.{IsReady, IsRested}
+use Rattle.volume.specs.Brooms.{IsFresh}
 use Rattle.volume.proofs.FreshBrooms.{taken, one_made}
 use Rattle.volume.proofs.opening.make_brooms.Goals as goal
 
@@ -17,8 +20,8 @@ loop-seat-preserved c =
     let more = ap (length {A = Broom}) pushed in
     let room = c.loop-seat.invariant.1 in
     let kept = c.push_reserved.ensures.capacity in (
-      one_made f c.args.seats.items (into_iter_items c.loop-seat.seats) (into_iter_items c.next.new.self) c.loop-seat.brooms.items c.push_reserved.new.self.items c.in-Some.seat c.in-Ok-new.broom c.loop-seat.invariant.0 next pushed made.view made.blocks
-          (made.ready f (sym c.geometry.ensures)),
+      one_made f c.args.queue.now c.args.seats.items (into_iter_items c.loop-seat.seats) (into_iter_items c.next.new.self) c.loop-seat.places.items c.pop.new.self.items c.loop-seat.brooms.items c.push_reserved.new.self.items c.in-Some.seat c.in-Some-pop.place
+          c.in-Ok-new.broom c.loop-seat.invariant.0 next c.in-Some-pop.ensures.items pushed made.view made.blocks made.queue (made.ready f (sym c.geometry.ensures)),
       omega (arith, length_push c.loop-seat.brooms.items c.in-Ok-new.broom),
     )
 
@@ -28,3 +31,10 @@ fold_seat-requires c =
 
 pub fold_seats-requires-in-Err : goal.fold_seats-requires-in-Err
 fold_seats-requires-in-Err c = (taken (IsRested c.args.flash.now) c.in-Some.seat (into_iter_items c.next.new.self) (into_iter_items c.loop-seat.seats) c.in-Some.ensures.cases.0 c.loop-seat.invariant.0.rested).1
+
+-- brooms that were just made are ready, and have nothing set aside
+pub fold_all-requires : goal.fold_all-requires
+fold_all-requires c =
+    let f = c.args.flash.now in
+    let Ends : Broom → Type 0 = λ b. IsReady f b × (aside_of b ≡ None) in
+    All-weaker (IsFresh f c.args.queue.now) Ends (λ b h. (h.ready, h.aside)) c.loop-seat.brooms.items c.loop-seat.invariant.0.fresh

@@ -57,4 +57,4 @@ returns-clause-first c p is =
     let at = (goal.at.returns-clause-first c).After-retire-first in
     let now = first_is (goal.at.After-retire-first at).In-Some in
     let old = ap (λ (l : List Pass). slice_get l 0) c.deref_mut.ensures.value ∙ is in
-    has_left (view_of p) (view_of c.in-Some.first) (retired_view c.retire-first.result) (c.in-Ok.ensures.looked.each 0 p c.in-Some.first old now) c.retire-first.ensures
+    has_left (view_of p) (view_of c.in-Some.first) (retired_view c.retire-first.result) c.in-Some.first.opened c.in-Some.first.owns (c.in-Ok.ensures.looked.each 0 p c.in-Some.first old now) c.retire-first.ensures

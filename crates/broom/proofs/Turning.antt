@@ -1,0 +1,35 @@
+-- The parts of a turn, put together.
+use Rattle.std.proofs.Common.{◌≡◌, ℕ, refl, subst}
+use Rattle.broom.specs.declared.broom.Broom.{Broom}
+use Rattle.broom.specs.declared.answer.Drain.{Drain}
+use Rattle.broom.specs.declared.answer.Drain.TheVariants as drain
+use Rattle.broom.specs.declared.answer.Erase.{Erase}
+use Rattle.broom.specs.declared.answer.Erase.TheVariants as erase
+use Rattle.broom.specs.Told.{DrainTold}
+use Rattle.broom.specs.Erasing.{EraseTold}
+use Rattle.broom.specs.Handing.{HandsNothing, HandedOn, Relieved, Fetched, FetchedAndHandedOn, DrainOneTold, EraseOneTold}
+
+-- no block was drained
+pub drained_none : (limit : ℕ) (before relieved after : Broom) (answer : Drain) → ((block copied : ℕ) → answer ≡ drain.Drained block copied → ⊥) → Relieved before relieved → DrainTold relieved answer after → HandsNothing relieved after
+    → DrainOneTold limit before answer after
+drained_none limit before relieved after (drain.Drained block copied) none first told apart = absurd (none block copied refl)
+drained_none limit before relieved after drain.NothingToGain none first told apart = record { relieved = relieved; first = first; drain = told; apart = apart }
+drained_none limit before relieved after drain.NoSpare none first told apart = record { relieved = relieved; first = first; drain = told; apart = apart }
+drained_none limit before relieved after drain.Lost none first told apart = record { relieved = relieved; first = first; drain = told; apart = apart }
+drained_none limit before relieved after drain.QueueFull none first told apart = absurd told
+
+-- the block that was fetched had no readers
+pub erased_one : (limit : ℕ) (before fetched after : Broom) (block : ℕ) (answer : Erase) → (answer ≡ erase.Pinned → ⊥) → Fetched before block fetched → EraseTold fetched block answer after → HandsNothing fetched after
+    → EraseOneTold limit before answer after
+erased_one limit before fetched after block (erase.Erased b kept) unread first told apart = (block, record { fetched = fetched; first = first; erase = told; apart = apart })
+erased_one limit before fetched after block (erase.Retired b) unread first told apart = (block, record { fetched = fetched; first = first; erase = told; apart = apart })
+erased_one limit before fetched after block erase.Pinned unread first told apart = absurd (unread refl)
+erased_one limit before fetched after block erase.Stale unread first told apart = (block, record { fetched = fetched; first = first; erase = told; apart = apart })
+erased_one limit before fetched after block erase.QueueEmpty unread first told apart = absurd told
+
+-- it had readers, and was handed on
+pub pinned_one : (limit : ℕ) (before fetched found after : Broom) (block : ℕ) (answer : Erase) → answer ≡ erase.Pinned → Fetched before block fetched → EraseTold fetched block answer found → HandsNothing fetched found → HandedOn limit found block after
+    → FetchedAndHandedOn limit before after
+pinned_one limit before fetched found after block answer read first told apart handed =
+    let pinned = subst (λ (a : Erase). EraseTold fetched block a found) read told in
+    record { block = block; found = found; erase = record { fetched = fetched; first = first; erase = pinned; apart = apart }; handed = handed }

@@ -1,0 +1,71 @@
+//! The turns of a broom over the queue of drained blocks.
+ghost use Rattle.std.specs.Prelude.{◌≡◌};
+ghost use Rattle.geometry.specs.Geometry.{blocks_of};
+ghost use Rattle.erase_queue.specs.Queue.{limit_of};
+ghost use Rattle.flash_table.specs.Flash.{geometry_of};
+ghost use Rattle.broom.specs.Ready.{IsReady};
+ghost use Rattle.broom.specs.Handing.{IsQueued, DrainOneTold, EraseOneTold};
+
+use crate::answer::{Drain, Erase};
+use crate::broom::Broom;
+use crate::draining::drain;
+use crate::erasing::erase;
+use crate::handing::{fetch, hand_on, relieve};
+use erase_queue::EraseQueue;
+use flash_table::{Flash, Gate};
+use std::sync::Wait;
+
+/// A drain whose block goes to the queue, or is set aside where the queue is full. What is set aside already is put first, and where it
+/// finds no room nothing is drained.
+#[tactic(auto, using(crate::proofs::Keeping::still_at, crate::proofs::Keeping::still_queued))]
+pub fn drain_one<G: Gate>(
+    flash: &Flash,
+    queue: &EraseQueue,
+    rt: &impl Wait,
+    broom: &mut Broom,
+    gate: &mut G,
+) -> Drain
+    requires limit { limit_of queue.now ≡ blocks_of (geometry_of flash.now) }
+    requires ready { IsReady flash.now broom.old }
+    requires queued { IsQueued queue.now broom.old }
+    ensures told { DrainOneTold (limit_of queue.now) broom.old result broom.new }
+    ensures ready { IsReady flash.now broom.new }
+    ensures queued { IsQueued queue.now broom.new }
+{
+    if !relieve(queue, rt, broom) {
+        return Drain::QueueFull;
+    }
+    let answer = drain(flash, broom, gate);
+    let Drain::Drained { block, copied } = answer else {
+        return answer;
+    };
+    hand_on(queue, rt, broom, block);
+    Drain::Drained { block, copied }
+}
+
+/// An erase of the block that is set aside, or else of the queue's first. A block that has readers is put back, at the queue's end.
+#[tactic(auto, using(crate::proofs::Keeping::still_at, crate::proofs::Keeping::still_queued))]
+pub fn erase_one<G: Gate>(
+    flash: &Flash,
+    queue: &EraseQueue,
+    rt: &impl Wait,
+    broom: &mut Broom,
+    gate: &mut G,
+) -> Erase
+    requires limit { limit_of queue.now ≡ blocks_of (geometry_of flash.now) }
+    requires ready { IsReady flash.now broom.old }
+    requires queued { IsQueued queue.now broom.old }
+    ensures told { EraseOneTold (limit_of queue.now) broom.old result broom.new }
+    ensures ready { IsReady flash.now broom.new }
+    ensures queued { IsQueued queue.now broom.new }
+{
+    let Some(block) = fetch(queue, rt, broom) else {
+        return Erase::QueueEmpty;
+    };
+    let answer = erase(flash, broom, block, gate);
+    let Erase::Pinned = answer else {
+        return answer;
+    };
+    hand_on(queue, rt, broom, block);
+    Erase::Pinned
+}

@@ -1,0 +1,5 @@
+use Rattle.rounds.proofs.Runs.{run_begins, run_goes_on, meeting_goes_on, run_is_text}
+use Rattle.rounds.proofs.rounds.runs_are_answered_in_order.Goals as goal
+
+pub returns : goal.returns
+returns c = record { begins = run_begins; round = run_goes_on; meeting = meeting_goes_on; text = run_is_text }

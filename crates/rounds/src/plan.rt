@@ -1,0 +1,61 @@
+ghost use Rattle.std.specs.Prelude.{◌≡◌, ℕ, ◌<◌, ◌≤◌, All, map, [], length, replicate, slice_index, IfOk};
+ghost use Rattle.std.specs.List.{range_with_len};
+ghost use Rattle.rounds.specs.Plans.{ends_of, items_of, places_for};
+
+use std::alloc::{AllocError, Global};
+use trace::{Commands, Op};
+
+/// Which worker does which lines of a trace, and where its rounds end.
+#[derive(Drop)]
+pub struct Plan {
+    /// For each worker the places of its lines among the commands, in order.
+    pub rows: Vec<Vec<usize>>,
+    /// The places of the meetings, and behind them the number of all commands.
+    pub ends: Vec<usize>,
+}
+
+impl Plan {
+    pub fn new(alloc: Global, commands: &Commands, hosts: u32) -> Result<Plan, AllocError>
+        requires { All (λ c. c.worker < hosts) commands.now }
+        ensures rows { IfOk result (λ plan. map items_of plan.rows.items ≡ map (λ t. places_for t commands.now) (range_with_len 0 hosts)) }
+        ensures ends { IfOk result (λ plan. plan.ends.items ≡ ends_of commands.now) }
+    {
+        let mut rows = empty_rows(alloc, hosts)?;
+        let mut ends = Vec::new(alloc);
+        for i in 0..commands.len() {
+            let command = commands.command(i);
+            match command.op {
+                Op::Meet => ends.push(i)?,
+                _ => rows[command.worker as usize].push(i)?,
+            }
+        }
+        ends.push(commands.len())?;
+        Ok(Plan { rows, ends })
+    }
+}
+
+// A row for each worker, with no place in it.
+fn empty_rows(alloc: Global, hosts: u32) -> Result<Vec<Vec<usize>>, AllocError>
+    ensures { IfOk result (λ rows. map items_of rows.items ≡ replicate hosts []) }
+{
+    let mut rows = Vec::with_capacity(alloc, hosts as usize)?;
+    for _ in 0..hosts {
+        rows.push_reserved(Vec::new(alloc));
+    }
+    Ok(rows)
+}
+
+/// The place in a worker's row behind its lines that stand before an end, from a place on before which all do.
+pub fn past(row: &[usize], from: usize, end: usize) -> usize
+    requires { from ≤ length row.now }
+    ensures later { from ≤ result }
+    ensures within { result ≤ length row.now }
+    ensures before { (k : ℕ) → from ≤ k → k < result → slice_index row.now k < end }
+    ensures behind { result < length row.now → end ≤ slice_index row.now result }
+{
+    let mut to = from;
+    while to < row.len() && row[to] < end {
+        to += 1;
+    }
+    to
+}

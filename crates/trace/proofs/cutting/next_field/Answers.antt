@@ -1,0 +1,11 @@
+use Rattle.std.proofs.Common.{◌-◌, drop, refl, sym, take, ◌∙◌}
+use Rattle.trace.proofs.CutFacts.{plain-field}
+use Rattle.trace.proofs.cutting.next_field.Goals as goal
+
+pub returns : goal.returns
+returns c = record {
+  value = take (c.plain_end-end.result - c.args.start) (drop c.args.start c.args.text.now);
+  is = plain-field c.args.text.now c.args.start c.plain_end-end.result (sym c.has.ensures ∙ c.if-has.false) c.plain_end-end.ensures;
+  told = refl;
+  comma = c.has-2.ensures;
+}

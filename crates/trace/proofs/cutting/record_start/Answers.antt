@@ -1,0 +1,6 @@
+use Rattle.std.proofs.Common.{sym, ◌∙◌}
+use Rattle.trace.proofs.RecordFacts.{starts-more}
+use Rattle.trace.proofs.cutting.record_start.Goals as goal
+
+pub loop-start-preserved : goal.loop-start-preserved
+loop-start-preserved c = starts-more c.args.text.now c.args.from c.loop-start.start c.loop-start.invariant c.loop-start-test.true (sym c.is_line_end.ensures ∙ c.if-not-is_line_end.false)

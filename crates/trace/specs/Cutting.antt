@@ -1,0 +1,133 @@
+-- Where the records of a text stand, and how csv's machine reads from one place of it to another.
+use Rattle.std.specs.Prelude.{◌≡◌, ◌≢◌, ◌≤◌, ◌<◌, ◌-◌, ◌==◌, ◌||◌, ℕ, Bool, true, false, not, List, [], ◌∷◌, Option, Some, IfSome, length, take, drop}
+use Rattle.csv.specs.Machine.{Read, Runs, next_record}
+use Rattle.csv.specs.Reading.{default_config, strip_bom}
+use Rattle.csv.specs.declared.parser.State.{State}
+use Rattle.csv.specs.declared.parser.State.TheVariants as st
+use Rattle.trace.specs.Rows.{records_after}
+use Rattle.trace.specs.Trace.{records_of}
+use Rattle.trace.specs.declared.cutting.Cut.{Cut}
+use Rattle.trace.specs.declared.cutting.Cut.TheVariants as cut
+use Rattle.trace.specs.declared.cutting.Field.{Field}
+use Rattle.trace.specs.declared.cutting.Row.{Row}
+
+-- ---- bytes
+
+-- whether a text begins with this byte
+abbrev pub begins_with : ℕ → List ℕ → Bool
+begins_with byte [] = false
+begins_with byte (first ∷ rest) = first == byte
+
+-- whether a byte ends a line
+abbrev pub is_line_end : ℕ → Bool
+is_line_end byte = (byte == 13) || (byte == 10)
+
+-- whether a byte ends a field, where no quotes are open
+abbrev pub is_field_end : ℕ → Bool
+is_field_end byte = (byte == 44) || is_line_end byte
+
+-- whether a field ends before this text: it is over, or begins with a comma or a line end
+abbrev pub ends_field : List ℕ → Bool
+ends_field [] = true
+ends_field (byte ∷ rest) = is_field_end byte
+
+-- whether no line end stands at the start of this text
+abbrev pub ends_no_line : List ℕ → Bool
+ends_no_line [] = true
+ends_no_line (byte ∷ rest) = not (is_line_end byte)
+
+-- ---- fields
+
+-- the record that is read from here on, in this state, behind these fields and these bytes of a field
+abbrev pub read_on : State → List (List ℕ) → List ℕ → List ℕ → Option Read
+read_on s fields field bytes = next_record default_config s fields field bytes
+
+-- between these places each byte only joins the field at hand
+pub record Joins (s : State) (text : List ℕ) (start end : ℕ) : Type 0 where
+  pub low : start ≤ end
+  pub high : end ≤ length text
+  pub runs : Runs default_config s (take (end - start) (drop start text))
+
+-- a field without quotes that are open goes on from the one place to the other, where it ends
+pub record EndsPlain (text : List ℕ) (start end : ℕ) : Type 0 where
+  pub joins : Joins st.InField text start end
+  pub stops : ends_field (drop end text) ≡ true
+
+-- a field whose quotes are open goes on from the one place to the next quote, or to the end of the text
+pub record EndsQuoted (text : List ℕ) (start end : ℕ) : Type 0 where
+  pub joins : Joins st.InQuoted text start end
+  pub stops : end ≢ length text → begins_with 34 (drop end text) ≡ true
+
+-- a field of this value stands from the one place to the other, where it ends
+pub record IsField (text : List ℕ) (start end : ℕ) (value : List ℕ) : Type 0 where
+  pub low : start ≤ end
+  pub high : end ≤ length text
+  pub reads : (fields : List (List ℕ)) → read_on st.StartField fields [] (drop start text) ≡ read_on st.InField fields value (drop end text)
+  pub stops : ends_field (drop end text) ≡ true
+
+-- some field stands there
+abbrev pub EndsField : List ℕ → ℕ → ℕ → Type 0
+EndsField text start end = (value : List ℕ) × IsField text start end value
+
+-- the field that was cut is the one that stands there, with its value, if that was told
+pub record CutsField (text : List ℕ) (start : ℕ) (f : Field) : Type 0 where
+  pub value : List ℕ
+  pub is : IsField text start f.end value
+  pub told : IfSome f.value (λ bytes. bytes.now ≡ value)
+  pub comma : f.comma ≡ begins_with 44 (drop f.end text)
+
+-- ---- records
+
+-- the records of a text that stands between two records, or at its end
+abbrev pub lines_of : List ℕ → List (List (List ℕ))
+lines_of bytes = records_after st.StartRecord bytes
+
+-- behind a byte order mark, if one stands there
+pub record IsMarkEnd (text : List ℕ) (at end : ℕ) : Type 0 where
+  pub low : at ≤ end
+  pub high : end ≤ length text
+  pub strips : strip_bom (drop at text) ≡ drop end text
+
+-- behind the line ends at a place the same records stand
+pub record StartsRecord (text : List ℕ) (from start : ℕ) : Type 0 where
+  pub low : from ≤ start
+  pub high : start ≤ length text
+  pub same : lines_of (drop from text) ≡ lines_of (drop start text)
+  pub stops : ends_no_line (drop start text) ≡ true
+
+-- the fields of a record
+abbrev pub fields_of_row : Row → List (List ℕ)
+fields_of_row row = row.worker.now ∷ row.op.now ∷ row.sector.now ∷ row.digits.now ∷ []
+
+-- a record of the values that its fields told
+pub record HasValues (row : Row) (first second third fourth : Field) : Type 0 where
+  pub worker : first.value ≡ Some row.worker
+  pub op : second.value ≡ Some row.op
+  pub sector : third.value ≡ Some row.sector
+  pub digits : fourth.value ≡ Some row.digits
+
+-- a record, if it was told, has the values that its fields told
+abbrev pub AreValues : Option Row → Field → Field → Field → Field → Type 0
+AreValues row first second third fourth = IfSome row (λ r. HasValues r first second third fourth)
+
+-- the first record from a place on has other than four fields
+pub record HasOtherFields (text : List ℕ) (at : ℕ) : Type 0 where
+  pub fields : List (List ℕ)
+  pub others : List (List (List ℕ))
+  pub first : records_of (drop at text) ≡ fields ∷ others
+  pub count : length fields ≢ 4
+
+-- the first record from a place on has four fields, which are these, if they were told, and ends at this place
+pub record IsRecord (text : List ℕ) (at end : ℕ) (row : Option Row) : Type 0 where
+  pub low : at < end
+  pub high : end ≤ length text
+  pub fields : List (List ℕ)
+  pub first : records_of (drop at text) ≡ fields ∷ records_of (drop end text)
+  pub count : length fields ≡ 4
+  pub told : IfSome row (λ r. fields ≡ fields_of_row r)
+
+-- what comes next from a place on
+abbrev pub IsCut : List ℕ → ℕ → Cut → Type 0
+IsCut text at cut.End = records_of (drop at text) ≡ []
+IsCut text at cut.Fields = HasOtherFields text at
+IsCut text at (cut.Record end row) = IsRecord text at end row

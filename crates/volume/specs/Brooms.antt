@@ -1,0 +1,27 @@
+-- A broom at its volume.
+use Rattle.std.specs.Prelude.{◌≡◌, None}
+use Rattle.std.proofs.Props.{props}
+use Rattle.erase_queue.specs.declared.queue.EraseQueue.{EraseQueue}
+use Rattle.erase_queue.specs.Queue.{IsNewPass}
+use Rattle.flash_table.specs.declared.flash.Flash.{Flash}
+use Rattle.broom.specs.declared.broom.Broom.{Broom}
+use Rattle.broom.specs.Handing.{IsQueued, place_of, aside_of}
+use Rattle.broom.specs.Once.{IsReady-prop, IsQueued-prop}
+use Rattle.broom.specs.Ready.{IsReady}
+use Rattle.volume.specs.declared.volume.Volume.{Volume}
+use Rattle.volume.specs.Volume.{flash_of, queue_of}
+
+-- A broom between two calls: it is ready at the volume's device, and its place is one at the volume's queue
+pub record IsBroomReady (v : Volume) (b : Broom) : Type 0 where
+  pub ready : IsReady (flash_of v) b
+  pub queued : IsQueued (queue_of v) b
+
+-- A broom that was just made: it is ready, has seen, done and counted nothing at its queue, and has nothing set aside
+pub record IsFresh (f : Flash) (q : EraseQueue) (b : Broom) : Type 0 where
+  pub ready : IsReady f b
+  pub place : IsNewPass q (place_of b)
+  pub aside : aside_of b ≡ None
+
+-- that a broom is ready is a fact that has one proof at most, so that a struct can keep it beside its broom
+pub IsBroomReady-prop : (v : Volume) (b : Broom) → IsProp (IsBroomReady v b)
+IsBroomReady-prop v b = hlevel (props, IsReady-prop, IsQueued-prop)
