@@ -6,7 +6,7 @@ import itertools
 from . import blkparse, fio, msr
 from .faults import Fault
 from .lines import numbered_lines
-from .requests import READ, WRITE, Dense, Devices, Folded, PassedOver, Within, pages_of
+from .requests import READ, TRIM, WRITE, Dense, Devices, Folded, PassedOver, Within, pages_of
 
 
 def add_options(parser):
@@ -33,6 +33,7 @@ def convert(options, source, writer):
     """Converts a log line by line; answers how many requests it had, and how many lines of each kind were passed over."""
     devices = Devices(options.device.encode() if options.device else None, several=options.dense)
     placement = Folded(options.sectors) if options.wrap else Dense(options.sectors) if options.dense else Within(options.sectors)
+    puts = {READ: writer.read, WRITE: writer.write, TRIM: writer.trim}
     counts = collections.Counter()
     for request in _requests(options, source):
         if isinstance(request, PassedOver):
@@ -41,7 +42,7 @@ def convert(options, source, writer):
             counts["other device"] += 1
         else:
             counts["requests"] += 1
-            put = {READ: writer.read, WRITE: writer.write}.get(request.op, writer.trim)
+            put = puts[request.op]
             sectors = placement.sectors_of(request, pages_of(request, options.page_bytes))
             if options.lines:
                 sectors = itertools.islice(sectors, options.lines - writer.lines)

@@ -1,5 +1,7 @@
 """The requests of the block traces of MSR Cambridge, as SNIA keeps them."""
 
+import re
+
 from .faults import LineFault
 from .lines import number_in, shown
 from .requests import READ, WRITE, Request
@@ -7,24 +9,27 @@ from .requests import READ, WRITE, Request
 HEAD = b"timestamp,hostname,disknumber,type,offset,size,responsetime"
 FIELDS = 7
 OPS = {b"read": READ, b"write": WRITE}
+LINE = re.compile(rb"\d{1,20},([^,]*),(\d{1,20}),(read|write),(\d{1,20}),(\d{1,20}),\d{1,20}", re.IGNORECASE)
 
 
 def requests(lines):
     """Each line is `Timestamp,Hostname,DiskNumber,Type,Offset,Size,ResponseTime`; some copies have a line of these names first."""
     for number, line in lines:
-        if line and not (number == 1 and line.lower() == HEAD):
-            yield _request(number, line)
+        found = LINE.fullmatch(line)
+        if found:
+            host, disk, kind, offset, size = found.groups()
+            yield Request(number, OPS[kind.lower()], host + b"_" + disk, int(offset), int(size))
+        elif line and not (number == 1 and line.lower() == HEAD):
+            _refuse(number, line)
 
 
-def _request(line, text):
+def _refuse(line, text):
+    """Says what is wrong with a line that is no request."""
     fields = text.split(b",")
     if len(fields) != FIELDS:
         raise LineFault(line, f"{FIELDS} fields are wanted, and these are {len(fields)}")
-    timestamp, host, disk, kind, offset, size, response = fields
-    number_in(timestamp, line, "timestamp")
-    number_in(disk, line, "disk number")
-    number_in(response, line, "response time")
-    op = OPS.get(kind.lower())
-    if op is None:
+    timestamp, _, disk, kind, offset, size, response = fields
+    if kind.lower() not in OPS:
         raise LineFault(line, f"the type {shown(kind)} is neither Read nor Write")
-    return Request(line, op, host + b"_" + disk, number_in(offset, line, "offset"), number_in(size, line, "size"))
+    for field, what in ((timestamp, "timestamp"), (disk, "disk number"), (offset, "offset"), (size, "size"), (response, "response time")):
+        number_in(field, line, what)

@@ -23,4 +23,4 @@ class Page(unittest.TestCase):
             self.assertEqual(done.returncode, 0, done.stderr)
             drawn = [name for name in lines.split("ls ")[1].split() if "<svg" in (pathlib.Path(room) / name).read_text()]
         self.assertIn("write amplification  ", done.stdout)
-        self.assertEqual(len(drawn), 2)
+        self.assertEqual(len(drawn), 3)

@@ -70,6 +70,15 @@ lines_before refusal sectors refused commands n = flat_map (line_at refusal sect
 abbrev pub answers : List ℕ → ℕ → (ℕ → Bool) → List Command → List ℕ
 answers refusal sectors refused commands = lines_before refusal sectors refused commands (length commands)
 
+-- the names of what is told of each block, and the line of a block: its number, its erase commands, its live pages,
+-- and 1 where it is retired, else 0
+abbrev pub wear_names : List ℕ
+wear_names = codes "block,erases,live,retired\n"
+
+abbrev pub wear_line : ℕ → ℕ → ℕ → Bool → List ℕ
+wear_line block erases live retired =
+    decimal block ++ codes "," ++ decimal erases ++ codes "," ++ decimal live ++ codes "," ++ decimal (if retired then 1 else 0) ++ codes "\n"
+
 -- the last line of a run of several threads
 abbrev pub end_text : List ℕ
 end_text = codes "end\n"

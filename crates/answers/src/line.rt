@@ -1,5 +1,5 @@
 ghost use Rattle.std.specs.Prelude.{◌≡◌, ◌+◌, ◌≤◌, [], ◌∷◌, ◌++◌, codes, length, vec_len, vec_capacity, decimal};
-ghost use Rattle.answers.specs.Answers.{end_text, line_text, totals_text};
+ghost use Rattle.answers.specs.Answers.{end_text, line_text, totals_text, wear_line, wear_names};
 
 use trace::Op;
 
@@ -67,4 +67,25 @@ pub fn put_totals(lines: &mut Vec<u8>, programs: u64, copies: u64, erases: u64)
     put_number(lines, programs, b',');
     put_number(lines, copies, b',');
     put_number(lines, erases, b'\n');
+}
+
+/// Adds the names of what is told of each block.
+pub fn put_wear_names(lines: &mut Vec<u8>)
+    requires room { vec_len lines.old + LINE_BYTES ≤ vec_capacity lines.old }
+    ensures items { lines.new.items ≡ lines.old.items ++ wear_names }
+    ensures capacity { vec_capacity lines.old ≤ vec_capacity lines.new }
+{
+    put(lines, b"block,erases,live,retired\n");
+}
+
+/// Adds the line of a block.
+pub fn put_wear(lines: &mut Vec<u8>, block: u32, erases: u32, live: u32, retired: bool)
+    requires room { vec_len lines.old + LINE_BYTES ≤ vec_capacity lines.old }
+    ensures items { lines.new.items ≡ lines.old.items ++ wear_line block erases live retired }
+    ensures capacity { vec_capacity lines.old ≤ vec_capacity lines.new }
+{
+    put_number(lines, u64::from(block), b',');
+    put_number(lines, u64::from(erases), b',');
+    put_number(lines, u64::from(live), b',');
+    put_number(lines, u64::from(retired), b'\n');
 }

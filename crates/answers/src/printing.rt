@@ -3,14 +3,16 @@ ghost use Rattle.std.specs.Io.KnownBytes.{Appends};
 ghost use Rattle.geometry.specs.Geometry.{page_bytes_of};
 ghost use Rattle.hex.specs.Hex.{encode_lower};
 ghost use Rattle.trace.specs.Watched.{failures_of, inner_of};
-ghost use Rattle.answers.specs.Answers.{end_text, line_text, totals_text};
+ghost use Rattle.answers.specs.Answers.{end_text, line_text, totals_text, wear_line, wear_names};
 ghost use Rattle.answers.specs.Delivery.{AppendsBeginning, IsUnderWay};
 ghost use Rattle.answers.specs.Lines.{page_digits_of, waiting_of};
 ghost use Rattle.answers.specs.Replies.{reply_text};
 ghost use Rattle.answers.specs.declared.line.TheConstants.{PIECE_BYTES};
 
 use crate::delivery::{OutputFailed, send};
-use crate::line::{LINE_BYTES, PIECE_BYTES, put_end, put_line, put_totals};
+use crate::line::{
+    LINE_BYTES, PIECE_BYTES, put_end, put_line, put_totals, put_wear, put_wear_names,
+};
 use crate::lines::Lines;
 use crate::reply::Reply;
 use geometry::Geometry;
@@ -64,6 +66,24 @@ impl Lines {
         ensures page { page_digits_of self.new ≡ page_digits_of self.old }
     {
         put_totals(&mut self.waiting, programs, copies, erases);
+    }
+
+    /// Adds the names of what is told of each block.
+    pub fn wear_names(&mut self)
+        requires room { length (waiting_of self.old) ≤ PIECE_BYTES }
+        ensures waiting { waiting_of self.new ≡ waiting_of self.old ++ wear_names }
+        ensures page { page_digits_of self.new ≡ page_digits_of self.old }
+    {
+        put_wear_names(&mut self.waiting);
+    }
+
+    /// Adds the line of a block: its erases, its live pages, and whether it is retired.
+    pub fn wear(&mut self, block: u32, erases: u32, live: u32, retired: bool)
+        requires room { length (waiting_of self.old) ≤ PIECE_BYTES }
+        ensures waiting { waiting_of self.new ≡ waiting_of self.old ++ wear_line block erases live retired }
+        ensures page { page_digits_of self.new ≡ page_digits_of self.old }
+    {
+        put_wear(&mut self.waiting, block, erases, live, retired);
     }
 
     /// Hands on the lines that wait.

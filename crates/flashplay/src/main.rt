@@ -2,10 +2,12 @@
 //! to standard output.
 #![tactic(auto)]
 
+mod late_file;
 #[cfg(test)]
 mod tests;
 
-use player::{Stop, Watched, read_words, session, tell};
+use late_file::LateFile;
+use player::{Stop, Watched, read_words, session, tell, wear_name};
 use std::io::Write;
 use std::process::ExitCode;
 
@@ -30,5 +32,7 @@ fn play<E: Write>(rt: &HostRuntime, errors: &mut Watched<E>) -> Result<u8, Stop>
     }
     let mut input = Watched::new(rt.stdin());
     let mut output = Watched::new(rt.stdout());
-    Ok(session(alloc, &words, &mut input, &mut output, errors))
+    let file = LateFile::new(rt, wear_name(alloc, &words).unwrap_or(""));
+    let mut wear = Watched::new(file);
+    Ok(session(alloc, &words, &mut input, &mut output, errors, &mut wear))
 }

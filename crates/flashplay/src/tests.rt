@@ -1,4 +1,4 @@
-use player::{Stop, Watched, read_words, session};
+use player::{Stop, Watched, read_words, session, wear_name};
 use std::alloc::Global;
 use std::env::{Env, FillError};
 use std::io;
@@ -26,6 +26,7 @@ struct Ended {
     status: u8,
     output: Vec<u8>,
     errors: Calls,
+    wear: Vec<u8>,
 }
 
 // Takes each write whole, and counts the calls.
@@ -53,11 +54,20 @@ fn play(alloc: Global, words: &[&str], input: &[u8]) -> Ended {
         taken: Vec::new(alloc),
         count: 0,
     });
-    let status = session(alloc, words, &mut reader, &mut writer, &mut errors);
+    let mut wear = Watched::new(Vec::new(alloc));
+    let status = session(
+        alloc,
+        words,
+        &mut reader,
+        &mut writer,
+        &mut errors,
+        &mut wear,
+    );
     Ended {
         status,
         output: writer.into_inner(),
         errors: errors.into_inner(),
+        wear: wear.into_inner(),
     }
 }
 
@@ -74,6 +84,30 @@ fn a_session_answers_each_line(rt: HostRuntime) -> Result<(), Fail> {
             == b"1,write,0,empty\n2,write,1,empty\n3,write,2,empty\n4,write,0,written\n5,write,2,written\n6,meet,0,met\n7,read,1,0200000000000000\n8,trim,1,written\n9,read,1,empty\nend,5,1,1\n".as_slice()
     );
     assert_eq!(rt; ended.errors.count, 0);
+    Ok(())
+}
+
+#[test]
+fn the_wear_is_told_where_a_file_is_named_for_it(rt: HostRuntime) -> Result<(), Fail> {
+    let words = [
+        "flashplay",
+        "--blocks=3",
+        "--pages=2",
+        "--words=1",
+        "--sectors=3",
+        "--wear=file",
+    ];
+    assert_eq!(rt; wear_name(rt.alloc(), words.as_slice()), Some("file"));
+    assert_eq!(rt; wear_name(rt.alloc(), SMALL.as_slice()), None);
+    let input =
+        b"0,write,0,01\n0,write,1,02\n0,write,2,03\n0,write,0,04\n0,write,2,05\n0,trim,1,\n".as_slice();
+    let ended = play(rt.alloc(), words.as_slice(), input);
+    assert_eq!(rt; ended.status, 0);
+    assert!(rt;
+        ended.wear.as_slice()
+            == b"block,erases,live,retired\n0,1,0,0\n1,0,1,0\n2,0,1,0\n".as_slice()
+    );
+    assert!(rt; play(rt.alloc(), SMALL.as_slice(), input).wear.is_empty());
     Ok(())
 }
 
@@ -180,6 +214,7 @@ fn play_narrow<R: Read + Drop>(alloc: Global, input: R, room: usize) -> (u8, Vec
         &mut reader,
         &mut writer,
         &mut errors,
+        &mut Watched::new(Vec::new(alloc)),
     );
     (status, writer.into_inner().taken, errors.into_inner().taken)
 }

@@ -1,1 +1,2 @@
 mod Plays
+pub mod WearTexts

@@ -1,17 +1,18 @@
-ghost use Rattle.std.specs.Prelude.{◌≡◌, ◌≢◌, ◌+◌, ◌*◌, ◌≤◌, [], ◌++◌, codes, length, vec_len, IfOk, OnOk, OnErr};
+ghost use Rattle.std.specs.Prelude.{◌≡◌, ◌≢◌, ◌+◌, ◌*◌, ◌<◌, ◌≤◌, [], ◌++◌, codes, length, vec_len, IfOk, OnOk, OnErr};
 ghost use Rattle.std.specs.Io.KnownBytes.{Appends};
 ghost use Rattle.std.specs.List.{fold};
-ghost use Rattle.geometry.specs.Geometry.{page_bytes_of};
+ghost use Rattle.geometry.specs.Geometry.{blocks_of, page_bytes_of};
 ghost use Rattle.geometry.specs.History.{step};
 ghost use Rattle.geometry.specs.Sectors.{sector_at};
 ghost use Rattle.ftl_one.specs.OneFtl.{geometry_of, sectors_of, stock_of};
 ghost use Rattle.trace.specs.Watched.{failures_of, inner_of};
-ghost use Rattle.answers.specs.Answers.{answer_of, calls_of, line_text};
+ghost use Rattle.answers.specs.Answers.{answer_of, calls_of, line_text, wear_names};
 ghost use Rattle.answers.specs.Delivery.{AppendsBeginning, IsUnderWay};
 ghost use Rattle.answers.specs.Lines.{page_digits_of, waiting_of};
 ghost use Rattle.answers.specs.Playable.{IsPlayable};
 ghost use Rattle.answers.specs.declared.line.TheConstants.{PIECE_BYTES};
 ghost use Rattle.one_player.specs.Playing.{end_text, is_refused, stock_after};
+ghost use Rattle.one_player.specs.Wear.{block_line};
 
 use crate::perform::perform;
 use answers::{Lines, OutputFailed};
@@ -66,9 +67,28 @@ impl Desk {
             .totals(counts.programs, counts.copies, counts.erases);
     }
 
+    /// Adds the names of what is told of each block.
+    pub fn wear_names(&mut self)
+        requires room { length (waiting_of self.old.lines) ≤ PIECE_BYTES }
+        ensures lines { waiting_of self.new.lines ≡ waiting_of self.old.lines ++ wear_names }
+    {
+        self.lines.wear_names();
+    }
+
+    /// Adds the line of a block.
+    pub fn wear(&mut self, ftl: &OneFtl, block: u32)
+        requires block { block < blocks_of (geometry_of ftl.now) }
+        requires room { length (waiting_of self.old.lines) ≤ PIECE_BYTES }
+        ensures lines { waiting_of self.new.lines ≡ waiting_of self.old.lines ++ block_line (stock_of ftl.now) block }
+    {
+        let (erases, live, retired) = (ftl.erases(block), ftl.live(block), ftl.retired(block));
+        self.lines.wear(block, erases, live, retired);
+    }
+
     /// Hands on the lines that wait.
     pub fn hand_on<W: Write>(&mut self, writer: &mut Watched<W>) -> Result<(), OutputFailed>
         ensures sent { OnOk result (Appends (W.contents (inner_of writer.old)) (W.contents (inner_of writer.new)) (waiting_of self.old.lines)) }
+        ensures empty { OnOk result (waiting_of self.new.lines ≡ []) }
         ensures unfailed { OnOk result (failures_of writer.new ≡ failures_of writer.old) }
         ensures part { OnErr result (AppendsBeginning (W.contents (inner_of writer.old)) (W.contents (inner_of writer.new)) (waiting_of self.old.lines)) }
         ensures failed { OnErr result (failures_of writer.new ≢ failures_of writer.old) }

@@ -4,5 +4,6 @@
 mod desk;
 mod one_thread;
 mod perform;
+mod wear;
 
-pub use one_thread::run;
+pub use one_thread::{run, run_with_wear};

@@ -1,7 +1,8 @@
 -- The command line: the options as clap knows them, and the numbers that its matches give them.
 use Rattle.std.specs.Prelude.{◌≡◌, ℕ, List, [], ◌∷◌, codes, Some, pos, MatchOption, ◌^◌, ◌<◌, ◌⊎◌}
+use Rattle.std.specs.Option.{option_map}
 use Rattle.std.specs.Str.Parse.{IsNumeral, digits_value, without_leading_plus}
-use Rattle.clap.specs.Words.{App, Kinds, Row, Rule, Text, fault_of, matches_of, new_app, new_rule, one_of, with_rule}
+use Rattle.clap.specs.Words.{App, Kinds, Row, Rule, Text, fault_of, first_of, matches_of, new_app, new_rule, one_of, with_rule}
 use Rattle.clap.specs.declared.builder.value_parser.ValueParser.TheVariants as parser
 use Rattle.geometry.specs.Limits.{Numbers, numbers}
 use Rattle.player.specs.declared.command_line.Options.{Options}
@@ -12,9 +13,13 @@ abbrev pub option_rule : Text → Text → Rule
 option_rule name default =
     record (new_rule name) { long = Some name; value_names = 1; defaults = default ∷ []; parser = Some (parser.Signed (pos 0) (pos 4294967295)) }
 
--- the program's command line
-abbrev pub flashplay : App
-flashplay =
+-- an option of a file's name, which may be absent
+abbrev pub file_rule : Text → Rule
+file_rule name = record (new_rule name) { long = Some name; value_names = 1 }
+
+-- the program's command line: the numbers of a device, and the file of the wear
+abbrev pub with_numbers : App
+with_numbers =
     with_rule (with_rule (with_rule (with_rule (with_rule (with_rule (new_app (codes "flashplay"))
     (option_rule (codes "luns") (codes "1")))
     (option_rule (codes "blocks") (codes "64")))
@@ -22,6 +27,9 @@ flashplay =
     (option_rule (codes "words") (codes "64")))
     (option_rule (codes "sectors") (codes "3072")))
     (option_rule (codes "endurance") (codes "1000"))
+
+abbrev pub flashplay : App
+flashplay = with_rule with_numbers (file_rule (codes "wear"))
 
 -- what clap finds for each option in the words of a command line, the defaults included
 unfoldable pub rows_given : List Text → List Row
@@ -44,7 +52,7 @@ IsNumberIn text default number =
 abbrev pub IsNumberOf : List Row → Text → ℕ → ℕ → Type 0
 IsNumberOf rows name default number = MatchOption (one_of name rows) (number ≡ default) (λ text. IsNumberIn text default number)
 
--- each number is the one that the matches give to its option
+-- each number is the one that the matches give to its option, and so is the name of the file
 pub record AreOptionsOf (rows : List Row) (given : Options) : Type 0 where
   pub luns : IsNumberOf rows (codes "luns") LUNS given.luns
   pub blocks : IsNumberOf rows (codes "blocks") BLOCKS given.blocks
@@ -52,6 +60,7 @@ pub record AreOptionsOf (rows : List Row) (given : Options) : Type 0 where
   pub words : IsNumberOf rows (codes "words") WORDS given.words
   pub sectors : IsNumberOf rows (codes "sectors") SECTORS given.sectors
   pub endurance : IsNumberOf rows (codes "endurance") ENDURANCE given.endurance
+  pub wear : option_map (λ name. name.now) given.wear ≡ first_of (codes "wear") rows
 
 -- the numbers of the device that the options describe, which is for one thread
 abbrev pub numbers_given : Options → Numbers

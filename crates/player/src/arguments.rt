@@ -1,13 +1,13 @@
-ghost use Rattle.std.specs.Prelude.{◌≡◌, map, IfOk};
-ghost use Rattle.clap.specs.Words.{FailsBy, app_of, found_of, rows_of, with_rule};
-ghost use Rattle.player.specs.CommandLine.{AreOptionsOf, IsNumberOf, faults_given, flashplay, option_rule, rows_given};
+ghost use Rattle.std.specs.Prelude.{◌≡◌, codes, map, Some, IfOk, IfSome};
+ghost use Rattle.clap.specs.Words.{FailsBy, app_of, first_of, found_of, rows_of, with_rule};
+ghost use Rattle.player.specs.CommandLine.{AreOptionsOf, IsNumberOf, faults_given, file_rule, flashplay, option_rule, rows_given, with_numbers};
 
 use crate::command_line::{BLOCKS, ENDURANCE, LUNS, Options, PAGES, SECTORS, WORDS};
 use clap::{Arg, ArgMatches, Command, Error, value_parser};
 use std::alloc::{AllocError, Global};
 
-/// The numbers that the words of a command line give; the first word is the program's name.
-pub fn options<'a>(alloc: Global, words: &'a [&'a str]) -> Result<Options, Error>
+/// The options that the words of a command line give; the first word is the program's name.
+pub fn options<'a>(alloc: Global, words: &'a [&'a str]) -> Result<Options<'a>, Error>
     ensures numbers { IfOk result (AreOptionsOf (rows_given (map (λ w. w.now) words.entry.now))) }
     ensures outcome { FailsBy (faults_given (map (λ w. w.now) words.entry.now)) result }
 {
@@ -23,12 +23,36 @@ pub fn options<'a>(alloc: Global, words: &'a [&'a str]) -> Result<Options, Error
         words: number(&matches, "words", WORDS),
         sectors: number(&matches, "sectors", SECTORS),
         endurance: number(&matches, "endurance", ENDURANCE),
+        wear: matches.get_str("wear"),
     })
+}
+
+/// The file that the words name for the wear, where they are accepted.
+pub fn wear_name<'a>(alloc: Global, words: &'a [&'a str]) -> Option<&'a str>
+    ensures { IfSome result (λ name. first_of (codes "wear") (rows_given (map (λ w. w.now) words.entry.now)) ≡ Some name.now) }
+{
+    match options(alloc, words) {
+        Ok(given) => given.wear,
+        Err(_) => None,
+    }
 }
 
 // The command line as clap knows it.
 fn flashplay<'a>(alloc: Global) -> Result<Command<'a>, AllocError>
     ensures { IfOk result (λ command. app_of command ≡ flashplay) }
+{
+    let command = with_numbers(alloc)?;
+    with_file(
+        alloc,
+        command,
+        "wear",
+        "Writes each block's erases and live pages to this file after the run",
+    )
+}
+
+// The command with the numbers of a device.
+fn with_numbers<'a>(alloc: Global) -> Result<Command<'a>, AllocError>
+    ensures { IfOk result (λ command. app_of command ≡ with_numbers) }
 {
     let command = Command::new(alloc, "flashplay").about(
         "Plays a trace on a page-mapped flash layer: the trace comes from standard input, its answers go to standard output.",
@@ -86,6 +110,22 @@ fn with<'a>(
         .value_name("N")
         .value_parser(value_parser!(u32))
         .default_value(default)
+        .help(help);
+    command.arg(option)
+}
+
+// The command with one option more, of a file's name.
+fn with_file<'a>(
+    alloc: Global,
+    command: Command<'a>,
+    name: &'a str,
+    help: &'a str,
+) -> Result<Command<'a>, AllocError>
+    ensures { IfOk result (λ more. app_of more ≡ with_rule (app_of command.entry) (file_rule name.entry.now)) }
+{
+    let option = Arg::new(alloc, name)
+        .long(name)
+        .value_name("FILE")
         .help(help);
     command.arg(option)
 }

@@ -11,13 +11,15 @@ pub const SECTORS: u32 = 3072;
 /// The erase cycles of a block where `--endurance` is absent.
 pub const ENDURANCE: u32 = 1000;
 
-/// The numbers that the command line gives, under the names of their options.
+/// What the command line gives, under the names of its options.
 #[derive(Clone, Copy, Debug, PartialEq, Eq)]
-pub struct Options {
+pub struct Options<'a> {
     pub luns: u32,
     pub blocks: u32,
     pub pages: u32,
     pub words: u32,
     pub sectors: u32,
     pub endurance: u32,
+    /// The file for the wear of each block.
+    pub wear: Option<&'a str>,
 }

@@ -9,7 +9,7 @@ mod stop;
 mod telling;
 
 pub use answers::RunFault;
-pub use arguments::options;
+pub use arguments::{options, wear_name};
 pub use command_line::Options;
 pub use environment::read_words;
 pub use one_player::run;

@@ -20,6 +20,8 @@ pub enum Stop {
     Help,
     /// Memory ran out before the run.
     Memory,
+    /// The answers are whole, but the file of the wear could not be written.
+    Wear,
 }
 
 impl Stop {
@@ -32,7 +34,7 @@ impl Stop {
         match self {
             Stop::Arguments(_) | Stop::Encoding(_) | Stop::Geometry(_) => 2,
             Stop::Run(fault) => run_status(*fault),
-            Stop::Help => 1,
+            Stop::Help | Stop::Wear => 1,
             Stop::Memory => 4,
         }
     }

@@ -54,6 +54,7 @@ fn line(stop: &Stop) -> Option<Line>
         Stop::Run(fault) => Some(run_line(*fault)),
         Stop::Help => Some(joined("output: ", "failed", "\n")),
         Stop::Memory => Some(joined("memory: ", "refused", "\n")),
+        Stop::Wear => Some(joined("wear: ", "failed", "\n")),
     }
 }
 

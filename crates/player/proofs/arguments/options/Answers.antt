@@ -1,7 +1,8 @@
-use Rattle.std.proofs.Common.{◌≡◌, List, codes, map, subst}
+use Rattle.std.proofs.Common.{◌≡◌, ◌∙◌, List, ap, codes, map, subst}
 use Rattle.std.specs.Prelude.{Ok, Err}
 use Rattle.clap.specs.declared.parser.matches.ArgMatches.{ArgMatches}
-use Rattle.clap.specs.Words.{Row, Text, app_of, found_of, rows_of}
+use Rattle.clap.specs.Words.{Row, Text, app_of, first_of, found_of, rows_of}
+use Rattle.clap.proofs.WalkLemmas.{first_value-rows}
 use Rattle.player.specs.CommandLine.{IsNumberOf, rows_given}
 use Rattle.player.specs.declared.command_line.TheConstants.{LUNS, BLOCKS, PAGES, WORDS, SECTORS, ENDURANCE}
 use Rattle.player.proofs.CommandLines.{rows_are, faults_are}
@@ -19,6 +20,7 @@ returns-clause-numbers c =
       words = subst (λ (r : List Row). IsNumberOf r (codes "words") WORDS c.number-4.result) rows c.number-4.ensures;
       sectors = subst (λ (r : List Row). IsNumberOf r (codes "sectors") SECTORS c.number-5.result) rows c.number-5.ensures;
       endurance = subst (λ (r : List Row). IsNumberOf r (codes "endurance") ENDURANCE c.number-6.result) rows c.number-6.ensures;
+      wear = c.get_str.ensures ∙ (first_value-rows (found_of c.in-Ok.matches) (codes "wear") ∙ ap (first_of (codes "wear")) rows);
     }
 
 pub returns-clause-outcome : goal.returns-clause-outcome

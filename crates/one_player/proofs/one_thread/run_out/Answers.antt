@@ -2,7 +2,7 @@ use Rattle.std.proofs.Common.{subst, sym}
 use Rattle.std.specs.List.{All}
 use Rattle.answers.specs.Playable.{IsPlayable}
 use Rattle.answers.proofs.Playable.{commands_are_playable}
-use Rattle.one_player.proofs.one_thread.run.Goals as goal
+use Rattle.one_player.proofs.one_thread.run_out.Goals as goal
 
 pub play-requires-clause-playable : goal.play-requires-clause-playable
 play-requires-clause-playable g c =
