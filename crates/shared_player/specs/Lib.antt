@@ -1,5 +1,6 @@
 -- What public contracts rest on.
 pub mod Able
 pub mod Posts
+pub mod Meetings
 -- Internal: the threads of a round.
 pub mod Turns

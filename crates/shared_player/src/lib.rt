@@ -2,12 +2,14 @@
 #![tactic(auto)]
 
 mod crew;
+mod meetings;
 mod post;
 mod starts;
 mod sweeper;
 mod turns;
 
 pub use crew::{Back, play_posts};
+pub use meetings::sweep_posts;
 pub use post::Post;
 pub use starts::{AllStart, NoShift, Starts};
 pub use sweeper::Sweeper;
