@@ -207,10 +207,17 @@ impl Sweeper<'_> {
     pub fn erase(&mut self, block: u32) -> Erase
         ensures { self.new.volume ≡ self.old.volume }
     {
+        self.erase_gated(block, &mut NoGate)
+    }
+
+    /// The same, with a gate.
+    pub fn erase_gated<G: Gate>(&mut self, block: u32, gate: &mut G) -> Erase
+        ensures { self.new.volume ≡ self.old.volume }
+    {
         if block >= self.volume.geometry().blocks() {
             return Erase::Stale;
         }
-        self.volume.erase(&mut self.broom, block, &mut NoGate)
+        self.volume.erase(&mut self.broom, block, gate)
     }
 
     pub fn drain_one(&mut self, rt: &impl Wait) -> Drain

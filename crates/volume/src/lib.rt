@@ -22,3 +22,5 @@ mod hands;
 mod rows;
 #[cfg(test)]
 mod schedules;
+#[cfg(test)]
+mod tests;

@@ -1,0 +1,3 @@
+//! Tests of hosts and brooms together.
+mod gates;
+mod swept_crowd;
