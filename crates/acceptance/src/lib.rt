@@ -11,4 +11,6 @@ mod geometries;
 #[cfg(test)]
 mod layers;
 #[cfg(test)]
+mod traces;
+#[cfg(test)]
 mod words;

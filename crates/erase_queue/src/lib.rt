@@ -9,8 +9,3 @@ mod sight;
 pub use pass::QueuePass;
 pub use queue::EraseQueue;
 pub use sight::{Role, Sight};
-
-#[cfg(test)]
-mod crowds;
-#[cfg(test)]
-mod rows;

@@ -11,8 +11,6 @@ mod loading;
 mod page;
 mod parsing;
 mod rows;
-#[cfg(test)]
-mod tests;
 mod watched;
 
 pub use commands::{Command, CommandIter, Commands, Op};

@@ -4,5 +4,4 @@ pub mod Answered
 pub mod Looks
 pub mod Sweeps
 pub mod Ends
-pub mod Callers
 pub mod Queued

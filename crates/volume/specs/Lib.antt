@@ -7,5 +7,3 @@ pub mod Closing
 -- Internal: the parts of an open and of a close.
 pub mod Opening
 pub mod Gathering
--- Internal: what a struct of the tests keeps.
-pub mod Kept

@@ -7,20 +7,3 @@ mod volume;
 
 pub use closing::Closed;
 pub use volume::Volume;
-
-#[cfg(test)]
-mod caller;
-#[cfg(test)]
-mod crowds;
-#[cfg(test)]
-mod drains;
-#[cfg(test)]
-mod erases;
-#[cfg(test)]
-mod hands;
-#[cfg(test)]
-mod rows;
-#[cfg(test)]
-mod schedules;
-#[cfg(test)]
-mod tests;

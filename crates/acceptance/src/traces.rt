@@ -1,0 +1,522 @@
+use geometry::Geometry;
+use std::alloc::Global;
+use std::io;
+use std::io::{Read, Write};
+use std::test::Fail;
+use trace::{Commands, Op, TraceFault, TraceFaultKind, Watched, load, parse};
+
+// 3 blocks of 2 pages of 8 bytes, 3 sectors, one thread.
+fn small() -> Result<Geometry, Fail> {
+    Ok(Geometry::new(1, 3, 2, 1, 3, 10, 0, 0)?)
+}
+
+fn commands(alloc: Global, text: &[u8]) -> Result<Commands, Fail> {
+    Ok(parse(alloc, text, &small()?)?)
+}
+
+fn first_fault(alloc: Global, text: &[u8]) -> Result<Option<TraceFault>, Fail> {
+    Ok(parse(alloc, text, &small()?).err())
+}
+
+fn at(line: u64, kind: TraceFaultKind) -> Option<TraceFault> {
+    Some(TraceFault { line, kind })
+}
+
+#[test]
+fn each_faulty_record_has_its_fault(rt: HostRuntime) -> Result<(), Fail> {
+    use TraceFaultKind as kind;
+    for (name, text, fault) in [
+        ("three fields", "0,read,2", kind::Fields),
+        ("five fields", "0,read,2,,", kind::Fields),
+        (
+            "an open quote in the fifth field",
+            "0,read,2,,\"",
+            kind::Fields,
+        ),
+        ("a quoted comma", "\"0,read\",0,", kind::Fields),
+        (
+            "a quoted line end",
+            "\"0,read,0,\n0,read,0,\n",
+            kind::Fields,
+        ),
+        ("commas behind two quotes", "\"\",,,,,,", kind::Fields),
+        ("a worker too large", "500,read,0,", kind::Worker),
+        ("a worker that is no number", "x,read,0,", kind::Worker),
+        ("a space before the worker", " 0,read,0,", kind::Worker),
+        ("eight digits", "00000000,read,0,", kind::Worker),
+        ("an op in upper case", "0,READ,0,", kind::Op),
+        ("a quote within an op", "0,re\"ad,0,", kind::Op),
+        ("a sector with a sign", "0,read,-1,", kind::Sector),
+        ("a sector too large", "0,read,3,", kind::Sector),
+        ("an odd number of digits", "0,write,0,4", kind::Hex),
+        ("no hexadecimal digit", "0,write,0,4g", kind::Hex),
+        ("18 digits", "0,write,0,010203040506070809", kind::TooLong),
+        ("15 digits", "0,write,0,010203040506070", kind::Hex),
+        ("data of a read", "0,read,0,41", kind::Unused),
+        ("data of a trim", "0,trim,0,41", kind::Unused),
+        ("the worker of a meet", "1,meet,0,", kind::Unused),
+        ("the sector of a meet", "0,meet,1,", kind::Unused),
+        ("a quote that isn't closed", "\"0,read,0,", kind::Fields),
+    ] {
+        assert_eq!(rt;
+            first_fault(rt.alloc(), text.as_bytes())?,
+            at(1, fault),
+            "{name}"
+        );
+    }
+    Ok(())
+}
+
+#[test]
+fn accepted_records_are_commands(rt: HostRuntime) -> Result<(), Fail> {
+    for (name, text, op, sector, page) in [
+        (
+            "leading zeros and a quoted op",
+            "007,\"read\",002,",
+            Op::Read,
+            2,
+            b"".as_slice(),
+        ),
+        (
+            "both cases of digits",
+            "7,write,0,aBcD",
+            Op::Write,
+            0,
+            b"\xab\xcd\0\0\0\0\0\0".as_slice(),
+        ),
+        (
+            "a write of nothing",
+            "7,write,1,",
+            Op::Write,
+            1,
+            b"\0\0\0\0\0\0\0\0".as_slice(),
+        ),
+        (
+            "16 digits",
+            "7,write,1,0102030405060708",
+            Op::Write,
+            1,
+            b"\x01\x02\x03\x04\x05\x06\x07\x08".as_slice(),
+        ),
+        ("a trim", "7,trim,0,", Op::Trim, 0, b"".as_slice()),
+        (
+            "numbers of seven digits",
+            "0000007,trim,0000002,",
+            Op::Trim,
+            2,
+            b"".as_slice(),
+        ),
+        (
+            "digits behind their quotes",
+            "\"7\",\"write\",\"0\",\"41\"42",
+            Op::Write,
+            0,
+            b"AB\0\0\0\0\0\0".as_slice(),
+        ),
+        (
+            "a quote that the text's end closes",
+            "7,write,0,\"41",
+            Op::Write,
+            0,
+            b"A\0\0\0\0\0\0\0".as_slice(),
+        ),
+    ] {
+        let commands = commands(rt.alloc(), text.as_bytes())?;
+        assert_eq!(rt; commands.len(), 1, "{name}");
+        let command = commands.command(0);
+        assert_eq!(rt; command.worker, 7, "{name}");
+        assert_eq!(rt; command.op, op, "{name}");
+        assert_eq!(rt; command.sector, sector, "{name}");
+        let mut bytes = [0xffu8; 8];
+        let len = command.page.len();
+        assert_eq!(rt; len, page.len(), "{name}");
+        assert_eq!(rt; command.page.is_empty(), page.is_empty(), "{name}");
+        if len == 8 {
+            command.page.copy_into(&mut bytes);
+            assert_eq!(rt; bytes.as_slice(), page, "{name}");
+        }
+    }
+    Ok(())
+}
+
+#[test]
+fn records_end_as_csv_says(rt: HostRuntime) -> Result<(), Fail> {
+    for (name, text, count) in [
+        ("no byte", "", 0),
+        ("empty lines alone", "\n\r\n\n", 0),
+        ("no line end", "0,read,0,", 1),
+        ("LF", "0,read,0,\n0,read,1,\n", 2),
+        ("CRLF", "0,read,0,\r\n0,read,1,\r\n", 2),
+        ("CR alone", "0,read,0,\r0,read,1,\r", 2),
+        ("empty lines between", "\n0,read,0,\n\n\n0,read,1,", 2),
+        ("a byte order mark", "\u{feff}0,read,0,\n", 1),
+        (
+            "a mark before a quote",
+            "\u{feff}\"0\",read,0,\n0,read,1,\n",
+            2,
+        ),
+        (
+            "a quoted line end is none",
+            "0,write,0,\"\"\n0,trim,0,\"\"\n",
+            2,
+        ),
+    ] {
+        assert_eq!(rt;
+            commands(rt.alloc(), text.as_bytes())?.len(),
+            count,
+            "{name}"
+        );
+    }
+    Ok(())
+}
+
+#[test]
+fn the_first_faulty_record_is_answered_by_its_number(rt: HostRuntime) -> Result<(), Fail> {
+    use TraceFaultKind as kind;
+    for (name, text, fault) in [
+        (
+            "an empty line is no record",
+            "0,read,0,\n\n0,read,9,\n",
+            at(2, kind::Sector),
+        ),
+        (
+            "two faulty records",
+            "0,read,0,\n0,read,1\n0,READ,0,\n",
+            at(2, kind::Fields),
+        ),
+        ("two faults of a record", "0,READ,9,4", at(1, kind::Op)),
+        (
+            "a mark on the second line",
+            "0,read,0,\n\u{feff}0,read,0,\n",
+            at(2, kind::Worker),
+        ),
+        (
+            "a mark behind a quoted record",
+            "0,\"read\",0,\n\u{feff}0,read,0,\n",
+            at(2, kind::Worker),
+        ),
+        (
+            "five fields behind a quoted record",
+            "0,\"read\",0,\n0,read,0,,\n",
+            at(2, kind::Fields),
+        ),
+        (
+            "a quoted record behind a plain one",
+            "0,read,0,\n0,\"read\",3,\n",
+            at(2, kind::Sector),
+        ),
+        ("a doubled quote", "0,\"re\"\"ad\",0,\n", at(1, kind::Op)),
+    ] {
+        assert_eq!(rt; first_fault(rt.alloc(), text.as_bytes())?, fault, "{name}");
+    }
+    Ok(())
+}
+
+#[test]
+fn each_beginning_of_a_line_has_its_answer(rt: HostRuntime) -> Result<(), Fail> {
+    use TraceFaultKind as kind;
+    let line = b"0,write,0,41\n";
+    for k in 0..=13 {
+        let answer = match k {
+            0 | 10 | 12 | 13 => None,
+            11 => at(1, kind::Hex),
+            _ => at(1, kind::Fields),
+        };
+        assert_eq!(rt; first_fault(rt.alloc(), &line[..k])?, answer, "{k}");
+    }
+    Ok(())
+}
+
+#[test]
+fn bytes_that_are_no_text_fail_their_check(rt: HostRuntime) -> Result<(), Fail> {
+    use TraceFaultKind as kind;
+    for (text, fault) in [
+        (b"\xff,read,0,".as_slice(), kind::Worker),
+        (b"0,\xff,0,".as_slice(), kind::Op),
+        (b"0,read,\xff,".as_slice(), kind::Sector),
+        (b"0,write,0,\xff\xff".as_slice(), kind::Hex),
+        (b"0,read,0,\xff\xff".as_slice(), kind::Unused),
+    ] {
+        assert_eq!(rt; first_fault(rt.alloc(), text)?, at(1, fault), "{fault}");
+    }
+    Ok(())
+}
+
+#[test]
+fn long_data_is_too_long_or_no_digits(rt: HostRuntime) -> Result<(), Fail> {
+    let mut text = Vec::from_slice(rt.alloc(), b"0,write,0,")?;
+    for _ in 0..100_000 {
+        text.push(b'0')?;
+    }
+    assert_eq!(rt;
+        first_fault(rt.alloc(), text.as_slice())?,
+        at(1, TraceFaultKind::TooLong)
+    );
+    text.push(b'0')?;
+    assert_eq!(rt;
+        first_fault(rt.alloc(), text.as_slice())?,
+        at(1, TraceFaultKind::Hex)
+    );
+    Ok(())
+}
+
+#[test]
+fn numbers_end_at_their_limits(rt: HostRuntime) -> Result<(), Fail> {
+    use TraceFaultKind as kind;
+    let largest = Geometry::new(1, 4096, 1024, 1, 1_048_576, 10, 0, 0)?;
+    for (text, fault) in [
+        ("499,read,0,", None),
+        ("500,read,0,", at(1, kind::Worker)),
+        ("0000499,read,0,", None),
+        ("00000499,read,0,", at(1, kind::Worker)),
+        ("0,read,1048575,", None),
+        ("0,read,1048576,", at(1, kind::Sector)),
+        ("0,read,01048575,", at(1, kind::Sector)),
+    ] {
+        let found = parse(rt.alloc(), text.as_bytes(), &largest).err();
+        assert_eq!(rt; found, fault, "{text}");
+    }
+    Ok(())
+}
+
+#[test]
+fn a_worker_is_below_the_number_of_hosts(rt: HostRuntime) -> Result<(), Fail> {
+    let shared = Geometry::new(1, 5, 2, 1, 2, 10, 2, 1)?;
+    assert_eq!(rt; parse(rt.alloc(), b"1,read,0,", &shared)?.len(), 1);
+    assert_eq!(rt;
+        parse(rt.alloc(), b"2,read,0,", &shared).err(),
+        at(1, TraceFaultKind::Worker)
+    );
+    Ok(())
+}
+
+#[test]
+fn commands_come_in_order(rt: HostRuntime) -> Result<(), Fail> {
+    let commands = commands(rt.alloc(), b"0,write,2,41\n0,meet,0,\n0,read,1,\n")?;
+    assert!(rt; !commands.is_empty());
+    let mut names = Vec::new(rt.alloc());
+    for command in commands.iter() {
+        names.extend_from_slice(command.op.name().as_bytes())?;
+    }
+    assert_eq!(rt; names.as_slice(), b"writemeetread".as_slice());
+    Ok(())
+}
+
+#[test]
+fn a_fault_prints_its_line_and_kind(rt: HostRuntime) -> Result<(), Fail> {
+    let fault = first_fault(rt.alloc(), b"0,read,0,\n0,read,3,\n")?.ok_or("no fault")?;
+    assert_eq!(rt;
+        format!(in rt.alloc(); "{fault}")?.as_str(),
+        "line 2: Sector"
+    );
+    Ok(())
+}
+
+// Gives a text in pieces of so many bytes, and then fails at a place, if it has one.
+#[derive(Drop)]
+struct Pieces<'a> {
+    rest: &'a [u8],
+    size: usize,
+    fails_at: Option<usize>,
+}
+
+impl Read for Pieces<'_> {
+    fn read(&mut self, buf: &mut [u8]) -> io::Result<usize> {
+        if self.fails_at == Some(self.rest.len()) {
+            return Err(io::Error::from(io::ErrorKind::Interrupted));
+        }
+        let count = self.rest.len().min(self.size).min(buf.len());
+        let (front, rest) = self.rest.split_at(count);
+        buf[..count].copy_from_slice(front);
+        self.rest = rest;
+        Ok(count)
+    }
+}
+
+// Line ends without an end.
+#[derive(Drop)]
+struct Endless;
+
+impl Read for Endless {
+    fn read(&mut self, buf: &mut [u8]) -> io::Result<usize> {
+        buf.fill(b'\n');
+        Ok(buf.len())
+    }
+}
+
+#[test]
+fn a_trace_is_read_to_its_end(rt: HostRuntime) -> Result<(), Fail> {
+    let text = b"0,write,0,41\n0,read,0,\n";
+    for size in [1, 5, 100] {
+        let mut reader = Watched::new(Pieces {
+            rest: text,
+            size,
+            fails_at: None,
+        });
+        assert_eq!(rt; load(rt.alloc(), &mut reader)?.as_slice(), text.as_slice());
+        assert_eq!(rt; reader.failures(), 0);
+        assert_eq!(rt; reader.into_inner().rest.len(), 0);
+    }
+    Ok(())
+}
+
+// So many writes of a page, and then one of its first byte.
+fn long_trace(alloc: Global, line: &[u8], lines: usize) -> Result<Vec<u8>, Fail> {
+    let mut text = Vec::new(alloc);
+    for _ in 0..lines {
+        text.extend_from_slice(line)?;
+    }
+    text.extend_from_slice(b"0,write,1,09")?;
+    Ok(text)
+}
+
+#[test]
+fn a_trace_of_100000_lines_is_loaded_and_parsed(rt: HostRuntime) -> Result<(), Fail> {
+    let plain = b"499,write,2,0102030405060708\n".as_slice();
+    let quoted = b"499,\"write\",2,0102030405060708\n".as_slice();
+    for (line, size) in [(plain, 1), (quoted, 20_000)] {
+        let text = long_trace(rt.alloc(), line, 99_999)?;
+        assert!(rt; text.len() > 1 << 20);
+        let mut reader = Watched::new(Pieces {
+            rest: text.as_slice(),
+            size,
+            fails_at: None,
+        });
+        let loaded = load(rt.alloc(), &mut reader)?;
+        assert!(rt; loaded.as_slice() == text.as_slice());
+        assert_eq!(rt; reader.failures(), 0);
+        let commands = commands(rt.alloc(), loaded.as_slice())?;
+        assert_eq!(rt; commands.len(), 100_000);
+        for (i, byte) in [(99_998, 1), (99_999, 9)] {
+            let page = commands.command(i).page;
+            let mut bytes = [0u8; 8];
+            assert_eq!(rt; page.len(), 8);
+            page.copy_into(&mut bytes);
+            assert_eq!(rt; bytes[0], byte);
+        }
+    }
+    Ok(())
+}
+
+#[test]
+fn the_fault_of_line_100001_is_told(rt: HostRuntime) -> Result<(), Fail> {
+    let mut text = long_trace(rt.alloc(), b"0,read,0,\n", 99_999)?;
+    text.extend_from_slice(b"\n0,read,3,")?;
+    assert_eq!(rt;
+        first_fault(rt.alloc(), text.as_slice())?,
+        at(100_001, TraceFaultKind::Sector)
+    );
+    Ok(())
+}
+
+#[test]
+fn ten_million_commas_are_a_record_of_too_many_fields(rt: HostRuntime) -> Result<(), Fail> {
+    for front in ["", "\"\"", "0,\"read\",0,\n"] {
+        let mut text = Vec::from_slice(rt.alloc(), front.as_bytes())?;
+        let start = text.len();
+        text.resize(start + 10_000_000, b',')?;
+        let line = if front.len() > 2 { 2 } else { 1 };
+        assert_eq!(rt;
+            first_fault(rt.alloc(), text.as_slice())?,
+            at(line, TraceFaultKind::Fields)
+        );
+    }
+    Ok(())
+}
+
+#[test]
+fn a_reader_that_fails_ends_the_load(rt: HostRuntime) -> Result<(), Fail> {
+    let mut reader = Watched::new(Pieces {
+        rest: b"0,write,0,41\n",
+        size: 3,
+        fails_at: Some(4),
+    });
+    assert_eq!(rt;
+        load(rt.alloc(), &mut reader).err(),
+        at(0, TraceFaultKind::Read)
+    );
+    assert_eq!(rt; reader.failures(), 1);
+    Ok(())
+}
+
+#[test]
+fn a_trace_without_end_is_big(rt: HostRuntime) {
+    let mut reader = Watched::new(Endless);
+    assert_eq!(rt;
+        load(rt.alloc(), &mut reader).err(),
+        at(0, TraceFaultKind::Big)
+    );
+    assert_eq!(rt; reader.failures(), 0);
+}
+
+// Takes so many bytes, and then nothing; its flush fails.
+#[derive(Drop)]
+struct Full {
+    room: usize,
+}
+
+impl Write for Full {
+    fn write(&mut self, buf: &[u8]) -> io::Result<usize> {
+        let count = self.room.min(buf.len());
+        self.room -= count;
+        Ok(count)
+    }
+
+    fn flush(&mut self) -> io::Result<()> {
+        Err(io::Error::from(io::ErrorKind::BrokenPipe))
+    }
+}
+
+#[test]
+fn a_write_that_takes_nothing_is_a_failure(rt: HostRuntime) -> Result<(), Fail> {
+    let mut writer = Watched::new(Full { room: 3 });
+    assert_eq!(rt; writer.write(b"")?, 0);
+    assert_eq!(rt; writer.write(b"four")?, 3);
+    assert_eq!(rt; writer.failures(), 0);
+    assert_eq!(rt; writer.write(b"r")?, 0);
+    assert_eq!(rt; writer.failures(), 1);
+    assert!(rt; writer.flush().is_err());
+    assert_eq!(rt; writer.failures(), 2);
+    Ok(())
+}
+
+// Reads and writes all that it is asked to, and counts its flushes.
+#[derive(Drop)]
+struct Steady {
+    flushes: u64,
+}
+
+impl Read for Steady {
+    fn read(&mut self, buf: &mut [u8]) -> io::Result<usize> {
+        buf.fill(7);
+        Ok(buf.len())
+    }
+}
+
+impl Write for Steady {
+    fn write(&mut self, buf: &[u8]) -> io::Result<usize> {
+        Ok(buf.len())
+    }
+
+    fn flush(&mut self) -> io::Result<()> {
+        self.flushes = self.flushes.wrapping_add(1);
+        Ok(())
+    }
+}
+
+#[test]
+fn what_never_fails_has_no_failure(rt: HostRuntime) -> Result<(), Fail> {
+    let mut watched = Watched::new(Steady { flushes: 0 });
+    let mut bytes = Vec::new(rt.alloc());
+    for size in [1, 2, 511, 4_096, 65_536, 80_000] {
+        bytes.resize(size, 0)?;
+        assert_eq!(rt; watched.read(bytes.as_mut_slice())?, size);
+        assert_eq!(rt; bytes.as_slice().first(), Some(&7));
+        assert_eq!(rt; watched.write(bytes.as_slice())?, size);
+        watched.flush()?;
+    }
+    assert_eq!(rt; watched.failures(), 0);
+    assert_eq!(rt; watched.inner().flushes, 6);
+    assert_eq!(rt; watched.into_inner().flushes, 6);
+    Ok(())
+}

@@ -1,0 +1,26 @@
+//! Tests of the shared device's public calls: rows, schedules, and crowds in real threads. They stand in a crate of
+//! their own, since a crate with tests is proved twice.
+#![tactic(auto)]
+
+#[cfg(test)]
+mod caller;
+#[cfg(test)]
+mod crowds;
+#[cfg(test)]
+mod drains;
+#[cfg(test)]
+mod erases;
+#[cfg(test)]
+mod gates;
+#[cfg(test)]
+mod hands;
+#[cfg(test)]
+mod queue_crowds;
+#[cfg(test)]
+mod queue_rows;
+#[cfg(test)]
+mod rows;
+#[cfg(test)]
+mod schedules;
+#[cfg(test)]
+mod swept_crowd;

@@ -1,3 +1,0 @@
-//! Tests of hosts and brooms together.
-mod gates;
-mod swept_crowd;
