@@ -3,6 +3,7 @@ use Rattle.std.proofs.Common.{◌≡◌, ℕ, Bool, ◌++◌, List, [], ◌∷�
 use Rattle.std.specs.Prelude.{Result, Ok, Err, IfOk, OnErr}
 use Rattle.std.specs.Result.{is_ok}
 use Rattle.geometry.proofs.Histories.{Begins-refl, Begins-trans}
+use Rattle.geometry.specs.History.{Begins, Write}
 use Rattle.geometry.specs.declared.answer.Was.{Was}
 use Rattle.flash_rule.specs.declared.facts.Name.TheVariants.{Pass as APass}
 use Rattle.flash_rule.specs.declared.facts.Role.TheVariants.{Player}
