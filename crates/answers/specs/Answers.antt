@@ -20,6 +20,7 @@ call_by op.Write s value = Some (Write 0 s value)
 call_by op.Trim s value = Some (Trim 0 s)
 call_by op.Meet s value = None
 
+-- the call by which a command may change the array, if it may
 abbrev pub call_of : Command → Option Call
 call_of command = call_by command.op command.sector command.page
 
@@ -75,6 +76,7 @@ answers refusal sectors refused commands = lines_before refusal sectors refused 
 abbrev pub wear_names : List ℕ
 wear_names = codes "block,erases,live,retired\n"
 
+-- a line of the wear: a block with its erases, its live pages, and 1 where it is retired
 abbrev pub wear_line : ℕ → ℕ → ℕ → Bool → List ℕ
 wear_line block erases live retired =
     decimal block ++ codes "," ++ decimal erases ++ codes "," ++ decimal live ++ codes "," ++ decimal (if retired then 1 else 0) ++ codes "\n"

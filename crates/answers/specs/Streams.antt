@@ -3,6 +3,7 @@ use Rattle.std.specs.Prelude.{ℕ, List, Option}
 use Rattle.trace.specs.Watched.{failures_of, inner_of}
 use Rattle.trace.specs.declared.watched.Watched.{Watched}
 
+-- What a clause sees of a watched reader or writer: how many of its calls failed, and its bytes, where they are known
 pub record Stream : Type 0 where
   pub failures : ℕ
   -- what a reader has left, or what a writer holds, where that is known

@@ -48,7 +48,7 @@ pub record IsRested (f : Flash) (s : BroomSeat) : Type 0 where
   pub whole : (broom_view s).whole ≡ true
   pub alone : (broom_view s).guest ≡ None
 
--- And the broom has the room for a survey
+-- A broom between two calls: its seat is at rest, and it has the room for a survey
 pub record IsReady (f : Flash) (b : Broom) : Type 0 where
   pub rested : IsRested f b.seat
   pub states : length b.states.items ≡ blocks_of (geometry_of f)

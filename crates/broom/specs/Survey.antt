@@ -52,6 +52,7 @@ live_pages x b = count_by (lies_in b (generation_in x.states b)) x.pages
 abbrev pub counts_of : Survey → List ℕ
 counts_of x = map (live_pages x) (range_with_len 0 (length x.states))
 
+-- whether a block was loaded as closed
 abbrev pub is_closed : Phase → Bool
 is_closed Free = false
 is_closed Open = false

@@ -41,7 +41,7 @@ impl Broom {
     ghost use Rattle.broom.specs.Ready.{IsRested, IsReady, view_of, blocks_of_broom};
     ghost use Rattle.broom.specs.Handing.{place_of, aside_of};
 
-    /// A broom with the room for its surveys of a device of this geometry, and nothing set aside. `Err` is want of memory, and gives the
+    /// A broom with the room for its surveys of a device of this geometry, and nothing set aside. `Err` is out of memory, and gives the
     /// seat and the place back.
     pub fn new(
         alloc: Global,

@@ -69,7 +69,7 @@ pub fn retire_broom(flash: &Flash, broom: Broom) -> Folded
     }
 }
 
-/// Gives up the seat of a broom that could not be made, for want of memory.
+/// Gives up the seat of a broom that could not be made, since memory ran out.
 pub fn fold_seat(flash: &Flash, seat: BroomSeat) -> RetiredBroom
     requires { IsRested flash.now seat }
     ensures { retired_broom_view result ≡ closed_broom (broom_view seat) (own_blocks seat) }

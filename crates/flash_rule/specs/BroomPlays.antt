@@ -37,6 +37,7 @@ pub record Named (v : View) (s n : ℕ) (w : View) : Type 0 where
   pub others : ((x : Source) → v.source ≡ Some x → ¬ (x.stamp ≡ s)) → (w.source ≡ v.source) × (w.cleared ≡ v.cleared)
   pub met : (c : Carried) → v.copy ≡ Some c → Met w c
 
+-- what a look tells a broom
 abbrev pub broom_look_told : Step (Unit {0}) → Sitter → ℕ → Sitter → Type 0
 broom_look_told st me n after = (after.1 ≡ me.1) × Named me.0 st.word n after.0
 
@@ -51,10 +52,12 @@ pub record CanGetStamp (v : View) (o : Owned) : Type 0 where
 abbrev pub victim_page : View → Owned → MapWord
 victim_page v o = record { generation = o.generation; block = o.block; page = v.cleared }
 
+-- A stamp that is a sector is now that of the source; any other stamp tells that the page is dead
 pub record GotStamp (v : View) (o : Owned) (n : ℕ) (w : View) : Type 0 where
   pub sector : n < v.numbers.sectors → w ≡ record v { source = Some (record { page = victim_page v o; stamp = n; value = None }) }
   pub dead : v.numbers.sectors ≤ n → w ≡ record v { source = None; cleared = v.cleared + 1 }
 
+-- what loading the stamp of the next page tells a broom
 abbrev pub stamp_told : Step (Unit {0}) → Sitter → ℕ → Sitter → Type 0
 stamp_told st me n after =
     (after.1 ≡ me.1)
@@ -84,6 +87,7 @@ pub record Moved (v : View) (x : Source) (n : ℕ) (w : View) : Type 0 where
   pub failed : ¬ (n ≡ map_word x.page) → w.moves ≡ v.moves
   pub met : (c : Carried) → v.copy ≡ Some c → Met w c
 
+-- what an exchange of a map word tells a broom
 abbrev pub move_told : Step (Unit {0}) → Sitter → ℕ → Sitter → Type 0
 move_told st me n after =
     (after.1 ≡ me.1)
@@ -102,6 +106,7 @@ pub record Loaded (v : View) (b n : ℕ) (w : View) : Type 0 where
   pub busy : state.phase ≡ Drained → 0 < state.readers → w ≡ record v { loaded = v.loaded ++ (b, n) ∷ []; busy = v.busy ++ b ∷ [] }
   pub stale : ¬ (state.phase ≡ Drained) → w ≡ record v { loaded = v.loaded ++ (b, n) ∷ []; stale = v.stale ++ b ∷ [] }
 
+-- what loading a block's state tells a broom
 abbrev pub state_told : Step (Unit {0}) → Sitter → ℕ → Sitter → Type 0
 state_told st me n after = (after.1 ≡ me.1) × ((b : ℕ) → b < me.0.numbers.blocks → st.word ≡ pin_index me.0.numbers b → Loaded me.0 b n after.0)
 
@@ -139,6 +144,7 @@ pub record Claimed (v : View) (b : ℕ) (p : PinWord) (n : ℕ) (w : View) : Typ
   pub won : n ≡ pin_word p → w ≡ record v { owns = with_owned (owned_as b p Victim) v.owns; cleared = 0 }
   pub lost : ¬ (n ≡ pin_word p) → w ≡ record v { lost = v.lost ++ b ∷ [] }
 
+-- what a claim tells a broom
 abbrev pub claim_told : Step (Unit {0}) → Sitter → ℕ → Sitter → Type 0
 claim_told st me n after =
     (after.1 ≡ me.1)
@@ -160,6 +166,7 @@ pub record Condemned (v : View) (b : ℕ) (p : PinWord) (n : ℕ) (w : View) : T
   pub won : n ≡ pin_word p → w ≡ record v { owns = with_owned (owned_as b p Erasing) v.owns; erases = v.erases ++ cycle_of (owned_as b p Erasing) ∷ []; wiped = 0 }
   pub busy : ¬ (n ≡ pin_word p) → w ≡ record v { busy = v.busy ++ b ∷ [] }
 
+-- what a condemn tells a broom
 abbrev pub condemn_told : Step (Unit {0}) → Sitter → ℕ → Sitter → Type 0
 condemn_told st me n after =
     (after.1 ≡ me.1)
@@ -171,6 +178,7 @@ pub record CanDrain (v : View) (o : Owned) : Type 0 where
   pub victim : o.phase ≡ Victim
   pub cleared : o.written ≤ v.cleared
 
+-- what a drain tells a broom
 abbrev pub drain_told : Step (Unit {0}) → Sitter → ℕ → Sitter → Type 0
 drain_told st me n after =
     (after.1 ≡ me.1)
@@ -194,6 +202,7 @@ pub record CanWipe (v : View) (o : Owned) : Type 0 where
 abbrev pub wiper : View → View
 wiper v = record v { wiped = v.wiped + 1 }
 
+-- what wiping one word tells a broom
 abbrev pub wipe_told : Step (Unit {0}) → Sitter → ℕ → Sitter → Type 0
 wipe_told st me n after =
     (after.1 ≡ me.1)

@@ -56,6 +56,7 @@ pub record IsSameTurn (o e : Owned) : Type 0 where
   pub phase : o.phase ≡ e.phase
   pub generation : o.generation ≡ e.generation
 
+-- the phase of a drained block
 abbrev pub is_drained : Phase → Bool
 is_drained Free = false
 is_drained Open = false

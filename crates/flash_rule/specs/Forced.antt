@@ -64,33 +64,37 @@ abbrev pub CountAdds : Type 0
 CountAdds = AtEach (λ z slots id me x y. (o : Owned) (work : Work) → CanCount me.0 o work
     → Forces z slots id me (pin_index z o.block) (plus PAGE_WRITTEN) (count_told (step slots (pin_index z o.block) x y none) me))
 
--- A close, a drain and a retirement each add one phase, and nothing to the pages written or to the generation
+-- A close adds one phase, and nothing to the pages written or to the generation
 abbrev pub CloseAdds : Type 0
 CloseAdds = AtEach (λ z slots id me x y. (o : Owned) → CanClose me.0 o
     → Forces z slots id me (pin_index z o.block) (plus NEXT_PHASE) (close_told (step slots (pin_index z o.block) x y none) me))
 
+-- A drain adds one phase
 abbrev pub DrainAdds : Type 0
 DrainAdds = AtEach (λ z slots id me x y. (o : Owned) → CanDrain me.0 o
     → Forces z slots id me (pin_index z o.block) (plus NEXT_PHASE) (drain_told (step slots (pin_index z o.block) x y none) me))
 
+-- A retirement adds one phase
 abbrev pub RetireAdds : Type 0
 RetireAdds = AtEach (λ z slots id me x y. (o : Owned) → CanRetire me.0 o
     → Forces z slots id me (pin_index z o.block) (plus NEXT_PHASE) (retired_told (step slots (pin_index z o.block) x y none) me))
 
--- A claim and a condemn exchange the state expected for the next phase, and leave any other word, whatever new word is given
+-- A claim exchanges the state expected for the next phase, and leaves any other word, whatever new word is given
 abbrev pub ClaimExchanges : Type 0
 ClaimExchanges = AtEach (λ z slots id me _ y. (b : ℕ) (p : PinWord) → is_broom me.0.role ≡ true → CanClaim me.0 b p
     → Forces z slots id me (pin_index z b) (to_next_phase p) (claim_told (step slots (pin_index z b) (pin_word p) y none) me))
 
+-- A condemn exchanges the state expected for the next phase, and leaves any other word, whatever new word is given
 abbrev pub CondemnExchanges : Type 0
 CondemnExchanges = AtEach (λ z slots id me _ y. (b : ℕ) (p : PinWord) → is_broom me.0.role ≡ true → CanCondemn me.0 b p
     → Forces z slots id me (pin_index z b) (to_next_phase p) (condemn_told (step slots (pin_index z b) (pin_word p) y none) me))
 
--- A wiped block is freed or kept by adding a generation, with no page written; its readers stay
+-- A wiped block is freed by adding a generation, with no page written; its readers stay
 abbrev pub FreeAdds : Type 0
 FreeAdds = AtEach (λ z slots id me x y. (o : Owned) → CanRenew me.0 o
     → Forces z slots id me (pin_index z o.block) (plus (freed_added o.written)) (freed_told (step slots (pin_index z o.block) x y none) me))
 
+-- A wiped block is kept by adding a generation and the phase of an open block, with no page written; its readers stay
 abbrev pub KeepAdds : Type 0
 KeepAdds = AtEach (λ z slots id me x y. (o : Owned) → CanRenew me.0 o
     → Forces z slots id me (pin_index z o.block) (plus (kept_added o.written)) (kept_told (step slots (pin_index z o.block) x y none) me))

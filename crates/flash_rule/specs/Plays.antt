@@ -65,6 +65,7 @@ pub record Looked (v : View) (s n : ℕ) (w : View) : Type 0 where
   pub bounded : sum_of w.known ≤ v.numbers.blocks * (2 * v.numbers.endurance)
   pub met : (c : Carried) → v.copy ≡ Some c → Met w c
 
+-- what a look tells a pass
 abbrev pub look_told : Step (Unit {0}) → Sitter → ℕ → Sitter → Type 0
 look_told st me n after = (after.1 ≡ me.1) × Looked me.0 st.word n after.0
 
@@ -91,11 +92,13 @@ pub record CanPlace (v : View) (s : ℕ) (m : MapWord) (value : List ℕ) : Type
   pub words : (i : ℕ) → i < v.numbers.words → slice_index work.words i ≡ data_word value i
   pub stamp : slice_index work.words v.numbers.words ≡ s
 
+-- what the swap of a write tells a pass
 abbrev pub write_told : Step (Unit {0}) → Sitter → ℕ → Sitter → Type 0
 write_told st me n after =
     (after.1 ≡ me.1)
     × ((t : ℕ) (m : MapWord) (value : List ℕ) → me.0.role ≡ Player (Pass t) → st.first ≡ map_word m → FitsMap m → CanPlace me.0 st.word m value → Placed me.0 (Write t st.word value) st.word n after.0)
 
+-- what the swap of a trim tells a pass
 abbrev pub trim_told : Step (Unit {0}) → Sitter → ℕ → Sitter → Type 0
 trim_told st me n after = (after.1 ≡ me.1) × ((t : ℕ) → me.0.role ≡ Player (Pass t) → Placed me.0 (Trim t st.word) st.word n after.0)
 
@@ -108,6 +111,7 @@ pub record Took (v : View) (b n : ℕ) (w : View) : Type 0 where
   pub free : state.phase ≡ Free → w ≡ record v { taken = v.taken + 1; owns = with_owned (record { block = b; phase = Open; generation = state.generation; written = 0 }) v.owns }
   pub denied : ¬ (state.phase ≡ Free) → w ≡ record v { denied = v.denied ++ b ∷ [] }
 
+-- what a take tells a pass
 abbrev pub take_told : Step (Unit {0}) → Sitter → ℕ → Sitter → Type 0
 take_told st me n after = (after.1 ≡ me.1) × ((b : ℕ) → b < me.0.numbers.blocks → st.word ≡ pin_index me.0.numbers b → Took me.0 b n after.0)
 
@@ -136,6 +140,7 @@ pub record CanPut (v : View) (o : Owned) : Type 0 where
   pub short : length (words_in v.work o) ≤ v.numbers.words
   pub settled : SettledBut v o.block
 
+-- what storing a word of its next page tells a seat
 abbrev pub put_told : Step (Unit {0}) → Sitter → ℕ → Sitter → Type 0
 put_told st me n after =
     (after.1 ≡ me.1)
@@ -165,6 +170,7 @@ pub record CanCount (v : View) (o : Owned) (w : Work) : Type 0 where
   pub page : w.page ≡ next_page o
   pub full : length w.words ≡ v.numbers.words + 1
 
+-- what a count tells a seat
 abbrev pub count_told : Step (Unit {0}) → Sitter → ℕ → Sitter → Type 0
 count_told st me n after =
     (after.1 ≡ me.1)
@@ -177,6 +183,7 @@ pub record CanClose (v : View) (o : Owned) : Type 0 where
   pub opened : o.phase ≡ Open
   pub settled : IsSettled v
 
+-- what a close tells a seat
 abbrev pub close_told : Step (Unit {0}) → Sitter → ℕ → Sitter → Type 0
 close_told st me n after =
     (after.1 ≡ me.1)
@@ -193,6 +200,7 @@ pub record Pinned (v : View) (m : MapWord) (value : List ℕ) (n : ℕ) (w : Vie
   pub rises : sum_of v.known ≤ sum_of w.known
   pub bounded : sum_of w.known ≤ v.numbers.blocks * (2 * v.numbers.endurance)
 
+-- what a pin tells a pass
 abbrev pub pin_told : Step (Unit {0}) → Sitter → ℕ → Sitter → Type 0
 pin_told st me n after =
     (after.1 ≡ me.1) × ((m : MapWord) (value : List ℕ) → me.0.pin ≡ Candidate m value → st.word ≡ pin_index me.0.numbers m.block → Pinned me.0 m value n after.0)

@@ -83,6 +83,8 @@ pub record IsAccepted (z : Numbers) (g : World) (m : MapWord) (value : List ℕ)
   pub stands : HoldsValue z (g.pages m.block m.page) value
   pub whole : IsValue z value
 
+-- The page that a look named. Its block has reached that generation, and while it is intact in it, the page is written and holds the value; once
+-- the block has gone on, nothing is said of the page
 pub record IsCandidate (z : Numbers) (g : World) (known : List ℕ) (m : MapWord) (value : List ℕ) : Type 0 where
   pub block : m.block < z.blocks
   pub reached : m.generation ≤ (g.pins m.block).generation
@@ -91,6 +93,7 @@ pub record IsCandidate (z : Numbers) (g : World) (known : List ℕ) (m : MapWord
   pub whole : IsValue z value
   pub age : slice_index known m.block ≡ 2 * m.generation
 
+-- What holds of the page that a pass reads: nothing where it reads none, and of a stray pin that its block is one of the device
 abbrev pub LawfulPin : Numbers → World → List ℕ → Pin → Type 0
 LawfulPin z g known Clear = Unit {0}
 LawfulPin z g known (Candidate m value) = IsCandidate z g known m value
@@ -190,6 +193,7 @@ pub record LawfulHolding (z : Numbers) (g : World) (id : ℕ) (v : View) : Type 
   pub guest : (n : Name) → v.guest ≡ Some n → (g.badge n ≡ id) × IsDealt g n
   pub dealer : v.role ≡ Dealer → (id ≡ 0) × (v.passes ≡ g.passes) × (v.brooms ≡ g.brooms)
 
+-- What holds of a seat: of its kind, of what it knows, and of what is its alone
 pub record LawfulView (z : Numbers) (g : World) (id : ℕ) (v : View) : Type 0 where
   pub kind : LawfulKind z v
   pub knowledge : LawfulKnowledge z g v

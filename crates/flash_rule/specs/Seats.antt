@@ -72,6 +72,7 @@ dealer z = record (newcomer z Dealer) { owns = spares z.brooms (z.blocks - z.bro
 abbrev pub new_pass : View → View
 new_pass v = record (newcomer v.numbers (Player (Pass v.passes))) { known = replicate v.numbers.blocks 0; whole = true }
 
+-- the dealer has handed out one pass more
 abbrev pub dealt_pass : View → View
 dealt_pass v = record v { passes = v.passes + 1 }
 
@@ -83,6 +84,7 @@ next_spare v = v.numbers.blocks - v.numbers.brooms + v.brooms
 abbrev pub new_broom : View → View
 new_broom v = record (newcomer v.numbers (Player (Broom v.brooms))) { owns = spares 1 (next_spare v); whole = true }
 
+-- the dealer has handed out one broom more, and no longer owns its spare
 abbrev pub dealt_broom : View → View
 dealt_broom v = record v { brooms = v.brooms + 1; owns = without (next_spare v) v.owns }
 
@@ -107,6 +109,7 @@ carried v = record { of = name_of v.role; seen = v.seen; programs = v.programs; 
 abbrev pub lender : View → View
 lender v = record v { whole = false }
 
+-- the note that goes: it has the badge, and copies of the lists
 abbrev pub lent_note : View → View
 lent_note v = record (newcomer v.numbers Note) { guest = Some (name_of v.role); copy = Some (carried v) }
 
@@ -118,6 +121,7 @@ host_of v note = record v { guest = note.guest; copy = note.copy }
 abbrev pub giver : View → View
 giver v = record v { guest = None }
 
+-- the note that goes back: it has the other's badge, and copies of this player's lists
 abbrev pub given_note : View → View
 given_note v = record (newcomer v.numbers Note) { guest = v.guest; copy = Some (carried v) }
 

@@ -21,6 +21,7 @@ abbrev pub total : (View → ℕ) → List View → ℕ
 total f [] = 0
 total f (v ∷ vs) = f v + total f vs
 
+-- whether a seat is that of a pass
 abbrev pub is_pass : Role → Bool
 is_pass (Player (Pass t)) = true
 is_pass (Player (Broom i)) = false
@@ -28,6 +29,7 @@ is_pass Dealer = false
 is_pass Note = false
 is_pass Gone = false
 
+-- whether a seat is that of a broom
 abbrev pub is_broom : Role → Bool
 is_broom (Player (Pass t)) = false
 is_broom (Player (Broom i)) = true
@@ -35,6 +37,7 @@ is_broom Dealer = false
 is_broom Note = false
 is_broom Gone = false
 
+-- whether a seat is that of a pass or a broom
 abbrev pub is_player : Role → Bool
 is_player (Player n) = true
 is_player Dealer = false
@@ -81,6 +84,7 @@ pin_is_on b (Candidate m value) = false
 pin_is_on b (Accepted m value) = m.block == b
 pin_is_on b (Stray c) = c == b
 
+-- how many readers a seat is to a block: one where its pin is on it, and else none
 abbrev pub pins_on : ℕ → View → ℕ
 pins_on b v = one_if (pin_is_on b v.pin)
 
@@ -98,6 +102,7 @@ without b (o ∷ os) = if o.block == b then without b os else (o ∷ without b o
 abbrev pub with_owned : Owned → List Owned → List Owned
 with_owned o os = o ∷ without o.block os
 
+-- the number of the pass that makes a call
 abbrev pub caller : Call → ℕ
 caller (Write pass s v) = pass
 caller (Trim pass s) = pass

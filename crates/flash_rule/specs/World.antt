@@ -13,6 +13,7 @@ use Rattle.geometry.specs.declared.pin_word.Phase.TheVariants.{Free, Open, Close
 use Rattle.flash_rule.specs.declared.facts.Name.{Name}
 use Rattle.flash_rule.specs.Views.{same_name}
 
+-- What the words and all seats stand for at one moment: the history, the map, the states and pages of the blocks, and whose everything is
 pub record World : Type 0 where
   -- the calls so far
   pub history : List Call
@@ -39,6 +40,7 @@ pub record World : Type 0 where
 abbrev pub put : {X : Type 0} → (ℕ → X) → ℕ → X → ℕ → X
 put f k x j = if j == k then x else f j
 
+-- a function of passes and brooms with one value replaced
 abbrev pub put_name : (Name → ℕ) → Name → ℕ → Name → ℕ
 put_name f n x m = if same_name m n then x else f m
 

@@ -18,6 +18,7 @@ use Rattle.flash_table.specs.declared.broom_seat.BroomSeat.{BroomSeat}
 use Rattle.flash_table.specs.declared.broom_seat.Reclaiming.TheVariants.{Nothing}
 use Rattle.flash_table.specs.Owning.{owned_of}
 
+-- the numbers that a device was opened with
 abbrev pub geometry_of : Flash → Geometry
 geometry_of f = f.geometry
 
@@ -29,6 +30,7 @@ device f = numbers_of f.geometry
 abbrev pub view_of : Pass → View
 view_of p = p.seat.me.0
 
+-- the block that a pass writes to, if it has one open
 abbrev pub opened_of : Pass → Option OpenBlock
 opened_of p = p.opened
 
@@ -73,6 +75,7 @@ spare_of z i = z.blocks - z.brooms + i
 abbrev pub first_broom : Numbers → ℕ → View
 first_broom z i = record (newcomer z (Player (ABroom i))) { owns = spare (spare_of z i) ∷ []; whole = true }
 
+-- The blocks of a broom that has done nothing yet: its spare alone
 abbrev pub first_blocks : Numbers → ℕ → BroomBlocks
 first_blocks z i = record { destination = None; spare = Some (record { block = spare_of z i; generation = 0; written = 0 }); reclaiming = Nothing }
 

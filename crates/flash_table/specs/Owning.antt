@@ -48,6 +48,7 @@ abbrev pub AreApart : List Owned → Type 0
 AreApart [] = Unit {0}
 AreApart (o ∷ os) = (owned_at o.block os ≡ None) × AreApart os
 
+-- That no block stands twice in a row is a fact that has one proof at most
 pub AreApart-prop : (row : List Owned) → IsProp (AreApart row)
 AreApart-prop [] = hlevel props
 AreApart-prop (o ∷ os) = let rest = AreApart-prop os in hlevel (props, rest)

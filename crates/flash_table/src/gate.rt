@@ -17,7 +17,7 @@ pub enum Point {
     Answered,
 }
 
-/// It promises nothing, so that a gated call holds for whatever happens at its points.
+/// What a gated call does at its points. It promises nothing, so that a gated call holds for whatever happens at its points.
 pub trait Gate {
     fn at(&mut self, point: Point);
 }

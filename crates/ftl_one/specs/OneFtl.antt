@@ -7,6 +7,7 @@ use Rattle.ftl_one.specs.Blocks.{blocks_in}
 use Rattle.ftl_one.specs.Stock.{Stock}
 use Rattle.ftl_one.specs.Store as pages
 
+-- the numbers of a layer
 unfoldable pub geometry_of : OneFtl → Geometry
 geometry_of ftl = pages.geometry_of ftl.store
 

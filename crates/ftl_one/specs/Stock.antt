@@ -35,33 +35,40 @@ unused role = record { role = role; erases = 0; entries = [] }
 abbrev pub opening_of : ℕ → Stock
 opening_of blocks = record { blocks = replicate (blocks - 1) (unused Free) ++ unused Spare ∷ []; programs = 0; copies = 0; erases = 0 }
 
+-- whether a block of this role is erased and waits to be opened
 abbrev pub is_free : Role → Bool
 is_free Free = true
 is_free _ = false
 
+-- whether it is the one that writes go to
 abbrev pub is_open : Role → Bool
 is_open Open = true
 is_open _ = false
 
+-- whether it is full
 abbrev pub is_closed : Role → Bool
 is_closed Closed = true
 is_closed _ = false
 
+-- whether it is kept for the next collection
 abbrev pub is_spare : Role → Bool
 is_spare Spare = true
 is_spare _ = false
 
+-- whether its last erase has failed
 abbrev pub is_retired : Role → Bool
 is_retired Retired = true
 is_retired _ = false
 
--- the open block, the lowest free block, and the spare
+-- the open block, if there is one
 abbrev pub open_of : List Block → Option ℕ
 open_of blocks = position (λ block. is_open block.role) blocks
 
+-- the lowest free block, if there is one
 abbrev pub free_of : List Block → Option ℕ
 free_of blocks = position (λ block. is_free block.role) blocks
 
+-- the spare, if there is one
 abbrev pub spare_of : List Block → Option ℕ
 spare_of blocks = position (λ block. is_spare block.role) blocks
 
@@ -133,6 +140,7 @@ ready_by endurance stock None (Some b) spare = Some (opened stock b)
 ready_by endurance stock None None (Some s) = collect endurance stock s (victim_of stock.blocks)
 ready_by endurance stock None None None = None
 
+-- the stock with an open block: the one that there is, or the lowest free block, or the spare after a collection; none where there is none of these
 abbrev pub ready : ℕ → Stock → Option Stock
 ready endurance stock = ready_by endurance stock (open_of stock.blocks) (free_of stock.blocks) (spare_of stock.blocks)
 
@@ -145,6 +153,7 @@ write_into pages sector stock (Some b) =
     })
 write_into pages sector stock None = None
 
+-- a page of the sector is programmed in the open block of the stock
 abbrev pub write_of : ℕ → ℕ → Stock → Option Stock
 write_of pages sector stock = write_into pages sector stock (open_of stock.blocks)
 

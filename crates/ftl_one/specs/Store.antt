@@ -10,6 +10,7 @@ use Rattle.ftl_one.specs.declared.store.Store.{Store}
 use Rattle.ftl_one.specs.Entries.{entries_in, sectors_in, live_count}
 use Rattle.ftl_one.specs.Stock.{Entry, forgotten, live_entries}
 
+-- the numbers of the die below
 abbrev pub geometry_of : Store → Geometry
 geometry_of store = die.geometry_of store.die
 
@@ -59,6 +60,7 @@ entry_at store at = slice_index_or (entries_of store at.block) at.page (record {
 abbrev pub live_at : Store → PageAddr → Bool
 live_at store at = (entry_at store at).live
 
+-- the sector for which a page was programmed
 abbrev pub sector_of : Store → PageAddr → ℕ
 sector_of store at = (entry_at store at).sector
 

@@ -14,6 +14,7 @@ pub record Numbers : Type 0 where
   pub hosts : ℕ
   pub brooms : ℕ
 
+-- the eight numbers, given one after another
 abbrev pub numbers : ℕ → ℕ → ℕ → ℕ → ℕ → ℕ → ℕ → ℕ → Numbers
 numbers luns blocks pages words sectors endurance hosts brooms =
     record { luns = luns; blocks = blocks; pages = pages; words = words; sectors = sectors; endurance = endurance; hosts = hosts; brooms = brooms }

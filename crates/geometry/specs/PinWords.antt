@@ -38,6 +38,6 @@ pin_word p = ((p.readers + phase_bits p.phase) + p.written * PAGE_WRITTEN) + p.g
 abbrev pub freed_added : ℕ → ℕ
 freed_added written = (GENERATION - ERASING) - written * PAGE_WRITTEN
 
--- the same to make it open for the owner
+-- what is added to it to make it open for its owner, one generation on
 abbrev pub kept_added : ℕ → ℕ
 kept_added written = (GENERATION - (ERASING - OPEN)) - written * PAGE_WRITTEN

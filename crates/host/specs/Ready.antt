@@ -26,12 +26,12 @@ pub record IsRested (f : Flash) (p : Pass) : Type 0 where
   pub whole : (view_of p).whole ≡ true
   pub alone : (view_of p).guest ≡ None
 
--- And nothing is pinned
+-- A pass between two calls: it is at rest, and has nothing pinned
 pub record IsReady (f : Flash) (p : Pass) : Type 0 where
   pub rested : IsRested f p
   pub unpinned : is_unpinned (view_of p).pin ≡ true
 
--- Or it has an accepted pin on this page, which holds this value
+-- A pass that holds a page: it is at rest but for an accepted pin on this page, which holds this value
 pub record IsPinned (f : Flash) (p : Pass) (at : MapWord) (value : List ℕ) : Type 0 where
   pub rested : IsRested f p
   pub pinned : (view_of p).pin ≡ Accepted at value

@@ -28,6 +28,7 @@ with_numbers =
     (option_rule (codes "sectors") (codes "3072")))
     (option_rule (codes "endurance") (codes "1000"))
 
+-- the program's command line: eight options with numbers and the file of the wear
 abbrev pub flashplay : App
 flashplay = with_rule with_numbers (file_rule (codes "wear"))
 

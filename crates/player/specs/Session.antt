@@ -29,6 +29,7 @@ status_of_trace fault.Read = 1
 status_of_trace fault.Memory = 4
 status_of_trace _ = 3
 
+-- the exit status of a run that stopped
 abbrev pub status_of_run : RunFault → ℕ
 status_of_run (run.Trace found) = status_of_trace found.kind
 status_of_run run.Memory = 4

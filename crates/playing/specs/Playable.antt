@@ -20,7 +20,7 @@ HasPage geo answer = length answer.page.items ≡ page_bytes_of geo
 abbrev pub HasRoom : Geometry → Command → Answer → Type 0
 HasRoom geo line answer = line.op ≡ op.Read → HasPage geo answer
 
--- and so for each line and its answer
+-- there is room for what each line finds
 abbrev pub HaveRoom : Geometry → List Command → List Answer → Type 0
 HaveRoom geo lines answers = (k : ℕ) (c : Command) (a : Answer) → slice_get lines k ≡ Some c → slice_get answers k ≡ Some a → HasRoom geo c a
 

@@ -21,6 +21,7 @@ pub record Line : Type 0 where
 abbrev pub worker_of : Line → ℕ
 worker_of x = x.command.worker
 
+-- the sector that it names
 abbrev pub sector_of : Line → ℕ
 sector_of x = x.command.sector
 

@@ -27,6 +27,7 @@ abbrev pub IsKept : Flash → Holding → Type 0
 IsKept f (holding.Held h) = Holds f h (held_value h)
 IsKept f (holding.Empty p) = IsReady f p
 
+-- that this is so is a fact that has one proof at most
 pub IsKept-prop : (f : Flash) (x : Holding) → IsProp (IsKept f x)
 IsKept-prop f (holding.Held h) = hlevel props
 IsKept-prop f (holding.Empty p) = hlevel props

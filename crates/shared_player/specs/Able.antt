@@ -20,5 +20,6 @@ pub record IsAble (volume : Volume) (lines : List Command) (pass : Pass) (places
   pub room : HaveRoom (geometry_of (flash_of volume)) (lines_at lines places) answers
   pub paged : length buffer ≡ page_bytes_of (geometry_of (flash_of volume))
 
+-- That a worker is able is a fact that has one proof at most, so that a struct can keep it
 pub IsAble-prop : (volume : Volume) (lines : List Command) (pass : Pass) (places : List ℕ) (answers : List Answer) (buffer : List ℕ) → IsProp (IsAble volume lines pass places answers buffer)
 IsAble-prop volume lines pass places answers buffer = hlevel props

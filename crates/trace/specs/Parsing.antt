@@ -20,7 +20,7 @@ abbrev pub Adds : Result Command TraceFaultKind → List Command → List Comman
 Adds (Ok command) old new = new ≡ old ++ command ∷ []
 Adds (Err _) old new = ⊥
 
--- a check's fault, or want of memory in its place
+-- a check's fault, or out of memory in its place
 abbrev pub RefusesBy : {T : Type 0} → Result T TraceFaultKind → TraceFaultKind → Type 0
 RefusesBy check kind = (kind ≡ fault.Memory) ⊎ (check ≡ Err kind)
 

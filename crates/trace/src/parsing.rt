@@ -21,7 +21,7 @@ pub fn parse(alloc: Global, text: &[u8], geometry: &Geometry) -> Result<Commands
     ensures commands { IfOk result (λ commands. commands_of text.now geometry.now ≡ Ok commands) }
     ensures each { IfOk result (λ commands. AreCommands (checked geometry.now text.now) commands) }
 
-    // The first record that is none is the fault; only want of memory stands for it.
+    // The first record that is none is the fault; only running out of memory stands for it.
     ensures fault { IfErr result (λ fault. MatchBool (is_of_record fault.kind)
         (commands_of text.now geometry.now ≡ Err fault)
         (fault ≡ whole_fault Memory)) }
@@ -94,7 +94,7 @@ fn next_line(commands: &Commands) -> u64
     commands.len() as u64 + 1
 }
 
-// The fault of a record, or want of memory at it.
+// The fault of a record, or out of memory at it.
 fn fault(line: u64, kind: TraceFaultKind) -> TraceFault
     ensures { result ≡ fault_at line kind }
 {

@@ -1,6 +1,10 @@
-//! Proved callers of the shared device, to be copied: each contract says what its caller may rely on.
+//! Proved callers, to be copied: each contract says what its caller may rely on.
 #![tactic(auto)]
 
 mod holding;
+mod sharing;
+mod storing;
 
 pub use holding::held_through_collection;
+pub use sharing::{Sweeper, Writer, two_writers_and_a_broom};
+pub use storing::{NotStored, store_and_read};

@@ -40,9 +40,12 @@ pub record Known : Type 0 where
   pub seen : List Call
   pub mine : List Call
 
+-- what a pass knows of the history, of all that it knows
 abbrev pub known_by : View → Known
 known_by v = record { seen = v.seen; mine = v.mine }
 
+-- What pass t asked was answered as one step of an array of n sectors: the answer is that of the array at a place in the history, not before
+-- anything that the pass had seen, and just the call that was asked is added there
 pub record Correct (n t : ℕ) (asked : Asked) (answer : Answer) (old new : Known) : Type 0 where
   -- there is a place in the history, not before anything that the pass had seen
   pub place : List Call

@@ -10,6 +10,6 @@ use Rattle.broom.specs.Ready.{view_of, blocks_of_broom}
 abbrev pub known_by_seat : BroomSeat → View × BroomBlocks
 known_by_seat s = (broom_view s, own_blocks s)
 
--- and a broom
+-- what a broom knows, with the blocks of its own
 abbrev pub known_by_broom : Broom → View × BroomBlocks
 known_by_broom b = (view_of b, blocks_of_broom b)

@@ -116,7 +116,7 @@ pub(crate) fn retire_all(flash: &Flash, passes: IntoIter<Pass>)
 }
 
 impl Volume {
-    /// Gives up the passes, at least one, and tells what the sectors hold. `Err` is want of memory, and hands all back.
+    /// Gives up the passes, at least one, and tells what the sectors hold. `Err` is out of memory, and hands all back.
     pub fn close(self, alloc: Global, passes: Vec<Pass>) -> Result<Closed, (Volume, Vec<Pass>)>
         requires some { 0 < length passes.items }
         requires passes { All (IsReady (flash_of self)) passes.items }

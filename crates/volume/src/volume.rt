@@ -54,7 +54,7 @@ impl Volume {
     ghost use Rattle.volume.specs.Brooms.{IsBroomReady, IsFresh};
     ghost use Rattle.volume.specs.Volume.{flash_of, queue_of};
 
-    /// A device with every sector empty, its passes, pass t with number t, and its brooms, broom i with number i. `Err` is want of memory.
+    /// A device with every sector empty, its passes, pass t with number t, and its brooms, broom i with number i. `Err` is out of memory.
     pub fn open(
         alloc: Global,
         geometry: &Geometry,

@@ -1,0 +1,19 @@
+-- What hosts that share a device tell of each other.
+use Rattle.std.specs.Prelude.{◌≡◌, ℕ, Bool, List, [], ◌∷◌, ◌++◌, if◌then◌else◌}
+use Rattle.geometry.specs.History.{Call, Write, Begins}
+use Rattle.flash_rule.specs.declared.facts.Name.TheVariants.{Pass as APass}
+use Rattle.flash_rule.specs.declared.facts.Role.TheVariants.{Player}
+use Rattle.flash_rule.specs.declared.view.View.{View}
+use Rattle.flash_rule.specs.Views.{calls_of}
+
+-- Pass t has written a value to a sector, if it is said to be done, and has made no other call
+pub record Stored (t s : ℕ) (value : List ℕ) (v : View) (done : Bool) (w : View) : Type 0 where
+  pub role : w.role ≡ Player (APass t)
+  pub later : Begins v.seen w.seen
+  pub mine : w.mine ≡ v.mine ++ (if done then Write t s value ∷ [] else [])
+
+-- A pass has seen a history with all calls that another one, pass t, has made
+pub record HasHeard (t : ℕ) (other v : View) : Type 0 where
+  pub history : List Call
+  pub seen : Begins history v.seen
+  pub calls : calls_of t history ≡ other.mine
