@@ -1,0 +1,90 @@
+// Stands between a program and the C library, and refuses or cuts short what the environment names:
+//   REFUSE_ALLOCATION=K  the K-th allocation        REFUSE_READ=K, REFUSE_WRITE=K  the K-th read of standard input, write to
+//   REFUSE_WITH=E        by this error number       standard output (with error 0 a write takes nothing)
+//   MOST=N               a read gives, and a write takes, N bytes at most; with SEED=S from 1 to N at random
+//   REPORT=FILE          gets the numbers of allocations, reads and writes at the end
+#define _GNU_SOURCE
+#include <errno.h>
+#include <stdio.h>
+#include <stdlib.h>
+#include <sys/syscall.h>
+#include <unistd.h>
+
+extern void *__libc_malloc(size_t size);
+extern void *__libc_realloc(void *old, size_t size);
+
+static long allocations, reads, writes;
+
+static long number(const char *name) {
+    const char *text = getenv(name);
+    return text ? atol(text) : 0;
+}
+
+static size_t shortened(size_t length) {
+    static unsigned long state;
+    size_t most = number("MOST");
+    if (most == 0)
+        return length;
+    if (number("SEED")) {
+        if (state == 0)
+            state = number("SEED");
+        state = state * 6364136223846793005UL + 1442695040888963407UL;
+        most = 1 + (state >> 33) % most;
+    }
+    return length < most ? length : most;
+}
+
+static int is_refused(long *count, const char *name) {
+    *count += 1;
+    if (*count != number(name))
+        return 0;
+    errno = number("REFUSE_WITH");
+    return 1;
+}
+
+void *malloc(size_t size) {
+    if (is_refused(&allocations, "REFUSE_ALLOCATION")) {
+        errno = ENOMEM;
+        return NULL;
+    }
+    return __libc_malloc(size);
+}
+
+void *realloc(void *old, size_t size) {
+    if (is_refused(&allocations, "REFUSE_ALLOCATION")) {
+        errno = ENOMEM;
+        return NULL;
+    }
+    return __libc_realloc(old, size);
+}
+
+ssize_t read(int file, void *bytes, size_t length) {
+    if (file == 0) {
+        if (is_refused(&reads, "REFUSE_READ"))
+            return -1;
+        length = shortened(length);
+    }
+    return syscall(SYS_read, file, bytes, length);
+}
+
+ssize_t write(int file, const void *bytes, size_t length) {
+    if (file == 1) {
+        if (is_refused(&writes, "REFUSE_WRITE"))
+            return errno ? -1 : 0;
+        length = shortened(length);
+    }
+    return syscall(SYS_write, file, bytes, length);
+}
+
+ssize_t __write(int file, const void *bytes, size_t length) {
+    return write(file, bytes, length);
+}
+
+__attribute__((destructor)) static void report(void) {
+    const char *path = getenv("REPORT");
+    FILE *file = path ? fopen(path, "w") : NULL;
+    if (file) {
+        fprintf(file, "%ld %ld %ld\n", allocations, reads, writes);
+        fclose(file);
+    }
+}
