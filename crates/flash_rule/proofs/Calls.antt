@@ -1,10 +1,10 @@
--- The two calls that place, a trim and a write, and the page that a write names.
-use Rattle.std.proofs.Common.{◌≡◌, ℕ, ◌<◌, ◌≤◌, List, Option, None, Some, set, sym, refl, ap, ◌∙◌, subst, arith}
+-- The calls that place, a trim, a write and a write of an empty sector, and the page that a write names.
+use Rattle.std.proofs.Common.{◌≡◌, ℕ, ◌<◌, ◌≤◌, inl, inr, List, Option, None, Some, set, sym, refl, ap, ◌∙◌, subst, arith}
 use Rattle.std.proofs.Math.ListN.{get_or}
 use mathlib.Core.Option.{some}
 use lib.ListN.{get_elem?}
-use Rattle.geometry.specs.History.{Call, Write, Trim, held}
-use Rattle.geometry.proofs.Histories.{held_written, held_trimmed, held_by_write, held_by_trim}
+use Rattle.geometry.specs.History.{Call, Write, WriteNew, Trim, held}
+use Rattle.geometry.proofs.Histories.{held_written, held_trimmed, held_new, after_refused, held_by_write, held_by_new, held_by_trim}
 use Rattle.geometry.specs.Limits.{Numbers}
 use Rattle.geometry.specs.declared.map_word.MapWord.{MapWord}
 use Rattle.geometry.specs.declared.pin_word.Phase.TheVariants.{Open}
@@ -19,6 +19,7 @@ use Rattle.flash_rule.specs.Rule.{IsCurrent, Lawful, IsValue}
 use Rattle.flash_rule.specs.Plays.{CanPlace}
 use Rattle.flash_rule.proofs.Points.{put_here}
 use Rattle.flash_rule.proofs.Owning.{some_same, none_some}
+use Rattle.flash_rule.proofs.Assembly.{sector_kept}
 use Rattle.flash_rule.proofs.MapSteps.{places, placer, place_world}
 
 -- a page that a player has filled and counted with the sector's value is one that its map word may name
@@ -72,9 +73,34 @@ module _ (z : Numbers) (g : World) (vs : List View) (id : ℕ) (v : View) (t s :
       let after = place_world z g vs id v t s (Write t s value) (Some m) law at role refl in
       let own = filled z g vs id v (Pass t) s m value law at role can after.history after.map (held_written z.sectors g.history t s value low) in
       places z g vs id v t s (Write t s value) (Some m) law at role refl
-      (λ n is. ap (λ (y : MapWord). g.owner y.block) (sym (some_same m n is)) ∙ own.0)
+      (λ n is. inr (ap (λ (y : MapWord). g.owner y.block) (sym (some_same m n is)) ∙ own.0))
       (λ other unlike. held_by_write z.sectors g.history t s value other unlike)
       (record {
         empty = λ is. absurd (none_some m (sym is ∙ put_here g.map s (Some m)));
         named = λ n is. subst (λ (n : MapWord). IsCurrent z after s n) (some_same m n (sym (put_here g.map s (Some m)) ∙ is)) own.2;
       })
+
+  -- so does a write of an empty sector, where no page is named
+  pub writes_new : (m : MapWord) (value : List ℕ) → g.map s ≡ None → CanPlace v s m value
+      → Lawful z (place_world z g vs id v t s (WriteNew t s value) (Some m) law at role refl) (set vs id (placer z g vs id v t s (WriteNew t s value) (Some m) law at role refl))
+  writes_new m value none can =
+      let after = place_world z g vs id v t s (WriteNew t s value) (Some m) law at role refl in
+      let here = held_new z.sectors g.history t s value low ((law.sectors s low).empty none) in
+      let own = filled z g vs id v (Pass t) s m value law at role can after.history after.map here in
+      places z g vs id v t s (WriteNew t s value) (Some m) law at role refl
+      (λ n is. inr (ap (λ (y : MapWord). g.owner y.block) (sym (some_same m n is)) ∙ own.0))
+      (λ other unlike. held_by_new z.sectors g.history t s value other unlike)
+      (record {
+        empty = λ is. absurd (none_some m (sym is ∙ put_here g.map s (Some m)));
+        named = λ n is. subst (λ (n : MapWord). IsCurrent z after s n) (some_same m n (sym (put_here g.map s (Some m)) ∙ is)) own.2;
+      })
+
+  -- and it leaves the page that is named, where one is
+  pub leaves : (m : MapWord) (value : List ℕ) → g.map s ≡ Some m
+      → Lawful z (place_world z g vs id v t s (WriteNew t s value) (g.map s) law at role refl) (set vs id (placer z g vs id v t s (WriteNew t s value) (g.map s) law at role refl))
+  leaves m value named =
+      let after = place_world z g vs id v t s (WriteNew t s value) (g.map s) law at role refl in
+      let now = (law.sectors s low).named m named in
+      let stays = after_refused z.sectors g.history t s value now.value now.here in
+      places z g vs id v t s (WriteNew t s value) (g.map s) law at role refl (λ n is. inl is) (λ other unlike. held_by_new z.sectors g.history t s value other unlike)
+      (sector_kept z g after s (law.sectors s low) (put_here g.map s (g.map s)) (ap (λ a. get_or a s None) stays) (λ b _ is. (refl, is, omega arith, λ p i _. refl)))

@@ -1,5 +1,5 @@
 -- One map word changes, and the history with it: what a place does.
-use Rattle.std.proofs.Common.{◌≡◌, ◌≢◌, ℕ, ◌<◌, ◌⊎◌, inl, inr, eq-eqb, ne_eqb, true, List, [], ◌∷◌, ◌++◌, Option, None, Some, set, sym, refl, ap, ◌∙◌, subst, arith}
+use Rattle.std.proofs.Common.{◌≡◌, ◌≢◌, ℕ, ◌<◌, ◌⊎◌, inl, eq-eqb, ne_eqb, true, List, [], ◌∷◌, ◌++◌, Option, None, Some, set, sym, refl, ap, ◌∙◌, subst, arith}
 use Rattle.std.proofs.lemmas.List.Elements.{All-push}
 use mathlib.Core.Option.{some}
 use mathlib.Core.Logic.{dite}
@@ -50,7 +50,7 @@ pub word_named : (x : Option MapWord) → ¬ (sector_word x ≡ 0) → (m : MapW
 word_named None e = absurd (e refl)
 word_named (Some m) e = (m, refl)
 
--- a swap is lawful where the call does to its sector what the map word says, and the page that is named is the caller's own
+-- a change of a map word is lawful where the call does to its sector what the word says, and a page that is newly named is the caller's own
 module _ (z : Numbers) (g : World) (vs : List View) (id : ℕ) (v : View) (t s : ℕ) (c : Call) (m : Option MapWord) (law : Lawful z g vs) (at : get_elem? vs id ≡ some v) (role : v.role ≡ Player (Pass t)) (by_me : caller c ≡ t) where
   abbrev pub placer : View
   placer = record v { seen = g.history ++ c ∷ []; mine = v.mine ++ c ∷ [] }
@@ -68,7 +68,7 @@ module _ (z : Numbers) (g : World) (vs : List View) (id : ℕ) (v : View) (t s :
   is_a_pass : is_pass v.role ≡ true
   is_a_pass = ap is_pass role
 
-  pub places : ((n : MapWord) → m ≡ Some n → g.owner n.block ≡ id) → ((other : ℕ) → other ≢ s → held z.sectors (g.history ++ c ∷ []) other ≡ held z.sectors g.history other)
+  pub places : ((n : MapWord) → m ≡ Some n → (g.map s ≡ Some n) ⊎ (g.owner n.block ≡ id)) → ((other : ℕ) → other ≢ s → held z.sectors (g.history ++ c ∷ []) other ≡ held z.sectors g.history other)
       → LawfulSector z place_world s → Lawful z place_world (set vs id placer)
   places mine others here =
       let h = law.views id v at in
@@ -83,7 +83,7 @@ module _ (z : Numbers) (g : World) (vs : List View) (id : ℕ) (v : View) (t s :
         pins = λ b _. pin_stays (g.pins b);
         owned = λ b _ _ _. record { owner = refl; phase = refl; generation = refl; written = refl; pages = λ p i. refl };
         pages = λ b p i _ _ _. refl;
-        named = λ u n is. put_all g.map s m (λ j x. x ≡ Some n → (g.map j ≡ Some n) ⊎ (g.owner n.block ≡ id)) (λ is. inr (mine n is)) (λ j _ is. inl is) u is;
+        named = λ u n is. put_all g.map s m (λ j x. x ≡ Some n → (g.map j ≡ Some n) ⊎ (g.owner n.block ≡ id)) (mine n) (λ j _ is. inl is) u is;
         programmer = λ n _. refl;
         eraser = λ b n _. refl;
         dealer = λ _. (refl, refl);

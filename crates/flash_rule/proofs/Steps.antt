@@ -1,5 +1,5 @@
 -- Each kind of step of a pass, as the table asks for it: whatever the table is, the step keeps the rule and tells what it says.
-use Rattle.std.proofs.Common.{◌≡◌, ℕ, ◌+◌, ◌%◌, ◌^◌, ◌<◌, ◌≤◌, ◌⊎◌, inl, inr, ⊎_elim, true, List, [], ◌∷◌, ◌++◌, Option, None, Some, length, set, sym, refl, ap, ◌∙◌, subst, arith}
+use Rattle.std.proofs.Common.{◌≡◌, ℕ, ◌+◌, ◌%◌, ◌^◌, ◌<◌, ◌≤◌, ◌==◌, eq-eqb, ne_eqb, ◌⊎◌, inl, inr, ⊎_elim, true, List, [], ◌∷◌, ◌++◌, Option, None, Some, length, set, sym, refl, ap, ◌∙◌, subst, arith}
 use Rattle.std.proofs.Math.ListN.{get_or}
 use Rattle.std.specs.Int.Bits.{bit_or}
 use mathlib.Core.Option.{some, none}
@@ -8,7 +8,8 @@ use Rattle.atomic_table.specs.Table.{Act, Valid, step, keeps, stepped, carried_a
 use Rattle.atomic_table.proofs.Lists.{set_again}
 use mathlib.Core.Logic.{dite}
 use native.Mathlib.Decide.{ℕ_discrete}
-use Rattle.geometry.specs.History.{Call, Write, Trim}
+use prog.Atomic.{either}
+use Rattle.geometry.specs.History.{Call, Write, WriteNew, Trim}
 use Rattle.geometry.specs.Sectors.{was_of}
 use Rattle.geometry.specs.declared.answer.Was.{Was}
 use Rattle.geometry.specs.declared.answer.Was.TheVariants.{Empty, Written}
@@ -17,6 +18,7 @@ use Rattle.geometry.specs.MapWords.{map_word, FitsMap}
 use Rattle.geometry.specs.PinWords.{pin_word, FitsPin}
 use Rattle.geometry.specs.TableOrder.{pin_index, page_index}
 use Rattle.geometry.specs.declared.map_word.MapWord.{MapWord}
+use Rattle.geometry.specs.declared.map_word.TheConstants.{UNMAPPED}
 use Rattle.geometry.specs.declared.pin_word.PinWord.{PinWord}
 use Rattle.geometry.specs.declared.pin_word.Phase.{Phase}
 use Rattle.geometry.specs.declared.pin_word.Phase.TheVariants.{Free, Open, Closed, Victim, Drained, Erasing, Retired}
@@ -31,7 +33,7 @@ use Rattle.flash_rule.specs.Views.{is_pass, is_player, is_live_role, owned_at, w
 use Rattle.flash_rule.specs.World.{World, Fits, sector_word}
 use Rattle.flash_rule.specs.Rule.{Lawful}
 use Rattle.flash_rule.specs.Seats.{Ruled}
-use Rattle.flash_rule.specs.Plays.{Sitter, Looked, Placed, Took, CanPlace, CanPut, CanCount, CanClose, words_in, next_page, look_told, write_told, trim_told, take_told, put_told, get_told, Called, count_told, close_told, is_unpinned}
+use Rattle.flash_rule.specs.Plays.{Sitter, Looked, Placed, Took, CanPlace, CanPut, CanCount, CanClose, words_in, next_page, look_told, write_told, new_told, trim_told, take_told, put_told, get_told, Called, count_told, close_told, is_unpinned}
 use Rattle.geometry.proofs.PinBits.{adds, next_phase, counts, takes_free, takes_taken, map_same}
 use Rattle.flash_rule.proofs.Places.{fits_load, fits_pin, fits_map, fits_page, pin_within, page_within, page_same}
 use Rattle.flash_rule.proofs.Owning.{some_same}
@@ -40,8 +42,8 @@ use Rattle.flash_rule.proofs.Still.{look_empty, look_named, pass_of}
 use Rattle.flash_rule.proofs.PinSteps.{takes, taken, denied, taken_state, taker}
 use Rattle.flash_rule.proofs.OwnSteps.{counts_page, closes, worker, own_low, is_open, counter, count_world, counted_state, closer, close_world, closed_state}
 use Rattle.flash_rule.proofs.PageSteps.{puts_word, putter, put_world, gets_accepted, spared}
-use Rattle.flash_rule.proofs.MapSteps.{placed, placer, place_world, pass_same}
-use Rattle.flash_rule.proofs.Calls.{trims, writes}
+use Rattle.flash_rule.proofs.MapSteps.{placed, placer, place_world, pass_same, word_empty, word_named}
+use Rattle.flash_rule.proofs.Calls.{trims, writes, writes_new, leaves}
 use Rattle.flash_rule.proofs.Values.{value_same}
 use Rattle.flash_rule.proofs.Points.{put_here}
 
@@ -135,6 +137,57 @@ module _ (z : Numbers) (slots id : ℕ) (me : Sitter) where
               subst (λ (x : ℕ × List ℕ). Placed me.0 (Write x.0 s x.1) s n w) (λ i. (pass_same by u (sym is.1 ∙ role) i, values i)) told,
         ),
       )
+
+  -- a pass writes a sector if it is empty, whose new page it has filled and counted
+  pub new_allowed : (s word : ℕ) (m : MapWord) (value : List ℕ) → is_pass me.0.role ≡ true → s < z.sectors → word ≡ map_word m → FitsMap m → CanPlace me.0 s m value
+      → Allows (Ruled z) slots id me s (λ n. either (n == UNMAPPED) word n) (new_told (step slots s UNMAPPED word none) me)
+  new_allowed s word m value pass low packed fitting can t (g, fits, law) _ at _ =
+      let is = pass_of me.0.role pass in
+      let by : ℕ = is.0 in
+      let n : ℕ = get_or t.words s 0 in
+      let f : ℕ → ℕ = λ n. either (n == UNMAPPED) word n in
+      let found : n ≡ sector_word (g.map s) = fits.sectors s low in
+      let told : (x : Option MapWord) → new_told (step slots s UNMAPPED word none) me n (placer z g t.views id me.0 by s (WriteNew by s value) x law at is.1 refl, me.1) = λ x. (
+        refl,
+        λ u m' value' role _ second fitting' can'.
+            let w : View = placer z g t.views id me.0 by s (WriteNew by s value) x law at is.1 refl in
+            let tells : Placed me.0 (WriteNew by s value) s n w = placed z g t.views id me.0 by s (WriteNew by s value) x law at is.1 refl (law.sectors s low) n found in
+            let works : can.work ≡ can'.work = some_same can.work can'.work (sym can.is ∙ can'.is) in
+            let values : value ≡ value' = value_same me.0.numbers value value' can.whole can'.whole (λ i low. sym (can.words i low) ∙ (ap (λ (x : Work). get_or x.words i 0) works ∙ can'.words i low)) in
+            subst (λ (y : ℕ × List ℕ). Placed me.0 (WriteNew y.0 s y.1) s n w) (λ i. (pass_same by u (sym is.1 ∙ role) i, values i)) tells,
+      ) in
+      dite (ℕ_discrete n UNMAPPED)
+      (λ empty.
+      let w : View = placer z g t.views id me.0 by s (WriteNew by s value) (Some m) law at is.1 refl in
+      let after : World = place_world z g t.views id me.0 by s (WriteNew by s value) (Some m) law at is.1 refl in
+      let now : f n ≡ map_word m = ap (λ b. either b word n) (eq-eqb n UNMAPPED empty) ∙ packed in
+      let answer : (w : View) × (a : Act (Unit {0})) × Valid t.homes me.1 a × Ruled z (stepped t s (f n) id me.1 w a) × new_told (step slots s UNMAPPED word none) me n (w, carried_after me.1 a) = (
+        w,
+        keeps,
+        tt,
+        (
+          after,
+          subst (λ y. Fits z after.map g.pins g.pages (set t.words s y)) (sym now) (fits_map z g.map g.pins g.pages t.words fits s (Some m) low),
+          writes_new z g t.views id me.0 by s law at is.1 low m value (word_empty (g.map s) (sym found ∙ empty)) can,
+        ),
+        told (Some m),
+      ) in answer)
+      (λ other.
+      let w : View = placer z g t.views id me.0 by s (WriteNew by s value) (g.map s) law at is.1 refl in
+      let after : World = place_world z g t.views id me.0 by s (WriteNew by s value) (g.map s) law at is.1 refl in
+      let named = word_named (g.map s) (λ e. other (found ∙ e)) in
+      let now : f n ≡ sector_word (g.map s) = ap (λ b. either b word n) (ne_eqb n UNMAPPED other) ∙ found in
+      let answer : (w : View) × (a : Act (Unit {0})) × Valid t.homes me.1 a × Ruled z (stepped t s (f n) id me.1 w a) × new_told (step slots s UNMAPPED word none) me n (w, carried_after me.1 a) = (
+        w,
+        keeps,
+        tt,
+        (
+          after,
+          subst (λ y. Fits z after.map g.pins g.pages (set t.words s y)) (sym now) (fits_map z g.map g.pins g.pages t.words fits s (g.map s) low),
+          leaves z g t.views id me.0 by s law at is.1 low named.0 value named.1,
+        ),
+        told (g.map s),
+      ) in answer)
 
   -- ---- take
   -- a pass sets the taking bit of a block

@@ -1,12 +1,13 @@
 -- What each kind of step asks of the seat that makes it, and what it tells: the change of that seat's view.
 use Rattle.std.specs.Prelude.{◌≡◌, ℕ, ◌+◌, ◌*◌, ◌<◌, ◌≤◌, ◌==◌, ◌&&◌, Bool, true, false, List, [], ◌∷◌, ◌++◌, Option, None, Some, if◌then◌else◌, length, slice_get, slice_set, slice_index}
 use Rattle.atomic_table.specs.Table.{Step, Me}
-use Rattle.geometry.specs.History.{Call, Write, Trim, held, was, Begins}
+use Rattle.geometry.specs.History.{Call, Write, WriteNew, Trim, held, was, Begins}
 use Rattle.geometry.specs.declared.answer.Was.{Was}
 use Rattle.geometry.specs.MapWords.{map_word, FitsMap}
 use Rattle.geometry.specs.PinWords.{pin_word, FitsPin}
 use Rattle.geometry.specs.TableOrder.{pin_index, page_index}
 use Rattle.geometry.specs.declared.map_word.MapWord.{MapWord}
+use Rattle.geometry.specs.declared.map_word.TheConstants.{UNMAPPED}
 use Rattle.geometry.specs.declared.pin_word.PinWord.{PinWord}
 use Rattle.geometry.specs.declared.pin_word.Phase.TheVariants.{Free, Open, Closed}
 use Rattle.flash_rule.specs.declared.facts.Name.TheVariants.{Pass}
@@ -97,6 +98,13 @@ abbrev pub write_told : Step (Unit {0}) → Sitter → ℕ → Sitter → Type 0
 write_told st me n after =
     (after.1 ≡ me.1)
     × ((t : ℕ) (m : MapWord) (value : List ℕ) → me.0.role ≡ Player (Pass t) → st.first ≡ map_word m → FitsMap m → CanPlace me.0 st.word m value → Placed me.0 (Write t st.word value) st.word n after.0)
+
+-- what the exchange of a write of an empty sector tells a pass: its map word is expected to be that of no page
+abbrev pub new_told : Step (Unit {0}) → Sitter → ℕ → Sitter → Type 0
+new_told st me n after =
+    (after.1 ≡ me.1)
+    × ((t : ℕ) (m : MapWord) (value : List ℕ) → me.0.role ≡ Player (Pass t) → st.first ≡ UNMAPPED → st.second ≡ map_word m → FitsMap m → CanPlace me.0 st.word m value
+    → Placed me.0 (WriteNew t st.word value) st.word n after.0)
 
 -- what the swap of a trim tells a pass
 abbrev pub trim_told : Step (Unit {0}) → Sitter → ℕ → Sitter → Type 0

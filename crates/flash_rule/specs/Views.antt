@@ -1,6 +1,6 @@
 -- What the fields of a view say, each by itself.
 use Rattle.std.specs.Prelude.{ℕ, ◌+◌, ◌-◌, ◌<◌, ◌==◌, All, Bool, true, false, List, [], ◌∷◌, Option, None, Some, if◌then◌else◌}
-use Rattle.geometry.specs.History.{Call, Write, Trim}
+use Rattle.geometry.specs.History.{Call, Write, WriteNew, Trim}
 use Rattle.geometry.specs.Limits.{Numbers}
 use Rattle.flash_rule.specs.declared.facts.Name.{Name}
 use Rattle.flash_rule.specs.declared.facts.Name.TheVariants.{Pass, Broom}
@@ -105,6 +105,7 @@ with_owned o os = o ∷ without o.block os
 -- the number of the pass that makes a call
 abbrev pub caller : Call → ℕ
 caller (Write pass s v) = pass
+caller (WriteNew pass s v) = pass
 caller (Trim pass s) = pass
 
 -- each call is of a host: a pass with a number below the hosts

@@ -1,6 +1,6 @@
 //! What each kind of step tells the seat that makes it.
 ghost use Rattle.flash_rule.specs.Seats.{dealt_pass, new_pass, dealt_broom, new_broom, lender, lent_note, host_of, giver, given_note, home, gone};
-ghost use Rattle.flash_rule.specs.Plays.{look_told, write_told, trim_told, take_told, put_told, get_told, count_told, close_told, pin_told, unpin_told};
+ghost use Rattle.flash_rule.specs.Plays.{look_told, write_told, new_told, trim_told, take_told, put_told, get_told, count_told, close_told, pin_told, unpin_told};
 
 use crate::view::View;
 use atomic_table::{Join, Play, Split};
@@ -17,6 +17,13 @@ pub struct PlaceWrite;
 
 impl Play<(), View> for PlaceWrite {
     ghost then = { write_told };
+}
+
+/// A pass exchanges the map word of an empty sector for that of a page that it has filled and counted.
+pub struct PlaceNew;
+
+impl Play<(), View> for PlaceNew {
+    ghost then = { new_told };
 }
 
 /// A pass swaps a map word with 0.

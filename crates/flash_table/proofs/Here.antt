@@ -1,19 +1,21 @@
 -- The steps as `atomic_table` asks for them, at the place that the code computes and at the table's own numbers.
-use Rattle.std.proofs.Common.{◌≡◌, ℕ, ◌+◌, ◌%◌, ◌^◌, ◌-◌, ◌<◌, true, List, length, Some, None, sym, refl, subst}
+use Rattle.std.proofs.Common.{◌≡◌, ℕ, ◌+◌, ◌%◌, ◌^◌, ◌-◌, ◌<◌, ◌==◌, true, List, length, Some, None, sym, refl, subst}
 use Rattle.std.specs.Int.Bits.{bit_or}
 use mathlib.Core.Option.{none}
+use prog.Atomic.{either}
 use Rattle.atomic_table.specs.Table.{step, Allows, Splits, Joins}
 use Rattle.geometry.specs.Limits.{Numbers}
 use Rattle.geometry.specs.MapWords.{FitsMap, map_word}
 use Rattle.geometry.specs.TableOrder.{pin_index, page_index}
 use Rattle.geometry.specs.declared.map_word.MapWord.{MapWord}
+use Rattle.geometry.specs.declared.map_word.TheConstants.{UNMAPPED}
 use Rattle.geometry.specs.declared.pin_word.TheConstants.{TAKEN, NEXT_PHASE, PAGE_WRITTEN, READER}
 use Rattle.flash_rule.specs.declared.facts.Owned.{Owned}
 use Rattle.flash_rule.specs.declared.facts.Work.{Work}
 use Rattle.flash_rule.specs.declared.facts.Pin.TheVariants.{Candidate, Accepted}
 use Rattle.flash_rule.specs.Views.{is_pass, is_player}
 use Rattle.flash_rule.specs.Seats.{Ruled}
-use Rattle.flash_rule.specs.Plays.{Sitter, CanPlace, CanPut, CanCount, CanClose, words_in, is_unpinned, look_told, write_told, trim_told, take_told, put_told, count_told, close_told, IsOn, pin_told, unpin_told, get_told}
+use Rattle.flash_rule.specs.Plays.{Sitter, CanPlace, CanPut, CanCount, CanClose, words_in, is_unpinned, look_told, write_told, new_told, trim_told, take_told, put_told, count_told, close_told, IsOn, pin_told, unpin_told, get_told}
 use Rattle.flash_rule.specs.declared.facts.Name.{Name}
 use Rattle.flash_rule.specs.declared.facts.Role.TheVariants.{Player, Note}
 use Rattle.flash_rule.specs.declared.carried.Carried.{Carried}
@@ -21,7 +23,7 @@ use Rattle.flash_rule.specs.declared.view.View.{View}
 use Rattle.flash_rule.specs.Seats.{lender, lent_note, host_of, giver, given_note, home, gone}
 use Rattle.flash_rule.proofs.OwnSteps.{player_of}
 use Rattle.flash_rule.proofs.Notes.{lends, gives, takes_in, comes_home}
-use Rattle.flash_rule.proofs.Steps.{look_allowed, trim_allowed, write_allowed, take_allowed, put_allowed, count_allowed, close_allowed, get_allowed}
+use Rattle.flash_rule.proofs.Steps.{look_allowed, trim_allowed, write_allowed, new_allowed, take_allowed, put_allowed, count_allowed, close_allowed, get_allowed}
 use Rattle.flash_rule.proofs.ReaderSteps.{pin_allowed, unpin_allowed}
 
 module _ (z k : Numbers) (same : k ≡ z) (slots id : ℕ) (me : Sitter) where
@@ -37,6 +39,11 @@ module _ (z k : Numbers) (same : k ≡ z) (slots id : ℕ) (me : Sitter) where
       → Allows (Ruled k) slots id me s (λ _. word) (write_told (step slots s word 0 none) me)
   write_here s word m value pass low packed fits can = let P : Numbers → Type 0 = λ x. Allows (Ruled x) slots id me s (λ _. word) (write_told (step slots s word 0 none) me) in
       subst P (sym same) (write_allowed z slots id me s word m value pass low packed fits can)
+
+  pub new_here : (s word : ℕ) (m : MapWord) (value : List ℕ) → is_pass me.0.role ≡ true → s < z.sectors → word ≡ map_word m → FitsMap m → CanPlace me.0 s m value
+      → Allows (Ruled k) slots id me s (λ n. either (n == UNMAPPED) word n) (new_told (step slots s UNMAPPED word none) me)
+  new_here s word m value pass low packed fits can = let P : Numbers → Type 0 = λ x. Allows (Ruled x) slots id me s (λ n. either (n == UNMAPPED) word n) (new_told (step slots s UNMAPPED word none) me) in
+      subst P (sym same) (new_allowed z slots id me s word m value pass low packed fits can)
 
   pub take_here : (word b : ℕ) → word ≡ pin_index z b → is_pass me.0.role ≡ true → b < z.blocks → Allows (Ruled k) slots id me word (λ n. bit_or n TAKEN) (take_told (step slots word TAKEN 0 none) me)
   take_here word b is pass low = let P : Numbers × ℕ → Type 0 = λ x. Allows (Ruled x.0) slots id me x.1 (λ n. bit_or n TAKEN) (take_told (step slots x.1 TAKEN 0 none) me) in

@@ -11,16 +11,17 @@ use Rattle.flash_rule.specs.Views.{is_pass, is_player, owned_at, without, with_o
 use Rattle.std.specs.Bool.{MatchBool}
 use mathlib.Core.Option.{none}
 use Rattle.atomic_table.specs.Table.{step}
-use Rattle.geometry.specs.History.{Write, Trim}
+use Rattle.geometry.specs.History.{Write, WriteNew, Trim}
 use Rattle.geometry.specs.Limits.{Numbers}
 use Rattle.geometry.specs.MapWords.{map_word, FitsMap}
 use Rattle.geometry.specs.TableOrder.{pin_index, page_index}
 use Rattle.geometry.specs.declared.map_word.MapWord.{MapWord}
+use Rattle.geometry.specs.declared.map_word.TheConstants.{UNMAPPED}
 use Rattle.geometry.specs.declared.pin_word.TheConstants.{TAKEN, NEXT_PHASE, PAGE_WRITTEN, READER}
 use Rattle.flash_rule.specs.declared.facts.Work.{Work}
 use Rattle.flash_rule.specs.declared.facts.Pin.TheVariants.{Clear, Candidate, Accepted}
 use Rattle.flash_rule.specs.World.{data_word, Intact}
-use Rattle.flash_rule.specs.Plays.{Sitter, Took, Placed, CanPlace, CanPut, CanCount, CanClose, words_in, next_page, write_told, trim_told, take_told, put_told, count_told, close_told, IsOn, Pinned, pin_told, unpin_told, get_told}
+use Rattle.flash_rule.specs.Plays.{Sitter, Took, Placed, CanPlace, CanPut, CanCount, CanClose, words_in, next_page, write_told, new_told, trim_told, take_told, put_told, count_told, close_told, IsOn, Pinned, pin_told, unpin_told, get_told}
 use Rattle.flash_rule.proofs.Still.{pass_of}
 use Rattle.flash_rule.proofs.Owning.{some_same}
 use Rattle.geometry.proofs.PinBits.{pin_same}
@@ -125,6 +126,10 @@ module _ (f : Flash) (p : Pass) (h : IsPassOf f p) (slots n : ℕ) (after : Sitt
   pub write_changed : (s word : ℕ) (m : MapWord) → word ≡ map_word m → FitsMap m → (value : List ℕ) × CanPlace (view_of p) s m value → write_told (step slots s word 0 none) p.seat.me n after
       → (t : ℕ) × (value : List ℕ) × Placed (view_of p) (Write t s value) s n after.0
   write_changed s word m packed fits can told = let t = pass_of (view_of p).role h.role in (t.0, can.0, told.1 t.0 m can.0 t.1 packed fits can.1)
+
+  pub new_changed : (s word : ℕ) (m : MapWord) → word ≡ map_word m → FitsMap m → (value : List ℕ) × CanPlace (view_of p) s m value → new_told (step slots s UNMAPPED word none) p.seat.me n after
+      → (t : ℕ) × (value : List ℕ) × Placed (view_of p) (WriteNew t s value) s n after.0
+  new_changed s word m packed fits can told = let t = pass_of (view_of p).role h.role in (t.0, can.0, told.1 t.0 m can.0 t.1 refl packed fits can.1)
 
   -- ---- take, by what the word says
   pub take_free_view : (word b k : ℕ) → b < (device f).blocks → word ≡ pin_index (device f) b → take_told (step slots word TAKEN 0 none) p.seat.me n after → p.opened ≡ None

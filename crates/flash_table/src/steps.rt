@@ -5,7 +5,7 @@ ghost use Rattle.geometry.specs.declared.pin_word.PinWord.{PinWord};
 ghost use Rattle.geometry.specs.declared.pin_word.Phase.TheVariants as phase;
 ghost use Rattle.geometry.specs.Geometry.{sectors_of, blocks_of, pages_of, words_of};
 ghost use Rattle.geometry.specs.MapWords.{FitsMap};
-ghost use Rattle.geometry.specs.History.{Write, Trim};
+ghost use Rattle.geometry.specs.History.{Write, WriteNew, Trim};
 ghost use Rattle.flash_rule.specs.declared.facts.Name.TheVariants as name;
 ghost use Rattle.flash_rule.specs.declared.facts.Role.TheVariants as role;
 ghost use Rattle.flash_rule.specs.declared.facts.Pin.TheVariants as pin;
@@ -19,13 +19,13 @@ ghost use Rattle.flash_table.specs.declared.pass.OpenBlock.{OpenBlock};
 
 use crate::flash::Flash;
 use crate::pass::{OpenBlock, Pass};
-use flash_rule::{Close, Count, Look, PlaceTrim, PlaceWrite, PutWord, Take};
+use flash_rule::{Close, Count, Look, PlaceNew, PlaceTrim, PlaceWrite, PutWord, Take};
 use geometry::{
     MapWord, NEXT_PHASE, PAGE_WRITTEN, PageAddr, Phase, PinWord, TAKEN, UNMAPPED, Was,
     page_word_at, pin_at,
 };
 
-// What a sector was, by the word that a swap found.
+// What a sector was, by the word that was found there.
 fn was_by(found: u64) -> Was
     ensures empty { found ≡ UNMAPPED → result ≡ Was.Empty }
     ensures written { ¬ (found ≡ UNMAPPED) → result ≡ Was.Written }
@@ -83,6 +83,24 @@ impl Flash {
             .table
             .shared
             .swap::<PlaceWrite>(&mut pass.seat, sector as usize, word);
+        was_by(found)
+    }
+
+    /// Names a page that the pass has filled and counted as the sector's, if no page is named. The answer is what the sector was.
+    pub fn place_new(&self, pass: &mut Pass, sector: u32, page: MapWord) -> Was
+        requires pass { IsPassOf self.now pass.old }
+        requires sector { sector < sectors_of (geometry_of self.now) }
+        requires page { FitsMap page }
+        requires counted { (value : List ℕ) × CanPlace (view_of pass.old) sector page value }
+        ensures told { (t : ℕ) (value : List ℕ) → (view_of pass.old).role ≡ role.Player (name.Pass t) → CanPlace (view_of pass.old) sector page value → Called (view_of pass.old) (WriteNew t sector value) sector result (view_of pass.new) }
+        ensures pass { IsPassOf self.now pass.new }
+        ensures opened { opened_of pass.new ≡ opened_of pass.old }
+    {
+        let new = page.pack();
+        let found = self
+            .table
+            .shared
+            .compare_exchange::<PlaceNew>(&mut pass.seat, sector as usize, UNMAPPED, new);
         was_by(found)
     }
 

@@ -1,11 +1,11 @@
 -- What the layer has used up, and what a call does to it. There is no map here: which page of a sector
 -- is current is a mark on the page's entry, and it is found by search.
-use Rattle.std.specs.Prelude.{ℕ, ◌+◌, ◌-◌, ◌==◌, Bool, true, false, if◌then◌else◌, List, [], ◌∷◌, ◌++◌, length, map, filter, count_by, replicate, slice_set, slice_index_or, Option, None, Some, option_and_then}
-use Rattle.std.specs.List.{position}
+use Rattle.std.specs.Prelude.{ℕ, ◌+◌, ◌-◌, ◌==◌, ◌&&◌, Bool, true, false, if◌then◌else◌, List, [], ◌∷◌, ◌++◌, length, map, filter, count_by, replicate, slice_set, slice_index_or, Option, None, Some, option_and_then}
+use Rattle.std.specs.List.{list_any, position}
 use Rattle.geometry.specs.declared.geometry.Geometry.{Geometry}
 use Rattle.geometry.specs.Geometry.{blocks_of, pages_of, endurance_of}
 use Rattle.geometry.specs.Greedy.{greedy_of}
-use Rattle.geometry.specs.History.{Call, Write, Trim}
+use Rattle.geometry.specs.History.{Call, Write, WriteNew, Trim}
 use Rattle.ftl_one.specs.declared.role.Role.{Role}
 use Rattle.ftl_one.specs.declared.role.Role.TheVariants.{Free, Open, Closed, Spare, Retired}
 
@@ -157,9 +157,19 @@ write_into pages sector stock None = None
 abbrev pub write_of : ℕ → ℕ → Stock → Option Stock
 write_of pages sector stock = write_into pages sector stock (open_of stock.blocks)
 
--- the stock after a call, by the pages of a block and the endurance; none where a write finds no page
+-- whether a page is the current one of a sector: a live one
+abbrev pub is_current : ℕ → Entry → Bool
+is_current sector entry = entry.live && (entry.sector == sector)
+
+-- whether a sector has a current page, in some block
+abbrev pub has_page : ℕ → Stock → Bool
+has_page sector stock = list_any (λ block. list_any (is_current sector) block.entries) stock.blocks
+
+-- the stock after a call, by the pages of a block and the endurance; none where a write finds no page. A write of an empty sector leaves it
+-- where the sector is written
 abbrev pub next_of : ℕ → ℕ → Stock → Call → Option Stock
 next_of pages endurance stock (Write pass sector value) = option_and_then (write_of pages sector) (ready endurance stock)
+next_of pages endurance stock (WriteNew pass sector value) = if has_page sector stock then Some stock else option_and_then (write_of pages sector) (ready endurance stock)
 next_of pages endurance stock (Trim pass sector) = Some (record stock { blocks = map (forget sector) stock.blocks })
 
 -- the stock of a new layer

@@ -4,7 +4,7 @@ use Rattle.std.specs.List.{range_with_len}
 use mathlib.Core.Logic.{dite}
 use native.Mathlib.Decide.{ℕ_discrete}
 use Rattle.geometry.specs.Geometry.{blocks_of, pages_of, endurance_of}
-use Rattle.geometry.specs.History.{Call, Write, Begins, was}
+use Rattle.geometry.specs.History.{Call, Begins, was}
 use Rattle.geometry.specs.Limits.{Numbers}
 use Rattle.geometry.specs.MapWords.{FitsMap}
 use Rattle.geometry.specs.declared.answer.Was.{Was}
@@ -23,7 +23,7 @@ use Rattle.flash_table.specs.Owning.{owned_of, owned_list}
 use Rattle.flash_table.specs.Flash.{IsPassOf, view_of, opened_of, geometry_of, device}
 use Rattle.host.specs.Filling.{TookLowest, Filled, ClosedIfFull}
 use Rattle.host.specs.Ready.{IsReady}
-use Rattle.host.specs.Told.{Wrote}
+use Rattle.host.specs.Told.{Programmed}
 use Rattle.host.proofs.WritingSteps.{owns_one}
 
 lt_or_eq : (m n : ℕ) → m ≤ n → (m < n) ⊎ (m ≡ n)
@@ -191,9 +191,8 @@ module _ (f : Flash) (v : View) (p q : Pass) (o : OpenBlock) (h : Starts f v p o
       block_is : page.block ≡ o.block
       block_is = ap (λ (m : MapWord). m.block) x.next
 
-      pub wrote : (t : ℕ) → c ≡ Write t s value → Wrote v t s value answer (view_of w)
-      wrote t is =
-          let calls : Call → List Call = λ d. d ∷ [] in
+      pub wrote : Programmed v c s answer (view_of w)
+      wrote =
           let all = whole in
           let seen : (view_of w).seen ≡ (view_of r).seen = ap (λ (y : View). y.seen) all in
           let begin : (view_of q).seen ≡ v.seen = ap (λ (y : View). y.seen) x.changed ∙ ap (λ (y : View). y.seen) h.changed in
@@ -206,12 +205,12 @@ module _ (f : Flash) (v : View) (p q : Pass) (o : OpenBlock) (h : Starts f v p o
           let on = block_is in
           let low = h.low in
           let left = h.left in
-          let others : View → View = λ y. record v { seen = y.seen; mine = v.mine ++ Write t s value ∷ []; programs = y.programs; owns = y.owns; work = y.work; taken = y.taken; denied = y.denied; ceded = y.ceded } in
+          let others : View → View = λ y. record v { seen = y.seen; mine = v.mine ++ c ∷ []; programs = y.programs; owns = y.owns; work = y.work; taken = y.taken; denied = y.denied; ceded = y.ceded } in
           record {
-            changed = all ∙ ((λ i. record v { seen = (view_of r).seen; mine = v.mine ++ calls (is i); programs = v.programs ++ page ∷ []; owns = (view_of w).owns; work = (view_of w).work; taken = (view_of p).taken; denied = (view_of p).denied; ceded = (view_of w).ceded }) ∙ ap others (sym all));
+            changed = all ∙ ap others (sym all);
             before = told.before;
             later = subst (λ l. Begins l told.before) begin told.later;
-            now = seen ∙ (told.now ∙ ap (λ d. told.before ++ calls d) is);
+            now = seen ∙ told.now;
             answered = told.answered ∙ ap (λ n. was n told.before s) sectors;
             page = page;
             within = ((omega arith), (omega arith));

@@ -1,8 +1,9 @@
 -- What the calls of a host tell of what its pass knows, before and after.
-use Rattle.std.specs.Prelude.{◌≡◌, ℕ, ◌+◌, ◌*◌, ◌<◌, ◌≤◌, List, [], ◌∷◌, ◌++◌}
+use Rattle.std.specs.Prelude.{◌≡◌, ℕ, ◌+◌, ◌*◌, ◌<◌, ◌≤◌, List, [], ◌∷◌, ◌++◌, Option, None, Some, Result, Ok, Err}
 use Rattle.std.specs.List.{range_with_len}
-use Rattle.geometry.specs.History.{Call, Write, was, Begins}
+use Rattle.geometry.specs.History.{Call, Write, WriteNew, was as was_at, Begins}
 use Rattle.geometry.specs.declared.answer.Was.{Was}
+use Rattle.geometry.specs.declared.answer.Was.TheVariants as was
 use Rattle.geometry.specs.declared.map_word.MapWord.{MapWord}
 use Rattle.geometry.specs.declared.pin_word.Phase.TheVariants.{Open, Closed}
 use Rattle.flash_rule.specs.declared.facts.Owned.{Owned}
@@ -10,6 +11,8 @@ use Rattle.flash_rule.specs.declared.facts.Pin.TheVariants.{Clear}
 use Rattle.flash_rule.specs.declared.view.View.{View}
 use Rattle.flash_rule.specs.Views.{sum_of}
 use Rattle.flash_rule.specs.Plays.{Disjoint, Once, next_page}
+use Rattle.host.specs.declared.writing_new.NewFault.{NewFault}
+use Rattle.host.specs.declared.writing_new.NewFault.TheVariants as fault
 
 -- A pin that came too late was given back: the ages that the pass knows have risen, within their bound
 pub record CameLate (v w : View) : Type 0 where
@@ -27,16 +30,16 @@ pub record Searched (v : View) (tries : ℕ) (w : View) : Type 0 where
   pub bounded : sum_of w.known ≤ v.numbers.blocks * (2 * v.numbers.endurance)
   pub few : tries ≤ v.numbers.blocks * (2 * v.numbers.endurance) + 1
 
--- A write that is done: the pass sees a history that begins with all that it had seen, followed by this call alone, and the answer is what
--- the sector was before it. One page was programmed, the next one of the block that was open, or the first one of a block that was taken,
--- the lowest that was free: the blocks below it were tried in order and found taken. The block stays open as long as a page is left,
--- and then it is given up as closed and full
-pub record Wrote (v : View) (t s : ℕ) (value : List ℕ) (answer : Was) (w : View) : Type 0 where
-  pub changed : w ≡ record v { seen = w.seen; mine = v.mine ++ Write t s value ∷ []; programs = w.programs; owns = w.owns; work = w.work; taken = w.taken; denied = w.denied; ceded = w.ceded }
+-- A write that has made its call, of either kind: the pass sees a history that begins with all that it had seen, followed by this call
+-- alone, and the answer is what the sector was before it. One page was programmed, the next one of the block that was open, or the first
+-- one of a block that was taken, the lowest that was free: the blocks below it were tried in order and found taken. The block stays open
+-- as long as a page is left, and then it is given up as closed and full
+pub record Programmed (v : View) (call : Call) (s : ℕ) (answer : Was) (w : View) : Type 0 where
+  pub changed : w ≡ record v { seen = w.seen; mine = v.mine ++ call ∷ []; programs = w.programs; owns = w.owns; work = w.work; taken = w.taken; denied = w.denied; ceded = w.ceded }
   pub before : List Call
   pub later : Begins v.seen before
-  pub now : w.seen ≡ before ++ Write t s value ∷ []
-  pub answered : answer ≡ was v.numbers.sectors before s
+  pub now : w.seen ≡ before ++ call ∷ []
+  pub answered : answer ≡ was_at v.numbers.sectors before s
   pub page : MapWord
   pub within : (page.block < v.numbers.blocks) × (page.page < v.numbers.pages)
   pub programmed : w.programs ≡ v.programs ++ page ∷ []
@@ -47,11 +50,25 @@ pub record Wrote (v : View) (t s : ℕ) (value : List ℕ) (answer : Was) (w : V
   pub none_given_up : page.page + 1 < v.numbers.pages → w.ceded ≡ v.ceded
   pub given_up : page.page + 1 ≡ v.numbers.pages → w.ceded ≡ v.ceded ++ record { block = page.block; phase = Closed; generation = page.generation; written = page.page + 1 } ∷ []
 
+-- A write that is done
+abbrev pub Wrote : View → ℕ → ℕ → List ℕ → Was → View → Type 0
+Wrote v t s value answer w = Programmed v (Write t s value) s answer w
+
+-- A write of an empty sector that has made its call. Where the sector was written the call changes nothing, and its page stays unnamed
+abbrev pub WroteNew : View → ℕ → ℕ → List ℕ → Was → View → Type 0
+WroteNew v t s value answer w = Programmed v (WriteNew t s value) s answer w
+
 -- A write that found no block: the pass had none open, each block, in order, was found taken by a take of this call, and nothing else has changed
 pub record Refused (v : View) (w : View) : Type 0 where
   pub changed : w ≡ record v { denied = w.denied }
   pub nothing_open : v.owns ≡ []
   pub grown : w.denied ≡ v.denied ++ range_with_len 0 v.numbers.blocks
+
+-- what a sector was, by the outcome of a write of an empty sector; without a block nothing is known of it
+abbrev pub was_found : {X : Type 0} → Result X NewFault → Option Was
+was_found (Ok _) = Some was.Empty
+was_found (Err fault.Written) = Some was.Written
+was_found (Err fault.NoBlock) = None
 
 -- Two passes that met: each has seen what both had seen, and the second one what the first has; they have programmed no page both,
 -- and none of them one page twice

@@ -69,7 +69,7 @@ pub fn trim(flash: &Flash, pass: &mut Pass, sector: u32) -> Was
 }
 
 // Takes the lowest block that is free, trying from block 0 upwards, and says whether there was one.
-fn take_lowest(flash: &Flash, pass: &mut Pass) -> bool
+pub(crate) fn take_lowest(flash: &Flash, pass: &mut Pass) -> bool
     requires pass { IsPassOf flash.now pass.old }
     requires nothing_open { opened_of pass.old ≡ None }
     ensures told { MatchBool result (TookLowest (view_of pass.old) (view_of pass.new) (opened_of pass.new)) (Refused (view_of pass.old) (view_of pass.new) × (opened_of pass.new ≡ None)) }
@@ -84,7 +84,7 @@ fn take_lowest(flash: &Flash, pass: &mut Pass) -> bool
 }
 
 // Puts the bytes and the sector's stamp into the next page of the open block, and counts the page.
-fn fill(flash: &Flash, pass: &mut Pass, sector: u32, bytes: &[u8]) -> MapWord
+pub(crate) fn fill(flash: &Flash, pass: &mut Pass, sector: u32, bytes: &[u8]) -> MapWord
     requires pass { IsPassOf flash.now pass.old }
     requires room { (o : OpenBlock) × (opened_of pass.old ≡ Some o) × (o.block < blocks_of (geometry_of flash.now)) × (o.written < pages_of (geometry_of flash.now)) }
     requires settled { IsSettled (view_of pass.old) }
@@ -110,7 +110,7 @@ fn fill(flash: &Flash, pass: &mut Pass, sector: u32, bytes: &[u8]) -> MapWord
 }
 
 // Closes the open block if no page is left in it.
-fn close_if_full(flash: &Flash, pass: &mut Pass)
+pub(crate) fn close_if_full(flash: &Flash, pass: &mut Pass)
     requires pass { IsPassOf flash.now pass.old }
     requires opened { (o : OpenBlock) × (opened_of pass.old ≡ Some o) × (o.block < blocks_of (geometry_of flash.now)) }
     requires settled { IsSettled (view_of pass.old) }

@@ -1,13 +1,13 @@
 -- What one sector holds, as a fold of its own over the calls of a history.
 use Rattle.std.proofs.Common.{◌≡◌, ℕ, ◌<◌, All, List, [], ◌∷◌, ◌++◌, None, Some, eq-eqb, ne_eqb, length, refl, sym, ap, ◌∙◌, arith}
-use Rattle.std.specs.Prelude.{◌==◌, if◌then◌else◌}
+use Rattle.std.specs.Prelude.{◌==◌, if◌then◌else◌, slice_set}
 use Rattle.std.specs.List.{fold}
 use Rattle.std.proofs.lemmas.List.{get_or-set_same, get_or-set_other}
 use Rattle.std.proofs.lemmas.List.Elements.{All-head, All-tail}
 use Rattle.std.proofs.lemmas.List.Sums.{fold-append}
 use mathlib.Core.Logic.{dite}
 use native.Mathlib.Decide.{ℕ_discrete}
-use Rattle.geometry.specs.History.{Call, Write, Trim, step, after, held}
+use Rattle.geometry.specs.History.{Call, Write, WriteNew, Trim, put_new, step, after, held}
 use Rattle.geometry.specs.Sectors.{Sector, sector_at}
 use Rattle.geometry.proofs.Histories.{length-after, length-step}
 use Rattle.flash_rule.specs.Views.{caller, calls_of}
@@ -15,11 +15,14 @@ use Rattle.flash_rule.specs.Views.{caller, calls_of}
 -- the sector that a call is for
 abbrev pub target : Call → ℕ
 target (Write t s v) = s
+target (WriteNew t s v) = s
 target (Trim t s) = s
 
 -- what a call leaves at its sector
 abbrev pub effect : Call → Sector → Sector
 effect (Write t s v) old = Some v
+effect (WriteNew t s v) None = Some v
+effect (WriteNew t s v) (Some w) = Some w
 effect (Trim t s) old = None
 
 -- what a call leaves at any sector
@@ -37,6 +40,16 @@ step_at a (Write t r v) s low =
     dite (ℕ_discrete r s)
     (λ same. rw (eq-eqb r s same) (ap (λ k. sector_at (step a (Write t k v)) s) same ∙ get_or-set_same a s (Some v) None low))
     (λ other. rw (ne_eqb r s other) (get_or-set_other a r s (Some v) None (λ e. other (sym e))))
+step_at a (WriteNew t r v) s low = by_sector (sector_at a r) refl where
+  by_sector : (x : Sector) → sector_at a r ≡ x → sector_at (put_new a r x v) s ≡ effect_at s (WriteNew t r v) (sector_at a s)
+  by_sector None is =
+      dite (ℕ_discrete r s)
+      (λ same. rw (eq-eqb r s same) (ap (λ k. sector_at (slice_set a k (Some v)) s) same ∙ (get_or-set_same a s (Some v) None low ∙ ap (effect (WriteNew t r v)) (sym is ∙ ap (sector_at a) same))))
+      (λ other. rw (ne_eqb r s other) (get_or-set_other a r s (Some v) None (λ e. other (sym e))))
+  by_sector (Some w) is =
+      dite (ℕ_discrete r s)
+      (λ same. rw (eq-eqb r s same) (sym (ap (sector_at a) same) ∙ (is ∙ ap (effect (WriteNew t r v)) (sym is ∙ ap (sector_at a) same))))
+      (λ other. rw (ne_eqb r s other) refl)
 step_at a (Trim t r) s low =
     dite (ℕ_discrete r s)
     (λ same. rw (eq-eqb r s same) (ap (λ k. sector_at (step a (Trim t k)) s) same ∙ get_or-set_same a s None None low))

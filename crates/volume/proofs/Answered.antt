@@ -1,6 +1,7 @@
 -- Calls that are done are steps of the array, and the passes of a new device are ready.
-use Rattle.std.proofs.Common.{◌≡◌, ℕ, ◌<◌, All, List, [], Result, None, Some, slice_get, get_or, sym, ap, ◌∙◌}
+use Rattle.std.proofs.Common.{◌≡◌, ℕ, ◌<◌, All, List, [], Option, Result, None, Some, slice_get, get_or, sym, ap, ◌∙◌}
 use Rattle.std.specs.Result.{IfOk}
+use Rattle.std.specs.Option.{IfSome}
 use Rattle.std.proofs.lemmas.Result.{IfOk-weaker}
 use Rattle.std.proofs.lemmas.Option.{slice_get-get_or}
 use Rattle.std.proofs.lemmas.List.Elements.{All-nil, All-same}
@@ -20,8 +21,8 @@ use Rattle.flash_table.specs.declared.pass.Pass.{Pass}
 use Rattle.flash_table.specs.Flash.{IsPassOf, view_of, opened_of, geometry_of, device, first_view}
 use Rattle.host.specs.declared.writing.NoBlock.{NoBlock}
 use Rattle.host.specs.Ready.{IsReady}
-use Rattle.host.specs.Told.{Wrote}
-use Rattle.volume.specs.Correct.{Correct, Write, Trim, Replaced, known_by}
+use Rattle.host.specs.Told.{Wrote, WroteNew}
+use Rattle.volume.specs.Correct.{Correct, Write, WriteNew, Trim, Replaced, known_by}
 
 -- a pass has the numbers of its device
 sectors : (f : Flash) (p : Pass) → IsReady f p → (view_of p).numbers.sectors ≡ sectors_of (geometry_of f)
@@ -44,6 +45,25 @@ pub writes : (f : Flash) (p q : Pass) (s : ℕ) (value : List ℕ) (r : Result W
     → IfOk r (λ answer. (t : ℕ) → (view_of p).role ≡ Player (APass t) → Wrote (view_of p) t s value answer (view_of q))
     → IfOk r (λ answer. (t : ℕ) → (view_of p).role ≡ Player (APass t) → Correct (sectors_of (geometry_of f)) t (Write s value) (Replaced answer) (known_by (view_of p)) (known_by (view_of q)))
 writes f p q s value r old new wrote = IfOk-weaker r _ _ (λ answer told t role. written f p q t s value answer old new role (told t role)) wrote
+
+written_new : (f : Flash) (p q : Pass) (t s : ℕ) (value : List ℕ) (answer : Was) → IsReady f p → IsReady f q → (view_of p).role ≡ Player (APass t)
+    → WroteNew (view_of p) t s value answer (view_of q) → Correct (sectors_of (geometry_of f)) t (WriteNew s value) (Replaced answer) (known_by (view_of p)) (known_by (view_of q))
+written_new f p q t s value answer old new role w =
+    record {
+      place = w.before;
+      later = w.later;
+      answered = w.answered ∙ ap (λ n. was n w.before s) (sectors f p old);
+      seen = w.now;
+      mine = ap (λ (v : View). v.mine) w.changed;
+      own = new.rested.own t (ap (λ (v : View). v.role) w.changed ∙ role);
+    }
+
+-- and so for a write of an empty sector, whatever the sector was
+pub writes_new : (f : Flash) (p q : Pass) (s : ℕ) (value : List ℕ) (found : Option Was) → IsReady f p → IsReady f q
+    → IfSome found (λ answer. (t : ℕ) → (view_of p).role ≡ Player (APass t) → WroteNew (view_of p) t s value answer (view_of q))
+    → IfSome found (λ answer. (t : ℕ) → (view_of p).role ≡ Player (APass t) → Correct (sectors_of (geometry_of f)) t (WriteNew s value) (Replaced answer) (known_by (view_of p)) (known_by (view_of q)))
+writes_new f p q s value None old new wrote = wrote
+writes_new f p q s value (Some answer) old new wrote = λ t role. written_new f p q t s value answer old new role (wrote t role)
 
 pub trimmed : (f : Flash) (p q : Pass) (t s : ℕ) (answer : Was) → IsReady f p → (view_of p).role ≡ Player (APass t)
     → Called (view_of p) (call.Trim t s) s answer (view_of q) → Correct (sectors_of (geometry_of f)) t (Trim s) (Replaced answer) (known_by (view_of p)) (known_by (view_of q))

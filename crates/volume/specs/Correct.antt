@@ -1,4 +1,4 @@
--- What holds of each read, write and trim, whatever other threads do meanwhile: it is one step of an array of sectors, at a place of one
+-- What holds of each read, write, write of an empty sector and trim, whatever other threads do meanwhile: it is one step of an array of sectors, at a place of one
 -- history that only grows, and not before anything that its pass had seen.
 use Rattle.std.specs.Prelude.{◌≡◌, ℕ, List, [], ◌∷◌, ◌++◌}
 use Rattle.geometry.specs.Sectors.{Answers}
@@ -9,10 +9,11 @@ use Rattle.geometry.specs.declared.answer.Was.{Was}
 use Rattle.flash_rule.specs.Views.{calls_of}
 use Rattle.flash_rule.specs.declared.view.View.{View}
 
--- what a pass may ask: the value of a sector, a new value for it, or that it be empty
+-- what a pass may ask: the value of a sector, a new value for it, a value for it if it is empty, or that it be empty
 pub data Asked : Type 0 where
   Read : ℕ → Asked
   Write : ℕ → List ℕ → Asked
+  WriteNew : ℕ → List ℕ → Asked
   Trim : ℕ → Asked
 
 -- what it is answered: what it got, with its buffer before and after, or what the sector was
@@ -26,6 +27,8 @@ IsAnswerAt n h (Read s) (Found got old new) = Answers (held n h s) got old new
 IsAnswerAt n h (Read s) (Replaced was_there) = ⊥
 IsAnswerAt n h (Write s value) (Found got old new) = ⊥
 IsAnswerAt n h (Write s value) (Replaced was_there) = was_there ≡ was n h s
+IsAnswerAt n h (WriteNew s value) (Found got old new) = ⊥
+IsAnswerAt n h (WriteNew s value) (Replaced was_there) = was_there ≡ was n h s
 IsAnswerAt n h (Trim s) (Found got old new) = ⊥
 IsAnswerAt n h (Trim s) (Replaced was_there) = was_there ≡ was n h s
 
@@ -33,6 +36,7 @@ IsAnswerAt n h (Trim s) (Replaced was_there) = was_there ≡ was n h s
 abbrev pub calls_for : ℕ → Asked → List Call
 calls_for t (Read s) = []
 calls_for t (Write s value) = call.Write t s value ∷ []
+calls_for t (WriteNew s value) = call.WriteNew t s value ∷ []
 calls_for t (Trim s) = call.Trim t s ∷ []
 
 -- what a pass knows of the history: how far it has seen it, and its own calls in it

@@ -10,7 +10,7 @@ use broom::{Broom, Drain, Erase, Folded};
 use erase_queue::{EraseQueue, QueuePass};
 use flash_table::{Flash, Gate, Pass, Retired};
 use geometry::{Geometry, Was};
-use host::{Held, Holding, NoBlock, ReadDone};
+use host::{Held, Holding, NewFault, NoBlock, ReadDone};
 use std::alloc::{AllocError, Global};
 use std::sync::Wait;
 
@@ -23,7 +23,7 @@ pub struct Volume {
 }
 
 impl Volume {
-    ghost use Rattle.std.specs.Prelude.{ℕ, ◌<◌, All, List, [], None, Some, IfOk, OnErr, length, slice_get};
+    ghost use Rattle.std.specs.Prelude.{ℕ, ◌<◌, All, List, [], None, Some, Err, IfOk, IfSome, OnErr, length, slice_get};
     ghost use Rattle.geometry.specs.Geometry.{brooms_of, hosts_of, sectors_of, words_of, page_bytes_of};
     ghost use Rattle.geometry.specs.History as call;
     ghost use Rattle.geometry.specs.History.{held};
@@ -47,9 +47,10 @@ impl Volume {
     ghost use Rattle.broom.specs.Handing.{DrainOneTold, EraseOneTold, HandsNothing, IsBelow, LeftAt, aside_of, place_of};
     ghost use Rattle.broom.specs.Ready.{view_of as broom_view, blocks_of_broom};
     ghost use Rattle.host.specs.Ready.{IsReady};
-    ghost use Rattle.host.specs.Told.{Searched, Wrote, Refused, MetTold};
+    ghost use Rattle.host.specs.Told.{Searched, Wrote, WroteNew, Refused, MetTold, was_found};
+    ghost use Rattle.host.specs.declared.writing_new.NewFault.TheVariants as fault;
     ghost use Rattle.host.specs.Holding.{Holds, Found, pass_of, page_of};
-    ghost use Rattle.volume.specs.Correct.{Correct, Read, Write, Trim, Found as Got, Replaced, known_by};
+    ghost use Rattle.volume.specs.Correct.{Correct, Read, Write, WriteNew, Trim, Found as Got, Replaced, known_by};
     ghost use Rattle.volume.specs.Undisturbed.{Undisturbed};
     ghost use Rattle.volume.specs.Brooms.{IsBroomReady, IsFresh};
     ghost use Rattle.volume.specs.Volume.{flash_of, queue_of};
@@ -173,6 +174,39 @@ impl Volume {
         ensures pass { IsReady (flash_of self.now) pass.new }
     {
         host::write_gated(&self.flash, pass, sector, bytes, gate)
+    }
+
+    /// Writes a page of bytes to a sector if it is empty. The page is programmed before the sector is looked at, so `NoBlock` comes before
+    /// `Written`; after `Written` that page is dead, and a block that is full is closed.
+    pub fn write_new(&self, pass: &mut Pass, sector: u32, bytes: &[u8]) -> Result<(), NewFault>
+        requires pass { IsReady (flash_of self.now) pass.old }
+        requires sector { sector < sectors_of (geometry_of (flash_of self.now)) }
+        requires page { length bytes.now ≡ page_bytes_of (geometry_of (flash_of self.now)) }
+        ensures correct { IfSome (was_found result) (λ was. (t : ℕ) → (view_of pass.old).role ≡ role.Player (name.Pass t) → Correct (sectors_of (geometry_of (flash_of self.now))) t (WriteNew sector bytes.now) (Replaced was) (known_by (view_of pass.old)) (known_by (view_of pass.new))) }
+        ensures wrote { IfSome (was_found result) (λ was. (t : ℕ) → (view_of pass.old).role ≡ role.Player (name.Pass t) → WroteNew (view_of pass.old) t sector bytes.now was (view_of pass.new)) }
+        ensures refused { result ≡ Err fault.NoBlock → Refused (view_of pass.old) (view_of pass.new) }
+        ensures pass { IsReady (flash_of self.now) pass.new }
+    {
+        host::write_new(&self.flash, pass, sector, bytes)
+    }
+
+    /// A write of an empty sector that stops at its gate once its page is counted, before the sector's map word is exchanged.
+    pub fn write_new_gated<G: Gate>(
+        &self,
+        pass: &mut Pass,
+        sector: u32,
+        bytes: &[u8],
+        gate: &mut G,
+    ) -> Result<(), NewFault>
+        requires pass { IsReady (flash_of self.now) pass.old }
+        requires sector { sector < sectors_of (geometry_of (flash_of self.now)) }
+        requires page { length bytes.now ≡ page_bytes_of (geometry_of (flash_of self.now)) }
+        ensures correct { IfSome (was_found result) (λ was. (t : ℕ) → (view_of pass.old).role ≡ role.Player (name.Pass t) → Correct (sectors_of (geometry_of (flash_of self.now))) t (WriteNew sector bytes.now) (Replaced was) (known_by (view_of pass.old)) (known_by (view_of pass.new))) }
+        ensures wrote { IfSome (was_found result) (λ was. (t : ℕ) → (view_of pass.old).role ≡ role.Player (name.Pass t) → WroteNew (view_of pass.old) t sector bytes.now was (view_of pass.new)) }
+        ensures refused { result ≡ Err fault.NoBlock → Refused (view_of pass.old) (view_of pass.new) }
+        ensures pass { IsReady (flash_of self.now) pass.new }
+    {
+        host::write_new_gated(&self.flash, pass, sector, bytes, gate)
     }
 
     /// Empties a sector. The answer is what it was.

@@ -1,4 +1,4 @@
-use Rattle.std.proofs.Common.{◌≡◌, ◌+◌, sym, refl, ap, ◌∙◌, subst, is_some}
+use Rattle.std.proofs.Common.{◌≡◌, ◌+◌, sym, ap, ◌∙◌, subst, is_some}
 use Rattle.geometry.specs.History.{Write}
 use Rattle.flash_rule.specs.declared.view.View.{View}
 use Rattle.flash_rule.proofs.Still.{pass_of}
@@ -55,7 +55,7 @@ returns-clause-wrote g c n is =
     let called = c.place_write-was.ensures.told n c.args.bytes.now (the_role g at ∙ is) (the_page g at).placeable in
     let now = c.place_write-was.ensures.opened ∙ c.fill-page.ensures.opened t.0 t.1.opened in
     wrote c.args.flash.now (view_of c.args.pass.now) c.else-is_none.pass c.fill-page.new.pass t.0 t.1 c.args.sector c.args.bytes.now c.fill-page.result (the_page g at) c.place_write-was.new.pass
-    (Write n c.args.sector c.args.bytes.now) c.place_write-was.result called c.close_if_full.new.pass (c.close_if_full.ensures.told (record t.0 { written = t.0.written + 1 }) now) n refl
+    (Write n c.args.sector c.args.bytes.now) c.place_write-was.result called c.close_if_full.new.pass (c.close_if_full.ensures.told (record t.0 { written = t.0.written + 1 }) now)
 
 pub returns-clause-pass : goal.returns-clause-pass
 returns-clause-pass g c =
