@@ -2,7 +2,7 @@
 //   REFUSE_ALLOCATION=K  the K-th allocation        REFUSE_READ=K, REFUSE_WRITE=K  the K-th read of standard input, write to
 //   REFUSE_WITH=E        by this error number       standard output (with error 0 a write takes nothing)
 //   MOST=N               a read gives, and a write takes, N bytes at most; with SEED=S from 1 to N at random
-//   REPORT=FILE          gets the numbers of allocations, reads and writes at the end
+//   REPORT=FILE          gets the numbers of allocations, of reads and writes, and of writes to standard error at the end
 #define _GNU_SOURCE
 #include <errno.h>
 #include <stdio.h>
@@ -13,7 +13,7 @@
 extern void *__libc_malloc(size_t size);
 extern void *__libc_realloc(void *old, size_t size);
 
-static long allocations, reads, writes;
+static long allocations, reads, writes, tellings;
 
 static long number(const char *name) {
     const char *text = getenv(name);
@@ -73,6 +73,8 @@ ssize_t write(int file, const void *bytes, size_t length) {
             return errno ? -1 : 0;
         length = shortened(length);
     }
+    if (file == 2)
+        tellings += 1;
     return syscall(SYS_write, file, bytes, length);
 }
 
@@ -84,7 +86,7 @@ __attribute__((destructor)) static void report(void) {
     const char *path = getenv("REPORT");
     FILE *file = path ? fopen(path, "w") : NULL;
     if (file) {
-        fprintf(file, "%ld %ld %ld\n", allocations, reads, writes);
+        fprintf(file, "%ld %ld %ld %ld\n", allocations, reads, writes, tellings);
         fclose(file);
     }
 }

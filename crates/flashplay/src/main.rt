@@ -3,8 +3,6 @@
 #![tactic(auto)]
 
 mod late_file;
-#[cfg(test)]
-mod tests;
 
 use late_file::LateFile;
 use player::{Stop, Watched, read_words, session, tell, wear_name};
