@@ -13,8 +13,8 @@ pub record IsStoredBy (t s : ℕ) (value : List ℕ) (v : View) (done : Bool) (w
   pub mine : w.mine ≡ v.mine ++ (if done then Write t s value ∷ [] else [])
 
 -- A pass has written a value to a sector, if it is said to be done, and has made no other call
-abbrev pub IsStored : ℕ → List ℕ → View → Bool → View → Type 0
-IsStored s value v done w = (t : ℕ) → v.role ≡ Player (APass t) → IsStoredBy t s value v done w
+pub record IsStored (s : ℕ) (value : List ℕ) (v : View) (done : Bool) (w : View) : Type 0 where
+  pub told : (t : ℕ) → v.role ≡ Player (APass t) → IsStoredBy t s value v done w
 
 -- A pass has seen a history with all calls that pass t has made, which knows this
 pub record HasSeenCallsOf (t : ℕ) (other v : View) : Type 0 where
@@ -23,5 +23,5 @@ pub record HasSeenCallsOf (t : ℕ) (other v : View) : Type 0 where
   pub calls : calls_of t history ≡ other.mine
 
 -- A pass has seen a history with all calls that another one has made, which knows this
-abbrev pub HasHeard : View → View → Type 0
-HasHeard other v = (t : ℕ) → other.role ≡ Player (APass t) → HasSeenCallsOf t other v
+pub record HasHeard (other v : View) : Type 0 where
+  pub told : (t : ℕ) → other.role ≡ Player (APass t) → HasSeenCallsOf t other v

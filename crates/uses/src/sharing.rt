@@ -25,7 +25,6 @@ pub struct Writer<'a> {
 
 impl Writer<'_> {
     // Whether the value was written: it isn't where no block is free.
-    #[tactic(auto, using(crate::proofs::Meetings::stored))]
     fn write(&mut self) -> bool
         ensures stored { IsStored self.old.sector self.old.value.now (view_of self.old.pass) result (view_of self.new.pass) }
         ensures volume { self.new.volume ≡ self.old.volume }
@@ -64,7 +63,6 @@ fn write_beside_broom<R: Threads + Sync>(rt: &R, writer: &mut Writer, sweeper: &
 
 /// Two hosts write a value each while a broom collects, each in a thread of its own; then the hosts meet. The answers say whose value was
 /// written: it isn't where no block is free.
-#[tactic(auto, using(crate::proofs::Meetings::first_keeps, crate::proofs::Meetings::second_keeps, crate::proofs::Meetings::has_heard))]
 pub fn two_writers_and_a_broom<R: Threads + Sync>(
     rt: &R,
     first: &mut Writer,
