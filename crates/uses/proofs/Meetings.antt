@@ -26,20 +26,20 @@ pub stored : (r : Result Was NoBlock) (done : Bool) (s : ℕ) (value : List ℕ)
 stored (Ok answer) done s value v w is wrote refused =
     record {
       told = λ t role. let done_so = wrote t role in
-      record {
-        role = ap (λ (x : View). x.role) done_so.changed ∙ role;
-        later = Begins-trans v.seen done_so.before w.seen done_so.later (_, sym done_so.now);
-        mine = ap (λ (x : View). x.mine) done_so.changed ∙ mine_after v t s value done true is;
-      };
+          record {
+            role = ap (λ (x : View). x.role) done_so.changed ∙ role;
+            later = Begins-trans v.seen done_so.before w.seen done_so.later (_, sym done_so.now);
+            mine = ap (λ (x : View). x.mine) done_so.changed ∙ mine_after v t s value done true is;
+          };
     }
 stored (Err e) done s value v w is wrote refused =
     record {
       told = λ t role.
-      record {
-        role = ap (λ (x : View). x.role) refused.changed ∙ role;
-        later = subst (λ h. Begins v.seen h) (sym (ap (λ (x : View). x.seen) refused.changed)) (Begins-refl v.seen);
-        mine = ap (λ (x : View). x.mine) refused.changed ∙ (sym (append-nil v.mine) ∙ mine_after v t s value done false is);
-      };
+          record {
+            role = ap (λ (x : View). x.role) refused.changed ∙ role;
+            later = subst (λ h. Begins v.seen h) (sym (ap (λ (x : View). x.seen) refused.changed)) (Begins-refl v.seen);
+            mine = ap (λ (x : View). x.mine) refused.changed ∙ (sym (append-nil v.mine) ∙ mine_after v t s value done false is);
+          };
     }
 
 -- the first of two that meet
@@ -47,11 +47,11 @@ pub first_keeps : (s : ℕ) (value : List ℕ) (done : Bool) (a v v' x x' : View
 first_keeps s value done a v v' x x' before told =
     record {
       told = λ t role. let was = before.told t role in
-      record {
-        role = ap (λ (y : View). y.role) told.first ∙ was.role;
-        later = Begins-trans a.seen v.seen x.seen was.later told.later;
-        mine = ap (λ (y : View). y.mine) told.first ∙ was.mine;
-      };
+          record {
+            role = ap (λ (y : View). y.role) told.first ∙ was.role;
+            later = Begins-trans a.seen v.seen x.seen was.later told.later;
+            mine = ap (λ (y : View). y.mine) told.first ∙ was.mine;
+          };
     }
 
 -- and the second
@@ -59,11 +59,11 @@ pub second_keeps : (s : ℕ) (value : List ℕ) (done : Bool) (a v v' x x' : Vie
 second_keeps s value done a v v' x x' before told =
     record {
       told = λ t role. let was = before.told t role in
-      record {
-        role = ap (λ (y : View). y.role) told.second ∙ was.role;
-        later = Begins-trans a.seen v'.seen x'.seen was.later (Begins-trans v'.seen x.seen x'.seen told.brought told.shared);
-        mine = ap (λ (y : View). y.mine) told.second ∙ was.mine;
-      };
+          record {
+            role = ap (λ (y : View). y.role) told.second ∙ was.role;
+            later = Begins-trans a.seen v'.seen x'.seen was.later (Begins-trans v'.seen x.seen x'.seen told.brought told.shared);
+            mine = ap (λ (y : View). y.mine) told.second ∙ was.mine;
+          };
     }
 
 -- the first has seen all that the second had seen, and so all calls that it has made
@@ -71,9 +71,9 @@ pub has_heard : (f : Flash) (p : Pass) (v x x' : View) → IsReady f p → MetTo
 has_heard f p v x x' ready told =
     record {
       told = λ t role.
-      record {
-        history = (view_of p).seen;
-        seen = told.brought;
-        calls = ready.rested.own t (sym (ap (λ (y : View). y.role) told.second) ∙ role) ∙ sym (ap (λ (y : View). y.mine) told.second);
-      };
+          record {
+            history = (view_of p).seen;
+            seen = told.brought;
+            calls = ready.rested.own t (sym (ap (λ (y : View). y.role) told.second) ∙ role) ∙ sym (ap (λ (y : View). y.mine) told.second);
+          };
     }

@@ -45,8 +45,9 @@ pub struct Sweeper<'a> {
 impl Sweeper<'_> {
     // Empties the block with the fewest live pages, and erases it if nobody reads it.
     fn sweep(&mut self) {
-        if let Drain::Drained { block, copied: _ } =
-            self.volume.drain(&mut self.broom, &mut NoGate)
+        if let Drain::Drained { block, copied: _ } = self
+            .volume
+            .drain(&mut self.broom, &mut NoGate)
         {
             self.volume.erase(&mut self.broom, block, &mut NoGate);
         }
