@@ -36,3 +36,7 @@ pub record Stand (v : Sight) (items : List ℕ) : Type 0 where
 -- at one moment so many numbers stood in the queue
 abbrev pub StoodSome : Sight → ℕ → Type 0
 StoodSome v n = (items : List ℕ) × (length items ≡ n) × Stand v items
+
+-- At one moment so many numbers stood in the queue, and the pass has done nothing
+abbrev pub FoundFull : Sight → ℕ → Sight → Type 0
+FoundFull v limit w = (w ≡ v) × StoodSome v limit

@@ -1,6 +1,6 @@
 ghost use Rattle.std.specs.Prelude.{◌≡◌, ◌<◌, IfOk, IfSome, All, length, MatchBool, MatchOption};
 ghost use Rattle.crossbeam_queue.specs.Passes.{view, IsPassOf as IsPortOf, ruled_capacity};
-ghost use Rattle.erase_queue.specs.Moves.{DidPut, StoodSome};
+ghost use Rattle.erase_queue.specs.Moves.{DidPut, FoundFull};
 ghost use Rattle.erase_queue.specs.Queue.{limit_of, sight_of, IsPassOf, IsNewPass, WasPut, WasFull, WasTaken, WasEmpty};
 ghost use Rattle.erase_queue.specs.Rule.{dealer, counter};
 
@@ -77,7 +77,7 @@ impl EraseQueue {
     fn push(&self, rt: &impl Wait, pass: &mut QueuePass, block: usize) -> bool
         requires block { block < limit_of self.now }
         requires pass { IsPassOf self.now pass.old }
-        ensures told { MatchBool result (DidPut (sight_of pass.old) block (sight_of pass.new)) ((sight_of pass.new ≡ sight_of pass.old) × StoodSome (sight_of pass.old) (limit_of self.now)) }
+        ensures told { MatchBool result (DidPut (sight_of pass.old) block (sight_of pass.new)) (FoundFull (sight_of pass.old) (limit_of self.now) (sight_of pass.new)) }
         ensures pass { IsPassOf self.now pass.new }
         ensures counts { pass.new ≡ record pass.old { port = pass.new.port } }
     {

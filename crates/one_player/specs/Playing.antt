@@ -4,11 +4,12 @@ use Rattle.std.specs.Option.{option_map_or}
 use Rattle.std.specs.List.{fold}
 use Rattle.geometry.specs.Geometry.{sectors_of}
 use Rattle.geometry.specs.History.{Call}
+use Rattle.geometry.specs.Sectors.{Sector, sector_at}
 use Rattle.geometry.specs.declared.geometry.Geometry.{Geometry}
 use Rattle.ftl_one.specs.Stock.{Stock, opening, next}
 use Rattle.trace.specs.Trace.{commands_of}
 use Rattle.trace.specs.declared.commands.Command.{Command}
-use Rattle.answers.specs.Answers.{answers, call_of, totals_text}
+use Rattle.answers.specs.Answers.{answer_of, answers, call_of, line_text, totals_text}
 
 -- whether a call is refused at a stock
 abbrev pub is_worn : Geometry → Stock → Call → Bool
@@ -25,6 +26,14 @@ after_call geo stock call = unwrap_or (next geo stock call) stock
 -- the stock after a command
 abbrev pub stock_after : Geometry → Stock → Command → Stock
 stock_after geo stock command = option_map_or (after_call geo stock) (call_of command) stock
+
+-- the answer of a command at a stock and an array
+abbrev pub answer_at : Geometry → Stock → List Sector → Command → List ℕ
+answer_at geo stock array command = answer_of (codes "worn") (is_refused geo stock command) command.op (sector_at array command.sector)
+
+-- the line of a command with this answer
+abbrev pub line_there : ℕ → Geometry → Stock → List Sector → Command → List ℕ
+line_there line geo stock array command = line_text line command.op command.sector (answer_at geo stock array command)
 
 -- the stock before the line at a place: all commands before it, from an unused device on
 abbrev pub stock_before : Geometry → List Command → ℕ → Stock

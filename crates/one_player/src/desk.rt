@@ -1,17 +1,16 @@
-ghost use Rattle.std.specs.Prelude.{◌≡◌, ◌≢◌, ◌+◌, ◌*◌, ◌<◌, ◌≤◌, [], ◌++◌, codes, length, vec_len, IfOk, OnOk, OnErr};
+ghost use Rattle.std.specs.Prelude.{◌≡◌, ◌≢◌, ◌+◌, ◌*◌, ◌<◌, ◌≤◌, [], ◌++◌, length, vec_len, IfOk, OnOk, OnErr};
 ghost use Rattle.std.specs.Io.KnownBytes.{Appends};
 ghost use Rattle.std.specs.List.{fold};
 ghost use Rattle.geometry.specs.Geometry.{blocks_of, page_bytes_of};
 ghost use Rattle.geometry.specs.History.{step};
-ghost use Rattle.geometry.specs.Sectors.{sector_at};
 ghost use Rattle.ftl_one.specs.OneFtl.{geometry_of, sectors_of, stock_of};
 ghost use Rattle.trace.specs.Watched.{failures_of, inner_of};
-ghost use Rattle.answers.specs.Answers.{answer_of, calls_of, line_text, wear_names};
+ghost use Rattle.answers.specs.Answers.{calls_of, wear_names};
 ghost use Rattle.answers.specs.Delivery.{AppendsBeginning, IsUnderWay};
 ghost use Rattle.answers.specs.Lines.{page_digits_of, waiting_of};
 ghost use Rattle.answers.specs.Playable.{IsPlayable};
 ghost use Rattle.answers.specs.declared.line.TheConstants.{PIECE_BYTES};
-ghost use Rattle.one_player.specs.Playing.{end_text, is_refused, stock_after};
+ghost use Rattle.one_player.specs.Playing.{end_text, is_refused, line_there, stock_after};
 ghost use Rattle.one_player.specs.Wear.{block_line};
 
 use crate::perform::perform;
@@ -47,7 +46,7 @@ impl Desk {
         requires page { vec_len self.old.page ≡ page_bytes_of (geometry_of ftl.old) }
         requires room { length (waiting_of self.old.lines) ≤ PIECE_BYTES }
         ensures page { vec_len self.new.page ≡ vec_len self.old.page }
-        ensures lines { waiting_of self.new.lines ≡ waiting_of self.old.lines ++ line_text line command.now.op command.now.sector (answer_of (codes "worn") (is_refused (geometry_of ftl.old) (stock_of ftl.old) command.now) command.now.op (sector_at (sectors_of ftl.old) command.now.sector)) }
+        ensures lines { waiting_of self.new.lines ≡ waiting_of self.old.lines ++ line_there line (geometry_of ftl.old) (stock_of ftl.old) (sectors_of ftl.old) command.now }
         ensures geometry { geometry_of ftl.new ≡ geometry_of ftl.old }
         ensures array { sectors_of ftl.new ≡ fold step (sectors_of ftl.old) (calls_of (is_refused (geometry_of ftl.old) (stock_of ftl.old) command.now) command.now) }
         ensures stock { stock_of ftl.new ≡ stock_after (geometry_of ftl.old) (stock_of ftl.old) command.now }

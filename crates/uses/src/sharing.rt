@@ -1,16 +1,11 @@
 //! Threads that share a device: what each one needs stands in a struct whose ghost fields say that it is right.
-ghost use Rattle.std.specs.Prelude.{◌≡◌, ◌<◌, ℕ, true, List, length};
-ghost use Rattle.std.specs.Thread.{IsSync};
+ghost use Rattle.std.specs.Prelude.{◌≡◌, ◌<◌, length};
 ghost use Rattle.geometry.specs.Geometry.{page_bytes_of, sectors_of};
-ghost use Rattle.geometry.specs.History.{Begins};
-ghost use Rattle.flash_rule.specs.declared.facts.Name.TheVariants as name;
-ghost use Rattle.flash_rule.specs.declared.facts.Role.TheVariants as role;
-ghost use Rattle.flash_rule.specs.Views.{calls_of};
 ghost use Rattle.flash_table.specs.Flash.{geometry_of, view_of};
 ghost use Rattle.host.specs.Ready.{IsReady};
 ghost use Rattle.volume.specs.Brooms.{IsBroomReady, IsBroomReady-prop};
 ghost use Rattle.volume.specs.Volume.{flash_of};
-ghost use Rattle.uses.specs.Sharing.{Stored, HasHeard};
+ghost use Rattle.uses.specs.Sharing.{IsStored, HasHeard};
 
 use broom::{Broom, Drain};
 use flash_table::{NoGate, Pass};
@@ -30,9 +25,8 @@ pub struct Writer<'a> {
 
 impl Writer<'_> {
     // Whether the value was written: it isn't where no block is free.
-    #[tactic(auto, using(crate::proofs::Meetings::stored))]
     fn write(&mut self) -> bool
-        ensures stored { (t : ℕ) → (view_of self.old.pass).role ≡ role.Player (name.Pass t) → Stored t self.old.sector self.old.value.now (view_of self.old.pass) result (view_of self.new.pass) }
+        ensures stored { IsStored self.old.sector self.old.value.now (view_of self.old.pass) result (view_of self.new.pass) }
         ensures volume { self.new.volume ≡ self.old.volume }
     {
         self.volume
@@ -51,8 +45,9 @@ pub struct Sweeper<'a> {
 impl Sweeper<'_> {
     // Empties the block with the fewest live pages, and erases it if nobody reads it.
     fn sweep(&mut self) {
-        if let Drain::Drained { block, copied: _ } =
-            self.volume.drain(&mut self.broom, &mut NoGate)
+        if let Drain::Drained { block, copied: _ } = self
+            .volume
+            .drain(&mut self.broom, &mut NoGate)
         {
             self.volume.erase(&mut self.broom, block, &mut NoGate);
         }
@@ -61,7 +56,7 @@ impl Sweeper<'_> {
 
 // A writer's turn and a broom's, each in a thread of its own. The answer is the writer's.
 fn write_beside_broom<R: Threads + Sync>(rt: &R, writer: &mut Writer, sweeper: &mut Sweeper) -> bool
-    ensures stored { (t : ℕ) → (view_of writer.old.pass).role ≡ role.Player (name.Pass t) → Stored t writer.old.sector writer.old.value.now (view_of writer.old.pass) result (view_of writer.new.pass) }
+    ensures stored { IsStored writer.old.sector writer.old.value.now (view_of writer.old.pass) result (view_of writer.new.pass) }
     ensures volume { writer.new.volume ≡ writer.old.volume }
 {
     join_mut(rt, &mut || writer.write(), &mut || sweeper.sweep()).0
@@ -69,7 +64,6 @@ fn write_beside_broom<R: Threads + Sync>(rt: &R, writer: &mut Writer, sweeper: &
 
 /// Two hosts write a value each while a broom collects, each in a thread of its own; then the hosts meet. The answers say whose value was
 /// written: it isn't where no block is free.
-#[tactic(auto, using(crate::proofs::Meetings::first_keeps, crate::proofs::Meetings::second_keeps, crate::proofs::Meetings::heard))]
 pub fn two_writers_and_a_broom<R: Threads + Sync>(
     rt: &R,
     first: &mut Writer,
@@ -79,11 +73,11 @@ pub fn two_writers_and_a_broom<R: Threads + Sync>(
     requires { second.old.volume.now ≡ first.old.volume.now }
 
     // Each has made its own write, or none, whatever the broom and other threads did meanwhile.
-    ensures first { (t : ℕ) → (view_of first.old.pass).role ≡ role.Player (name.Pass t) → Stored t first.old.sector first.old.value.now (view_of first.old.pass) result.0 (view_of first.new.pass) }
-    ensures second { (t : ℕ) → (view_of second.old.pass).role ≡ role.Player (name.Pass t) → Stored t second.old.sector second.old.value.now (view_of second.old.pass) result.1 (view_of second.new.pass) }
+    ensures first { IsStored first.old.sector first.old.value.now (view_of first.old.pass) result.0 (view_of first.new.pass) }
+    ensures second { IsStored second.old.sector second.old.value.now (view_of second.old.pass) result.1 (view_of second.new.pass) }
 
     // And the first has seen what the second has written, so that it reads no older value from now on.
-    ensures heard { (t : ℕ) → (view_of second.new.pass).role ≡ role.Player (name.Pass t) → HasHeard t (view_of second.new.pass) (view_of first.new.pass) }
+    ensures heard { HasHeard (view_of second.new.pass) (view_of first.new.pass) }
 {
     let answers = join_mut(
         rt,
