@@ -1,42 +1,7 @@
-ghost use Rattle.std.specs.Prelude.{◌≡◌, ℕ, ◌∷◌, [], All, Some, IfOk, IfErr, length, slice_get};
-ghost use Rattle.geometry.specs.Geometry.{hosts_of, page_bytes_of, sectors_of as sector_count_of};
-ghost use Rattle.flash_table.specs.Flash.{device, first_view, geometry_of, view_of};
-ghost use Rattle.flash_table.specs.declared.pass.Pass.{Pass};
-ghost use Rattle.host.specs.Ready.{IsReady};
-ghost use Rattle.volume.specs.Closing.{sectors_of};
-ghost use Rattle.volume.specs.Volume.{flash_of};
-
-use flash_table::Pass;
 use geometry::Geometry;
-use std::alloc::Global;
 use std::test::Fail;
-use volume::{Closed, Volume};
-
-// Two passes write a sector each. Whichever write is first in the history, the device is closed with both values.
-fn closes_with_both(
-    alloc: Global,
-    volume: Volume,
-    passes: Vec<Pass>,
-    first: &[u8],
-    second: &[u8],
-) -> Result<Closed, (Volume, Vec<Pass>)>
-    requires hosts { hosts_of (geometry_of (flash_of volume)) ≡ 2 }
-    requires sectors { sector_count_of (geometry_of (flash_of volume)) ≡ 2 }
-    requires count { length passes.items ≡ 2 }
-    requires new { (t : ℕ) (p : Pass) → slice_get passes.items t ≡ Some p → (view_of p ≡ first_view (device (flash_of volume)) t) × IsReady (flash_of volume) p }
-    requires first { length first.now ≡ page_bytes_of (geometry_of (flash_of volume)) }
-    requires second { length second.now ≡ page_bytes_of (geometry_of (flash_of volume)) }
-    ensures both { IfOk result (λ closed. sectors_of closed ≡ Some first.now ∷ Some second.now ∷ []) }
-    ensures handed_back { IfErr result (λ back. All (IsReady (flash_of back.0)) back.1.items) }
-{
-    let mut passes = passes;
-    let one = volume.write(&mut passes[0], 0, first);
-    let two = volume.write(&mut passes[1], 1, second);
-    if one.is_err() || two.is_err() {
-        return Err((volume, passes));
-    }
-    volume.close(alloc, passes)
-}
+use uses::two_writers;
+use volume::Volume;
 
 #[test]
 fn two_passes_write_and_both_values_stay(rt: HostRuntime) -> Result<(), Fail> {
@@ -47,7 +12,7 @@ fn two_passes_write_and_both_values_stay(rt: HostRuntime) -> Result<(), Fail> {
     assert_eq!(rt; geometry.page_bytes(), 8);
     let (volume, passes, brooms) = Volume::open(rt.alloc(), &geometry)?;
     brooms.destroy_empty();
-    match closes_with_both(
+    match two_writers(
         rt.alloc(),
         volume,
         passes,
