@@ -1,1 +1,2 @@
+mod Callers
 pub mod Meetings
