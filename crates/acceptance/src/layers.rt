@@ -2,7 +2,7 @@ ghost use Rattle.std.specs.Prelude.{◌≡◌};
 ghost use Rattle.geometry.specs.Geometry.{page_bytes_of};
 ghost use Rattle.ftl_one.specs.OneFtl.{geometry_of};
 
-use ftl_one::OneFtl;
+use ftl_one::{NewOneFault, OneFtl};
 use geometry::{Geometry, Got, Was};
 use std::alloc::Global;
 use std::process::Abort;
@@ -36,6 +36,11 @@ impl Bench {
     fn write(&mut self, rt: &impl Abort, sector: u32, byte: u8) -> Option<Was> {
         assert!(rt; sector < self.ftl.geometry().sectors());
         self.ftl.write(sector, &[byte, 0, 0, 0, 0, 0, 0, 0]).ok()
+    }
+
+    fn write_new(&mut self, rt: &impl Abort, sector: u32, byte: u8) -> Result<(), NewOneFault> {
+        assert!(rt; sector < self.ftl.geometry().sectors());
+        self.ftl.write_new(sector, &[byte, 0, 0, 0, 0, 0, 0, 0])
     }
 
     fn trim(&mut self, rt: &impl Abort, sector: u32) -> Was {
@@ -209,6 +214,16 @@ fn a_trim_empties_a_sector_and_programs_nothing(rt: HostRuntime) -> Result<(), F
 }
 
 // Two sectors are written by turns. The victims are blocks 0, 1, 2 and 0, whose second erase fails.
+#[test]
+fn a_written_sector_is_refused_before_a_page_is_programmed(rt: HostRuntime) -> Result<(), Fail> {
+    let mut bench = Bench::new(&rt, 1, 3, 2, 3, 10)?;
+    assert_eq!(rt; bench.write_new(&rt, 0, 0x41), Ok(()));
+    assert_eq!(rt; bench.write_new(&rt, 0, 0x42), Err(NewOneFault::Written));
+    assert_eq!(rt; bench.read(&rt, 0), Some(0x41));
+    assert_eq!(rt; bench.ftl.counts().programs, 1);
+    Ok(())
+}
+
 #[test]
 fn the_blocks_tell_their_wear(rt: HostRuntime) -> Result<(), Fail> {
     let mut bench = Bench::new(&rt, 1, 3, 2, 3, 2)?;

@@ -98,6 +98,13 @@ fn accepted_records_are_commands(rt: HostRuntime) -> Result<(), Fail> {
             1,
             b"\x01\x02\x03\x04\x05\x06\x07\x08".as_slice(),
         ),
+        (
+            "a write of an empty sector",
+            "7,new,2,41",
+            Op::New,
+            2,
+            b"A\0\0\0\0\0\0\0".as_slice(),
+        ),
         ("a trim", "7,trim,0,", Op::Trim, 0, b"".as_slice()),
         (
             "numbers of seven digits",

@@ -1,5 +1,5 @@
 -- A command that passed the checks of its record can be played: its sector is there, and a write has a page.
-use Rattle.std.proofs.Common.{◌≡◌, ℕ, ◌+◌, ◌-◌, ◌<◌, List, [], ◌∷◌, length, replicate, refl, subst, sym, ap, ◌∙◌, arith, length-append}
+use Rattle.std.proofs.Common.{◌≡◌, ℕ, ◌+◌, ◌-◌, ◌<◌, ◌⊎◌, inl, inr, ⊎_elim, List, [], ◌∷◌, length, replicate, refl, subst, sym, ap, ◌∙◌, arith, length-append}
 use Rattle.std.specs.Prelude.{Result, Ok, Err}
 use Rattle.std.specs.List.{All}
 use Rattle.std.proofs.Math.ListN.{get_or}
@@ -33,12 +33,13 @@ page_is_whole_from size (Ok bytes) page e =
     let sizes : length (page_with size bytes) ≡ length bytes + (size - length bytes) = length-append bytes (replicate (size - length bytes) 0) ∙ ap (λ n. length bytes + n) (length-replicate (size - length bytes) 0) in
     grind (arith, nat_tests, e, sizes)
 
-page_is_whole : (size worker sector : ℕ) (which : Op) (digits page : List ℕ) → page_of size which worker sector digits ≡ Ok page → which ≡ op.Write → length page ≡ size
+page_is_whole : (size worker sector : ℕ) (which : Op) (digits page : List ℕ) → page_of size which worker sector digits ≡ Ok page → (which ≡ op.Write) ⊎ (which ≡ op.New) → length page ≡ size
 unfolding page_of
 page_is_whole size worker sector op.Write digits page e w = page_is_whole_from size (decode_of digits) page e
-page_is_whole size worker sector op.Read digits page e w = cc
-page_is_whole size worker sector op.Trim digits page e w = cc
-page_is_whole size worker sector op.Meet digits page e w = cc
+page_is_whole size worker sector op.New digits page e w = page_is_whole_from size (decode_of digits) page e
+page_is_whole size worker sector op.Read digits page e w = ⊎_elim (λ (no : op.Read ≡ op.Write). absurd (cc)) (λ (no : op.Read ≡ op.New). absurd (cc)) w
+page_is_whole size worker sector op.Trim digits page e w = ⊎_elim (λ (no : op.Trim ≡ op.Write). absurd (cc)) (λ (no : op.Trim ≡ op.New). absurd (cc)) w
+page_is_whole size worker sector op.Meet digits page e w = ⊎_elim (λ (no : op.Meet ≡ op.Write). absurd (cc)) (λ (no : op.Meet ≡ op.New). absurd (cc)) w
 
 abbrev from_page : Geometry → List ℕ → ℕ → Op → ℕ → Result Command TraceFaultKind
 from_page geo digits worker which sector = page_of (page_bytes_of geo) which worker sector digits >>= (λ page. Ok (record { worker = worker; op = which; sector = sector; page = page }))
@@ -63,7 +64,8 @@ command_is_playable geo (worker_text ∷ op_text ∷ sector_text ∷ digits ∷ 
     let made : record { worker = worker.0; op = which.0; sector = sector.0; page = page.0 } ≡ c = cc (page.2) in
     subst (IsPlayable geo) made (record {
       sector = number_is_below (sectors_of geo) fault.Sector sector_text sector.0 sector.1;
-      page = page_is_whole (page_bytes_of geo) worker.0 sector.0 which.0 digits page.0 page.1;
+      page = λ is. page_is_whole (page_bytes_of geo) worker.0 sector.0 which.0 digits page.0 page.1 (inl is);
+      new_page = λ is. page_is_whole (page_bytes_of geo) worker.0 sector.0 which.0 digits page.0 page.1 (inr is);
     })
 command_is_playable geo (a ∷ b ∷ d ∷ f ∷ h ∷ rest) c e = cc
 

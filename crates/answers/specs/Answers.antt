@@ -3,7 +3,7 @@ use Rattle.std.specs.Prelude.{ℕ, ◌+◌, Bool, List, [], ◌++◌, length, co
 use Rattle.std.specs.Option.{option_map_or, option_to_list}
 use Rattle.std.specs.List.{flat_map, range_with_len}
 use Rattle.geometry.specs.Sectors.{Sector, was_of}
-use Rattle.geometry.specs.History.{Call, Write, Trim, held}
+use Rattle.geometry.specs.History.{Call, Write, WriteNew, Trim, held}
 use Rattle.geometry.specs.declared.answer.Was.{Was}
 use Rattle.geometry.specs.declared.answer.Was.TheVariants as was
 use Rattle.hex.specs.Hex.{encode_lower}
@@ -17,6 +17,7 @@ use Rattle.trace.specs.declared.commands.Op.TheVariants as op
 abbrev pub call_by : Op → ℕ → List ℕ → Option Call
 call_by op.Read s value = None
 call_by op.Write s value = Some (Write 0 s value)
+call_by op.New s value = Some (WriteNew 0 s value)
 call_by op.Trim s value = Some (Trim 0 s)
 call_by op.Meet s value = None
 
@@ -50,6 +51,7 @@ found_text (Some value) = encode_lower value
 abbrev pub answer_of : List ℕ → Bool → Op → Sector → List ℕ
 answer_of refusal refused op.Read sector = found_text sector
 answer_of refusal refused op.Write sector = if refused then refusal else was_text (was_of sector)
+answer_of refusal refused op.New sector = if refused then refusal else was_text (was_of sector)
 answer_of refusal refused op.Trim sector = was_text (was_of sector)
 answer_of refusal refused op.Meet sector = codes "met"
 

@@ -7,6 +7,7 @@ pub mod ClearLemmas
 pub mod BlocksLemmas
 pub mod LawfulLemmas
 pub mod FtlLemmas
+pub mod Current
 pub mod CollectLemmas
 pub mod NewLemmas
 pub mod LawLemmas

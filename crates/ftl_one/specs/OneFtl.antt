@@ -1,8 +1,12 @@
 -- What contracts see of a `OneFtl`: its geometry, its sectors and its stock.
-use Rattle.std.specs.Prelude.{List}
+use Rattle.std.specs.Prelude.{List, Result, Ok, Err}
 use Rattle.geometry.specs.declared.geometry.Geometry.{Geometry}
 use Rattle.geometry.specs.Sectors.{Sector}
+use Rattle.geometry.specs.declared.answer.Was.{Was}
+use Rattle.geometry.specs.declared.answer.Was.TheVariants as was
 use Rattle.ftl_one.specs.declared.one_ftl.OneFtl.{OneFtl}
+use Rattle.ftl_one.specs.declared.one_ftl.NewOneFault.{NewOneFault}
+use Rattle.ftl_one.specs.declared.one_ftl.NewOneFault.TheVariants as fault
 use Rattle.ftl_one.specs.Blocks.{blocks_in}
 use Rattle.ftl_one.specs.Stock.{Stock}
 use Rattle.ftl_one.specs.Store as pages
@@ -18,3 +22,9 @@ sectors_of ftl = pages.sectors_of ftl.store
 -- the blocks and the totals
 unfoldable pub stock_of : OneFtl → Stock
 stock_of ftl = record { blocks = blocks_in ftl.store ftl.roles.items; programs = ftl.counts.programs; copies = ftl.counts.copies; erases = ftl.counts.erases }
+
+-- what a sector was, by the outcome of a write of an empty sector: it is looked at first, so the layer is worn out only where it was empty
+abbrev pub was_found : {X : Type 0} → Result X NewOneFault → Was
+was_found (Ok _) = was.Empty
+was_found (Err fault.WornOut) = was.Empty
+was_found (Err fault.Written) = was.Written

@@ -9,5 +9,5 @@ mod role;
 mod roles;
 mod store;
 
-pub use one_ftl::{Counts, OneFtl, WornOut};
+pub use one_ftl::{Counts, NewOneFault, OneFtl, WornOut};
 pub use role::Role;

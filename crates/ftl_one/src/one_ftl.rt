@@ -17,6 +17,17 @@ use thiserror::Error;
 #[error("no page is left to write")]
 pub struct WornOut;
 
+/// Why a write of an empty sector changed nothing.
+#[derive(Clone, Copy, Debug, PartialEq, Eq, Error)]
+pub enum NewOneFault {
+    /// No page is left for a write, and none can be won.
+    #[error("no page is left to write")]
+    WornOut,
+    /// The sector was written already.
+    #[error("the sector is written")]
+    Written,
+}
+
 /// Pages programmed for host writes, pages relocated, and erase commands.
 #[derive(Clone, Copy, Debug, PartialEq, Eq)]
 pub struct Counts {
@@ -45,8 +56,10 @@ impl OneFtl {
     ghost use Rattle.ftl_one.specs.Laws.{CollectsAtMostOne, ErasesNothing, HasRetired, block_at};
     ghost use Rattle.std.specs.Prelude.{◌≢◌, [], IfOk, IfSome, IfNone, OnOk, OnErr, ◌^◌};
     ghost use Rattle.geometry.specs.Sectors.{sector_at, was_of, Answers};
-    ghost use Rattle.geometry.specs.History.{Write, Trim, step, after};
-    ghost use Rattle.ftl_one.specs.OneFtl.{geometry_of, sectors_of, stock_of};
+    ghost use Rattle.std.specs.Prelude.{Err};
+    ghost use Rattle.geometry.specs.History.{Write, WriteNew, Trim, step, after};
+    ghost use Rattle.ftl_one.specs.OneFtl.{geometry_of, sectors_of, stock_of, was_found};
+    ghost use Rattle.ftl_one.specs.declared.one_ftl.NewOneFault.TheVariants as fault;
     ghost use Rattle.ftl_one.specs.Stock.{Stock, next, opening, opened, open_of, free_of, spare_of, victim_of, ready, collect, write_of, live_of, is_retired};
 
     /// A layer with every sector empty.
@@ -117,6 +130,35 @@ impl OneFtl {
             return Err(WornOut);
         };
         Ok(self.write_into(block, sector, bytes))
+    }
+
+    /// Writes a sector if it is empty. Where it is written, nothing is programmed.
+    pub fn write_new(&mut self, sector: u32, bytes: &[u8]) -> Result<(), NewOneFault>
+        requires sector { sector < sector_count_of (geometry_of self.old) }
+        requires page { length bytes.now ≡ page_bytes_of (geometry_of self.old) }
+        ensures geometry { geometry_of self.new ≡ geometry_of self.old }
+        ensures answer { was_found result ≡ was_of (sector_at (sectors_of self.old) sector) }
+        ensures array { OnOk result (sectors_of self.new ≡ step (sectors_of self.old) (WriteNew 0 sector bytes.now)) }
+        ensures stock { OnOk result (next (geometry_of self.old) (stock_of self.old) (WriteNew 0 sector bytes.now) ≡ Some (stock_of self.new)) }
+
+        // A write that is refused has changed nothing. A written sector leaves the stock as it was, and one that is empty finds no page.
+        ensures written { result ≡ Err fault.Written → next (geometry_of self.old) (stock_of self.old) (WriteNew 0 sector bytes.now) ≡ Some (stock_of self.old) }
+        ensures unchanged { result ≡ Err fault.Written → step (sectors_of self.old) (WriteNew 0 sector bytes.now) ≡ sectors_of self.old }
+        ensures worn { result ≡ Err fault.WornOut → next (geometry_of self.old) (stock_of self.old) (WriteNew 0 sector bytes.now) ≡ None }
+        ensures same_array { OnErr result (sectors_of self.new ≡ sectors_of self.old) }
+        ensures same_stock { OnErr result (stock_of self.new ≡ stock_of self.old) }
+
+        // Whatever is relocated or erased, no other sector changes; a write that succeeds is one program.
+        ensures others { (s : ℕ) → s ≢ sector → sector_at (sectors_of self.new) s ≡ sector_at (sectors_of self.old) s }
+        ensures programs { OnOk result ((stock_of self.new).programs ≡ (stock_of self.old).programs + 1) }
+    {
+        match self.store.was(sector) {
+            Was::Written => Err(NewOneFault::Written),
+            Was::Empty => match self.write(sector, bytes) {
+                Ok(_) => Ok(()),
+                Err(WornOut) => Err(NewOneFault::WornOut),
+            },
+        }
     }
 
     /// Empties a sector, and answers what it was.

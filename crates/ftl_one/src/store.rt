@@ -77,6 +77,14 @@ impl Store {
         }
     }
 
+    /// What a sector is.
+    pub fn was(&self, sector: u32) -> Was
+        requires { sector < sector_count_of (geometry_of self.now) }
+        ensures { result ≡ was_of (sector_at (sectors_of self.now) sector) }
+    {
+        answer_of(self.current[sector as usize])
+    }
+
     /// Empties a sector, and answers what it was.
     pub fn forget(&mut self, sector: u32) -> Was
         requires { sector < sector_count_of (geometry_of self.old) }

@@ -1,7 +1,7 @@
 -- A line of a trace with its answer: whose it is, which calls it adds to the history, and when its answer is right.
 use Rattle.std.specs.Prelude.{◌≡◌, ◌⊎◌, ℕ, Bool, true, false, if◌then◌else◌, List, [], ◌∷◌, None, Some}
 use Rattle.geometry.specs.Sectors.{Sector, was_of}
-use Rattle.geometry.specs.History.{Call, Write, Trim}
+use Rattle.geometry.specs.History.{Call, Write, WriteNew, Trim}
 use Rattle.geometry.specs.declared.answer.Was.{Was}
 use Rattle.geometry.specs.declared.answer.Was.TheVariants as was
 use Rattle.trace.specs.declared.commands.Command.{Command}
@@ -40,6 +40,7 @@ is_full kind.Full = true
 abbrev pub calls_by : ℕ → Op → ℕ → List ℕ → List Call
 calls_by t op.Read s value = []
 calls_by t op.Write s value = Write t s value ∷ []
+calls_by t op.New s value = WriteNew t s value ∷ []
 calls_by t op.Trim s value = Trim t s ∷ []
 calls_by t op.Meet s value = []
 
@@ -56,10 +57,11 @@ abbrev pub IsFound : Sector → Kind → List ℕ → Type 0
 IsFound None k page = k ≡ kind.Empty
 IsFound (Some value) k page = (k ≡ kind.Page) × (page ≡ value)
 
--- the right answer of an op whose sector holds this: a write may be turned away anywhere, and a meeting asks nothing of it
+-- the right answer of an op whose sector holds this: a write of either kind may be turned away anywhere, and a meeting asks nothing of it
 abbrev pub IsRight : Op → Sector → Kind → List ℕ → Type 0
 IsRight op.Read x k page = IsFound x k page
 IsRight op.Write x k page = (k ≡ kind.Full) ⊎ (k ≡ kind_of (was_of x))
+IsRight op.New x k page = (k ≡ kind.Full) ⊎ (k ≡ kind_of (was_of x))
 IsRight op.Trim x k page = k ≡ kind_of (was_of x)
 IsRight op.Meet x k page = k ≡ kind.Met
 

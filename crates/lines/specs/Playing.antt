@@ -29,6 +29,7 @@ calls_done t (c ∷ lines) (a ∷ answers) = calls_made t c a ++ calls_done t li
 abbrev pub one_done : Op → Bool → ℕ
 one_done op.Read full = 0
 one_done op.Write full = if full then 0 else 1
+one_done op.New full = if full then 0 else 1
 one_done op.Trim full = 0
 one_done op.Meet full = 0
 

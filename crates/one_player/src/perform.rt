@@ -10,7 +10,7 @@ ghost use Rattle.answers.specs.Replies.{reply_text};
 ghost use Rattle.one_player.specs.Playing.{answer_at, is_refused, stock_after};
 
 use answers::Reply;
-use ftl_one::{OneFtl, WornOut};
+use ftl_one::{NewOneFault, OneFtl, WornOut};
 use geometry::Got;
 use trace::{Command, Op};
 
@@ -33,6 +33,14 @@ pub fn perform(ftl: &mut OneFtl, command: &Command<'_>, page: &mut [u8]) -> Repl
             match ftl.write(command.sector, page) {
                 Ok(was) => Reply::of_was(was),
                 Err(WornOut) => Reply::Worn,
+            }
+        }
+        Op::New => {
+            command.page.copy_into(page);
+            match ftl.write_new(command.sector, page) {
+                Ok(()) => Reply::Empty,
+                Err(NewOneFault::Written) => Reply::Written,
+                Err(NewOneFault::WornOut) => Reply::Worn,
             }
         }
         Op::Trim => Reply::of_was(ftl.trim(command.sector)),

@@ -168,6 +168,7 @@ other_page t patience v o s value k page other full w apart p =
       moved : (o : Op) (x : Sector) → ¬ (o ≡ op.Read) → IsRight o x k page → IsRight o x k other
       moved op.Read x apart right = absurd (apart refl)
       moved op.Write x apart right = right
+      moved op.New x apart right = right
       moved op.Trim x apart right = right
       moved op.Meet x apart right = right
 

@@ -6,10 +6,11 @@ use Rattle.trace.specs.declared.commands.Command.{Command}
 use Rattle.trace.specs.declared.commands.Op.TheVariants as op
 use Rattle.lines.specs.declared.answer.Answer.{Answer}
 
--- A line that a worker can do on a device of this geometry: its sector is there, a write has a page, and it asks for no meeting
+-- A line that a worker can do on a device of this geometry: its sector is there, a write of either kind has a page, and it asks for no meeting
 pub record IsLine (geo : Geometry) (line : Command) : Type 0 where
   pub sector : line.sector < sectors_of geo
   pub page : line.op ≡ op.Write → length line.page ≡ page_bytes_of geo
+  pub new_page : line.op ≡ op.New → length line.page ≡ page_bytes_of geo
   pub alone : ¬ (line.op ≡ op.Meet)
 
 -- there is room for a page

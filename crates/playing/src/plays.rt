@@ -13,6 +13,7 @@ ghost use Rattle.playing.specs.Line.{PlayedLine, kind_found};
 
 use flash_table::{Gate, Pass, Point};
 use geometry::Got;
+use host::NewFault;
 use lines::{Answer, Kind};
 use trace::{Command, Commands, Op};
 use volume::Volume;
@@ -50,6 +51,31 @@ fn write_patiently<G: Gate>(
     Kind::Full
 }
 
+// Writes a page to a sector if it is empty, in so many tries.
+fn write_new_patiently<G: Gate>(
+    volume: &Volume,
+    pass: &mut Pass,
+    sector: u32,
+    bytes: &[u8],
+    patience: u32,
+    gate: &mut G,
+) -> Kind
+    requires pass { IsReady (flash_of volume.now) pass.old }
+    requires sector { sector < sectors_of (geometry_of (flash_of volume.now)) }
+    requires page { length bytes.now ≡ page_bytes_of (geometry_of (flash_of volume.now)) }
+    ensures told { (t : ℕ) → (view_of pass.old).role ≡ role.Player (name.Pass t) → PlayedLine t patience (view_of pass.old) op.New sector bytes.now result bytes.now (is_full result) (view_of pass.new) }
+    ensures pass { IsReady (flash_of volume.now) pass.new }
+{
+    for refused in 0..patience {
+        match volume.write_new_gated(pass, sector, bytes, gate) {
+            Ok(()) => return Kind::Empty,
+            Err(NewFault::Written) => return Kind::Written,
+            Err(NewFault::NoBlock) => {}
+        }
+    }
+    Kind::Full
+}
+
 // Does a line, with a buffer of a page: a read leaves there what it found, and a write's bytes are made there.
 fn play_line<G: Gate>(
     volume: &Volume,
@@ -70,6 +96,10 @@ fn play_line<G: Gate>(
         Op::Write => {
             line.page.copy_into(page);
             write_patiently(volume, pass, line.sector, page, patience, gate)
+        }
+        Op::New => {
+            line.page.copy_into(page);
+            write_new_patiently(volume, pass, line.sector, page, patience, gate)
         }
         Op::Trim => Kind::of_was(volume.trim(pass, line.sector)),
         Op::Meet => unreachable!(),

@@ -147,6 +147,7 @@ calls_change : (full : Bool) (t : ℕ) (o : Op) (s : ℕ) (value : List ℕ) →
 calls_change true t o s value some = absurd (some refl)
 calls_change false t op.Read s value some = absurd (some refl)
 calls_change false t op.Write s value some = refl
+calls_change false t op.New s value some = refl
 calls_change false t op.Trim s value some = refl
 calls_change false t op.Meet s value some = absurd (some refl)
 

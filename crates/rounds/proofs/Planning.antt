@@ -125,6 +125,7 @@ row_there hosts n w rows cs is count low =
 pub is_line : (o : Op) → ¬ (o ≡ op.Meet) → is_meet o ≡ false
 is_line op.Read other = refl
 is_line op.Write other = refl
+is_line op.New other = refl
 is_line op.Trim other = refl
 is_line op.Meet other = absurd (other refl)
 

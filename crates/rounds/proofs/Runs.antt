@@ -38,6 +38,7 @@ meeting_right : (n : ℕ) (h : List Call) (o : Op) (w s : ℕ) (page : List ℕ)
     InOrder sector_of calls_in is_right n h (x ∷ []) × (calls_in x ≡ [])
 meeting_right n h op.Read w s page meet = absurd (false≢true meet)
 meeting_right n h op.Write w s page meet = absurd (false≢true meet)
+meeting_right n h op.New w s page meet = absurd (false≢true meet)
 meeting_right n h op.Trim w s page meet = absurd (false≢true meet)
 meeting_right n h op.Meet w s page meet = ((refl, tt), refl)
 

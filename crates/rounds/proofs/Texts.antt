@@ -1,5 +1,5 @@
 -- Lines that are answered in order are the answers of their commands, as text.
-use Rattle.std.proofs.Common.{◌≡◌, ℕ, ◌+◌, ⊎_elim, List, [], ◌∷◌, ◌++◌, Bool, true, false, None, Some, zero, suc, length, refl, sym, ap, ◌∙◌, subst, append_assoc, append-nil, codes}
+use Rattle.std.proofs.Common.{◌≡◌, ℕ, ◌+◌, ◌⊎◌, inl, inr, ⊎_elim, List, [], ◌∷◌, ◌++◌, Bool, true, false, None, Some, zero, suc, length, refl, sym, ap, ◌∙◌, subst, append_assoc, append-nil, codes}
 use Rattle.std.specs.Prelude.{slice_get, if◌then◌else◌}
 use Rattle.std.specs.List.{fold}
 use Rattle.std.specs.Option.{option_map, option_map_or}
@@ -33,15 +33,24 @@ answer_is op.Write (Some v) k page r =
     ⊎_elim
     (λ (full : k ≡ kind.Full). subst (λ a. answer_text a page ≡ answer_of (codes "full") (is_full a) op.Write (Some v)) (sym full) refl)
     (λ (done : k ≡ kind.Written). subst (λ a. answer_text a page ≡ answer_of (codes "full") (is_full a) op.Write (Some v)) (sym done) refl) r
+answer_is op.New None k page r =
+    ⊎_elim
+    (λ (full : k ≡ kind.Full). subst (λ a. answer_text a page ≡ answer_of (codes "full") (is_full a) op.New None) (sym full) refl)
+    (λ (done : k ≡ kind.Empty). subst (λ a. answer_text a page ≡ answer_of (codes "full") (is_full a) op.New None) (sym done) refl) r
+answer_is op.New (Some v) k page r =
+    ⊎_elim
+    (λ (full : k ≡ kind.Full). subst (λ a. answer_text a page ≡ answer_of (codes "full") (is_full a) op.New (Some v)) (sym full) refl)
+    (λ (done : k ≡ kind.Written). subst (λ a. answer_text a page ≡ answer_of (codes "full") (is_full a) op.New (Some v)) (sym done) refl) r
 answer_is op.Trim None k page r = ap (λ a. answer_text a page) r
 answer_is op.Trim (Some v) k page r = ap (λ a. answer_text a page) r
 answer_is op.Meet x k page r = ap (λ a. answer_text a page) r
 
 -- only a write is turned away
-only_writes : (o : Op) (x : Sector) (k : Kind) (page : List ℕ) → IsRight o x k page → is_full k ≡ true → o ≡ op.Write
+only_writes : (o : Op) (x : Sector) (k : Kind) (page : List ℕ) → IsRight o x k page → is_full k ≡ true → (o ≡ op.Write) ⊎ (o ≡ op.New)
 only_writes op.Read None k page r full = absurd (false≢true (sym (ap is_full r) ∙ full))
 only_writes op.Read (Some v) k page r full = absurd (false≢true (sym (ap is_full r.0) ∙ full))
-only_writes op.Write x k page r full = refl
+only_writes op.Write x k page r full = inl refl
+only_writes op.New x k page r full = inr refl
 only_writes op.Trim None k page r full = absurd (false≢true (sym (ap is_full r) ∙ full))
 only_writes op.Trim (Some v) k page r full = absurd (false≢true (sym (ap is_full r) ∙ full))
 only_writes op.Meet x k page r full = absurd (false≢true (sym (ap is_full r) ∙ full))
@@ -55,6 +64,7 @@ same_step a full t o s value c is = go full o ∙ ap (λ d. fold step a (calls_o
     go true p = refl
     go false op.Read = refl
     go false op.Write = refl
+    go false op.New = refl
     go false op.Trim = refl
     go false op.Meet = refl
 
@@ -95,11 +105,11 @@ module _ (n : ℕ) (all : List Line) where
       ∙ subst (λ j. lines_before (codes "full") n refused cs j ++ lines_text j rest ≡ lines_before (codes "full") n refused cs (length all)) long next))
 
   -- the lines at the refused places are writes
-  refused_are_writes : (h : List Call) (xs : List Line) → InOrder sector_of calls_in is_right n h xs → (k : ℕ) (c : Command) → slice_get (commands_in xs) k ≡ Some c → refused_in xs k ≡ true → c.op ≡ op.Write
+  refused_are_writes : (h : List Call) (xs : List Line) → InOrder sector_of calls_in is_right n h xs → (k : ℕ) (c : Command) → slice_get (commands_in xs) k ≡ Some c → refused_in xs k ≡ true → (c.op ≡ op.Write) ⊎ (c.op ≡ op.New)
   refused_are_writes h [] order k c is full = absurd (cc)
   refused_are_writes h (x ∷ xs) (right, order) zero c is full =
       let same : x.command ≡ c = same_Some x.command c is in
-      ap (λ (d : Command). d.op) (sym same) ∙ only_writes x.command.op (held n h x.command.sector) x.kind x.page right full
+      subst (λ (d : Command). (d.op ≡ op.Write) ⊎ (d.op ≡ op.New)) same (only_writes x.command.op (held n h x.command.sector) x.kind x.page right full)
   refused_are_writes h (x ∷ xs) (right, order) (suc k) c is full = refused_are_writes (h ++ calls_in x) xs order k c is full
 
 pub order_is_text : OrderIsText

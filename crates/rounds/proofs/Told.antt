@@ -27,12 +27,14 @@ of_calls P false cs all = all
 by_worker : (t : ℕ) (o : Op) (s : ℕ) (value : List ℕ) → All (λ c. caller c ≡ t) (calls_by t o s value)
 by_worker t op.Read s value = All-nil (λ c. caller c ≡ t)
 by_worker t op.Write s value = All-cons (λ c. caller c ≡ t) _ [] refl (All-nil (λ c. caller c ≡ t))
+by_worker t op.New s value = All-cons (λ c. caller c ≡ t) _ [] refl (All-nil (λ c. caller c ≡ t))
 by_worker t op.Trim s value = All-cons (λ c. caller c ≡ t) _ [] refl (All-nil (λ c. caller c ≡ t))
 by_worker t op.Meet s value = All-nil (λ c. caller c ≡ t)
 
 at_sector : (t : ℕ) (o : Op) (s : ℕ) (value : List ℕ) → All (λ c. target c ≡ s) (calls_by t o s value)
 at_sector t op.Read s value = All-nil (λ c. target c ≡ s)
 at_sector t op.Write s value = All-cons (λ c. target c ≡ s) _ [] refl (All-nil (λ c. target c ≡ s))
+at_sector t op.New s value = All-cons (λ c. target c ≡ s) _ [] refl (All-nil (λ c. target c ≡ s))
 at_sector t op.Trim s value = All-cons (λ c. target c ≡ s) _ [] refl (All-nil (λ c. target c ≡ s))
 at_sector t op.Meet s value = All-nil (λ c. target c ≡ s)
 

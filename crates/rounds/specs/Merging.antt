@@ -12,6 +12,7 @@ use Rattle.rounds.specs.Told.{Line, line}
 abbrev pub is_meet : Op → Bool
 is_meet op.Read = false
 is_meet op.Write = false
+is_meet op.New = false
 is_meet op.Trim = false
 is_meet op.Meet = true
 
@@ -19,6 +20,7 @@ is_meet op.Meet = true
 abbrev pub changes : Op → Bool
 changes op.Read = false
 changes op.Write = true
+changes op.New = true
 changes op.Trim = true
 changes op.Meet = false
 

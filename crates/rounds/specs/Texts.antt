@@ -1,5 +1,5 @@
 -- The text of lines with what they were told.
-use Rattle.std.specs.Prelude.{◌≡◌, ℕ, ◌+◌, Bool, true, false, List, [], ◌∷◌, ◌++◌, codes, map, Some, slice_get}
+use Rattle.std.specs.Prelude.{◌≡◌, ◌⊎◌, ℕ, ◌+◌, Bool, true, false, List, [], ◌∷◌, ◌++◌, codes, map, Some, slice_get}
 use Rattle.std.specs.Option.{option_map_or}
 use Rattle.hex.specs.Hex.{encode_lower}
 use Rattle.trace.specs.declared.commands.Command.{Command}
@@ -35,7 +35,7 @@ refused_in xs k = option_map_or (λ x. is_full x.kind) (slice_get xs k) false
 -- This is the text of the answers of commands, with the writes at some set of lines turned away, and of no other lines
 pub record IsTextOfSome (n : ℕ) (commands : List Command) (text : List ℕ) : Type 0 where
   pub refused : ℕ → Bool
-  pub writes : (k : ℕ) (c : Command) → slice_get commands k ≡ Some c → refused k ≡ true → c.op ≡ op.Write
+  pub writes : (k : ℕ) (c : Command) → slice_get commands k ≡ Some c → refused k ≡ true → (c.op ≡ op.Write) ⊎ (c.op ≡ op.New)
   pub answers : text ≡ answers (codes "full") n refused commands
 
 -- Lines that are rightly answered one after another, from an unused device on, are as text the answers of their commands, with the writes turned away at some set of lines

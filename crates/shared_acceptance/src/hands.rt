@@ -9,6 +9,7 @@ ghost use Rattle.volume.specs.Volume.{flash_of};
 use broom::{Broom, Drain, Erase};
 use flash_table::{Gate, NoGate, Pass};
 use geometry::{Geometry, Got, Was};
+use host::NewFault;
 use std::process::Abort;
 use std::sync::Wait;
 use std::test::Fail;
@@ -137,6 +138,26 @@ impl Hand<'_> {
         self.volume
             .write_gated(&mut self.pass, sector, &page(byte), gate)
             .ok()
+    }
+
+    pub fn write_new(&mut self, sector: u32, byte: u8) -> Result<(), NewFault>
+        requires { sector < 2 }
+        ensures { self.new.volume ≡ self.old.volume }
+    {
+        self.volume.write_new(&mut self.pass, sector, &page(byte))
+    }
+
+    pub fn write_new_gated<G: Gate>(
+        &mut self,
+        sector: u32,
+        byte: u8,
+        gate: &mut G,
+    ) -> Result<(), NewFault>
+        requires { sector < 2 }
+        ensures { self.new.volume ≡ self.old.volume }
+    {
+        self.volume
+            .write_new_gated(&mut self.pass, sector, &page(byte), gate)
     }
 
     pub fn trim(&mut self, sector: u32) -> Was

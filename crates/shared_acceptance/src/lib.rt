@@ -15,6 +15,8 @@ mod gates;
 #[cfg(test)]
 mod hands;
 #[cfg(test)]
+mod new_writes;
+#[cfg(test)]
 mod queue_crowds;
 #[cfg(test)]
 mod queue_rows;

@@ -106,8 +106,9 @@ unfolding op_of
 op_of_record text =
     choice_of_record (bytes_eq text (name_of op.Read)) (Ok op.Read) _ (value_of_record _)
     (choice_of_record (bytes_eq text (name_of op.Write)) (Ok op.Write) _ (value_of_record _)
+    (choice_of_record (bytes_eq text (name_of op.New)) (Ok op.New) _ (value_of_record _)
     (choice_of_record (bytes_eq text (name_of op.Trim)) (Ok op.Trim) _ (value_of_record _)
-    (choice_of_record (bytes_eq text (name_of op.Meet)) (Ok op.Meet) _ (value_of_record _) (fault_of_record fault.Op refl))))
+    (choice_of_record (bytes_eq text (name_of op.Meet)) (Ok op.Meet) _ (value_of_record _) (fault_of_record fault.Op refl)))))
 
 bytes_of_record : (size : ℕ) (r : Result (List ℕ) FromHexError) → OfRecord (page_of_bytes size r)
 bytes_of_record size (Ok bytes) = choice_of_record _ _ _ (value_of_record _) (fault_of_record fault.TooLong refl)
@@ -116,6 +117,7 @@ bytes_of_record size (Err e) = fault_of_record fault.Hex refl
 page_of_record : (size : ℕ) (o : Op) (worker sector : ℕ) (digits : List ℕ) → OfRecord (page_of size o worker sector digits)
 unfolding page_of
 page_of_record size op.Write worker sector digits = bytes_of_record size (decode_of digits)
+page_of_record size op.New worker sector digits = bytes_of_record size (decode_of digits)
 page_of_record size op.Read worker sector digits = choice_of_record _ _ _ (value_of_record _) (fault_of_record fault.Unused refl)
 page_of_record size op.Trim worker sector digits = choice_of_record _ _ _ (value_of_record _) (fault_of_record fault.Unused refl)
 page_of_record size op.Meet worker sector digits = choice_of_record _ _ _ (value_of_record _) (fault_of_record fault.Unused refl)

@@ -27,6 +27,7 @@ RefusesBy check kind = (kind ≡ fault.Memory) ⊎ (check ≡ Err kind)
 -- how many bytes the page of a command has, where a page has `size`
 abbrev pub page_len : Op → ℕ → ℕ
 page_len op.Write size = size
+page_len op.New size = size
 page_len op.Read size = 0
 page_len op.Trim size = 0
 page_len op.Meet size = 0

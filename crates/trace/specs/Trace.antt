@@ -19,6 +19,7 @@ use Rattle.trace.specs.declared.fault.TraceFaultKind.TheVariants as fault
 abbrev pub name_of : Op → List ℕ
 name_of op.Read = codes "read"
 name_of op.Write = codes "write"
+name_of op.New = codes "new"
 name_of op.Trim = codes "trim"
 name_of op.Meet = codes "meet"
 
@@ -46,6 +47,7 @@ unfoldable pub op_of : List ℕ → Result Op TraceFaultKind
 op_of text =
     if bytes_eq text (name_of op.Read) then Ok op.Read
     else if bytes_eq text (name_of op.Write) then Ok op.Write
+    else if bytes_eq text (name_of op.New) then Ok op.New
     else if bytes_eq text (name_of op.Trim) then Ok op.Trim
     else if bytes_eq text (name_of op.Meet) then Ok op.Meet
     else Err fault.Op
@@ -59,10 +61,11 @@ page_of_bytes size (Err _) = Err fault.Hex
 abbrev pub no_page : Bool → Result (List ℕ) TraceFaultKind
 no_page unused_empty = if unused_empty then Ok [] else Err fault.Unused
 
--- the page that the data of an op makes: for a write the bytes that its hexadecimal digits write, and for the
+-- the page that the data of an op makes: for a write of either kind the bytes that its hexadecimal digits write, and for the
 -- other ops none. Those have no data, and a meet names worker 0 and sector 0.
 unfoldable pub page_of : ℕ → Op → ℕ → ℕ → List ℕ → Result (List ℕ) TraceFaultKind
 page_of size op.Write worker sector digits = page_of_bytes size (decode_of digits)
+page_of size op.New worker sector digits = page_of_bytes size (decode_of digits)
 page_of size op.Read worker sector digits = no_page (length digits == 0)
 page_of size op.Trim worker sector digits = no_page (length digits == 0)
 page_of size op.Meet worker sector digits = no_page (length digits == 0 && worker == 0 && sector == 0)

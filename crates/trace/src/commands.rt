@@ -12,6 +12,8 @@ use std::marker::Model;
 pub enum Op {
     Read,
     Write,
+    /// A write that takes effect only where the sector is empty.
+    New,
     Trim,
     Meet,
 }
@@ -24,6 +26,7 @@ impl Op {
         match self {
             Op::Read => "read",
             Op::Write => "write",
+            Op::New => "new",
             Op::Trim => "trim",
             Op::Meet => "meet",
         }
@@ -37,7 +40,7 @@ pub struct Command<'a> {
     pub worker: u32,
     pub op: Op,
     pub sector: u32,
-    /// The bytes of a write, as many as a page has. It is empty for the other ops.
+    /// The bytes of a write of either kind, as many as a page has. It is empty for the other ops.
     pub page: Page<'a>,
 }
 

@@ -166,6 +166,8 @@ fn op_named(text: &[u8]) -> Result<Op, TraceFaultKind>
         Ok(Op::Read)
     } else if text == Op::Write.name().as_bytes() {
         Ok(Op::Write)
+    } else if text == Op::New.name().as_bytes() {
+        Ok(Op::New)
     } else if text == Op::Trim.name().as_bytes() {
         Ok(Op::Trim)
     } else if text == Op::Meet.name().as_bytes() {
@@ -189,7 +191,7 @@ fn read_data(
     ensures refused { IfErr result (RefusesBy (page_of size op worker sector digits.now)) }
 {
     match op {
-        Op::Write => {
+        Op::Write | Op::New => {
             decode(digits, given)?;
             if given.len() > size as usize {
                 return Err(TraceFaultKind::TooLong);
@@ -207,7 +209,7 @@ fn page_len(op: Op, size: u16) -> u16
     ensures { result ≡ page_len op size }
 {
     match op {
-        Op::Write => size,
+        Op::Write | Op::New => size,
         Op::Read | Op::Trim | Op::Meet => 0,
     }
 }

@@ -29,6 +29,14 @@ returns-in-Write-clause-told g c t role =
     let P : Op × List ℕ → Type 0 = λ x. PlayedLine t c.args.patience (view_of c.args.pass.now) x.0 line.sector x.1 kind bytes (is_full kind) (view_of c.write_patiently.new.pass) in
     subst P (λ i. (sym c.in-Write.is i, c.copy_into.ensures i)) (c.write_patiently.ensures.told t role)
 
+pub returns-in-New-clause-told : goal.returns-in-New-clause-told
+returns-in-New-clause-told g c t role =
+    let line = c.args.line.now in
+    let kind = c.write_new_patiently.result in
+    let bytes = c.copy_into-in-New.new.out in
+    let P : Op × List ℕ → Type 0 = λ x. PlayedLine t c.args.patience (view_of c.args.pass.now) x.0 line.sector x.1 kind bytes (is_full kind) (view_of c.write_new_patiently.new.pass) in
+    subst P (λ i. (sym c.in-New.is i, c.copy_into-in-New.ensures i)) (c.write_new_patiently.ensures.told t role)
+
 pub returns-in-Trim-clause-told : goal.returns-in-Trim-clause-told
 returns-in-Trim-clause-told g c t role =
     let line = c.args.line.now in
