@@ -23,4 +23,10 @@ mod rows;
 #[cfg(test)]
 mod schedules;
 #[cfg(test)]
+mod sizes;
+#[cfg(test)]
 mod swept_crowd;
+#[cfg(test)]
+mod turns;
+#[cfg(test)]
+mod words;
