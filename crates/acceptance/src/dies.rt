@@ -2,7 +2,7 @@ ghost use Rattle.std.specs.Prelude.{◌≡◌, IfOk};
 ghost use Rattle.geometry.specs.Geometry.{blocks_of, pages_of, page_bytes_of};
 ghost use Rattle.die.specs.Die.{geometry_of};
 
-use die::{Die, ERASED_STAMP};
+use die::Die;
 use geometry::{Geometry, PageAddr};
 use std::process::Abort;
 use std::test::Fail;
@@ -76,8 +76,8 @@ fn a_die_keeps_and_copies_pages(rt: HostRuntime) -> Result<(), Fail> {
         bench.read(&rt, copy),
     ];
     let page = ([1, 0, 0, 0, 0, 0, 0, 0], 2);
-    assert_eq!(rt; (programmed, copied), (0, 0));
-    assert_eq!(rt; reads, [page, ([255; 8], ERASED_STAMP), page]);
+    assert_eq!(rt; (programmed, copied, bench.die.copybacks()), (0, 0, 1));
+    assert_eq!(rt; reads, [page, ([255; 8], 0xffff_ffff_ffff_ffff), page]);
     Ok(())
 }
 
@@ -90,7 +90,7 @@ fn the_last_erase_retires_a_block(rt: HostRuntime) -> Result<(), Fail> {
     let read = bench.read(&rt, FIRST);
     let second = bench.erase(&rt, 0);
     assert_eq!(rt; (first, second), (0, 1));
-    assert_eq!(rt; (programmed, read), (0, ([255; 8], ERASED_STAMP)));
+    assert_eq!(rt; (programmed, read), (0, ([255; 8], 0xffff_ffff_ffff_ffff)));
     assert_eq!(rt; (bench.die.retired(0), bench.die.erases(0)), (true, 2));
     Ok(())
 }

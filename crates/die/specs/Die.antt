@@ -1,5 +1,5 @@
 -- What a die shows: its geometry and its blocks, and how a command changes one of them.
-use Rattle.std.specs.Prelude.{◌≡◌, ℕ, ◌≢◌, ◌<◌, false, length}
+use Rattle.std.specs.Prelude.{◌≡◌, ℕ, ◌+◌, ◌%◌, ◌^◌, ◌≢◌, ◌<◌, false, length}
 use Rattle.geometry.specs.declared.geometry.Geometry.{Geometry}
 use Rattle.geometry.specs.declared.page_addr.PageAddr.{PageAddr}
 use Rattle.geometry.specs.Geometry.{blocks_of, pages_of, page_bytes_of}
@@ -10,6 +10,14 @@ use Rattle.die.specs.Storage.{block_in}
 -- the numbers of the die
 abbrev pub geometry_of : Die → Geometry
 geometry_of d = d.geometry
+
+-- how many pages were copied back, modulo 2^64
+abbrev pub copybacks_of : Die → ℕ
+copybacks_of d = d.copybacks
+
+-- a count that wraps at 2^64, once it is one higher
+abbrev pub one_more : ℕ → ℕ
+one_more count = (count + 1) % 2 ^ 64
 
 -- a block of the die
 unfoldable pub block_of : Die → ℕ → Block
@@ -37,7 +45,8 @@ pub record IsProgrammed (d : Die) (at : PageAddr) : Type 0 where
   pub usable : IsUsable d at.block
   pub programmed : at.page < length (block_of d at.block).pages
 
--- every block of the die is a new one
+-- every block of the die is a new one, and no page was copied back
 pub record IsNew (d : Die) (g : Geometry) : Type 0 where
   pub geometry : geometry_of d ≡ g
   pub blocks : (b : ℕ) → b < blocks_of g → block_of d b ≡ new_block
+  pub copybacks : copybacks_of d ≡ 0

@@ -21,6 +21,8 @@ pub struct Die {
     // The stamps of all pages, block by block.
     stamps: Vec<u64>,
     states: Vec<BlockState>,
+    // How many pages were copied back, modulo 2^64.
+    copybacks: u64,
     ghost bytes_sized: { length bytes.items ≡ blocks_of geometry * pages_of geometry * page_bytes_of geometry },
     ghost stamps_sized: { length stamps.items ≡ blocks_of geometry * pages_of geometry },
     ghost states_sized: { length states.items ≡ blocks_of geometry },
@@ -28,7 +30,7 @@ pub struct Die {
 }
 
 impl Die {
-    ghost use Rattle.die.specs.Die.{geometry_of, block_of, ChangesBlock, IsUsable, IsNext, IsProgrammed, IsNew};
+    ghost use Rattle.die.specs.Die.{geometry_of, block_of, copybacks_of, one_more, ChangesBlock, IsUsable, IsNext, IsProgrammed, IsNew};
     ghost use Rattle.die.specs.Pages.{page_at, programmed, erased};
 
     /// A die whose blocks are all erased.
@@ -48,6 +50,7 @@ impl Die {
             bytes: vec![in alloc; ERASED_BYTE; places * geometry.page_bytes()]?,
             stamps: vec![in alloc; ERASED_STAMP; places]?,
             states: vec![in alloc; unused; blocks]?,
+            copybacks: 0,
         })
     }
 
@@ -101,6 +104,7 @@ impl Die {
         ensures status { result ≡ 0 }
         ensures changes { ChangesBlock self.old self.new at.block
             (programmed (block_of self.old at.block) (record { value = bytes.now; stamp = stamp })) }
+        ensures copybacks { copybacks_of self.new ≡ copybacks_of self.old }
     {
         let place = self.place_of(at);
         put_page(&mut self.bytes, place, bytes);
@@ -119,6 +123,7 @@ impl Die {
         ensures changes { ChangesBlock self.old self.new to.block
             (programmed (block_of self.old to.block)
             (page_at (page_bytes_of (geometry_of self.old)) (block_of self.old from.block) from.page)) }
+        ensures copybacks { copybacks_of self.new ≡ one_more (copybacks_of self.old) }
     {
         let source = self.place_of(from);
         let place = self.place_of(to);
@@ -126,6 +131,7 @@ impl Die {
         move_page(&mut self.bytes, page_bytes, source, place);
         self.stamps[place] = self.stamps[source];
         self.states[to.block as usize].next += 1;
+        self.copybacks = self.copybacks.wrapping_add(1);
         0
     }
 
@@ -136,6 +142,7 @@ impl Die {
         ensures status { result ≡ (if (block_of self.old block).erases + 1 == endurance_of (geometry_of self.old) then 1 else 0) }
         ensures changes { ChangesBlock self.old self.new block
             (erased (endurance_of (geometry_of self.old)) (block_of self.old block)) }
+        ensures copybacks { copybacks_of self.new ≡ copybacks_of self.old }
     {
         let endurance = self.geometry.endurance();
         let state = &mut self.states[block as usize];
@@ -169,5 +176,12 @@ impl Die {
         ensures usable { IsUsable self.now block → result < endurance_of (geometry_of self.now) }
     {
         self.states[block as usize].erases
+    }
+
+    /// How many pages were copied back, modulo 2^64.
+    pub fn copybacks(&self) -> u64
+        ensures { result ≡ copybacks_of self.now }
+    {
+        self.copybacks
     }
 }

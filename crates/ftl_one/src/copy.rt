@@ -1,6 +1,6 @@
-ghost use Rattle.std.specs.Prelude.{◌≡◌, length};
-ghost use Rattle.geometry.specs.Geometry.{page_bytes_of};
-ghost use Rattle.die.specs.Die.{geometry_of, block_of, ChangesBlock, IsProgrammed, IsNext};
+ghost use Rattle.std.specs.Prelude.{◌≡◌, ◌==◌, if◌then◌else◌, length};
+ghost use Rattle.geometry.specs.Geometry.{page_bytes_of, lun_of};
+ghost use Rattle.die.specs.Die.{geometry_of, block_of, copybacks_of, one_more, ChangesBlock, IsProgrammed, IsNext};
 ghost use Rattle.die.specs.Pages.{page_at, programmed};
 
 use die::Die;
@@ -12,9 +12,10 @@ pub fn copy_page(die: &mut Die, page: &mut [u8], sector: u32, from: PageAddr, to
     requires next { IsNext die.old to }
     requires sector { (page_at (page_bytes_of (geometry_of die.old)) (block_of die.old from.block) from.page).stamp ≡ sector }
     requires room { length page.old ≡ page_bytes_of (geometry_of die.old) }
-    ensures { ChangesBlock die.old die.new to.block
+    ensures changes { ChangesBlock die.old die.new to.block
         (programmed (block_of die.old to.block)
         (page_at (page_bytes_of (geometry_of die.old)) (block_of die.old from.block) from.page)) }
+    ensures copybacks { copybacks_of die.new ≡ (if lun_of (geometry_of die.old) from.block == lun_of (geometry_of die.old) to.block then one_more (copybacks_of die.old) else copybacks_of die.old) }
 {
     let geometry = die.geometry();
     if geometry.lun_of(from.block) == geometry.lun_of(to.block) {

@@ -4,6 +4,9 @@ use Rattle.std.proofs.Props.{props}
 use Rattle.flash_rule.specs.declared.facts.Pin.{Pin}
 use Rattle.flash_rule.specs.declared.facts.Pin.TheVariants as pin
 use Rattle.flash_table.specs.declared.flash.Flash.{Flash}
+use Rattle.flash_table.specs.declared.broom_seat.BroomSeat.{BroomSeat}
+use Rattle.broom.specs.Once.{number-prop, filed-prop}
+use Rattle.broom.specs.Ready.{IsRested}
 use Rattle.flash_table.specs.Flash.{view_of}
 use Rattle.host.specs.declared.holding.Held.{Held}
 use Rattle.host.specs.declared.holding.Holding.{Holding}
@@ -27,7 +30,15 @@ abbrev pub IsKept : Flash → Holding → Type 0
 IsKept f (holding.Held h) = Holds f h (held_value h)
 IsKept f (holding.Empty p) = IsReady f p
 
+-- that this value is held is a fact that has one proof at most, so that a struct can keep it beside its hold
+pub Holds-prop : (f : Flash) (h : Held) (value : List ℕ) → IsProp (Holds f h value)
+Holds-prop f h value = hlevel props
+
 -- that this is so is a fact that has one proof at most
 pub IsKept-prop : (f : Flash) (x : Holding) → IsProp (IsKept f x)
 IsKept-prop f (holding.Held h) = hlevel props
 IsKept-prop f (holding.Empty p) = hlevel props
+
+-- and that a broom's seat rests
+pub IsRested-prop : (f : Flash) (s : BroomSeat) → IsProp (IsRested f s)
+IsRested-prop f s = hlevel (props, number-prop, filed-prop)

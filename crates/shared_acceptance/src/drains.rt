@@ -6,7 +6,9 @@ ghost use Rattle.host.specs.declared.holding.Holding.{Holding};
 ghost use Rattle.shared_acceptance.specs.Kept.{IsKept, IsKept-prop};
 ghost use Rattle.volume.specs.Volume.{flash_of};
 
-use crate::hands::{Desk, Hand, Sweeper, close, first_look, open_swept, open_swept_by_two, page};
+use crate::hands::{
+    Desk, Hand, Sweeper, close, close_alone, first_look, open_swept, open_swept_by_two, page,
+};
 use broom::{Drain, Erase};
 use flash_table::{Gate, NoGate, Point};
 use geometry::Was;
@@ -59,11 +61,10 @@ fn a_write_before_the_exchange_stays(rt: HostRuntime) -> Result<(), Fail> {
     assert_eq!(rt; a.read(1), first_look(Some(5)));
     assert_eq!(rt; broom.drain(&mut NoGate), Drain::NoSpare);
     assert_eq!(rt; broom.erase(0), KEPT);
-    assert_eq!(rt; a.read(0), first_look(Some(3)));
-    assert_eq!(rt; a.read(1), first_look(Some(5)));
-    broom.leave();
     a.leave();
-    volume.retire(b);
+    let Sweeper { volume: _, broom } = broom;
+    volume.fold(&rt, broom);
+    assert_eq!(rt; close_alone(&rt, volume, b), (Some(3), Some(5)));
     Ok(())
 }
 

@@ -1,18 +1,9 @@
 //! A broom that drains and erases blocks beside two hosts.
-ghost use Rattle.std.specs.Prelude.{ℕ, ◌<◌, List};
-ghost use Rattle.geometry.specs.Geometry.{words_of};
-ghost use Rattle.flash_table.specs.Flash.{geometry_of};
-ghost use Rattle.host.specs.Holding.{Holds};
-ghost use Rattle.host.specs.Ready.{IsReady};
-ghost use Rattle.volume.specs.Volume.{flash_of};
-
-use crate::hands::{Desk, Hand, Seen, Sweeper, first_look, open_swept, open_swept_often, page};
+use crate::hands::{Desk, Hand, Seen, Sweeper, open_swept, page};
 use broom::{Drain, Erase};
-use flash_table::{Gate, NoGate, Pass, Point};
+use flash_table::{Gate, NoGate, Point};
 use geometry::{Got, Was};
-use host::{Held, Holding};
 use std::test::Fail;
-use volume::Volume;
 
 fn drained(block: u32) -> Drain {
     Drain::Drained { block, copied: 0 }
@@ -87,63 +78,6 @@ fn a_read_looks_again_where_its_block_was_erased(rt: HostRuntime) -> Result<(), 
         assert_eq!(rt; erased, Some(last));
         a.leave();
         b.leave();
-        broom.leave();
-    }
-    Ok(())
-}
-
-// The first word of what is held, and the pass when the hold is released.
-fn release_word(volume: &Volume, held: Held) -> (u64, Pass)
-    requires words { 0 < words_of (geometry_of (flash_of volume.now)) }
-    requires held { (value : List ℕ) × Holds (flash_of volume.now) held value }
-    ensures { IsReady (flash_of volume.now) result.1 }
-{
-    let mut held = held;
-    let word = volume.word(&mut held, 0);
-    (word, volume.release(held))
-}
-
-#[test]
-fn a_held_block_is_erased_once_it_is_released(rt: HostRuntime) -> Result<(), Fail> {
-    let erased = Erase::Erased {
-        block: 0,
-        kept: false,
-    };
-    for (endurance, answer) in [(10, erased), (1, Erase::Retired { block: 0 })] {
-        let (Desk { volume, a, b }, broom) = open_swept_often(&rt, endurance)?;
-        let mut broom = Sweeper {
-            volume: &volume,
-            broom,
-        };
-        let mut a = Hand {
-            volume: &volume,
-            pass: a,
-        };
-        assert_eq!(rt; a.write(0, 1), Some(Was::Empty));
-        assert_eq!(rt; a.write(1, 2), Some(Was::Empty));
-        let held = match volume.hold(b, 0) {
-            Holding::Held(held) => held,
-            Holding::Empty(_pass) => panic!(rt; "it is written"),
-        };
-        assert_eq!(rt; a.write(0, 3), Some(Was::Written));
-        assert_eq!(rt; a.write(1, 4), Some(Was::Written));
-        assert_eq!(rt; broom.erase(0), Erase::Stale);
-        assert_eq!(rt; broom.drain(&mut NoGate), drained(0));
-        assert_eq!(rt; broom.erase(0), Erase::Pinned);
-        let (word, b) = release_word(&volume, held);
-        assert_eq!(rt; word, 1);
-        assert_eq!(rt; broom.erase(0), answer);
-        assert_eq!(rt; broom.erase(0), Erase::Stale);
-        assert_eq!(rt; a.write(0, 5), Some(Was::Written));
-        assert_eq!(rt; a.read(1), first_look(Some(4)));
-        let held = match volume.hold(b, 0) {
-            Holding::Held(held) => held,
-            Holding::Empty(_pass) => panic!(rt; "it is written"),
-        };
-        let begun = if endurance == 10 { (0, 1) } else { (2, 0) };
-        assert_eq!(rt; (held.block(), held.generation()), begun);
-        volume.retire(volume.release(held));
-        a.leave();
         broom.leave();
     }
     Ok(())

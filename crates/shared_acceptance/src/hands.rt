@@ -274,6 +274,32 @@ pub fn close(
     let mut passes = Vec::with_capacity(rt.alloc(), 2).expect(rt, "memory");
     passes.push_reserved(a);
     passes.push_reserved(b);
+    close_by(rt, volume, passes)
+}
+
+/// The same, of one pass, where the other one was given up before.
+pub fn close_alone(
+    rt: &(impl Abort + AllocGlobal),
+    volume: Volume,
+    pass: Pass,
+) -> (Option<u8>, Option<u8>)
+    requires sectors { sectors_of (geometry_of (flash_of volume)) ≡ 2 }
+    requires pass { IsReady (flash_of volume) pass }
+{
+    let mut passes = Vec::with_capacity(rt.alloc(), 1).expect(rt, "memory");
+    passes.push_reserved(pass);
+    close_by(rt, volume, passes)
+}
+
+fn close_by(
+    rt: &(impl Abort + AllocGlobal),
+    volume: Volume,
+    passes: Vec<Pass>,
+) -> (Option<u8>, Option<u8>)
+    requires sectors { sectors_of (geometry_of (flash_of volume)) ≡ 2 }
+    requires some { 0 < length passes.items }
+    requires ready { All (IsReady (flash_of volume)) passes.items }
+{
     let closed = match volume.close(rt.alloc(), passes) {
         Ok(closed) => closed,
         Err((_volume, _passes)) => panic!(rt; "memory"),

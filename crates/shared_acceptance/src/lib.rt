@@ -25,4 +25,10 @@ mod rows;
 #[cfg(test)]
 mod schedules;
 #[cfg(test)]
+mod sizes;
+#[cfg(test)]
 mod swept_crowd;
+#[cfg(test)]
+mod turns;
+#[cfg(test)]
+mod words;

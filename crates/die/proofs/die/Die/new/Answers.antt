@@ -24,4 +24,5 @@ returns c = record {
         retired = t.retired;
       } in
       ap by state;
+  copybacks = refl;
 }

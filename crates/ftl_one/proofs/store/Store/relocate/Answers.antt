@@ -77,12 +77,12 @@ invariant_of-self c =
     let die = c.copy_page.new.die in
     let g = die_geometry_of die in
     let at = c.next_page-to.result in
-    let mapped = put-mapped s die at page c.recount.new.counts (stamp_below s c.args.source c.requires.source_block c.requires.source_page) next c.copy_page.ensures counts in
+    let mapped = put-mapped s die at page c.recount.new.counts (stamp_below s c.args.source c.requires.source_block c.requires.source_page) next c.copy_page.ensures.changes counts in
     let P : ℕ → List ℕ → Type 0 = λ k xs. IsMapped (page_bytes_of g) (blocks_of g) (sector_count_of g) (block_of die) (set s.current.items k (Some at)) xs in
     let buffer : (with_items s.page c.copy_page.new.page).items ≡ c.copy_page.new.page =
     with_items_is s.page c.copy_page.new.page (omega (arith, c.copy_page.auto.page, c.deref_mut.ensures.len)) in
     record {
-      page_sized = ap (λ (xs : List ℕ). length xs) buffer ∙ (c.copy_page.auto.page ∙ (ap (λ (xs : List ℕ). length xs) c.deref_mut.ensures.value ∙ (s.page_sized ∙ ap page_bytes_of (sym c.copy_page.ensures.geometry))));
+      page_sized = ap (λ (xs : List ℕ). length xs) buffer ∙ (c.copy_page.auto.page ∙ (ap (λ (xs : List ℕ). length xs) c.deref_mut.ensures.value ∙ (s.page_sized ∙ ap page_bytes_of (sym c.copy_page.ensures.changes.geometry))));
       mapped = subst (λ (k : ℕ). P k (with_items s.live c.recount.new.counts).items) (sym c.stamp-sector.ensures)
           (subst (λ (xs : List ℕ). P page.stamp xs) (sym (recounted s c.recount.new.counts (get_or s.current.items page.stamp None) (Some at) counts)) mapped);
     }
@@ -103,13 +103,13 @@ returns c =
     let by : ℕ → ℕ → List Entry = λ k b. entries_in (page_bytes_of (die_geometry_of die)) (set s.current.items k (Some at)) b (block_of die b) in
     let e = c.stamp-sector.ensures in
     rw (← c.next_page-to.ensures.block, sector_of-page s c.args.source c.requires.source_page) (record {
-      copied = ap (λ (k : ℕ). by k at.block) e ∙ relocate-copied s die c.args.source at live c.requires.source_block c.requires.source_page c.requires.live apart next c.copy_page.ensures counts;
-      dead = ap (λ (k : ℕ). by k c.args.source.block) e ∙ relocate-dead s die c.args.source at live c.requires.source_block c.requires.source_page c.requires.live apart next c.copy_page.ensures counts;
-      others = λ b first second inside. ap (λ (k : ℕ). by k b) e ∙ relocate-others s die c.args.source at live c.requires.source_block c.requires.source_page c.requires.live apart next c.copy_page.ensures counts b first second inside;
-      sectors = ap (λ (k : ℕ). sectors_in (page_bytes_of (die_geometry_of die)) (block_of die) (set s.current.items k (Some at))) e ∙ relocate-sectors s die c.args.source at live c.requires.source_block c.requires.source_page c.requires.live apart next c.copy_page.ensures counts;
+      copied = ap (λ (k : ℕ). by k at.block) e ∙ relocate-copied s die c.args.source at live c.requires.source_block c.requires.source_page c.requires.live apart next c.copy_page.ensures.changes counts;
+      dead = ap (λ (k : ℕ). by k c.args.source.block) e ∙ relocate-dead s die c.args.source at live c.requires.source_block c.requires.source_page c.requires.live apart next c.copy_page.ensures.changes counts;
+      others = λ b first second inside. ap (λ (k : ℕ). by k b) e ∙ relocate-others s die c.args.source at live c.requires.source_block c.requires.source_page c.requires.live apart next c.copy_page.ensures.changes counts b first second inside;
+      sectors = ap (λ (k : ℕ). sectors_in (page_bytes_of (die_geometry_of die)) (block_of die) (set s.current.items k (Some at))) e ∙ relocate-sectors s die c.args.source at live c.requires.source_block c.requires.source_page c.requires.live apart next c.copy_page.ensures.changes counts;
       keeps = record {
-        geometry = c.copy_page.ensures.geometry;
-        erases = put-erases s die at page live low next c.copy_page.ensures counts;
-        retired = put-retired s die at page live low next c.copy_page.ensures counts;
+        geometry = c.copy_page.ensures.changes.geometry;
+        erases = put-erases s die at page live low next c.copy_page.ensures.changes counts;
+        retired = put-retired s die at page live low next c.copy_page.ensures.changes counts;
       };
     })
