@@ -4,7 +4,7 @@ use Rattle.std.specs.Result.{is_ok}
 use Rattle.std.proofs.lemmas.Result.{IfOk-weaker, IfOk-at_ok}
 use Rattle.volume.specs.Closing.{sectors_of, last_view}
 use Rattle.volume.specs.Volume.{flash_of}
-use Rattle.volume.proofs.Callers.{first_ready, second_ready, both_ready, both_values}
+use Rattle.uses.proofs.Callers.{first_ready, second_ready, both_ready, both_values}
 use Rattle.uses.proofs.closing.two_writers.Goals as goal
 
 pub write-one-requires-clause-pass : goal.write-one-requires-clause-pass
