@@ -4,9 +4,11 @@ use Rattle.std.specs.Option.{option_map_or}
 use Rattle.std.specs.List.{fold}
 use Rattle.geometry.specs.Geometry.{sectors_of}
 use Rattle.geometry.specs.History.{Call}
-use Rattle.geometry.specs.Sectors.{Sector, sector_at}
+use Rattle.geometry.specs.Sectors.{sector_at}
 use Rattle.geometry.specs.declared.geometry.Geometry.{Geometry}
+use Rattle.ftl_one.specs.OneFtl.{geometry_of, stock_of, sectors_of as array_of}
 use Rattle.ftl_one.specs.Stock.{Stock, opening, next}
+use Rattle.ftl_one.specs.declared.one_ftl.OneFtl.{OneFtl}
 use Rattle.trace.specs.Trace.{commands_of}
 use Rattle.trace.specs.declared.commands.Command.{Command}
 use Rattle.answers.specs.Answers.{answer_of, answers, call_of, line_text, totals_text}
@@ -27,13 +29,13 @@ after_call geo stock call = unwrap_or (next geo stock call) stock
 abbrev pub stock_after : Geometry → Stock → Command → Stock
 stock_after geo stock command = option_map_or (after_call geo stock) (call_of command) stock
 
--- the answer of a command at a stock and an array
-abbrev pub answer_at : Geometry → Stock → List Sector → Command → List ℕ
-answer_at geo stock array command = answer_of (codes "worn") (is_refused geo stock command) command.op (sector_at array command.sector)
+-- the answer that a layer gives to a command: a refused one is worn
+abbrev pub answer_by : OneFtl → Command → List ℕ
+answer_by ftl command = answer_of (codes "worn") (is_refused (geometry_of ftl) (stock_of ftl) command) command.op (sector_at (array_of ftl) command.sector)
 
--- the line of a command with this answer
-abbrev pub line_there : ℕ → Geometry → Stock → List Sector → Command → List ℕ
-line_there line geo stock array command = line_text line command.op command.sector (answer_at geo stock array command)
+-- the line of that answer
+abbrev pub line_by : OneFtl → ℕ → Command → List ℕ
+line_by ftl line command = line_text line command.op command.sector (answer_by ftl command)
 
 -- the stock before the line at a place: all commands before it, from an unused device on
 abbrev pub stock_before : Geometry → List Command → ℕ → Stock

@@ -10,7 +10,7 @@ ghost use Rattle.answers.specs.Delivery.{AppendsBeginning, IsUnderWay};
 ghost use Rattle.answers.specs.Lines.{page_digits_of, waiting_of};
 ghost use Rattle.answers.specs.Playable.{IsPlayable};
 ghost use Rattle.answers.specs.declared.line.TheConstants.{PIECE_BYTES};
-ghost use Rattle.one_player.specs.Playing.{end_text, is_refused, line_there, stock_after};
+ghost use Rattle.one_player.specs.Playing.{end_text, is_refused, line_by, stock_after};
 ghost use Rattle.one_player.specs.Wear.{block_line};
 
 use crate::perform::perform;
@@ -46,7 +46,7 @@ impl Desk {
         requires page { vec_len self.old.page ≡ page_bytes_of (geometry_of ftl.old) }
         requires room { length (waiting_of self.old.lines) ≤ PIECE_BYTES }
         ensures page { vec_len self.new.page ≡ vec_len self.old.page }
-        ensures lines { waiting_of self.new.lines ≡ waiting_of self.old.lines ++ line_there line (geometry_of ftl.old) (stock_of ftl.old) (sectors_of ftl.old) command.now }
+        ensures lines { waiting_of self.new.lines ≡ waiting_of self.old.lines ++ line_by ftl.old line command.now }
         ensures geometry { geometry_of ftl.new ≡ geometry_of ftl.old }
         ensures array { sectors_of ftl.new ≡ fold step (sectors_of ftl.old) (calls_of (is_refused (geometry_of ftl.old) (stock_of ftl.old) command.now) command.now) }
         ensures stock { stock_of ftl.new ≡ stock_after (geometry_of ftl.old) (stock_of ftl.old) command.now }

@@ -7,7 +7,7 @@ ghost use Rattle.hex.specs.Hex.{encode_lower};
 ghost use Rattle.answers.specs.Answers.{calls_of};
 ghost use Rattle.answers.specs.Playable.{IsPlayable};
 ghost use Rattle.answers.specs.Replies.{reply_text};
-ghost use Rattle.one_player.specs.Playing.{answer_at, is_refused, stock_after};
+ghost use Rattle.one_player.specs.Playing.{answer_by, is_refused, stock_after};
 
 use answers::Reply;
 use ftl_one::{NewOneFault, OneFtl, WornOut};
@@ -19,7 +19,7 @@ pub fn perform(ftl: &mut OneFtl, command: &Command<'_>, page: &mut [u8]) -> Repl
     requires playable { IsPlayable (geometry_of ftl.old) command.now }
     requires buffer { length page.old ≡ page_bytes_of (geometry_of ftl.old) }
     ensures geometry { geometry_of ftl.new ≡ geometry_of ftl.old }
-    ensures answer { reply_text result (encode_lower page.new) ≡ answer_at (geometry_of ftl.old) (stock_of ftl.old) (sectors_of ftl.old) command.now }
+    ensures answer { reply_text result (encode_lower page.new) ≡ answer_by ftl.old command.now }
     ensures array { sectors_of ftl.new ≡ fold step (sectors_of ftl.old) (calls_of (is_refused (geometry_of ftl.old) (stock_of ftl.old) command.now) command.now) }
     ensures stock { stock_of ftl.new ≡ stock_after (geometry_of ftl.old) (stock_of ftl.old) command.now }
 {

@@ -1,2 +1,2 @@
-mod Callers
+pub mod Callers
 pub mod Meetings

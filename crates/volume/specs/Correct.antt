@@ -44,7 +44,7 @@ pub record Known : Type 0 where
   pub seen : List Call
   pub mine : List Call
 
--- what a pass knows of the history, of all that it knows
+-- how far a pass has seen the history, and its own calls, of all that it knows
 abbrev pub known_by : View → Known
 known_by v = record { seen = v.seen; mine = v.mine }
 

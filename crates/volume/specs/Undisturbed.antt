@@ -14,7 +14,8 @@ use Rattle.host.specs.Holding.{Holds, pass_of, page_of}
 abbrev pub AreEarlier : List Cycle → MapWord → Type 0
 AreEarlier erases m = (k : ℕ) (c : Cycle) → slice_get erases k ≡ Some c → c.block ≡ m.block → c.generation < m.generation
 
--- A hold before and after, and what was heard of another player: what it had programmed and erased by then
+-- From a hold to a later one: the same page is pinned in the same generation and holds the same value; and another player, by what was
+-- heard of it, has not erased the block since that generation began, and has programmed no page that the pass did
 pub record Undisturbed (f : Flash) (value : List ℕ) (old : Held) (heard : Option Carried) (new : Held) : Type 0 where
   -- the same page is pinned, in the same generation of its block, and holds the same value
   pub page : page_of new ≡ page_of old
