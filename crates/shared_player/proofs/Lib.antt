@@ -1,1 +1,8 @@
 pub mod Sweeping
+pub mod Cursors
+pub mod Able
+pub mod Walking
+pub mod Going
+pub mod Turning
+pub mod Looping
+pub mod Lent

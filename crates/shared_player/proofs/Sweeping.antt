@@ -21,7 +21,7 @@ use Rattle.volume.specs.declared.volume.Volume.{Volume}
 use Rattle.volume.specs.Closing.{HasLooked}
 use Rattle.volume.specs.Gathering.{MetEach}
 use Rattle.volume.specs.Volume.{flash_of}
-use Rattle.volume.proofs.Looks.{Meets, meets_next}
+use Rattle.volume.proofs.Looks.{Meets, meets_next, looked-trans}
 use Rattle.rounds.specs.Meetings.{WereSwept}
 use Rattle.shared_player.specs.declared.post.Post.{Post}
 use Rattle.shared_player.specs.Meetings.{AreSeated, IsAt, PassesMet, passes_of, rest_of, views_of}
@@ -82,6 +82,16 @@ module _ (volume : Volume) (first now last : Pass) (ps qs rs : List Pass) (one :
         let is : views_of volume (x ∷ xs) t ≡ view_of (get_or (x ∷ xs) t first) = get_or-map view_of (x ∷ xs) t first (first_view (device (flash_of volume)) t) low in
         subst (λ (v : View). calls_of t v.seen ≡ v.mine) (sym is) ((all t first low).rested.own t (at t first low))
 
+    looked : (t : ℕ) → t < suc (length ps) → HasLooked (views_of volume (first ∷ ps) t) (views_of volume (last ∷ rs) t)
+    looked zero low = looked-trans (view_of first) (view_of now) (view_of last) one.first two.first
+    looked (suc k) low =
+        let inside : k < length ps = omega arith in
+        let there : k < length rs = omega (arith, one.long, two.long) in
+        let a = one.each k first first inside in
+        let b = two.each k first first (omega (arith, one.long)) in
+        let both = looked-trans (view_of (get_or ps k first)) (view_of (get_or qs k first)) (view_of (get_or rs k first)) a.looked b.looked in
+        subst (λ (x : View × View). HasLooked x.0 x.1) (λ i. (sym (behind ps first first k inside) i, sym (behind rs last first k there) i)) both
+
     pub swept : PassesMet volume (first ∷ ps) (last ∷ rs)
     swept = record {
       long = ap suc (two.long ∙ one.long);
@@ -94,6 +104,7 @@ module _ (volume : Volume) (first now last : Pass) (ps qs rs : List Pass) (one :
         own_before = own_of first ps ready seated;
         own_after = λ t low. own_of last rs ready_after (seated_after seated) t (omega (arith, one.long, two.long));
       };
+      looked = looked;
     }
 
 -- the pass of a post of this volume is ready
@@ -105,12 +116,12 @@ all_ready volume posts at = All-map (IsReady (flash_of volume)) (λ (p : Post). 
 
 -- a post whose rest is that of another one is of the same volume
 pub same_at : (volume : Volume) (p q : Post) → rest_of q ≡ rest_of p → IsAt volume p → IsAt volume q
-same_at volume p q same at = ap (λ (r : Volume × List Command × List ℕ × List Answer × List ℕ). r.0) same ∙ at
+same_at volume p q same at = ap (λ (r : Volume × List Command × List ℕ × List Answer × List ℕ × ℕ × ℕ). r.0) same ∙ at
 
 pub all_same_at : (volume : Volume) (posts others : List Post) → map rest_of others ≡ map rest_of posts → All (IsAt volume) posts → All (IsAt volume) others
 all_same_at volume posts others same at =
     λ k d low.
-    let long = ap (length {A = Volume × List Command × List ℕ × List Answer × List ℕ}) same in
+    let long = ap (length {A = Volume × List Command × List ℕ × List Answer × List ℕ × ℕ × ℕ}) same in
     let inside : k < length posts = omega (arith, long, length-map others rest_of, length-map posts rest_of) in
     let e : rest_of (get_or others k d) ≡ rest_of (get_or posts k d) =
     sym (get_or-map rest_of others k d (rest_of d) low) ∙ (ap (λ l. get_or l k (rest_of d)) same ∙ get_or-map rest_of posts k d (rest_of d) inside) in

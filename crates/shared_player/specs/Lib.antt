@@ -2,5 +2,6 @@
 pub mod Able
 pub mod Posts
 pub mod Meetings
+pub mod Runs
 -- Internal: the threads of a round.
 pub mod Turns

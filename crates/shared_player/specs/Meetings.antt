@@ -9,6 +9,7 @@ use Rattle.flash_table.specs.declared.pass.Pass.{Pass}
 use Rattle.flash_table.specs.Flash.{view_of, device, first_view}
 use Rattle.trace.specs.declared.commands.Command.{Command}
 use Rattle.lines.specs.declared.answer.Answer.{Answer}
+use Rattle.volume.specs.Closing.{HasLooked}
 use Rattle.volume.specs.declared.volume.Volume.{Volume}
 use Rattle.volume.specs.Volume.{flash_of}
 use Rattle.rounds.specs.Meetings.{WereSwept}
@@ -23,8 +24,8 @@ abbrev pub passes_of : List Post → List Pass
 passes_of posts = map (λ p. p.pass) posts
 
 -- a post without its pass
-abbrev pub rest_of : Post → Volume × List Command × List ℕ × List Answer × List ℕ
-rest_of p = (arc_value p.volume, arc_value p.commands, p.places.items, p.answers.items, p.buffer.items)
+abbrev pub rest_of : Post → Volume × List Command × List ℕ × List Answer × List ℕ × ℕ × ℕ
+rest_of p = (arc_value p.volume, arc_value p.commands, p.places.items, p.answers.items, p.buffer.items, p.from, p.to)
 
 -- what the passes know, by their numbers
 abbrev pub views_of : Volume → List Pass → ℕ → View
@@ -34,8 +35,9 @@ views_of volume passes t = slice_index_or (map view_of passes) t (first_view (de
 abbrev pub AreSeated : List Pass → Type 0
 AreSeated passes = (t : ℕ) (p : Pass) → t < length passes → (view_of (slice_index_or passes t p)).role ≡ Player (APass t)
 
--- the passes have met: one history begins with all that each had seen, and each has now seen it
+-- the passes have met: one history begins with all that each had seen, and each has now seen it. They have looked, and nothing else
 pub record PassesMet (volume : Volume) (before after : List Pass) : Type 0 where
   pub long : length after ≡ length before
   pub history : List Call
   pub swept : WereSwept (length before) history (views_of volume before) (views_of volume after)
+  pub looked : (t : ℕ) → t < length before → HasLooked (views_of volume before t) (views_of volume after t)

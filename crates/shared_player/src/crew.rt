@@ -207,7 +207,7 @@ pub fn play_posts<R: Threads + Wait + Sync, S: Starts + Drop, G: Gate + Send>(
     patience: u32,
     gates: &mut [G],
 ) -> Result<Back, NoShift>
-    requires { length posts.items + length sweepers.items ≡ length gates.old }
+    requires gates { length posts.items + length sweepers.items ≡ length gates.old }
     ensures played { IfOk result (λ back. HavePlayed patience posts.items back.posts.items) }
     ensures swept { IfOk result (λ back. length back.sweepers.items ≡ length sweepers.items) }
 {

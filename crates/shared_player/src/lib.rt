@@ -4,6 +4,7 @@
 mod crew;
 mod meetings;
 mod post;
+mod runs;
 mod starts;
 mod sweeper;
 mod turns;
@@ -11,5 +12,6 @@ mod turns;
 pub use crew::{Back, play_posts};
 pub use meetings::sweep_posts;
 pub use post::Post;
+pub use runs::{play_round, play_rounds};
 pub use starts::{AllStart, NoShift, Starts};
 pub use sweeper::Sweeper;

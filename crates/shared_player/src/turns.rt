@@ -34,15 +34,17 @@ fn work<G: Gate>(post: Post, patience: u32, gate: &mut G) -> Post
 {
     let mut post = post;
     let p = &mut post;
+    let from = p.from;
+    let to = p.to;
     play_at(
         &p.volume,
         &mut p.pass,
         &p.commands,
-        &p.places,
+        &p.places[from..to],
         patience,
         gate,
         &mut p.buffer,
-        &mut p.answers,
+        &mut p.answers[from..to],
     );
     post
 }
@@ -57,7 +59,7 @@ pub(crate) fn start_post<'s, E, S: Starts, G: Gate + Send>(
 ) -> Result<Turn, NoShift>
     ensures { IfOk result (λ turn. asked patience turn ≡ with_patience patience post) }
 {
-    if post.places.is_empty() {
+    if post.from == post.to {
         return Ok(Turn::Idle(post));
     }
     if !starts.may_start() {

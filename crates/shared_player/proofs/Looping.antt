@@ -1,0 +1,345 @@
+-- The state of a run between two rounds: where it begins, one round more, and its end.
+use Rattle.std.proofs.Common.{◌≡◌, ℕ, zero, suc, ◌+◌, ◌-◌, ◌<◌, ◌≤◌, All, List, [], ◌∷◌, ◌++◌, map, length, get_or, take, drop, refl, sym, ap, ◌∙◌, subst, arith, append_assoc, append-nil, length-append, zero-add}
+use Rattle.std.specs.Arc.{arc_value}
+use Rattle.std.specs.List.{slice_range}
+use Rattle.std.proofs.Math.Seq.{drop-append_seam, take-append_seam}
+use Rattle.std.proofs.lemmas.List.{get_or-map, get_or_past, get_or_append_left, get_or-append-add, length-map, take_all, take-take, take-append-drop, drop-take}
+use Rattle.std.proofs.lemmas.List.Elements.{All-nil}
+use mathlib.Core.Logic.{dite}
+use native.Mathlib.Decide.{dec_lt}
+use Rattle.geometry.specs.Geometry.{sectors_of}
+use Rattle.geometry.specs.History.{Call, Begins}
+use Rattle.geometry.proofs.Histories.{Begins-refl}
+use Rattle.flash_rule.specs.declared.facts.Name.TheVariants.{Pass as APass}
+use Rattle.flash_rule.specs.declared.facts.Role.TheVariants.{Player}
+use Rattle.flash_rule.specs.declared.view.View.{View}
+use Rattle.flash_rule.specs.Views.{caller}
+use Rattle.flash_table.specs.declared.pass.Pass.{Pass}
+use Rattle.flash_table.specs.Flash.{view_of, device, geometry_of, first_view}
+use Rattle.trace.specs.declared.commands.Command.{Command}
+use Rattle.lines.specs.declared.answer.Answer.{Answer}
+use Rattle.lines.specs.Playing.{Played}
+use Rattle.playing.specs.Playable.{lines_at}
+use Rattle.volume.specs.declared.volume.Volume.{Volume}
+use Rattle.volume.specs.Closing.{HasLooked}
+use Rattle.volume.specs.Volume.{flash_of}
+use Rattle.rounds.specs.Meetings.{AreTied, WereSwept}
+use Rattle.rounds.specs.Merging.{lines_for, line_count, merge, AreDisjointCommands, IsDisjointTrace, rounds_of}
+use Rattle.rounds.specs.Plans.{places_from, places_for, meetings_from}
+use Rattle.rounds.specs.Runs.{RoundOfRun}
+use Rattle.rounds.specs.Told.{AreAnswered}
+use Rattle.rounds.specs.Texts.{lines_text, IsTextOfSome}
+use Rattle.rounds.proofs.Planning.{places_from-append}
+use Rattle.rounds.proofs.Runs.{run_begins, run_goes_on, run_is_text}
+use Rattle.shared_player.specs.declared.post.Post.{Post}
+use Rattle.shared_player.specs.Meetings.{IsAt, passes_of, rest_of, views_of}
+use Rattle.shared_player.specs.Posts.{HasPlayed, round_lines, round_answers}
+use Rattle.shared_player.specs.Turns.{HavePlayed}
+use Rattle.shared_player.specs.Runs.{IsTurned, AreTurned, RoundPlayed, AreManned, IsDealt, HasBegun, HasEnded, HasRun, answers_of, rows_of}
+use Rattle.shared_player.proofs.Sweeping.{ready_at}
+use Rattle.shared_player.proofs.Turning.{played_long, played_at, manned_turned, manned_played, rests_long, rest_at, role_turned}
+use Rattle.shared_player.proofs.Walking.{count_places, lines_for-append, line_count-append, places_low, places_high, lines_there, past_is, ends_from, FirstRound, first_round}
+use Rattle.shared_player.proofs.Going.{WorkerRound, run_more, round_played, Left, left_is, Next, next_part}
+use Rattle.shared_player.proofs.Going as going
+
+-- a part in the midst of a list
+seam_range : {X : Type 0} (xs ys zs : List X) → slice_range (xs ++ (ys ++ zs)) (length xs) (length xs + length ys) ≡ ys
+seam_range xs ys zs =
+    let count : (length xs + length ys) - length xs ≡ length ys = omega arith in
+    ap (take ((length xs + length ys) - length xs)) (drop-append_seam xs (ys ++ zs)) ∙ (ap (λ k. take k (ys ++ zs)) count ∙ take-append_seam ys zs)
+
+all_part : {X : Type 0} (P : X → Type 0) (xs ys zs : List X) → All P (xs ++ (ys ++ zs)) → All P ys
+all_part P xs ys zs all k d low =
+    subst P (get_or-append-add xs (ys ++ zs) k d ∙ get_or_append_left ys zs d k low) (all (length xs + k) d (omega (arith, length-append xs (ys ++ zs), length-append ys zs)))
+
+take_split : {X : Type 0} (a b : ℕ) (xs : List X) → a ≤ b → take b xs ≡ take a xs ++ slice_range xs a b
+take_split a b xs order =
+    let on : a + (b - a) ≡ b = omega arith in
+    let front : take a (take b xs) ≡ take a xs = take-take a b xs order in
+    let behind : drop a (take b xs) ≡ slice_range xs a b = subst (λ k. drop a (take k xs) ≡ slice_range xs a b) on (drop-take a (b - a) xs) in
+    sym (take-append-drop a (take b xs)) ∙ (λ i. front i ++ behind i)
+
+-- one worker's round, by its post before it, gone on to it, played, and after the meetings
+module _ (trace done cs tail : List Command) (t patience end : ℕ) (p q b r : Post) (whole : trace ≡ done ++ (cs ++ tail)) (last : end ≡ length done + length cs) (dealt : IsDealt trace t p) (cursor : p.to ≡ line_count t done)
+    (turn : IsTurned end p q) (played : HasPlayed patience q b) (same : rest_of r ≡ rest_of b) where
+  front : List ℕ
+  front = places_for t done
+
+  row : p.places.items ≡ places_for t done ++ (places_from (length done) t cs ++ places_from (length done + length cs) t tail)
+  row =
+      dealt.places
+      ∙ (ap (places_for t) whole
+      ∙ (places_from-append 0 t done (cs ++ tail)
+      ∙ (ap (λ k. places_for t done ++ places_from k t (cs ++ tail)) (zero-add (length done)) ∙ ap (λ l. places_for t done ++ l) (places_from-append (length done) t cs tail))))
+
+  begins : q.from ≡ length (places_for t done)
+  begins = turn.from ∙ (cursor ∙ sym (count_places 0 t done))
+
+  pub goes_to : q.to ≡ length (places_for t done) + length (places_from (length done) t cs)
+  goes_to =
+      let within : q.to ≤ length p.places.items = subst (λ l. q.to ≤ length l) turn.places q.within in
+      past_is (places_for t done) (places_from (length done) t cs) (places_from (length done + length cs) t tail) q.from q.to end begins
+      (places_low (length done) t cs end last) (places_high (length done + length cs) t tail end (omega (arith, last))) q.order (subst (λ l. q.to ≤ length l) row within)
+      (subst (λ l. (k : ℕ) → q.from ≤ k → k < q.to → get_or l k 0 < end) row turn.before) (subst (λ l. q.to < length l → end ≤ get_or l q.to 0) row turn.behind)
+
+  from_is : q.from ≡ line_count t done
+  from_is = turn.from ∙ cursor
+
+  to_is : q.to ≡ line_count t done + line_count t cs
+  to_is = (let a = count_places 0 t done in let b = count_places (length done) t cs in let c = goes_to in omega arith)
+
+  lines_are : round_lines q ≡ lines_for t cs
+  lines_are =
+      let P : List Command × List ℕ × ℕ × ℕ → List Command = λ x. lines_at x.0 (slice_range x.1 x.2 x.3) in
+      ap P (λ i. ((turn.commands ∙ (dealt.commands ∙ whole)) i, (turn.places ∙ row) i, begins i, goes_to i))
+      ∙ (ap (lines_at (done ++ (cs ++ tail))) (seam_range (places_for t done) (places_from (length done) t cs) (places_from (length done + length cs) t tail)) ∙ lines_there t done cs tail)
+
+  answers_are : r.answers.items ≡ b.answers.items
+  answers_are = ap (λ (x : Volume × List Command × List ℕ × List Answer × List ℕ × ℕ × ℕ). x.3) same
+
+  places_are : r.places.items ≡ p.places.items
+  places_are = ap (λ (x : Volume × List Command × List ℕ × List Answer × List ℕ × ℕ × ℕ). x.2) same ∙ (played.places ∙ turn.places)
+
+  pub cursor_on : r.to ≡ line_count t done + line_count t cs
+  cursor_on = ap (λ (x : Volume × List Command × List ℕ × List Answer × List ℕ × ℕ × ℕ). x.6) same ∙ (played.to ∙ to_is)
+
+  pub dealt_on : IsDealt trace t r
+  dealt_on = record {
+    commands = ap (λ (x : Volume × List Command × List ℕ × List Answer × List ℕ × ℕ × ℕ). x.1) same ∙ (played.commands ∙ (turn.commands ∙ dealt.commands));
+    places = places_are ∙ dealt.places;
+  }
+
+  pub worker_round : (view_of p.pass).role ≡ Player (APass t) → WorkerRound t patience done cs p.answers.items r.answers.items (view_of p.pass) (view_of b.pass)
+  worker_round role =
+      let kept : take q.from r.answers.items ≡ take q.from p.answers.items = ap (take q.from) answers_are ∙ (played.before ∙ ap (take q.from) turn.answers) in
+      let within : q.to ≤ length p.places.items = subst (λ l. q.to ≤ length l) turn.places q.within in
+      let count : length r.answers.items ≡ length p.places.items = r.able.count ∙ ap (λ (l : List ℕ). length l) places_are in
+      let told = played.played t (role_turned end t p q turn role) in
+      let lasts : round_answers b ≡ slice_range r.answers.items (line_count t done) (line_count t done + line_count t cs) =
+      ap (λ (x : List Answer × ℕ × ℕ). slice_range x.0 x.1 x.2) (λ i. (sym answers_are i, (played.from ∙ from_is) i, (played.to ∙ to_is) i)) in
+      record {
+        kept = sym (subst (λ k. take k r.answers.items ≡ take k p.answers.items) from_is kept);
+        enough = (let to = to_is in omega (arith, within, count));
+        played = subst (λ (x : View × List Command × List Answer). Played t patience x.0 x.1 x.2 (view_of b.pass)) (λ i. (ap view_of turn.pass i, lines_are i, lasts i)) told;
+      }
+
+-- what the post at a number knows and has answered
+pub view_at : (volume : Volume) (posts : List Post) (t : ℕ) (p : Post) → t < length posts → views_of volume (passes_of posts) t ≡ view_of (get_or posts t p).pass
+view_at volume posts t p low =
+    let pass : Post → Pass = λ (z : Post). z.pass in
+    let count = length-map posts pass in
+    get_or-map view_of (passes_of posts) t p.pass (first_view (device (flash_of volume)) t) (omega (arith, count)) ∙ ap view_of (get_or-map pass posts t p p.pass low)
+
+pub row_at : (posts : List Post) (t : ℕ) (p : Post) → t < length posts → rows_of posts t ≡ (get_or posts t p).answers.items
+row_at posts t p low = get_or-map answers_of posts t p [] low
+
+row_past : (posts : List Post) (t : ℕ) → length posts ≤ t → rows_of posts t ≡ []
+row_past posts t past = let count = length-map posts answers_of in get_or_past (map answers_of posts) t [] (omega (arith, count))
+
+some_post : (posts : List Post) → 0 < length posts → Post
+some_post [] some = absurd (omega arith)
+some_post (p ∷ posts) some = p
+
+-- a run of a trace between two rounds, with these ends of rounds left
+pub record RunState (volume : Volume) (patience : ℕ) (trace : List Command) (ends : List ℕ) (posts : List Post) : Type 0 where
+  pub done : List Command
+  pub rest : List Command
+  pub whole : trace ≡ done ++ rest
+  pub left : Left (length done) rest ends
+  pub workers : All (λ c. c.worker < length posts) trace
+  pub sectors : All (λ c. c.sector < sectors_of (geometry_of (flash_of volume))) trace
+  pub dealt : (t : ℕ) (p : Post) → t < length posts → IsDealt trace t (get_or posts t p)
+  pub cursor : (t : ℕ) (p : Post) → t < length posts → (get_or posts t p).to ≡ line_count t done
+  pub each : (t : ℕ) → t < length posts → HasRun t patience (lines_for t done) (take (line_count t done) (rows_of posts t)) (views_of volume (passes_of posts) t)
+  pub order : IsDisjointTrace trace
+      → All AreDisjointCommands (rounds_of rest)
+      × ((h : List Call) × AreTied (length posts) h (views_of volume (passes_of posts)) × AreAnswered (sectors_of (geometry_of (flash_of volume))) h (merge done (rows_of posts)))
+
+-- the run begins
+pub state_begins : (volume : Volume) (patience : ℕ) (trace : List Command) (ends : List ℕ) (posts : List Post) → HasBegun volume trace ends posts → RunState volume patience trace ends posts
+state_begins volume patience trace ends posts b = record {
+  done = [];
+  rest = trace;
+  whole = refl;
+  left = left_is 0 trace ends (b.rounds ∙ ap (λ k. meetings_from 0 trace ++ k ∷ []) (sym (zero-add (length trace))));
+  workers = b.workers;
+  sectors = b.sectors;
+  dealt = b.dealt;
+  cursor = b.none;
+  each = λ t low. let new = b.new t low in going.run_begins t patience (views_of volume (passes_of posts) t) new.0 new.1 new.2;
+  order = λ apart. (
+    apart,
+    (
+      [],
+      record {
+        callers = All-nil (λ c. caller c < length posts);
+        later = λ t low. subst (λ h. Begins [] h) (sym (b.new t low).0) (Begins-refl []);
+        own = λ t low. sym (b.new t low).1;
+      },
+      run_begins (sectors_of (geometry_of (flash_of volume))) (rows_of posts),
+    ),
+  );
+}
+
+-- one round more
+module _ (volume : Volume) (patience : ℕ) (trace : List Command) (end : ℕ) (ends : List ℕ) (posts back : List Post) (manned : AreManned volume posts) (round : RoundPlayed volume patience end posts back)
+    (state : RunState volume patience trace (end ∷ ends) posts) where
+  abbrev n : ℕ
+  n = sectors_of (geometry_of (flash_of volume))
+
+  x : Post
+  x = some_post posts manned.some
+
+  first : FirstRound (length state.done) state.rest end ends
+  first = first_round (length state.done) state.rest end ends state.left
+
+  abbrev cs : List Command
+  cs = first.round
+
+  next : Next state.done cs first.tail ends
+  next = next_part state.done cs first.tail end ends first.plain first.last first.behind
+
+  whole_now : trace ≡ state.done ++ (cs ++ first.tail)
+  whole_now = state.whole ∙ ap (λ l. state.done ++ l) first.whole
+
+  long_turned : length round.turned ≡ length posts
+  long_turned = round.turn.long
+
+  long_between : length round.between ≡ length posts
+  long_between = played_long patience round.turned round.between round.played ∙ round.turn.long
+
+  long_back : length back ≡ length posts
+  long_back = rests_long volume round.between back round.rest ∙ long_between
+
+  abbrev before : ℕ → View
+  before = views_of volume (passes_of posts)
+
+  abbrev played : ℕ → View
+  played = views_of volume (passes_of round.between)
+
+  abbrev after : ℕ → View
+  after = views_of volume (passes_of back)
+
+  role_at : (t : ℕ) (p : Post) → t < length posts → (view_of (get_or posts t p).pass).role ≡ Player (APass t)
+  role_at t p low =
+      let pass : Post → Pass = λ (z : Post). z.pass in
+      let count = length-map posts pass in
+      ap (λ (z : Pass). (view_of z).role) (sym (get_or-map pass posts t p p.pass low)) ∙ manned.seated t p.pass (omega (arith, count))
+
+  module _ (t : ℕ) (p : Post) (low : t < length posts) where
+    played_here : HasPlayed patience (get_or round.turned t p) (get_or round.between t p)
+    played_here = played_at patience round.turned round.between round.played t p p (omega (arith, long_turned))
+
+    rest_here : rest_of (get_or back t p) ≡ rest_of (get_or round.between t p)
+    rest_here = rest_at volume round.between back round.rest t p (omega (arith, long_between))
+
+    dealt_here : IsDealt trace t (get_or back t p)
+    dealt_here =
+        dealt_on trace state.done cs first.tail t patience end (get_or posts t p) (get_or round.turned t p) (get_or round.between t p) (get_or back t p) whole_now first.last (state.dealt t p low) (state.cursor t p low)
+        (round.turn.each t p p low) played_here rest_here
+
+    cursor_here : (get_or back t p).to ≡ line_count t state.done + line_count t cs
+    cursor_here =
+        cursor_on trace state.done cs first.tail t patience end (get_or posts t p) (get_or round.turned t p) (get_or round.between t p) (get_or back t p) whole_now first.last (state.dealt t p low) (state.cursor t p low)
+        (round.turn.each t p p low) played_here rest_here
+
+    worker_here : WorkerRound t patience state.done cs (rows_of posts t) (rows_of back t) (before t) (played t)
+    worker_here =
+        let w =
+        worker_round trace state.done cs first.tail t patience end (get_or posts t p) (get_or round.turned t p) (get_or round.between t p) (get_or back t p) whole_now first.last (state.dealt t p low) (state.cursor t p low)
+        (round.turn.each t p p low) played_here rest_here (role_at t p low) in
+        subst (λ (y : List Answer × List Answer × View × View). WorkerRound t patience state.done cs y.0 y.1 y.2 y.3)
+        (λ i. (sym (row_at posts t p low) i, sym (row_at back t p (omega (arith, long_back))) i, sym (view_at volume posts t p low) i, sym (view_at volume round.between t p (omega (arith, long_between))) i)) w
+
+    sectors_here : (before t).numbers.sectors ≡ n
+    sectors_here =
+        let ready = ready_at volume (get_or posts t p) (manned.at t p low) in
+        ap (λ (v : View). v.numbers.sectors) (view_at volume posts t p low) ∙ ap (λ z. z.sectors) ready.rested.pass.numbers
+
+  count_met : length (passes_of round.between) ≡ length posts
+  count_met = length-map round.between (λ (z : Post). z.pass) ∙ long_between
+
+  swept : WereSwept (length posts) round.met.history played after
+  swept = subst (λ k. WereSwept k round.met.history played after) count_met round.met.swept
+
+  lines_more : (t : ℕ) → lines_for t (state.done ++ (cs ++ next.meeting)) ≡ lines_for t state.done ++ lines_for t cs
+  lines_more t =
+      lines_for-append t state.done (cs ++ next.meeting)
+      ∙ ap (λ l. lines_for t state.done ++ l) (lines_for-append t cs next.meeting ∙ (ap (λ l. lines_for t cs ++ l) (next.nobody t) ∙ append-nil (lines_for t cs)))
+
+  count_more : (t : ℕ) → line_count t (state.done ++ (cs ++ next.meeting)) ≡ line_count t state.done + line_count t cs
+  count_more t = ap (λ (l : List Command). length l) (lines_more t) ∙ length-append (lines_for t state.done) (lines_for t cs)
+
+  run_here : (t : ℕ) → t < length posts
+      → HasRun t patience (lines_for t (state.done ++ (cs ++ next.meeting))) (take (line_count t (state.done ++ (cs ++ next.meeting))) (rows_of back t)) (after t)
+  run_here t low =
+      let w = worker_here t x low in
+      let a = line_count t state.done in
+      let b = line_count t state.done + line_count t cs in
+      let looked : HasLooked (played t) (after t) = round.met.looked t (omega (arith, count_met)) in
+      let more = run_more t patience (lines_for t state.done) (lines_for t cs) (take a (rows_of posts t)) (slice_range (rows_of back t) a b) (before t) (played t) (after t) (state.each t low) w.played looked in
+      let answers : take a (rows_of posts t) ++ slice_range (rows_of back t) a b ≡ take (line_count t (state.done ++ (cs ++ next.meeting))) (rows_of back t) =
+      ap (λ l. l ++ slice_range (rows_of back t) a b) w.kept ∙ (sym (take_split a b (rows_of back t) (omega arith)) ∙ ap (λ k. take k (rows_of back t)) (sym (count_more t))) in
+      subst (λ (y : List Command × List Answer). HasRun t patience y.0 y.1 (after t)) (λ i. (sym (lines_more t) i, answers i)) more
+
+  kept_here : (t : ℕ) → take (line_count t state.done) (rows_of posts t) ≡ take (line_count t state.done) (rows_of back t)
+  kept_here t =
+      dite (dec_lt t (length posts))
+      (λ low. (worker_here t x low).kept)
+      (λ past.
+      let one = row_past posts t (omega arith) in
+      let two = row_past back t (omega (arith, long_back)) in ap (take (line_count t state.done)) (one ∙ sym two))
+
+  order_here : IsDisjointTrace trace
+      → All AreDisjointCommands (rounds_of next.rest)
+      × ((h : List Call) × AreTied (length back) h after × AreAnswered n h (merge (state.done ++ (cs ++ next.meeting)) (rows_of back)))
+  order_here apart =
+      let o = state.order apart in
+      let two = next.disjoint (subst (λ l. All AreDisjointCommands (rounds_of l)) first.whole o.0) in
+      let r : RoundOfRun (length posts) n o.1.0 round.met.history before played after state.done cs (rows_of posts) (rows_of back) = record {
+        some = manned.some;
+        workers = all_part (λ c. c.worker < length posts) state.done cs first.tail (subst (λ l. All (λ c. c.worker < length posts) l) whole_now state.workers);
+        sectors = all_part (λ c. c.sector < n) state.done cs first.tail (subst (λ l. All (λ c. c.sector < n) l) whole_now state.sectors);
+        disjoint = two.0;
+        tied = o.1.1;
+        kept = kept_here;
+        play = round_played (length posts) n patience state.done cs (rows_of posts) (rows_of back) before played first.plain (λ t low. sectors_here t x low) (λ t low. worker_here t x low);
+        swept = swept;
+      } in
+      let go = run_goes_on (length posts) n o.1.0 round.met.history before played after state.done cs (rows_of posts) (rows_of back) r o.1.2 in
+      (two.1, (round.met.history, subst (λ k. AreTied k round.met.history after) (sym long_back) go.0, next.answered n round.met.history (rows_of back) go.1))
+
+  pub state_next : RunState volume patience trace ends back
+  state_next = record {
+    done = state.done ++ (cs ++ next.meeting);
+    rest = next.rest;
+    whole = whole_now ∙ (ap (λ l. state.done ++ (cs ++ l)) next.whole ∙ (ap (λ l. state.done ++ l) (sym (append_assoc cs next.meeting next.rest)) ∙ sym (append_assoc state.done (cs ++ next.meeting) next.rest)));
+    left = next.left;
+    workers = subst (λ k. All (λ c. c.worker < k) trace) (sym long_back) state.workers;
+    sectors = state.sectors;
+    dealt = λ t p low. dealt_here t p (omega (arith, long_back));
+    cursor = λ t p low. cursor_here t p (omega (arith, long_back)) ∙ sym (count_more t);
+    each = λ t low. run_here t (omega (arith, long_back));
+    order = order_here;
+  }
+
+-- the run's end, once no end of a round is left
+pub state_ends : (volume : Volume) (patience : ℕ) (trace : List Command) (posts : List Post) → AreManned volume posts → RunState volume patience trace [] posts → HasEnded volume patience trace posts
+state_ends volume patience trace posts manned state =
+    let all : state.done ≡ trace = sym (append-nil state.done) ∙ (ap (λ l. state.done ++ l) (sym state.left) ∙ sym state.whole) in
+    record {
+      each = λ t low.
+          let p = some_post posts manned.some in
+          let post = get_or posts t p in
+          let row = row_at posts t p low in
+          let count : length (rows_of posts t) ≤ line_count t trace =
+          (let a = ap (λ (l : List Answer). length l) row in
+          let b = post.able.count in
+          let c = ap (λ (l : List ℕ). length l) (state.dealt t p low).places in
+          let d = count_places 0 t trace in omega arith) in
+          let run = subst (λ l. HasRun t patience (lines_for t l) (take (line_count t l) (rows_of posts t)) (views_of volume (passes_of posts) t)) all (state.each t low) in
+          subst (λ l. HasRun t patience (lines_for t trace) l (views_of volume (passes_of posts) t)) (take_all (line_count t trace) (rows_of posts t) count) run;
+      text = λ apart.
+          let o = (state.order apart).1 in
+          run_is_text (sectors_of (geometry_of (flash_of volume))) o.0 trace (rows_of posts) (subst (λ l. AreAnswered (sectors_of (geometry_of (flash_of volume))) o.0 (merge l (rows_of posts))) all o.2);
+    }

@@ -1,0 +1,84 @@
+-- A run over the rounds of a trace: what the posts hold, and what was answered so far.
+use Rattle.std.specs.Prelude.{◌≡◌, ℕ, ◌*◌, ◌<◌, ◌≤◌, All, List, [], ◌∷◌, map, length, slice_index, slice_index_or}
+use Rattle.std.specs.Arc.{arc_value}
+use Rattle.geometry.specs.Geometry.{hosts_of, sectors_of}
+use Rattle.flash_rule.specs.declared.view.View.{View}
+use Rattle.flash_table.specs.Flash.{geometry_of}
+use Rattle.trace.specs.declared.commands.Command.{Command}
+use Rattle.lines.specs.declared.answer.Answer.{Answer}
+use Rattle.lines.specs.Playing.{Plays, calls_done, writes_done, fulls, times}
+use Rattle.volume.specs.declared.volume.Volume.{Volume}
+use Rattle.volume.specs.Volume.{flash_of}
+use Rattle.rounds.specs.Merging.{lines_for, merge, IsDisjointTrace}
+use Rattle.rounds.specs.Plans.{places_for, ends_of}
+use Rattle.rounds.specs.Texts.{lines_text, IsTextOfSome}
+use Rattle.shared_player.specs.declared.post.Post.{Post}
+use Rattle.shared_player.specs.Meetings.{AreSeated, IsAt, PassesMet, passes_of, rest_of, views_of}
+use Rattle.shared_player.specs.Turns.{HavePlayed}
+
+-- The post goes on to its next round: the lines of its row that stand before an end, behind those of the round before. Nothing else of it changes
+pub record IsTurned (end : ℕ) (p q : Post) : Type 0 where
+  pub volume : arc_value q.volume ≡ arc_value p.volume
+  pub commands : arc_value q.commands ≡ arc_value p.commands
+  pub pass : q.pass ≡ p.pass
+  pub places : q.places.items ≡ p.places.items
+  pub answers : q.answers.items ≡ p.answers.items
+  pub from : q.from ≡ p.to
+  pub before : (k : ℕ) → q.from ≤ k → k < q.to → slice_index p.places.items k < end
+  pub behind : q.to < length p.places.items → end ≤ slice_index p.places.items q.to
+
+-- and so does each post of a row
+pub record AreTurned (end : ℕ) (ps qs : List Post) : Type 0 where
+  pub long : length qs ≡ length ps
+  pub each : (k : ℕ) (p q : Post) → k < length ps → IsTurned end (slice_index_or ps k p) (slice_index_or qs k q)
+
+-- A round was played: each post has gone on to it and has played its lines, and then all passes have met
+pub record RoundPlayed (volume : Volume) (patience end : ℕ) (posts back : List Post) : Type 0 where
+  pub turned : List Post
+  pub turn : AreTurned end posts turned
+  pub between : List Post
+  pub played : HavePlayed patience turned between
+  pub met : PassesMet volume (passes_of between) (passes_of back)
+  pub rest : map rest_of back ≡ map rest_of between
+
+-- the posts can play a round: there is one for each pass of this volume, at its number
+pub record AreManned (volume : Volume) (posts : List Post) : Type 0 where
+  pub some : 0 < length posts
+  pub all : length posts ≡ hosts_of (geometry_of (flash_of volume))
+  pub at : All (IsAt volume) posts
+  pub seated : AreSeated (passes_of posts)
+
+-- the answers of posts, by their workers
+abbrev pub answers_of : Post → List Answer
+answers_of p = p.answers.items
+
+abbrev pub rows_of : List Post → ℕ → List Answer
+rows_of posts t = slice_index_or (map answers_of posts) t []
+
+-- a post has its worker's lines of this trace
+pub record IsDealt (trace : List Command) (t : ℕ) (p : Post) : Type 0 where
+  pub commands : arc_value p.commands ≡ trace
+  pub places : p.places.items ≡ places_for t trace
+
+-- A run of this trace is to begin: its workers and sectors are those of the volume, each post has its worker's lines and has played none, and no pass has seen a call
+pub record HasBegun (volume : Volume) (trace : List Command) (ends : List ℕ) (posts : List Post) : Type 0 where
+  pub rounds : ends ≡ ends_of trace
+  pub workers : All (λ c. c.worker < length posts) trace
+  pub sectors : All (λ c. c.sector < sectors_of (geometry_of (flash_of volume))) trace
+  pub dealt : (t : ℕ) (p : Post) → t < length posts → IsDealt trace t (slice_index_or posts t p)
+  pub none : (t : ℕ) (p : Post) → t < length posts → (slice_index_or posts t p).to ≡ 0
+  pub new : (t : ℕ) → t < length posts → ((views_of volume (passes_of posts) t).seen ≡ []) × ((views_of volume (passes_of posts) t).mine ≡ []) × ((views_of volume (passes_of posts) t).programs ≡ [])
+
+-- What a worker has done in a run, by what its pass knows: it has answered its lines one after another, each rightly at a history, has made just their calls, has
+-- programmed a page for each write that was done, and has found each block taken as often as it is to be tried for each line that was turned away
+pub record HasRun (t patience : ℕ) (lines : List Command) (answers : List Answer) (v : View) : Type 0 where
+  pub plays : Plays v.numbers.sectors t [] lines answers v.seen
+  pub mine : v.mine ≡ calls_done t lines answers
+  pub programmed : length v.programs ≡ writes_done lines answers
+  pub denied : (b : ℕ) → b < v.numbers.blocks → patience * fulls answers ≤ times b v.denied
+
+-- A run of this trace has ended: each worker has answered all its lines, and where the trace is disjoint, the answers are as text those of the trace, with the writes
+-- turned away at some set of lines
+pub record HasEnded (volume : Volume) (patience : ℕ) (trace : List Command) (posts : List Post) : Type 0 where
+  pub each : (t : ℕ) → t < length posts → HasRun t patience (lines_for t trace) (rows_of posts t) (views_of volume (passes_of posts) t)
+  pub text : IsDisjointTrace trace → IsTextOfSome (sectors_of (geometry_of (flash_of volume))) trace (lines_text 0 (merge trace (rows_of posts)))

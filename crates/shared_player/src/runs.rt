@@ -1,0 +1,105 @@
+//! A run over all rounds of a trace.
+ghost use Rattle.std.specs.Prelude.{◌≡◌, ◌+◌, IfOk, List, length, map};
+ghost use Rattle.trace.specs.declared.commands.Command.{Command};
+ghost use Rattle.shared_player.specs.Meetings.{AreSeated, PassesMet, passes_of, rest_of};
+ghost use Rattle.shared_player.specs.Runs.{IsTurned, AreTurned, RoundPlayed, AreManned, HasBegun, HasEnded};
+
+use crate::crew::{Back, play_posts};
+use crate::meetings::sweep_posts;
+use crate::post::Post;
+use crate::starts::{NoShift, Starts};
+use flash_table::Gate;
+use rounds::past;
+use std::alloc::Global;
+use std::sync::Wait;
+use std::thread::Threads;
+use volume::Volume;
+
+// The post goes on to its lines before this end.
+fn turn(post: &mut Post, end: usize)
+    ensures { IsTurned end post.old post.new }
+{
+    let to = past(&post.places, post.to, end);
+    post.from = post.to;
+    post.to = to;
+}
+
+// All posts go on to their lines before this end.
+fn turn_all(posts: &mut [Post], end: usize)
+    ensures { AreTurned end posts.old posts.new }
+{
+    for post in posts.iter_mut() {
+        turn(post, end);
+    }
+}
+
+// All posts of a crew go on to their lines before this end.
+fn turn_crew(crew: Back, end: usize) -> Back
+    ensures turned { AreTurned end crew.posts.items result.posts.items }
+    ensures sweepers { length result.sweepers.items ≡ length crew.sweepers.items }
+{
+    let Back { posts, sweepers } = crew;
+    let mut posts = posts;
+    turn_all(&mut posts, end);
+    Back { posts, sweepers }
+}
+
+// All passes of a crew meet.
+fn meet_crew(volume: &Volume, crew: Back) -> Back
+    requires { AreManned volume.now crew.posts.items }
+    ensures met { PassesMet volume.now (passes_of crew.posts.items) (passes_of result.posts.items) }
+    ensures rest { map rest_of result.posts.items ≡ map rest_of crew.posts.items }
+    ensures seated { AreSeated (passes_of result.posts.items) }
+    ensures sweepers { length result.sweepers.items ≡ length crew.sweepers.items }
+{
+    let Back { posts, sweepers } = crew;
+    let mut posts = posts;
+    sweep_posts(volume, &mut posts);
+    Back { posts, sweepers }
+}
+
+/// Plays the round before an end: each worker with a line in it is a thread, brooms sweep beside them, and once all are joined the passes meet.
+pub fn play_round<R: Threads + Wait + Sync, S: Starts + Drop, G: Gate + Send>(
+    rt: &R,
+    alloc: Global,
+    starts: S,
+    volume: &Volume,
+    crew: Back,
+    end: usize,
+    patience: u32,
+    gates: &mut [G],
+) -> Result<Back, NoShift>
+    requires gates { length crew.posts.items + length crew.sweepers.items ≡ length gates.old }
+    requires manned { AreManned volume.now crew.posts.items }
+    ensures played { IfOk result (λ back. RoundPlayed volume.now patience end crew.posts.items back.posts.items) }
+    ensures manned { IfOk result (λ back. AreManned volume.now back.posts.items) }
+    ensures count { IfOk result (λ back. length back.posts.items ≡ length crew.posts.items) }
+    ensures sweepers { IfOk result (λ back. length back.sweepers.items ≡ length crew.sweepers.items) }
+{
+    let Back { posts, sweepers } = turn_crew(crew, end);
+    let crew = play_posts(rt, alloc, starts, posts, sweepers, patience, gates)?;
+    Ok(meet_crew(volume, crew))
+}
+
+/// Plays all rounds of a trace, by their ends. After a fault no thread runs, and all passes and brooms are given up.
+pub fn play_rounds<R: Threads + Wait + Sync, S: Starts + Copy + Drop, G: Gate + Send>(
+    rt: &R,
+    alloc: Global,
+    starts: S,
+    volume: &Volume,
+    crew: Back,
+    ends: &[usize],
+    patience: u32,
+    gates: &mut [G],
+) -> Result<Back, NoShift>
+    requires gates { length crew.posts.items + length crew.sweepers.items ≡ length gates.old }
+    requires manned { AreManned volume.now crew.posts.items }
+    ensures run { IfOk result (λ back. (trace : List Command) → HasBegun volume.now trace ends.now crew.posts.items → HasEnded volume.now patience trace back.posts.items) }
+    ensures manned { IfOk result (λ back. AreManned volume.now back.posts.items) }
+{
+    let mut crew = crew;
+    for i in 0..ends.len() {
+        crew = play_round(rt, alloc, starts, volume, crew, ends[i], patience, gates)?;
+    }
+    Ok(crew)
+}
