@@ -1,5 +1,6 @@
 -- A text that goes out piece by piece.
 use Rattle.std.proofs.Common.{◌≡◌, ℕ, List, [], ◌++◌, Option, None, Some, refl, subst, sym, ap, ◌∙◌, append_assoc, append-nil, take, drop}
+use Rattle.std.specs.Prelude.{Result, Ok, Err, OnErr, OnOk}
 use Rattle.std.specs.Io.KnownBytes.{Appends, Keeps}
 use Rattle.std.proofs.lemmas.List.{take-append-drop}
 use Rattle.geometry.specs.History.{Begins}
@@ -89,3 +90,16 @@ IsUnderWay-trans a b c later waiting text u v =
 pub IsUnderWay-all : (old new : Option (List ℕ)) (waiting later : List ℕ) → later ≡ [] → Appends old new waiting → IsUnderWay old new later waiting
 IsUnderWay-all old new waiting later none out =
     subst (λ l. IsUnderWay old new l waiting) (sym none) (record { sent = waiting; out = out; whole = append-nil waiting })
+
+-- an `Err` is what is claimed of one
+pub OnErr-any : {T E : Type 0} (P : Type 0) (r : Result T E) → P → OnErr r P
+OnErr-any P (Ok x) p = tt
+OnErr-any P (Err e) p = p
+
+pub OnErr-map : {T E : Type 0} (P Q : Type 0) (r : Result T E) → (P → Q) → OnErr r P → OnErr r Q
+OnErr-map P Q (Ok x) f p = tt
+OnErr-map P Q (Err e) f p = f p
+
+pub OnOk-map : {T E : Type 0} (P Q : Type 0) (r : Result T E) → (P → Q) → OnOk r P → OnOk r Q
+OnOk-map P Q (Ok x) f p = f p
+OnOk-map P Q (Err e) f p = tt

@@ -63,6 +63,7 @@ command_is_playable geo (worker_text ∷ op_text ∷ sector_text ∷ digits ∷ 
     let page = passed (page_of (page_bytes_of geo) which.0 worker.0 sector.0 digits) (λ page. Ok (record { worker = worker.0; op = which.0; sector = sector.0; page = page })) c sector.2 in
     let made : record { worker = worker.0; op = which.0; sector = sector.0; page = page.0 } ≡ c = cc (page.2) in
     subst (IsPlayable geo) made (record {
+      worker = number_is_below (workers_of geo) fault.Worker worker_text worker.0 worker.1;
       sector = number_is_below (sectors_of geo) fault.Sector sector_text sector.0 sector.1;
       page = λ is. page_is_whole (page_bytes_of geo) worker.0 sector.0 which.0 digits page.0 page.1 (inl is);
       new_page = λ is. page_is_whole (page_bytes_of geo) worker.0 sector.0 which.0 digits page.0 page.1 (inr is);

@@ -1,4 +1,4 @@
-//! The answers of a trace as text, and how a text goes out.
+//! A trace's commands read whole, its answers as text, and how a text goes out.
 #![tactic(auto)]
 
 mod delivery;
@@ -6,9 +6,11 @@ mod fault;
 mod line;
 mod lines;
 mod printing;
+mod reading;
 mod reply;
 
 pub use delivery::{OutputFailed, send};
 pub use fault::RunFault;
 pub use lines::Lines;
+pub use reading::read_commands;
 pub use reply::Reply;

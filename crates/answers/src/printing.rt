@@ -8,6 +8,7 @@ ghost use Rattle.answers.specs.Delivery.{AppendsBeginning, IsUnderWay};
 ghost use Rattle.answers.specs.Lines.{page_digits_of, waiting_of};
 ghost use Rattle.answers.specs.Replies.{reply_text};
 ghost use Rattle.answers.specs.declared.line.TheConstants.{PIECE_BYTES};
+ghost use Rattle.answers.specs.declared.reply.Reply.TheVariants as replies;
 
 use crate::delivery::{OutputFailed, send};
 use crate::line::{
@@ -35,7 +36,7 @@ impl Lines {
 
     /// Adds an answer line. A reply of a page tells these bytes.
     pub fn answer(&mut self, line: u64, op: Op, sector: u32, reply: Reply, page: &[u8])
-        requires page { page_digits_of self.old ≡ 2 * length page.now }
+        requires page { reply ≡ replies.Page → page_digits_of self.old ≡ 2 * length page.now }
         requires room { length (waiting_of self.old) ≤ PIECE_BYTES }
         ensures waiting { waiting_of self.new ≡ waiting_of self.old ++ line_text line op sector (reply_text reply (encode_lower page.now)) }
         ensures page { page_digits_of self.new ≡ page_digits_of self.old }

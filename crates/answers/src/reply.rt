@@ -1,6 +1,7 @@
 ghost use Rattle.std.specs.Prelude.{◌≡◌, ◌+◌, ◌*◌, ◌≤◌, length};
 ghost use Rattle.hex.specs.Hex.{encode_lower};
 ghost use Rattle.answers.specs.Replies.{reply_text, reply_of};
+ghost use Rattle.answers.specs.declared.reply.Reply.TheVariants as reply;
 
 use geometry::Was;
 
@@ -29,8 +30,9 @@ impl Reply {
 
     /// Writes the page's digits, where the reply tells them.
     pub fn encode(self, page: &[u8], digits: &mut [u8])
-        requires { length digits.old ≡ 2 * length page.now }
-        ensures { reply_text self digits.new ≡ reply_text self (encode_lower page.now) }
+        requires { self ≡ reply.Page → length digits.old ≡ 2 * length page.now }
+        ensures len { length digits.new ≡ length digits.old }
+        ensures text { reply_text self digits.new ≡ reply_text self (encode_lower page.now) }
     {
         if let Reply::Page = self {
             hex::encode_to_slice(page, digits).unwrap();

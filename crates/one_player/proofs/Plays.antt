@@ -1,6 +1,6 @@
 -- One command more: the stock grows by its own part, and with it the array and the text.
 use Rattle.std.proofs.Common.{◌≡◌, ℕ, ◌+◌, ◌≤◌, false, List, [], ◌∷◌, ◌++◌, Option, Some, length, take, subst, sym, ap, ◌∙◌, ◌-◌, append_assoc, arith, codes}
-use Rattle.std.specs.Prelude.{slice_get, Result, Ok, Err, OnErr, OnOk}
+use Rattle.std.specs.Prelude.{slice_get}
 use Rattle.std.specs.List.{All, fold}
 use Rattle.std.specs.Option.{option_map_or}
 use Rattle.std.proofs.lemmas.List.Sums.{fold_push}
@@ -102,16 +102,3 @@ text_whole geo commands array stock old new newer waiting later last played move
     (ArePlayed-moved geo commands (length commands) array stock old new newer waiting later played moved).text in
     subst (λ l. IsUnderWay old newer l (text_of_commands geo commands)) (sym ends)
     (subst (λ s. IsUnderWay old newer (later ++ end_text stock) (lines_before (codes "worn") (sectors_of geo) (refused_at geo commands) commands (length commands) ++ end_text s)) played.stock_is whole)
-
--- an `Err` is what is claimed of one
-pub OnErr-any : {T E : Type 0} (P : Type 0) (r : Result T E) → P → OnErr r P
-OnErr-any P (Ok x) p = tt
-OnErr-any P (Err e) p = p
-
-pub OnErr-map : {T E : Type 0} (P Q : Type 0) (r : Result T E) → (P → Q) → OnErr r P → OnErr r Q
-OnErr-map P Q (Ok x) f p = tt
-OnErr-map P Q (Err e) f p = f p
-
-pub OnOk-map : {T E : Type 0} (P Q : Type 0) (r : Result T E) → (P → Q) → OnOk r P → OnOk r Q
-OnOk-map P Q (Ok x) f p = f p
-OnOk-map P Q (Err e) f p = tt

@@ -15,12 +15,12 @@ ghost use Rattle.one_player.specs.Wear.{IsStockOf, IsWearOf};
 
 use crate::desk::Desk;
 use crate::wear::{Played, tell_wear};
-use answers::{OutputFailed, RunFault};
+use answers::{OutputFailed, RunFault, read_commands};
 use ftl_one::OneFtl;
 use geometry::Geometry;
 use std::alloc::Global;
 use std::io::{Read, Write};
-use trace::{Commands, Watched, load, parse};
+use trace::{Commands, Watched};
 
 /// Plays a trace on a device for one thread, and writes its answers and the totals.
 ///
@@ -99,15 +99,10 @@ fn run_out<R: Read, W: Write>(
     ensures stock { IfOk result (λ played. IfSome (R.remaining (inner_of reader.old)) (λ bytes. IsStockOf geometry.now bytes (stock_of played.ftl))) }
     ensures why { IfErr result (λ fault. ExplainsRun (IsTextOf geometry.now) fault geometry.now (stream_of R.remaining reader.old) (stream_of R.remaining reader.new) (stream_of W.contents writer.old) (stream_of W.contents writer.new)) }
 {
-    let text = match load(alloc, reader) {
-        Ok(text) => text,
-        Err(fault) => return Err(RunFault::Trace(fault)),
-    };
-    let commands = match parse(alloc, &text, geometry) {
+    let commands = match read_commands(alloc, reader, geometry) {
         Ok(commands) => commands,
         Err(fault) => return Err(RunFault::Trace(fault)),
     };
-    drop(text);
     let Ok(mut ftl) = OneFtl::new(alloc, geometry) else {
         return Err(RunFault::Memory);
     };

@@ -6,8 +6,8 @@ use Rattle.answers.specs.Lines.{waiting_of}
 use Rattle.answers.specs.Playable.{IsPlayable}
 use Rattle.one_player.specs.Playing.{text_of_commands}
 use Rattle.one_player.specs.Steps.{ArePlayed}
-use Rattle.answers.proofs.Deliveries.{AppendsBeginning-part, Appends-whole, IsUnderWay-sent}
-use Rattle.one_player.proofs.Plays.{All-at, ArePlayed-turn, text_whole, lines_begin, OnErr-any, OnErr-map, OnOk-map}
+use Rattle.answers.proofs.Deliveries.{AppendsBeginning-part, Appends-whole, IsUnderWay-sent, OnErr-any, OnErr-map, OnOk-map}
+use Rattle.one_player.proofs.Plays.{All-at, ArePlayed-turn, text_whole, lines_begin}
 use Rattle.one_player.proofs.one_thread.play.Goals as goal
 
 pub returns-in_err-make_room-clause-part : goal.returns-in_err-make_room-clause-part

@@ -1,10 +1,8 @@
 use Rattle.std.proofs.Common.{subst, sym}
 use Rattle.std.specs.List.{All}
 use Rattle.answers.specs.Playable.{IsPlayable}
-use Rattle.answers.proofs.Playable.{commands_are_playable}
 use Rattle.one_player.proofs.one_thread.run_out.Goals as goal
 
 pub play-requires-clause-playable : goal.play-requires-clause-playable
 play-requires-clause-playable g c =
-    subst (λ geo. All (IsPlayable geo) c.in-Ok-parse.commands) (sym c.in-Ok-new.ensures.geometry)
-    (commands_are_playable c.args.geometry.now c.deref.result.now c.in-Ok-parse.commands c.in-Ok-parse.ensures.each)
+    subst (λ geo. All (IsPlayable geo) c.in-Ok.commands) (sym c.in-Ok-new.ensures.geometry) c.in-Ok.ensures.playable

@@ -5,9 +5,8 @@ use Rattle.ftl_one.specs.OneFtl.{geometry_of, stock_of}
 use Rattle.trace.specs.Watched.{inner_of}
 use Rattle.answers.specs.Delivery.{IsUnderWay}
 use Rattle.answers.specs.Lines.{waiting_of}
-use Rattle.answers.proofs.Deliveries.{AppendsBeginning-part, Appends-whole, IsUnderWay-sent}
+use Rattle.answers.proofs.Deliveries.{AppendsBeginning-part, Appends-whole, IsUnderWay-sent, OnErr-any, OnErr-map, OnOk-map}
 use Rattle.one_player.specs.Wear.{wear_before, wear_text}
-use Rattle.one_player.proofs.Plays.{OnErr-any, OnErr-map, OnOk-map}
 use Rattle.one_player.proofs.WearTexts.{wear_begins, wear_turn}
 use Rattle.one_player.proofs.wear.tell_wear.Goals as goal
 

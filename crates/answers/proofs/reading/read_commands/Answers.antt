@@ -1,0 +1,12 @@
+use Rattle.std.specs.List.{All}
+use Rattle.std.proofs.lemmas.Result.{IfOk-weaker}
+use Rattle.trace.specs.Trace.{AreCommands, checked}
+use Rattle.answers.specs.Playable.{IsPlayable}
+use Rattle.answers.proofs.Playable.{commands_are_playable}
+use Rattle.answers.proofs.reading.read_commands.Goals as goal
+
+pub returns-clause-playable : goal.returns-clause-playable
+returns-clause-playable g c =
+    let geo = c.args.geometry.now in
+    let text = c.deref.result.now in
+    IfOk-weaker c.parse.result (AreCommands (checked geo text)) (All (IsPlayable geo)) (commands_are_playable geo text) c.parse.ensures.each

@@ -1,0 +1,28 @@
+ghost use Rattle.std.specs.Prelude.{◌≡◌, All, IfErr, IfOk, IfSome, Ok, OnOk};
+ghost use Rattle.std.specs.Io.KnownBytes.{IsAtEnd};
+ghost use Rattle.trace.specs.Trace.{commands_of};
+ghost use Rattle.trace.specs.Watched.{failures_of, inner_of};
+ghost use Rattle.answers.specs.Outcome.{ExplainsTrace};
+ghost use Rattle.answers.specs.Playable.{IsPlayable};
+ghost use Rattle.answers.specs.Streams.{stream_of};
+
+use geometry::Geometry;
+use std::alloc::Global;
+use std::io::Read;
+use trace::{Commands, TraceFault, Watched, load, parse};
+
+/// Reads a whole trace, and gives its commands for this device.
+pub fn read_commands<R: Read>(
+    alloc: Global,
+    reader: &mut Watched<R>,
+    geometry: &Geometry,
+) -> Result<Commands, TraceFault>
+    ensures end { OnOk result (IsAtEnd (R.remaining (inner_of reader.new))) }
+    ensures unfailed { OnOk result (failures_of reader.new ≡ failures_of reader.old) }
+    ensures commands { IfOk result (λ commands. IfSome (R.remaining (inner_of reader.old)) (λ bytes. commands_of bytes geometry.now ≡ Ok commands)) }
+    ensures playable { IfOk result (λ commands. All (IsPlayable geometry.now) commands) }
+    ensures why { IfErr result (λ fault. ExplainsTrace fault geometry.now (stream_of R.remaining reader.old) (stream_of R.remaining reader.new)) }
+{
+    let text = load(alloc, reader)?;
+    parse(alloc, &text, geometry)
+}

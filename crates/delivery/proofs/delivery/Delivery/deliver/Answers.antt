@@ -1,0 +1,61 @@
+use Rattle.std.proofs.Common.{ℕ, ◌+◌, length, get_or, drop, sym, ap, ◌∙◌, arith, subst}
+use Rattle.geometry.proofs.Histories.{Begins-refl}
+use Rattle.trace.specs.Watched.{inner_of}
+use Rattle.answers.proofs.Deliveries.{AppendsBeginning-part, OnErr-any, OnErr-map}
+use Rattle.delivery.specs.Delivering.{answers_by, digits_in, text_of, HasDigits}
+use Rattle.delivery.proofs.Deliveries.{delivery_turn, delivery_whole, text_begins}
+use Rattle.delivery.proofs.Rows.{answer_found, lent, next_is, next_more, next_there, AreNext}
+use Rattle.delivery.proofs.delivery.Delivery.deliver.Goals as goal
+
+pub returns-in_err-make_room-clause-part : goal.returns-in_err-make_room-clause-part
+returns-in_err-make_room-clause-part g c =
+    OnErr-any _ c.from_residual.result
+    (AppendsBeginning-part _ _ _ _ _ _ c.loop-i.invariant.text c.in_err-make_room.ensures.part (text_begins c.loop-i.i c.args.commands.now (answers_by c.args.rows.now)))
+
+pub next_answer-answer-requires-clause-there : goal.next_answer-answer-requires-clause-there
+next_answer-answer-requires-clause-there g c =
+    let lent = c.deref_mut.ensures.value in
+    let so_far = subst (λ next. AreNext next c.loop-i.i c.args.commands.now) (sym lent) c.loop-i.invariant.next in
+    let long = ap (length {A = ℕ}) lent ∙ c.loop-i.invariant.long in
+    next_there c.args.rows.now c.deref_mut.result.now c.loop-i.i c.args.commands.now c.command-command.result so_far long c.requires.answers c.command-command.ensures.rest
+
+pub put_answer-requires-clause-pages : goal.put_answer-requires-clause-pages
+put_answer-requires-clause-pages g c = λ a is.
+    let digits : HasDigits (digits_in c.args.self) a =
+    answer_found (HasDigits (digits_in c.args.self)) c.args.rows.now c.command-command.result (get_or c.deref_mut.result.now c.command-command.result.worker 0) a c.requires.pages (sym c.next_answer-answer.ensures.answer ∙ is) in
+    subst (λ n. HasDigits n a) (sym (c.in_ok-make_room.ensures.page ∙ c.loop-i.invariant.page)) digits
+
+pub loop-i-preserved : goal.loop-i-preserved
+loop-i-preserved g c =
+    let commands = c.args.commands.now in
+    let rows = c.args.rows.now in
+    let i = c.loop-i.i in
+    let command = c.command-command.result in
+    let before = c.deref_mut.result.now in
+    let after = c.next_answer-answer.new.next in
+    let so_far = subst (λ next. AreNext next i commands) (sym c.deref_mut.ensures.value) c.loop-i.invariant.next in
+    let long = ap (length {A = ℕ}) c.deref_mut.ensures.value ∙ c.loop-i.invariant.long in
+    let there = next_there rows before i commands command so_far long c.requires.answers c.command-command.ensures.rest in
+    let back = lent c.loop-i.next.len after (drop (length after) c.loop-i.next.items) (c.next_answer-answer.auto.next ∙ c.deref_mut.ensures.len) in
+    let answer = next_is rows before i commands command so_far long _ there c.next_answer-answer.ensures.answer in
+    record {
+      next = subst (λ next. AreNext next (i + 1) commands) (sym back) (next_more rows before i commands command so_far long after c.command-command.ensures.at there c.next_answer-answer.ensures.next);
+      long = ap (length {A = ℕ}) back ∙ (c.next_answer-answer.auto.next ∙ long);
+      page = c.put_answer.ensures.page ∙ (c.in_ok-make_room.ensures.page ∙ c.loop-i.invariant.page);
+      unfailed = c.in_ok-make_room.ensures.unfailed ∙ c.loop-i.invariant.unfailed;
+      text = delivery_turn i commands command (answers_by rows) _ _ _ _ _ _ _ c.loop-i.invariant.text c.in_ok-make_room.ensures.moved c.command-command.ensures.at answer c.put_answer.ensures.waiting;
+    }
+
+pub returns-in_err-make_room-2-clause-part : goal.returns-in_err-make_room-2-clause-part
+returns-in_err-make_room-2-clause-part g c =
+    OnErr-any _ c.from_residual-in_err-make_room-2.result
+    (AppendsBeginning-part _ _ _ _ _ _ c.loop-i.invariant.text c.in_err-make_room-2.ensures.part (text_begins c.loop-i.i c.args.commands.now (answers_by c.args.rows.now)))
+
+pub returns-clause-part : goal.returns-clause-part
+returns-clause-part g c =
+    let commands = c.args.commands.now in
+    let rows = answers_by c.args.rows.now in
+    let old = g.W.Write.contents (inner_of c.args.writer.now) in
+    let whole = delivery_whole c.loop-i.i commands rows old _ _ _ _ _ (omega arith) c.loop-i.invariant.text c.in_ok-make_room-2.ensures.moved c.end.ensures.waiting in
+    OnErr-map _ _ c.hand_on.result
+    (λ part. AppendsBeginning-part old _ _ _ (text_of commands rows) (text_of commands rows) whole part (Begins-refl (text_of commands rows))) c.hand_on.ensures.part

@@ -1,0 +1,121 @@
+ghost use Rattle.std.specs.Prelude.{◌≡◌, ◌≢◌, ℕ, List, Some, ◌+◌, ◌*◌, ◌<◌, ◌≤◌, false, if◌then◌else◌, All, None, [], ◌++◌, length, option_map, slice_get, slice_index_or, slice_set, IfOk, OnOk, OnErr};
+ghost use Rattle.std.specs.Io.KnownBytes.{Appends};
+ghost use Rattle.geometry.specs.Geometry.{hosts_of, page_bytes_of};
+ghost use Rattle.hex.specs.Hex.{encode_lower};
+ghost use Rattle.trace.specs.Watched.{failures_of, inner_of};
+ghost use Rattle.answers.specs.Answers.{line_text};
+ghost use Rattle.answers.specs.Delivery.{AppendsBeginning};
+ghost use Rattle.answers.specs.Lines.{page_digits_of, waiting_of};
+ghost use Rattle.answers.specs.Replies.{reply_text};
+ghost use Rattle.answers.specs.declared.line.TheConstants.{PIECE_BYTES};
+ghost use Rattle.answers.specs.declared.reply.Reply.TheVariants as replies;
+ghost use Rattle.lines.specs.declared.answer.Answer.{Answer};
+ghost use Rattle.lines.specs.declared.answer.Kind.TheVariants as kinds;
+ghost use Rattle.rounds.specs.Merging.{answer_for, is_meet, HaveAnswers};
+ghost use Rattle.rounds.specs.Texts.{answer_text};
+ghost use Rattle.delivery.specs.Delivering.{answers_by, answers_in, digits_in, text_of, workers_in, HasDigits};
+
+use crate::delivery::Delivery;
+use answers::{Lines, OutputFailed, Reply};
+use geometry::Geometry;
+use lines::{Answer, Kind};
+use std::alloc::{AllocError, Global};
+use std::io::Write;
+use trace::{Command, Commands, Op, Watched};
+
+impl Delivery {
+    /// The room for a run on a device of this geometry.
+    pub fn new(alloc: Global, geometry: &Geometry) -> Result<Delivery, AllocError>
+        ensures workers { IfOk result (λ delivery. workers_in delivery ≡ hosts_of geometry.now) }
+        ensures digits { IfOk result (λ delivery. digits_in delivery ≡ 2 * page_bytes_of geometry.now) }
+    {
+        Ok(Delivery {
+            next: vec![in alloc; 0; geometry.hosts() as usize]?,
+            lines: Lines::new(alloc, geometry)?,
+        })
+    }
+
+    /// Writes the line of each command in the order of the trace, and then the last line. Each worker's answers stand in a row of its own, in the
+    /// order of its lines.
+    pub fn deliver<W: Write>(
+        self,
+        commands: &Commands,
+        rows: &[Vec<Answer>],
+        writer: &mut Watched<W>,
+    ) -> Result<(), OutputFailed>
+        requires workers { length rows.now ≡ workers_in self }
+        requires answers { HaveAnswers (answers_by rows.now) commands.now }
+        requires pages { All (λ row. All (HasDigits (digits_in self)) (answers_in row)) rows.now }
+        ensures sent { OnOk result (Appends (W.contents (inner_of writer.old)) (W.contents (inner_of writer.new)) (text_of commands.now (answers_by rows.now))) }
+        ensures unfailed { OnOk result (failures_of writer.new ≡ failures_of writer.old) }
+        ensures part { OnErr result (AppendsBeginning (W.contents (inner_of writer.old)) (W.contents (inner_of writer.new)) (text_of commands.now (answers_by rows.now))) }
+        ensures failed { OnErr result (failures_of writer.new ≢ failures_of writer.old) }
+    {
+        let Delivery {
+            mut next,
+            mut lines,
+        } = self;
+        for i in 0..commands.len() {
+            lines.make_room(writer)?;
+            let command = commands.command(i);
+            let answer = next_answer(&command, rows, &mut next);
+            put_answer(&mut lines, i as u64 + 1, &command, answer);
+        }
+        lines.make_room(writer)?;
+        lines.end();
+        lines.hand_on(writer)
+    }
+}
+
+// The next answer of a command's worker, which is passed over; a meeting has none of its own.
+fn next_answer<'a>(
+    command: &Command<'_>,
+    rows: &'a [Vec<Answer>],
+    next: &mut [usize],
+) -> Option<&'a Answer>
+    requires workers { length next.old ≡ length rows.now }
+    requires there { is_meet command.now.op ≡ false → slice_index_or next.old command.now.worker 0 < length (answers_by rows.now command.now.worker) }
+    ensures answer { option_map (λ a. a.now) result ≡ (if is_meet command.now.op then None else slice_get (answers_by rows.now command.now.worker) (slice_index_or next.old command.now.worker 0)) }
+    ensures next { next.new ≡ (if is_meet command.now.op then next.old else slice_set next.old command.now.worker (slice_index_or next.old command.now.worker 0 + 1)) }
+{
+    if let Op::Meet = command.op {
+        return None;
+    }
+    let worker = command.worker as usize;
+    let answer = &rows[worker][next[worker]];
+    next[worker] += 1;
+    Some(answer)
+}
+
+// Adds the line of a command that was answered so.
+fn put_answer(lines: &mut Lines, line: u64, command: &Command<'_>, answer: Option<&Answer>)
+    requires pages { (a : Answer) → option_map (λ x. x.now) answer ≡ Some a → HasDigits (page_digits_of lines.old) a }
+    requires room { length (waiting_of lines.old) ≤ PIECE_BYTES }
+    ensures waiting { let x = answer_for command.now (option_map (λ a. a.now) answer.entry) in waiting_of lines.new ≡ waiting_of lines.old ++ line_text line command.now.op command.now.sector (answer_text x.kind x.page) }
+    ensures page { page_digits_of lines.new ≡ page_digits_of lines.old }
+{
+    match answer {
+        None => lines.answer(line, command.op, command.sector, Reply::Met, &[]),
+        Some(found) => lines.answer(
+            line,
+            command.op,
+            command.sector,
+            reply(found.kind),
+            &found.page,
+        ),
+    }
+}
+
+// A line's answer as the words of a reply.
+fn reply(kind: Kind) -> Reply
+    ensures text { (page : List ℕ) → reply_text result (encode_lower page) ≡ answer_text kind page }
+    ensures page { result ≡ replies.Page → kind ≡ kinds.Page }
+{
+    match kind {
+        Kind::Empty => Reply::Empty,
+        Kind::Written => Reply::Written,
+        Kind::Page => Reply::Page,
+        Kind::Met => Reply::Met,
+        Kind::Full => Reply::Full,
+    }
+}
