@@ -11,10 +11,11 @@ use Rattle.lines.specs.Playing.{Played}
 use Rattle.playing.specs.Playable.{lines_at}
 use Rattle.shared_player.specs.declared.post.Post.{Post}
 
--- the places of the post's lines of the round, and their answers
+-- the places of the post's lines of the round
 abbrev pub round_places : Post → List ℕ
 round_places p = slice_range p.places.items p.from p.to
 
+-- the answers of these lines
 abbrev pub round_answers : Post → List Answer
 round_answers p = slice_range p.answers.items p.from p.to
 

@@ -48,10 +48,11 @@ pub record AreManned (volume : Volume) (posts : List Post) : Type 0 where
   pub at : All (IsAt volume) posts
   pub seated : AreSeated (passes_of posts)
 
--- the answers of posts, by their workers
+-- the answers of a post's lines
 abbrev pub answers_of : Post → List Answer
 answers_of p = p.answers.items
 
+-- the answers of each worker's lines, by the worker's number
 abbrev pub rows_of : List Post → ℕ → List Answer
 rows_of posts t = slice_index_or (map answers_of posts) t []
 
