@@ -9,6 +9,7 @@ from .lines import number_in, numbered_lines, shown
 ANSWERS = {
     b"read": {b"empty"},
     b"write": {b"empty", b"written", b"worn", b"full"},
+    b"new": {b"empty", b"written", b"worn", b"full"},
     b"trim": {b"empty", b"written"},
     b"meet": {b"met"},
 }
@@ -33,10 +34,11 @@ class Answers:
         return self.counts.get((op.encode(), answer.encode()), 0)
 
     def accepted_writes(self):
-        return self.count("write", "empty") + self.count("write", "written")
+        """Writes that were done. A write of an empty sector that found it written changed nothing."""
+        return self.count("write", "empty") + self.count("write", "written") + self.count("new", "empty")
 
     def refused_writes(self):
-        return sum(self.count("write", answer.decode()) for answer in REFUSALS)
+        return sum(self.count(op, answer.decode()) for op in ("write", "new") for answer in REFUSALS)
 
     def write_amplification(self):
         """Pages programmed, for writes and for copies, by the pages programmed for writes."""
