@@ -15,6 +15,8 @@ mod gates;
 #[cfg(test)]
 mod hands;
 #[cfg(test)]
+mod plays;
+#[cfg(test)]
 mod queue_crowds;
 #[cfg(test)]
 mod queue_rows;
