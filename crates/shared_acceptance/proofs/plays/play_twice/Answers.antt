@@ -1,4 +1,4 @@
-use Rattle.std.proofs.Common.{◌≡◌, ◌<◌, All, List, [], ◌∷◌, Some, length, sym, ap, ◌∙◌, subst, arith}
+use Rattle.std.proofs.Common.{◌≡◌, ◌<◌, All, List, [], ◌∷◌, Some, sym, ◌∙◌, subst, arith}
 use Rattle.std.specs.Prelude.{slice_get, slice_index_or}
 use Rattle.std.proofs.lemmas.List.Elements.{All-cons, All-nil}
 use Rattle.geometry.specs.declared.geometry.Geometry.{Geometry}
@@ -7,7 +7,7 @@ use Rattle.flash_table.specs.Flash.{geometry_of}
 use Rattle.trace.specs.declared.commands.Command.{Command}
 use Rattle.trace.specs.declared.commands.Op.{Op}
 use Rattle.trace.specs.declared.commands.Op.TheVariants as op
-use Rattle.playing.specs.Playable.{IsLine, HasPage, no_line, lines_at}
+use Rattle.playing.specs.Playable.{IsLine, HasPage, no_line}
 use Rattle.volume.specs.Volume.{flash_of}
 use Rattle.shared_acceptance.proofs.plays.play_twice.Goals as goal
 
