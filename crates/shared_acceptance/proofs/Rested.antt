@@ -1,5 +1,5 @@
 -- A broom's seat that only looks and loads states rests again.
-use Rattle.std.proofs.Common.{◌≡◌, ℕ, Some, sym, ap, ◌∙◌, subst}
+use Rattle.std.proofs.Common.{◌≡◌, ℕ, sym, ap, ◌∙◌, subst}
 use Rattle.flash_rule.specs.Views.{AreOfHosts}
 use Rattle.flash_rule.specs.declared.facts.Source.{Source}
 use Rattle.flash_rule.specs.declared.view.View.{View}
@@ -34,6 +34,5 @@ module _ (f : Flash) (s t : BroomSeat) (h : IsRested f s) (seat : IsBroomOf f t)
   rested_loaded b n told =
       let e : w ≡ record v { loaded = w.loaded; busy = w.busy; stale = w.stale } =
       loaded_changes v w b n told ∙ (λ i. record v { loaded = (sym (loaded_changes v w b n told) i).loaded; busy = w.busy; stale = w.stale }) in
-      let seen = sym (ap (λ (x : View). x.seen) e) in
       rested_again f s t h seat blocks (e ∙ (λ i. record v { seen = (sym e i).seen; loaded = w.loaded; named = (sym e i).named; busy = w.busy; stale = w.stale; lost = (sym e i).lost }))
       (subst (λ (x : View). AreOfHosts x.numbers x.seen) (sym e) h.callers)

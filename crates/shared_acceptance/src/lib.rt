@@ -17,6 +17,8 @@ mod hands;
 #[cfg(test)]
 mod new_writes;
 #[cfg(test)]
+mod plays;
+#[cfg(test)]
 mod queue_crowds;
 #[cfg(test)]
 mod queue_rows;

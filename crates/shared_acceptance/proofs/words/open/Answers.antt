@@ -1,4 +1,4 @@
-use Rattle.std.proofs.Common.{◌≡◌, ◌<◌, ◌*◌, All, Some, sym, ap, ◌∙◌, arith}
+use Rattle.std.proofs.Common.{◌<◌, ◌*◌, Some, sym, ap, ◌∙◌, arith}
 use Rattle.std.proofs.lemmas.List.Elements.{All-pop}
 use Rattle.geometry.specs.Geometry.{blocks_of, sectors_of, page_bytes_of, hosts_of, brooms_of}
 use Rattle.geometry.specs.Limits.{Numbers}

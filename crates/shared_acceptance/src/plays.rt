@@ -1,0 +1,79 @@
+//! A player stops at its gate when it has kept an answer.
+ghost use Rattle.std.specs.Bool.{OnTrue};
+ghost use Rattle.std.specs.Prelude.{◌≡◌, ◌<◌, Some, length, slice_get};
+ghost use Rattle.trace.specs.declared.commands.Op.TheVariants as op;
+
+use crate::hands::{Desk, Hand};
+use flash_table::{Gate, Point};
+use geometry::Geometry;
+use lines::{Answer, Kind};
+use playing::{play, play_at};
+use std::test::Fail;
+use trace::{Command, Commands, Op, parse};
+
+// How many answers were kept.
+#[derive(Drop)]
+struct Counts {
+    answered: u32,
+}
+
+impl Gate for Counts {
+    fn at(&mut self, point: Point) {
+        if point == Point::Answered {
+            self.answered = self.answered.wrapping_add(1);
+        }
+    }
+}
+
+// Whether the line trims one of two sectors.
+fn is_trim(line: &Command<'_>) -> bool
+    ensures { OnTrue result ((line.now.op ≡ op.Trim) × (line.now.sector < 2)) }
+{
+    line.op == Op::Trim && line.sector < 2
+}
+
+// Plays the line, and then the first of the commands, which is the same. The answer is how many answers were kept.
+fn play_twice(hand: Hand, commands: &Commands, line: Command<'_>, answer: Answer) -> u32
+    requires first { slice_get commands.now 0 ≡ Some line }
+    requires op { line.op ≡ op.Trim }
+    requires sector { line.sector < 2 }
+    requires page { length answer.page.items ≡ 8 }
+{
+    let Hand { volume, mut pass } = hand;
+    let mut gate = Counts { answered: 0 };
+    let mut answers = [answer];
+    play(volume, &mut pass, &[line], 1, &mut gate, &mut answers);
+    play_at(
+        volume,
+        &mut pass,
+        commands,
+        &[0],
+        1,
+        &mut gate,
+        &mut [0; 8],
+        &mut answers,
+    );
+    volume.retire(pass);
+    gate.answered
+}
+
+#[test]
+fn a_player_stops_at_its_gate_for_each_answer(rt: HostRuntime) -> Result<(), Fail> {
+    let geometry = Geometry::new(1, 5, 2, 1, 2, 10, 2, 0)?;
+    let commands = parse(rt.alloc(), b"0,trim,1,\n".as_slice(), &geometry)?;
+    let answer = Answer {
+        kind: Kind::Full,
+        page: vec![in rt.alloc(); 0; 8]?,
+    };
+    assert_eq!(rt; commands.len(), 1);
+    let line = commands.command(0);
+    assert!(rt; is_trim(&line));
+    let Desk { volume, a, b } = Desk::open(&rt, 5)?;
+    let a = Hand {
+        volume: &volume,
+        pass: a,
+    };
+    assert_eq!(rt; play_twice(a, &commands, line, answer), 2);
+    volume.retire(b);
+    Ok(())
+}
