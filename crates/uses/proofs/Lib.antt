@@ -1,2 +1,2 @@
-pub mod Callers
+mod Callers
 pub mod Meetings
