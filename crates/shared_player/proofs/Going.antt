@@ -107,7 +107,7 @@ told_take [] answers = refl
 told_take (c ∷ lines) [] = refl
 told_take (c ∷ lines) (a ∷ answers) = let rest = told_take lines answers in λ i. line c a ∷ rest i
 
-and_false : (a b : Bool) → b ≡ false → (a && b) ≡ false
+pub and_false : (a b : Bool) → b ≡ false → (a && b) ≡ false
 and_false true b is = is
 and_false false b is = refl
 

@@ -1,10 +1,11 @@
 -- The state of a run between two rounds: where it begins, one round more, and its end.
-use Rattle.std.proofs.Common.{◌≡◌, ℕ, zero, suc, ◌+◌, ◌-◌, ◌<◌, ◌≤◌, All, List, [], ◌∷◌, ◌++◌, map, length, get_or, take, drop, refl, sym, ap, ◌∙◌, subst, arith, append_assoc, append-nil, length-append, zero-add}
+use Rattle.std.proofs.Common.{◌≡◌, ℕ, zero, suc, ◌+◌, ◌-◌, ◌<◌, ◌≤◌, All, List, [], ◌∷◌, ◌++◌, map, length, get_or, take, drop, refl, sym, ap, ◌∙◌, subst, arith, append_assoc, append-nil, length-append, zero-add, ne_eqb}
+use Rattle.std.specs.Prelude.{if◌then◌else◌, not, ◌&&◌, ◌==◌}
 use Rattle.std.specs.Arc.{arc_value}
 use Rattle.std.specs.List.{slice_range}
 use Rattle.std.proofs.Math.Seq.{drop-append_seam, take-append_seam}
 use Rattle.std.proofs.lemmas.List.{get_or-map, get_or_past, get_or_append_left, get_or-append-add, length-map, take_all, take-take, take-append-drop, drop-take}
-use Rattle.std.proofs.lemmas.List.Elements.{All-nil}
+use Rattle.std.proofs.lemmas.List.Elements.{All-nil, All-head, All-tail}
 use mathlib.Core.Logic.{dite}
 use native.Mathlib.Decide.{dec_lt}
 use Rattle.geometry.specs.Geometry.{sectors_of}
@@ -24,7 +25,7 @@ use Rattle.volume.specs.declared.volume.Volume.{Volume}
 use Rattle.volume.specs.Closing.{HasLooked}
 use Rattle.volume.specs.Volume.{flash_of}
 use Rattle.rounds.specs.Meetings.{AreTied, WereSwept}
-use Rattle.rounds.specs.Merging.{lines_for, line_count, merge, AreDisjointCommands, IsDisjointTrace, rounds_of}
+use Rattle.rounds.specs.Merging.{is_meet, lines_for, line_count, merge, AreDisjointCommands, IsDisjointTrace, rounds_of}
 use Rattle.rounds.specs.Plans.{places_from, places_for, meetings_from}
 use Rattle.rounds.specs.Runs.{RoundOfRun}
 use Rattle.rounds.specs.Told.{AreAnswered}
@@ -323,11 +324,29 @@ module _ (volume : Volume) (patience : ℕ) (trace : List Command) (end : ℕ) (
     order = order_here;
   }
 
+-- a worker that isn't there has no line
+none_past : (hosts t : ℕ) (cs : List Command) → All (λ c. c.worker < hosts) cs → hosts ≤ t → line_count t cs ≡ 0
+none_past hosts t [] all past = refl
+none_past hosts t (c ∷ cs) all past =
+    let low = All-head (λ c. c.worker < hosts) c cs all in
+    let rest = none_past hosts t cs (All-tail (λ c. c.worker < hosts) c cs all) past in
+    let other : ¬ (c.worker ≡ t) = λ same. omega arith in
+    subst (λ b. length (if b then c ∷ lines_for t cs else lines_for t cs) ≡ 0) (sym (going.and_false (not (is_meet c.op)) (c.worker == t) (ne_eqb c.worker t other))) rest
+
 -- the run's end, once no end of a round is left
 pub state_ends : (volume : Volume) (patience : ℕ) (trace : List Command) (posts : List Post) → AreManned volume posts → RunState volume patience trace [] posts → HasEnded volume patience trace posts
 state_ends volume patience trace posts manned state =
     let all : state.done ≡ trace = sym (append-nil state.done) ∙ (ap (λ l. state.done ++ l) (sym state.left) ∙ sym state.whole) in
     record {
+      count = λ t.
+          dite (dec_lt t (length posts))
+          (λ low.
+          let post = get_or posts t (some_post posts manned.some) in
+          let a = ap (λ (l : List Answer). length l) (row_at posts t (some_post posts manned.some) low) in
+          let b = post.able.count in
+          let c = ap (λ (l : List ℕ). length l) (state.dealt t (some_post posts manned.some) low).places in
+          let d = count_places 0 t trace in omega arith)
+          (λ past. let none = none_past (length posts) t trace state.workers (omega arith) in omega (arith, none));
       each = λ t low.
           let p = some_post posts manned.some in
           let post = get_or posts t p in

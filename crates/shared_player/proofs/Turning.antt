@@ -1,7 +1,8 @@
 -- Posts go on to their next round, play it, and stay manned.
-use Rattle.std.proofs.Common.{◌≡◌, ℕ, zero, suc, ◌+◌, ◌<◌, ◌≤◌, All, List, [], ◌∷◌, ◌++◌, slice_set, map, length, get_or, refl, sym, ap, ◌∙◌, subst, arith}
+use Rattle.std.proofs.Common.{◌≡◌, ℕ, zero, suc, ◌+◌, ◌-◌, ◌<◌, ◌≤◌, All, List, [], ◌∷◌, slice_set, map, length, take, drop, get_or, refl, sym, ap, ◌∙◌, subst, arith}
 use Rattle.std.specs.Arc.{arc_value}
 use Rattle.std.proofs.lemmas.List.{get_or-map, get_or_default, get_or-set_same, get_or-set_other, length-map, length-set}
+use Rattle.std.proofs.lemmas.List.Elements.{All-head, All-tail}
 use mathlib.Core.Logic.{dite}
 use native.Mathlib.Decide.{ℕ_discrete}
 use Rattle.geometry.specs.Geometry.{hosts_of}
@@ -18,7 +19,10 @@ use Rattle.shared_player.specs.declared.post.Post.{Post}
 use Rattle.shared_player.specs.Meetings.{AreSeated, IsAt, passes_of, rest_of}
 use Rattle.shared_player.specs.Posts.{HasPlayed}
 use Rattle.shared_player.specs.Turns.{HavePlayed}
-use Rattle.shared_player.specs.Runs.{IsTurned, AreTurned, AreManned}
+use Rattle.lines.specs.Playing.{Played}
+use Rattle.playing.specs.Playable.{lines_at}
+use Rattle.playing.proofs.Lines.{played_none}
+use Rattle.shared_player.specs.Runs.{IsTurned, AreTurned, AreManned, IsIdle}
 use Rattle.shared_player.proofs.Sweeping.{all_same_at}
 
 -- the first so many of a row have gone on
@@ -115,3 +119,33 @@ module _ (volume : Volume) where
   rest_at ps qs same k p low =
       let there : k < length qs = omega (arith, rests_long ps qs same) in
       sym (get_or-map rest_of qs k p (rest_of p) there) ∙ (ap (λ l. get_or l k (rest_of p)) same ∙ get_or-map rest_of ps k p (rest_of p) low)
+
+-- a post without a line in the round has played it as it is
+pub idle_played : (n : ℕ) (p : Post) → IsIdle p → HasPlayed n p p
+idle_played n p idle =
+    let none : p.to - p.from ≡ 0 = omega arith in
+    record {
+      volume = refl;
+      commands = refl;
+      places = refl;
+      from = refl;
+      to = refl;
+      before = refl;
+      behind = refl;
+      played = λ t role.
+          let P : ℕ → Type 0 = λ k. Played t n (view_of p.pass) (lines_at (arc_value p.commands) (take k (drop p.from p.places.items))) (take k (drop p.from p.answers.items)) (view_of p.pass) in
+          subst P (sym none) (played_none t n (view_of p.pass));
+    }
+
+pub idles_played : (n : ℕ) (posts : List Post) → All IsIdle posts → HavePlayed n posts posts
+idles_played n [] idle = tt
+idles_played n (p ∷ posts) idle = (idle_played n p (All-head IsIdle p posts idle), idles_played n posts (All-tail IsIdle p posts idle))
+
+-- one idle post more
+pub idle_more : (posts : List Post) (i : ℕ) (p : Post) → p ≡ get_or posts i p → IsIdle p → ((k : ℕ) (d : Post) → k < i → k < length posts → IsIdle (get_or posts k d)) → (k : ℕ) (d : Post) → k < i + 1 → k < length posts → IsIdle (get_or posts k d)
+idle_more posts i p there idle all k d low below =
+    dite (ℕ_discrete k i)
+    (λ same.
+    let here : p ≡ get_or posts k d = there ∙ (ap (λ j. get_or posts j p) (sym same) ∙ get_or_default posts k p d below) in
+    subst IsIdle here idle)
+    (λ other. all k d (omega arith) below)

@@ -1,5 +1,7 @@
 -- A run over the rounds of a trace: what the posts hold, and what was answered so far.
 use Rattle.std.specs.Prelude.{◌≡◌, ℕ, ◌*◌, ◌<◌, ◌≤◌, All, List, [], ◌∷◌, map, length, slice_index, slice_index_or}
+use Rattle.std.specs.Prelude.{Vec}
+use Rattle.std.specs.Global.{Global}
 use Rattle.std.specs.Arc.{arc_value}
 use Rattle.geometry.specs.Geometry.{hosts_of, sectors_of}
 use Rattle.flash_rule.specs.declared.view.View.{View}
@@ -9,7 +11,7 @@ use Rattle.lines.specs.declared.answer.Answer.{Answer}
 use Rattle.lines.specs.Playing.{Plays, calls_done, writes_done, fulls, times}
 use Rattle.volume.specs.declared.volume.Volume.{Volume}
 use Rattle.volume.specs.Volume.{flash_of}
-use Rattle.rounds.specs.Merging.{lines_for, merge, IsDisjointTrace}
+use Rattle.rounds.specs.Merging.{lines_for, merge, HaveAnswers, IsDisjointTrace}
 use Rattle.rounds.specs.Plans.{places_for, ends_of}
 use Rattle.rounds.specs.Texts.{lines_text, IsTextOfSome}
 use Rattle.shared_player.specs.declared.post.Post.{Post}
@@ -48,6 +50,14 @@ pub record AreManned (volume : Volume) (posts : List Post) : Type 0 where
   pub at : All (IsAt volume) posts
   pub seated : AreSeated (passes_of posts)
 
+-- the post has no line in the round
+abbrev pub IsIdle : Post → Type 0
+IsIdle p = p.to ≤ p.from
+
+-- the answers of a row
+abbrev pub answers_in : Vec Answer Global → List Answer
+answers_in row = row.items
+
 -- the answers of a post's lines
 abbrev pub answers_of : Post → List Answer
 answers_of p = p.answers.items
@@ -81,5 +91,6 @@ pub record HasRun (t patience : ℕ) (lines : List Command) (answers : List Answ
 -- A run of this trace has ended: each worker has answered all its lines, and where the trace is disjoint, the answers are as text those of the trace, with the writes
 -- turned away at some set of lines
 pub record HasEnded (volume : Volume) (patience : ℕ) (trace : List Command) (posts : List Post) : Type 0 where
+  pub count : HaveAnswers (rows_of posts) trace
   pub each : (t : ℕ) → t < length posts → HasRun t patience (lines_for t trace) (rows_of posts t) (views_of volume (passes_of posts) t)
   pub text : IsDisjointTrace trace → IsTextOfSome (sectors_of (geometry_of (flash_of volume))) trace (lines_text 0 (merge trace (rows_of posts)))

@@ -2,6 +2,7 @@
 #![tactic(auto)]
 
 mod crew;
+mod leaving;
 mod meetings;
 mod post;
 mod runs;
@@ -10,6 +11,7 @@ mod sweeper;
 mod turns;
 
 pub use crew::{Back, play_posts};
+pub use leaving::{fold_sweepers, hand_out};
 pub use meetings::sweep_posts;
 pub use post::Post;
 pub use runs::{play_round, play_rounds};

@@ -1,5 +1,5 @@
 //! A worker's post: its pass, all lines that are its own, and which of these are the round's.
-ghost use Rattle.std.specs.Prelude.{◌≤◌, length};
+ghost use Rattle.std.specs.Prelude.{◌≡◌, ◌≤◌, length};
 ghost use Rattle.std.specs.Arc.{arc_value};
 ghost use Rattle.shared_player.specs.Able.{IsAble, IsAble-prop};
 
@@ -39,5 +39,25 @@ impl Drop for Post {
             to: _,
         } = self;
         volume.retire(pass);
+    }
+}
+
+impl Post {
+    // The answers. The pass is given up.
+    pub(crate) fn into_answers(self) -> Vec<Answer>
+        ensures { result.items ≡ self.answers.items }
+    {
+        let Post {
+            volume,
+            commands: _,
+            pass,
+            places: _,
+            answers,
+            buffer: _,
+            from: _,
+            to: _,
+        } = self;
+        volume.retire(pass);
+        answers
     }
 }

@@ -1,8 +1,9 @@
 //! A run over all rounds of a trace.
-ghost use Rattle.std.specs.Prelude.{◌≡◌, ◌+◌, IfOk, List, length, map};
+ghost use Rattle.std.specs.Prelude.{◌≡◌, ◌+◌, All, IfOk, List, length, map, true};
 ghost use Rattle.trace.specs.declared.commands.Command.{Command};
 ghost use Rattle.shared_player.specs.Meetings.{AreSeated, PassesMet, passes_of, rest_of};
-ghost use Rattle.shared_player.specs.Runs.{IsTurned, AreTurned, RoundPlayed, AreManned, HasBegun, HasEnded};
+ghost use Rattle.shared_player.specs.Runs.{IsTurned, AreTurned, IsIdle, RoundPlayed, AreManned, HasBegun, HasEnded};
+ghost use Rattle.shared_player.specs.Turns.{HavePlayed};
 
 use crate::crew::{Back, play_posts};
 use crate::meetings::sweep_posts;
@@ -44,6 +45,38 @@ fn turn_crew(crew: Back, end: usize) -> Back
     Back { posts, sweepers }
 }
 
+// Whether no post has a line in the round.
+fn have_no_line(posts: &[Post]) -> bool
+    ensures { result ≡ true → All IsIdle posts.now }
+{
+    for post in posts {
+        if post.from < post.to {
+            return false;
+        }
+    }
+    true
+}
+
+// Plays the posts' lines. Where there is none, no thread is started.
+fn play_crew<R: Threads + Wait + Sync, S: Starts + Drop, G: Gate + Send>(
+    rt: &R,
+    alloc: Global,
+    starts: S,
+    crew: Back,
+    patience: u32,
+    gates: &mut [G],
+) -> Result<Back, NoShift>
+    requires gates { length crew.posts.items + length crew.sweepers.items ≡ length gates.old }
+    ensures played { IfOk result (λ back. HavePlayed patience crew.posts.items back.posts.items) }
+    ensures swept { IfOk result (λ back. length back.sweepers.items ≡ length crew.sweepers.items) }
+{
+    if have_no_line(&crew.posts) {
+        return Ok(crew);
+    }
+    let Back { posts, sweepers } = crew;
+    play_posts(rt, alloc, starts, posts, sweepers, patience, gates)
+}
+
 // All passes of a crew meet.
 fn meet_crew(volume: &Volume, crew: Back) -> Back
     requires { AreManned volume.now crew.posts.items }
@@ -76,8 +109,8 @@ pub fn play_round<R: Threads + Wait + Sync, S: Starts + Drop, G: Gate + Send>(
     ensures count { IfOk result (λ back. length back.posts.items ≡ length crew.posts.items) }
     ensures sweepers { IfOk result (λ back. length back.sweepers.items ≡ length crew.sweepers.items) }
 {
-    let Back { posts, sweepers } = turn_crew(crew, end);
-    let crew = play_posts(rt, alloc, starts, posts, sweepers, patience, gates)?;
+    let crew = turn_crew(crew, end);
+    let crew = play_crew(rt, alloc, starts, crew, patience, gates)?;
     Ok(meet_crew(volume, crew))
 }
 

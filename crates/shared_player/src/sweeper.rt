@@ -25,6 +25,12 @@ impl Drop for Sweeper {
 }
 
 impl Sweeper {
+    // Gives up the broom. A block that it has set aside goes to the queue.
+    pub(crate) fn fold<R: Wait>(self, rt: &R) {
+        let Sweeper { volume, broom } = self;
+        volume.fold(rt, broom);
+    }
+
     fn drain<G: Gate>(&mut self, rt: &impl Wait, gate: &mut G) {
         self.volume.drain_one(rt, &mut self.broom, gate);
     }

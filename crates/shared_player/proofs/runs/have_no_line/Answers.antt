@@ -1,0 +1,7 @@
+use Rattle.std.proofs.Common.{ℕ, arith}
+use Rattle.shared_player.specs.declared.post.Post.{Post}
+use Rattle.shared_player.proofs.Turning.{idle_more}
+use Rattle.shared_player.proofs.runs.have_no_line.Goals as goal
+
+pub loop-post-preserved : goal.loop-post-preserved
+loop-post-preserved c = idle_more c.args.posts.now c.loop-post.post-index c.post-item.result c.post-item.is c.if-post.false c.loop-post.invariant
