@@ -1,4 +1,4 @@
-use Rattle.std.proofs.Common.{◌≡◌, ◌∙◌, ℕ, ap, arith, subst}
+use Rattle.std.proofs.Common.{◌≡◌, ◌∙◌, ap, arith, subst}
 use Rattle.geometry.specs.Geometry.{blocks_of}
 use Rattle.geometry.proofs.Histories.{Begins-refl}
 use Rattle.ftl_one.specs.OneFtl.{geometry_of, stock_of}
