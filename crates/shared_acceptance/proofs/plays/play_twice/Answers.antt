@@ -14,12 +14,15 @@ use Rattle.shared_acceptance.proofs.plays.play_twice.Goals as goal
 no_write : (o : Op) → o ≡ op.Trim → ¬ (o ≡ op.Write)
 no_write o is e = let two = sym is ∙ e in absurd (cc)
 
+no_new : (o : Op) → o ≡ op.Trim → ¬ (o ≡ op.New)
+no_new o is e = let two = sym is ∙ e in absurd (cc)
+
 no_meeting : (o : Op) → o ≡ op.Trim → ¬ (o ≡ op.Meet)
 no_meeting o is e = let two = sym is ∙ e in absurd (cc)
 
 -- a trim of a sector that is there
 is_line : (geo : Geometry) (line : Command) → line.op ≡ op.Trim → line.sector < sectors_of geo → IsLine geo line
-is_line geo line is low = record { sector = low; page = λ e. absurd (no_write line.op is e); alone = no_meeting line.op is }
+is_line geo line is low = record { sector = low; page = λ e. absurd (no_write line.op is e); new_page = λ e. absurd (no_new line.op is e); alone = no_meeting line.op is }
 
 -- alone in a list
 one_line : (geo : Geometry) (line : Command) → IsLine geo line → All (IsLine geo) (line ∷ [])
