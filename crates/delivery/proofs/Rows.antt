@@ -13,7 +13,7 @@ use Rattle.lines.specs.declared.answer.Answer.{Answer}
 use Rattle.rounds.specs.Merging.{is_meet, is_line_of, line_count, lines_for, next_of, rows_after, HaveAnswers}
 use Rattle.rounds.proofs.Merging.{own_line}
 use Rattle.rounds.proofs.Planning.{at_place, commands_more}
-use Rattle.delivery.specs.Delivering.{answers_by, answers_in}
+use Rattle.rounds.specs.Rows.{answers_by, answers_in}
 
 -- the row of a worker
 pub row_is : (rows : List (Vec Answer Global)) (w : ℕ) (row : Vec Answer Global) → row ≡ get_or rows w row → w < length rows → answers_by rows w ≡ row.items

@@ -1,6 +1,5 @@
 -- The answers of a shared run, by its workers, and the text that is written of them.
-use Rattle.std.specs.Prelude.{◌≡◌, ℕ, ◌*◌, List, [], ◌++◌, length, map, Vec, vec_len, slice_index_or}
-use Rattle.std.specs.Global.{Global}
+use Rattle.std.specs.Prelude.{◌≡◌, ℕ, ◌*◌, List, ◌++◌, length, vec_len}
 use Rattle.trace.specs.declared.commands.Command.{Command}
 use Rattle.answers.specs.Answers.{end_text}
 use Rattle.answers.specs.Lines.{page_digits_of}
@@ -9,14 +8,6 @@ use Rattle.lines.specs.declared.answer.Kind.TheVariants as kind
 use Rattle.rounds.specs.Merging.{merge}
 use Rattle.rounds.specs.Texts.{lines_text}
 use Rattle.delivery.specs.declared.delivery.Delivery.{Delivery}
-
--- the answers in a row
-abbrev pub answers_in : Vec Answer Global → List Answer
-answers_in row = row.items
-
--- the answers of each worker, from rows that stand in the order of the workers; none where there is no row
-abbrev pub answers_by : List (Vec Answer Global) → ℕ → List Answer
-answers_by rows t = slice_index_or (map answers_in rows) t []
 
 -- the whole text: the lines of all commands, each with its answer, and the last line
 abbrev pub text_of : List Command → (ℕ → List Answer) → List ℕ

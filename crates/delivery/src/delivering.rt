@@ -13,7 +13,8 @@ ghost use Rattle.lines.specs.declared.answer.Answer.{Answer};
 ghost use Rattle.lines.specs.declared.answer.Kind.TheVariants as kinds;
 ghost use Rattle.rounds.specs.Merging.{answer_for, is_meet, HaveAnswers};
 ghost use Rattle.rounds.specs.Texts.{answer_text};
-ghost use Rattle.delivery.specs.Delivering.{answers_by, answers_in, digits_in, text_of, workers_in, HasDigits};
+ghost use Rattle.rounds.specs.Rows.{answers_by, answers_in};
+ghost use Rattle.delivery.specs.Delivering.{digits_in, text_of, workers_in, HasDigits};
 
 use crate::delivery::Delivery;
 use answers::{Lines, OutputFailed, Reply};

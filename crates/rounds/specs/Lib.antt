@@ -7,3 +7,4 @@ pub mod Texts
 pub mod Merging
 pub mod Runs
 pub mod Plans
+pub mod Rows

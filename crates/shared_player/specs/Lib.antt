@@ -3,5 +3,6 @@ pub mod Able
 pub mod Posts
 pub mod Meetings
 pub mod Runs
+pub mod Commands
 -- Internal: the threads of a round.
 pub mod Turns

@@ -1,7 +1,5 @@
 -- A run over the rounds of a trace: what the posts hold, and what was answered so far.
 use Rattle.std.specs.Prelude.{◌≡◌, ℕ, ◌*◌, ◌<◌, ◌≤◌, All, List, [], ◌∷◌, map, length, slice_index, slice_index_or}
-use Rattle.std.specs.Prelude.{Vec}
-use Rattle.std.specs.Global.{Global}
 use Rattle.std.specs.Arc.{arc_value}
 use Rattle.geometry.specs.Geometry.{hosts_of, sectors_of}
 use Rattle.flash_rule.specs.declared.view.View.{View}
@@ -53,10 +51,6 @@ pub record AreManned (volume : Volume) (posts : List Post) : Type 0 where
 -- the post has no line in the round
 abbrev pub IsIdle : Post → Type 0
 IsIdle p = p.to ≤ p.from
-
--- the answers of a row
-abbrev pub answers_in : Vec Answer Global → List Answer
-answers_in row = row.items
 
 -- the answers of a post's lines
 abbrev pub answers_of : Post → List Answer

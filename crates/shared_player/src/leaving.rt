@@ -1,6 +1,7 @@
 //! The good end of a run: the brooms are folded, and the workers' answers are handed out.
 ghost use Rattle.std.specs.Prelude.{◌≡◌, ◌≤◌, length, map, vec_capacity};
-ghost use Rattle.shared_player.specs.Runs.{answers_in, answers_of};
+ghost use Rattle.rounds.specs.Rows.{answers_in};
+ghost use Rattle.shared_player.specs.Runs.{answers_of};
 
 use crate::post::Post;
 use crate::sweeper::Sweeper;

@@ -1,7 +1,7 @@
 use Rattle.std.proofs.Common.{◌+◌, get_or, length, ap, arith, sym, ◌∙◌}
 use Rattle.std.specs.Prelude.{if◌then◌else◌, slice_get, slice_set, None}
 use Rattle.rounds.proofs.Planning.{is_line}
-use Rattle.delivery.specs.Delivering.{answers_by}
+use Rattle.rounds.specs.Rows.{answers_by}
 use Rattle.delivery.proofs.Rows.{answer_is, row_is, row_there}
 use Rattle.delivery.proofs.delivering.next_answer.Goals as goal
 

@@ -1,5 +1,6 @@
 use Rattle.std.proofs.Common.{◌≡◌, ◌+◌, ◌≤◌, ◌++◌, length, map, vec_len, vec_capacity}
-use Rattle.shared_player.specs.Runs.{answers_in, answers_of}
+use Rattle.rounds.specs.Rows.{answers_in}
+use Rattle.shared_player.specs.Runs.{answers_of}
 use Rattle.shared_player.proofs.leaving.hand_out.Given as goal
 
 abbrev pub invariant-loop-post : goal.invariant-loop-post

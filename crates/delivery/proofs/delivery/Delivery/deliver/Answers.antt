@@ -2,7 +2,8 @@ use Rattle.std.proofs.Common.{ℕ, ◌+◌, length, get_or, drop, sym, ap, ◌�
 use Rattle.geometry.proofs.Histories.{Begins-refl}
 use Rattle.trace.specs.Watched.{inner_of}
 use Rattle.answers.proofs.Deliveries.{AppendsBeginning-part, OnErr-any, OnErr-map}
-use Rattle.delivery.specs.Delivering.{answers_by, digits_in, text_of, HasDigits}
+use Rattle.rounds.specs.Rows.{answers_by}
+use Rattle.delivery.specs.Delivering.{digits_in, text_of, HasDigits}
 use Rattle.delivery.proofs.Deliveries.{delivery_turn, delivery_whole, text_begins}
 use Rattle.delivery.proofs.Rows.{answer_found, lent, next_is, next_more, next_there, AreNext}
 use Rattle.delivery.proofs.delivery.Delivery.deliver.Goals as goal

@@ -2,7 +2,8 @@ use Rattle.std.proofs.Common.{◌≡◌, length}
 use Rattle.trace.specs.Watched.{failures_of, inner_of}
 use Rattle.answers.specs.Delivery.{IsUnderWay}
 use Rattle.answers.specs.Lines.{page_digits_of, waiting_of}
-use Rattle.delivery.specs.Delivering.{answers_by, digits_in}
+use Rattle.rounds.specs.Rows.{answers_by}
+use Rattle.delivery.specs.Delivering.{digits_in}
 use Rattle.delivery.proofs.Deliveries.{text_before}
 use Rattle.delivery.proofs.Rows.{AreNext}
 use Rattle.delivery.proofs.delivery.Delivery.deliver.Given as goal
