@@ -18,7 +18,7 @@ use Rattle.flash_table.specs.declared.broom_seat.BroomSeat.{BroomSeat}
 use Rattle.flash_table.specs.Flash.{IsBroomOf, broom_view, own_blocks, geometry_of, device}
 use Rattle.broom.specs.declared.broom.Broom.{Broom}
 use Rattle.broom.specs.Survey.{Survey, GainsNothing, live_pages, victim_of, loads_of, looks_of}
-use Rattle.broom.specs.Ready.{IsRested, view_of}
+use Rattle.broom.specs.Ready.{IsRested, view_of_broom}
 use Rattle.broom.specs.Told.{Surveyed, GainedNothing}
 use Rattle.broom.specs.Surveying.{IsInRange, StatesLoaded, PagesCounted, Chosen}
 
@@ -41,12 +41,12 @@ rested_again f s t h seat blocks changed callers =
     }
 
 module _ (f : Flash) (before after : Broom) (s : BroomSeat) (states : List PinWord) (counts : List ℕ) (closed : List Bool) (seat : IsBroomOf f before.seat)
-    (loaded : StatesLoaded (device f) (view_of before) states closed (broom_view s)) (counted : PagesCounted (broom_view s) states counts (view_of after)) (long : length states ≡ blocks_of (geometry_of f)) where
+    (loaded : StatesLoaded (device f) (view_of_broom before) states closed (broom_view s)) (counted : PagesCounted (broom_view s) states counts (view_of_broom after)) (long : length states ≡ blocks_of (geometry_of f)) where
   abbrev v : View
-  v = view_of before
+  v = view_of_broom before
 
   abbrev w : View
-  w = view_of after
+  w = view_of_broom after
 
   abbrev pub the_survey : Survey
   the_survey = record { states = states; pages = counted.pages }

@@ -24,7 +24,7 @@ use Rattle.flash_table.specs.Flash.{IsBroomOf, broom_view, own_blocks, geometry_
 use Rattle.broom.specs.declared.broom.Broom.{Broom}
 use Rattle.broom.specs.Survey.{is_closed, generation_in, written_in, looks_of}
 use Rattle.broom.specs.Emptying.{Emptied}
-use Rattle.broom.specs.Ready.{IsRested, IsReady, view_of}
+use Rattle.broom.specs.Ready.{IsRested, IsReady, view_of_broom}
 use Rattle.broom.specs.Told.{Surveyed, DidDrain, victim_in}
 use Rattle.broom.specs.Surveying.{IsInRange, Chosen}
 use Rattle.broom.specs.Relocating.{Sweeps, Relocated, room_in, room_left}
@@ -62,7 +62,7 @@ module _ (f : Flash) (v : View) (b : ℕ) (r : Broom) (chosen : Chosen v b r) (r
         let mark : is_closed (get_or chosen.survey.states b q).phase ≡ true = sym (get_or-map (λ (p : PinWord). is_closed p.phase) chosen.survey.states b q false chosen.low) ∙ chosen.closed in
         (in_range.fits, closed_phase q.phase (ap (λ (p : PinWord). is_closed p.phase) (sym here) ∙ mark))
 
-    pub last_loaded : IsLastLoaded (view_of r) b (pin_word q)
+    pub last_loaded : IsLastLoaded (view_of_broom r) b (pin_word q)
     last_loaded =
         let states = chosen.survey.states in
         let long : b < length (map pin_word states) = let e = length-map states pin_word in let low = chosen.low in omega arith in
@@ -86,7 +86,7 @@ module _ (f : Flash) (v : View) (b : ℕ) (r : Broom) (chosen : Chosen v b r) (r
     victim_of_state = record { block = b; generation = q.generation; written = q.written }
 
     -- ---- the relocation begins
-    module _ (t : BroomSeat) (seat : IsBroomOf f t) (owns : List Owned) (claimed : broom_view t ≡ record (view_of r) { owns = owns; cleared = 0 }) (blocks : own_blocks t ≡ record (own_blocks r.seat) { reclaiming = Draining victim_of_state })
+    module _ (t : BroomSeat) (seat : IsBroomOf f t) (owns : List Owned) (claimed : broom_view t ≡ record (view_of_broom r) { owns = owns; cleared = 0 }) (blocks : own_blocks t ≡ record (own_blocks r.seat) { reclaiming = Draining victim_of_state })
         (numbers : v.numbers ≡ device f) where
       pub claimed_sweeps : Sweeps f t victim_of_state
       claimed_sweeps =
@@ -125,23 +125,23 @@ module _ (f : Flash) (v : View) (b : ℕ) (r : Broom) (chosen : Chosen v b r) (r
 
         made_whole : Surveyed v chosen.survey (broom_view w)
         made_whole =
-            let kept : (broom_view w).loaded ≡ (view_of r).loaded = ap (λ (y : View). y.loaded) drained ∙ (ap (λ (y : View). y.loaded) went.changed ∙ ap (λ (y : View). y.loaded) claimed) in
-            let seen : (broom_view t).seen ≡ (view_of r).seen = ap (λ (y : View). y.seen) claimed in
+            let kept : (broom_view w).loaded ≡ (view_of_broom r).loaded = ap (λ (y : View). y.loaded) drained ∙ (ap (λ (y : View). y.loaded) went.changed ∙ ap (λ (y : View). y.loaded) claimed) in
+            let seen : (broom_view t).seen ≡ (view_of_broom r).seen = ap (λ (y : View). y.seen) claimed in
             let last : (broom_view w).seen ≡ (broom_view u).seen = ap (λ (y : View). y.seen) drained in
             let named : (broom_view w).named ≡ (broom_view u).named = ap (λ (y : View). y.named) drained in
             record {
               whole = chosen.made.whole;
               loaded = kept ∙ chosen.made.loaded;
               named = let P : List (ℕ × ℕ) × List (ℕ × ℕ) → Type 0 = λ y. Begins y.0 y.1 in subst P (λ i. (named_is i, sym named i)) went.named;
-              later = let P : List Call × List Call → Type 0 = λ y. Begins y.0 y.1 in Begins-trans v.seen (view_of r).seen (broom_view w).seen chosen.made.later (subst P (λ i. (seen i, sym last i)) went.later);
+              later = let P : List Call × List Call → Type 0 = λ y. Begins y.0 y.1 in Begins-trans v.seen (view_of_broom r).seen (broom_view w).seen chosen.made.later (subst P (λ i. (seen i, sym last i)) went.later);
             }
 
         all : broom_view w ≡ record v {
           seen = (broom_view u).seen;
-          loaded = (view_of r).loaded;
+          loaded = (view_of_broom r).loaded;
           named = (broom_view u).named;
-          busy = (view_of r).busy;
-          stale = (view_of r).stale;
+          busy = (view_of_broom r).busy;
+          stale = (view_of_broom r).stale;
           owns = owned;
           work = (broom_view u).work;
           programs = (broom_view u).programs;
@@ -157,20 +157,20 @@ module _ (f : Flash) (v : View) (b : ℕ) (r : Broom) (chosen : Chosen v b r) (r
             ≡ record (broom_view t) { seen = x.seen; named = x.named; owns = owned; work = x.work; programs = x.programs; cleared = x.cleared; source = x.source; moves = (broom_view t).moves + copied; drains = (broom_view t).drains ++ c ∷ []; ceded = ceded } =
             drained ∙ (λ i. record (went.changed i) { owns = owned; drains = (went.changed i).drains ++ c ∷ []; ceded = ceded }) in
             let e2 : broom_view w
-            ≡ record (view_of r) { seen = x.seen; named = x.named; owns = owned; work = x.work; programs = x.programs; cleared = x.cleared; source = x.source; moves = (view_of r).moves + copied; drains = (view_of r).drains ++ c ∷ []; ceded = ceded } =
+            ≡ record (view_of_broom r) { seen = x.seen; named = x.named; owns = owned; work = x.work; programs = x.programs; cleared = x.cleared; source = x.source; moves = (view_of_broom r).moves + copied; drains = (view_of_broom r).drains ++ c ∷ []; ceded = ceded } =
             e1 ∙ (λ i. record (claimed i) { seen = x.seen; named = x.named; owns = owned; work = x.work; programs = x.programs; cleared = x.cleared; source = x.source; moves = (claimed i).moves + copied; drains = (claimed i).drains ++ c ∷ []; ceded = ceded }) in
             let k = chosen.changed in
             let e3 : broom_view w
-            ≡ record v { seen = x.seen; loaded = (view_of r).loaded; named = x.named; busy = (view_of r).busy; stale = (view_of r).stale; owns = owned; work = x.work; programs = x.programs; cleared = x.cleared; source = x.source; moves = v.moves + copied; drains = v.drains ++ c ∷ []; ceded = ceded } =
+            ≡ record v { seen = x.seen; loaded = (view_of_broom r).loaded; named = x.named; busy = (view_of_broom r).busy; stale = (view_of_broom r).stale; owns = owned; work = x.work; programs = x.programs; cleared = x.cleared; source = x.source; moves = v.moves + copied; drains = v.drains ++ c ∷ []; ceded = ceded } =
             e2
             ∙ (λ i. record (k i) { seen = x.seen; named = x.named; owns = owned; work = x.work; programs = x.programs; cleared = x.cleared; source = x.source; moves = (k i).moves + copied; drains = (k i).drains ++ c ∷ []; ceded = ceded }) in
             e3
             ∙ (λ i. record v {
               seen = x.seen;
-              loaded = (view_of r).loaded;
+              loaded = (view_of_broom r).loaded;
               named = x.named;
-              busy = (view_of r).busy;
-              stale = (view_of r).stale;
+              busy = (view_of_broom r).busy;
+              stale = (view_of_broom r).stale;
               owns = owned;
               work = x.work;
               programs = x.programs;

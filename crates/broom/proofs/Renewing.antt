@@ -29,7 +29,7 @@ use Rattle.flash_table.specs.Owning.{AreApart, blocks_list, owned_of, owned_list
 use Rattle.flash_table.proofs.Rows.{at_first, past_first, just_at}
 use Rattle.broom.specs.declared.broom.Broom.{Broom}
 use Rattle.broom.specs.declared.answer.Erase.TheVariants as erase
-use Rattle.broom.specs.Ready.{IsRested, HasRoom, view_of, blocks_of_broom}
+use Rattle.broom.specs.Ready.{IsRested, HasRoom, view_of_broom, blocks_of_broom}
 use Rattle.broom.specs.Erasing.{DidErase, DidKeep, DidFree, DidRetire, EraseTold, renewed}
 use Rattle.broom.specs.Renewing.{Kept, Freed}
 
@@ -177,7 +177,7 @@ module _ (s t u : BroomSeat) (b : ℕ) (p : PinWord) (h : WasWiped s b p t) wher
 
 -- what an answer of a block that was erased and lives on tells
 pub told_erased : (before after : Broom) (b : ℕ) (kept : Bool)
-    → MatchBool kept (DidKeep (view_of before) (blocks_of_broom before) b (view_of after) (blocks_of_broom after)) (DidFree (view_of before) (blocks_of_broom before) b (view_of after) (blocks_of_broom after))
+    → MatchBool kept (DidKeep (view_of_broom before) (blocks_of_broom before) b (view_of_broom after) (blocks_of_broom after)) (DidFree (view_of_broom before) (blocks_of_broom before) b (view_of_broom after) (blocks_of_broom after))
     → EraseTold before b (erase.Erased b kept) after
 told_erased before after b true told = (refl, told)
 told_erased before after b false told = (refl, told)

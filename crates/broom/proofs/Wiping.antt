@@ -6,7 +6,7 @@ use Rattle.flash_table.specs.declared.broom_seat.BroomBlocks.{BroomBlocks}
 use Rattle.flash_table.specs.declared.broom_seat.BroomSeat.{BroomSeat}
 use Rattle.flash_table.specs.declared.broom_seat.ReclaimedBlock.{ReclaimedBlock}
 use Rattle.flash_table.specs.Flash.{IsBroomOf, broom_view, own_blocks}
-use Rattle.flash_table.specs.Erasing.{Erases}
+use Rattle.flash_table.specs.Erasing.{IsErasing}
 
 -- The first words of the block are wiped, so many of them, and nothing else has changed
 pub record WipedTo (f : Flash) (v : View) (x : BroomBlocks) (i : ℕ) (s : BroomSeat) : Type 0 where
@@ -21,5 +21,5 @@ pub wiped_more : (f : Flash) (v : View) (x : BroomBlocks) (i : ℕ) (s t : Broom
 wiped_more f v x i s t h seat blocks changed = record { seat = seat; blocks = blocks ∙ h.blocks; changed = changed ∙ (λ j. record (h.changed j) { wiped = i + 1 }) }
 
 -- the block is still the one that the broom erases
-pub still_erases : (f : Flash) (s t : BroomSeat) (o : ReclaimedBlock) → own_blocks t ≡ own_blocks s → Erases f s o → Erases f t o
+pub still_erases : (f : Flash) (s t : BroomSeat) (o : ReclaimedBlock) → own_blocks t ≡ own_blocks s → IsErasing f s o → IsErasing f t o
 still_erases f s t o blocks h = record { its = ap (λ (x : BroomBlocks). x.reclaiming) blocks ∙ h.its; low = h.low; within = h.within }

@@ -8,6 +8,8 @@ use Rattle.flash_rule.specs.declared.view.View.{View}
 use Rattle.flash_table.specs.declared.pass.OpenBlock.{OpenBlock}
 use Rattle.flash_table.specs.declared.broom_seat.BroomBlocks.{BroomBlocks}
 use Rattle.flash_table.specs.declared.broom_seat.ReclaimedBlock.{ReclaimedBlock}
+use Rattle.flash_table.specs.declared.broom_seat.BroomSeat.{BroomSeat}
+use Rattle.flash_table.specs.Flash.{broom_view, own_blocks}
 
 -- a page of the victim, in its generation
 abbrev pub victim_page : ReclaimedBlock → ℕ → MapWord
@@ -69,3 +71,7 @@ pub record Emptied (pages : ℕ) (victim : ReclaimedBlock) (v : View) (x : Broom
   pub each : length copies ≡ live_from victim 0 finds
   pub moved : copied ≤ length copies
   pub programmed : Programmed pages v x copies w y
+
+-- a broom's seat has emptied its victim
+abbrev pub HasEmptied : ℕ → ReclaimedBlock → BroomSeat → ℕ → BroomSeat → Type 0
+HasEmptied pages victim s copied t = Emptied pages victim (broom_view s) (own_blocks s) copied (broom_view t) (own_blocks t)

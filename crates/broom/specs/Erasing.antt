@@ -14,7 +14,7 @@ use Rattle.flash_table.specs.Owning.{owned_of}
 use Rattle.broom.specs.declared.broom.Broom.{Broom}
 use Rattle.broom.specs.declared.answer.Erase.{Erase}
 use Rattle.broom.specs.declared.answer.Erase.TheVariants as erase
-use Rattle.broom.specs.Ready.{view_of, blocks_of_broom}
+use Rattle.broom.specs.Ready.{view_of_broom, blocks_of_broom}
 
 -- The state of this block was loaded, as one that isn't drained, and nothing else was done
 pub record FoundStale (v : View) (b : ℕ) (w : View) : Type 0 where
@@ -74,9 +74,9 @@ pub record DidRetire (v : View) (x : BroomBlocks) (b : ℕ) (w : View) (y : Broo
 
 -- What each answer of an erase of this block tells. An erase has nothing to do with the queue
 abbrev pub EraseTold : Broom → ℕ → Erase → Broom → Type 0
-EraseTold before b (erase.Erased block true) after = (block ≡ b) × DidKeep (view_of before) (blocks_of_broom before) b (view_of after) (blocks_of_broom after)
-EraseTold before b (erase.Erased block false) after = (block ≡ b) × DidFree (view_of before) (blocks_of_broom before) b (view_of after) (blocks_of_broom after)
-EraseTold before b (erase.Retired block) after = (block ≡ b) × DidRetire (view_of before) (blocks_of_broom before) b (view_of after) (blocks_of_broom after)
-EraseTold before b erase.Pinned after = FoundPinned (view_of before) b (view_of after) × (blocks_of_broom after ≡ blocks_of_broom before)
-EraseTold before b erase.Stale after = FoundStale (view_of before) b (view_of after) × (blocks_of_broom after ≡ blocks_of_broom before)
+EraseTold before b (erase.Erased block true) after = (block ≡ b) × DidKeep (view_of_broom before) (blocks_of_broom before) b (view_of_broom after) (blocks_of_broom after)
+EraseTold before b (erase.Erased block false) after = (block ≡ b) × DidFree (view_of_broom before) (blocks_of_broom before) b (view_of_broom after) (blocks_of_broom after)
+EraseTold before b (erase.Retired block) after = (block ≡ b) × DidRetire (view_of_broom before) (blocks_of_broom before) b (view_of_broom after) (blocks_of_broom after)
+EraseTold before b erase.Pinned after = FoundPinned (view_of_broom before) b (view_of_broom after) × (blocks_of_broom after ≡ blocks_of_broom before)
+EraseTold before b erase.Stale after = FoundStale (view_of_broom before) b (view_of_broom after) × (blocks_of_broom after ≡ blocks_of_broom before)
 EraseTold before b erase.QueueEmpty after = ⊥

@@ -18,8 +18,8 @@ abbrev pub seat_of : Broom → BroomSeat
 seat_of b = b.seat
 
 -- what a broom knows
-abbrev pub view_of : Broom → View
-view_of b = broom_view b.seat
+abbrev pub view_of_broom : Broom → View
+view_of_broom b = broom_view b.seat
 
 -- the blocks of its own
 abbrev pub blocks_of_broom : Broom → BroomBlocks
@@ -54,3 +54,7 @@ pub record IsReady (f : Flash) (b : Broom) : Type 0 where
   pub states : length b.states.items ≡ blocks_of (geometry_of f)
   pub counts : length b.counts.items ≡ blocks_of (geometry_of f)
   pub closed : length b.closed.items ≡ blocks_of (geometry_of f)
+
+-- a seat was handed back as it was
+abbrev pub IsSameSeat : BroomSeat → BroomSeat → Type 0
+IsSameSeat s t = (broom_view t ≡ broom_view s) × (own_blocks t ≡ own_blocks s) × ((f : Flash) → IsRested f s → IsRested f t)

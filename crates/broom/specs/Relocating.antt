@@ -1,5 +1,5 @@
 -- How a broom that drains its victim goes on, and what each part of it tells.
-use Rattle.std.specs.Prelude.{◌≡◌, ℕ, ◌+◌, ◌-◌, ◌<◌, ◌≤◌, ◌⊎◌, false, List, [], ◌∷◌, ◌++◌, Option, None, Some, length}
+use Rattle.std.specs.Prelude.{◌≡◌, ℕ, ◌+◌, ◌-◌, ◌<◌, ◌≤◌, ◌⊎◌, false, List, [], ◌∷◌, ◌++◌, Option, None, Some, length, MatchOption}
 use Rattle.geometry.specs.Geometry.{blocks_of, pages_of, endurance_of}
 use Rattle.geometry.specs.History.{Begins}
 use Rattle.geometry.specs.MapWords.{map_word}
@@ -75,6 +75,10 @@ pub record FoundLive (v : View) (page : MapWord) (sector : ℕ) (w : View) : Typ
   pub whole : IsValue v.numbers value
   pub source : w.source ≡ Some (record { page = page; stamp = sector; value = Some value })
 
+-- what the search for the next page's sector tells by its answer
+abbrev pub FoundTold : View → MapWord → Option ℕ → View → Type 0
+FoundTold v page result w = MatchOption result (FoundDead v page w) (λ sector. FoundLive v page sector w)
+
 -- The spare was made the destination where there was none, and nothing else was done
 pub record Opened (s t : BroomSeat) : Type 0 where
   pub view : broom_view t ≡ broom_view s
@@ -89,6 +93,15 @@ pub record Copied (v : View) (o : OpenBlock) (x : Source) (copy : MapWord) (w : 
   pub can : CanMove w x copy
   pub programs : w.programs ≡ v.programs ++ copy ∷ []
   pub named : w.named ≡ v.named
+
+-- a page and its sector, as the source that is copied
+abbrev pub source_of : MapWord → ℕ → List ℕ → Source
+source_of page sector value = record { page = page; stamp = sector; value = Some value }
+
+-- what the copy of the source to the destination tells
+abbrev pub CopyTold : View → Option OpenBlock → MapWord → ℕ → MapWord → View → Type 0
+CopyTold v destination page sector copy w =
+    (o : OpenBlock) (value : List ℕ) → destination ≡ Some o → v.source ≡ Some (source_of page sector value) → IsValue v.numbers value → Copied v o (source_of page sector value) copy w
 
 -- The destination is closed where it is full, and nothing else is done
 pub record Tidied (pages : ℕ) (v : View) (x : BroomBlocks) (w : View) (y : BroomBlocks) : Type 0 where
@@ -115,3 +128,7 @@ pub record Cleared (pages : ℕ) (v : View) (x : BroomBlocks) (page : MapWord) (
   pub each : length copies ≡ count_if (is_live page find)
   pub moved : copied ≤ length copies
   pub programmed : Programmed pages v x copies w y
+
+-- a broom's seat has cleared the next page of its victim
+abbrev pub ClearTold : ℕ → BroomSeat → MapWord → ℕ → BroomSeat → Type 0
+ClearTold pages s page copied t = Cleared pages (broom_view s) (own_blocks s) page copied (broom_view t) (own_blocks t)

@@ -11,7 +11,7 @@ use Rattle.flash_rule.specs.declared.view.View.{View}
 use Rattle.flash_rule.specs.Views.{AreOfHosts}
 use Rattle.broom.specs.declared.broom.Broom.{Broom}
 use Rattle.broom.specs.Survey.{Survey, IsVictim, counts_of, closed_of, loads_of, looks_of}
-use Rattle.broom.specs.Ready.{view_of}
+use Rattle.broom.specs.Ready.{view_of_broom}
 use Rattle.broom.specs.Told.{Surveyed}
 
 -- The state has room in its word, the generation is below the endurance, and no more pages are written than there are
@@ -39,10 +39,10 @@ pub record PagesCounted (v : View) (states : List PinWord) (counts : List ℕ) (
 -- A survey was made, which the broom keeps, and this block is its victim
 pub record Chosen (v : View) (block : ℕ) (after : Broom) : Type 0 where
   pub survey : Survey
-  pub made : Surveyed v survey (view_of after)
+  pub made : Surveyed v survey (view_of_broom after)
   pub victim : IsVictim survey v.numbers.pages block
   pub kept : survey.states ≡ after.states.items
   pub low : block < length survey.states
   pub closed : IsClosed (closed_of survey.states) block
   pub ranges : All (IsInRange v.numbers) survey.states
-  pub changed : view_of after ≡ record v { seen = (view_of after).seen; loaded = (view_of after).loaded; named = v.named ++ looks_of survey.pages; busy = (view_of after).busy; stale = (view_of after).stale }
+  pub changed : view_of_broom after ≡ record v { seen = (view_of_broom after).seen; loaded = (view_of_broom after).loaded; named = v.named ++ looks_of survey.pages; busy = (view_of_broom after).busy; stale = (view_of_broom after).stale }

@@ -10,7 +10,7 @@ use Rattle.broom.specs.declared.answer.Drain.{Drain}
 use Rattle.broom.specs.declared.answer.Drain.TheVariants as drain
 use Rattle.broom.specs.Survey.{Survey, IsSurvey, GainsNothing, IsVictim, loads_of, looks_of, generation_in, written_in}
 use Rattle.broom.specs.Emptying.{Emptied}
-use Rattle.broom.specs.Ready.{view_of, blocks_of_broom}
+use Rattle.broom.specs.Ready.{view_of_broom, blocks_of_broom}
 
 -- A survey was made: the state of each block was loaded in order, and then each sector looked at in order, with these words
 pub record Surveyed (v : View) (x : Survey) (w : View) : Type 0 where
@@ -22,7 +22,7 @@ pub record Surveyed (v : View) (x : Survey) (w : View) : Type 0 where
 -- The broom had no spare, and nothing was done
 pub record HadNoSpare (before after : Broom) : Type 0 where
   pub none : (blocks_of_broom before).spare ≡ None
-  pub view : view_of after ≡ view_of before
+  pub view : view_of_broom after ≡ view_of_broom before
   pub blocks : blocks_of_broom after ≡ blocks_of_broom before
 
 -- A survey was made, by which there is nothing to gain, and nothing else was done
@@ -71,8 +71,8 @@ pub record DidDrain (v : View) (x : BroomBlocks) (block copied : ℕ) (w : View)
 
 -- What each answer of a drain tells. The blocks of the broom's own stay where it drained none. A drain has nothing to do with the queue
 abbrev pub DrainTold : Broom → Drain → Broom → Type 0
-DrainTold before (drain.Drained block copied) after = DidDrain (view_of before) (blocks_of_broom before) block copied (view_of after) (blocks_of_broom after)
-DrainTold before drain.NothingToGain after = GainedNothing (view_of before) (view_of after) × (blocks_of_broom after ≡ blocks_of_broom before)
+DrainTold before (drain.Drained block copied) after = DidDrain (view_of_broom before) (blocks_of_broom before) block copied (view_of_broom after) (blocks_of_broom after)
+DrainTold before drain.NothingToGain after = GainedNothing (view_of_broom before) (view_of_broom after) × (blocks_of_broom after ≡ blocks_of_broom before)
 DrainTold before drain.NoSpare after = HadNoSpare before after
-DrainTold before drain.Lost after = LostClaim (view_of before) (view_of after) × (blocks_of_broom after ≡ blocks_of_broom before)
+DrainTold before drain.Lost after = LostClaim (view_of_broom before) (view_of_broom after) × (blocks_of_broom after ≡ blocks_of_broom before)
 DrainTold before drain.QueueFull after = ⊥

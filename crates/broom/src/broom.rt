@@ -1,5 +1,4 @@
 ghost use Rattle.std.specs.Prelude.{◌≡◌, IfOk, IfErr, length};
-ghost use Rattle.geometry.specs.Geometry.{blocks_of};
 ghost use Rattle.flash_table.specs.declared.flash.Flash.{Flash};
 ghost use Rattle.flash_table.specs.Flash.{broom_view, own_blocks, geometry_of};
 
@@ -38,7 +37,7 @@ fn row<T: Copy>(alloc: Global, places: usize, value: T) -> Result<Vec<T>, AllocE
 
 impl Broom {
     ghost use Rattle.std.specs.Prelude.{None};
-    ghost use Rattle.broom.specs.Ready.{IsRested, IsReady, view_of, blocks_of_broom};
+    ghost use Rattle.broom.specs.Ready.{IsRested, IsReady, IsSameSeat, view_of_broom, blocks_of_broom};
     ghost use Rattle.broom.specs.Handing.{place_of, aside_of};
 
     /// A broom with the room for its surveys of a device of this geometry, and nothing set aside. `Err` is out of memory, and gives the
@@ -49,11 +48,11 @@ impl Broom {
         place: QueuePass,
         geometry: &Geometry,
     ) -> Result<Broom, (BroomSeat, QueuePass)>
-        ensures view { IfOk result (λ b. view_of b ≡ broom_view seat) }
+        ensures view { IfOk result (λ b. view_of_broom b ≡ broom_view seat) }
         ensures blocks { IfOk result (λ b. blocks_of_broom b ≡ own_blocks seat) }
         ensures ready { IfOk result (λ b. (f : Flash) → geometry_of f ≡ geometry.now → IsRested f seat → IsReady f b) }
         ensures queue { IfOk result (λ b. (place_of b ≡ place) × (aside_of b ≡ None)) }
-        ensures refused { IfErr result (λ back. (broom_view back.0 ≡ broom_view seat) × (own_blocks back.0 ≡ own_blocks seat) × ((f : Flash) → IsRested f seat → IsRested f back.0)) }
+        ensures refused { IfErr result (λ back. IsSameSeat seat back.0) }
         ensures place { IfErr result (λ back. back.1 ≡ place) }
     {
         let blocks = geometry.blocks() as usize;

@@ -2,7 +2,7 @@
 ghost use Rattle.std.specs.Prelude.{◌≡◌, ◌<◌, MatchBool};
 ghost use Rattle.geometry.specs.Geometry.{blocks_of};
 ghost use Rattle.flash_table.specs.Flash.{IsBroomOf, broom_view, own_blocks, geometry_of, device};
-ghost use Rattle.flash_table.specs.Erasing.{Erases, CanLiveOn, words_in_block};
+ghost use Rattle.flash_table.specs.Erasing.{IsErasing, CanLiveOn, words_in_block};
 ghost use Rattle.flash_table.specs.declared.broom_seat.ReclaimedBlock.{ReclaimedBlock};
 ghost use Rattle.flash_table.specs.declared.broom_seat.Reclaiming.TheVariants as reclaiming;
 ghost use Rattle.broom.specs.Ready.{IsReady};
@@ -15,7 +15,7 @@ use crate::broom::Broom;
 use flash_table::{BroomSeat, Flash, Gate, Point};
 use geometry::Phase;
 
-/// Erases a drained block that nobody reads. It stops at its gate once the block's state is loaded, before the block is condemned.
+/// IsErasing a drained block that nobody reads. It stops at its gate once the block's state is loaded, before the block is condemned.
 pub fn erase<G: Gate>(flash: &Flash, broom: &mut Broom, block: u32, gate: &mut G) -> Erase
     requires broom { IsReady flash.now broom.old }
     requires block { block < blocks_of (geometry_of flash.now) }
@@ -46,7 +46,7 @@ pub fn erase<G: Gate>(flash: &Flash, broom: &mut Broom, block: u32, gate: &mut G
 // Sets all words of the block that the broom erases to all ones, page after page with its stamp.
 fn wipe_all(flash: &Flash, seat: &mut BroomSeat)
     requires seat { IsBroomOf flash.now seat.old }
-    requires erasing { (o : ReclaimedBlock) × Erases flash.now seat.old o }
+    requires erasing { (o : ReclaimedBlock) × IsErasing flash.now seat.old o }
     requires none { (broom_view seat.old).wiped ≡ 0 }
     ensures told { broom_view seat.new ≡ record (broom_view seat.old) { wiped = words_in_block (device flash.now) } }
     ensures seat { IsBroomOf flash.now seat.new }

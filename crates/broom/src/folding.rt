@@ -1,14 +1,13 @@
 //! The end of a broom.
-ghost use Rattle.std.specs.Prelude.{◌≡◌, ◌<◌, ◌++◌, Some, None};
+ghost use Rattle.std.specs.Prelude.{◌≡◌, ◌<◌, Some, None};
 ghost use Rattle.geometry.specs.Geometry.{blocks_of};
 ghost use Rattle.flash_table.specs.Flash.{IsBroomOf, broom_view, own_blocks, geometry_of};
 ghost use Rattle.flash_table.specs.declared.pass.OpenBlock.{OpenBlock};
 ghost use Rattle.flash_table.specs.Leaving.{retired_broom_view};
-ghost use Rattle.flash_table.specs.Owning.{closed_list};
 ghost use Rattle.flash_table.specs.GivingUp.{closed_broom};
 ghost use Rattle.erase_queue.specs.Queue.{limit_of};
-ghost use Rattle.broom.specs.Ready.{IsReady, IsRested, IsFiled, view_of, blocks_of_broom};
-ghost use Rattle.broom.specs.Ends.{folded_view, folded_place};
+ghost use Rattle.broom.specs.Ready.{IsReady, IsRested, IsFiled, view_of_broom, blocks_of_broom};
+ghost use Rattle.broom.specs.Ends.{folded_view, folded_place, HasClosed};
 ghost use Rattle.broom.specs.Handing.{IsQueued, LeftAt, aside_of, place_of};
 
 use crate::broom::Broom;
@@ -30,7 +29,7 @@ pub struct Folded {
 pub fn fold(flash: &Flash, queue: &EraseQueue, rt: &impl Wait, broom: Broom) -> Folded
     requires ready { IsReady flash.now broom }
     requires queued { IsQueued queue.now broom }
-    ensures view { folded_view result ≡ closed_broom (view_of broom) (blocks_of_broom broom) }
+    ensures view { folded_view result ≡ closed_broom (view_of_broom broom) (blocks_of_broom broom) }
     ensures place { LeftAt (limit_of queue.now) broom (folded_place result) }
 {
     let mut broom = broom;
@@ -42,7 +41,7 @@ pub fn fold(flash: &Flash, queue: &EraseQueue, rt: &impl Wait, broom: Broom) -> 
 pub fn fold_new(flash: &Flash, broom: Broom) -> Folded
     requires ready { IsReady flash.now broom }
     requires aside { aside_of broom ≡ None }
-    ensures view { folded_view result ≡ closed_broom (view_of broom) (blocks_of_broom broom) }
+    ensures view { folded_view result ≡ closed_broom (view_of_broom broom) (blocks_of_broom broom) }
     ensures place { folded_place result ≡ place_of broom }
 {
     retire_broom(flash, broom)
@@ -52,7 +51,7 @@ pub fn fold_new(flash: &Flash, broom: Broom) -> Folded
 /// aside stays drained, and nobody erases it.
 pub fn retire_broom(flash: &Flash, broom: Broom) -> Folded
     requires { IsReady flash.now broom }
-    ensures view { folded_view result ≡ closed_broom (view_of broom) (blocks_of_broom broom) }
+    ensures view { folded_view result ≡ closed_broom (view_of_broom broom) (blocks_of_broom broom) }
     ensures place { folded_place result ≡ place_of broom }
 {
     let Broom {
@@ -86,7 +85,7 @@ fn close_if_open(flash: &Flash, seat: &mut BroomSeat)
     requires seat { IsBroomOf flash.now seat.old }
     requires filed { IsFiled (broom_view seat.old) (own_blocks seat.old) }
     requires block { (o : OpenBlock) → (own_blocks seat.old).destination ≡ Some o → o.block < blocks_of (geometry_of flash.now) }
-    ensures told { broom_view seat.new ≡ record (broom_view seat.old) { owns = (broom_view seat.new).owns; work = None; ceded = (broom_view seat.old).ceded ++ closed_list (own_blocks seat.old).destination } }
+    ensures told { HasClosed (broom_view seat.old) (own_blocks seat.old).destination (broom_view seat.new) }
     ensures blocks { own_blocks seat.new ≡ record (own_blocks seat.old) { destination = None } }
     ensures seat { IsBroomOf flash.now seat.new }
 {

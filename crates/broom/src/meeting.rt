@@ -1,8 +1,8 @@
 //! What a broom has done is tied to what another broom, or a pass that holds a page, has done and seen.
 ghost use Rattle.std.specs.Prelude.{◌≡◌, ℕ, List};
 ghost use Rattle.geometry.specs.declared.page_addr.PageAddr.{PageAddr};
-ghost use Rattle.flash_table.specs.Flash.{IsPassOf, view_of as pass_view, opened_of};
-ghost use Rattle.broom.specs.Ready.{IsReady, view_of, blocks_of_broom};
+ghost use Rattle.flash_table.specs.Flash.{IsPassOf, view_of, opened_of};
+ghost use Rattle.broom.specs.Ready.{IsReady, view_of_broom, blocks_of_broom};
 ghost use Rattle.broom.specs.Handing.{HandsNothing};
 ghost use Rattle.broom.specs.Meeting.{IsPinned, StoodTold, BroomsMet, page_in};
 
@@ -14,7 +14,7 @@ use geometry::{MapWord, PageAddr};
 pub fn meet_brooms(flash: &Flash, first: &mut Broom, second: &mut Broom)
     requires first { IsReady flash.now first.old }
     requires second { IsReady flash.now second.old }
-    ensures told { BroomsMet (view_of first.old) (view_of second.old) (view_of first.new) (view_of second.new) }
+    ensures told { BroomsMet (view_of_broom first.old) (view_of_broom second.old) (view_of_broom first.new) (view_of_broom second.new) }
     ensures first { IsReady flash.now first.new }
     ensures second { IsReady flash.now second.new }
     ensures first_blocks { blocks_of_broom first.new ≡ blocks_of_broom first.old }
@@ -35,7 +35,7 @@ pub fn meet_brooms(flash: &Flash, first: &mut Broom, second: &mut Broom)
 pub fn stand(flash: &Flash, pass: &mut Pass, page: PageAddr, generation: u32, broom: &mut Broom)
     requires pass { (value : List ℕ) × IsPinned flash.now pass.old (page_in page generation) value }
     requires broom { IsReady flash.now broom.old }
-    ensures told { StoodTold (pass_view pass.old) (view_of broom.old) (page_in page generation) (pass_view pass.new) (view_of broom.new) }
+    ensures told { StoodTold (view_of pass.old) (view_of_broom broom.old) (page_in page generation) (view_of pass.new) (view_of_broom broom.new) }
     ensures pass { IsPassOf flash.now pass.new }
     ensures opened { opened_of pass.new ≡ opened_of pass.old }
     ensures broom { IsReady flash.now broom.new }

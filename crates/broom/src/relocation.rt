@@ -1,13 +1,13 @@
 //! The relocation: each page of the victim that is still live is copied to the destination, and its sector's map word is moved to the copy.
-ghost use Rattle.std.specs.Prelude.{◌≡◌, ℕ, ◌+◌, ◌<◌, ◌≤◌, List, MatchBool, MatchOption, None, Some};
+ghost use Rattle.std.specs.Prelude.{◌≡◌, ℕ, ◌+◌, ◌<◌, ◌≤◌, List, MatchBool, None, Some};
 ghost use Rattle.geometry.specs.Geometry.{pages_of};
-ghost use Rattle.flash_rule.specs.Rule.{IsValue};
 ghost use Rattle.flash_table.specs.Flash.{IsBroomOf, broom_view, own_blocks, geometry_of};
 ghost use Rattle.flash_table.specs.declared.flash.Flash.{Flash};
 ghost use Rattle.flash_table.specs.declared.pass.OpenBlock.{OpenBlock};
 ghost use Rattle.flash_table.specs.declared.broom_seat.ReclaimedBlock.{ReclaimedBlock};
-ghost use Rattle.broom.specs.Relocating.{IsSweeping, Sweeps, Relocated, FoundDead, FoundLive, Opened, Copied, Tidied, Cleared, room_left};
-ghost use Rattle.broom.specs.Emptying.{Emptied, victim_page, count_if};
+ghost use Rattle.broom.specs.Relocating.{IsSweeping, Sweeps, Relocated, Opened, Tidied, room_left, ClearTold, CopyTold, FoundTold};
+ghost use Rattle.broom.specs.Emptying.{victim_page, count_if, HasEmptied};
+ghost use Rattle.flash_table.specs.Steps.{HasOneMore};
 
 use flash_table::{BroomSeat, Flash, Gate, Point, Reclaiming};
 use geometry::MapWord;
@@ -23,7 +23,7 @@ fn found(named: Option<MapWord>, page: MapWord) -> bool
 fn live_sector(flash: &Flash, seat: &mut BroomSeat, page: MapWord) -> Option<u32>
     requires next { (x : ReclaimedBlock) × Sweeps flash.now seat.old x × ((page ≡ victim_page x page.page) × (page.page < x.written)) }
     requires cleared { page.page ≡ (broom_view seat.old).cleared }
-    ensures told { MatchOption result (FoundDead (broom_view seat.old) page (broom_view seat.new)) (λ sector. FoundLive (broom_view seat.old) page sector (broom_view seat.new)) }
+    ensures told { FoundTold (broom_view seat.old) page result (broom_view seat.new) }
     ensures sweeps { (x : ReclaimedBlock) → Sweeps flash.now seat.old x → Sweeps flash.now seat.new x }
     ensures blocks { own_blocks seat.new ≡ own_blocks seat.old }
 {
@@ -55,9 +55,8 @@ fn copy_page(flash: &Flash, seat: &mut BroomSeat, page: MapWord, sector: u32) ->
     requires sweeps { (x : ReclaimedBlock) × Sweeps flash.now seat.old x × ((page ≡ victim_page x page.page) × (page.page < x.written)) }
     requires destination { (o : OpenBlock) × ((own_blocks seat.old).destination ≡ Some o) }
     requires source { (value : List ℕ) × ((broom_view seat.old).source ≡ Some (record { page = page; stamp = sector; value = Some value })) }
-    ensures told { (o : OpenBlock) (value : List ℕ) → (own_blocks seat.old).destination ≡ Some o → (broom_view seat.old).source ≡ Some (record { page = page; stamp = sector; value = Some value }) → IsValue (broom_view seat.old).numbers value
-        → Copied (broom_view seat.old) o (record { page = page; stamp = sector; value = Some value }) result (broom_view seat.new) }
-    ensures blocks { (o : OpenBlock) → (own_blocks seat.old).destination ≡ Some o → own_blocks seat.new ≡ record (own_blocks seat.old) { destination = Some (record o { written = o.written + 1 }) } }
+    ensures told { CopyTold (broom_view seat.old) (own_blocks seat.old).destination page sector result (broom_view seat.new) }
+    ensures blocks { HasOneMore (own_blocks seat.old) (own_blocks seat.new) }
     ensures sweeps { (x : ReclaimedBlock) → Sweeps flash.now seat.old x → IsSweeping flash.now (pages_of (geometry_of flash.now) + 1) seat.new x }
 {
     let Some(destination) = seat.blocks().destination else {
@@ -97,7 +96,7 @@ fn clear_page<G: Gate>(flash: &Flash, seat: &mut BroomSeat, page: MapWord, gate:
     requires next { (x : ReclaimedBlock) × Sweeps flash.now seat.old x × ((page ≡ victim_page x page.page) × (page.page < x.written)) }
     requires cleared { page.page ≡ (broom_view seat.old).cleared }
     requires room { 0 < room_left (pages_of (geometry_of flash.now)) (own_blocks seat.old) }
-    ensures told { Cleared (pages_of (geometry_of flash.now)) (broom_view seat.old) (own_blocks seat.old) page (count_if result) (broom_view seat.new) (own_blocks seat.new) }
+    ensures told { ClearTold (pages_of (geometry_of flash.now)) seat.old page (count_if result) seat.new }
     ensures sweeps { (x : ReclaimedBlock) → Sweeps flash.now seat.old x → Sweeps flash.now seat.new x }
 {
     let Some(sector) = live_sector(flash, seat, page) else {
@@ -117,7 +116,7 @@ pub(crate) fn relocate<G: Gate>(flash: &Flash, seat: &mut BroomSeat, gate: &mut 
     requires cleared { (broom_view seat.old).cleared ≡ 0 }
     requires source { (broom_view seat.old).source ≡ None }
     ensures told { Relocated (broom_view seat.old) result (broom_view seat.new) }
-    ensures emptied { (x : ReclaimedBlock) → Sweeps flash.now seat.old x → Emptied (pages_of (geometry_of flash.now)) x (broom_view seat.old) (own_blocks seat.old) result (broom_view seat.new) (own_blocks seat.new) }
+    ensures emptied { (x : ReclaimedBlock) → Sweeps flash.now seat.old x → HasEmptied (pages_of (geometry_of flash.now)) x seat.old result seat.new }
     ensures cleared { (x : ReclaimedBlock) → Sweeps flash.now seat.old x → (broom_view seat.new).cleared ≡ x.written }
     ensures source { (broom_view seat.new).source ≡ None }
     ensures sweeps { (x : ReclaimedBlock) → Sweeps flash.now seat.old x → Sweeps flash.now seat.new x }

@@ -76,9 +76,9 @@ impl Play<(), View> for AddReader {
 }
 
 /// A pass takes its reader off a block.
-pub struct TakeReader;
+pub struct RemoveReader;
 
-impl Play<(), View> for TakeReader {
+impl Play<(), View> for RemoveReader {
     ghost then = { unpin_told };
 }
 

@@ -1,5 +1,5 @@
 -- What the calls of a broom that erases a block ask, and what they tell.
-use Rattle.std.specs.Prelude.{◌≡◌, ℕ, ◌+◌, ◌*◌, ◌<◌, ◌≤◌, [], ◌∷◌, ◌++◌}
+use Rattle.std.specs.Prelude.{◌≡◌, ℕ, ◌+◌, ◌*◌, ◌<◌, ◌≤◌, [], ◌∷◌, ◌++◌, Bool, MatchBool}
 use Rattle.geometry.specs.Limits.{Numbers}
 use Rattle.geometry.specs.PinWords.{pin_word, FitsPin}
 use Rattle.geometry.specs.declared.pin_word.PinWord.{PinWord}
@@ -31,8 +31,12 @@ pub record FoundBusy (v : View) (x : BroomBlocks) (b : ℕ) (w : View) (y : Broo
   pub changed : w ≡ record v { busy = v.busy ++ b ∷ [] }
   pub blocks : y ≡ x
 
+-- what a condemn tells by its answer
+abbrev pub CondemnTold : BroomSeat → ℕ → PinWord → Bool → BroomSeat → Type 0
+CondemnTold s b p result t = MatchBool result (NowErases (broom_view s) (own_blocks s) b p (broom_view t) (own_blocks t)) (FoundBusy (broom_view s) (own_blocks s) b (broom_view t) (own_blocks t))
+
 -- The broom erases this block, which is one of the device's and has no more pages written than there are
-pub record Erases (f : Flash) (s : BroomSeat) (o : ReclaimedBlock) : Type 0 where
+pub record IsErasing (f : Flash) (s : BroomSeat) (o : ReclaimedBlock) : Type 0 where
   pub its : (own_blocks s).reclaiming ≡ reclaiming.Erasing o
   pub low : o.block < (device f).blocks
   pub within : o.written ≤ (device f).pages
@@ -43,11 +47,11 @@ words_in_block z = z.pages * (z.words + 1)
 
 -- The broom erases this block, has wiped all of its words, and the block has another generation to live
 pub record CanLiveOn (f : Flash) (s : BroomSeat) (o : ReclaimedBlock) : Type 0 where
-  pub erases : Erases f s o
+  pub erases : IsErasing f s o
   pub wiped : words_in_block (device f) ≤ (broom_view s).wiped
   pub another : o.generation + 1 < (device f).endurance
 
 -- The broom erases this block for the last time
 pub record IsLastErase (f : Flash) (s : BroomSeat) (o : ReclaimedBlock) : Type 0 where
-  pub erases : Erases f s o
+  pub erases : IsErasing f s o
   pub last : o.generation + 1 ≡ (device f).endurance

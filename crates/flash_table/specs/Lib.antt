@@ -3,5 +3,6 @@ pub mod Flash
 pub mod Leaving
 pub mod Erasing
 pub mod GivingUp
+pub mod Steps
 -- Internal: the plain data of a seat beside its view.
 pub mod Owning

@@ -5,6 +5,7 @@ ghost use Rattle.flash_rule.specs.declared.carried.Carried.{Carried};
 ghost use Rattle.flash_rule.specs.declared.facts.Role.TheVariants as role;
 ghost use Rattle.flash_rule.specs.Seats.{lender, lent_note, host_of, giver, given_note, home};
 ghost use Rattle.flash_table.specs.Flash.{IsBroomOf, IsNoteOf, broom_view, note_view, own_blocks};
+ghost use Rattle.flash_table.specs.Steps.{IsBack};
 
 use crate::broom_seat::BroomSeat;
 use crate::flash::Flash;
@@ -57,7 +58,7 @@ impl Flash {
     pub fn broom_come_home(&self, broom: &mut BroomSeat, note: Note)
         requires broom { IsBroomOf self.now broom.old }
         requires note { IsNoteOf self.now note }
-        requires given { (n : Name) × (c : Carried) × ((broom_view broom.old).role ≡ role.Player n) × ((note_view note).guest ≡ Some n) × ((note_view note).copy ≡ Some c) × (¬ ((broom_view broom.old).role ≡ role.Player c.of)) }
+        requires given { IsBack (broom_view broom.old) (note_view note) }
         ensures told { broom_view broom.new ≡ home (broom_view broom.old) (note_view note) }
         ensures broom { IsBroomOf self.now broom.new }
         ensures blocks { own_blocks broom.new ≡ own_blocks broom.old }

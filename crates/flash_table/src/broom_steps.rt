@@ -1,13 +1,13 @@
 //! The steps by which a broom fills and closes the block that it copies live pages to, one atomic operation each.
-ghost use Rattle.std.specs.Prelude.{◌≡◌, ℕ, ◌+◌, ◌<◌, [], ◌∷◌, ◌++◌, length, Some, None};
-ghost use Rattle.geometry.specs.Geometry.{blocks_of, pages_of};
+ghost use Rattle.std.specs.Prelude.{◌≡◌, ◌+◌, ◌<◌, [], ◌∷◌, ◌++◌, Some, None};
 ghost use Rattle.flash_rule.specs.declared.facts.Work.{Work};
 ghost use Rattle.flash_rule.specs.Views.{with_owned};
-ghost use Rattle.flash_rule.specs.Plays.{CanPut, CanCount, CanClose, words_in, next_page};
+ghost use Rattle.flash_rule.specs.Plays.{CanCount};
 ghost use Rattle.flash_table.specs.Owning.{owned_of};
 ghost use Rattle.flash_table.specs.GivingUp.{left_closed};
 ghost use Rattle.flash_table.specs.Flash.{IsBroomOf, broom_view, own_blocks, geometry_of};
 ghost use Rattle.flash_table.specs.declared.pass.OpenBlock.{OpenBlock};
+ghost use Rattle.flash_table.specs.Steps.{CanGiveUp, HasOneMore, HasPut, IsFilled, IsNextWord};
 
 use crate::broom_seat::BroomSeat;
 use crate::flash::Flash;
@@ -19,8 +19,8 @@ impl Flash {
     /// Puts word `i` of the first page not written of the destination; after the data words comes the stamp.
     pub fn put_copy_word(&self, broom: &mut BroomSeat, i: u32, word: u64)
         requires broom { IsBroomOf self.now broom.old }
-        requires next { (o : OpenBlock) × ((own_blocks broom.old).destination ≡ Some o) × CanPut (broom_view broom.old) (owned_of o) × (i ≡ length (words_in (broom_view broom.old).work (owned_of o))) × (o.block < blocks_of (geometry_of self.now)) }
-        ensures told { (o : OpenBlock) → (own_blocks broom.old).destination ≡ Some o → broom_view broom.new ≡ record (broom_view broom.old) { work = Some (record { page = next_page (owned_of o); words = words_in (broom_view broom.old).work (owned_of o) ++ word ∷ [] }) } }
+        requires next { IsNextWord (geometry_of self.now) (broom_view broom.old) (own_blocks broom.old).destination i }
+        ensures told { HasPut (broom_view broom.old) (own_blocks broom.old).destination word (broom_view broom.new) }
         ensures broom { IsBroomOf self.now broom.new }
         ensures blocks { own_blocks broom.new ≡ own_blocks broom.old }
     {
@@ -40,10 +40,10 @@ impl Flash {
     /// Counts the page of the destination that was filled: from now on it is programmed.
     pub fn count_copy(&self, broom: &mut BroomSeat)
         requires broom { IsBroomOf self.now broom.old }
-        requires filled { (o : OpenBlock) × (x : Work) × ((own_blocks broom.old).destination ≡ Some o) × CanCount (broom_view broom.old) (owned_of o) x × (o.written < pages_of (geometry_of self.now)) × (o.block < blocks_of (geometry_of self.now)) }
+        requires filled { IsFilled (geometry_of self.now) (broom_view broom.old) (own_blocks broom.old).destination }
         ensures told { (o : OpenBlock) (x : Work) → (own_blocks broom.old).destination ≡ Some o → CanCount (broom_view broom.old) (owned_of o) x
             → broom_view broom.new ≡ record (broom_view broom.old) { programs = (broom_view broom.old).programs ++ x.page ∷ []; owns = with_owned (owned_of (record o { written = o.written + 1 })) (broom_view broom.old).owns } }
-        ensures blocks { (o : OpenBlock) → (own_blocks broom.old).destination ≡ Some o → own_blocks broom.new ≡ record (own_blocks broom.old) { destination = Some (record o { written = o.written + 1 }) } }
+        ensures blocks { HasOneMore (own_blocks broom.old) (own_blocks broom.new) }
         ensures broom { IsBroomOf self.now broom.new }
     {
         let Some(opened) = broom.blocks.destination else {
@@ -63,7 +63,7 @@ impl Flash {
     /// Gives up the destination, full or not.
     pub fn close_destination(&self, broom: &mut BroomSeat)
         requires broom { IsBroomOf self.now broom.old }
-        requires settled { (o : OpenBlock) × ((own_blocks broom.old).destination ≡ Some o) × CanClose (broom_view broom.old) (owned_of o) × (o.block < blocks_of (geometry_of self.now)) }
+        requires settled { CanGiveUp (geometry_of self.now) (broom_view broom.old) (own_blocks broom.old).destination }
         ensures told { (o : OpenBlock) → (own_blocks broom.old).destination ≡ Some o → broom_view broom.new ≡ left_closed (broom_view broom.old) o }
         ensures blocks { own_blocks broom.new ≡ record (own_blocks broom.old) { destination = None } }
         ensures broom { IsBroomOf self.now broom.new }

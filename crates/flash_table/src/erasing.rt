@@ -1,11 +1,11 @@
 //! The steps by which a broom erases a block, one atomic operation each.
-ghost use Rattle.std.specs.Prelude.{◌≡◌, ◌+◌, ◌<◌, MatchBool, Some, None};
+ghost use Rattle.std.specs.Prelude.{◌≡◌, ◌+◌, ◌<◌, Some, None};
 ghost use Rattle.geometry.specs.Geometry.{blocks_of};
 ghost use Rattle.flash_rule.specs.Views.{with_owned};
 ghost use Rattle.flash_table.specs.Owning.{owned_of};
 ghost use Rattle.flash_table.specs.GivingUp.{left_free, left_retired};
 ghost use Rattle.flash_table.specs.Flash.{IsBroomOf, broom_view, own_blocks, geometry_of, device};
-ghost use Rattle.flash_table.specs.Erasing.{IsUnread, NowErases, FoundBusy, Erases, CanLiveOn, IsLastErase, words_in_block};
+ghost use Rattle.flash_table.specs.Erasing.{IsUnread, IsErasing, CanLiveOn, IsLastErase, words_in_block, CondemnTold};
 ghost use Rattle.flash_table.specs.declared.broom_seat.ReclaimedBlock.{ReclaimedBlock};
 ghost use Rattle.flash_table.specs.declared.broom_seat.Reclaiming.TheVariants as reclaiming;
 
@@ -22,7 +22,7 @@ impl Flash {
         requires rested { (own_blocks broom.old).reclaiming ≡ reclaiming.Nothing }
         requires block { block < blocks_of (geometry_of self.now) }
         requires expected { IsUnread (broom_view broom.old) block expected }
-        ensures told { MatchBool result (NowErases (broom_view broom.old) (own_blocks broom.old) block expected (broom_view broom.new) (own_blocks broom.new)) (FoundBusy (broom_view broom.old) (own_blocks broom.old) block (broom_view broom.new) (own_blocks broom.new)) }
+        ensures told { CondemnTold broom.old block expected result broom.new }
         ensures broom { IsBroomOf self.now broom.new }
     {
         let word = pin_at(&self.geometry, block);
@@ -45,7 +45,7 @@ impl Flash {
     /// Sets word `i` of the block that the broom erases to all ones; the words before it are wiped. A page's stamp stands behind its data words.
     pub fn wipe(&self, broom: &mut BroomSeat, i: u32)
         requires broom { IsBroomOf self.now broom.old }
-        requires erasing { (o : ReclaimedBlock) × Erases self.now broom.old o }
+        requires erasing { (o : ReclaimedBlock) × IsErasing self.now broom.old o }
         requires next { i ≡ (broom_view broom.old).wiped }
         requires word { i < words_in_block (device self.now) }
         ensures told { broom_view broom.new ≡ record (broom_view broom.old) { wiped = i + 1 } }

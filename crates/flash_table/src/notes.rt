@@ -1,10 +1,11 @@
 //! What two passes have seen is tied by notes: one lends a note, the other takes it in, and gives one back.
-ghost use Rattle.std.specs.Prelude.{◌≡◌, [], true, Some, None};
+ghost use Rattle.std.specs.Prelude.{◌≡◌, true, Some, None};
 ghost use Rattle.flash_rule.specs.declared.facts.Name.{Name};
 ghost use Rattle.flash_rule.specs.declared.carried.Carried.{Carried};
 ghost use Rattle.flash_rule.specs.declared.facts.Role.TheVariants as role;
 ghost use Rattle.flash_rule.specs.Seats.{lender, lent_note, host_of, giver, given_note, home};
 ghost use Rattle.flash_table.specs.Flash.{IsPassOf, IsNoteOf, view_of, note_view, opened_of};
+ghost use Rattle.flash_table.specs.Steps.{IsBack};
 
 use crate::flash::Flash;
 use crate::pass::{Note, Pass};
@@ -56,7 +57,7 @@ impl Flash {
     pub fn come_home(&self, pass: &mut Pass, note: Note)
         requires pass { IsPassOf self.now pass.old }
         requires note { IsNoteOf self.now note }
-        requires given { (n : Name) × (c : Carried) × ((view_of pass.old).role ≡ role.Player n) × ((note_view note).guest ≡ Some n) × ((note_view note).copy ≡ Some c) × (¬ ((view_of pass.old).role ≡ role.Player c.of)) }
+        requires given { IsBack (view_of pass.old) (note_view note) }
         ensures told { view_of pass.new ≡ home (view_of pass.old) (note_view note) }
         ensures pass { IsPassOf self.now pass.new }
         ensures opened { opened_of pass.new ≡ opened_of pass.old }

@@ -1,10 +1,11 @@
 ghost use Rattle.std.specs.Prelude.{◌≡◌, ℕ, ◌<◌, IfOk, Some, None, slice_get, length};
 ghost use Rattle.geometry.specs.Geometry.{numbers_of, brooms_of, hosts_of};
 ghost use Rattle.flash_rule.specs.Seats.{opening_words};
-ghost use Rattle.flash_table.specs.Flash.{IsPassOf, IsBroomOf, first_view, first_broom, first_blocks, view_of, broom_view, geometry_of, opened_of, own_blocks, device};
+ghost use Rattle.flash_table.specs.Flash.{geometry_of, device};
 ghost use Rattle.flash_table.specs.declared.pass.Pass.{Pass};
 ghost use Rattle.flash_table.specs.declared.broom_seat.BroomSeat.{BroomSeat};
 ghost use Rattle.flash_table.specs.declared.broom_seat.Reclaiming.TheVariants as reclaiming;
+ghost use Rattle.flash_table.specs.Steps.{IsNewBroom, IsNewPass};
 
 use crate::broom_seat::{BroomBlocks, BroomSeat, Reclaiming};
 use crate::flash::{Flash, SharedTable};
@@ -52,8 +53,8 @@ impl Flash {
     ) -> Result<(Flash, Vec<Pass>, Vec<BroomSeat>), AllocError>
         ensures geometry { IfOk result (λ r. geometry_of r.0 ≡ geometry.now) }
         ensures count { IfOk result (λ r. (length r.1.items ≡ hosts_of geometry.now) × (length r.2.items ≡ brooms_of geometry.now)) }
-        ensures passes { IfOk result (λ r. (t : ℕ) (p : Pass) → slice_get r.1.items t ≡ Some p → IsPassOf r.0 p × (view_of p ≡ first_view (device r.0) t) × (opened_of p ≡ None)) }
-        ensures brooms { IfOk result (λ r. (i : ℕ) (b : BroomSeat) → slice_get r.2.items i ≡ Some b → IsBroomOf r.0 b × (broom_view b ≡ first_broom (device r.0) i) × (own_blocks b ≡ first_blocks (device r.0) i)) }
+        ensures passes { IfOk result (λ r. (t : ℕ) (p : Pass) → slice_get r.1.items t ≡ Some p → IsNewPass r.0 t p) }
+        ensures brooms { IfOk result (λ r. (i : ℕ) (b : BroomSeat) → slice_get r.2.items i ≡ Some b → IsNewBroom r.0 i b) }
     {
         let words = opening(alloc, geometry)?;
         let (table, mut dealer): (SharedTable, _) = Table::of_words(alloc, &words, geometry)?;

@@ -2,17 +2,16 @@
 ghost use Rattle.std.specs.Prelude.{◌≡◌, ℕ, ◌<◌, List, MatchBool, Some};
 ghost use Rattle.geometry.specs.Geometry.{numbers_of, blocks_of, pages_of, words_of};
 ghost use Rattle.geometry.specs.TableOrder.{page_index};
-ghost use Rattle.geometry.specs.PinWords.{FitsPin, pin_word};
 ghost use Rattle.geometry.specs.declared.pin_word.PinWord.{PinWord};
 ghost use Rattle.flash_rule.specs.declared.facts.Pin.TheVariants as pin;
-ghost use Rattle.flash_rule.specs.World.{Intact, data_word, is_intact};
-ghost use Rattle.flash_rule.specs.Plays.{IsOn, Spared};
-ghost use Rattle.flash_rule.specs.declared.carried.Carried.{Carried};
-ghost use Rattle.flash_table.specs.Flash.{IsPassOf, Strayed, view_of, geometry_of, opened_of};
+ghost use Rattle.flash_rule.specs.World.{data_word, is_intact};
+ghost use Rattle.flash_rule.specs.Plays.{IsOn};
+ghost use Rattle.flash_table.specs.Flash.{IsPassOf, view_of, geometry_of, opened_of};
+ghost use Rattle.flash_table.specs.Steps.{DeniesIntact, IsSpared, PinTold, SaysIntact};
 
 use crate::flash::Flash;
 use crate::pass::Pass;
-use flash_rule::{AddReader, GetWord, TakeReader};
+use flash_rule::{AddReader, GetWord, RemoveReader};
 use geometry::{MapWord, PageAddr, Phase, PinWord, READER, page_word_at, pin_at};
 
 // Whether the written pages of a block can be read.
@@ -27,7 +26,7 @@ fn is_readable(phase: Phase) -> bool
 
 // Whether the word says that its block is intact in this generation.
 fn finds_intact(word: u64, generation: u32) -> bool
-    ensures { MatchBool result ((state : PinWord) × FitsPin state × (pin_word state ≡ word) × Intact state generation) ((state : PinWord) → FitsPin state → pin_word state ≡ word → ¬ Intact state generation) }
+    ensures { MatchBool result (SaysIntact word generation) (DeniesIntact word generation) }
 {
     let Some(state) = PinWord::unpack(word) else {
         return false;
@@ -41,7 +40,7 @@ impl Flash {
         requires pass { IsPassOf self.now pass.old }
         requires candidate { (value : List ℕ) × ((view_of pass.old).pin ≡ pin.Candidate page value) }
         requires block { page.block < blocks_of (geometry_of self.now) }
-        ensures told { (value : List ℕ) → (view_of pass.old).pin ≡ pin.Candidate page value → MatchBool result (view_of pass.new ≡ record (view_of pass.old) { pin = pin.Accepted page value }) (Strayed (view_of pass.old) page.block (view_of pass.new)) }
+        ensures told { PinTold (view_of pass.old) page result (view_of pass.new) }
         ensures pass { IsPassOf self.now pass.new }
         ensures opened { opened_of pass.new ≡ opened_of pass.old }
     {
@@ -65,7 +64,7 @@ impl Flash {
         let word = pin_at(&self.geometry, block);
         self.table
             .shared
-            .fetch_sub::<TakeReader>(&mut pass.seat, word, READER);
+            .fetch_sub::<RemoveReader>(&mut pass.seat, word, READER);
     }
 
     /// The place in the table at which a page's words begin.
@@ -90,7 +89,7 @@ impl Flash {
         requires start { start ≡ page_index (numbers_of (geometry_of self.now)) page.block page.page }
         requires word { i < words_of (geometry_of self.now) }
         ensures told { (value : List ℕ) → (view_of pass.old).pin ≡ pin.Accepted page value → result ≡ data_word value i }
-        ensures spared { (value : List ℕ) (c : Carried) → (view_of pass.old).pin ≡ pin.Accepted page value → (view_of pass.old).copy ≡ Some c → Spared (view_of pass.old) page c }
+        ensures spared { IsSpared (view_of pass.old) page }
         ensures same { view_of pass.new ≡ view_of pass.old }
         ensures pass { IsPassOf self.now pass.new }
         ensures opened { opened_of pass.new ≡ opened_of pass.old }

@@ -3,12 +3,12 @@ ghost use Rattle.std.specs.Prelude.{◌≡◌, ◌<◌, ◌≤◌, [], ◌∷◌
 ghost use Rattle.geometry.specs.Geometry.{blocks_of, pages_of, endurance_of};
 ghost use Rattle.geometry.specs.PinWords.{FitsPin, pin_word};
 ghost use Rattle.geometry.specs.declared.pin_word.Phase.TheVariants as phase;
-ghost use Rattle.flash_rule.specs.Views.{with_owned};
-ghost use Rattle.flash_rule.specs.BroomPlays.{Loaded, IsLastLoaded, owned_as};
+ghost use Rattle.flash_rule.specs.BroomPlays.{Loaded, IsLastLoaded};
 ghost use Rattle.flash_table.specs.GivingUp.{left_drained};
 ghost use Rattle.flash_table.specs.Flash.{IsBroomOf, broom_view, own_blocks, geometry_of};
 ghost use Rattle.flash_table.specs.declared.broom_seat.ReclaimedBlock.{ReclaimedBlock};
 ghost use Rattle.flash_table.specs.declared.broom_seat.Reclaiming.TheVariants as reclaiming;
+ghost use Rattle.flash_table.specs.Steps.{IsClaimed, IsCleared, NowDrains};
 
 use crate::broom_seat::{BroomSeat, ReclaimedBlock, Reclaiming};
 use crate::flash::Flash;
@@ -41,10 +41,9 @@ impl Flash {
         requires state { FitsPin state × (state.phase ≡ phase.Closed) }
         requires loaded { IsLastLoaded (broom_view broom.old) block (pin_word state) }
         requires at_rest { (own_blocks broom.old).reclaiming ≡ reclaiming.Nothing }
-        ensures told { MatchBool result (broom_view broom.new ≡ record (broom_view broom.old) { owns = with_owned (owned_as block state phase.Victim) (broom_view broom.old).owns; cleared = 0 })
+        ensures told { MatchBool result (IsClaimed (broom_view broom.old) block state (broom_view broom.new))
             (broom_view broom.new ≡ record (broom_view broom.old) { lost = (broom_view broom.old).lost ++ block ∷ [] }) }
-        ensures blocks { MatchBool result (own_blocks broom.new ≡ record (own_blocks broom.old) { reclaiming = reclaiming.Draining (record { block = block; generation = state.generation; written = state.written }) })
-            (own_blocks broom.new ≡ own_blocks broom.old) }
+        ensures blocks { MatchBool result (NowDrains (own_blocks broom.old) block state (own_blocks broom.new)) (own_blocks broom.new ≡ own_blocks broom.old) }
         ensures broom { IsBroomOf self.now broom.new }
     {
         let word = pin_at(&self.geometry, block);
@@ -67,7 +66,7 @@ impl Flash {
     /// Gives up the victim, all of whose counted pages are dead.
     pub fn drain(&self, broom: &mut BroomSeat)
         requires broom { IsBroomOf self.now broom.old }
-        requires cleared { (o : ReclaimedBlock) × ((own_blocks broom.old).reclaiming ≡ reclaiming.Draining o) × ((o.block < blocks_of (geometry_of self.now)) × (o.written ≤ (broom_view broom.old).cleared)) }
+        requires cleared { IsCleared (geometry_of self.now) (broom_view broom.old) (own_blocks broom.old) }
         ensures told { (o : ReclaimedBlock) → (own_blocks broom.old).reclaiming ≡ reclaiming.Draining o → broom_view broom.new ≡ left_drained (broom_view broom.old) o }
         ensures blocks { own_blocks broom.new ≡ record (own_blocks broom.old) { reclaiming = reclaiming.Nothing } }
         ensures broom { IsBroomOf self.now broom.new }

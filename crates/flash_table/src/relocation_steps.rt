@@ -1,15 +1,12 @@
 //! The steps by which a broom looks at sectors and copies live pages out of its victim, one atomic operation each.
-ghost use Rattle.std.specs.Prelude.{◌≡◌, ℕ, ◌<◌, List, MatchBool, IfSome, Some};
+ghost use Rattle.std.specs.Prelude.{◌≡◌, ℕ, ◌<◌, List, IfSome, Some};
 ghost use Rattle.geometry.specs.Geometry.{blocks_of, pages_of, words_of, sectors_of};
-ghost use Rattle.geometry.specs.MapWords.{map_word, FitsMap};
-ghost use Rattle.geometry.specs.declared.pin_word.Phase.TheVariants as phase;
+ghost use Rattle.geometry.specs.MapWords.{FitsMap};
 ghost use Rattle.flash_rule.specs.declared.facts.Source.{Source};
 ghost use Rattle.flash_rule.specs.World.{sector_word, data_word};
-ghost use Rattle.flash_rule.specs.BroomPlays.{Named, GotStamp, CanMove, Moved};
-ghost use Rattle.flash_table.specs.Owning.{reclaimed_as};
+ghost use Rattle.flash_rule.specs.BroomPlays.{Named, CanMove};
 ghost use Rattle.flash_table.specs.Flash.{IsBroomOf, broom_view, own_blocks, geometry_of};
-ghost use Rattle.flash_table.specs.declared.broom_seat.ReclaimedBlock.{ReclaimedBlock};
-ghost use Rattle.flash_table.specs.declared.broom_seat.Reclaiming.TheVariants as reclaiming;
+ghost use Rattle.flash_table.specs.Steps.{IsOfVictim, MoveTold, StampTold};
 
 use crate::broom_seat::{BroomSeat, Reclaiming};
 use crate::flash::Flash;
@@ -36,10 +33,10 @@ impl Flash {
     /// The stamp of the victim's first page that isn't known to be dead.
     pub fn get_stamp(&self, broom: &mut BroomSeat, page: u32) -> u64
         requires broom { IsBroomOf self.now broom.old }
-        requires next { (o : ReclaimedBlock) × ((own_blocks broom.old).reclaiming ≡ reclaiming.Draining o) × ((o.block < blocks_of (geometry_of self.now)) × (page < o.written)) }
+        requires next { IsOfVictim (geometry_of self.now) (own_blocks broom.old) page }
         requires cleared { page ≡ (broom_view broom.old).cleared }
         requires page { page < pages_of (geometry_of self.now) }
-        ensures told { (o : ReclaimedBlock) → (own_blocks broom.old).reclaiming ≡ reclaiming.Draining o → GotStamp (broom_view broom.old) (reclaimed_as phase.Victim o) result (broom_view broom.new) }
+        ensures told { StampTold (broom_view broom.old) (own_blocks broom.old) result (broom_view broom.new) }
         ensures broom { IsBroomOf self.now broom.new }
         ensures blocks { own_blocks broom.new ≡ own_blocks broom.old }
     {
@@ -80,7 +77,7 @@ impl Flash {
         requires sector { sector < sectors_of (geometry_of self.now) }
         requires fits { FitsMap from × FitsMap to }
         requires live { (x : Source) × CanMove (broom_view broom.old) x to × ((x.page ≡ from) × (x.stamp ≡ sector)) }
-        ensures told { (x : Source) → (broom_view broom.old).source ≡ Some x → (n : ℕ) × Moved (broom_view broom.old) x n (broom_view broom.new) × MatchBool result (n ≡ map_word x.page) (¬ (n ≡ map_word x.page)) }
+        ensures told { MoveTold (broom_view broom.old) result (broom_view broom.new) }
         ensures broom { IsBroomOf self.now broom.new }
         ensures blocks { own_blocks broom.new ≡ own_blocks broom.old }
     {

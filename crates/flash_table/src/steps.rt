@@ -1,21 +1,19 @@
 //! The steps of a pass, one atomic operation each.
-ghost use Rattle.std.specs.Prelude.{◌≡◌, ℕ, ◌+◌, ◌<◌, ◌≤◌, List, [], ◌∷◌, ◌++◌, true, MatchBool, IfSome, IfNone, length, Some, None};
+ghost use Rattle.std.specs.Prelude.{◌≡◌, ℕ, ◌+◌, ◌<◌, List, [], ◌∷◌, ◌++◌, true, IfSome, IfNone, Some, None};
 ghost use Rattle.geometry.specs.PinWords.{FitsPin, pin_word};
 ghost use Rattle.geometry.specs.declared.pin_word.PinWord.{PinWord};
 ghost use Rattle.geometry.specs.declared.pin_word.Phase.TheVariants as phase;
-ghost use Rattle.geometry.specs.Geometry.{sectors_of, blocks_of, pages_of, words_of};
+ghost use Rattle.geometry.specs.Geometry.{sectors_of, blocks_of};
 ghost use Rattle.geometry.specs.MapWords.{FitsMap};
 ghost use Rattle.geometry.specs.History.{Write, WriteNew, Trim};
-ghost use Rattle.flash_rule.specs.declared.facts.Name.TheVariants as name;
-ghost use Rattle.flash_rule.specs.declared.facts.Role.TheVariants as role;
-ghost use Rattle.flash_rule.specs.declared.facts.Pin.TheVariants as pin;
 ghost use Rattle.flash_rule.specs.declared.facts.Work.{Work};
-ghost use Rattle.flash_rule.specs.World.{sector_word, data_word, is_intact};
-ghost use Rattle.flash_rule.specs.Plays.{Looked, Called, CanPlace, CanPut, CanCount, CanClose, IsOn, words_in, next_page, is_unpinned};
+ghost use Rattle.flash_rule.specs.World.{sector_word};
+ghost use Rattle.flash_rule.specs.Plays.{Looked, CanPlace, CanCount, is_unpinned};
 ghost use Rattle.flash_table.specs.Owning.{owned_of};
 ghost use Rattle.flash_table.specs.GivingUp.{closed_pass};
-ghost use Rattle.flash_table.specs.Flash.{IsPassOf, Taken, Denied, view_of, geometry_of, opened_of};
+ghost use Rattle.flash_table.specs.Flash.{IsPassOf, view_of, geometry_of, opened_of};
 ghost use Rattle.flash_table.specs.declared.pass.OpenBlock.{OpenBlock};
+ghost use Rattle.flash_table.specs.Steps.{CanGiveUp, HasCalled, HasNumber, HasPut, IsFilled, IsNextWord, TakeTold, PlaceTold};
 
 use crate::flash::Flash;
 use crate::pass::{OpenBlock, Pass};
@@ -74,7 +72,7 @@ impl Flash {
         requires sector { sector < sectors_of (geometry_of self.now) }
         requires page { FitsMap page }
         requires counted { (value : List ℕ) × CanPlace (view_of pass.old) sector page value }
-        ensures told { (t : ℕ) (value : List ℕ) → (view_of pass.old).role ≡ role.Player (name.Pass t) → CanPlace (view_of pass.old) sector page value → Called (view_of pass.old) (Write t sector value) sector result (view_of pass.new) }
+        ensures told { PlaceTold (λ t value. Write t sector value) pass.old sector page result pass.new }
         ensures pass { IsPassOf self.now pass.new }
         ensures opened { opened_of pass.new ≡ opened_of pass.old }
     {
@@ -92,7 +90,7 @@ impl Flash {
         requires sector { sector < sectors_of (geometry_of self.now) }
         requires page { FitsMap page }
         requires counted { (value : List ℕ) × CanPlace (view_of pass.old) sector page value }
-        ensures told { (t : ℕ) (value : List ℕ) → (view_of pass.old).role ≡ role.Player (name.Pass t) → CanPlace (view_of pass.old) sector page value → Called (view_of pass.old) (WriteNew t sector value) sector result (view_of pass.new) }
+        ensures told { PlaceTold (λ t value. WriteNew t sector value) pass.old sector page result pass.new }
         ensures pass { IsPassOf self.now pass.new }
         ensures opened { opened_of pass.new ≡ opened_of pass.old }
     {
@@ -108,7 +106,7 @@ impl Flash {
     pub fn place_trim(&self, pass: &mut Pass, sector: u32) -> Was
         requires pass { IsPassOf self.now pass.old }
         requires sector { sector < sectors_of (geometry_of self.now) }
-        ensures told { (t : ℕ) → (view_of pass.old).role ≡ role.Player (name.Pass t) → Called (view_of pass.old) (Trim t sector) sector result (view_of pass.new) }
+        ensures told { (t : ℕ) → HasNumber t pass.old → HasCalled pass.old (Trim t sector) sector result pass.new }
         ensures pass { IsPassOf self.now pass.new }
         ensures opened { opened_of pass.new ≡ opened_of pass.old }
     {
@@ -124,7 +122,7 @@ impl Flash {
         requires pass { IsPassOf self.now pass.old }
         requires nothing_open { opened_of pass.old ≡ None }
         requires block { block < blocks_of (geometry_of self.now) }
-        ensures told { MatchBool result (Taken (view_of pass.old) block (view_of pass.new) (opened_of pass.new)) (Denied (view_of pass.old) block (view_of pass.new) (opened_of pass.new)) }
+        ensures told { TakeTold (view_of pass.old) block result (view_of pass.new) (opened_of pass.new) }
         ensures pass { IsPassOf self.now pass.new }
     {
         let word = pin_at(&self.geometry, block);
@@ -148,8 +146,8 @@ impl Flash {
     /// Puts word `i` of the first page not written of the open block; after the data words comes the stamp.
     pub fn put_word(&self, pass: &mut Pass, i: u32, word: u64)
         requires pass { IsPassOf self.now pass.old }
-        requires next { (o : OpenBlock) × (opened_of pass.old ≡ Some o) × CanPut (view_of pass.old) (owned_of o) × (i ≡ length (words_in (view_of pass.old).work (owned_of o))) × (o.block < blocks_of (geometry_of self.now)) }
-        ensures told { (o : OpenBlock) → opened_of pass.old ≡ Some o → view_of pass.new ≡ record (view_of pass.old) { work = Some (record { page = next_page (owned_of o); words = words_in (view_of pass.old).work (owned_of o) ++ word ∷ [] }) } }
+        requires next { IsNextWord (geometry_of self.now) (view_of pass.old) (opened_of pass.old) i }
+        ensures told { HasPut (view_of pass.old) (opened_of pass.old) word (view_of pass.new) }
         ensures pass { IsPassOf self.now pass.new }
         ensures opened { opened_of pass.new ≡ opened_of pass.old }
     {
@@ -169,7 +167,7 @@ impl Flash {
     /// Counts the page that was filled: from now on it is programmed.
     pub fn count(&self, pass: &mut Pass)
         requires pass { IsPassOf self.now pass.old }
-        requires filled { (o : OpenBlock) × (x : Work) × (opened_of pass.old ≡ Some o) × CanCount (view_of pass.old) (owned_of o) x × (o.written < pages_of (geometry_of self.now)) × (o.block < blocks_of (geometry_of self.now)) }
+        requires filled { IsFilled (geometry_of self.now) (view_of pass.old) (opened_of pass.old) }
         ensures told { (o : OpenBlock) (x : Work) → opened_of pass.old ≡ Some o → CanCount (view_of pass.old) (owned_of o) x
             → view_of pass.new ≡ record (view_of pass.old) { programs = (view_of pass.old).programs ++ x.page ∷ []; owns = owned_of (record o { written = o.written + 1 }) ∷ [] } }
         ensures opened { (o : OpenBlock) → opened_of pass.old ≡ Some o → opened_of pass.new ≡ Some (record o { written = o.written + 1 }) }
@@ -192,7 +190,7 @@ impl Flash {
     /// Gives up the open block, full or not.
     pub fn close(&self, pass: &mut Pass)
         requires pass { IsPassOf self.now pass.old }
-        requires settled { (o : OpenBlock) × (opened_of pass.old ≡ Some o) × CanClose (view_of pass.old) (owned_of o) × (o.block < blocks_of (geometry_of self.now)) }
+        requires settled { CanGiveUp (geometry_of self.now) (view_of pass.old) (opened_of pass.old) }
         ensures told { view_of pass.new ≡ closed_pass (view_of pass.old) (opened_of pass.old) }
         ensures opened { opened_of pass.new ≡ None }
         ensures pass { IsPassOf self.now pass.new }

@@ -1,7 +1,8 @@
 -- The numbers of a `Geometry`, which other crates' clauses name by these functions.
 use Rattle.std.specs.Prelude.{ℕ, ◌*◌, ◌/◌}
+use Rattle.geometry.specs.declared.geometry.DeviceNumbers.{DeviceNumbers}
 use Rattle.geometry.specs.declared.geometry.Geometry.{Geometry}
-use Rattle.geometry.specs.Limits.{Numbers}
+use Rattle.geometry.specs.Limits.{numbers, Numbers}
 
 -- how many LUNs a device has
 abbrev pub luns_of : Geometry → ℕ
@@ -46,3 +47,7 @@ page_bytes_of g = 8 * g.words
 -- the LUN in which a block lies: the blocks are dealt to the LUNs in equal runs
 abbrev pub lun_of : Geometry → ℕ → ℕ
 lun_of g block = block / (g.blocks / g.luns)
+
+-- the numbers that are given by their names
+abbrev pub numbers_in : DeviceNumbers → Numbers
+numbers_in n = numbers n.luns n.blocks n.pages n.words n.sectors n.endurance n.hosts n.brooms

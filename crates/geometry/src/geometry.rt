@@ -6,6 +6,27 @@ use crate::limits::{
     MAX_TABLE_WORDS, MAX_WORDS, MIN_BLOCKS, WORD_BYTES,
 };
 
+/// The numbers that make a device, by their names. A device without hosts is for one thread, and has no brooms.
+#[derive(Clone, Copy, Debug, PartialEq, Eq)]
+pub struct DeviceNumbers {
+    /// The LUNs.
+    pub luns: u32,
+    /// The blocks over all LUNs.
+    pub blocks: u32,
+    /// The pages of a block.
+    pub pages: u32,
+    /// The 64-bit words of a page.
+    pub words: u32,
+    /// The sectors, of one page each.
+    pub sectors: u32,
+    /// The erase cycles of a block.
+    pub endurance: u32,
+    /// The host passes.
+    pub hosts: u32,
+    /// The brooms.
+    pub brooms: u32,
+}
+
 /// The numbers of a device, all within their limits.
 #[derive(Clone, Copy, Debug, PartialEq, Eq)]
 pub struct Geometry {
@@ -23,7 +44,7 @@ pub struct Geometry {
 ghost use Rattle.geometry.specs.Limits.{IsWithinLimits, first_fault, numbers, table_words_of, has_room_of};
 
 impl Geometry {
-    ghost use Rattle.geometry.specs.Geometry.{numbers_of, luns_of, blocks_of, pages_of, words_of, sectors_of, endurance_of, hosts_of, brooms_of, page_bytes_of, lun_of};
+    ghost use Rattle.geometry.specs.Geometry.{numbers_in, numbers_of, luns_of, blocks_of, pages_of, words_of, sectors_of, endurance_of, hosts_of, brooms_of, page_bytes_of, lun_of};
 
     /// A device of these numbers: LUNs, blocks in all, pages of a block, 64-bit words of a page,
     /// sectors, erase cycles of a block, host passes and brooms.
@@ -79,6 +100,24 @@ impl Geometry {
             hosts,
             brooms,
         })
+    }
+
+    /// A device of these numbers.
+    pub fn of(given: DeviceNumbers) -> Result<Geometry, GeometryFault>
+        ensures given { IfOk result (λ g. numbers_of g ≡ numbers_in given) }
+        ensures sound { IfOk result (λ g. first_fault (numbers_in given) ≡ None) }
+        ensures first { IfErr result (λ fault. first_fault (numbers_in given) ≡ Some fault) }
+    {
+        Geometry::new(
+            given.luns,
+            given.blocks,
+            given.pages,
+            given.words,
+            given.sectors,
+            given.endurance,
+            given.hosts,
+            given.brooms,
+        )
     }
 
     /// The LUNs.

@@ -15,7 +15,7 @@ mod victim;
 
 pub use answer::{Got, Was};
 pub use fault::GeometryFault;
-pub use geometry::Geometry;
+pub use geometry::{DeviceNumbers, Geometry};
 pub use limits::{
     LONE_WORKERS, MAX_BLOCKS, MAX_BROOMS, MAX_ENDURANCE, MAX_HOSTS, MAX_LUNS, MAX_PAGES,
     MAX_SECTORS, MAX_TABLE_WORDS, MAX_WORDS, MIN_BLOCKS, WORD_BYTES,

@@ -7,6 +7,11 @@ use Rattle.flash_rule.specs.declared.view.View.{View}
 use Rattle.flash_rule.specs.Plays.{CanPlace, next_page}
 use Rattle.flash_table.specs.declared.pass.OpenBlock.{OpenBlock}
 use Rattle.flash_table.specs.Owning.{owned_of, closed_as}
+use Rattle.geometry.specs.Geometry.{blocks_of, pages_of}
+use Rattle.geometry.specs.declared.geometry.Geometry.{Geometry}
+use Rattle.flash_table.specs.declared.pass.Pass.{Pass}
+use Rattle.flash_table.specs.Flash.{opened_of, view_of}
+use Rattle.host.specs.Told.{Refused}
 
 -- The lowest free block was taken: it is open, with nothing written, and the blocks below it were tried in order and found taken
 pub record TookLowest (v : View) (w : View) (opened : Option OpenBlock) : Type 0 where
@@ -28,3 +33,15 @@ pub record Filled (v : View) (o : OpenBlock) (s : ℕ) (value : List ℕ) (page 
 pub record ClosedIfFull (pages : ℕ) (v : View) (o : OpenBlock) (w : View) (opened : Option OpenBlock) : Type 0 where
   pub kept : o.written < pages → (w ≡ v) × (opened ≡ Some o)
   pub full : o.written ≡ pages → (w ≡ record v { owns = []; work = None; ceded = v.ceded ++ closed_as o ∷ [] }) × (opened ≡ None)
+
+-- no block was free, and none is open
+abbrev pub TookNone : Pass → Pass → Type 0
+TookNone old new = Refused (view_of old) (view_of new) × (opened_of new ≡ None)
+
+-- an open block of the device has a page left
+abbrev pub HasRoom : Geometry → Option OpenBlock → Type 0
+HasRoom geo opened = (o : OpenBlock) × (opened ≡ Some o) × (o.block < blocks_of geo) × (o.written < pages_of geo)
+
+-- the pass's open block is closed if it is full
+abbrev pub IsClosedIfFull : Geometry → Pass → OpenBlock → Pass → Type 0
+IsClosedIfFull geo old o new = ClosedIfFull (pages_of geo) (view_of old) o (view_of new) (opened_of new)

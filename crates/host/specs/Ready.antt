@@ -1,6 +1,6 @@
 -- A pass between two calls of its host.
 use Rattle.std.specs.Prelude.{◌≡◌, ℕ, ◌<◌, List, true, None, Some}
-use Rattle.geometry.specs.Geometry.{blocks_of, pages_of, endurance_of}
+use Rattle.geometry.specs.Geometry.{blocks_of, pages_of, endurance_of, sectors_of}
 use Rattle.geometry.specs.declared.map_word.MapWord.{MapWord}
 use Rattle.flash_rule.specs.declared.facts.Pin.TheVariants.{Accepted}
 use Rattle.flash_rule.specs.declared.facts.Name.TheVariants.{Pass as APass}
@@ -12,6 +12,7 @@ use Rattle.flash_table.specs.declared.flash.Flash.{Flash}
 use Rattle.flash_table.specs.declared.pass.Pass.{Pass}
 use Rattle.flash_table.specs.declared.pass.OpenBlock.{OpenBlock}
 use Rattle.flash_table.specs.Flash.{IsPassOf, device, view_of, opened_of, geometry_of}
+use Rattle.geometry.specs.History.{held}
 
 -- The pass is of this device. The block that it has open, if any, has a page left, in a generation below the endurance; no page of it
 -- is half written, and without an open block there is none at all. Each call that it saw is of a host, its own ones are all the calls that
@@ -38,3 +39,7 @@ pub record IsPinned (f : Flash) (p : Pass) (at : MapWord) (value : List ℕ) : T
   pub whole : IsValue (device f) value
   pub block : at.block < blocks_of (geometry_of f)
   pub page : at.page < pages_of (geometry_of f)
+
+-- this page is pinned, and holds what the sector held when it was looked at last
+abbrev pub HasFound : Flash → Pass → ℕ → MapWord → Type 0
+HasFound f p sector page = (value : List ℕ) × IsPinned f p page value × (held (sectors_of (geometry_of f)) (view_of p).seen sector ≡ Some value)

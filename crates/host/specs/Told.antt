@@ -1,5 +1,5 @@
 -- What the calls of a host tell of what its pass knows, before and after.
-use Rattle.std.specs.Prelude.{◌≡◌, ℕ, ◌+◌, ◌*◌, ◌<◌, ◌≤◌, List, [], ◌∷◌, ◌++◌, Option, None, Some, Result, Ok, Err}
+use Rattle.std.specs.Prelude.{◌≡◌, ℕ, ◌+◌, ◌*◌, ◌<◌, ◌≤◌, List, [], ◌∷◌, ◌++◌, Option, None, Some, Result, Ok, Err, Bool, MatchBool}
 use Rattle.std.specs.List.{range_with_len}
 use Rattle.geometry.specs.History.{Call, Write, WriteNew, was as was_at, Begins}
 use Rattle.geometry.specs.declared.answer.Was.{Was}
@@ -7,18 +7,23 @@ use Rattle.geometry.specs.declared.answer.Was.TheVariants as was
 use Rattle.geometry.specs.declared.map_word.MapWord.{MapWord}
 use Rattle.geometry.specs.declared.pin_word.Phase.TheVariants.{Open, Closed}
 use Rattle.flash_rule.specs.declared.facts.Owned.{Owned}
-use Rattle.flash_rule.specs.declared.facts.Pin.TheVariants.{Clear}
+use Rattle.flash_rule.specs.declared.facts.Pin.TheVariants.{Clear, Candidate}
 use Rattle.flash_rule.specs.declared.view.View.{View}
 use Rattle.flash_rule.specs.Views.{sum_of}
 use Rattle.flash_rule.specs.Plays.{Disjoint, Once, next_page}
 use Rattle.host.specs.declared.writing_new.NewFault.{NewFault}
 use Rattle.host.specs.declared.writing_new.NewFault.TheVariants as fault
+use Rattle.flash_table.specs.Steps.{IsAccepted}
 
 -- A pin that came too late was given back: the ages that the pass knows have risen, within their bound
 pub record CameLate (v w : View) : Type 0 where
   pub changed : w ≡ record v { pin = Clear; known = w.known }
   pub rises : sum_of v.known < sum_of w.known
   pub bounded : sum_of w.known ≤ v.numbers.blocks * (2 * v.numbers.endurance)
+
+-- what a pin of the candidate tells by its answer
+abbrev pub PinnedInTime : View → MapWord → Bool → View → Type 0
+PinnedInTime v page result w = (value : List ℕ) → v.pin ≡ Candidate page value → MatchBool result (IsAccepted v page value w) (CameLate v w)
 
 -- The pass has looked so many times, at least once. Each look but the last one was followed by a block found to be older than the pass
 -- knew; so the ages that it knows have risen by at least one for each, and as they are bounded, so are the looks

@@ -1,13 +1,13 @@
 //! The search for a sector's page, with which reads and holds begin, and the reading of a pinned page.
-ghost use Rattle.std.specs.Prelude.{◌≡◌, ℕ, ◌<◌, List, MatchBool, IfSome, IfNone, None, Some, length};
+ghost use Rattle.std.specs.Prelude.{◌≡◌, ℕ, ◌<◌, List, IfSome, IfNone, None, Some, length};
 ghost use Rattle.geometry.specs.Geometry.{blocks_of, sectors_of, page_bytes_of};
 ghost use Rattle.geometry.specs.History.{held};
 ghost use Rattle.flash_rule.specs.declared.carried.Carried.{Carried};
 ghost use Rattle.flash_rule.specs.declared.facts.Pin.TheVariants as pin;
 ghost use Rattle.flash_rule.specs.Plays.{Spared};
 ghost use Rattle.flash_table.specs.Flash.{IsPassOf, view_of, opened_of, geometry_of};
-ghost use Rattle.host.specs.Ready.{IsReady, IsPinned};
-ghost use Rattle.host.specs.Told.{Searched, CameLate};
+ghost use Rattle.host.specs.Ready.{IsReady, IsPinned, HasFound};
+ghost use Rattle.host.specs.Told.{Searched, PinnedInTime};
 
 use flash_table::{Flash, Gate, Pass, Point};
 use geometry::{MapWord, put_word};
@@ -24,7 +24,7 @@ fn pin_in_time(flash: &Flash, pass: &mut Pass, page: MapWord) -> bool
     requires pass { IsPassOf flash.now pass.old }
     requires candidate { (value : List ℕ) × ((view_of pass.old).pin ≡ pin.Candidate page value) }
     requires block { page.block < blocks_of (geometry_of flash.now) }
-    ensures told { (value : List ℕ) → (view_of pass.old).pin ≡ pin.Candidate page value → MatchBool result (view_of pass.new ≡ record (view_of pass.old) { pin = pin.Accepted page value }) (CameLate (view_of pass.old) (view_of pass.new)) }
+    ensures told { PinnedInTime (view_of pass.old) page result (view_of pass.new) }
     ensures pass { IsPassOf flash.now pass.new }
     ensures opened { opened_of pass.new ≡ opened_of pass.old }
 {
@@ -40,7 +40,7 @@ pub(crate) fn search<G: Gate>(flash: &Flash, pass: &mut Pass, sector: u32, gate:
     requires pass { IsReady flash.now pass.old }
     requires sector { sector < sectors_of (geometry_of flash.now) }
     ensures told { Searched (view_of pass.old) result.tries (view_of pass.new) }
-    ensures found { IfSome result.page (λ page. (value : List ℕ) × IsPinned flash.now pass.new page value × (held (sectors_of (geometry_of flash.now)) (view_of pass.new).seen sector ≡ Some value)) }
+    ensures found { IfSome result.page (HasFound flash.now pass.new sector) }
     ensures empty { IfNone result.page (IsReady flash.now pass.new × (held (sectors_of (geometry_of flash.now)) (view_of pass.new).seen sector ≡ None)) }
     ensures opened { opened_of pass.new ≡ opened_of pass.old }
 {

@@ -1,15 +1,14 @@
 //! Writes and trims: a page is filled and counted, and then the sector's map word is swapped.
 ghost use Rattle.std.specs.Prelude.{◌≡◌, ℕ, ◌+◌, ◌<◌, length, None, Some, OnErr, IfOk, MatchBool};
-ghost use Rattle.geometry.specs.Geometry.{blocks_of, pages_of, sectors_of, page_bytes_of};
+ghost use Rattle.geometry.specs.Geometry.{blocks_of, sectors_of, page_bytes_of};
 ghost use Rattle.geometry.specs.History.{Trim};
-ghost use Rattle.flash_rule.specs.declared.facts.Name.TheVariants as name;
-ghost use Rattle.flash_rule.specs.declared.facts.Role.TheVariants as role;
-ghost use Rattle.flash_rule.specs.Plays.{Called, IsSettled};
+ghost use Rattle.flash_rule.specs.Plays.{IsSettled};
 ghost use Rattle.flash_table.specs.Flash.{IsPassOf, view_of, opened_of, geometry_of};
 ghost use Rattle.flash_table.specs.declared.pass.OpenBlock.{OpenBlock};
 ghost use Rattle.host.specs.Ready.{IsReady};
 ghost use Rattle.host.specs.Told.{Wrote, Refused};
-ghost use Rattle.host.specs.Filling.{TookLowest, Filled, ClosedIfFull};
+ghost use Rattle.host.specs.Filling.{TookLowest, Filled, HasRoom, IsClosedIfFull, TookNone};
+ghost use Rattle.flash_table.specs.Steps.{HasCalled, HasNumber};
 
 use flash_table::{Flash, Gate, NoGate, Pass, Point};
 use geometry::{MapWord, Was, word_at};
@@ -25,7 +24,7 @@ pub fn write(flash: &Flash, pass: &mut Pass, sector: u32, bytes: &[u8]) -> Resul
     requires pass { IsReady flash.now pass.old }
     requires sector { sector < sectors_of (geometry_of flash.now) }
     requires page { length bytes.now ≡ page_bytes_of (geometry_of flash.now) }
-    ensures wrote { IfOk result (λ was. (t : ℕ) → (view_of pass.old).role ≡ role.Player (name.Pass t) → Wrote (view_of pass.old) t sector bytes.now was (view_of pass.new)) }
+    ensures wrote { IfOk result (λ was. (t : ℕ) → HasNumber t pass.old → Wrote (view_of pass.old) t sector bytes.now was (view_of pass.new)) }
     ensures refused { OnErr result (Refused (view_of pass.old) (view_of pass.new)) }
     ensures pass { IsReady flash.now pass.new }
 {
@@ -43,7 +42,7 @@ pub fn write_gated<G: Gate>(
     requires pass { IsReady flash.now pass.old }
     requires sector { sector < sectors_of (geometry_of flash.now) }
     requires page { length bytes.now ≡ page_bytes_of (geometry_of flash.now) }
-    ensures wrote { IfOk result (λ was. (t : ℕ) → (view_of pass.old).role ≡ role.Player (name.Pass t) → Wrote (view_of pass.old) t sector bytes.now was (view_of pass.new)) }
+    ensures wrote { IfOk result (λ was. (t : ℕ) → HasNumber t pass.old → Wrote (view_of pass.old) t sector bytes.now was (view_of pass.new)) }
     ensures refused { OnErr result (Refused (view_of pass.old) (view_of pass.new)) }
     ensures pass { IsReady flash.now pass.new }
 {
@@ -61,7 +60,7 @@ pub fn write_gated<G: Gate>(
 pub fn trim(flash: &Flash, pass: &mut Pass, sector: u32) -> Was
     requires pass { IsReady flash.now pass.old }
     requires sector { sector < sectors_of (geometry_of flash.now) }
-    ensures told { (t : ℕ) → (view_of pass.old).role ≡ role.Player (name.Pass t) → Called (view_of pass.old) (Trim t sector) sector result (view_of pass.new) }
+    ensures told { (t : ℕ) → HasNumber t pass.old → HasCalled pass.old (Trim t sector) sector result pass.new }
     ensures pass { IsReady flash.now pass.new }
     ensures opened { opened_of pass.new ≡ opened_of pass.old }
 {
@@ -72,7 +71,7 @@ pub fn trim(flash: &Flash, pass: &mut Pass, sector: u32) -> Was
 pub(crate) fn take_lowest(flash: &Flash, pass: &mut Pass) -> bool
     requires pass { IsPassOf flash.now pass.old }
     requires nothing_open { opened_of pass.old ≡ None }
-    ensures told { MatchBool result (TookLowest (view_of pass.old) (view_of pass.new) (opened_of pass.new)) (Refused (view_of pass.old) (view_of pass.new) × (opened_of pass.new ≡ None)) }
+    ensures told { MatchBool result (TookLowest (view_of pass.old) (view_of pass.new) (opened_of pass.new)) (TookNone pass.old pass.new) }
     ensures pass { IsPassOf flash.now pass.new }
 {
     for block in 0..flash.geometry().blocks() {
@@ -86,7 +85,7 @@ pub(crate) fn take_lowest(flash: &Flash, pass: &mut Pass) -> bool
 // Puts the bytes and the sector's stamp into the next page of the open block, and counts the page.
 pub(crate) fn fill(flash: &Flash, pass: &mut Pass, sector: u32, bytes: &[u8]) -> MapWord
     requires pass { IsPassOf flash.now pass.old }
-    requires room { (o : OpenBlock) × (opened_of pass.old ≡ Some o) × (o.block < blocks_of (geometry_of flash.now)) × (o.written < pages_of (geometry_of flash.now)) }
+    requires room { HasRoom (geometry_of flash.now) (opened_of pass.old) }
     requires settled { IsSettled (view_of pass.old) }
     requires page { length bytes.now ≡ page_bytes_of (geometry_of flash.now) }
     ensures filled { (o : OpenBlock) → opened_of pass.old ≡ Some o → Filled (view_of pass.old) o sector bytes.now result (view_of pass.new) }
@@ -114,7 +113,7 @@ pub(crate) fn close_if_full(flash: &Flash, pass: &mut Pass)
     requires pass { IsPassOf flash.now pass.old }
     requires opened { (o : OpenBlock) × (opened_of pass.old ≡ Some o) × (o.block < blocks_of (geometry_of flash.now)) }
     requires settled { IsSettled (view_of pass.old) }
-    ensures told { (o : OpenBlock) → opened_of pass.old ≡ Some o → ClosedIfFull (pages_of (geometry_of flash.now)) (view_of pass.old) o (view_of pass.new) (opened_of pass.new) }
+    ensures told { (o : OpenBlock) → opened_of pass.old ≡ Some o → IsClosedIfFull (geometry_of flash.now) pass.old o pass.new }
     ensures pass { IsPassOf flash.now pass.new }
 {
     let Some(opened) = pass.opened() else {

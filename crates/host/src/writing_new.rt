@@ -1,12 +1,11 @@
 //! Writes of an empty sector: a page is filled and counted, and then the sector's map word is exchanged if it names no page.
 ghost use Rattle.std.specs.Prelude.{◌≡◌, ℕ, ◌<◌, Err, length, IfSome};
 ghost use Rattle.geometry.specs.Geometry.{sectors_of, page_bytes_of};
-ghost use Rattle.flash_rule.specs.declared.facts.Name.TheVariants as name;
-ghost use Rattle.flash_rule.specs.declared.facts.Role.TheVariants as role;
 ghost use Rattle.flash_table.specs.Flash.{view_of, geometry_of};
 ghost use Rattle.host.specs.Ready.{IsReady};
 ghost use Rattle.host.specs.declared.writing_new.NewFault.TheVariants as fault;
 ghost use Rattle.host.specs.Told.{WroteNew, Refused, was_found};
+ghost use Rattle.flash_table.specs.Steps.{HasNumber};
 
 use crate::writing::{close_if_full, fill, take_lowest};
 use flash_table::{Flash, Gate, NoGate, Pass, Point};
@@ -30,7 +29,7 @@ pub fn write_new(flash: &Flash, pass: &mut Pass, sector: u32, bytes: &[u8]) -> R
     requires pass { IsReady flash.now pass.old }
     requires sector { sector < sectors_of (geometry_of flash.now) }
     requires page { length bytes.now ≡ page_bytes_of (geometry_of flash.now) }
-    ensures wrote { IfSome (was_found result) (λ was. (t : ℕ) → (view_of pass.old).role ≡ role.Player (name.Pass t) → WroteNew (view_of pass.old) t sector bytes.now was (view_of pass.new)) }
+    ensures wrote { IfSome (was_found result) (λ was. (t : ℕ) → HasNumber t pass.old → WroteNew (view_of pass.old) t sector bytes.now was (view_of pass.new)) }
     ensures refused { result ≡ Err fault.NoBlock → Refused (view_of pass.old) (view_of pass.new) }
     ensures pass { IsReady flash.now pass.new }
 {
@@ -48,7 +47,7 @@ pub fn write_new_gated<G: Gate>(
     requires pass { IsReady flash.now pass.old }
     requires sector { sector < sectors_of (geometry_of flash.now) }
     requires page { length bytes.now ≡ page_bytes_of (geometry_of flash.now) }
-    ensures wrote { IfSome (was_found result) (λ was. (t : ℕ) → (view_of pass.old).role ≡ role.Player (name.Pass t) → WroteNew (view_of pass.old) t sector bytes.now was (view_of pass.new)) }
+    ensures wrote { IfSome (was_found result) (λ was. (t : ℕ) → HasNumber t pass.old → WroteNew (view_of pass.old) t sector bytes.now was (view_of pass.new)) }
     ensures refused { result ≡ Err fault.NoBlock → Refused (view_of pass.old) (view_of pass.new) }
     ensures pass { IsReady flash.now pass.new }
 {

@@ -9,8 +9,11 @@ use Rattle.flash_rule.specs.Views.{one_if}
 use Rattle.trace.specs.declared.commands.Op.{Op}
 use Rattle.lines.specs.declared.answer.Kind.{Kind}
 use Rattle.lines.specs.declared.answer.Kind.TheVariants as kind
-use Rattle.lines.specs.Lines.{calls_by, IsRight}
+use Rattle.lines.specs.Lines.{calls_by, IsRight, is_full}
 use Rattle.lines.specs.Playing.{one_done, times}
+use Rattle.flash_table.specs.declared.pass.Pass.{Pass}
+use Rattle.flash_table.specs.Flash.{view_of}
+use Rattle.flash_table.specs.Steps.{HasNumber}
 
 -- what a read found, as an answer
 abbrev pub kind_found : Got → Kind
@@ -49,3 +52,7 @@ pub record PlayedLine (t patience : ℕ) (v : View) (o : Op) (s : ℕ) (value : 
   pub kept : v.taken ≤ w.taken
   pub taken : w.taken ≤ v.taken + one_done o full
   pub denied : (b : ℕ) → b < v.numbers.blocks → times b v.denied + patience * one_if full ≤ times b w.denied
+
+-- the pass has played one line, answered so; it was turned away where the answer says full
+abbrev pub HasPlayedLine : ℕ → Pass → Op → ℕ → List ℕ → Kind → List ℕ → Pass → Type 0
+HasPlayedLine patience old o s value k page new = (t : ℕ) → HasNumber t old → PlayedLine t patience (view_of old) o s value k page (is_full k) (view_of new)

@@ -1,15 +1,13 @@
 ghost use Rattle.std.specs.Prelude.{◌≡◌, ◌<◌, ℕ, All, length};
 ghost use Rattle.geometry.specs.Geometry.{sectors_of, page_bytes_of};
-ghost use Rattle.flash_rule.specs.declared.facts.Name.TheVariants as name;
-ghost use Rattle.flash_rule.specs.declared.facts.Role.TheVariants as role;
 ghost use Rattle.flash_table.specs.Flash.{view_of, geometry_of};
 ghost use Rattle.host.specs.Ready.{IsReady};
 ghost use Rattle.trace.specs.declared.commands.Op.TheVariants as op;
 ghost use Rattle.volume.specs.Volume.{flash_of};
-ghost use Rattle.lines.specs.Lines.{is_full};
 ghost use Rattle.lines.specs.Playing.{Played};
 ghost use Rattle.playing.specs.Playable.{IsLine, HasPage, HasRoom, HaveRoom, lines_at};
-ghost use Rattle.playing.specs.Line.{PlayedLine, kind_found};
+ghost use Rattle.playing.specs.Line.{kind_found, HasPlayedLine};
+ghost use Rattle.flash_table.specs.Steps.{HasNumber};
 
 use flash_table::{Gate, Pass, Point};
 use geometry::Got;
@@ -40,7 +38,7 @@ fn write_patiently<G: Gate>(
     requires pass { IsReady (flash_of volume.now) pass.old }
     requires sector { sector < sectors_of (geometry_of (flash_of volume.now)) }
     requires page { length bytes.now ≡ page_bytes_of (geometry_of (flash_of volume.now)) }
-    ensures told { (t : ℕ) → (view_of pass.old).role ≡ role.Player (name.Pass t) → PlayedLine t patience (view_of pass.old) op.Write sector bytes.now result bytes.now (is_full result) (view_of pass.new) }
+    ensures told { HasPlayedLine patience pass.old op.Write sector bytes.now result bytes.now pass.new }
     ensures pass { IsReady (flash_of volume.now) pass.new }
 {
     for tried in 0..patience {
@@ -63,7 +61,7 @@ fn write_new_patiently<G: Gate>(
     requires pass { IsReady (flash_of volume.now) pass.old }
     requires sector { sector < sectors_of (geometry_of (flash_of volume.now)) }
     requires page { length bytes.now ≡ page_bytes_of (geometry_of (flash_of volume.now)) }
-    ensures told { (t : ℕ) → (view_of pass.old).role ≡ role.Player (name.Pass t) → PlayedLine t patience (view_of pass.old) op.New sector bytes.now result bytes.now (is_full result) (view_of pass.new) }
+    ensures told { HasPlayedLine patience pass.old op.New sector bytes.now result bytes.now pass.new }
     ensures pass { IsReady (flash_of volume.now) pass.new }
 {
     for refused in 0..patience {
@@ -88,7 +86,7 @@ fn play_line<G: Gate>(
     requires pass { IsReady (flash_of volume.now) pass.old }
     requires line { IsLine (geometry_of (flash_of volume.now)) line.now }
     requires page { length page.old ≡ page_bytes_of (geometry_of (flash_of volume.now)) }
-    ensures told { (t : ℕ) → (view_of pass.old).role ≡ role.Player (name.Pass t) → PlayedLine t patience (view_of pass.old) line.now.op line.now.sector line.now.page result page.new (is_full result) (view_of pass.new) }
+    ensures told { HasPlayedLine patience pass.old line.now.op line.now.sector line.now.page result page.new pass.new }
     ensures pass { IsReady (flash_of volume.now) pass.new }
 {
     match line.op {
@@ -120,7 +118,7 @@ pub fn play<G: Gate>(
     requires lines { All (IsLine (geometry_of (flash_of volume.now))) lines.now }
     requires count { length answers.old ≡ length lines.now }
     requires pages { All (HasPage (geometry_of (flash_of volume.now))) answers.old }
-    ensures told { (t : ℕ) → (view_of pass.old).role ≡ role.Player (name.Pass t) → Played t patience (view_of pass.old) lines.now answers.new (view_of pass.new) }
+    ensures told { (t : ℕ) → HasNumber t pass.old → Played t patience (view_of pass.old) lines.now answers.new (view_of pass.new) }
     ensures pages { All (HasPage (geometry_of (flash_of volume.now))) answers.new }
     ensures pass { IsReady (flash_of volume.now) pass.new }
 {
@@ -145,7 +143,7 @@ fn answer_line<G: Gate>(
     requires line { IsLine (geometry_of (flash_of volume.now)) line.now }
     requires buffer { length buffer.old ≡ page_bytes_of (geometry_of (flash_of volume.now)) }
     requires page { HasRoom (geometry_of (flash_of volume.now)) line.now answer.old }
-    ensures told { (t : ℕ) → (view_of pass.old).role ≡ role.Player (name.Pass t) → PlayedLine t patience (view_of pass.old) line.now.op line.now.sector line.now.page answer.new.kind answer.new.page.items (is_full answer.new.kind) (view_of pass.new) }
+    ensures told { HasPlayedLine patience pass.old line.now.op line.now.sector line.now.page answer.new.kind answer.new.page.items pass.new }
     ensures page { HasRoom (geometry_of (flash_of volume.now)) line.now answer.new }
     ensures pass { IsReady (flash_of volume.now) pass.new }
 {
@@ -176,7 +174,7 @@ pub fn play_at<G: Gate>(
     requires count { length answers.old ≡ length places.now }
     requires pages { HaveRoom (geometry_of (flash_of volume.now)) (lines_at commands.now places.now) answers.old }
     requires buffer { length buffer.old ≡ page_bytes_of (geometry_of (flash_of volume.now)) }
-    ensures told { (t : ℕ) → (view_of pass.old).role ≡ role.Player (name.Pass t) → Played t patience (view_of pass.old) (lines_at commands.now places.now) answers.new (view_of pass.new) }
+    ensures told { (t : ℕ) → HasNumber t pass.old → Played t patience (view_of pass.old) (lines_at commands.now places.now) answers.new (view_of pass.new) }
     ensures pages { HaveRoom (geometry_of (flash_of volume.now)) (lines_at commands.now places.now) answers.new }
     ensures pass { IsReady (flash_of volume.now) pass.new }
 {

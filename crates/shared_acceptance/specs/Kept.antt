@@ -4,9 +4,6 @@ use Rattle.std.proofs.Props.{props}
 use Rattle.flash_rule.specs.declared.facts.Pin.{Pin}
 use Rattle.flash_rule.specs.declared.facts.Pin.TheVariants as pin
 use Rattle.flash_table.specs.declared.flash.Flash.{Flash}
-use Rattle.flash_table.specs.declared.broom_seat.BroomSeat.{BroomSeat}
-use Rattle.broom.specs.Once.{number-prop, filed-prop}
-use Rattle.broom.specs.Ready.{IsRested}
 use Rattle.flash_table.specs.Flash.{view_of}
 use Rattle.host.specs.declared.holding.Held.{Held}
 use Rattle.host.specs.declared.holding.Holding.{Holding}
@@ -38,7 +35,3 @@ Holds-prop f h value = hlevel props
 pub IsKept-prop : (f : Flash) (x : Holding) → IsProp (IsKept f x)
 IsKept-prop f (holding.Held h) = hlevel props
 IsKept-prop f (holding.Empty p) = hlevel props
-
--- and that a broom's seat rests
-pub IsRested-prop : (f : Flash) (s : BroomSeat) → IsProp (IsRested f s)
-IsRested-prop f s = hlevel (props, number-prop, filed-prop)

@@ -32,5 +32,3 @@ mod sizes;
 mod swept_crowd;
 #[cfg(test)]
 mod turns;
-#[cfg(test)]
-mod words;

@@ -1,9 +1,9 @@
 ghost use Rattle.std.specs.Prelude.{◌≡◌, ℕ, ◌∷◌, [], All, Some, IfOk, IfErr, length, slice_get};
-ghost use Rattle.geometry.specs.Geometry.{hosts_of, page_bytes_of, sectors_of as sector_count_of};
+ghost use Rattle.geometry.specs.Geometry.{hosts_of, page_bytes_of, sectors_of};
 ghost use Rattle.flash_table.specs.Flash.{device, first_view, geometry_of, view_of};
 ghost use Rattle.flash_table.specs.declared.pass.Pass.{Pass};
 ghost use Rattle.host.specs.Ready.{IsReady};
-ghost use Rattle.volume.specs.Closing.{sectors_of};
+ghost use Rattle.volume.specs.Closing.{sectors_left};
 ghost use Rattle.volume.specs.Volume.{flash_of};
 
 use flash_table::Pass;
@@ -20,12 +20,12 @@ pub fn two_writers(
     second: &[u8],
 ) -> Result<Closed, (Volume, Vec<Pass>)>
     requires hosts { hosts_of (geometry_of (flash_of volume)) ≡ 2 }
-    requires sectors { sector_count_of (geometry_of (flash_of volume)) ≡ 2 }
+    requires sectors { sectors_of (geometry_of (flash_of volume)) ≡ 2 }
     requires count { length passes.items ≡ 2 }
     requires new { (t : ℕ) (p : Pass) → slice_get passes.items t ≡ Some p → (view_of p ≡ first_view (device (flash_of volume)) t) × IsReady (flash_of volume) p }
     requires first { length first.now ≡ page_bytes_of (geometry_of (flash_of volume)) }
     requires second { length second.now ≡ page_bytes_of (geometry_of (flash_of volume)) }
-    ensures both { IfOk result (λ closed. sectors_of closed ≡ Some first.now ∷ Some second.now ∷ []) }
+    ensures both { IfOk result (λ closed. sectors_left closed ≡ Some first.now ∷ Some second.now ∷ []) }
     ensures handed_back { IfErr result (λ back. All (IsReady (flash_of back.0)) back.1.items) }
 {
     let mut passes = passes;

@@ -19,7 +19,7 @@ use Rattle.flash_table.specs.declared.pass.OpenBlock.{OpenBlock}
 use Rattle.flash_table.specs.Flash.{IsBroomOf, broom_view, own_blocks, geometry_of, device, first_broom, first_blocks, spare_of}
 use Rattle.broom.specs.declared.broom.Broom.{Broom}
 use Rattle.broom.specs.Handing.{IsQueued, place_of, aside_of}
-use Rattle.broom.specs.Ready.{IsRested, IsReady, HasRoom, view_of, blocks_of_broom}
+use Rattle.broom.specs.Ready.{IsRested, IsReady, HasRoom, view_of_broom, blocks_of_broom}
 use Rattle.volume.specs.Brooms.{IsFresh}
 use Rattle.volume.specs.Opening.{known_by_seat, known_by_broom}
 
@@ -72,7 +72,7 @@ as_many seats brooms same = sym (length-map brooms known_by_broom) ∙ (ap (λ l
 -- so each broom of a new device begins as its seat
 pub begins : (f : Flash) (seats : List BroomSeat) (brooms : List Broom) → map known_by_broom brooms ≡ map known_by_seat seats
     → ((i : ℕ) (s : BroomSeat) → slice_get seats i ≡ Some s → IsBroomOf f s × (broom_view s ≡ first_broom (device f) i) × (own_blocks s ≡ first_blocks (device f) i)) → (i : ℕ) (b : Broom) → slice_get brooms i ≡ Some b
-    → (view_of b ≡ first_broom (device f) i) × (blocks_of_broom b ≡ first_blocks (device f) i)
+    → (view_of_broom b ≡ first_broom (device f) i) × (blocks_of_broom b ≡ first_blocks (device f) i)
 begins f seats brooms same each i b is =
     let o = of_seats seats brooms same i b is in
     let h = each i o.0 o.1 in (ap (λ x. x.0) (sym o.2) ∙ h.1, ap (λ x. x.1) (sym o.2) ∙ h.2)
@@ -95,7 +95,7 @@ pub record Making (f : Flash) (q : EraseQueue) (all : List BroomSeat) (brooms : 
 
 -- one seat more has become a broom
 pub one_made : (f : Flash) (q : EraseQueue) (all rest rest' : List BroomSeat) (places places' : List QueuePass) (brooms brooms' : List Broom) (s : BroomSeat) (p : QueuePass) (b : Broom) → Making f q all brooms rest places → rest ≡ s ∷ rest'
-    → places ≡ places' ++ p ∷ [] → brooms' ≡ brooms ++ b ∷ [] → view_of b ≡ broom_view s → blocks_of_broom b ≡ own_blocks s → (place_of b ≡ p) × (aside_of b ≡ None) → (IsRested f s → IsReady f b) → Making f q all brooms' rest' places'
+    → places ≡ places' ++ p ∷ [] → brooms' ≡ brooms ++ b ∷ [] → view_of_broom b ≡ broom_view s → blocks_of_broom b ≡ own_blocks s → (place_of b ≡ p) × (aside_of b ≡ None) → (IsRested f s → IsReady f b) → Making f q all brooms' rest' places'
 one_made f q all rest rest' places places' brooms brooms' s p b was next left pushed view blocks place ready =
     let known : known_by_broom b ≡ known_by_seat s = λ i. (view i, blocks i) in
     let others = taken (IsRested f) s rest' rest next was.rested in

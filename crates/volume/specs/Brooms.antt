@@ -1,5 +1,5 @@
 -- A broom at its volume.
-use Rattle.std.specs.Prelude.{◌≡◌, None}
+use Rattle.std.specs.Prelude.{◌≡◌, None, ℕ}
 use Rattle.std.proofs.Props.{props}
 use Rattle.erase_queue.specs.declared.queue.EraseQueue.{EraseQueue}
 use Rattle.erase_queue.specs.Queue.{IsNewPass}
@@ -7,9 +7,10 @@ use Rattle.flash_table.specs.declared.flash.Flash.{Flash}
 use Rattle.broom.specs.declared.broom.Broom.{Broom}
 use Rattle.broom.specs.Handing.{IsQueued, place_of, aside_of}
 use Rattle.broom.specs.Once.{IsReady-prop, IsQueued-prop}
-use Rattle.broom.specs.Ready.{IsReady}
+use Rattle.broom.specs.Ready.{IsReady, blocks_of_broom, view_of_broom}
 use Rattle.volume.specs.declared.volume.Volume.{Volume}
 use Rattle.volume.specs.Volume.{flash_of, queue_of}
+use Rattle.flash_table.specs.Flash.{device, first_blocks, first_broom}
 
 -- A broom between two calls: it is ready at the volume's device, and its place is one at the volume's queue
 pub record IsBroomReady (v : Volume) (b : Broom) : Type 0 where
@@ -21,6 +22,10 @@ pub record IsFresh (f : Flash) (q : EraseQueue) (b : Broom) : Type 0 where
   pub ready : IsReady f b
   pub place : IsNewPass q (place_of b)
   pub aside : aside_of b ≡ None
+
+-- a broom of this number of an unused device
+abbrev pub IsUnused : Flash → ℕ → Broom → Type 0
+IsUnused f i b = (view_of_broom b ≡ first_broom (device f) i) × (blocks_of_broom b ≡ first_blocks (device f) i)
 
 -- that a broom is ready is a fact that has one proof at most, so that a struct can keep it beside its broom
 pub IsBroomReady-prop : (v : Volume) (b : Broom) → IsProp (IsBroomReady v b)

@@ -11,17 +11,18 @@ use Rattle.flash_rule.specs.declared.facts.Owned.{Owned}
 use Rattle.flash_rule.specs.declared.view.View.{View}
 use Rattle.flash_rule.specs.Views.{AreOfHosts, calls_of}
 use Rattle.flash_table.specs.declared.pass.Pass.{Pass}
-use Rattle.flash_table.specs.Flash.{view_of}
+use Rattle.flash_table.specs.Flash.{device, view_of}
 use Rattle.flash_table.specs.Leaving.{retired_view}
 use Rattle.volume.specs.declared.closing.Closed.{Closed}
+use Rattle.flash_table.specs.declared.flash.Flash.{Flash}
 
 -- the array that a row of values is
 abbrev pub array_of : List (Option (Vec ℕ Global)) → List Sector
 array_of values = map (option_map (λ value. value.items)) values
 
 -- the array of sectors that is left
-abbrev pub sectors_of : Closed → List Sector
-sectors_of c = array_of c.sectors.items
+abbrev pub sectors_left : Closed → List Sector
+sectors_left c = array_of c.sectors.items
 
 -- what the first pass knew last
 abbrev pub last_view : Closed → View
@@ -57,6 +58,10 @@ pub record AreFinal (z : Numbers) (passes : List Pass) (last : List Call) (secto
   pub callers : AreOfHosts z history
   pub own : (t : ℕ) (p : Pass) → IsIn passes p → (view_of p).role ≡ Player (APass t) → calls_of t history ≡ (view_of p).mine
   pub array : sectors ≡ after z.sectors history
+
+-- what a device was closed with are its sectors after one history
+abbrev pub IsFinal : Flash → List Pass → Closed → Type 0
+IsFinal f passes closed = AreFinal (device f) passes (last_view closed).seen (sectors_left closed)
 
 -- these open blocks as their owner leaves them when it closes them
 abbrev pub closed_blocks : List Owned → List Owned

@@ -8,6 +8,12 @@ use Rattle.geometry.specs.declared.answer.Got.{Got}
 use Rattle.geometry.specs.declared.answer.Was.{Was}
 use Rattle.flash_rule.specs.Views.{calls_of}
 use Rattle.flash_rule.specs.declared.view.View.{View}
+use Rattle.geometry.specs.Geometry.{sectors_of}
+use Rattle.flash_table.specs.declared.pass.Pass.{Pass}
+use Rattle.flash_table.specs.Flash.{geometry_of, view_of}
+use Rattle.flash_table.specs.Steps.{HasNumber}
+use Rattle.volume.specs.declared.volume.Volume.{Volume}
+use Rattle.volume.specs.Volume.{flash_of}
 
 -- what a pass may ask: the value of a sector, a new value for it, a value for it if it is empty, or that it be empty
 pub data Asked : Type 0 where
@@ -61,3 +67,7 @@ pub record Correct (n t : ℕ) (asked : Asked) (answer : Answer) (old new : Know
   pub mine : new.mine ≡ old.mine ++ calls_for t asked
   -- and of all that the pass sees, the calls of its own are those that it made, each once
   pub own : calls_of t new.seen ≡ new.mine
+
+-- what a pass of a volume asked was answered so, as one step of the array of its sectors
+abbrev pub Does : Volume → Pass → Asked → Answer → Pass → Type 0
+Does volume old asked answer new = (t : ℕ) → HasNumber t old → Correct (sectors_of (geometry_of (flash_of volume))) t asked answer (known_by (view_of old)) (known_by (view_of new))

@@ -1,5 +1,5 @@
 -- The parts of a close.
-use Rattle.std.specs.Prelude.{◌≡◌, ℕ, ◌+◌, ◌<◌, List, length, slice_index_or}
+use Rattle.std.specs.Prelude.{◌≡◌, ℕ, ◌+◌, ◌<◌, List, length, slice_index_or, Option, Some, Vec, slice_get}
 use Rattle.geometry.specs.Sectors.{Sector, sector_at}
 use Rattle.geometry.specs.History.{Call, held, Begins}
 use Rattle.flash_rule.specs.declared.view.View.{View}
@@ -7,8 +7,11 @@ use Rattle.flash_rule.specs.declared.facts.Name.TheVariants.{Pass as APass}
 use Rattle.flash_rule.specs.declared.facts.Role.TheVariants.{Player}
 use Rattle.flash_rule.specs.Views.{calls_of}
 use Rattle.flash_table.specs.declared.pass.Pass.{Pass}
-use Rattle.flash_table.specs.Flash.{view_of}
-use Rattle.volume.specs.Closing.{HasLooked}
+use Rattle.flash_table.specs.Flash.{device, geometry_of, view_of}
+use Rattle.volume.specs.Closing.{AreAll, AreFinal, AreRead, HasLooked, array_of}
+use Rattle.std.specs.Global.{Global}
+use Rattle.geometry.specs.Geometry.{hosts_of}
+use Rattle.flash_table.specs.declared.flash.Flash.{Flash}
 
 -- Two passes that met: the first has seen all that the other one had, and the other one all that the first had
 pub record Tied (v : View) (p : Pass) (w : View) (q : Pass) : Type 0 where
@@ -31,3 +34,11 @@ pub record HasRead (n : ℕ) (v : View) (sectors : List Sector) (w : View) : Typ
   pub last : (s : ℕ) → Begins (history s) w.seen
   pub own : (s t : ℕ) → v.role ≡ Player (APass t) → calls_of t (history s) ≡ v.mine
   pub each : (s : ℕ) → s < length sectors → sector_at sectors s ≡ held n (history s) s
+
+-- the values are those that the first pass has read, of a list of passes that was so before
+abbrev pub IsReadBy : Flash → List Pass → List Pass → List (Option (Vec ℕ Global)) → Type 0
+IsReadBy f old new values = (q : Pass) → slice_get new 0 ≡ Some q → AreRead (device f) old (view_of q).seen (array_of values)
+
+-- and where the passes are all of the device, they are those after one history
+abbrev pub IsFinalBy : Flash → List Pass → List Pass → List (Option (Vec ℕ Global)) → Type 0
+IsFinalBy f old new values = (q : Pass) → slice_get new 0 ≡ Some q → AreAll (hosts_of (geometry_of f)) old → AreFinal (device f) old (view_of q).seen (array_of values)

@@ -4,7 +4,7 @@ use Rattle.flash_table.specs.declared.broom_seat.BroomBlocks.{BroomBlocks}
 use Rattle.flash_table.specs.declared.broom_seat.BroomSeat.{BroomSeat}
 use Rattle.flash_table.specs.Flash.{broom_view, own_blocks}
 use Rattle.broom.specs.declared.broom.Broom.{Broom}
-use Rattle.broom.specs.Ready.{view_of, blocks_of_broom}
+use Rattle.broom.specs.Ready.{view_of_broom, blocks_of_broom}
 
 -- what a seat knows, with the blocks of its own
 abbrev pub known_by_seat : BroomSeat → View × BroomBlocks
@@ -12,4 +12,4 @@ known_by_seat s = (broom_view s, own_blocks s)
 
 -- what a broom knows, with the blocks of its own
 abbrev pub known_by_broom : Broom → View × BroomBlocks
-known_by_broom b = (view_of b, blocks_of_broom b)
+known_by_broom b = (view_of_broom b, blocks_of_broom b)

@@ -26,3 +26,7 @@ pub record Undisturbed (f : Flash) (value : List ℕ) (old : Held) (heard : Opti
   pub once : IfSome heard (λ c. Disjoint (view_of (pass_of new)).programs c.programs)
   -- nor has either of them programmed one twice
   pub each_once : IfSome heard (λ c. Once (view_of (pass_of new)).programs × Once c.programs)
+
+-- whatever a hold's page holds, nothing has disturbed it
+abbrev pub IsUndisturbed : Flash → Held → Option Carried → Held → Type 0
+IsUndisturbed f old heard new = (value : List ℕ) → Holds f old value → Undisturbed f value old heard new

@@ -1,14 +1,13 @@
 //! The end of a device: what its sectors hold when all passes are given up.
-ghost use Rattle.std.specs.Prelude.{◌≡◌, ℕ, ◌<◌, All, Some, IfOk, IfErr, OnErr, length, slice_get, option_map};
+ghost use Rattle.std.specs.Prelude.{◌≡◌, ◌<◌, All, Some, IfOk, IfErr, length, slice_get, option_map};
 ghost use Rattle.std.specs.Vec.Iter.{into_iter_items};
-ghost use Rattle.geometry.specs.Geometry.{sectors_of as sector_count_of, hosts_of, page_bytes_of};
+ghost use Rattle.geometry.specs.Geometry.{sectors_of, hosts_of};
 ghost use Rattle.geometry.specs.History.{held};
-ghost use Rattle.flash_rule.specs.Views.{AreOfHosts};
 ghost use Rattle.flash_table.specs.declared.pass.Pass.{Pass};
 ghost use Rattle.flash_table.specs.Flash.{view_of, geometry_of, device};
 ghost use Rattle.host.specs.Ready.{IsReady};
-ghost use Rattle.volume.specs.Closing.{array_of, sectors_of, last_view, AreAll, AreRead, AreFinal, HasLooked, HaveLooked, HasLeft};
-ghost use Rattle.volume.specs.Gathering.{MetEach, HasRead};
+ghost use Rattle.volume.specs.Closing.{array_of, sectors_left, last_view, AreAll, AreRead, IsFinal, HasLooked, HaveLooked, HasLeft};
+ghost use Rattle.volume.specs.Gathering.{IsFinalBy, IsReadBy, MetEach, HasRead};
 ghost use Rattle.volume.specs.Volume.{flash_of};
 
 use crate::volume::Volume;
@@ -47,9 +46,9 @@ fn read_sector(
     sector: u32,
 ) -> Result<Option<Vec<u8>>, AllocError>
     requires pass { IsReady flash.now pass.old }
-    requires sector { sector < sector_count_of (geometry_of flash.now) }
+    requires sector { sector < sectors_of (geometry_of flash.now) }
     ensures looked { HasLooked (view_of pass.old) (view_of pass.new) }
-    ensures value { IfOk result (λ value. option_map (λ x. x.items) value ≡ held (sector_count_of (geometry_of flash.now)) (view_of pass.new).seen sector) }
+    ensures value { IfOk result (λ value. option_map (λ x. x.items) value ≡ held (sectors_of (geometry_of flash.now)) (view_of pass.new).seen sector) }
     ensures pass { IsReady flash.now pass.new }
 {
     let mut page = vec![in alloc; 0u8; flash.geometry().page_bytes()]?;
@@ -68,8 +67,8 @@ fn read_all(
     requires { IsReady flash.now pass.old }
     ensures pass { IsReady flash.now pass.new }
     ensures looked { HasLooked (view_of pass.old) (view_of pass.new) }
-    ensures long { IfOk result (λ sectors. length (array_of sectors.items) ≡ sector_count_of (geometry_of flash.now)) }
-    ensures read { IfOk result (λ sectors. HasRead (sector_count_of (geometry_of flash.now)) (view_of pass.old) (array_of sectors.items) (view_of pass.new)) }
+    ensures long { IfOk result (λ sectors. length (array_of sectors.items) ≡ sectors_of (geometry_of flash.now)) }
+    ensures read { IfOk result (λ sectors. HasRead (sectors_of (geometry_of flash.now)) (view_of pass.old) (array_of sectors.items) (view_of pass.new)) }
 {
     let count = flash.geometry().sectors();
     let mut sectors = Vec::with_capacity(alloc, count as usize)?;
@@ -88,8 +87,8 @@ fn gather(
 ) -> Result<Vec<Option<Vec<u8>>>, AllocError>
     requires some { 0 < length passes.old }
     requires passes { All (IsReady flash.now) passes.old }
-    ensures read { IfOk result (λ sectors. (q : Pass) → slice_get passes.new 0 ≡ Some q → AreRead (device flash.now) passes.old (view_of q).seen (array_of sectors.items)) }
-    ensures one_history { IfOk result (λ sectors. (q : Pass) → slice_get passes.new 0 ≡ Some q → AreAll (hosts_of (geometry_of flash.now)) passes.old → AreFinal (device flash.now) passes.old (view_of q).seen (array_of sectors.items)) }
+    ensures read { IfOk result (λ sectors. IsReadBy flash.now passes.old passes.new sectors.items) }
+    ensures one_history { IfOk result (λ sectors. IsFinalBy flash.now passes.old passes.new sectors.items) }
     ensures looked { HaveLooked passes.old passes.new }
     ensures passes { All (IsReady flash.now) passes.new }
 {
@@ -122,8 +121,8 @@ impl Volume {
         requires passes { All (IsReady (flash_of self)) passes.items }
 
         // Where all passes are given, the sectors are those after one history; else each is what it is after a history that grows.
-        ensures one_history { IfOk result (λ closed. AreAll (hosts_of (geometry_of (flash_of self))) passes.items → AreFinal (device (flash_of self)) passes.items (last_view closed).seen (sectors_of closed)) }
-        ensures read { IfOk result (λ closed. AreRead (device (flash_of self)) passes.items (last_view closed).seen (sectors_of closed)) }
+        ensures one_history { IfOk result (λ closed. AreAll (hosts_of (geometry_of (flash_of self))) passes.items → IsFinal (flash_of self) passes.items closed) }
+        ensures read { IfOk result (λ closed. AreRead (device (flash_of self)) passes.items (last_view closed).seen (sectors_left closed)) }
         ensures first { IfOk result (λ closed. (p : Pass) → slice_get passes.items 0 ≡ Some p → HasLeft (view_of p) (last_view closed)) }
 
         // All is handed back as it was, but that the passes have looked.

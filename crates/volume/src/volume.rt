@@ -3,6 +3,7 @@ ghost use Rattle.std.specs.Prelude.{◌≡◌};
 ghost use Rattle.erase_queue.specs.Queue.{limit_of};
 ghost use Rattle.flash_table.specs.Flash.{geometry_of};
 ghost use Rattle.geometry.specs.Geometry.{blocks_of};
+ghost use Rattle.flash_table.specs.Steps.{HasCalled, HasNumber};
 
 use crate::closing::retire_all;
 use crate::opening::make_brooms;
@@ -23,19 +24,16 @@ pub struct Volume {
 }
 
 impl Volume {
-    ghost use Rattle.std.specs.Prelude.{ℕ, ◌<◌, All, List, [], None, Some, Err, IfOk, IfSome, OnErr, length, slice_get};
+    ghost use Rattle.std.specs.Prelude.{ℕ, ◌<◌, All, List, None, Some, Err, IfOk, IfSome, OnErr, length, slice_get};
     ghost use Rattle.geometry.specs.Geometry.{brooms_of, hosts_of, sectors_of, words_of, page_bytes_of};
     ghost use Rattle.geometry.specs.History as call;
     ghost use Rattle.geometry.specs.History.{held};
     ghost use Rattle.geometry.specs.Sectors.{Answers};
-    ghost use Rattle.flash_rule.specs.declared.facts.Name.TheVariants as name;
-    ghost use Rattle.flash_rule.specs.declared.facts.Role.TheVariants as role;
     ghost use Rattle.flash_rule.specs.declared.facts.Pin.TheVariants as pin;
     ghost use Rattle.flash_rule.specs.World.{data_word};
-    ghost use Rattle.flash_rule.specs.Plays.{Called};
     ghost use Rattle.flash_rule.specs.Seats.{carried};
     ghost use Rattle.flash_table.specs.declared.pass.Pass.{Pass};
-    ghost use Rattle.flash_table.specs.Flash.{view_of, opened_of, device, first_view, first_broom, first_blocks};
+    ghost use Rattle.flash_table.specs.Flash.{view_of, opened_of, device, first_view, first_blocks};
     ghost use Rattle.flash_table.specs.Leaving.{retired_view};
     ghost use Rattle.flash_table.specs.GivingUp.{closed_pass, closed_broom};
     ghost use Rattle.broom.specs.declared.broom.Broom.{Broom};
@@ -45,14 +43,14 @@ impl Volume {
     ghost use Rattle.broom.specs.Told.{DrainTold};
     ghost use Rattle.broom.specs.Meeting.{StoodTold, BroomsMet};
     ghost use Rattle.broom.specs.Handing.{DrainOneTold, EraseOneTold, HandsNothing, IsBelow, LeftAt, aside_of, place_of};
-    ghost use Rattle.broom.specs.Ready.{view_of as broom_view, blocks_of_broom};
+    ghost use Rattle.broom.specs.Ready.{view_of_broom, blocks_of_broom};
     ghost use Rattle.host.specs.Ready.{IsReady};
     ghost use Rattle.host.specs.Told.{Searched, Wrote, WroteNew, Refused, MetTold, was_found};
     ghost use Rattle.host.specs.declared.writing_new.NewFault.TheVariants as fault;
     ghost use Rattle.host.specs.Holding.{Holds, Found, pass_of, page_of};
-    ghost use Rattle.volume.specs.Correct.{Correct, Read, Write, WriteNew, Trim, Found as Got, Replaced, known_by};
-    ghost use Rattle.volume.specs.Undisturbed.{Undisturbed};
-    ghost use Rattle.volume.specs.Brooms.{IsBroomReady, IsFresh};
+    ghost use Rattle.volume.specs.Correct.{Does, Read, Write, WriteNew, Trim, Found as Got, Replaced};
+    ghost use Rattle.volume.specs.Brooms.{IsBroomReady, IsFresh, IsUnused};
+    ghost use Rattle.volume.specs.Undisturbed.{IsUndisturbed};
     ghost use Rattle.volume.specs.Volume.{flash_of, queue_of};
 
     /// A device with every sector empty, its passes, pass t with number t, and its brooms, broom i with number i. `Err` is out of memory.
@@ -65,7 +63,7 @@ impl Volume {
         ensures count { IfOk result (λ r. (length r.1.items ≡ hosts_of geometry.now) × (length r.2.items ≡ brooms_of geometry.now)) }
         ensures passes { IfOk result (λ r. (t : ℕ) (p : Pass) → slice_get r.1.items t ≡ Some p → view_of p ≡ first_view (device (flash_of r.0)) t) }
         ensures ready { IfOk result (λ r. All (IsReady (flash_of r.0)) r.1.items) }
-        ensures brooms { IfOk result (λ r. (i : ℕ) (b : Broom) → slice_get r.2.items i ≡ Some b → (broom_view b ≡ first_broom (device (flash_of r.0)) i) × (blocks_of_broom b ≡ first_blocks (device (flash_of r.0)) i)) }
+        ensures brooms { IfOk result (λ r. (i : ℕ) (b : Broom) → slice_get r.2.items i ≡ Some b → IsUnused (flash_of r.0) i b) }
         ensures brooms_ready { IfOk result (λ r. All (IsBroomReady r.0) r.2.items) }
         ensures brooms_fresh { IfOk result (λ r. All (IsFresh (flash_of r.0) (queue_of r.0)) r.2.items) }
     {
@@ -89,7 +87,7 @@ impl Volume {
         ensures count { IfOk result (λ r. (length r.1.items ≡ hosts_of geometry.now) × (length r.2.items ≡ brooms_of geometry.now)) }
         ensures passes { IfOk result (λ r. (t : ℕ) (p : Pass) → slice_get r.1.items t ≡ Some p → view_of p ≡ first_view (device (flash_of r.0)) t) }
         ensures ready { IfOk result (λ r. All (IsReady (flash_of r.0)) r.1.items) }
-        ensures brooms { IfOk result (λ r. (i : ℕ) (b : Broom) → slice_get r.2.items i ≡ Some b → (broom_view b ≡ first_broom (device (flash_of r.0)) i) × (blocks_of_broom b ≡ first_blocks (device (flash_of r.0)) i)) }
+        ensures brooms { IfOk result (λ r. (i : ℕ) (b : Broom) → slice_get r.2.items i ≡ Some b → IsUnused (flash_of r.0) i b) }
         ensures brooms_ready { IfOk result (λ r. All (IsBroomReady r.0) r.2.items) }
         ensures brooms_fresh { IfOk result (λ r. All (IsFresh (flash_of r.0) (queue_of r.0)) r.2.items) }
     {
@@ -115,7 +113,7 @@ impl Volume {
         requires pass { IsReady (flash_of self.now) pass.old }
         requires sector { sector < sectors_of (geometry_of (flash_of self.now)) }
         requires page { length out.old ≡ page_bytes_of (geometry_of (flash_of self.now)) }
-        ensures correct { (t : ℕ) → (view_of pass.old).role ≡ role.Player (name.Pass t) → Correct (sectors_of (geometry_of (flash_of self.now))) t (Read sector) (Got result.got out.old out.new) (known_by (view_of pass.old)) (known_by (view_of pass.new)) }
+        ensures correct { Does self.now pass.old (Read sector) (Got result.got out.old out.new) pass.new }
         ensures told { Searched (view_of pass.old) result.tries (view_of pass.new) }
         ensures answer { Answers (held (sectors_of (geometry_of (flash_of self.now))) (view_of pass.new).seen sector) result.got out.old out.new }
         ensures pass { IsReady (flash_of self.now) pass.new }
@@ -135,7 +133,7 @@ impl Volume {
         requires pass { IsReady (flash_of self.now) pass.old }
         requires sector { sector < sectors_of (geometry_of (flash_of self.now)) }
         requires page { length out.old ≡ page_bytes_of (geometry_of (flash_of self.now)) }
-        ensures correct { (t : ℕ) → (view_of pass.old).role ≡ role.Player (name.Pass t) → Correct (sectors_of (geometry_of (flash_of self.now))) t (Read sector) (Got result.got out.old out.new) (known_by (view_of pass.old)) (known_by (view_of pass.new)) }
+        ensures correct { Does self.now pass.old (Read sector) (Got result.got out.old out.new) pass.new }
         ensures told { Searched (view_of pass.old) result.tries (view_of pass.new) }
         ensures answer { Answers (held (sectors_of (geometry_of (flash_of self.now))) (view_of pass.new).seen sector) result.got out.old out.new }
         ensures pass { IsReady (flash_of self.now) pass.new }
@@ -149,8 +147,8 @@ impl Volume {
         requires pass { IsReady (flash_of self.now) pass.old }
         requires sector { sector < sectors_of (geometry_of (flash_of self.now)) }
         requires page { length bytes.now ≡ page_bytes_of (geometry_of (flash_of self.now)) }
-        ensures correct { IfOk result (λ was. (t : ℕ) → (view_of pass.old).role ≡ role.Player (name.Pass t) → Correct (sectors_of (geometry_of (flash_of self.now))) t (Write sector bytes.now) (Replaced was) (known_by (view_of pass.old)) (known_by (view_of pass.new))) }
-        ensures wrote { IfOk result (λ was. (t : ℕ) → (view_of pass.old).role ≡ role.Player (name.Pass t) → Wrote (view_of pass.old) t sector bytes.now was (view_of pass.new)) }
+        ensures correct { IfOk result (λ was. Does self.now pass.old (Write sector bytes.now) (Replaced was) pass.new) }
+        ensures wrote { IfOk result (λ was. (t : ℕ) → HasNumber t pass.old → Wrote (view_of pass.old) t sector bytes.now was (view_of pass.new)) }
         ensures refused { OnErr result (Refused (view_of pass.old) (view_of pass.new)) }
         ensures pass { IsReady (flash_of self.now) pass.new }
     {
@@ -168,8 +166,8 @@ impl Volume {
         requires pass { IsReady (flash_of self.now) pass.old }
         requires sector { sector < sectors_of (geometry_of (flash_of self.now)) }
         requires page { length bytes.now ≡ page_bytes_of (geometry_of (flash_of self.now)) }
-        ensures correct { IfOk result (λ was. (t : ℕ) → (view_of pass.old).role ≡ role.Player (name.Pass t) → Correct (sectors_of (geometry_of (flash_of self.now))) t (Write sector bytes.now) (Replaced was) (known_by (view_of pass.old)) (known_by (view_of pass.new))) }
-        ensures wrote { IfOk result (λ was. (t : ℕ) → (view_of pass.old).role ≡ role.Player (name.Pass t) → Wrote (view_of pass.old) t sector bytes.now was (view_of pass.new)) }
+        ensures correct { IfOk result (λ was. Does self.now pass.old (Write sector bytes.now) (Replaced was) pass.new) }
+        ensures wrote { IfOk result (λ was. (t : ℕ) → HasNumber t pass.old → Wrote (view_of pass.old) t sector bytes.now was (view_of pass.new)) }
         ensures refused { OnErr result (Refused (view_of pass.old) (view_of pass.new)) }
         ensures pass { IsReady (flash_of self.now) pass.new }
     {
@@ -182,8 +180,8 @@ impl Volume {
         requires pass { IsReady (flash_of self.now) pass.old }
         requires sector { sector < sectors_of (geometry_of (flash_of self.now)) }
         requires page { length bytes.now ≡ page_bytes_of (geometry_of (flash_of self.now)) }
-        ensures correct { IfSome (was_found result) (λ was. (t : ℕ) → (view_of pass.old).role ≡ role.Player (name.Pass t) → Correct (sectors_of (geometry_of (flash_of self.now))) t (WriteNew sector bytes.now) (Replaced was) (known_by (view_of pass.old)) (known_by (view_of pass.new))) }
-        ensures wrote { IfSome (was_found result) (λ was. (t : ℕ) → (view_of pass.old).role ≡ role.Player (name.Pass t) → WroteNew (view_of pass.old) t sector bytes.now was (view_of pass.new)) }
+        ensures correct { IfSome (was_found result) (λ was. Does self.now pass.old (WriteNew sector bytes.now) (Replaced was) pass.new) }
+        ensures wrote { IfSome (was_found result) (λ was. (t : ℕ) → HasNumber t pass.old → WroteNew (view_of pass.old) t sector bytes.now was (view_of pass.new)) }
         ensures refused { result ≡ Err fault.NoBlock → Refused (view_of pass.old) (view_of pass.new) }
         ensures pass { IsReady (flash_of self.now) pass.new }
     {
@@ -201,8 +199,8 @@ impl Volume {
         requires pass { IsReady (flash_of self.now) pass.old }
         requires sector { sector < sectors_of (geometry_of (flash_of self.now)) }
         requires page { length bytes.now ≡ page_bytes_of (geometry_of (flash_of self.now)) }
-        ensures correct { IfSome (was_found result) (λ was. (t : ℕ) → (view_of pass.old).role ≡ role.Player (name.Pass t) → Correct (sectors_of (geometry_of (flash_of self.now))) t (WriteNew sector bytes.now) (Replaced was) (known_by (view_of pass.old)) (known_by (view_of pass.new))) }
-        ensures wrote { IfSome (was_found result) (λ was. (t : ℕ) → (view_of pass.old).role ≡ role.Player (name.Pass t) → WroteNew (view_of pass.old) t sector bytes.now was (view_of pass.new)) }
+        ensures correct { IfSome (was_found result) (λ was. Does self.now pass.old (WriteNew sector bytes.now) (Replaced was) pass.new) }
+        ensures wrote { IfSome (was_found result) (λ was. (t : ℕ) → HasNumber t pass.old → WroteNew (view_of pass.old) t sector bytes.now was (view_of pass.new)) }
         ensures refused { result ≡ Err fault.NoBlock → Refused (view_of pass.old) (view_of pass.new) }
         ensures pass { IsReady (flash_of self.now) pass.new }
     {
@@ -213,8 +211,8 @@ impl Volume {
     pub fn trim(&self, pass: &mut Pass, sector: u32) -> Was
         requires pass { IsReady (flash_of self.now) pass.old }
         requires sector { sector < sectors_of (geometry_of (flash_of self.now)) }
-        ensures correct { (t : ℕ) → (view_of pass.old).role ≡ role.Player (name.Pass t) → Correct (sectors_of (geometry_of (flash_of self.now))) t (Trim sector) (Replaced result) (known_by (view_of pass.old)) (known_by (view_of pass.new)) }
-        ensures told { (t : ℕ) → (view_of pass.old).role ≡ role.Player (name.Pass t) → Called (view_of pass.old) (call.Trim t sector) sector result (view_of pass.new) }
+        ensures correct { Does self.now pass.old (Trim sector) (Replaced result) pass.new }
+        ensures told { (t : ℕ) → HasNumber t pass.old → HasCalled pass.old (call.Trim t sector) sector result pass.new }
         ensures pass { IsReady (flash_of self.now) pass.new }
         ensures opened { opened_of pass.new ≡ opened_of pass.old }
     {
@@ -235,7 +233,7 @@ impl Volume {
         requires held { (value : List ℕ) × Holds (flash_of self.now) held.old value }
         requires page { length out.old ≡ page_bytes_of (geometry_of (flash_of self.now)) }
         ensures value { (value : List ℕ) → Holds (flash_of self.now) held.old value → (out.new ≡ value) × Holds (flash_of self.now) held.new value }
-        ensures undisturbed { (value : List ℕ) → Holds (flash_of self.now) held.old value → Undisturbed (flash_of self.now) value held.old (view_of (pass_of held.old)).copy held.new }
+        ensures undisturbed { IsUndisturbed (flash_of self.now) held.old (view_of (pass_of held.old)).copy held.new }
         ensures same { view_of (pass_of held.new) ≡ view_of (pass_of held.old) }
         ensures page { page_of held.new ≡ page_of held.old }
     {
@@ -247,7 +245,7 @@ impl Volume {
         requires held { (value : List ℕ) × Holds (flash_of self.now) held.old value }
         requires word { i < words_of (geometry_of (flash_of self.now)) }
         ensures value { (value : List ℕ) → Holds (flash_of self.now) held.old value → (result ≡ data_word value i) × Holds (flash_of self.now) held.new value }
-        ensures undisturbed { (value : List ℕ) → Holds (flash_of self.now) held.old value → Undisturbed (flash_of self.now) value held.old (view_of (pass_of held.old)).copy held.new }
+        ensures undisturbed { IsUndisturbed (flash_of self.now) held.old (view_of (pass_of held.old)).copy held.new }
         ensures same { view_of (pass_of held.new) ≡ view_of (pass_of held.old) }
         ensures page { page_of held.new ≡ page_of held.old }
     {
@@ -282,7 +280,7 @@ impl Volume {
     pub fn meet_brooms(&self, first: &mut Broom, second: &mut Broom)
         requires first { IsBroomReady self.now first.old }
         requires second { IsBroomReady self.now second.old }
-        ensures told { BroomsMet (broom_view first.old) (broom_view second.old) (broom_view first.new) (broom_view second.new) }
+        ensures told { BroomsMet (view_of_broom first.old) (view_of_broom second.old) (view_of_broom first.new) (view_of_broom second.new) }
         ensures first { IsBroomReady self.now first.new }
         ensures second { IsBroomReady self.now second.new }
         ensures first_blocks { blocks_of_broom first.new ≡ blocks_of_broom first.old }
@@ -298,8 +296,8 @@ impl Volume {
     pub fn stand(&self, held: Held, broom: &mut Broom) -> Held
         requires held { (value : List ℕ) × Holds (flash_of self.now) held value }
         requires broom { IsBroomReady self.now broom.old }
-        ensures undisturbed { (value : List ℕ) → Holds (flash_of self.now) held value → Undisturbed (flash_of self.now) value held (Some (carried (broom_view broom.old))) result }
-        ensures told { StoodTold (view_of (pass_of held)) (broom_view broom.old) (page_of held) (view_of (pass_of result)) (broom_view broom.new) }
+        ensures undisturbed { IsUndisturbed (flash_of self.now) held (Some (carried (view_of_broom broom.old))) result }
+        ensures told { StoodTold (view_of (pass_of held)) (view_of_broom broom.old) (page_of held) (view_of (pass_of result)) (view_of_broom broom.new) }
         ensures opened { opened_of (pass_of result) ≡ opened_of (pass_of held) }
         ensures broom { IsBroomReady self.now broom.new }
         ensures blocks { blocks_of_broom broom.new ≡ blocks_of_broom broom.old }
@@ -366,7 +364,7 @@ impl Volume {
     /// queue; where that is full, it stays drained and nobody erases it.
     pub fn fold(&self, rt: &impl Wait, broom: Broom) -> Folded
         requires { IsBroomReady self.now broom }
-        ensures view { folded_view result ≡ closed_broom (broom_view broom) (blocks_of_broom broom) }
+        ensures view { folded_view result ≡ closed_broom (view_of_broom broom) (blocks_of_broom broom) }
         ensures place { LeftAt (limit_of (queue_of self.now)) broom (folded_place result) }
     {
         broom::fold(&self.flash, &self.queue, rt, broom)
@@ -376,7 +374,7 @@ impl Volume {
     pub fn fold_new(&self, broom: Broom) -> Folded
         requires ready { IsBroomReady self.now broom }
         requires aside { aside_of broom ≡ None }
-        ensures view { folded_view result ≡ closed_broom (broom_view broom) (blocks_of_broom broom) }
+        ensures view { folded_view result ≡ closed_broom (view_of_broom broom) (blocks_of_broom broom) }
         ensures place { folded_place result ≡ place_of broom }
     {
         broom::fold_new(&self.flash, broom)
@@ -386,7 +384,7 @@ impl Volume {
     /// set aside stays drained, and nobody erases it.
     pub fn retire_broom(&self, broom: Broom) -> Folded
         requires { IsBroomReady self.now broom }
-        ensures view { folded_view result ≡ closed_broom (broom_view broom) (blocks_of_broom broom) }
+        ensures view { folded_view result ≡ closed_broom (view_of_broom broom) (blocks_of_broom broom) }
         ensures place { folded_place result ≡ place_of broom }
     {
         broom::retire_broom(&self.flash, broom)

@@ -5,7 +5,7 @@ use Rattle.geometry.specs.Geometry.{blocks_of, pages_of}
 use Rattle.geometry.specs.Greedy.{greedy_of, IsClosed}
 use Rattle.flash_table.specs.Flash.{broom_view, geometry_of}
 use Rattle.broom.specs.declared.broom.Broom.{Broom}
-use Rattle.broom.specs.Ready.{IsReady, view_of}
+use Rattle.broom.specs.Ready.{IsReady, view_of_broom}
 use Rattle.broom.specs.Told.{GainedNothing}
 use Rattle.broom.specs.Surveying.{PagesCounted, Chosen}
 use Rattle.broom.proofs.Choosing.{none_closed, all_live, chosen, rested_surveyed, closed_low}
@@ -28,7 +28,7 @@ closed_kept c = let long = c.load_states.auto.closed in let before = c.deref_mut
 long : (c : After-greedy) → length c.load_states.new.states ≡ blocks_of (geometry_of c.args.flash.now)
 long c = c.load_states.auto.states ∙ (ap (length {A = _}) c.deref_mut.ensures.value ∙ c.requires.states)
 
-counted : (c : After-greedy) → PagesCounted (broom_view c.load_states.new.seat) c.load_states.new.states c.count_pages.new.counts (view_of (after c))
+counted : (c : After-greedy) → PagesCounted (broom_view c.load_states.new.seat) c.load_states.new.states c.count_pages.new.counts (view_of_broom (after c))
 counted c = subst (λ l. PagesCounted (broom_view c.load_states.new.seat) l c.count_pages.new.counts (broom_view c.count_pages.new.seat)) (c.deref.ensures.value ∙ states_kept c) c.count_pages.ensures.told
 
 -- the choice, of the counts and marks of the survey
@@ -71,7 +71,7 @@ returns-in_err-victim-clause-told c =
     let at = (goal.at.returns-in_err-victim-clause-told c).After-greedy in
     let told = none_closed c.args.flash.now c.args.broom.now (after at) c.load_states.new.seat c.load_states.new.states c.count_pages.new.counts c.load_states.new.closed c.requires.rested.seat c.load_states.ensures.told (counted at) (long at)
     (choice at None c.in_err-victim.ensures.value) in
-    subst (λ (o : Option ℕ). MatchOption o (GainedNothing (view_of c.args.broom.now) (view_of (after at))) (λ block. Chosen (view_of c.args.broom.now) block (after at))) (sym c.from_residual.ensures) told
+    subst (λ (o : Option ℕ). MatchOption o (GainedNothing (view_of_broom c.args.broom.now) (view_of_broom (after at))) (λ block. Chosen (view_of_broom c.args.broom.now) block (after at))) (sym c.from_residual.ensures) told
 
 pub returns-then-index-pages-clause-told : goal.returns-then-index-pages-clause-told
 returns-then-index-pages-clause-told c =

@@ -2,7 +2,7 @@ use Rattle.std.proofs.Common.{◌≡◌, true, [], ◌∷◌, Some, refl}
 use Rattle.std.specs.Prelude.{Result, Ok, Err}
 use Rattle.std.specs.Result.{is_ok}
 use Rattle.std.proofs.lemmas.Result.{IfOk-weaker, IfOk-at_ok}
-use Rattle.volume.specs.Closing.{sectors_of, last_view}
+use Rattle.volume.specs.Closing.{sectors_left, last_view}
 use Rattle.volume.specs.Volume.{flash_of}
 use Rattle.uses.proofs.Callers.{first_ready, second_ready, both_ready, both_values}
 use Rattle.uses.proofs.closing.two_writers.Goals as goal
@@ -28,8 +28,8 @@ returns-clause-both c =
     let two = ok_value c.write-two.result c.if-is_err-2.ensures.negation in
     let first = first_ready f c.args.passes.items _ c.requires.count c.requires.new c.index_mut.ensures.value in
     let second = second_ready f c.args.passes.items _ _ c.requires.count c.requires.new c.index_mut-2.ensures.value in
-    IfOk-weaker c.close.result _ (λ closed. sectors_of closed ≡ Some c.args.first.now ∷ Some c.args.second.now ∷ [])
-    (λ closed final. both_values f c.args.passes.items c.index_mut.result.now c.index_mut-2.result.now c.write-one.new.pass c.write-two.new.pass c.args.first.now c.args.second.now one.0 two.0 (last_view closed).seen (sectors_of closed) c.requires.count c.requires.hosts c.requires.sectors first.0 second.0
+    IfOk-weaker c.close.result _ (λ closed. sectors_left closed ≡ Some c.args.first.now ∷ Some c.args.second.now ∷ [])
+    (λ closed final. both_values f c.args.passes.items c.index_mut.result.now c.index_mut-2.result.now c.write-one.new.pass c.write-two.new.pass c.args.first.now c.args.second.now one.0 two.0 (last_view closed).seen (sectors_left closed) c.requires.count c.requires.hosts c.requires.sectors first.0 second.0
     (IfOk-at_ok _ one.1 c.write-one.ensures.wrote) (IfOk-at_ok _ two.1 c.write-two.ensures.wrote) final)
     c.close.ensures.one_history
 

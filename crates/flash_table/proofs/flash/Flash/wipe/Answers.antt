@@ -4,7 +4,7 @@ use Rattle.geometry.specs.TableOrder.{page_index}
 use Rattle.flash_rule.specs.declared.view.View.{View}
 use Rattle.flash_rule.specs.World.{blank_word}
 use Rattle.flash_table.specs.Flash.{device, broom_view}
-use Rattle.flash_table.specs.Erasing.{Erases}
+use Rattle.flash_table.specs.Erasing.{IsErasing}
 use Rattle.flash_table.proofs.HereErasing.{wipe_here}
 use Rattle.flash_table.proofs.Rows.{just_now}
 use Rattle.flash_table.proofs.ToldBrooms.{broom_player, stays_broom}
@@ -16,7 +16,7 @@ store-requires c =
     let f = c.args.self.now in
     let s = c.args.broom.now in
     let o = c.in-Erasing.erased in
-    let t = of_erased f s c.requires.broom (λ x. Erases f s x) o c.in-Erasing.is c.requires.erasing.0 c.requires.erasing.1.its c.requires.erasing.1 in
+    let t = of_erased f s c.requires.broom (λ x. IsErasing f s x) o c.in-Erasing.is c.requires.erasing.0 c.requires.erasing.1.its c.requires.erasing.1 in
     let can = can_wipe f s c.requires.broom o c.args.i c.in-Erasing.is c.requires.next c.requires.word in
     let low = wiped_within (device f) o.block c.args.i t.low c.requires.word in
     let at = c.page_word_at.ensures in

@@ -8,7 +8,7 @@ use Rattle.broom.specs.Ready.{IsRested}
 use Rattle.host.specs.Ready.{IsReady}
 use Rattle.volume.proofs.Answered.{all_fresh}
 use Rattle.volume.proofs.FreshBrooms.{all_rested}
-use Rattle.shared_acceptance.proofs.words.open.Goals as goal
+use Rattle.table_words.proofs.words.open.Goals as goal
 
 pub invariant_of-result : goal.invariant_of-result
 invariant_of-result g c =
@@ -21,8 +21,9 @@ invariant_of-result g c =
     let last = All-pop (IsReady f) c.in_ok-flash.passes.items c.pop-2.new.self.items (Some c.in-Some-pop.b) c.in-Some-pop.ensures.items passes in
     let first = All-pop (IsReady f) c.pop-2.new.self.items c.pop-3.new.self.items (Some c.in-Some-pop-2.a) c.in-Some-pop-2.ensures.items last.0 in
     let seats = all_rested f c.in_ok-flash.seats.items hosts (told.count.1 ∙ ap brooms_of (sym same)) told.brooms in
-    let seat = All-pop (IsRested f) c.in_ok-flash.seats.items c.pop-4.new.self.items (Some c.in-Some-pop-3.seat) c.in-Some-pop-3.ensures.items seats in
-    let swept = All-pop (IsRested f) c.pop-4.new.self.items c.pop-5.new.self.items (Some c.in-Some-pop-4.first) c.in-Some-pop-4.ensures.items seat.0 in
+    let watcher = All-pop (IsRested f) c.in_ok-flash.seats.items c.pop-4.new.self.items (Some c.in-Some-pop-3.watcher) c.in-Some-pop-3.ensures.items seats in
+    let seat = All-pop (IsRested f) c.pop-4.new.self.items c.pop-5.new.self.items (Some c.in-Some-pop-4.seat) c.in-Some-pop-4.ensures.items watcher.0 in
+    let swept = All-pop (IsRested f) c.pop-5.new.self.items c.pop-6.new.self.items (Some c.in-Some-pop-5.first) c.in-Some-pop-5.ensures.items seat.0 in
     record {
       sectors = ap sectors_of same ∙ ap (λ (z : Numbers). z.sectors) given;
       blocks = ap blocks_of same ∙ ap (λ (z : Numbers). z.blocks) given;
@@ -31,4 +32,5 @@ invariant_of-result g c =
       b_ready = last.1;
       broom_ready = c.in-Ok.ensures.ready f same swept.1;
       rested = seat.1;
+      watcher_rested = watcher.1;
     }

@@ -1,40 +1,43 @@
 //! The words of a small device after each call, as the seat of a second broom reads them.
 ghost use Rattle.std.specs.Prelude.{◌≡◌, ◌<◌};
 ghost use Rattle.geometry.specs.Geometry.{blocks_of, sectors_of, page_bytes_of};
-ghost use Rattle.flash_table.specs.Flash.{geometry_of};
+ghost use Rattle.flash_table.specs.declared.broom_seat.ReclaimedBlock.{ReclaimedBlock};
+ghost use Rattle.flash_table.specs.Erasing.{IsErasing, words_in_block};
+ghost use Rattle.flash_table.specs.Flash.{IsBroomOf, broom_view, device, geometry_of, own_blocks};
 ghost use Rattle.broom.specs.Once.{IsReady-prop};
 ghost use Rattle.broom.specs.Ready.{IsRested, IsReady as IsBroomReady};
 ghost use Rattle.host.specs.Ready.{IsReady};
-ghost use Rattle.shared_acceptance.specs.Kept.{IsRested-prop};
+ghost use Rattle.table_words.specs.Kept.{IsRested-prop};
 
-use crate::hands::page;
 use broom::{Broom, Drain, Erase, fold_seat};
 use erase_queue::EraseQueue;
 use flash_table::{BroomSeat, Flash, NoGate, Pass};
-use geometry::{Geometry, UNMAPPED};
+use geometry::{Geometry, Phase, UNMAPPED};
 use host::Holding;
 use std::process::Abort;
 use std::test::Fail;
 
-// A device of seven blocks with the passes of two hosts, a broom, and the seat of a second one.
+// A device of nine blocks with the passes of two hosts, a broom, and the seats of two more.
 struct Table {
     flash: Flash,
     a: Pass,
     b: Pass,
     broom: Broom,
     seat: BroomSeat,
+    watcher: BroomSeat,
     ghost sectors: { sectors_of (geometry_of flash) ≡ 2 },
-    ghost blocks: { blocks_of (geometry_of flash) ≡ 7 },
+    ghost blocks: { blocks_of (geometry_of flash) ≡ 9 },
     ghost bytes: { page_bytes_of (geometry_of flash) ≡ 8 },
     ghost a_ready: { IsReady flash a },
     ghost b_ready: { IsReady flash b },
     ghost broom_ready: { IsBroomReady flash broom } by { Prim.hlevel IsReady-prop },
     ghost rested: { IsRested flash seat } by { Prim.hlevel IsRested-prop },
+    ghost watcher_rested: { IsRested flash watcher } by { Prim.hlevel IsRested-prop },
 }
 
-fn open(rt: &(impl AllocGlobal + Abort)) -> Result<Table, Fail> {
-    let geometry = Geometry::new(1, 7, 2, 1, 2, 10, 2, 2)?;
-    let (_queue, mut places) = EraseQueue::new(rt.alloc(), 7, 1)?;
+fn open(rt: &(impl AllocGlobal + Abort), endurance: u32) -> Result<Table, Fail> {
+    let geometry = Geometry::new(1, 9, 2, 1, 2, endurance, 2, 3)?;
+    let (_queue, mut places) = EraseQueue::new(rt.alloc(), 9, 1)?;
     let Some(place) = places.pop() else {
         unreachable!()
     };
@@ -46,6 +49,9 @@ fn open(rt: &(impl AllocGlobal + Abort)) -> Result<Table, Fail> {
         unreachable!()
     };
     passes.destroy_empty();
+    let Some(watcher) = seats.pop() else {
+        unreachable!()
+    };
     let Some(seat) = seats.pop() else {
         unreachable!()
     };
@@ -63,7 +69,13 @@ fn open(rt: &(impl AllocGlobal + Abort)) -> Result<Table, Fail> {
         b,
         broom,
         seat,
+        watcher,
     })
+}
+
+// A page of one word with this first byte.
+fn page(byte: u8) -> [u8; 8] {
+    [byte, 0, 0, 0, 0, 0, 0, 0]
 }
 
 // The map word of a sector.
@@ -90,7 +102,7 @@ fn pin_word(flash: &Flash, seat: &mut BroomSeat, block: u32) -> u64
 // The map words of both sectors, and the pin words of the first two blocks and of the broom's spare.
 fn words(flash: &Flash, seat: &mut BroomSeat) -> [u64; 5]
     requires sectors { sectors_of (geometry_of flash.now) ≡ 2 }
-    requires blocks { blocks_of (geometry_of flash.now) ≡ 7 }
+    requires blocks { blocks_of (geometry_of flash.now) ≡ 9 }
     requires seat { IsRested flash.now seat.old }
     ensures { IsRested flash.now seat.new }
 {
@@ -98,7 +110,7 @@ fn words(flash: &Flash, seat: &mut BroomSeat) -> [u64; 5]
     let second = map_word(flash, seat, 1);
     let zero = pin_word(flash, seat, 0);
     let one = pin_word(flash, seat, 1);
-    let spare = pin_word(flash, seat, 5);
+    let spare = pin_word(flash, seat, 6);
     [first, second, zero, one, spare]
 }
 
@@ -164,6 +176,51 @@ const WORDS: [[u64; 5]; 10] = [
     ],
 ];
 
+// Sets all words of the block that the seat erases to all ones.
+fn wipe_all(flash: &Flash, seat: &mut BroomSeat)
+    requires seat { IsBroomOf flash.now seat.old }
+    requires erasing { (o : ReclaimedBlock) × IsErasing flash.now seat.old o }
+    requires none { (broom_view seat.old).wiped ≡ 0 }
+    ensures told { broom_view seat.new ≡ record (broom_view seat.old) { wiped = words_in_block (device flash.now) } }
+    ensures seat { IsBroomOf flash.now seat.new }
+    ensures blocks { own_blocks seat.new ≡ own_blocks seat.old }
+{
+    let geometry = flash.geometry();
+    for i in 0..geometry.pages() * (geometry.words() + 1) {
+        flash.wipe(seat, i);
+    }
+}
+
+// IsErasing a drained block in its last generation, step by step. The answer is its pin word between the condemn and the retirement, as another seat
+// reads it, or none where the block is no such block.
+fn erase_in_steps(
+    flash: &Flash,
+    seat: &mut BroomSeat,
+    watcher: &mut BroomSeat,
+    block: u32,
+) -> Option<u64>
+    requires block { block < blocks_of (geometry_of flash.now) }
+    requires seat { IsRested flash.now seat.old }
+    requires watcher { IsRested flash.now watcher.old }
+    ensures seat { IsRested flash.now seat.new }
+    ensures watcher { IsRested flash.now watcher.new }
+{
+    let state = flash.load_state(seat, block);
+    if state.phase != Phase::Drained || state.readers > 0 {
+        return None;
+    }
+    if state.generation + 1 != flash.geometry().endurance() {
+        return None;
+    }
+    if !flash.condemn(seat, block, state) {
+        return None;
+    }
+    let word = pin_word(flash, watcher, block);
+    wipe_all(flash, seat);
+    flash.retire_block(seat);
+    Some(word)
+}
+
 #[test]
 fn each_call_leaves_the_words_of_the_table(rt: HostRuntime) -> Result<(), Fail> {
     let Table {
@@ -172,7 +229,8 @@ fn each_call_leaves_the_words_of_the_table(rt: HostRuntime) -> Result<(), Fail> 
         b,
         mut broom,
         mut seat,
-    } = open(&rt)?;
+        watcher,
+    } = open(&rt, 10)?;
     let opened = words(&flash, &mut seat);
     let _ = host::write(&flash, &mut a, 0, &page(1));
     let first = words(&flash, &mut seat);
@@ -198,6 +256,7 @@ fn each_call_leaves_the_words_of_the_table(rt: HostRuntime) -> Result<(), Fail> 
     host::retire(&flash, a);
     broom::retire_broom(&flash, broom);
     fold_seat(&flash, seat);
+    fold_seat(&flash, watcher);
     let found = [
         opened, first, second, pinned, third, fourth, drained, kept, released, freed,
     ];
@@ -214,5 +273,34 @@ fn each_call_leaves_the_words_of_the_table(rt: HostRuntime) -> Result<(), Fail> 
         },
     );
     assert_eq!(rt; (drain, refused, erase), answers);
+    Ok(())
+}
+
+// The block is condemned with the pages that were written in it, and open to nobody.
+#[test]
+fn a_condemned_block_has_the_word_of_the_table(rt: HostRuntime) -> Result<(), Fail> {
+    let Table {
+        flash,
+        mut a,
+        b,
+        mut broom,
+        mut seat,
+        mut watcher,
+    } = open(&rt, 1)?;
+    let _ = host::write(&flash, &mut a, 0, &page(1));
+    let _ = host::write(&flash, &mut a, 1, &page(2));
+    let _ = host::write(&flash, &mut a, 0, &page(3));
+    let _ = host::write(&flash, &mut a, 1, &page(4));
+    let _ = broom::drain(&flash, &mut broom, &mut NoGate);
+    let drained = pin_word(&flash, &mut watcher, 0);
+    let condemned = erase_in_steps(&flash, &mut seat, &mut watcher, 0);
+    let retired = pin_word(&flash, &mut watcher, 0);
+    host::retire(&flash, a);
+    host::retire(&flash, b);
+    broom::retire_broom(&flash, broom);
+    fold_seat(&flash, seat);
+    fold_seat(&flash, watcher);
+    let found = (drained, condemned, retired);
+    assert_eq!(rt; found, (0x27000, Some(0x29000), 0x2b000));
     Ok(())
 }

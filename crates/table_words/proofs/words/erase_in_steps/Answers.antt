@@ -1,0 +1,30 @@
+use Rattle.std.proofs.Common.{rules, ◌≡◌, sym, ap, ◌∙◌, arith}
+use Rattle.geometry.specs.Geometry.{endurance_of}
+use Rattle.geometry.specs.Limits.{Numbers}
+use Rattle.geometry.specs.PinWords.{pin_word}
+use Rattle.geometry.specs.declared.pin_word.Phase.TheVariants.{Drained}
+use Rattle.flash_table.specs.declared.broom_seat.Reclaiming.TheVariants.{Nothing}
+use Rattle.flash_table.specs.Flash.{broom_view, own_blocks, geometry_of}
+use Rattle.broom.proofs.Renewing.{was_wiped, its, did_retire, rested_retired}
+use Rattle.table_words.proofs.Rested.{rested_loaded}
+use Rattle.table_words.proofs.words.erase_in_steps.Goals as goal
+
+pub returns-then-ne-clause-seat : goal.returns-then-ne-clause-seat
+returns-then-ne-clause-seat c =
+    rested_loaded c.args.flash.now c.args.seat.now c.load_state-state.new.broom c.requires.seat c.load_state-state.ensures.broom c.load_state-state.ensures.blocks c.args.block (pin_word c.load_state-state.result) c.load_state-state.ensures.told
+
+pub returns-clause-seat : goal.returns-clause-seat
+returns-clause-seat c =
+    let f = c.args.flash.now in
+    let s = c.args.seat.now in
+    let t = c.wipe_all.new.seat in
+    let u = c.retire_block.new.broom in
+    let p = c.load_state-state.result in
+    let drained : p.phase ≡ Drained = search rules in
+    let loaded : own_blocks c.load_state-state.new.broom ≡ own_blocks s = c.load_state-state.ensures.blocks in
+    let wiped = was_wiped f s c.load_state-state.new.broom c.condemn.new.broom t c.args.block p c.requires.seat c.load_state-state.ensures.fits drained (omega arith) c.load_state-state.ensures.told loaded
+    c.if-not-condemn.ensures.told c.wipe_all.ensures.told c.wipe_all.ensures.blocks in
+    let endures : c.endurance.result ≡ (broom_view s).numbers.endurance =
+    c.endurance.ensures.value ∙ (ap endurance_of c.geometry.ensures ∙ ap (λ (z : Numbers). z.endurance) (sym c.requires.seat.seat.numbers)) in
+    let done = did_retire s t u c.args.block p wiped (c.if-state-endurance.false ∙ endures) (c.retire_block.ensures.told _ (its s t c.args.block p wiped)) c.retire_block.ensures.blocks in
+    rested_retired f s u c.args.block c.requires.seat c.retire_block.ensures.broom done

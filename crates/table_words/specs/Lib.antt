@@ -1,0 +1,2 @@
+-- What a struct of the tests keeps.
+pub mod Kept
