@@ -9,5 +9,6 @@ mod role;
 mod roles;
 mod store;
 
+pub use geometry::{DeviceNumbers, Geometry, GeometryFault, Got, Was};
 pub use one_ftl::{Counts, NewOneFault, OneFtl, WornOut};
 pub use role::Role;

@@ -6,9 +6,8 @@ ghost use Rattle.host.specs.Ready.{IsReady};
 ghost use Rattle.volume.specs.Closing.{sectors_left};
 ghost use Rattle.volume.specs.Volume.{flash_of};
 
-use flash_table::Pass;
 use std::alloc::Global;
-use volume::{Closed, Volume};
+use volume::{Closed, Pass, Volume};
 
 /// Two passes of a new device write a sector each, and the device is closed. Whichever write is first in the history, it ends with both
 /// values. The device and its passes come back where no block is free, or memory ran out.

@@ -8,11 +8,7 @@ ghost use Rattle.host.specs.Ready.{IsReady};
 ghost use Rattle.volume.specs.Brooms.{IsBroomReady};
 ghost use Rattle.volume.specs.Volume.{flash_of};
 
-use broom::Broom;
-use flash_table::{NoGate, Pass};
-use geometry::Got;
-use host::Holding;
-use volume::Volume;
+use volume::{Broom, Got, Holding, NoGate, Pass, Volume};
 
 /// Reads a sector's page twice under one hold. In between, the sector is overwritten, a block is collected, and
 /// an erase of the held page's block is tried.

@@ -7,10 +7,8 @@ ghost use Rattle.volume.specs.Brooms.{IsBroomReady, IsBroomReady-prop};
 ghost use Rattle.volume.specs.Volume.{flash_of};
 ghost use Rattle.uses.specs.Sharing.{IsStored, HasHeard};
 
-use broom::{Broom, Drain};
-use flash_table::{NoGate, Pass};
 use std::thread::{Threads, join_mut};
-use volume::Volume;
+use volume::{Broom, Drain, NoGate, Pass, Volume};
 
 /// A pass at its device, and a value for a sector.
 pub struct Writer<'a> {

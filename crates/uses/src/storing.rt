@@ -1,8 +1,7 @@
 ghost use Rattle.std.specs.Prelude.{◌≡◌, ◌<◌, OnErr, OnOk, length};
 ghost use Rattle.geometry.specs.Geometry.{hosts_of, page_bytes_of, sectors_of};
 
-use ftl_one::{OneFtl, WornOut};
-use geometry::Geometry;
+use ftl_one::{Geometry, OneFtl, WornOut};
 use std::alloc::{AllocError, Global};
 use thiserror::Error;
 
