@@ -1,4 +1,4 @@
-use Rattle.std.proofs.Common.{◌≡◌, ◌∙◌, List, subst, sym}
+use Rattle.std.proofs.Common.{◌≡◌, ◌∙◌, List, ap, length, subst, sym}
 use Rattle.std.specs.Prelude.{All, IfSome, Ok}
 use Rattle.std.specs.Arc.{arc_value}
 use Rattle.trace.specs.Trace.{commands_of}
@@ -26,7 +26,7 @@ deliver-requires-clause-pages g c =
     let geo = c.args.geometry.now in
     let rows = c.deref-2.result.now in
     let rows_played = subst (λ r. ArePlayed geo (arc_value c.in-Ok-new-2.commands) (answers_by r)) (sym c.deref-2.ensures.value) c.in-Ok-play_commands.ensures.played in
-    whole_pages geo (arc_value c.in-Ok-new-2.commands) rows (digits_in c.in-Ok-new.delivery) (c.deref-2.ensures.len ∙ c.in-Ok-play_commands.ensures.rows) c.in-Ok-new.ensures.digits rows_played
+    whole_pages geo (arc_value c.in-Ok-new-2.commands) rows (digits_in c.in-Ok-new.delivery) (ap length c.deref-2.ensures.value ∙ c.in-Ok-play_commands.ensures.rows) c.in-Ok-new.ensures.digits rows_played
 
 pub returns-in-Ok-deliver-clause-text : goal.returns-in-Ok-deliver-clause-text
 returns-in-Ok-deliver-clause-text g c =
