@@ -32,5 +32,5 @@ fn play<E: Write>(rt: &HostRuntime, errors: &mut Watched<E>) -> Result<u8, Stop>
     let mut output = Watched::new(rt.stdout());
     let file = LateFile::new(rt, wear_name(alloc, &words).unwrap_or(""));
     let mut wear = Watched::new(file);
-    Ok(session(alloc, &words, &mut input, &mut output, errors, &mut wear))
+    Ok(session(rt, alloc, &words, &mut input, &mut output, errors, &mut wear))
 }
