@@ -1,9 +1,9 @@
 -- What a run's answers are for a delivery: one for each line, with a whole page where one is told.
-use Rattle.std.proofs.Common.{◌≡◌, ℕ, ◌+◌, ◌*◌, ◌<◌, ◌≤◌, ◌⊎◌, ⊎_elim, zero, suc, Bool, true, false, List, [], ◌∷◌, ◌++◌, Option, None, Some, length, get_or, refl, sym, ap, ◌∙◌, subst, arith, ne_eqb}
+use Rattle.std.proofs.Common.{◌≡◌, ℕ, ◌*◌, ◌<◌, ◌≤◌, ⊎_elim, zero, suc, Bool, true, false, List, [], ◌∷◌, ◌++◌, Option, None, Some, length, get_or, refl, sym, ap, ◌∙◌, subst, arith, ne_eqb}
 use Rattle.std.specs.Prelude.{All, IfSome, Ok, Vec, if◌then◌else◌, not, ◌&&◌, ◌==◌, slice_get}
 use Rattle.std.specs.Io.KnownBytes.{Appends}
 use Rattle.std.specs.Global.{Global}
-use Rattle.std.proofs.lemmas.List.{get_or-map, length-map}
+use Rattle.std.proofs.lemmas.List.{get_or-map}
 use Rattle.std.proofs.lemmas.List.Elements.{All-head, All-tail}
 use Rattle.std.proofs.lemmas.Option.{slice_get-get_or}
 use mathlib.Core.Logic.{dite}
@@ -11,9 +11,8 @@ use native.Mathlib.Decide.{dec_lt}
 use Rattle.geometry.specs.Geometry.{hosts_of, page_bytes_of, sectors_of}
 use Rattle.geometry.specs.History.{Call}
 use Rattle.geometry.specs.Sectors.{Sector, was_of}
-use Rattle.geometry.specs.declared.answer.Was.TheVariants as was
 use Rattle.geometry.specs.declared.geometry.Geometry.{Geometry}
-use Rattle.trace.specs.Trace.{commands_of, workers_of}
+use Rattle.trace.specs.Trace.{commands_of}
 use Rattle.trace.specs.declared.commands.Command.{Command}
 use Rattle.trace.specs.declared.commands.Op.{Op}
 use Rattle.trace.specs.declared.commands.Op.TheVariants as op
@@ -24,7 +23,7 @@ use Rattle.lines.specs.Playing.{Plays}
 use Rattle.lines.specs.declared.answer.Answer.{Answer}
 use Rattle.lines.specs.declared.answer.Kind.{Kind}
 use Rattle.lines.specs.declared.answer.Kind.TheVariants as kind
-use Rattle.rounds.specs.Merging.{is_line_of, is_meet, line_count, lines_for, merge, HaveAnswers}
+use Rattle.rounds.specs.Merging.{is_meet, line_count, lines_for, merge, HaveAnswers}
 use Rattle.rounds.specs.Rows.{answers_by, answers_in}
 use Rattle.rounds.specs.Texts.{lines_text}
 use Rattle.delivery.specs.Delivering.{HasDigits, text_of}
