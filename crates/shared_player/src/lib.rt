@@ -2,13 +2,17 @@
 #![tactic(auto)]
 
 mod crew;
+mod dealing;
 mod leaving;
 mod meetings;
+mod opening;
 mod post;
 mod runs;
+mod share;
 mod starts;
 mod sweeper;
 mod turns;
+mod unseated;
 
 pub use crew::{Back, play_posts};
 pub use leaving::{fold_sweepers, hand_out};
