@@ -6,3 +6,4 @@ pub mod Going
 pub mod Turning
 pub mod Looping
 pub mod Lent
+pub mod Dealt

@@ -1,11 +1,13 @@
 -- The shares of a trace, and the posts that they make.
-use Rattle.std.specs.Prelude.{◌≡◌, ℕ, List, Vec}
+use Rattle.std.specs.Prelude.{◌≡◌, ℕ, List, Vec, map}
 use Rattle.std.specs.declared.sync.Arc.{Arc}
 use Rattle.std.specs.Arc.{arc_value}
 use Rattle.std.specs.Global.{Global}
+use Rattle.std.specs.List.{range_with_len}
 use Rattle.geometry.specs.declared.geometry.Geometry.{Geometry}
 use Rattle.trace.specs.declared.commands.Command.{Command}
 use Rattle.volume.specs.declared.volume.Volume.{Volume}
+use Rattle.rounds.specs.Plans.{places_for}
 use Rattle.shared_player.specs.declared.post.Post.{Post}
 use Rattle.shared_player.specs.declared.share.Share.{Share}
 use Rattle.shared_player.specs.Dealing.{IsFit}
@@ -17,6 +19,10 @@ work_in s = (arc_value s.commands, s.places.items)
 -- the same, of commands and a row of places
 abbrev pub with_commands : List Command → Vec ℕ Global → List Command × List ℕ
 with_commands cs row = (cs, row.items)
+
+-- the places of each worker's lines among commands
+abbrev pub rows_for : ℕ → List Command → List (List ℕ)
+rows_for hosts cs = map (λ t. places_for t cs) (range_with_len 0 hosts)
 
 -- a share that a device of this geometry can play
 abbrev pub HasFitShare : Geometry → Share → Type 0
