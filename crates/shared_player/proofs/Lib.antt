@@ -7,3 +7,4 @@ pub mod Turning
 pub mod Looping
 pub mod Lent
 pub mod Dealt
+pub mod Openings

@@ -1,5 +1,8 @@
 //! Posts and sweepers for the threads of a run.
 ghost use Rattle.std.specs.Prelude.{◌≡◌, ◌<◌, ◌≤◌, All, IfOk, length, map, vec_capacity};
+ghost use Rattle.answers.specs.Playable.{IsPlayable};
+ghost use Rattle.rounds.specs.Plans.{ends_of, items_of};
+ghost use Rattle.shared_player.specs.Runs.{AreManned, HasBegun};
 ghost use Rattle.std.specs.Arc.{arc_value};
 ghost use Rattle.geometry.specs.Geometry.{brooms_of, hosts_of};
 ghost use Rattle.flash_table.specs.Flash.{geometry_of};
@@ -7,16 +10,20 @@ ghost use Rattle.host.specs.Ready.{IsReady};
 ghost use Rattle.volume.specs.Brooms.{IsBroomReady};
 ghost use Rattle.volume.specs.Volume.{flash_of};
 ghost use Rattle.shared_player.specs.Meetings.{IsAt, passes_of};
-ghost use Rattle.shared_player.specs.Shares.{HasFitShare, HasPlayedNone, IsOwner, work_in, work_of};
+ghost use Rattle.shared_player.specs.Shares.{HasFitShare, HasPlayedNone, IsOwner, rows_for, work_in, work_of};
 
+use crate::crew::Back;
+use crate::opening::{more_owners, open_shared};
 use crate::post::Post;
-use crate::share::Share;
+use crate::share::{Share, make_shares};
 use crate::sweeper::Sweeper;
 use broom::Broom;
 use flash_table::Pass;
-use std::alloc::Global;
+use geometry::Geometry;
+use std::alloc::{AllocError, Global};
 use std::collections::VecDeque;
 use std::sync::Arc;
+use trace::Commands;
 use volume::Volume;
 
 // A post with this pass and this share.
@@ -47,7 +54,7 @@ fn seat(volume: Arc<Volume, Global>, pass: Pass, share: Share) -> Post
 }
 
 // A post for each pass and its share, in order.
-pub(crate) fn seat_posts(
+fn seat_posts(
     volume: &Volume,
     passes: Vec<Pass>,
     owners: Vec<Arc<Volume, Global>>,
@@ -82,7 +89,7 @@ pub(crate) fn seat_posts(
 }
 
 // A sweeper for each broom.
-pub(crate) fn seat_sweepers(
+fn seat_sweepers(
     volume: &Volume,
     brooms: Vec<Broom>,
     owners: Vec<Arc<Volume, Global>>,
@@ -104,4 +111,33 @@ pub(crate) fn seat_sweepers(
         sweepers.push_reserved(Sweeper { volume, broom });
     }
     brooms.destroy_empty();
+}
+
+// What a run takes: a device, a post for each row of places, and a sweeper for each broom. `Err` is out of memory, and then nothing is left of them.
+pub(crate) fn deal(
+    alloc: Global,
+    geometry: &Geometry,
+    commands: &Arc<Commands, Global>,
+    rows: Vec<Vec<usize>>,
+) -> Result<(Arc<Volume, Global>, Back), AllocError>
+    requires hosts { 0 < hosts_of geometry.now }
+    requires playable { All (IsPlayable geometry.now) (arc_value commands.now) }
+    requires rows { map items_of rows.items ≡ rows_for (hosts_of geometry.now) (arc_value commands.now) }
+    ensures geometry { IfOk result (λ r. geometry_of (flash_of (arc_value r.0)) ≡ geometry.now) }
+    ensures begun { IfOk result (λ r. HasBegun (arc_value r.0) (arc_value commands.now) (ends_of (arc_value commands.now)) r.1.posts.items) }
+    ensures manned { IfOk result (λ r. AreManned (arc_value r.0) r.1.posts.items) }
+    ensures sweepers { IfOk result (λ r. length r.1.sweepers.items ≡ brooms_of geometry.now) }
+{
+    let hosts = geometry.hosts() as usize;
+    let brooms = geometry.brooms() as usize;
+    let shares = make_shares(alloc, geometry, commands, rows)?;
+    let mut posts = Vec::with_capacity(alloc, hosts)?;
+    let mut sweepers = Vec::with_capacity(alloc, brooms)?;
+    let unseated = open_shared(alloc, geometry)?;
+    let post_owners = more_owners(alloc, &unseated.volume, hosts)?;
+    let sweeper_owners = more_owners(alloc, &unseated.volume, brooms)?;
+    let (volume, passes, brooms) = unseated.into_parts();
+    seat_posts(&volume, passes, post_owners, shares, &mut posts);
+    seat_sweepers(&volume, brooms, sweeper_owners, &mut sweepers);
+    Ok((volume, Back { posts, sweepers }))
 }
