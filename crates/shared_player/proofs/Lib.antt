@@ -8,3 +8,4 @@ pub mod Looping
 pub mod Lent
 pub mod Dealt
 pub mod Openings
+pub mod Ended
