@@ -6,15 +6,22 @@ ghost use Rattle.answers.specs.Playable.{IsPlayable};
 ghost use Rattle.rounds.specs.Rows.{answers_by};
 ghost use Rattle.shared_player.specs.Commands.{ArePlayed};
 
+use crate::crew::Back;
+use crate::dealing::deal;
+use crate::leaving::{fold_sweepers, hand_out};
+use crate::runs::play_rounds;
 use crate::starts::{NoShift, Starts};
 use flash_table::Gate;
 use geometry::Geometry;
 use lines::Answer;
+use rounds::Plan;
 use std::alloc::Global;
 use std::sync::{Arc, Wait};
 use std::thread::Threads;
 use trace::Commands;
 
+/// Plays the commands of a trace on a new device, by a thread for each worker with a line in a round, and brooms beside them. There is a gate for each
+/// host, and then one for each broom. The rows are the workers' answers, by their numbers. After a fault no thread runs, and nothing is left.
 pub fn play_commands<R: Threads + Wait + Sync, S: Starts + Copy + Drop, G: Gate + Send>(
     rt: &R,
     alloc: Global,
@@ -30,5 +37,12 @@ pub fn play_commands<R: Threads + Wait + Sync, S: Starts + Copy + Drop, G: Gate 
     ensures rows { IfOk result (λ rows. length rows.items ≡ hosts_of geometry.now) }
     ensures played { IfOk result (λ rows. ArePlayed geometry.now (arc_value commands.now) (answers_by rows.items)) }
 {
-    Err(NoShift::Memory)
+    let Plan { rows: places, ends } = Plan::new(alloc, commands, geometry.hosts())?;
+    let mut rows = Vec::with_capacity(alloc, geometry.hosts() as usize)?;
+    let (volume, crew) = deal(alloc, geometry, commands, places)?;
+    let crew = play_rounds(rt, alloc, starts, &volume, crew, &ends, patience, gates)?;
+    let Back { posts, sweepers } = crew;
+    fold_sweepers(rt, sweepers);
+    hand_out(posts, &mut rows);
+    Ok(rows)
 }

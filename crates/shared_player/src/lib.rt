@@ -3,13 +3,17 @@
 
 mod commands;
 mod crew;
+mod dealing;
 mod leaving;
 mod meetings;
+mod opening;
 mod post;
 mod runs;
+mod share;
 mod starts;
 mod sweeper;
 mod turns;
+mod unseated;
 
 pub use commands::play_commands;
 pub use crew::{Back, play_posts};
