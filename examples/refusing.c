@@ -1,10 +1,13 @@
 // Stands between a program and the C library, and refuses or cuts short what the environment names:
 //   REFUSE_ALLOCATION=K  the K-th allocation        REFUSE_READ=K, REFUSE_WRITE=K  the K-th read of standard input, write to
 //   REFUSE_WITH=E        by this error number       standard output (with error 0 a write takes nothing)
+//   REFUSE_THREAD=K      the K-th start of a thread
 //   MOST=N               a read gives, and a write takes, N bytes at most; with SEED=S from 1 to N at random
 //   REPORT=FILE          gets the numbers of allocations, of reads and writes, and of writes to standard error at the end
 #define _GNU_SOURCE
+#include <dlfcn.h>
 #include <errno.h>
+#include <pthread.h>
 #include <stdio.h>
 #include <stdlib.h>
 #include <sys/syscall.h>
@@ -58,6 +61,14 @@ void *realloc(void *old, size_t size) {
     return __libc_realloc(old, size);
 }
 
+int pthread_create(pthread_t *thread, const pthread_attr_t *how, void *(*start)(void *), void *argument) {
+    static long threads;
+    if (is_refused(&threads, "REFUSE_THREAD"))
+        return EAGAIN;
+    int (*real)(pthread_t *, const pthread_attr_t *, void *(*)(void *), void *) = dlsym(RTLD_NEXT, "pthread_create");
+    return real(thread, how, start, argument);
+}
+
 ssize_t read(int file, void *bytes, size_t length) {
     if (file == 0) {
         if (is_refused(&reads, "REFUSE_READ"))
@@ -89,4 +100,11 @@ __attribute__((destructor)) static void report(void) {
         fprintf(file, "%ld %ld %ld %ld\n", allocations, reads, writes, tellings);
         fclose(file);
     }
+}
+
+// A program that may start threads ends by this call, which runs no destructor.
+void _exit(int status) {
+    report();
+    syscall(SYS_exit_group, status);
+    __builtin_unreachable();
 }

@@ -8,18 +8,24 @@ use late_file::LateFile;
 use player::{Stop, Watched, read_words, session, tell, wear_name};
 use std::io::Write;
 use std::process::ExitCode;
+use std::sync::Wait;
+use std::thread::Threads;
 
 fn main(rt: HostRuntime) -> ExitCode {
     let mut errors = Watched::new(rt.stderr());
-    let status = match play(&rt, &mut errors) {
+    let status = match play(&rt, &rt, &mut errors) {
         Ok(status) => status,
         Err(stop) => tell(&stop, &mut errors),
     };
     ExitCode::from(status)
 }
 
-// Runs a session on the arguments and the standard streams.
-fn play<E: Write>(rt: &HostRuntime, errors: &mut Watched<E>) -> Result<u8, Stop> {
+// Runs a session on the arguments and the standard streams. Its threads are started by a handle of their own.
+fn play<T: Threads + Wait + Sync, E: Write>(
+    rt: &HostRuntime,
+    threads: &T,
+    errors: &mut Watched<E>,
+) -> Result<u8, Stop> {
     let alloc = rt.alloc();
     let arguments = read_words(rt, alloc)?;
     let mut words = Vec::new(alloc);
@@ -32,5 +38,13 @@ fn play<E: Write>(rt: &HostRuntime, errors: &mut Watched<E>) -> Result<u8, Stop>
     let mut output = Watched::new(rt.stdout());
     let file = LateFile::new(rt, wear_name(alloc, &words).unwrap_or(""));
     let mut wear = Watched::new(file);
-    Ok(session(alloc, &words, &mut input, &mut output, errors, &mut wear))
+    Ok(session(
+        threads,
+        alloc,
+        &words,
+        &mut input,
+        &mut output,
+        errors,
+        &mut wear,
+    ))
 }

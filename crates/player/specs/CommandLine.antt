@@ -6,18 +6,23 @@ use Rattle.clap.specs.Words.{App, Kinds, Row, Rule, Text, fault_of, first_of, ma
 use Rattle.clap.specs.declared.builder.value_parser.ValueParser.TheVariants as parser
 use Rattle.geometry.specs.Limits.{Numbers, numbers}
 use Rattle.player.specs.declared.command_line.Options.{Options}
-use Rattle.player.specs.declared.command_line.TheConstants.{LUNS, BLOCKS, PAGES, WORDS, SECTORS, ENDURANCE}
+use Rattle.player.specs.declared.command_line.TheConstants.{LUNS, BLOCKS, PAGES, WORDS, SECTORS, ENDURANCE, WORKERS, BROOMS, PATIENCE}
 
 -- an option: its name behind two dashes, and one whole number of 32 bits, with a default
 abbrev pub option_rule : Text → Text → Rule
 option_rule name default =
     record (new_rule name) { long = Some name; value_names = 1; defaults = default ∷ []; parser = Some (parser.Signed (pos 0) (pos 4294967295)) }
 
+-- the option of the tries of a write, which are some
+abbrev pub patience_rule : Rule
+patience_rule =
+    record (new_rule (codes "patience")) { long = Some (codes "patience"); value_names = 1; defaults = codes "1000000" ∷ []; parser = Some (parser.Signed (pos 1) (pos 1000000000)) }
+
 -- an option of a file's name, which may be absent
 abbrev pub file_rule : Text → Rule
 file_rule name = record (new_rule name) { long = Some name; value_names = 1 }
 
--- the program's command line: the numbers of a device, and the file of the wear
+-- a command line with the numbers of a device
 abbrev pub with_numbers : App
 with_numbers =
     with_rule (with_rule (with_rule (with_rule (with_rule (with_rule (new_app (codes "flashplay"))
@@ -28,9 +33,13 @@ with_numbers =
     (option_rule (codes "sectors") (codes "3072")))
     (option_rule (codes "endurance") (codes "1000"))
 
--- the program's command line: eight options with numbers and the file of the wear
+-- a command line with the threads of a run too: workers, brooms, and the tries of a write
+abbrev pub with_threads : App → App
+with_threads app = with_rule (with_rule (with_rule app (option_rule (codes "workers") (codes "0"))) (option_rule (codes "brooms") (codes "0"))) patience_rule
+
+-- the program's command line: the numbers of a device, the threads of a run, and the file of the wear
 abbrev pub flashplay : App
-flashplay = with_rule with_numbers (file_rule (codes "wear"))
+flashplay = with_rule (with_threads with_numbers) (file_rule (codes "wear"))
 
 -- what clap finds for each option in the words of a command line, the defaults included
 unfoldable pub rows_given : List Text → List Row
@@ -61,8 +70,11 @@ pub record AreOptionsOf (rows : List Row) (given : Options) : Type 0 where
   pub words : IsNumberOf rows (codes "words") WORDS given.words
   pub sectors : IsNumberOf rows (codes "sectors") SECTORS given.sectors
   pub endurance : IsNumberOf rows (codes "endurance") ENDURANCE given.endurance
+  pub workers : IsNumberOf rows (codes "workers") WORKERS given.workers
+  pub brooms : IsNumberOf rows (codes "brooms") BROOMS given.brooms
+  pub patience : IsNumberOf rows (codes "patience") PATIENCE given.patience
   pub wear : option_map (λ name. name.now) given.wear ≡ first_of (codes "wear") rows
 
--- the numbers of the device that the options describe, which is for one thread
+-- the numbers of the device that the options describe: it has a host for each worker
 abbrev pub numbers_given : Options → Numbers
-numbers_given given = numbers given.luns given.blocks given.pages given.words given.sectors given.endurance 0 0
+numbers_given given = numbers given.luns given.blocks given.pages given.words given.sectors given.endurance given.workers given.brooms

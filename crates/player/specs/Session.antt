@@ -1,10 +1,10 @@
 -- How a session of the program ends.
-use Rattle.std.specs.Prelude.{◌≡◌, ◌≢◌, ◌⊎◌, ◌≤◌, ⊤, ℕ, true, List, [], Option, IfSome, MatchOption, is_some, Some, Result, Ok, Err}
+use Rattle.std.specs.Prelude.{◌≡◌, ◌≢◌, ◌⊎◌, ◌≤◌, ⊤, ℕ, zero, suc, true, List, [], Option, IfSome, MatchOption, is_some, Some, Result, Ok, Err}
 use Rattle.std.specs.Io.KnownBytes.{Appends, IsAtEnd}
 use Rattle.clap.specs.Words.{IsAmong, Text, kind_of}
 use Rattle.clap.specs.declared.error.Error.{Error}
 use Rattle.clap.specs.declared.error.kind.ErrorKind.TheVariants as kind
-use Rattle.geometry.specs.Geometry.{numbers_of}
+use Rattle.geometry.specs.Geometry.{hosts_of, numbers_of}
 use Rattle.geometry.specs.Limits.{first_fault}
 use Rattle.geometry.specs.declared.geometry.Geometry.{Geometry}
 use Rattle.geometry.specs.declared.fault.GeometryFault.{GeometryFault}
@@ -17,6 +17,7 @@ use Rattle.answers.specs.declared.fault.RunFault.{RunFault}
 use Rattle.answers.specs.declared.fault.RunFault.TheVariants as run
 use Rattle.one_player.specs.Playing.{IsTextOf}
 use Rattle.one_player.specs.Wear.{IsWearOf}
+use Rattle.shared_run.specs.Texts.{IsTextOf as IsSharedTextOf}
 use Rattle.player.specs.CommandLine.{AreOptionsOf, faults_given, numbers_given, rows_given}
 use Rattle.player.specs.Telling.{TellsEnding}
 use Rattle.player.specs.declared.command_line.Options.{Options}
@@ -45,6 +46,7 @@ status_of (stop.Run found) = status_of_run found
 status_of stop.Help = 1
 status_of stop.Memory = 4
 status_of stop.Wear = 1
+status_of stop.SharedWear = 2
 
 -- the device that the words of a command line describe: clap finds no fault in the words
 pub record IsDescribed (words : List Text) (geo : Geometry) : Type 0 where
@@ -60,12 +62,21 @@ pub record DescribesNone (words : List Text) (found : GeometryFault) : Type 0 wh
   pub told : AreOptionsOf (rows_given words) given
   pub first : first_fault (numbers_given given) ≡ Some found
 
+-- the text of a run by so many workers: without any it is that of one thread
+abbrev pub IsTextBy : ℕ → Geometry → List ℕ → List ℕ → Type 0
+IsTextBy zero geo bytes text = IsTextOf geo bytes text
+IsTextBy (suc others) geo bytes text = IsSharedTextOf geo bytes text
+
+-- the text of a run on this device, by a worker for each of its hosts
+abbrev pub IsTextFor : Geometry → List ℕ → List ℕ → Type 0
+IsTextFor geo bytes text = IsTextBy (hosts_of geo) geo bytes text
+
 -- the trace was played: the input was read to its end, the text of all its bytes was written, and no call failed
 pub record Answered (words : List Text) (input_old input_new output_old output_new : Stream) : Type 0 where
   pub geo : Geometry
   pub device : IsDescribed words geo
   pub end : IsAtEnd input_new.bytes
-  pub text : IfSome input_old.bytes (λ bytes. AppendsText (IsTextOf geo) bytes output_old.bytes output_new.bytes)
+  pub text : IfSome input_old.bytes (λ bytes. AppendsText (IsTextFor geo) bytes output_old.bytes output_new.bytes)
   pub input_unfailed : input_new.failures ≡ input_old.failures
   pub output_unfailed : output_new.failures ≡ output_old.failures
 
@@ -99,7 +110,14 @@ pub record Helped (words : List Text) (input_old input_new output_old output_new
 pub record Stopped (words : List Text) (found : RunFault) (input_old input_new output_old output_new : Stream) : Type 0 where
   pub geo : Geometry
   pub device : IsDescribed words geo
-  pub why : ExplainsRun (IsTextOf geo) found geo input_old input_new output_old output_new
+  pub why : ExplainsRun (IsTextFor geo) found geo input_old input_new output_old output_new
+
+-- the words describe a device with workers, and name a file for the wear, which one thread alone tells
+pub record WantsSharedWear (words : List Text) : Type 0 where
+  pub geo : Geometry
+  pub device : IsDescribed words geo
+  pub shared : hosts_of geo ≢ 0
+  pub asked : is_some device.given.wear ≡ true
 
 -- some of a text went out, and then the writer failed
 pub record AppendsSome (old new : Stream) : Type 0 where
@@ -123,6 +141,8 @@ ExplainsStop stop.Memory words input_old input_new output_old output_new wear_ol
     (input_new ≡ input_old) × (output_new ≡ output_old) × (wear_new ≡ wear_old)
 ExplainsStop stop.Wear words input_old input_new output_old output_new wear_old wear_new =
     LosesWear words input_old input_new output_old output_new wear_old wear_new
+ExplainsStop stop.SharedWear words input_old input_new output_old output_new wear_old wear_new =
+    WantsSharedWear words × (input_new ≡ input_old) × (output_new ≡ output_old) × (wear_new ≡ wear_old)
 
 -- how an attempt ended
 abbrev pub Explains : Result (Unit {0}) Stop → List Text → Stream → Stream → Stream → Stream → Stream → Stream → Type 0
@@ -158,6 +178,7 @@ AnswersClap error (Err stop.Help) output_old output_new =
 AnswersClap error (Err stop.Memory) output_old output_new =
     ((kind_of error ≡ kind.OutOfMemory) ⊎ (kind_of error ≡ kind.DisplayHelp)) × (output_new ≡ output_old)
 AnswersClap error (Err stop.Wear) output_old output_new = ⊥
+AnswersClap error (Err stop.SharedWear) output_old output_new = ⊥
 
 -- why the words of a command line could not be read; arguments count from 1
 abbrev pub IsUnread : Stop → Type 0
@@ -168,3 +189,4 @@ IsUnread (stop.Run found) = ⊥
 IsUnread stop.Help = ⊥
 IsUnread stop.Memory = ⊤
 IsUnread stop.Wear = ⊥
+IsUnread stop.SharedWear = ⊥

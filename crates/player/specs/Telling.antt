@@ -17,6 +17,7 @@ line_of (stop.Run found) = Some (run_text found ++ codes "\n")
 line_of stop.Help = Some (codes "output: failed\n")
 line_of stop.Memory = Some (codes "memory: refused\n")
 line_of stop.Wear = Some (codes "wear: failed\n")
+line_of stop.SharedWear = Some (codes "wear: not with workers\n")
 
 -- a line went out whole where no call of the writer failed, and else a beginning of it
 pub record IsTold (line : List ℕ) (old new : Stream) : Type 0 where

@@ -1,8 +1,11 @@
 ghost use Rattle.std.specs.Prelude.{◌≡◌, codes, map, Some, IfOk, IfSome};
 ghost use Rattle.clap.specs.Words.{FailsBy, app_of, first_of, found_of, rows_of, with_rule};
-ghost use Rattle.player.specs.CommandLine.{AreOptionsOf, IsNumberOf, faults_given, file_rule, flashplay, option_rule, rows_given, with_numbers};
+ghost use Rattle.player.specs.CommandLine.{AreOptionsOf, IsNumberOf, faults_given, file_rule, flashplay, option_rule, patience_rule, rows_given, with_numbers, with_threads};
 
-use crate::command_line::{BLOCKS, ENDURANCE, LUNS, Options, PAGES, SECTORS, WORDS};
+use crate::command_line::{
+    BLOCKS, BROOMS, ENDURANCE, LUNS, Options, PAGES, PATIENCE, SECTORS, WORDS, WORKERS,
+};
+use clap::builder::ValueParser;
 use clap::{Arg, ArgMatches, Command, Error, value_parser};
 use std::alloc::{AllocError, Global};
 
@@ -23,6 +26,9 @@ pub fn options<'a>(alloc: Global, words: &'a [&'a str]) -> Result<Options<'a>, E
         words: number(&matches, "words", WORDS),
         sectors: number(&matches, "sectors", SECTORS),
         endurance: number(&matches, "endurance", ENDURANCE),
+        workers: number(&matches, "workers", WORKERS),
+        brooms: number(&matches, "brooms", BROOMS),
+        patience: number(&matches, "patience", PATIENCE),
         wear: matches.get_str("wear"),
     })
 }
@@ -42,6 +48,7 @@ fn flashplay<'a>(alloc: Global) -> Result<Command<'a>, AllocError>
     ensures { IfOk result (λ command. app_of command ≡ flashplay) }
 {
     let command = with_numbers(alloc)?;
+    let command = with_threads(alloc, command)?;
     with_file(
         alloc,
         command,
@@ -93,6 +100,40 @@ fn with_numbers<'a>(alloc: Global) -> Result<Command<'a>, AllocError>
         "1000",
         "Erase cycles of a block, from 1 to 1000000; the last one fails",
     )
+}
+
+// The command with the threads of a run.
+fn with_threads<'a>(alloc: Global, command: Command<'a>) -> Result<Command<'a>, AllocError>
+    ensures { IfOk result (λ more. app_of more ≡ with_threads (app_of command.entry)) }
+{
+    let command = with(
+        alloc,
+        command,
+        "workers",
+        "0",
+        "Workers that play the trace, each in a thread of its own, from 1 to 500; with 0 one thread plays all",
+    )?;
+    let command = with(
+        alloc,
+        command,
+        "brooms",
+        "0",
+        "Brooms that collect beside the workers, each in a thread of its own, from 0 to 32",
+    )?;
+    with_patience(alloc, command)
+}
+
+// The command with the tries of a write.
+fn with_patience<'a>(alloc: Global, command: Command<'a>) -> Result<Command<'a>, AllocError>
+    ensures { IfOk result (λ more. app_of more ≡ with_rule (app_of command.entry) patience_rule) }
+{
+    let option = Arg::new(alloc, "patience")
+        .long("patience")
+        .value_name("N")
+        .value_parser(ValueParser::signed(1, 1_000_000_000))
+        .default_value("1000000")
+        .help("Tries of a worker's write that finds no block, before it is full");
+    command.arg(option)
 }
 
 // The command with one option more, of one whole number.

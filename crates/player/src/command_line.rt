@@ -10,6 +10,12 @@ pub const WORDS: u32 = 64;
 pub const SECTORS: u32 = 3072;
 /// The erase cycles of a block where `--endurance` is absent.
 pub const ENDURANCE: u32 = 1000;
+/// The workers where `--workers` is absent: one thread plays the trace.
+pub const WORKERS: u32 = 0;
+/// The brooms where `--brooms` is absent.
+pub const BROOMS: u32 = 0;
+/// The tries of a write where `--patience` is absent.
+pub const PATIENCE: u32 = 1_000_000;
 
 /// What the command line gives, under the names of its options.
 #[derive(Clone, Copy, Debug, PartialEq, Eq)]
@@ -20,6 +26,9 @@ pub struct Options<'a> {
     pub words: u32,
     pub sectors: u32,
     pub endurance: u32,
+    pub workers: u32,
+    pub brooms: u32,
+    pub patience: u32,
     /// The file for the wear of each block.
     pub wear: Option<&'a str>,
 }

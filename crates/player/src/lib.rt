@@ -14,6 +14,7 @@ pub use command_line::Options;
 pub use environment::read_words;
 pub use one_player::run;
 pub use sessions::session;
+pub use shared_run::run_shared;
 pub use stop::Stop;
 pub use telling::tell;
 pub use trace::{TraceFault, TraceFaultKind, Watched};

@@ -1,20 +1,27 @@
-ghost use Rattle.std.specs.Prelude.{◌≡◌, Some, map, IfErr, IfOk};
+ghost use Rattle.std.specs.Prelude.{◌≡◌, Some, map, IfErr, IfOk, IfSome, OnOk};
+ghost use Rattle.std.specs.Io.KnownBytes.{IsAtEnd};
 ghost use Rattle.geometry.specs.Geometry.{numbers_of};
 ghost use Rattle.geometry.specs.Limits.{first_fault};
+ghost use Rattle.trace.specs.Watched.{failures_of, inner_of};
+ghost use Rattle.answers.specs.Delivery.{AppendsText};
+ghost use Rattle.answers.specs.Outcome.{ExplainsRun};
 ghost use Rattle.answers.specs.Streams.{stream_of};
 ghost use Rattle.player.specs.CommandLine.{numbers_given};
-ghost use Rattle.player.specs.Session.{AnswersClap, EndsSession, Explains};
+ghost use Rattle.player.specs.Session.{AnswersClap, EndsSession, Explains, IsTextFor};
 
 use crate::arguments::options;
 use crate::command_line::Options;
 use crate::stop::Stop;
 use crate::telling::tell;
-use answers::{OutputFailed, send};
+use answers::{OutputFailed, RunFault, send};
 use clap::error::ErrorKind;
 use geometry::{Geometry, GeometryFault};
 use one_player::{run, run_with_wear};
+use shared_run::run_by_workers;
 use std::alloc::Global;
 use std::io::{Read, Write};
+use std::sync::Wait;
+use std::thread::Threads;
 use trace::Watched;
 
 /// A whole session of the program: its arguments, its device, and its run. The answer is the exit
@@ -27,8 +34,9 @@ use trace::Watched;
 /// | 1 | the input, the output or the file of the wear failed |
 /// | 2 | the arguments are refused, or make no device |
 /// | 3 | the trace has a fault, or is too big |
-/// | 4 | memory ran out |
-pub fn session<'a, R: Read, W: Write, E: Write, V: Write>(
+/// | 4 | memory ran out, or a thread was refused |
+pub fn session<'a, T: Threads + Wait + Sync, R: Read, W: Write, E: Write, V: Write>(
+    rt: &T,
     alloc: Global,
     words: &'a [&'a str],
     reader: &mut Watched<R>,
@@ -41,14 +49,15 @@ pub fn session<'a, R: Read, W: Write, E: Write, V: Write>(
     // A session that ends well tells nothing there.
     ensures quiet { result ≡ 0 → stream_of E.contents errors.new ≡ stream_of E.contents errors.old }
 {
-    match attempt(alloc, words, reader, writer, wear) {
+    match attempt(rt, alloc, words, reader, writer, wear) {
         Ok(()) => 0,
         Err(stop) => tell(&stop, errors),
     }
 }
 
 // Reads the arguments, makes the device and plays the trace.
-fn attempt<'a, R: Read, W: Write, V: Write>(
+fn attempt<'a, T: Threads + Wait + Sync, R: Read, W: Write, V: Write>(
+    rt: &T,
     alloc: Global,
     words: &'a [&'a str],
     reader: &mut Watched<R>,
@@ -66,19 +75,45 @@ fn attempt<'a, R: Read, W: Write, V: Write>(
         Err(fault) => return Err(Stop::Geometry(fault)),
     };
     match given.wear {
-        None => match run(alloc, reader, writer, &geometry) {
+        None => match play(rt, alloc, reader, writer, &geometry, given.patience) {
             Ok(()) => Ok(()),
             Err(fault) => Err(Stop::Run(fault)),
         },
-        Some(_) => match run_with_wear(alloc, reader, writer, wear, &geometry) {
-            Ok(Ok(())) => Ok(()),
-            Ok(Err(OutputFailed)) => Err(Stop::Wear),
-            Err(fault) => Err(Stop::Run(fault)),
-        },
+        Some(_) => {
+            if geometry.hosts() > 0 {
+                return Err(Stop::SharedWear);
+            }
+            match run_with_wear(alloc, reader, writer, wear, &geometry) {
+                Ok(Ok(())) => Ok(()),
+                Ok(Err(OutputFailed)) => Err(Stop::Wear),
+                Err(fault) => Err(Stop::Run(fault)),
+            }
+        }
     }
 }
 
-// The device of these numbers, for one thread.
+// Plays the trace on its device: by a worker for each of its hosts, and by one thread where it has none.
+fn play<T: Threads + Wait + Sync, R: Read, W: Write>(
+    rt: &T,
+    alloc: Global,
+    reader: &mut Watched<R>,
+    writer: &mut Watched<W>,
+    geometry: &Geometry,
+    patience: u32,
+) -> Result<(), RunFault>
+    ensures end { OnOk result (IsAtEnd (R.remaining (inner_of reader.new))) }
+    ensures text { OnOk result (IfSome (R.remaining (inner_of reader.old)) (λ bytes. AppendsText (IsTextFor geometry.now) bytes (W.contents (inner_of writer.old)) (W.contents (inner_of writer.new)))) }
+    ensures reader_unfailed { OnOk result (failures_of reader.new ≡ failures_of reader.old) }
+    ensures writer_unfailed { OnOk result (failures_of writer.new ≡ failures_of writer.old) }
+    ensures why { IfErr result (λ fault. ExplainsRun (IsTextFor geometry.now) fault geometry.now (stream_of R.remaining reader.old) (stream_of R.remaining reader.new) (stream_of W.contents writer.old) (stream_of W.contents writer.new)) }
+{
+    if geometry.hosts() == 0 {
+        return run(alloc, reader, writer, geometry);
+    }
+    run_by_workers(rt, alloc, reader, writer, geometry, patience)
+}
+
+// The device of these numbers, with a host for each worker.
 fn device(given: Options<'_>) -> Result<Geometry, GeometryFault>
     ensures numbers { IfOk result (λ geo. numbers_of geo ≡ numbers_given given.entry) }
     ensures first { IfErr result (λ found. first_fault (numbers_given given.entry) ≡ Some found) }
@@ -90,8 +125,8 @@ fn device(given: Options<'_>) -> Result<Geometry, GeometryFault>
         given.words,
         given.sectors,
         given.endurance,
-        0,
-        0,
+        given.workers,
+        given.brooms,
     )
 }
 

@@ -22,6 +22,8 @@ pub enum Stop {
     Memory,
     /// The answers are whole, but the file of the wear could not be written.
     Wear,
+    /// A file for the wear is named, and workers are, which don't tell it.
+    SharedWear,
 }
 
 impl Stop {
@@ -32,7 +34,7 @@ impl Stop {
         ensures { result ≡ status_of self.now }
     {
         match self {
-            Stop::Arguments(_) | Stop::Encoding(_) | Stop::Geometry(_) => 2,
+            Stop::Arguments(_) | Stop::Encoding(_) | Stop::Geometry(_) | Stop::SharedWear => 2,
             Stop::Run(fault) => run_status(*fault),
             Stop::Help | Stop::Wear => 1,
             Stop::Memory => 4,

@@ -55,6 +55,7 @@ fn line(stop: &Stop) -> Option<Line>
         Stop::Help => Some(joined("output: ", "failed", "\n")),
         Stop::Memory => Some(joined("memory: ", "refused", "\n")),
         Stop::Wear => Some(joined("wear: ", "failed", "\n")),
+        Stop::SharedWear => Some(joined("wear: ", "not with workers", "\n")),
     }
 }
 

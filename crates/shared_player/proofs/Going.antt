@@ -65,13 +65,20 @@ module _ (n t : ℕ) (more : List Command) (others : List Answer) where
   writes-append s m (c ∷ lines) [] p = absurd p
   writes-append s m (c ∷ lines) (a ∷ answers) p = let rest = writes-append (p.0 ++ calls_made t c a) m lines answers p.3 in omega (arith, rest)
 
+-- a worker that plays more lines: they are played up to each history that begins with what it has seen
+pub plays_to : (t patience : ℕ) (lines more : List Command) (answers others : List Answer) (v u : View) (h : List Call) → HasRun t patience lines answers v → Played t patience v more others u → Begins u.seen h
+    → Plays v.numbers.sectors t [] (lines ++ more) (answers ++ others) h
+plays_to t patience lines more answers others v u h run played on =
+    let n = v.numbers.sectors in
+    plays_on n t [] u.seen h (lines ++ more) (answers ++ others) (plays-append n t more others [] v.seen u.seen lines answers run.plays played.plays) on
+
 -- a worker that plays more lines, and then looks
 pub run_more : (t patience : ℕ) (lines more : List Command) (answers others : List Answer) (v u w : View) → HasRun t patience lines answers v → Played t patience v more others u → HasLooked u w
     → HasRun t patience (lines ++ more) (answers ++ others) w
 run_more t patience lines more answers others v u w run played looked =
     let n = v.numbers.sectors in
     let same : w.numbers ≡ v.numbers = ap (λ (x : View). x.numbers) looked.changed ∙ ap (λ (x : View). x.numbers) played.changed in
-    let plays = plays_on n t [] u.seen w.seen (lines ++ more) (answers ++ others) (plays-append n t more others [] v.seen u.seen lines answers run.plays played.plays) looked.later in
+    let plays = plays_to t patience lines more answers others v u w.seen run played looked.later in
     let calls = calls-append n t more others [] v.seen lines answers run.plays in
     let writes = writes-append n t more others [] v.seen lines answers run.plays in
     let turned : fulls (answers ++ others) ≡ fulls answers + fulls others = sum_by-append _ answers others in

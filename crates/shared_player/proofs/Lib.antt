@@ -6,3 +6,6 @@ pub mod Going
 pub mod Turning
 pub mod Looping
 pub mod Lent
+pub mod Dealt
+pub mod Openings
+pub mod Ended

@@ -19,7 +19,7 @@ use Rattle.flash_table.specs.declared.pass.Pass.{Pass}
 use Rattle.flash_table.specs.Flash.{view_of, device, geometry_of, first_view}
 use Rattle.trace.specs.declared.commands.Command.{Command}
 use Rattle.lines.specs.declared.answer.Answer.{Answer}
-use Rattle.lines.specs.Playing.{Played}
+use Rattle.lines.specs.Playing.{Played, Plays, calls_done}
 use Rattle.playing.specs.Playable.{lines_at}
 use Rattle.volume.specs.declared.volume.Volume.{Volume}
 use Rattle.volume.specs.Closing.{HasLooked}
@@ -27,9 +27,11 @@ use Rattle.volume.specs.Volume.{flash_of}
 use Rattle.rounds.specs.Meetings.{AreTied, WereSwept}
 use Rattle.rounds.specs.Merging.{is_meet, lines_for, line_count, merge, AreDisjointCommands, IsDisjointTrace, rounds_of}
 use Rattle.rounds.specs.Plans.{places_from, places_for, meetings_from}
+use Rattle.rounds.specs.Rows.{AreAtOneHistory}
 use Rattle.rounds.specs.Runs.{RoundOfRun}
 use Rattle.rounds.specs.Told.{AreAnswered}
 use Rattle.rounds.specs.Texts.{lines_text, IsTextOfSome}
+use Rattle.rounds.proofs.Meetings.{tied_again}
 use Rattle.rounds.proofs.Planning.{places_from-append}
 use Rattle.rounds.proofs.Runs.{run_begins, run_goes_on, run_is_text}
 use Rattle.shared_player.specs.declared.post.Post.{Post}
@@ -40,7 +42,7 @@ use Rattle.shared_player.specs.Runs.{IsTurned, AreTurned, RoundPlayed, AreManned
 use Rattle.shared_player.proofs.Sweeping.{ready_at}
 use Rattle.shared_player.proofs.Turning.{played_long, played_at, manned_turned, manned_played, rests_long, rest_at, role_turned}
 use Rattle.shared_player.proofs.Walking.{count_places, lines_for-append, line_count-append, places_low, places_high, lines_there, past_is, ends_from, FirstRound, first_round}
-use Rattle.shared_player.proofs.Going.{WorkerRound, run_more, round_played, Left, left_is, Next, next_part}
+use Rattle.shared_player.proofs.Going.{WorkerRound, run_more, plays_to, round_played, Left, left_is, Next, next_part}
 use Rattle.shared_player.proofs.Going as going
 
 -- a part in the midst of a list
@@ -137,7 +139,7 @@ row_at posts t p low = get_or-map answers_of posts t p [] low
 row_past : (posts : List Post) (t : ℕ) → length posts ≤ t → rows_of posts t ≡ []
 row_past posts t past = let count = length-map posts answers_of in get_or_past (map answers_of posts) t [] (omega (arith, count))
 
-some_post : (posts : List Post) → 0 < length posts → Post
+pub some_post : (posts : List Post) → 0 < length posts → Post
 some_post [] some = absurd (omega arith)
 some_post (p ∷ posts) some = p
 
@@ -152,6 +154,7 @@ pub record RunState (volume : Volume) (patience : ℕ) (trace : List Command) (e
   pub dealt : (t : ℕ) (p : Post) → t < length posts → IsDealt trace t (get_or posts t p)
   pub cursor : (t : ℕ) (p : Post) → t < length posts → (get_or posts t p).to ≡ line_count t done
   pub each : (t : ℕ) → t < length posts → HasRun t patience (lines_for t done) (take (line_count t done) (rows_of posts t)) (views_of volume (passes_of posts) t)
+  pub told : AreAtOneHistory (sectors_of (geometry_of (flash_of volume))) (length posts) done (λ t. take (line_count t done) (rows_of posts t))
   pub order : IsDisjointTrace trace
       → All AreDisjointCommands (rounds_of rest)
       × ((h : List Call) × AreTied (length posts) h (views_of volume (passes_of posts)) × AreAnswered (sectors_of (geometry_of (flash_of volume))) h (merge done (rows_of posts)))
@@ -168,6 +171,7 @@ state_begins volume patience trace ends posts b = record {
   dealt = b.dealt;
   cursor = b.none;
   each = λ t low. let new = b.new t low in going.run_begins t patience (views_of volume (passes_of posts) t) new.0 new.1 new.2;
+  told = record { history = []; callers = All-nil (λ c. caller c < length posts); calls = λ t low. refl; plays = λ t low. Begins-refl [] };
   order = λ apart. (
     apart,
     (
@@ -271,6 +275,14 @@ module _ (volume : Volume) (patience : ℕ) (trace : List Command) (end : ℕ) (
   count_more : (t : ℕ) → line_count t (state.done ++ (cs ++ next.meeting)) ≡ line_count t state.done + line_count t cs
   count_more t = ap (λ (l : List Command). length l) (lines_more t) ∙ length-append (lines_for t state.done) (lines_for t cs)
 
+  answers_more : (t : ℕ) → t < length posts
+      → take (line_count t state.done) (rows_of posts t) ++ slice_range (rows_of back t) (line_count t state.done) (line_count t state.done + line_count t cs)
+      ≡ take (line_count t (state.done ++ (cs ++ next.meeting))) (rows_of back t)
+  answers_more t low =
+      let a = line_count t state.done in
+      let b = line_count t state.done + line_count t cs in
+      ap (λ l. l ++ slice_range (rows_of back t) a b) (worker_here t x low).kept ∙ (sym (take_split a b (rows_of back t) (omega arith)) ∙ ap (λ k. take k (rows_of back t)) (sym (count_more t)))
+
   run_here : (t : ℕ) → t < length posts
       → HasRun t patience (lines_for t (state.done ++ (cs ++ next.meeting))) (take (line_count t (state.done ++ (cs ++ next.meeting))) (rows_of back t)) (after t)
   run_here t low =
@@ -279,9 +291,26 @@ module _ (volume : Volume) (patience : ℕ) (trace : List Command) (end : ℕ) (
       let b = line_count t state.done + line_count t cs in
       let looked : HasLooked (played t) (after t) = round.met.looked t (omega (arith, count_met)) in
       let more = run_more t patience (lines_for t state.done) (lines_for t cs) (take a (rows_of posts t)) (slice_range (rows_of back t) a b) (before t) (played t) (after t) (state.each t low) w.played looked in
-      let answers : take a (rows_of posts t) ++ slice_range (rows_of back t) a b ≡ take (line_count t (state.done ++ (cs ++ next.meeting))) (rows_of back t) =
-      ap (λ l. l ++ slice_range (rows_of back t) a b) w.kept ∙ (sym (take_split a b (rows_of back t) (omega arith)) ∙ ap (λ k. take k (rows_of back t)) (sym (count_more t))) in
-      subst (λ (y : List Command × List Answer). HasRun t patience y.0 y.1 (after t)) (λ i. (sym (lines_more t) i, answers i)) more
+      subst (λ (y : List Command × List Answer). HasRun t patience y.0 y.1 (after t)) (λ i. (sym (lines_more t) i, answers_more t low i)) more
+
+  plays_here : (t : ℕ) → t < length posts
+      → Plays n t [] (lines_for t (state.done ++ (cs ++ next.meeting))) (take (line_count t (state.done ++ (cs ++ next.meeting))) (rows_of back t)) round.met.history
+  plays_here t low =
+      let a = line_count t state.done in
+      let b = line_count t state.done + line_count t cs in
+      let plays =
+      plays_to t patience (lines_for t state.done) (lines_for t cs) (take a (rows_of posts t)) (slice_range (rows_of back t) a b) (before t) (played t) round.met.history (state.each t low) (worker_here t x low).played (swept.brought t low) in
+      subst (λ (y : ℕ × List Command × List Answer). Plays y.0 t [] y.1 y.2 round.met.history) (λ i. (sectors_here t x low i, sym (lines_more t) i, answers_more t low i)) plays
+
+  told_here : AreAtOneHistory n (length back) (state.done ++ (cs ++ next.meeting)) (λ t. take (line_count t (state.done ++ (cs ++ next.meeting))) (rows_of back t))
+  told_here =
+      let tied = tied_again (length posts) round.met.history played after swept in
+      record {
+        history = round.met.history;
+        callers = subst (λ k. All (λ c. caller c < k) round.met.history) (sym long_back) swept.callers;
+        calls = λ t low. let here : t < length posts = omega (arith, long_back) in tied.own t here ∙ (run_here t here).mine;
+        plays = λ t low. plays_here t (omega (arith, long_back));
+      }
 
   kept_here : (t : ℕ) → take (line_count t state.done) (rows_of posts t) ≡ take (line_count t state.done) (rows_of back t)
   kept_here t =
@@ -321,6 +350,7 @@ module _ (volume : Volume) (patience : ℕ) (trace : List Command) (end : ℕ) (
     dealt = λ t p low. dealt_here t p (omega (arith, long_back));
     cursor = λ t p low. cursor_here t p (omega (arith, long_back)) ∙ sym (count_more t);
     each = λ t low. run_here t (omega (arith, long_back));
+    told = told_here;
     order = order_here;
   }
 
@@ -333,10 +363,21 @@ none_past hosts t (c ∷ cs) all past =
     let other : ¬ (c.worker ≡ t) = λ same. omega arith in
     subst (λ b. length (if b then c ∷ lines_for t cs else lines_for t cs) ≡ 0) (sym (going.and_false (not (is_meet c.op)) (c.worker == t) (ne_eqb c.worker t other))) rest
 
+-- the answers of a post that has its worker's lines are no more than these
+answers_end : (trace : List Command) (posts : List Post) (t : ℕ) (p : Post) → t < length posts → IsDealt trace t (get_or posts t p) → take (line_count t trace) (rows_of posts t) ≡ rows_of posts t
+answers_end trace posts t p low dealt =
+    let a = ap (λ (l : List Answer). length l) (row_at posts t p low) in
+    let b = (get_or posts t p).able.count in
+    let c = ap (λ (l : List ℕ). length l) dealt.places in
+    let d = count_places 0 t trace in
+    take_all (line_count t trace) (rows_of posts t) (omega arith)
+
 -- the run's end, once no end of a round is left
 pub state_ends : (volume : Volume) (patience : ℕ) (trace : List Command) (posts : List Post) → AreManned volume posts → RunState volume patience trace [] posts → HasEnded volume patience trace posts
 state_ends volume patience trace posts manned state =
     let all : state.done ≡ trace = sym (append-nil state.done) ∙ (ap (λ l. state.done ++ l) (sym state.left) ∙ sym state.whole) in
+    let row_end : (t : ℕ) → t < length posts → take (line_count t trace) (rows_of posts t) ≡ rows_of posts t =
+    λ t low. answers_end trace posts t (some_post posts manned.some) low (state.dealt t (some_post posts manned.some) low) in
     record {
       count = λ t.
           dite (dec_lt t (length posts))
@@ -347,17 +388,18 @@ state_ends volume patience trace posts manned state =
           let c = ap (λ (l : List ℕ). length l) (state.dealt t (some_post posts manned.some) low).places in
           let d = count_places 0 t trace in omega arith)
           (λ past. let none = none_past (length posts) t trace state.workers (omega arith) in omega (arith, none));
+      dealt = state.dealt;
+      told =
+          let now = subst (λ l. AreAtOneHistory (sectors_of (geometry_of (flash_of volume))) (length posts) l (λ t. take (line_count t l) (rows_of posts t))) all state.told in
+          record {
+            history = now.history;
+            callers = now.callers;
+            calls = λ t low. now.calls t low ∙ ap (calls_done t (lines_for t trace)) (row_end t low);
+            plays = λ t low. subst (λ l. Plays (sectors_of (geometry_of (flash_of volume))) t [] (lines_for t trace) l now.history) (row_end t low) (now.plays t low);
+          };
       each = λ t low.
-          let p = some_post posts manned.some in
-          let post = get_or posts t p in
-          let row = row_at posts t p low in
-          let count : length (rows_of posts t) ≤ line_count t trace =
-          (let a = ap (λ (l : List Answer). length l) row in
-          let b = post.able.count in
-          let c = ap (λ (l : List ℕ). length l) (state.dealt t p low).places in
-          let d = count_places 0 t trace in omega arith) in
           let run = subst (λ l. HasRun t patience (lines_for t l) (take (line_count t l) (rows_of posts t)) (views_of volume (passes_of posts) t)) all (state.each t low) in
-          subst (λ l. HasRun t patience (lines_for t trace) l (views_of volume (passes_of posts) t)) (take_all (line_count t trace) (rows_of posts t) count) run;
+          subst (λ l. HasRun t patience (lines_for t trace) l (views_of volume (passes_of posts) t)) (row_end t low) run;
       text = λ apart.
           let o = (state.order apart).1 in
           run_is_text (sectors_of (geometry_of (flash_of volume))) o.0 trace (rows_of posts) (subst (λ l. AreAnswered (sectors_of (geometry_of (flash_of volume))) o.0 (merge l (rows_of posts))) all o.2);

@@ -11,6 +11,7 @@ use Rattle.volume.specs.declared.volume.Volume.{Volume}
 use Rattle.volume.specs.Volume.{flash_of}
 use Rattle.rounds.specs.Merging.{lines_for, merge, HaveAnswers, IsDisjointTrace}
 use Rattle.rounds.specs.Plans.{places_for, ends_of}
+use Rattle.rounds.specs.Rows.{AreAtOneHistory}
 use Rattle.rounds.specs.Texts.{lines_text, IsTextOfSome}
 use Rattle.shared_player.specs.declared.post.Post.{Post}
 use Rattle.shared_player.specs.Meetings.{AreSeated, IsAt, PassesMet, passes_of, rest_of, views_of}
@@ -82,9 +83,11 @@ pub record HasRun (t patience : ℕ) (lines : List Command) (answers : List Answ
   pub programmed : length v.programs ≡ writes_done lines answers
   pub denied : (b : ℕ) → b < v.numbers.blocks → patience * fulls answers ≤ times b v.denied
 
--- A run of this trace has ended: each worker has answered all its lines, and where the trace is disjoint, the answers are as text those of the trace, with the writes
--- turned away at some set of lines
+-- A run of this trace has ended: each worker has answered all its lines, all at one history, and where the trace is disjoint, the answers are as text those of the
+-- trace, with the writes turned away at some set of lines
 pub record HasEnded (volume : Volume) (patience : ℕ) (trace : List Command) (posts : List Post) : Type 0 where
   pub count : HaveAnswers (rows_of posts) trace
+  pub dealt : (t : ℕ) (p : Post) → t < length posts → IsDealt trace t (slice_index_or posts t p)
+  pub told : AreAtOneHistory (sectors_of (geometry_of (flash_of volume))) (length posts) trace (rows_of posts)
   pub each : (t : ℕ) → t < length posts → HasRun t patience (lines_for t trace) (rows_of posts t) (views_of volume (passes_of posts) t)
   pub text : IsDisjointTrace trace → IsTextOfSome (sectors_of (geometry_of (flash_of volume))) trace (lines_text 0 (merge trace (rows_of posts)))

@@ -1,13 +1,21 @@
-//! The good end of a run: the brooms are folded, and the workers' answers are handed out.
-ghost use Rattle.std.specs.Prelude.{◌≡◌, ◌≤◌, length, map, vec_capacity};
+//! The ends of a run. At the good one the brooms are folded, and the workers' answers are handed out.
+ghost use Rattle.std.specs.Prelude.{◌≡◌, ◌≤◌, All, length, map, vec_capacity};
+ghost use Rattle.std.specs.Vec.Iter.{into_iter_items};
+ghost use Rattle.host.specs.Ready.{IsReady};
 ghost use Rattle.rounds.specs.Rows.{answers_in};
+ghost use Rattle.volume.specs.Brooms.{IsBroomReady};
+ghost use Rattle.volume.specs.Volume.{flash_of};
+ghost use Rattle.shared_player.specs.Dealing.{AreReady};
 ghost use Rattle.shared_player.specs.Runs.{answers_of};
 
 use crate::post::Post;
 use crate::sweeper::Sweeper;
+use broom::Broom;
+use flash_table::Pass;
 use lines::Answer;
 use std::collections::VecDeque;
 use std::sync::Wait;
+use volume::Volume;
 
 /// Gives up the brooms. A block that one has set aside goes to the queue.
 pub fn fold_sweepers<R: Wait>(rt: &R, sweepers: Vec<Sweeper>) {
@@ -27,4 +35,34 @@ pub fn hand_out(posts: Vec<Post>, rows: &mut Vec<Vec<Answer>>)
     while let Some(post) = posts.pop_front() {
         rows.push_reserved(post.into_answers());
     }
+}
+
+// Gives up passes.
+fn retire_all(volume: &Volume, passes: Vec<Pass>)
+    requires { All (IsReady (flash_of volume.now)) passes.items }
+{
+    let mut passes = passes.into_iter();
+    while let Some(pass) = passes.next() {
+        volume.retire(pass);
+    }
+    passes.destroy_empty();
+}
+
+// Gives up brooms, and waits for nobody.
+fn retire_brooms(volume: &Volume, brooms: Vec<Broom>)
+    requires { All (IsBroomReady volume.now) brooms.items }
+{
+    let mut brooms = brooms.into_iter();
+    while let Some(broom) = brooms.next() {
+        volume.retire_broom(broom);
+    }
+    brooms.destroy_empty();
+}
+
+// Gives up the passes and the brooms of a device.
+pub(crate) fn give_up(volume: &Volume, passes: Vec<Pass>, brooms: Vec<Broom>)
+    requires { AreReady volume.now passes.items brooms.items }
+{
+    retire_all(volume, passes);
+    retire_brooms(volume, brooms);
 }

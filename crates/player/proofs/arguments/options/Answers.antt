@@ -4,7 +4,7 @@ use Rattle.clap.specs.declared.parser.matches.ArgMatches.{ArgMatches}
 use Rattle.clap.specs.Words.{Row, Text, app_of, first_of, found_of, rows_of}
 use Rattle.clap.proofs.WalkLemmas.{first_value-rows}
 use Rattle.player.specs.CommandLine.{IsNumberOf, rows_given}
-use Rattle.player.specs.declared.command_line.TheConstants.{LUNS, BLOCKS, PAGES, WORDS, SECTORS, ENDURANCE}
+use Rattle.player.specs.declared.command_line.TheConstants.{LUNS, BLOCKS, PAGES, WORDS, SECTORS, ENDURANCE, WORKERS, BROOMS, PATIENCE}
 use Rattle.player.proofs.CommandLines.{rows_are, faults_are}
 use Rattle.player.proofs.arguments.options.Goals as goal
 
@@ -20,6 +20,9 @@ returns-clause-numbers c =
       words = subst (λ (r : List Row). IsNumberOf r (codes "words") WORDS c.number-4.result) rows c.number-4.ensures;
       sectors = subst (λ (r : List Row). IsNumberOf r (codes "sectors") SECTORS c.number-5.result) rows c.number-5.ensures;
       endurance = subst (λ (r : List Row). IsNumberOf r (codes "endurance") ENDURANCE c.number-6.result) rows c.number-6.ensures;
+      workers = subst (λ (r : List Row). IsNumberOf r (codes "workers") WORKERS c.number-7.result) rows c.number-7.ensures;
+      brooms = subst (λ (r : List Row). IsNumberOf r (codes "brooms") BROOMS c.number-8.result) rows c.number-8.ensures;
+      patience = subst (λ (r : List Row). IsNumberOf r (codes "patience") PATIENCE c.number-9.result) rows c.number-9.ensures;
       wear = c.get_str.ensures ∙ (first_value-rows (found_of c.in-Ok.matches) (codes "wear") ∙ ap (first_of (codes "wear")) rows);
     }
 

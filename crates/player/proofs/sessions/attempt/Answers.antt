@@ -1,11 +1,15 @@
-use Rattle.std.proofs.Common.{◌≡◌, ℕ, List, Option, None, Some, Bor, refl, inl, ap, subst}
+use Rattle.std.proofs.Common.{◌≡◌, ℕ, List, Option, None, Some, Bor, refl, sym, inl, ap, subst, arith}
 use Rattle.std.specs.Prelude.{IfSome, Result, Ok, Err, OnOk, OnErr, is_some}
+use Rattle.geometry.specs.Geometry.{hosts_of}
 use Rattle.geometry.specs.declared.geometry.Geometry.{Geometry}
 use Rattle.answers.specs.Delivery.{AppendsText}
+use Rattle.answers.specs.Outcome.{ExplainsRun}
 use Rattle.answers.specs.Streams.{Stream}
+use Rattle.answers.specs.declared.fault.RunFault.{RunFault}
+use Rattle.one_player.specs.Playing.{IsTextOf}
 use Rattle.one_player.specs.Wear.{IsWearOf}
 use Rattle.player.specs.declared.command_line.Options.{Options}
-use Rattle.player.specs.Session.{TellsWear}
+use Rattle.player.specs.Session.{IsTextBy, IsTextFor, TellsWear}
 use Rattle.player.proofs.sessions.attempt.Goals as goal
 
 -- where no file is named, nothing is told
@@ -16,21 +20,28 @@ none_told geo given input wear is = rw is refl
 some_told : (geo : Geometry) (given : Options) (input : Option (List ℕ)) (old new : Stream) (name : Bor (List ℕ)) → given.wear ≡ Some name → new.failures ≡ old.failures → IfSome input (λ bytes. AppendsText (IsWearOf geo) bytes old.bytes new.bytes) → TellsWear geo given input old new
 some_told geo given input old new name is unfailed text = rw is (unfailed, text)
 
+-- without hosts the text is that of one thread
+one_text : (geo : Geometry) (input old new : Option (List ℕ)) → hosts_of geo ≡ 0 → IfSome input (λ bytes. AppendsText (IsTextOf geo) bytes old new) → IfSome input (λ bytes. AppendsText (IsTextFor geo) bytes old new)
+one_text geo input old new none text = subst (λ h. IfSome input (λ bytes. AppendsText (IsTextBy h geo) bytes old new)) (sym none) text
+
+one_why : (geo : Geometry) (fault : RunFault) (a b c d : Stream) → hosts_of geo ≡ 0 → ExplainsRun (IsTextOf geo) fault geo a b c d → ExplainsRun (IsTextFor geo) fault geo a b c d
+one_why geo fault a b c d none why = subst (λ h. ExplainsRun (IsTextBy h geo) fault geo a b c d) (sym none) why
+
 ok_of : {T E : Type 0} (P : Type 0) (r : Result T E) (x : T) → r ≡ Ok x → OnOk r P → P
 ok_of P r x is holds = subst (λ s. OnOk s P) is holds
 
 err_of : {T E : Type 0} (P : Type 0) (r : Result T E) (e : E) → r ≡ Err e → OnErr r P → P
 err_of P r e is holds = subst (λ s. OnErr s P) is holds
 
-pub returns-in-Ok-run : goal.returns-in-Ok-run
-returns-in-Ok-run g c = inl (record {
+pub returns-in-Ok-play : goal.returns-in-Ok-play
+returns-in-Ok-play g c = inl (record {
   answered = record {
     geo = c.in-Ok-device.geometry;
     device = record { accepted = c.in-Ok.ensures.outcome; given = c.in-Ok.given; told = c.in-Ok.ensures.numbers; numbers = c.in-Ok-device.ensures.numbers };
-    end = c.in-Ok-run.ensures.end;
-    text = c.in-Ok-run.ensures.text;
-    input_unfailed = c.in-Ok-run.ensures.reader_unfailed;
-    output_unfailed = c.in-Ok-run.ensures.writer_unfailed;
+    end = c.in-Ok-play.ensures.end;
+    text = c.in-Ok-play.ensures.text;
+    input_unfailed = c.in-Ok-play.ensures.reader_unfailed;
+    output_unfailed = c.in-Ok-play.ensures.writer_unfailed;
   };
   wear = none_told c.in-Ok-device.geometry c.in-Ok.given _ _ c.in-None.is;
 })
@@ -38,12 +49,13 @@ returns-in-Ok-run g c = inl (record {
 pub returns-in-Ok-Ok : goal.returns-in-Ok-Ok
 returns-in-Ok-Ok g c =
     let told = c.in-Ok-Ok in
+    let none : hosts_of c.in-Ok-device.geometry ≡ 0 = omega (arith, c.hosts.ensures.value, c.if-hosts-gt0.false) in
     inl (record {
       answered = record {
         geo = c.in-Ok-device.geometry;
         device = record { accepted = c.in-Ok.ensures.outcome; given = c.in-Ok.given; told = c.in-Ok.ensures.numbers; numbers = c.in-Ok-device.ensures.numbers };
         end = told.ensures.end;
-        text = told.ensures.text;
+        text = one_text c.in-Ok-device.geometry _ _ _ none told.ensures.text;
         input_unfailed = told.ensures.reader_unfailed;
         output_unfailed = told.ensures.writer_unfailed;
       };
@@ -55,12 +67,13 @@ returns-in-Ok-Ok g c =
 pub returns-in-Ok-Err : goal.returns-in-Ok-Err
 returns-in-Ok-Err g c =
     let told = c.in-Ok-Err in
+    let none : hosts_of c.in-Ok-device.geometry ≡ 0 = omega (arith, c.hosts.ensures.value, c.if-hosts-gt0.false) in
     record {
       answered = record {
         geo = c.in-Ok-device.geometry;
         device = record { accepted = c.in-Ok.ensures.outcome; given = c.in-Ok.given; told = c.in-Ok.ensures.numbers; numbers = c.in-Ok-device.ensures.numbers };
         end = told.ensures.end;
-        text = told.ensures.text;
+        text = one_text c.in-Ok-device.geometry _ _ _ none told.ensures.text;
         input_unfailed = told.ensures.reader_unfailed;
         output_unfailed = told.ensures.writer_unfailed;
       };
@@ -68,3 +81,28 @@ returns-in-Ok-Err g c =
       failed = err_of _ told.field-0 told.field-0-0 told.field-0-is told.ensures.wear_failed;
       part = err_of _ told.field-0 told.field-0-0 told.field-0-is told.ensures.wear_part;
     }
+
+pub returns-in-Err-run_with_wear : goal.returns-in-Err-run_with_wear
+returns-in-Err-run_with_wear g c =
+    let geo = c.in-Ok-device.geometry in
+    let none : hosts_of geo ≡ 0 = omega (arith, c.hosts.ensures.value, c.if-hosts-gt0.false) in (
+      record {
+        geo = geo;
+        device = record { accepted = c.in-Ok.ensures.outcome; given = c.in-Ok.given; told = c.in-Ok.ensures.numbers; numbers = c.in-Ok-device.ensures.numbers };
+        why = one_why geo _ _ _ _ _ none c.in-Err-run_with_wear.ensures.why;
+      },
+      c.in-Err-run_with_wear.ensures.no_wear,
+    )
+
+pub returns-then-hosts-gt0 : goal.returns-then-hosts-gt0
+returns-then-hosts-gt0 g c = (
+  record {
+    geo = c.in-Ok-device.geometry;
+    device = record { accepted = c.in-Ok.ensures.outcome; given = c.in-Ok.given; told = c.in-Ok.ensures.numbers; numbers = c.in-Ok-device.ensures.numbers };
+    shared = λ none. omega (arith, c.hosts.ensures.value, c.if-hosts-gt0.true);
+    asked = ap is_some c.in-Some.is;
+  },
+  refl,
+  refl,
+  refl,
+)

@@ -1,0 +1,21 @@
+use Rattle.std.proofs.Common.{◌≡◌, ℕ, List, sym, ap, ◌∙◌, subst}
+use Rattle.std.specs.Arc.{arc_value}
+use Rattle.trace.specs.declared.commands.Command.{Command}
+use Rattle.volume.specs.declared.volume.Volume.{Volume}
+use Rattle.volume.specs.Volume.{flash_of}
+use Rattle.flash_table.specs.Flash.{geometry_of}
+use Rattle.rounds.specs.Plans.{ends_of}
+use Rattle.shared_player.specs.Runs.{HasBegun}
+use Rattle.shared_player.proofs.Ended.{all_played}
+use Rattle.shared_player.proofs.commands.play_commands.Goals as goal
+
+pub returns-clause-played : goal.returns-clause-played
+returns-clause-played g c =
+    let cs = arc_value c.args.commands.now in
+    let volume = c.deref-2.result.now in
+    let ends : ends_of cs ≡ c.deref-3.result.now =
+    ap ends_of (sym c.deref.ensures) ∙ (sym c.in_ok-places.ensures.ends ∙ sym c.deref-3.ensures.value) in
+    let begun : HasBegun volume cs c.deref-3.result.now c.in_ok-volume.crew.posts.items =
+    subst (λ (x : Volume × List ℕ). HasBegun x.0 cs x.1 c.in_ok-volume.crew.posts.items) (λ i. (sym c.deref-2.ensures i, ends i)) c.in_ok-volume.ensures.begun in
+    all_played volume c.args.geometry.now c.args.patience cs c.in_ok-crew.crew.posts.items c.hand_out.new.rows.items
+    (ap (λ (v : Volume). geometry_of (flash_of v)) c.deref-2.ensures ∙ c.in_ok-volume.ensures.geometry) c.in_ok-crew.ensures.manned (c.in_ok-crew.ensures.run cs begun) c.hand_out.ensures

@@ -1,0 +1,10 @@
+use Rattle.std.proofs.Common.{sym, subst}
+use Rattle.volume.specs.declared.volume.Volume.{Volume}
+use Rattle.shared_player.specs.Dealing.{AreReady}
+use Rattle.shared_player.proofs.opening.open_shared.Goals as goal
+
+pub give_up-requires : goal.give_up-requires
+give_up-requires c =
+    let told = c.in_ok-volume.ensures in
+    subst (λ (v : Volume). AreReady v c.in_ok-volume.passes.items c.in_ok-volume.brooms.items) (sym c.in-Err.ensures.value_returned)
+    (record { passes_ready = told.ready; brooms_ready = told.brooms_ready })

@@ -1,0 +1,44 @@
+-- What is dealt to the workers of a run: the device, a pass each, and a share of the trace.
+use Rattle.std.specs.Prelude.{◌≡◌, ℕ, ◌<◌, All, List, Some, length, slice_get}
+use Rattle.std.proofs.Props.{props}
+use Rattle.std.specs.Arc.{arc_value}
+use Rattle.geometry.specs.Geometry.{brooms_of, hosts_of, page_bytes_of}
+use Rattle.geometry.specs.declared.geometry.Geometry.{Geometry}
+use Rattle.flash_table.specs.declared.pass.Pass.{Pass}
+use Rattle.flash_table.specs.Flash.{view_of, device, geometry_of, first_view}
+use Rattle.host.specs.Ready.{IsReady}
+use Rattle.broom.specs.declared.broom.Broom.{Broom}
+use Rattle.trace.specs.declared.commands.Command.{Command}
+use Rattle.lines.specs.declared.answer.Answer.{Answer}
+use Rattle.playing.specs.Playable.{IsLine, HaveRoom, lines_at}
+use Rattle.volume.specs.declared.volume.Volume.{Volume}
+use Rattle.volume.specs.Brooms.{IsBroomReady, IsBroomReady-prop}
+use Rattle.volume.specs.Volume.{flash_of}
+
+-- passes and brooms that are ready at a device
+pub record AreReady (volume : Volume) (passes : List Pass) (brooms : List Broom) : Type 0 where
+  pub passes_ready : All (IsReady (flash_of volume)) passes
+  pub brooms_ready : All (IsBroomReady volume) brooms
+
+-- that they are ready is a fact that has one proof at most, so that a struct can keep it
+pub AreReady-prop : (volume : Volume) (passes : List Pass) (brooms : List Broom) → IsProp (AreReady volume passes brooms)
+AreReady-prop volume passes brooms = hlevel (props, IsBroomReady-prop)
+
+-- A new device of this geometry, with a pass for each host, at its number, and all its brooms. No pass has done or seen anything
+pub record AreNew (geo : Geometry) (volume : Volume) (passes : List Pass) (brooms : List Broom) : Type 0 where
+  pub geometry : geometry_of (flash_of volume) ≡ geo
+  pub playing : length passes ≡ hosts_of geo
+  pub sweeping : length brooms ≡ brooms_of geo
+  pub first : (t : ℕ) (p : Pass) → slice_get passes t ≡ Some p → view_of p ≡ first_view (device (flash_of volume)) t
+
+-- these places are of lines that a device of this geometry can do
+pub record AreDoable (geo : Geometry) (lines : List Command) (places : List ℕ) : Type 0 where
+  pub there : All (λ p. p < length lines) places
+  pub doable : All (IsLine geo) (lines_at lines places)
+
+-- A share of a trace: places of lines that can be done, room for their answers, and a buffer of a page
+pub record IsFit (geo : Geometry) (lines : List Command) (places : List ℕ) (answers : List Answer) (buffer : List ℕ) : Type 0 where
+  pub doable : AreDoable geo lines places
+  pub count : length answers ≡ length places
+  pub room : HaveRoom geo (lines_at lines places) answers
+  pub paged : length buffer ≡ page_bytes_of geo

@@ -1,0 +1,48 @@
+//! A whole run over the commands of a trace.
+ghost use Rattle.std.specs.Prelude.{◌≡◌, ◌+◌, ◌<◌, All, IfOk, length};
+ghost use Rattle.std.specs.Arc.{arc_value};
+ghost use Rattle.geometry.specs.Geometry.{brooms_of, hosts_of};
+ghost use Rattle.answers.specs.Playable.{IsPlayable};
+ghost use Rattle.rounds.specs.Rows.{answers_by};
+ghost use Rattle.shared_player.specs.Commands.{ArePlayed};
+
+use crate::crew::Back;
+use crate::dealing::deal;
+use crate::leaving::{fold_sweepers, hand_out};
+use crate::runs::play_rounds;
+use crate::starts::{NoShift, Starts};
+use flash_table::Gate;
+use geometry::Geometry;
+use lines::Answer;
+use rounds::Plan;
+use std::alloc::Global;
+use std::sync::{Arc, Wait};
+use std::thread::Threads;
+use trace::Commands;
+
+/// Plays the commands of a trace on a new device, by a thread for each worker with a line in a round, and brooms beside them. There is a gate for each
+/// host, and then one for each broom. The rows are the workers' answers, by their numbers. After a fault no thread runs, and nothing is left.
+pub fn play_commands<R: Threads + Wait + Sync, S: Starts + Copy + Drop, G: Gate + Send>(
+    rt: &R,
+    alloc: Global,
+    starts: S,
+    geometry: &Geometry,
+    commands: &Arc<Commands, Global>,
+    patience: u32,
+    gates: &mut [G],
+) -> Result<Vec<Vec<Answer>>, NoShift>
+    requires hosts { 0 < hosts_of geometry.now }
+    requires playable { All (IsPlayable geometry.now) (arc_value commands.now) }
+    requires gates { length gates.old ≡ hosts_of geometry.now + brooms_of geometry.now }
+    ensures rows { IfOk result (λ rows. length rows.items ≡ hosts_of geometry.now) }
+    ensures played { IfOk result (λ rows. ArePlayed geometry.now (arc_value commands.now) (answers_by rows.items)) }
+{
+    let Plan { rows: places, ends } = Plan::new(alloc, commands, geometry.hosts())?;
+    let mut rows = Vec::with_capacity(alloc, geometry.hosts() as usize)?;
+    let (volume, crew) = deal(alloc, geometry, commands, places)?;
+    let crew = play_rounds(rt, alloc, starts, &volume, crew, &ends, patience, gates)?;
+    let Back { posts, sweepers } = crew;
+    fold_sweepers(rt, sweepers);
+    hand_out(posts, &mut rows);
+    Ok(rows)
+}

@@ -1,0 +1,83 @@
+//! Playing a trace, and what it answered as text.
+use answers::read_commands;
+use flash_table::{Gate, NoGate};
+use geometry::Geometry;
+use lines::{Answer, Kind};
+use shared_player::{AllStart, NoShift, Starts, play_commands};
+use std::alloc::Global;
+use std::process::Abort;
+use std::sync::{Arc, Wait};
+use std::test::Fail;
+use std::thread::Threads;
+use trace::Watched;
+
+/// A device of so many blocks of two pages of one word, with two sectors.
+pub fn small(blocks: u32, hosts: u32, brooms: u32) -> Result<Geometry, Fail> {
+    Ok(Geometry::new(1, blocks, 2, 1, 2, 1000, hosts, brooms)?)
+}
+
+/// Plays a trace, with these gates.
+pub fn play<
+    R: Threads + Wait + Sync + Abort + AllocGlobal,
+    S: Starts + Copy + Drop,
+    G: Gate + Send,
+>(
+    rt: &R,
+    starts: S,
+    geometry: &Geometry,
+    trace: &[u8],
+    patience: u32,
+    gates: &mut [G],
+) -> Result<Result<Vec<Vec<Answer>>, NoShift>, Fail> {
+    let commands = read_commands(rt.alloc(), &mut Watched::new(trace), geometry)?;
+    let Ok(commands) = Arc::new(rt.alloc(), commands) else {
+        panic!(rt; "memory")
+    };
+    assert!(rt; geometry.hosts() > 0);
+    assert_eq!(rt;
+        gates.len(),
+        geometry.hosts() as usize + geometry.brooms() as usize
+    );
+    Ok(play_commands(rt, rt.alloc(), starts, geometry, &commands, patience, gates))
+}
+
+/// Plays a trace with gates that do nothing.
+pub fn play_freely<R: Threads + Wait + Sync + Abort + AllocGlobal>(
+    rt: &R,
+    geometry: &Geometry,
+    trace: &[u8],
+    patience: u32,
+) -> Result<Vec<Vec<Answer>>, Fail> {
+    let count = geometry.hosts() as usize + geometry.brooms() as usize;
+    let mut gates = vec![in rt.alloc(); NoGate; count]?;
+    Ok(play(rt, AllStart, geometry, trace, patience, &mut gates)??)
+}
+
+// Adds a word for an answer: a page is told by its first byte, which is a letter.
+fn tell(text: &mut String, answer: &Answer) -> Result<(), Fail> {
+    match answer.kind {
+        Kind::Empty => text.push_str("empty ")?,
+        Kind::Written => text.push_str("written ")?,
+        Kind::Met => text.push_str("met ")?,
+        Kind::Full => text.push_str("full ")?,
+        Kind::Page => {
+            for byte in answer.page.iter().take(1) {
+                text.push(char::from(*byte))?;
+            }
+            text.push_str(" ")?;
+        }
+    }
+    Ok(())
+}
+
+/// What the workers were answered: a word for each line, and a bar behind each worker's.
+pub fn told(alloc: Global, rows: &[Vec<Answer>]) -> Result<String, Fail> {
+    let mut text = String::new(alloc);
+    for row in rows {
+        for answer in row {
+            tell(&mut text, answer)?;
+        }
+        text.push_str("| ")?;
+    }
+    Ok(text)
+}

@@ -1,0 +1,126 @@
+//! Rows whose answers are the same in every schedule, and a trace whose answers are not.
+use crate::playing::{play_freely, small, told};
+use lines::{Answer, Kind};
+use std::test::Fail;
+
+// Hosts, brooms, blocks, tries of a write; a trace, and what its workers are answered.
+const ROWS: [(u32, u32, u32, u32, &str, &str); 9] = [
+    (2, 1, 6, 1000000, "", "| | "),
+    (
+        1,
+        0,
+        5,
+        9,
+        "0,write,0,41\n0,read,0,\n0,trim,0,\n0,read,0,\n",
+        "empty A written empty | ",
+    ),
+    (
+        2,
+        1,
+        6,
+        1000000,
+        "0,write,0,41\n1,write,1,42\n0,meet,0,\n0,read,0,\n1,read,1,\n",
+        "empty A | empty B | ",
+    ),
+    (
+        2,
+        0,
+        5,
+        9,
+        "0,write,0,41\n0,meet,0,\n0,read,0,\n1,read,0,\n",
+        "empty A | A | ",
+    ),
+    (
+        3,
+        1,
+        6,
+        1000000,
+        "2,write,1,43\n0,read,0,\n2,new,1,44\n",
+        "empty | | empty written | ",
+    ),
+    (
+        2,
+        1,
+        6,
+        1000000,
+        "0,meet,0,\n0,write,0,41\n0,meet,0,\n0,meet,0,\n1,read,0,\n0,meet,0,\n",
+        "empty | A | ",
+    ),
+    (
+        2,
+        32,
+        67,
+        1000000,
+        "0,write,0,41\n1,write,1,42\n0,meet,0,\n1,read,0,\n0,read,1,\n",
+        "empty B | empty A | ",
+    ),
+    (
+        2,
+        0,
+        3,
+        3,
+        "0,write,0,41\n0,write,0,41\n0,write,0,41\n0,write,0,41\n0,write,0,41\n0,write,0,41\n0,write,0,41\n",
+        "empty written written written written written full | | ",
+    ),
+    (
+        2,
+        1,
+        6,
+        1000000,
+        "1,write,1,42\n1,write,1,43\n1,read,1,\n0,write,0,41\n0,meet,0,\n0,write,1,44\n1,read,0,\n0,meet,0,\n1,read,1,\n",
+        "empty written | empty written C A D | ",
+    ),
+];
+
+#[test]
+fn workers_answer_as_one_thread_would(rt: HostRuntime) -> Result<(), Fail> {
+    for (hosts, brooms, blocks, patience, trace, answers) in ROWS {
+        let geometry = small(blocks, hosts, brooms)?;
+        let rows = play_freely(&rt, &geometry, trace.as_bytes(), patience)?;
+        let text = told(rt.alloc(), &rows)?;
+        assert_eq!(rt; text.as_str(), answers, "for {trace}");
+    }
+    Ok(())
+}
+
+// Whether a read found the page of a write.
+fn is_written(answer: &Answer) -> bool {
+    match answer.kind {
+        Kind::Page => answer.page.as_slice() == b"A\0\0\0\0\0\0\0".as_slice()
+            || answer.page.as_slice() == b"B\0\0\0\0\0\0\0".as_slice(),
+        _ => answer.page.is_empty(),
+    }
+}
+
+// Both workers write and read the same sector in one round.
+#[test]
+fn each_read_finds_a_value_that_was_written(rt: HostRuntime) -> Result<(), Fail> {
+    let mut trace = String::new(rt.alloc());
+    for _ in 0..40 {
+        trace.push_str("0,write,0,41\n1,write,0,42\n0,read,0,\n1,read,0,\n")?;
+    }
+    let rows = play_freely(&rt, &small(8, 2, 1)?, trace.as_bytes(), 1000000)?;
+    for row in &rows {
+        assert_eq!(rt; row.len(), 80);
+        assert!(rt; row.iter().all(is_written));
+    }
+    Ok(())
+}
+
+// There are ten pages, so a block was erased and used again.
+#[test]
+fn a_broom_wins_room_for_a_worker(rt: HostRuntime) -> Result<(), Fail> {
+    let mut trace = String::new(rt.alloc());
+    for _ in 0..100 {
+        trace.push_str("0,write,0,41\n")?;
+    }
+    let rows = play_freely(&rt, &small(5, 1, 1)?, trace.as_bytes(), 10000000)?;
+    for row in &rows {
+        let done = row
+            .iter()
+            .filter(|answer| answer.kind != Kind::Full)
+            .count();
+        assert!(rt; done >= 11);
+    }
+    Ok(())
+}

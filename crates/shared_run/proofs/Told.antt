@@ -1,0 +1,128 @@
+-- What a run's answers are for a delivery: one for each line, with a whole page where one is told.
+use Rattle.std.proofs.Common.{◌≡◌, ℕ, ◌*◌, ◌<◌, ◌≤◌, ⊎_elim, zero, suc, Bool, true, false, List, [], ◌∷◌, ◌++◌, Option, None, Some, length, get_or, refl, sym, ap, ◌∙◌, subst, arith, ne_eqb}
+use Rattle.std.specs.Prelude.{All, IfSome, Ok, Vec, if◌then◌else◌, not, ◌&&◌, ◌==◌, slice_get}
+use Rattle.std.specs.Io.KnownBytes.{Appends}
+use Rattle.std.specs.Global.{Global}
+use Rattle.std.proofs.lemmas.List.{get_or-map}
+use Rattle.std.proofs.lemmas.List.Elements.{All-head, All-tail}
+use Rattle.std.proofs.lemmas.Option.{slice_get-get_or}
+use mathlib.Core.Logic.{dite}
+use native.Mathlib.Decide.{dec_lt}
+use Rattle.geometry.specs.Geometry.{hosts_of, page_bytes_of, sectors_of}
+use Rattle.geometry.specs.History.{Call}
+use Rattle.geometry.specs.Sectors.{Sector, was_of}
+use Rattle.geometry.specs.declared.geometry.Geometry.{Geometry}
+use Rattle.trace.specs.Trace.{commands_of}
+use Rattle.trace.specs.declared.commands.Command.{Command}
+use Rattle.trace.specs.declared.commands.Op.{Op}
+use Rattle.trace.specs.declared.commands.Op.TheVariants as op
+use Rattle.answers.specs.Delivery.{AppendsBeginning, AppendsPart, AppendsText}
+use Rattle.answers.specs.Playable.{IsPlayable}
+use Rattle.lines.specs.Lines.{calls_made, kind_of, IsRight}
+use Rattle.lines.specs.Playing.{Plays}
+use Rattle.lines.specs.declared.answer.Answer.{Answer}
+use Rattle.lines.specs.declared.answer.Kind.{Kind}
+use Rattle.lines.specs.declared.answer.Kind.TheVariants as kind
+use Rattle.rounds.specs.Merging.{is_meet, line_count, lines_for, merge, HaveAnswers}
+use Rattle.rounds.specs.Rows.{answers_by, answers_in}
+use Rattle.rounds.specs.Texts.{lines_text}
+use Rattle.delivery.specs.Delivering.{HasDigits, text_of}
+use Rattle.shared_player.specs.Commands.{ArePlayed}
+use Rattle.shared_run.specs.Texts.{IsTextOf}
+
+-- each line that was played has one answer
+plays_long : (n t : ℕ) (seen : List Call) (lines : List Command) (answers : List Answer) (last : List Call) → Plays n t seen lines answers last → length lines ≡ length answers
+plays_long n t seen [] [] last plays = refl
+plays_long n t seen [] (a ∷ answers) last plays = absurd plays
+plays_long n t seen (c ∷ lines) [] last plays = absurd plays
+plays_long n t seen (c ∷ lines) (a ∷ answers) last plays = ap suc (plays_long n t (plays.0 ++ calls_made t c a) lines answers last plays.3)
+
+-- what a sector was is told without a page
+no_page : (x : Sector) → ¬ (kind_of (was_of x) ≡ kind.Page)
+no_page None is = absurd (cc)
+no_page (Some value) is = absurd (cc)
+
+-- a page is told of a read alone
+page_of_read : (o : Op) (x : Sector) (k : Kind) (page : List ℕ) → IsRight o x k page → k ≡ kind.Page → o ≡ op.Read
+page_of_read op.Read x k page right is = refl
+page_of_read op.Write x k page right is = absurd (⊎_elim (λ (e : k ≡ kind.Full). absurd (cc)) (λ (e : k ≡ kind_of (was_of x)). no_page x (sym e ∙ is)) right)
+page_of_read op.New x k page right is = absurd (⊎_elim (λ (e : k ≡ kind.Full). absurd (cc)) (λ (e : k ≡ kind_of (was_of x)). no_page x (sym e ∙ is)) right)
+page_of_read op.Trim x k page right is = absurd (no_page x (sym right ∙ is))
+page_of_read op.Meet x k page right is = absurd (cc)
+
+-- an answer with a page is that of a read
+answer_of_read : (n t : ℕ) (seen : List Call) (lines : List Command) (answers : List Answer) (last : List Call) (p : ℕ) (a : Answer) → Plays n t seen lines answers last → slice_get answers p ≡ Some a → a.kind ≡ kind.Page
+    → (c : Command) × (slice_get lines p ≡ Some c) × (c.op ≡ op.Read)
+answer_of_read n t seen [] [] last p a plays at is = absurd (cc)
+answer_of_read n t seen [] (b ∷ answers) last p a plays at is = absurd plays
+answer_of_read n t seen (c ∷ lines) [] last p a plays at is = absurd plays
+answer_of_read n t seen (c ∷ lines) (b ∷ answers) last zero a plays at is =
+    let same : b ≡ a = cc in
+    (c, refl, page_of_read c.op _ b.kind b.page.items plays.2 (ap (λ (x : Answer). x.kind) same ∙ is))
+answer_of_read n t seen (c ∷ lines) (b ∷ answers) last (suc p) a plays at is = answer_of_read n t (plays.0 ++ calls_made t c b) lines answers last p a plays.3 at is
+
+-- a worker that isn't there has no line
+none_past : (hosts t : ℕ) (cs : List Command) → All (λ c. c.worker < hosts) cs → hosts ≤ t → line_count t cs ≡ 0
+none_past hosts t [] all past = refl
+none_past hosts t (c ∷ cs) all past =
+    let low = All-head (λ c. c.worker < hosts) c cs all in
+    let rest = none_past hosts t cs (All-tail (λ c. c.worker < hosts) c cs all) past in
+    let other : ¬ (c.worker ≡ t) = λ same. omega arith in
+    subst (λ b. length (if b then c ∷ lines_for t cs else lines_for t cs) ≡ 0) (sym (and_false (not (is_meet c.op)) (c.worker == t) (ne_eqb c.worker t other))) rest
+  where
+    and_false : (a b : Bool) → b ≡ false → (a && b) ≡ false
+    and_false true b is = is
+    and_false false b is = refl
+
+-- the workers of playable commands are the hosts of a shared device
+workers_there : (geo : Geometry) (cs : List Command) → 0 < hosts_of geo → All (IsPlayable geo) cs → All (λ c. c.worker < hosts_of geo) cs
+workers_there geo cs some all k c low = subst (λ n. (get_or cs k c).worker < n) (shared (hosts_of geo) some) (all k c low).worker
+  where
+    shared : (n : ℕ) → 0 < n → (if n == 0 then 500 else n) ≡ n
+    shared n some = ap (λ b. if b then 500 else n) (ne_eqb n 0 (λ none. omega arith))
+
+-- so each line has an answer
+pub enough_answers : (geo : Geometry) (cs : List Command) (rows : ℕ → List Answer) → 0 < hosts_of geo → All (IsPlayable geo) cs → ArePlayed geo cs rows → HaveAnswers rows cs
+enough_answers geo cs rows some playable played t =
+    dite (dec_lt t (hosts_of geo))
+    (λ low. let long = plays_long (sectors_of geo) t [] (lines_for t cs) (rows t) played.told.history (played.told.plays t low) in omega (arith, long))
+    (λ past. let none = none_past (hosts_of geo) t cs (workers_there geo cs some playable) (omega arith) in omega (arith, none))
+
+-- and each page that is told is whole
+pub whole_pages : (geo : Geometry) (cs : List Command) (rows : List (Vec Answer Global)) (digits : ℕ) → length rows ≡ hosts_of geo → digits ≡ 2 * page_bytes_of geo → ArePlayed geo cs (answers_by rows) → All (λ row. All (HasDigits digits) (answers_in row)) rows
+whole_pages geo cs rows digits all same played t row low p a within is =
+    let here = get_or rows t row in
+    let found = get_or here.items p a in
+    let own : answers_by rows t ≡ here.items = get_or-map answers_in rows t row [] low in
+    let at : slice_get (answers_by rows t) p ≡ Some found = ap (λ l. slice_get l p) own ∙ slice_get-get_or here.items p a within in
+    let there : t < hosts_of geo = omega arith in
+    let line = answer_of_read (sectors_of geo) t [] (lines_for t cs) (answers_by rows t) played.told.history p found (played.told.plays t there) at is in
+    let long : length found.page.items ≡ page_bytes_of geo = played.room t there p line.0 found line.1 at line.2 in
+    omega (arith, same, long)
+
+module _ (geo : Geometry) (cs : List Command) (rows : ℕ → List Answer) (played : ArePlayed geo cs rows) where
+  -- the text of what was played is a text of the bytes that mean these commands
+  is_text : (bytes : List ℕ) → commands_of bytes geo ≡ Ok cs → IsTextOf geo bytes (text_of cs rows)
+  is_text bytes meaning = record {
+    commands = cs;
+    meaning = meaning;
+    rows = rows;
+    lines = refl;
+    told = played.told;
+    answers = λ apart. record { lines = lines_text 0 (merge cs rows); answers = played.text apart; whole = refl };
+  }
+
+  -- so such a text was written
+  pub text_sent : (input old new : Option (List ℕ)) → IfSome input (λ bytes. commands_of bytes geo ≡ Ok cs) → Appends old new (text_of cs rows) → IfSome input (λ bytes. AppendsText (IsTextOf geo) bytes old new)
+  text_sent None old new meaning sent = tt
+  text_sent (Some bytes) old new meaning sent = record { text = text_of cs rows; is_text = is_text bytes meaning; out = sent }
+
+  -- or a beginning of it
+  pub part_sent : (input old new : Option (List ℕ)) → IfSome input (λ bytes. commands_of bytes geo ≡ Ok cs) → AppendsBeginning old new (text_of cs rows) → IfSome input (λ bytes. AppendsPart (IsTextOf geo) bytes old new)
+  part_sent None old new meaning part = tt
+  part_sent (Some bytes) old new meaning part = record { text = text_of cs rows; is_text = is_text bytes meaning; out = part }
+
+-- the bytes mean some commands
+pub some_meaning : (geo : Geometry) (cs : List Command) (input : Option (List ℕ)) → IfSome input (λ bytes. commands_of bytes geo ≡ Ok cs) → IfSome input (λ bytes. (commands : List Command) × (commands_of bytes geo ≡ Ok commands))
+some_meaning geo cs None meaning = tt
+some_meaning geo cs (Some bytes) meaning = (cs, meaning)

@@ -1,0 +1,106 @@
+ghost use Rattle.std.specs.Prelude.{◌≡◌, ◌+◌, ◌<◌, length, IfErr, IfSome, OnOk};
+ghost use Rattle.std.specs.Io.KnownBytes.{IsAtEnd};
+ghost use Rattle.geometry.specs.Geometry.{brooms_of, hosts_of};
+ghost use Rattle.trace.specs.Watched.{failures_of, inner_of};
+ghost use Rattle.answers.specs.Delivery.{AppendsText};
+ghost use Rattle.answers.specs.Outcome.{ExplainsRun};
+ghost use Rattle.answers.specs.Streams.{stream_of};
+ghost use Rattle.shared_run.specs.Texts.{IsTextOf};
+
+use answers::{OutputFailed, RunFault, read_commands};
+use delivery::Delivery;
+use flash_table::{Gate, NoGate};
+use geometry::{Geometry, MAX_BROOMS, MAX_HOSTS};
+use shared_player::{AllStart, NoShift, Starts, play_commands};
+use std::alloc::Global;
+use std::io::{Read, Write};
+use std::sync::{Arc, Wait};
+use std::thread::Threads;
+use trace::Watched;
+
+// The most threads of a round: a worker for each host, and the brooms.
+const MAX_THREADS: usize = MAX_HOSTS as usize + MAX_BROOMS as usize;
+
+/// Plays a trace on a shared device: each host's lines are played by a worker in a thread of its own, brooms collect beside them, and then the answers
+/// are written in the order of the trace. Workers and brooms pass a gate each, the workers' first.
+///
+/// The whole trace is read and checked before the first command. A write that finds no block is tried as often as the patience says. After a fault no
+/// thread runs.
+pub fn run_shared<
+    T: Threads + Wait + Sync,
+    S: Starts + Copy + Drop,
+    R: Read,
+    W: Write,
+    G: Gate + Send,
+>(
+    rt: &T,
+    alloc: Global,
+    starts: S,
+    reader: &mut Watched<R>,
+    writer: &mut Watched<W>,
+    geometry: &Geometry,
+    patience: u32,
+    gates: &mut [G],
+) -> Result<(), RunFault>
+    requires hosts { 0 < hosts_of geometry.now }
+    requires gates { length gates.old ≡ hosts_of geometry.now + brooms_of geometry.now }
+
+    // The reader was read to its end, what was written is a text of all its bytes, and no call failed.
+    ensures end { OnOk result (IsAtEnd (R.remaining (inner_of reader.new))) }
+    ensures text { OnOk result (IfSome (R.remaining (inner_of reader.old)) (λ bytes. AppendsText (IsTextOf geometry.now) bytes (W.contents (inner_of writer.old)) (W.contents (inner_of writer.new)))) }
+    ensures reader_unfailed { OnOk result (failures_of reader.new ≡ failures_of reader.old) }
+    ensures writer_unfailed { OnOk result (failures_of writer.new ≡ failures_of writer.old) }
+
+    // A fault says what happened. Only a failed writer has taken bytes, and those are a beginning of a text.
+    ensures why { IfErr result (λ fault. ExplainsRun (IsTextOf geometry.now) fault geometry.now (stream_of R.remaining reader.old) (stream_of R.remaining reader.new) (stream_of W.contents writer.old) (stream_of W.contents writer.new)) }
+{
+    let commands = match read_commands(alloc, reader, geometry) {
+        Ok(commands) => commands,
+        Err(fault) => return Err(RunFault::Trace(fault)),
+    };
+    let Ok(delivery) = Delivery::new(alloc, geometry) else {
+        return Err(RunFault::Memory);
+    };
+    let Ok(commands) = Arc::new(alloc, commands) else {
+        return Err(RunFault::Memory);
+    };
+    let rows = match play_commands(rt, alloc, starts, geometry, &commands, patience, gates) {
+        Ok(rows) => rows,
+        Err(NoShift::Memory) => return Err(RunFault::Memory),
+        Err(NoShift::Threads) => return Err(RunFault::Threads),
+    };
+    match delivery.deliver(&commands, &rows, writer) {
+        Ok(()) => Ok(()),
+        Err(OutputFailed) => Err(RunFault::Output),
+    }
+}
+
+/// Plays a trace as `run_shared` does, where every thread may be started and the gates do nothing.
+pub fn run_by_workers<T: Threads + Wait + Sync, R: Read, W: Write>(
+    rt: &T,
+    alloc: Global,
+    reader: &mut Watched<R>,
+    writer: &mut Watched<W>,
+    geometry: &Geometry,
+    patience: u32,
+) -> Result<(), RunFault>
+    requires { 0 < hosts_of geometry.now }
+    ensures end { OnOk result (IsAtEnd (R.remaining (inner_of reader.new))) }
+    ensures text { OnOk result (IfSome (R.remaining (inner_of reader.old)) (λ bytes. AppendsText (IsTextOf geometry.now) bytes (W.contents (inner_of writer.old)) (W.contents (inner_of writer.new)))) }
+    ensures reader_unfailed { OnOk result (failures_of reader.new ≡ failures_of reader.old) }
+    ensures writer_unfailed { OnOk result (failures_of writer.new ≡ failures_of writer.old) }
+    ensures why { IfErr result (λ fault. ExplainsRun (IsTextOf geometry.now) fault geometry.now (stream_of R.remaining reader.old) (stream_of R.remaining reader.new) (stream_of W.contents writer.old) (stream_of W.contents writer.new)) }
+{
+    let mut gates = [NoGate; MAX_THREADS];
+    let threads = geometry.hosts() as usize + geometry.brooms() as usize;
+    run_shared(
+        rt,
+        alloc,
+        AllStart,
+        reader,
+        writer,
+        geometry,
+        patience,
+        &mut gates[..threads],
+    )
+}
