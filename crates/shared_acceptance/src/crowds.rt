@@ -3,7 +3,9 @@ ghost use Rattle.std.specs.Prelude.{◌≡◌, ◌<◌, IfOk};
 ghost use Rattle.host.specs.Ready.{IsReady};
 ghost use Rattle.volume.specs.Volume.{flash_of};
 
-use crate::hands::{Desk, Hand, close, first_look};
+use crate::closing::{close, have};
+use crate::hands::{Call, Hand, first_look};
+use crate::opening::{Desk, last_pass};
 use flash_table::Pass;
 use geometry::{Geometry, Got, Was};
 use std::test::Fail;
@@ -42,10 +44,10 @@ fn two_threads_write_a_hundred_values_each(rt: HostRuntime) -> Result<(), Fail> 
     );
     assert!(rt; first && second);
     a.meet(&mut b);
-    assert_eq!(rt; a.read(1), first_look(Some(100)));
+    assert!(rt; a.answers(&[Call::Read(1, Some(100))]));
     let Hand { volume: _, pass: a } = a;
     let Hand { volume: _, pass: b } = b;
-    assert_eq!(rt; close(&rt, volume, a, b), (Some(100), Some(100)));
+    assert!(rt; have(&close(&rt, volume, a, b), 100, 100));
     Ok(())
 }
 
@@ -56,15 +58,9 @@ fn open_three(rt: &impl AllocGlobal, blocks: u32) -> Result<(Desk, Pass), Fail>
     let geometry = Geometry::new(1, blocks, 2, 1, 2, 10, 3, 0)?;
     let (volume, mut passes, brooms) = Volume::open(rt.alloc(), &geometry)?;
     brooms.destroy_empty();
-    let Some(c) = passes.pop() else {
-        unreachable!()
-    };
-    let Some(b) = passes.pop() else {
-        unreachable!()
-    };
-    let Some(a) = passes.pop() else {
-        unreachable!()
-    };
+    let c = last_pass(&volume, &mut passes);
+    let b = last_pass(&volume, &mut passes);
+    let a = last_pass(&volume, &mut passes);
     passes.destroy_empty();
     Ok((Desk { volume, a, b }, c))
 }
@@ -115,7 +111,7 @@ fn two_threads_read_a_sector_while_a_third_overwrites_it(rt: HostRuntime) -> Res
         ),
     );
     assert!(rt; wrote && first && second);
-    assert_eq!(rt; c.read(0), first_look(Some(100)));
+    assert!(rt; c.answers(&[Call::Read(0, Some(100))]));
     a.leave();
     b.leave();
     c.leave();

@@ -6,39 +6,33 @@ ghost use Rattle.host.specs.declared.holding.Holding.{Holding};
 ghost use Rattle.shared_acceptance.specs.Kept.{IsKept, IsKept-prop};
 ghost use Rattle.volume.specs.Volume.{flash_of};
 
-use crate::hands::{
-    Desk, Hand, Sweeper, close, close_alone, first_look, open_swept, open_swept_by_two, page,
-};
+use crate::closing::{close, close_alone, have};
+use crate::hands::{Call, EMPTY, Hand, WRITTEN, page};
+use crate::meanwhile::{BroomAt, HostAt};
+use crate::opening::{Desk, open_swept, open_swept_by_two};
+use crate::sweepers::{Sweep, Sweeper, drained};
 use broom::{Drain, Erase};
-use flash_table::{Gate, NoGate, Point};
+use flash_table::{Gate, Point};
 use geometry::Was;
 use host::Holding;
 use std::test::Fail;
 use volume::Volume;
 
-fn drained(block: u32, copied: u32) -> Drain {
-    Drain::Drained { block, copied }
-}
-
 // The first block is erased, by a broom that has copied into its spare, and is the next spare.
-const KEPT: Erase = Erase::Erased {
-    block: 0,
-    kept: true,
-};
+const KEPT: Sweep = Sweep::Erase(
+    0,
+    Erase::Erased {
+        block: 0,
+        kept: true,
+    },
+);
 
-// Lets a host write 5 to sector 1 before a map word is exchanged.
-struct WritesBeforeMove<'a> {
-    hand: Hand<'a>,
-    was: Option<Was>,
-}
-
-impl Gate for WritesBeforeMove<'_> {
-    fn at(&mut self, point: Point) {
-        if point == Point::BeforeMove {
-            self.was = self.hand.write(1, 5);
-        }
-    }
-}
+// Both sectors are written, and the first one again.
+const WRITES: [Call; 3] = [
+    Call::Write(0, 1, EMPTY),
+    Call::Write(1, 2, EMPTY),
+    Call::Write(0, 3, WRITTEN),
+];
 
 #[test]
 fn a_write_before_the_exchange_stays(rt: HostRuntime) -> Result<(), Fail> {
@@ -51,20 +45,17 @@ fn a_write_before_the_exchange_stays(rt: HostRuntime) -> Result<(), Fail> {
         volume: &volume,
         pass: a,
     };
-    assert_eq!(rt; a.write(0, 1), Some(Was::Empty));
-    assert_eq!(rt; a.write(1, 2), Some(Was::Empty));
-    assert_eq!(rt; a.write(0, 3), Some(Was::Written));
-    let mut gate = WritesBeforeMove { hand: a, was: None };
-    assert_eq!(rt; broom.drain(&mut gate), drained(0, 0));
-    let WritesBeforeMove { hand: mut a, was } = gate;
-    assert_eq!(rt; was, Some(Was::Written));
-    assert_eq!(rt; a.read(1), first_look(Some(5)));
-    assert_eq!(rt; broom.drain(&mut NoGate), Drain::NoSpare);
-    assert_eq!(rt; broom.erase(0), KEPT);
+    assert!(rt; a.answers(&WRITES));
+    let write = [Call::Write(1, 5, WRITTEN)];
+    let mut gate = HostAt::new(Point::BeforeMove, a, &write, 1);
+    assert!(rt; broom.drain(&mut gate) == drained(0, 0));
+    let (mut a, right) = gate.end();
+    assert!(rt; right && a.answers(&[Call::Read(1, Some(5))]));
+    assert!(rt; broom.answers(&[Sweep::Drain(Drain::NoSpare), KEPT]));
     a.leave();
     let Sweeper { volume: _, broom } = broom;
     volume.fold(&rt, broom);
-    assert_eq!(rt; close_alone(&rt, volume, b), (Some(3), Some(5)));
+    assert!(rt; have(&close_alone(&rt, volume, b), 3, 5));
     Ok(())
 }
 
@@ -79,10 +70,10 @@ fn nothing_is_gained_while_each_closed_block_is_all_live(rt: HostRuntime) -> Res
         volume: &volume,
         pass: a,
     };
-    assert_eq!(rt; broom.drain(&mut NoGate), Drain::NothingToGain);
-    assert_eq!(rt; a.write(0, 1), Some(Was::Empty));
-    assert_eq!(rt; a.write(1, 2), Some(Was::Empty));
-    assert_eq!(rt; broom.drain(&mut NoGate), Drain::NothingToGain);
+    let nothing = [Sweep::Drain(Drain::NothingToGain)];
+    assert!(rt; broom.answers(&nothing));
+    assert!(rt; a.answers(&WRITES[..2]));
+    assert!(rt; broom.answers(&nothing));
     broom.leave();
     a.leave();
     volume.retire(b);
@@ -97,13 +88,16 @@ fn hosts_leave_a_brooms_spare_alone(rt: HostRuntime) -> Result<(), Fail> {
         pass: a,
     };
     for byte in 1..=8u8 {
-        let was = if byte <= 2 { Was::Empty } else { Was::Written };
-        assert_eq!(rt; a.write(u32::from(byte) % 2, byte), Some(was));
+        let was = if byte <= 2 { EMPTY } else { WRITTEN };
+        assert!(rt; a.write(u32::from(byte) % 2, byte) == was);
     }
-    assert_eq!(rt; a.write(0, 9), None);
-    assert_eq!(rt; a.read(0), first_look(Some(8)));
-    assert_eq!(rt; a.read(1), first_look(Some(7)));
-    assert_eq!(rt; a.trim(0), Was::Written);
+    let then = [
+        Call::Write(0, 9, None),
+        Call::Read(0, Some(8)),
+        Call::Read(1, Some(7)),
+        Call::Trim(0, Was::Written),
+    ];
+    assert!(rt; a.answers(&then));
     a.leave();
     volume.retire(b);
     volume.fold(&rt, broom);
@@ -125,28 +119,14 @@ fn a_block_whose_host_is_gone_is_drained(rt: HostRuntime) -> Result<(), Fail> {
         volume: &volume,
         pass: b,
     };
-    assert_eq!(rt; a.write(0, 1), Some(Was::Empty));
+    assert!(rt; a.answers(&WRITES[..1]));
     a.leave();
-    assert_eq!(rt; broom.drain(&mut NoGate), drained(0, 1));
-    assert_eq!(rt; b.read(0), first_look(Some(1)));
-    assert_eq!(rt; broom.erase(0), KEPT);
+    assert!(rt; broom.answers(&[Sweep::Drain(drained(0, 1))]));
+    assert!(rt; b.answers(&[Call::Read(0, Some(1))]));
+    assert!(rt; broom.answers(&[KEPT]));
     broom.leave();
     b.leave();
     Ok(())
-}
-
-// Lets another broom drain a block before a map word is exchanged.
-struct DrainsBeforeMove<'a> {
-    broom: Sweeper<'a>,
-    answer: Option<Drain>,
-}
-
-impl Gate for DrainsBeforeMove<'_> {
-    fn at(&mut self, point: Point) {
-        if point == Point::BeforeMove {
-            self.answer = Some(self.broom.drain(&mut NoGate));
-        }
-    }
 }
 
 #[test]
@@ -156,31 +136,24 @@ fn two_brooms_drain_a_block_each_and_no_sector_changes(rt: HostRuntime) -> Resul
         volume: &volume,
         broom: first,
     };
-    let mut gate = DrainsBeforeMove {
-        broom: Sweeper {
-            volume: &volume,
-            broom: second,
-        },
-        answer: None,
+    let second = Sweeper {
+        volume: &volume,
+        broom: second,
     };
     let mut a = Hand {
         volume: &volume,
         pass: a,
     };
-    assert_eq!(rt; a.write(0, 1), Some(Was::Empty));
-    assert_eq!(rt; a.write(1, 2), Some(Was::Empty));
-    assert_eq!(rt; a.write(0, 3), Some(Was::Written));
-    assert_eq!(rt; a.write(0, 4), Some(Was::Written));
-    assert_eq!(rt; first.drain(&mut gate), drained(0, 1));
-    let DrainsBeforeMove {
-        broom: second,
-        answer,
-    } = gate;
-    assert_eq!(rt; answer, Some(drained(1, 1)));
+    assert!(rt; a.answers(&WRITES) && a.answers(&[Call::Write(0, 4, WRITTEN)]));
+    let drain = [Sweep::Drain(drained(1, 1))];
+    let mut gate = BroomAt::new(Point::BeforeMove, second, &drain, 1);
+    assert!(rt; first.drain(&mut gate) == drained(0, 1));
+    let (second, right) = gate.end();
+    assert!(rt; right);
     first.leave();
     second.leave();
     let Hand { volume: _, pass: a } = a;
-    assert_eq!(rt; close(&rt, volume, a, b), (Some(4), Some(2)));
+    assert!(rt; have(&close(&rt, volume, a, b), 4, 2));
     Ok(())
 }
 
@@ -231,16 +204,14 @@ fn a_block_that_is_read_is_lost_and_then_drained_under_its_reader(
         volume: &volume,
         pass: a,
     };
-    assert_eq!(rt; a.write(0, 1), Some(Was::Empty));
-    assert_eq!(rt; a.write(1, 2), Some(Was::Empty));
-    assert_eq!(rt; a.write(0, 3), Some(Was::Written));
+    assert!(rt; a.answers(&WRITES));
     let mut gate = HoldsBeforeClaim {
         volume: &volume,
         holding: Some(Holding::Empty(b)),
     };
-    assert_eq!(rt; broom.drain(&mut gate), Drain::Lost);
-    assert_eq!(rt; broom.drain(&mut NoGate), drained(0, 1));
-    assert_eq!(rt; a.read(1), first_look(Some(2)));
+    assert!(rt; broom.drain(&mut gate) == Drain::Lost);
+    assert!(rt; broom.answers(&[Sweep::Drain(drained(0, 1))]));
+    assert!(rt; a.answers(&[Call::Read(1, Some(2))]));
     let HoldsBeforeClaim {
         volume: device,
         holding,
@@ -252,10 +223,10 @@ fn a_block_that_is_read_is_lost_and_then_drained_under_its_reader(
     };
     let mut out = [99; 8];
     device.copy_into(&mut held, &mut out);
-    assert_eq!(rt; out, page(2));
-    assert_eq!(rt; broom.erase(0), Erase::Pinned);
+    assert!(rt; out == page(2));
+    assert!(rt; broom.answers(&[Sweep::Erase(0, Erase::Pinned)]));
     device.retire(device.release(held));
-    assert_eq!(rt; broom.erase(0), KEPT);
+    assert!(rt; broom.answers(&[KEPT]));
     broom.leave();
     a.leave();
     Ok(())

@@ -1,37 +1,28 @@
 //! A broom that drains and erases blocks beside two hosts.
-use crate::hands::{Desk, Hand, Seen, Sweeper, open_swept, page};
-use broom::{Drain, Erase};
-use flash_table::{Gate, NoGate, Point};
-use geometry::{Got, Was};
+use crate::hands::{Call, EMPTY, Hand, Seen, WRITTEN, page};
+use crate::meanwhile::{Both, BroomAt, HostAt};
+use crate::opening::{Desk, open_swept};
+use crate::sweepers::{Sweep, Sweeper, drained, erased};
+use flash_table::Point;
+use geometry::Got;
 use std::test::Fail;
 
-fn drained(block: u32) -> Drain {
-    Drain::Drained { block, copied: 0 }
-}
+// A host writes both sectors after each of a read's first looks.
+const WRITES: [Call; 4] = [
+    Call::Write(0, 3, WRITTEN),
+    Call::Write(1, 4, WRITTEN),
+    Call::Write(0, 5, WRITTEN),
+    Call::Write(1, 6, WRITTEN),
+];
 
-// After each of a read's first looks, lets a host write both sectors, and a broom drain and erase the block that they were in.
-struct ErasesAfterLook<'a> {
-    hand: Hand<'a>,
-    broom: Sweeper<'a>,
-    rounds: u8,
-    done: u8,
-    erased: Option<Erase>,
-}
-
-impl Gate for ErasesAfterLook<'_> {
-    fn at(&mut self, point: Point) {
-        if point != Point::AfterLook || self.done >= self.rounds {
-            return;
-        }
-        let block = self.done;
-        self.done += 1;
-        let byte = block.wrapping_mul(2).wrapping_add(3);
-        let _ = self.hand.write(0, byte);
-        let _ = self.hand.write(1, byte.wrapping_add(1));
-        if self.broom.drain(&mut NoGate) == drained(u32::from(block)) {
-            self.erased = Some(self.broom.erase(u32::from(block)));
-        }
-    }
+// And a broom drains and erases the block that they were in.
+fn sweeps() -> [Sweep; 4] {
+    [
+        Sweep::Drain(drained(0, 0)),
+        Sweep::Erase(0, erased(0)),
+        Sweep::Drain(drained(1, 0)),
+        Sweep::Erase(1, erased(1)),
+    ]
 }
 
 #[test]
@@ -46,36 +37,27 @@ fn a_read_looks_again_where_its_block_was_erased(rt: HostRuntime) -> Result<(), 
             volume: &volume,
             pass: b,
         };
-        assert_eq!(rt; a.write(0, 1), Some(Was::Empty));
-        assert_eq!(rt; a.write(1, 2), Some(Was::Empty));
-        let mut gate = ErasesAfterLook {
-            hand: a,
-            broom: Sweeper {
-                volume: &volume,
-                broom,
-            },
-            rounds,
-            done: 0,
-            erased: None,
+        let broom = Sweeper {
+            volume: &volume,
+            broom,
+        };
+        assert!(rt; a.answers(&[Call::Write(0, 1, EMPTY), Call::Write(1, 2, EMPTY)]));
+        let steps = 2 * usize::from(rounds);
+        let sweeps = sweeps();
+        let mut gate = Both {
+            host: HostAt::new(Point::AfterLook, a, &WRITES[..steps], 2),
+            broom: BroomAt::new(Point::AfterLook, broom, &sweeps[..steps], 2),
         };
         let seen = Seen {
             got: Got::Data,
             out: page(1 + 2 * rounds),
             tries: u64::from(rounds) + 1,
         };
-        assert_eq!(rt; b.read_gated(0, &mut gate), seen);
-        let ErasesAfterLook {
-            hand: a,
-            broom,
-            rounds: _,
-            done: _,
-            erased,
-        } = gate;
-        let last = Erase::Erased {
-            block: u32::from(rounds) - 1,
-            kept: false,
-        };
-        assert_eq!(rt; erased, Some(last));
+        assert!(rt; b.read_gated(0, &mut gate) == seen);
+        let Both { host, broom } = gate;
+        let (a, wrote) = host.end();
+        let (broom, swept) = broom.end();
+        assert!(rt; wrote && swept);
         a.leave();
         b.leave();
         broom.leave();

@@ -5,6 +5,8 @@
 #[cfg(test)]
 mod caller;
 #[cfg(test)]
+mod closing;
+#[cfg(test)]
 mod crowds;
 #[cfg(test)]
 mod drains;
@@ -15,11 +17,17 @@ mod gates;
 #[cfg(test)]
 mod hands;
 #[cfg(test)]
+mod meanwhile;
+#[cfg(test)]
 mod new_writes;
+#[cfg(test)]
+mod opening;
 #[cfg(test)]
 mod plays;
 #[cfg(test)]
 mod queue_crowds;
+#[cfg(test)]
+mod queue_hands;
 #[cfg(test)]
 mod queue_rows;
 #[cfg(test)]
@@ -28,6 +36,8 @@ mod rows;
 mod schedules;
 #[cfg(test)]
 mod sizes;
+#[cfg(test)]
+mod sweepers;
 #[cfg(test)]
 mod swept_crowd;
 #[cfg(test)]

@@ -1,6 +1,8 @@
 //! Writes of an empty sector.
-use crate::hands::{Desk, Hand, first_look};
-use flash_table::{Gate, Point};
+use crate::hands::{Call, Hand};
+use crate::meanwhile::HostAt;
+use crate::opening::Desk;
+use flash_table::Point;
 use geometry::Was;
 use host::NewFault;
 use std::test::Fail;
@@ -17,29 +19,19 @@ fn a_written_sector_is_not_written_anew_until_it_is_trimmed(rt: HostRuntime) -> 
         volume: &volume,
         pass: b,
     };
-    assert_eq!(rt; a.write_new(0, 1), Ok(()));
-    assert_eq!(rt; b.write_new(0, 2), Err(NewFault::Written));
-    assert_eq!(rt; b.read(0), first_look(Some(1)));
-    assert_eq!(rt; a.trim(0), Was::Written);
-    assert_eq!(rt; b.write_new(0, 3), Ok(()));
-    assert_eq!(rt; a.read(0), first_look(Some(3)));
+    assert!(rt; a.answers(&[Call::New(0, 1, Ok(()))]));
+    assert!(rt;
+        b.answers(&[
+            Call::New(0, 2, Err(NewFault::Written)),
+            Call::Read(0, Some(1))
+        ])
+    );
+    assert!(rt; a.answers(&[Call::Trim(0, Was::Written)]));
+    assert!(rt; b.answers(&[Call::New(0, 3, Ok(()))]));
+    assert!(rt; a.answers(&[Call::Read(0, Some(3))]));
     a.leave();
     b.leave();
     Ok(())
-}
-
-// Lets the other host write sector 0, if it is empty, before a map word is exchanged.
-struct WritesBeforePlace<'a> {
-    hand: Hand<'a>,
-    wrote: Option<Result<(), NewFault>>,
-}
-
-impl Gate for WritesBeforePlace<'_> {
-    fn at(&mut self, point: Point) {
-        if point == Point::BeforePlace {
-            self.wrote = Some(self.hand.write_new(0, 2));
-        }
-    }
 }
 
 #[test]
@@ -49,20 +41,27 @@ fn the_first_exchange_wins_and_not_the_first_call(rt: HostRuntime) -> Result<(),
         volume: &volume,
         pass: a,
     };
-    let mut gate = WritesBeforePlace {
-        hand: Hand {
-            volume: &volume,
-            pass: b,
-        },
-        wrote: None,
+    let b = Hand {
+        volume: &volume,
+        pass: b,
     };
-    assert_eq!(rt; a.write_new_gated(0, 1, &mut gate), Err(NewFault::Written));
-    let WritesBeforePlace { hand: b, wrote } = gate;
-    assert_eq!(rt; wrote, Some(Ok(())));
-    assert_eq!(rt; a.read(0), first_look(Some(2)));
+    let write = [Call::New(0, 2, Ok(()))];
+    let mut gate = HostAt::new(Point::BeforePlace, b, &write, 1);
+    assert!(rt; a.write_new_gated(0, 1, &mut gate) == Err(NewFault::Written));
+    let (b, right) = gate.end();
+    assert!(rt; right && a.answers(&[Call::Read(0, Some(2))]));
     a.leave();
     b.leave();
     Ok(())
+}
+
+// Which of two threads wrote, if just one of them did.
+fn winner(first: Result<(), NewFault>, second: Result<(), NewFault>) -> Option<u8> {
+    match (first, second) {
+        (Ok(()), Err(NewFault::Written)) => Some(1),
+        (Err(NewFault::Written), Ok(())) => Some(2),
+        _ => None,
+    }
 }
 
 #[test]
@@ -78,13 +77,10 @@ fn of_two_threads_just_one_writes_an_empty_sector(rt: HostRuntime) -> Result<(),
     };
     for round in 0..1000 {
         let (first, second) = join_mut(&rt, &mut || a.write_new(0, 1), &mut || b.write_new(0, 2));
-        let winner = match (first, second) {
-            (Ok(()), Err(NewFault::Written)) => 1,
-            (Err(NewFault::Written), Ok(())) => 2,
-            _ => panic!(rt; "round {round}: {first:?} and {second:?}"),
-        };
-        assert_eq!(rt; a.read(0), first_look(Some(winner)), "round {round}");
-        assert_eq!(rt; b.trim(0), Was::Written, "round {round}");
+        let winner = winner(first, second);
+        assert!(rt; winner.is_some(), "round {round}");
+        assert!(rt; a.answers(&[Call::Read(0, winner)]), "round {round}");
+        assert!(rt; b.answers(&[Call::Trim(0, Was::Written)]), "round {round}");
     }
     a.leave();
     b.leave();

@@ -3,7 +3,8 @@ ghost use Rattle.std.specs.Bool.{OnTrue};
 ghost use Rattle.std.specs.Prelude.{◌≡◌, ◌<◌, Some, length, slice_get};
 ghost use Rattle.trace.specs.declared.commands.Op.TheVariants as op;
 
-use crate::hands::{Desk, Hand};
+use crate::hands::Hand;
+use crate::opening::Desk;
 use flash_table::{Gate, Point};
 use geometry::Geometry;
 use lines::{Answer, Kind};
@@ -65,7 +66,7 @@ fn a_player_stops_at_its_gate_for_each_answer(rt: HostRuntime) -> Result<(), Fai
         kind: Kind::Full,
         page: vec![in rt.alloc(); 0; 8]?,
     };
-    assert_eq!(rt; commands.len(), 1);
+    assert!(rt; commands.len() == 1);
     let line = commands.command(0);
     assert!(rt; is_trim(&line));
     let Desk { volume, a, b } = Desk::open(&rt, 5)?;
@@ -73,7 +74,7 @@ fn a_player_stops_at_its_gate_for_each_answer(rt: HostRuntime) -> Result<(), Fai
         volume: &volume,
         pass: a,
     };
-    assert_eq!(rt; play_twice(a, &commands, line, answer), 2);
+    assert!(rt; play_twice(a, &commands, line, answer) == 2);
     volume.retire(b);
     Ok(())
 }

@@ -1,59 +1,11 @@
 //! Threads with a pass each.
-ghost use Rattle.std.specs.Prelude.{◌≡◌, ◌+◌, ◌<◌, All, length};
-ghost use Rattle.erase_queue.specs.Queue.{IsPassOf, IsNewPass};
+ghost use Rattle.std.specs.Prelude.{◌<◌};
 
-use erase_queue::{EraseQueue, QueuePass};
+use crate::queue_hands::{Hand, Hands, next_hand};
+use erase_queue::EraseQueue;
 use std::sync::Wait;
 use std::test::Fail;
-use std::thread::{join_mut, yield_now};
-
-// A pass at its queue.
-#[derive(Drop)]
-struct Hand<'a> {
-    queue: &'a EraseQueue,
-    pass: QueuePass,
-    ghost pass_of: { IsPassOf queue.now pass },
-}
-
-// The next hand of these passes.
-fn next_hand<'a>(queue: &'a EraseQueue, passes: &mut Vec<QueuePass>) -> Hand<'a>
-    requires some { 0 < length passes.old.items }
-    requires passes { All (IsNewPass queue.now) passes.old.items }
-    ensures long { length passes.new.items + 1 ≡ length passes.old.items }
-    ensures passes { All (IsNewPass queue.entry.now) passes.new.items }
-{
-    let Some(pass) = passes.pop() else {
-        unreachable!()
-    };
-    Hand { queue, pass }
-}
-
-impl Hand<'_> {
-    // Puts a number, once there is room for it.
-    fn put(&mut self, rt: &impl Wait, block: usize) {
-        for _ in rt.forever() {
-            if block >= self.queue.limit() || self.queue.put(rt, &mut self.pass, block) {
-                return;
-            }
-            yield_now();
-        }
-    }
-
-    fn try_take(&mut self, rt: &impl Wait) -> Option<usize> {
-        self.queue.take(rt, &mut self.pass)
-    }
-
-    // Waits for a number, and takes it.
-    fn take(&mut self, rt: &impl Wait) -> usize {
-        for _ in rt.forever() {
-            if let Some(block) = self.queue.take(rt, &mut self.pass) {
-                return block;
-            }
-            yield_now();
-        }
-        unreachable!()
-    }
-}
+use std::thread::join_mut;
 
 // Puts five hundred numbers, from this one on.
 fn put_many(rt: &impl Wait, hand: &mut Hand, first: usize)
@@ -73,6 +25,16 @@ fn take_many(rt: &impl Wait, hand: &mut Hand) -> [u16; 1000] {
         }
     }
     times
+}
+
+// Whether each number came once, here or there.
+fn each_once(first: &[u16; 1000], second: &[u16; 1000]) -> bool {
+    for block in 0..1000 {
+        if first[block].wrapping_add(second[block]) != 1 {
+            return false;
+        }
+    }
+    true
 }
 
 #[test]
@@ -97,10 +59,8 @@ fn each_number_that_two_threads_put_is_taken_once_by_two_others(
             &mut || take_many(&rt, &mut d),
         ),
     );
-    for block in 0..1000 {
-        assert_eq!(rt; first[block].wrapping_add(second[block]), 1, "{block}");
-    }
-    assert_eq!(rt; c.try_take(&rt), None);
+    assert!(rt; each_once(&first, &second));
+    assert!(rt; c.answers(&rt, &[Hands::Take(None)]));
     Ok(())
 }
 
@@ -140,8 +100,8 @@ fn four_threads_share_a_queue_with_one_place(rt: HostRuntime) -> Result<(), Fail
             &mut || take_often(&rt, &mut d, 400),
         ),
     );
-    assert_eq!(rt; zeros, (true, true));
-    assert_eq!(rt; c.try_take(&rt), None);
+    assert!(rt; zeros.0 && zeros.1);
+    assert!(rt; c.answers(&rt, &[Hands::Take(None)]));
     Ok(())
 }
 
@@ -151,16 +111,22 @@ fn what_a_dropped_pass_has_put_is_taken_by_the_others(rt: HostRuntime) -> Result
     let mut a = next_hand(&queue, &mut passes);
     let mut b = next_hand(&queue, &mut passes);
     let mut c = next_hand(&queue, &mut passes);
-    a.put(&rt, 0);
-    a.put(&rt, 1);
-    a.put(&rt, 2);
+    let puts = [
+        Hands::Put(0, true),
+        Hands::Put(1, true),
+        Hands::Put(2, true),
+    ];
+    assert!(rt; a.answers(&rt, &puts));
     drop(a);
-    assert_eq!(rt; b.try_take(&rt), Some(0));
+    assert!(rt; b.answers(&rt, &[Hands::Take(Some(0))]));
     drop(b);
-    c.put(&rt, 4);
-    assert_eq!(rt; c.try_take(&rt), Some(1));
-    assert_eq!(rt; c.try_take(&rt), Some(2));
-    assert_eq!(rt; c.try_take(&rt), Some(4));
-    assert_eq!(rt; c.try_take(&rt), None);
+    let then = [
+        Hands::Put(4, true),
+        Hands::Take(Some(1)),
+        Hands::Take(Some(2)),
+        Hands::Take(Some(4)),
+        Hands::Take(None),
+    ];
+    assert!(rt; c.answers(&rt, &then));
     Ok(())
 }

@@ -1,6 +1,9 @@
 //! What two hosts see of one another.
-use crate::hands::{Desk, Hand, close, first_look, open_swept, page};
-use flash_table::{Gate, Point};
+use crate::closing::{close, have};
+use crate::hands::{Call, EMPTY, Hand, WRITTEN, page};
+use crate::meanwhile::HostAt;
+use crate::opening::{Desk, open_swept};
+use flash_table::Point;
 use geometry::Was;
 use host::Holding;
 use std::test::Fail;
@@ -16,8 +19,8 @@ fn what_one_host_writes_another_reads_without_a_meeting(rt: HostRuntime) -> Resu
         volume: &volume,
         pass: b,
     };
-    assert_eq!(rt; a.write(0, 1), Some(Was::Empty));
-    assert_eq!(rt; b.read(0), first_look(Some(1)));
+    assert!(rt; a.answers(&[Call::Write(0, 1, EMPTY)]));
+    assert!(rt; b.answers(&[Call::Read(0, Some(1))]));
     a.leave();
     b.leave();
     volume.retire_broom(broom);
@@ -32,14 +35,17 @@ fn ten_writes_fill_five_blocks_and_nothing_is_lost(rt: HostRuntime) -> Result<()
         pass: a,
     };
     for byte in 1..=10u8 {
-        let was = if byte <= 2 { Was::Empty } else { Was::Written };
-        assert_eq!(rt; a.write(u32::from(byte) % 2, byte), Some(was));
+        let was = if byte <= 2 { EMPTY } else { WRITTEN };
+        assert!(rt; a.write(u32::from(byte) % 2, byte) == was);
     }
-    assert_eq!(rt; a.write(0, 11), None);
-    assert_eq!(rt; a.read(0), first_look(Some(10)));
-    assert_eq!(rt; a.read(1), first_look(Some(9)));
-    assert_eq!(rt; a.trim(0), Was::Written);
-    assert_eq!(rt; a.read(0), first_look(None));
+    let then = [
+        Call::Write(0, 11, None),
+        Call::Read(0, Some(10)),
+        Call::Read(1, Some(9)),
+        Call::Trim(0, Was::Written),
+        Call::Read(0, None),
+    ];
+    assert!(rt; a.answers(&then));
     a.leave();
     volume.retire(b);
     Ok(())
@@ -56,28 +62,14 @@ fn hosts_that_met_close_with_what_both_wrote(rt: HostRuntime) -> Result<(), Fail
         volume: &volume,
         pass: b,
     };
-    assert_eq!(rt; a.write(0, 1), Some(Was::Empty));
-    assert_eq!(rt; b.write(1, 2), Some(Was::Empty));
+    assert!(rt; a.answers(&[Call::Write(0, 1, EMPTY)]));
+    assert!(rt; b.answers(&[Call::Write(1, 2, EMPTY)]));
     a.meet(&mut b);
-    assert_eq!(rt; a.read(1), first_look(Some(2)));
+    assert!(rt; a.answers(&[Call::Read(1, Some(2))]));
     let Hand { volume: _, pass: a } = a;
     let Hand { volume: _, pass: b } = b;
-    assert_eq!(rt; close(&rt, volume, a, b), (Some(1), Some(2)));
+    assert!(rt; have(&close(&rt, volume, a, b), 1, 2));
     Ok(())
-}
-
-// Lets the other host trim sector 0 before a map word is swapped.
-struct TrimsBeforePlace<'a> {
-    hand: Hand<'a>,
-    was: Option<Was>,
-}
-
-impl Gate for TrimsBeforePlace<'_> {
-    fn at(&mut self, point: Point) {
-        if point == Point::BeforePlace {
-            self.was = Some(self.hand.trim(0));
-        }
-    }
 }
 
 #[test]
@@ -87,18 +79,16 @@ fn a_trim_before_the_swap_is_the_earlier_call(rt: HostRuntime) -> Result<(), Fai
         volume: &volume,
         pass: a,
     };
-    let mut gate = TrimsBeforePlace {
-        hand: Hand {
-            volume: &volume,
-            pass: b,
-        },
-        was: None,
+    let b = Hand {
+        volume: &volume,
+        pass: b,
     };
-    assert_eq!(rt; a.write(0, 1), Some(Was::Empty));
-    assert_eq!(rt; a.write_gated(0, 2, &mut gate), Some(Was::Empty));
-    let TrimsBeforePlace { hand: b, was } = gate;
-    assert_eq!(rt; was, Some(Was::Written));
-    assert_eq!(rt; a.read(0), first_look(Some(2)));
+    let trim = [Call::Trim(0, Was::Written)];
+    let mut gate = HostAt::new(Point::BeforePlace, b, &trim, 1);
+    assert!(rt; a.answers(&[Call::Write(0, 1, EMPTY)]));
+    assert!(rt; a.write_gated(0, 2, &mut gate) == EMPTY);
+    let (b, right) = gate.end();
+    assert!(rt; right && a.answers(&[Call::Read(0, Some(2))]));
     a.leave();
     b.leave();
     Ok(())
@@ -115,25 +105,24 @@ fn a_hold_keeps_its_value_until_it_is_released(rt: HostRuntime) -> Result<(), Fa
         Holding::Empty(pass) => pass,
         Holding::Held(_held) => panic!(rt; "nothing is written"),
     };
-    assert_eq!(rt; a.write(0, 1), Some(Was::Empty));
+    assert!(rt; a.answers(&[Call::Write(0, 1, EMPTY)]));
     let mut held = match volume.hold(b, 0) {
         Holding::Held(held) => held,
         Holding::Empty(_pass) => panic!(rt; "it is written"),
     };
-    assert_eq!(rt; (held.block(), held.generation()), (0, 0));
-    assert_eq!(rt; held.pass().opened(), None);
-    assert_eq!(rt; volume.word(&mut held, 0), 1);
-    assert_eq!(rt; a.write(0, 3), Some(Was::Written));
+    assert!(rt; held.block() == 0 && held.generation() == 0);
+    assert!(rt; held.pass().opened().is_none());
+    assert!(rt; volume.word(&mut held, 0) == 1);
+    assert!(rt; a.answers(&[Call::Write(0, 3, WRITTEN)]));
     let mut out = [99; 8];
     volume.copy_into(&mut held, &mut out);
-    assert_eq!(rt; out, page(1));
-    assert_eq!(rt; a.trim(0), Was::Written);
-    assert_eq!(rt; a.write(0, 3), Some(Was::Empty));
+    assert!(rt; out == page(1));
+    assert!(rt; a.answers(&[Call::Trim(0, Was::Written), Call::Write(0, 3, EMPTY)]));
     let mut b = Hand {
         volume: &volume,
         pass: volume.release(held),
     };
-    assert_eq!(rt; b.read(0), first_look(Some(3)));
+    assert!(rt; b.answers(&[Call::Read(0, Some(3))]));
     a.leave();
     b.leave();
     Ok(())
@@ -150,13 +139,12 @@ fn a_host_that_is_given_up_keeps_no_block(rt: HostRuntime) -> Result<(), Fail> {
         volume: &volume,
         pass: b,
     };
-    assert_eq!(rt; a.write(0, 1), Some(Was::Empty));
+    assert!(rt; a.answers(&[Call::Write(0, 1, EMPTY)]));
     a.leave();
     for byte in 2..=9u8 {
-        assert_eq!(rt; b.write(0, byte), Some(Was::Written));
+        assert!(rt; b.write(0, byte) == WRITTEN);
     }
-    assert_eq!(rt; b.write(1, 10), None);
-    assert_eq!(rt; b.read(0), first_look(Some(9)));
+    assert!(rt; b.answers(&[Call::Write(1, 10, None), Call::Read(0, Some(9))]));
     b.leave();
     Ok(())
 }

@@ -1,7 +1,8 @@
 //! Two hosts whose calls interleave at every point of a gated call, by a schedule that a seed gives, beside a plain array.
 ghost use Rattle.std.specs.Prelude.{◌<◌};
 
-use crate::hands::{Desk, Hand, first_look};
+use crate::hands::{Hand, first_look};
+use crate::opening::Desk;
 use flash_table::{Gate, Point};
 use geometry::Was;
 use std::test::Fail;

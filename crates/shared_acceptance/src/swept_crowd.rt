@@ -6,7 +6,8 @@ ghost use Rattle.host.specs.Ready.{IsReady};
 ghost use Rattle.volume.specs.Brooms.{IsBroomReady};
 ghost use Rattle.volume.specs.Volume.{flash_of};
 
-use crate::hands::Sweeper;
+use crate::opening::{last_broom, last_pass};
+use crate::sweepers::Sweeper;
 use broom::Broom;
 use flash_table::{NoGate, Pass};
 use geometry::{Geometry, Got, put_word, word_at};
@@ -156,15 +157,9 @@ fn open_hosts(rt: &impl AllocGlobal) -> Result<(Crowd, Vec<Broom>), Fail>
 {
     let geometry = Geometry::new(1, BLOCKS, 4, 4, SECTORS, 1000000, 3, 2)?;
     let (volume, mut passes, brooms) = Volume::open(rt.alloc(), &geometry)?;
-    let Some(c) = passes.pop() else {
-        unreachable!()
-    };
-    let Some(b) = passes.pop() else {
-        unreachable!()
-    };
-    let Some(a) = passes.pop() else {
-        unreachable!()
-    };
+    let c = last_pass(&volume, &mut passes);
+    let b = last_pass(&volume, &mut passes);
+    let a = last_pass(&volume, &mut passes);
     passes.destroy_empty();
     Ok((Crowd { volume, a, b, c }, brooms))
 }
@@ -174,12 +169,8 @@ fn open_crowd(rt: &impl AllocGlobal) -> Result<(Crowd, Broom, Broom), Fail>
     ensures { IfOk result (λ r. IsBroomReady r.0.volume r.1 × IsBroomReady r.0.volume r.2) }
 {
     let (crowd, mut brooms) = open_hosts(rt)?;
-    let Some(second) = brooms.pop() else {
-        unreachable!()
-    };
-    let Some(first) = brooms.pop() else {
-        unreachable!()
-    };
+    let second = last_broom(&crowd.volume, &mut brooms);
+    let first = last_broom(&crowd.volume, &mut brooms);
     brooms.destroy_empty();
     Ok((crowd, first, second))
 }
@@ -235,8 +226,8 @@ fn three_hosts_read_and_write_beside_two_brooms(rt: HostRuntime) -> Result<(), F
     let last = [
         a.seen[0], b.seen[1], c.seen[2], a.seen[3], b.seen[4], c.seen[5],
     ];
-    assert_eq!(rt; a.seen, last);
-    assert_eq!(rt; (a.tried, b.tried, c.tried), (5000, 5000, 5000));
+    assert!(rt; a.seen == last);
+    assert!(rt; a.tried == 5000 && b.tried == 5000 && c.tried == 5000);
     assert!(rt; a.done >= 2500 && b.done >= 2500 && c.done >= 2500);
     a.leave();
     b.leave();

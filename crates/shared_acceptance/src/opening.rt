@@ -1,0 +1,107 @@
+//! A small device for tests: two sectors, blocks of two pages, and pages of one word.
+ghost use Rattle.std.specs.Prelude.{◌≡◌, ◌+◌, ◌<◌, All, IfOk, length};
+ghost use Rattle.geometry.specs.Geometry.{sectors_of, page_bytes_of};
+ghost use Rattle.flash_table.specs.Flash.{geometry_of};
+ghost use Rattle.host.specs.Ready.{IsReady};
+ghost use Rattle.volume.specs.Brooms.{IsBroomReady};
+ghost use Rattle.volume.specs.Volume.{flash_of};
+
+use broom::Broom;
+use flash_table::Pass;
+use geometry::Geometry;
+use std::test::Fail;
+use volume::Volume;
+
+/// A device with the passes of two hosts, A with number 0 and B with number 1.
+pub struct Desk {
+    pub volume: Volume,
+    pub a: Pass,
+    pub b: Pass,
+    ghost sectors: { sectors_of (geometry_of (flash_of volume)) ≡ 2 },
+    ghost bytes: { page_bytes_of (geometry_of (flash_of volume)) ≡ 8 },
+    ghost a_ready: { IsReady (flash_of volume) a },
+    ghost b_ready: { IsReady (flash_of volume) b },
+}
+
+impl Desk {
+    /// A device of so many blocks and no broom, with nothing written.
+    pub fn open(rt: &impl AllocGlobal, blocks: u32) -> Result<Desk, Fail> {
+        let (desk, brooms) = open_with(rt, blocks, 10, 0)?;
+        brooms.destroy_empty();
+        Ok(desk)
+    }
+}
+
+/// Takes the pass with the highest number.
+pub fn last_pass(volume: &Volume, passes: &mut Vec<Pass>) -> Pass
+    requires some { 0 < length passes.old.items }
+    requires ready { All (IsReady (flash_of volume.now)) passes.old.items }
+    ensures long { length passes.new.items + 1 ≡ length passes.old.items }
+    ensures others { All (IsReady (flash_of volume.now)) passes.new.items }
+    ensures ready { IsReady (flash_of volume.now) result }
+{
+    let Some(pass) = passes.pop() else {
+        unreachable!()
+    };
+    pass
+}
+
+/// Takes the broom with the highest number.
+pub fn last_broom(volume: &Volume, brooms: &mut Vec<Broom>) -> Broom
+    requires some { 0 < length brooms.old.items }
+    requires ready { All (IsBroomReady volume.now) brooms.old.items }
+    ensures long { length brooms.new.items + 1 ≡ length brooms.old.items }
+    ensures others { All (IsBroomReady volume.now) brooms.new.items }
+    ensures ready { IsBroomReady volume.now result }
+{
+    let Some(broom) = brooms.pop() else {
+        unreachable!()
+    };
+    broom
+}
+
+// A device of so many blocks, which may be erased so often, and brooms.
+fn open_with(
+    rt: &impl AllocGlobal,
+    blocks: u32,
+    endurance: u32,
+    brooms: u32,
+) -> Result<(Desk, Vec<Broom>), Fail>
+    ensures count { IfOk result (λ r. length r.1.items ≡ brooms) }
+    ensures ready { IfOk result (λ r. All (IsBroomReady r.0.volume) r.1.items) }
+{
+    let geometry = Geometry::new(1, blocks, 2, 1, 2, endurance, 2, brooms)?;
+    let (volume, mut passes, brooms) = Volume::open(rt.alloc(), &geometry)?;
+    let b = last_pass(&volume, &mut passes);
+    let a = last_pass(&volume, &mut passes);
+    passes.destroy_empty();
+    Ok((Desk { volume, a, b }, brooms))
+}
+
+/// A device of five blocks, with a broom whose spare is block 4.
+pub fn open_swept(rt: &impl AllocGlobal) -> Result<(Desk, Broom), Fail>
+    ensures { IfOk result (λ r. IsBroomReady r.0.volume r.1) }
+{
+    open_swept_often(rt, 10)
+}
+
+/// The same, with blocks that may be erased so often.
+pub fn open_swept_often(rt: &impl AllocGlobal, endurance: u32) -> Result<(Desk, Broom), Fail>
+    ensures { IfOk result (λ r. IsBroomReady r.0.volume r.1) }
+{
+    let (desk, mut brooms) = open_with(rt, 5, endurance, 1)?;
+    let broom = last_broom(&desk.volume, &mut brooms);
+    brooms.destroy_empty();
+    Ok((desk, broom))
+}
+
+/// A device of seven blocks, with two brooms.
+pub fn open_swept_by_two(rt: &impl AllocGlobal) -> Result<(Desk, Broom, Broom), Fail>
+    ensures { IfOk result (λ r. IsBroomReady r.0.volume r.1 × IsBroomReady r.0.volume r.2) }
+{
+    let (desk, mut brooms) = open_with(rt, 7, 10, 2)?;
+    let second = last_broom(&desk.volume, &mut brooms);
+    let first = last_broom(&desk.volume, &mut brooms);
+    brooms.destroy_empty();
+    Ok((desk, first, second))
+}
