@@ -7,3 +7,6 @@ pub mod Outcome
 pub mod Faults
 pub mod Lines
 pub mod Playable
+
+-- Internal.
+pub mod Encoding
