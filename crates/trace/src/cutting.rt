@@ -4,6 +4,8 @@
 ghost use Rattle.std.specs.Prelude.{◌≡◌, ◌≤◌, length, drop, true};
 ghost use Rattle.trace.specs.Cutting.{CutsField, IsCut, EndsField, EndsPlain, EndsQuoted, IsMarkEnd, StartsRecord, begins_with, is_field_end, is_line_end, AreValues};
 
+use crate::lanes::{LANES, field_run};
+
 // U+FEFF in UTF-8.
 const BYTE_ORDER_MARK: [u8; 3] = [0xef, 0xbb, 0xbf];
 
@@ -153,7 +155,15 @@ fn plain_end(text: &[u8], start: usize) -> usize
     requires { start ≤ length text.now }
     ensures { EndsPlain text.now start result }
 {
-    for end in start..text.len() {
+    let mut at = start;
+    'blocks: while text.len() - at >= LANES {
+        let run = field_run(text, at);
+        if run < LANES {
+            return at + run;
+        }
+        at += LANES;
+    }
+    for end in at..text.len() {
         if is_field_end(text[end]) {
             return end;
         }
