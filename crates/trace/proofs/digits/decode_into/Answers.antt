@@ -1,4 +1,5 @@
-use Rattle.std.proofs.Common.{◌≡◌, ◌+◌, ◌*◌, ◌%◌, ◌≤◌, length, slice_index, refl, ◌∙◌, arith}
+use Rattle.std.proofs.Common.{◌≡◌, ◌+◌, ◌*◌, ◌%◌, ◌≤◌, length, slice_index, ℕ, refl, sym, ap, ◌∙◌, arith}
+use Rattle.std.proofs.lemmas.List.{length-set}
 use Rattle.std.proofs.lemmas.Simd.{length-put_chunk}
 use Rattle.hex.proofs.HexLemmas.{decode_of-even}
 use Rattle.hex.proofs.Pairs.{decode_done, decode_err, decode_start, decode_step}
@@ -33,7 +34,7 @@ bytes-preserved c =
     let a = slice_index c.args.digits.now (2 * c.bytes.i) in
     let b = slice_index c.args.digits.now (2 * c.bytes.i + 1) in
     let read = pair_read a b (2 * c.bytes.i) _ _ c.value-high.ensures c.value-low.ensures c.if-high-gt15.false c.if-low-gt15.false in
-    (sized, decode_step _ _ c.bytes.i _ (omega (arith, sized)) (omega arith) read before)
+    (sized ∙ ap (λ (n : ℕ). 2 * n) (sym (length-set c.bytes.out c.bytes.i _)), decode_step _ _ c.bytes.i _ (omega (arith, sized)) (omega arith) read before)
 
 pub returns : goal.returns
 returns c =
