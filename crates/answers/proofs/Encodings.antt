@@ -1,6 +1,6 @@
 -- Digits of sixteen values at once.
-use Rattle.std.proofs.Common.{◌≡◌, ℕ, ◌+◌, ◌-◌, ◌*◌, ◌/◌, ◌%◌, ◌^◌, ◌<◌, ◌≤◌, Bool, true, cond, eqb, ltb, List, [], ◌∷◌, ◌++◌, map, length, get_or, slice_index, take, drop, replicate, bit_and, refl, sym, ap, ap₂, ◌∙◌, subst, arith, eqb-true, take-add, w8, Fits}
-use Rattle.std.proofs.lemmas.Bool.{agree_below, agree_below_at}
+use Rattle.std.proofs.Common.{◌≡◌, ℕ, ◌+◌, ◌-◌, ◌*◌, ◌/◌, ◌%◌, ◌^◌, ◌<◌, ◌≤◌, true, cond, eqb, ltb, List, [], ◌∷◌, ◌++◌, map, length, slice_index, take, drop, replicate, bit_and, refl, sym, ap, ap₂, ◌∙◌, subst, arith, eqb-true, take-add, w8, Fits}
+use Rattle.std.proofs.lemmas.Bool.{agree_below_at}
 use Rattle.std.proofs.lemmas.List.{append_assoc, append-nil, drop_all, length-drop, take-append-drop}
 use Rattle.std.proofs.lemmas.Nat.{and_mask, and_le_r}
 use Rattle.std.proofs.lemmas.Simd.{Each1-all, Each1-weaker, Each1-zip2, Each2-splat, below_from_Fits, pick_l_whole, take_more_put_chunk, length-put_chunk}

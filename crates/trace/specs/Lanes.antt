@@ -1,5 +1,5 @@
 -- Sixteen bytes of a text at once.
-use Rattle.std.specs.Prelude.{◌≡◌, ◌+◌, ◌*◌, ◌^◌, ◌%◌, ◌<◌, ◌≤◌, ◌==◌, ℕ, Bool, true, false, List, length, if◌then◌else◌, slice_index, nat_lt, Ok}
+use Rattle.std.specs.Prelude.{◌≡◌, ◌+◌, ◌*◌, ◌^◌, ◌%◌, ◌<◌, ◌≤◌, ◌==◌, ℕ, true, false, List, length, if◌then◌else◌, slice_index, nat_lt, Ok}
 use Rattle.std.specs.Int.{w64, trailing_zeros}
 use Rattle.std.specs.Int.Bits.{bit_and}
 use Rattle.hex.specs.Hex.{is_hex_digit, pair_value}

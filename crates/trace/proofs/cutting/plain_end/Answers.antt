@@ -1,4 +1,4 @@
-use Rattle.std.proofs.Common.{◌≡◌, ◌+◌, ◌≤◌, ℕ, length, subst, sym, ◌∙◌, arith}
+use Rattle.std.proofs.Common.{◌≡◌, ◌+◌, ◌≤◌, length, subst, sym, ◌∙◌, arith}
 use Rattle.csv.specs.declared.parser.State.TheVariants.{InField}
 use Rattle.trace.specs.Cutting.{Joins}
 use Rattle.trace.proofs.CutFacts.{joins-none, plain-more, plain-run, stops-at}
