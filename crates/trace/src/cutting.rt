@@ -2,9 +2,13 @@
 // copied: what stands between quotes is only passed over.
 
 ghost use Rattle.std.specs.Prelude.{◌≡◌, ◌≤◌, length, drop, true};
-ghost use Rattle.trace.specs.Cutting.{CutsField, IsCut, EndsField, EndsPlain, EndsQuoted, IsMarkEnd, StartsRecord, begins_with, is_field_end, is_line_end, AreValues};
+ghost use Rattle.csv.specs.declared.parser.State.TheVariants.{InField};
+ghost use Rattle.trace.specs.Cutting.{CutsField, IsCut, EndsField, EndsPlain, EndsQuoted, IsMarkEnd, Joins, StartsRecord, begins_with, is_field_end, is_line_end, AreValues};
 
 use crate::lanes::{LANES, field_run};
+
+// How far a field is looked at byte by byte.
+const NEAR: usize = 8;
 
 // U+FEFF in UTF-8.
 const BYTE_ORDER_MARK: [u8; 3] = [0xef, 0xbb, 0xbf];
@@ -155,7 +159,22 @@ fn plain_end(text: &[u8], start: usize) -> usize
     requires { start ≤ length text.now }
     ensures { EndsPlain text.now start result }
 {
-    let mut at = start;
+    let near = text.len().min(start + NEAR);
+    for end in start..near {
+        if is_field_end(text[end]) {
+            return end;
+        }
+    }
+    far_end(text, start, near)
+}
+
+// Where a field ends that goes on as far as a place. Most fields are short, and are not looked at in blocks.
+#[inline(never)]
+fn far_end(text: &[u8], start: usize, from: usize) -> usize
+    requires { Joins InField text.now start from }
+    ensures { EndsPlain text.now start result }
+{
+    let mut at = from;
     'blocks: while text.len() - at >= LANES {
         let run = field_run(text, at);
         if run < LANES {
