@@ -134,6 +134,7 @@ fn has(text: &[u8], at: usize, byte: u8) -> bool
 }
 
 // The field that begins here.
+#[inline(always)]
 fn next_field(text: &[u8], start: usize) -> Field<'_>
     requires { start ≤ length text.now }
     ensures { CutsField text.now start result }
@@ -155,6 +156,7 @@ fn next_field(text: &[u8], start: usize) -> Field<'_>
 }
 
 // Where a field ends, from a place that is behind its quotes.
+#[inline(always)]
 fn plain_end(text: &[u8], start: usize) -> usize
     requires { start ≤ length text.now }
     ensures { EndsPlain text.now start result }
@@ -191,6 +193,7 @@ fn far_end(text: &[u8], start: usize, from: usize) -> usize
 }
 
 // Where a field that begins with a quote ends. Two quotes between its quotes stand for one.
+#[inline(never)]
 fn quoted_end(text: &[u8], start: usize) -> usize
     requires { begins_with 34 (drop start text.now) ≡ true }
     ensures { EndsField text.now start result }
