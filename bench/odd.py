@@ -11,6 +11,9 @@ def trace(lines, sectors, seed):
 
 def line(seeded, sector):
     percent = int(seeded.random() * 100)
+    if percent < 4:
+        count = int(seeded.random() * 9)
+        return b'0,new,%d,%b\n' % (sector, seeded.randbytes(count).hex().upper().encode())
     if percent < 60:
         count = int(seeded.random() * 9)
         return b"0,write,%d,%b\n" % (sector, seeded.randbytes(count).hex().encode())

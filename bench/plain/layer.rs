@@ -52,8 +52,8 @@ pub struct Counts {
 /// No page: a sector that is empty.
 const NOWHERE: u32 = u32::MAX;
 
-/// The live count of a block that can't be a victim: the spare, or a retired one.
-const NEVER: u32 = u32::MAX;
+/// The live count of a block that can't be a victim: the spare, or a retired one. A block has at most 16,384 pages.
+const NEVER: i16 = i16::MAX;
 
 pub struct Ftl {
     page_bytes: usize,
@@ -67,7 +67,7 @@ pub struct Ftl {
     /// The page of each sector.
     map: Vec<u32>,
     /// The live pages of each block.
-    live: Vec<u32>,
+    live: Vec<i16>,
     erases: Vec<u32>,
     /// The page that is programmed next, and the end of its block; equal where no block is open.
     pub next: u32,
@@ -159,9 +159,18 @@ impl Ftl {
         self.end = self.next + self.pages;
     }
 
-    /// Copies the live pages of the block with the fewest, the lowest on a tie, into the spare.
+    /// The block with the fewest live pages, the lowest on a tie: two loops, each of which becomes vector instructions.
+    fn victim(&self) -> usize {
+        let least = self.live.iter().fold(NEVER, |least, &live| least.min(live));
+        let (groups, _) = self.live.as_chunks::<16>();
+        let group = groups.iter().position(|group| group.iter().fold(false, |found, &live| found | (live == least)));
+        let first = 16 * group.unwrap_or(groups.len());
+        first + self.live[first..].iter().position(|&live| live == least).expect("a block")
+    }
+
+    /// Copies the live pages of the victim into the spare.
     fn collect(&mut self, spare: u32) {
-        let (victim, _) = self.live.iter().enumerate().min_by_key(|&(_, &live)| live).unwrap();
+        let victim = self.victim();
         self.open(spare);
         let first = victim * self.pages as usize;
         for place in first..first + self.pages as usize {
@@ -177,7 +186,7 @@ impl Ftl {
         }
         let copies = self.live[victim];
         self.live[spare as usize] = copies;
-        self.counts.copies += u64::from(copies);
+        self.counts.copies += copies as u64;
         self.live[victim] = NEVER;
         self.counts.erases += 1;
         self.erases[victim] += 1;

@@ -2,10 +2,11 @@
 //! same formats, options and exit statuses, but for the texts of the command line's help and refusals.
 
 mod answers;
+mod hex;
 mod layer;
 mod trace;
 
-use answers::Answers;
+use answers::{Answers, Short};
 use layer::{Ftl, Geometry};
 use std::io::{self, Read, Write};
 use std::process::ExitCode;
@@ -66,33 +67,39 @@ fn options() -> Option<Geometry> {
 
 fn play(text: &[u8], commands: &[Command], geometry: &Geometry, writer: impl Write) -> io::Result<()> {
     let mut ftl = Ftl::new(geometry);
-    let mut answers = Answers::new(writer);
-    let was = |written| if written { b"written".as_slice() } else { b"empty".as_slice() };
-    for (i, command) in commands.iter().enumerate() {
-        answers.number(i as u64 + 1, b',');
-        answers.text(command.op.name().as_bytes());
-        answers.text(b",");
-        answers.number(u64::from(command.sector), b',');
+    let mut answers = Answers::new(writer, geometry.page_bytes());
+    for command in commands {
+        answers.begin(&NAMES[command.op as usize], command.sector);
         match command.op {
             Op::Read => match ftl.read(command.sector) {
-                Some(page) => answers.hex(page),
-                None => answers.text(b"empty"),
+                Some(page) => answers.page(page),
+                None => answers.text(&EMPTY),
             },
-            Op::Write => match ftl.write(command.sector) {
+            Op::New if ftl.read(command.sector).is_some() => answers.text(&WRITTEN),
+            Op::Write | Op::New => match ftl.write(command.sector) {
                 Some((written, page)) => {
-                    trace::decode(&text[command.data()], page);
+                    hex::decode(&text[command.data()], page);
                     answers.text(was(written));
                 }
-                None => answers.text(b"worn"),
+                None => answers.text(&WORN),
             },
             Op::Trim => answers.text(was(ftl.trim(command.sector))),
-            Op::Meet => answers.text(b"met"),
+            Op::Meet => answers.text(&MET),
         }
         answers.end_line()?;
     }
-    answers.text(b"end,");
-    answers.number(ftl.counts.programs, b',');
-    answers.number(ftl.counts.copies, b',');
-    answers.number(ftl.counts.erases, b'\n');
+    answers.totals(&ftl.counts);
     answers.flush()
 }
+
+fn was(written: bool) -> &'static Short {
+    if written { &WRITTEN } else { &EMPTY }
+}
+
+/// The names of the ops, in their order.
+static NAMES: [Short; 5] =
+    [Short::new("read,"), Short::new("write,"), Short::new("new,"), Short::new("trim,"), Short::new("meet,")];
+static WRITTEN: Short = Short::new("written\n");
+static EMPTY: Short = Short::new("empty\n");
+static WORN: Short = Short::new("worn\n");
+static MET: Short = Short::new("met\n");

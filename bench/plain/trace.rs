@@ -1,5 +1,6 @@
 //! Traces: CSV records of worker, op, sector and data, checked as a whole before the first is played.
 
+use crate::hex;
 use crate::layer::Geometry;
 use std::ops::Range;
 
@@ -9,19 +10,10 @@ const MAX_WORKERS: u32 = 500;
 pub enum Op {
     Read,
     Write,
+    /// A write that takes effect only where the sector is empty.
+    New,
     Trim,
     Meet,
-}
-
-impl Op {
-    pub fn name(self) -> &'static str {
-        match self {
-            Op::Read => "read",
-            Op::Write => "write",
-            Op::Trim => "trim",
-            Op::Meet => "meet",
-        }
-    }
 }
 
 /// A line of a trace; a write's digits stand in the text.
@@ -57,13 +49,61 @@ impl Record {
 pub fn parse(text: &mut [u8], geometry: &Geometry) -> Result<Vec<Command>, (u64, &'static str)> {
     let mut commands = Vec::new();
     let mut at = if text.starts_with(b"\xef\xbb\xbf") { 3 } else { 0 };
-    while let Some(record) = next_record(text, &mut at) {
+    loop {
+        if let Some((command, end)) = common_record(text, at, geometry) {
+            commands.push(command);
+            at = end;
+            continue;
+        }
+        let Some(record) = next_record(text, &mut at) else {
+            return Ok(commands);
+        };
         match command(text, &record, geometry) {
             Ok(command) => commands.push(command),
             Err(kind) => return Err((commands.len() as u64 + 1, kind)),
         }
     }
-    Ok(commands)
+}
+
+/// A record without a fault, as most are: short numbers, no quotes, and a line feed at its end. Its
+/// command, and where it ends.
+fn common_record(text: &[u8], at: usize, geometry: &Geometry) -> Option<(Command, usize)> {
+    let (worker, rest) = common_number(&text[at..], MAX_WORKERS)?;
+    let (op, rest) = match rest.first_chunk()? {
+        b"read," => (Op::Read, &rest[5..]),
+        b"write" if rest.get(5) == Some(&b',') => (Op::Write, &rest[6..]),
+        b"trim," => (Op::Trim, &rest[5..]),
+        [b'n', b'e', b'w', b',', _] => (Op::New, &rest[4..]),
+        b"meet," => (Op::Meet, &rest[5..]),
+        _ => return None,
+    };
+    let (sector, data) = common_number(rest, geometry.sectors)?;
+    let digits = match op {
+        Op::Write | Op::New => hex::count(data),
+        Op::Meet if (worker, sector) != (0, 0) => return None,
+        _ => 0,
+    };
+    if data.get(digits) != Some(&b'\n') || digits % 2 != 0 || digits > 2 * geometry.page_bytes() {
+        return None;
+    }
+    let start = text.len() - data.len();
+    Some((Command { sector, start: start as u32, digits: digits as u16, op }, start + digits + 1))
+}
+
+/// A number of at most seven digits that a comma ends, if it is below the bound, and the text behind the comma.
+fn common_number(text: &[u8], bound: u32) -> Option<(u32, &[u8])> {
+    let values = u64::from_le_bytes(*text.first_chunk()?) ^ 0x3030_3030_3030_3030;
+    let others = (values.wrapping_add(0x7676_7676_7676_7676) | values) & 0x8080_8080_8080_8080;
+    let count = others.trailing_zeros() as usize / 8;
+    if !(1..=7).contains(&count) || text[count] != b',' {
+        return None;
+    }
+    // Zeros stand in front of the digits then, and the sums of pairs, of fours and of eights are made.
+    let values = values << (64 - 8 * count);
+    let pairs = (values.wrapping_mul(10) + (values >> 8)) & 0x00ff_00ff_00ff_00ff;
+    let fours = (pairs.wrapping_mul(100) + (pairs >> 16)) & 0x0000_ffff_0000_ffff;
+    let number = (fours.wrapping_mul(10_000) + (fours >> 32)) as u32;
+    (number < bound).then_some((number, &text[count + 1..]))
 }
 
 fn next_record(text: &mut [u8], at: &mut usize) -> Option<Record> {
@@ -126,14 +166,15 @@ fn command(text: &[u8], record: &Record, geometry: &Geometry) -> Result<Command,
     let op = match field(1) {
         b"read" => Op::Read,
         b"write" => Op::Write,
+        b"new" => Op::New,
         b"trim" => Op::Trim,
         b"meet" => Op::Meet,
         _ => return Err("Op"),
     };
     let sector = number(field(2), geometry.sectors).ok_or("Sector")?;
     let data = field(3);
-    if op == Op::Write {
-        if data.len() % 2 != 0 || !data.iter().all(|&digit| DIGIT[digit as usize] < 16) {
+    if matches!(op, Op::Write | Op::New) {
+        if data.len() % 2 != 0 || hex::count(data) != data.len() {
             return Err("Hex");
         }
         if data.len() > 2 * geometry.page_bytes() {
@@ -159,31 +200,10 @@ fn number(text: &[u8], bound: u32) -> Option<u32> {
     (number < bound).then_some(number)
 }
 
-/// Fills a page with the bytes of these digits, and zeros behind them.
-pub fn decode(digits: &[u8], page: &mut [u8]) {
-    let (front, rest) = page.split_at_mut(digits.len() / 2);
-    for (byte, pair) in front.iter_mut().zip(digits.chunks_exact(2)) {
-        *byte = DIGIT[pair[0] as usize] << 4 | DIGIT[pair[1] as usize];
-    }
-    rest.fill(0);
-}
-
 static ENDS_FIELD: [bool; 256] = {
     let mut ends = [false; 256];
     ends[b',' as usize] = true;
     ends[b'\n' as usize] = true;
     ends[b'\r' as usize] = true;
     ends
-};
-
-/// The value of each hexadecimal digit, and 255 for other bytes.
-static DIGIT: [u8; 256] = {
-    let mut values = [255; 256];
-    let mut i = 0;
-    while i < 16 {
-        values[b"0123456789abcdef"[i] as usize] = i as u8;
-        values[b"0123456789ABCDEF"[i] as usize] = i as u8;
-        i += 1;
-    }
-    values
 };

@@ -1,3 +1,4 @@
 pub mod Deliveries
+pub mod Encodings
 pub mod Playable
 pub mod Texts

@@ -7,3 +7,5 @@ pub mod Outcome
 pub mod Faults
 pub mod Lines
 pub mod Playable
+-- Internal.
+pub mod Encoding

@@ -2,6 +2,7 @@
 #![tactic(auto)]
 
 mod delivery;
+mod encoding;
 mod fault;
 mod line;
 mod lines;

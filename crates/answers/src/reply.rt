@@ -3,6 +3,7 @@ ghost use Rattle.hex.specs.Hex.{encode_lower};
 ghost use Rattle.answers.specs.Replies.{reply_text, reply_of};
 ghost use Rattle.answers.specs.declared.reply.Reply.TheVariants as reply;
 
+use crate::encoding::encode;
 use geometry::Was;
 
 /// The answer of a command. `Page` is the value that a read found.
@@ -35,7 +36,7 @@ impl Reply {
         ensures text { reply_text self digits.new ≡ reply_text self (encode_lower page.now) }
     {
         if let Reply::Page = self {
-            hex::encode_to_slice(page, digits).unwrap();
+            encode(page, digits);
         }
     }
 

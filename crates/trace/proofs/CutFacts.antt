@@ -1,5 +1,5 @@
 -- How the fields and the records of a text are cut, by the steps of csv's machine.
-use Rattle.std.proofs.Common.{◌≡◌, ◌≢◌, ℕ, ◌+◌, ◌-◌, ◌<◌, ◌≤◌, Bool, true, false, List, [], ◌∷◌, ◌++◌, length, take, drop, get_or, refl, ap, sym, ◌∙◌, arith, length-drop, get_or-drop}
+use Rattle.std.proofs.Common.{◌≡◌, ◌≢◌, ℕ, zero, suc, subst, ◌+◌, ◌-◌, ◌<◌, ◌≤◌, Bool, true, false, List, [], ◌∷◌, ◌++◌, length, take, drop, get_or, refl, ap, sym, ◌∙◌, arith, length-drop, get_or-drop}
 use Rattle.std.specs.Prelude.{◌==◌, ◌||◌}
 use Rattle.std.proofs.lemmas.List.{drop-drop, drop_all, drop_more, take_more}
 use Rattle.std.proofs.lemmas.Bool.{eqb-true}
@@ -72,6 +72,17 @@ plain-more text start at h below n = joins-more st.InField text start at h below
 
 pub quoted-more : (text : List ℕ) (start at : ℕ) → Joins st.InQuoted text start at → at < length text → (get_or text at 0 == 34) ≡ false → Joins st.InQuoted text start (at + 1)
 quoted-more text start at h below n = joins-more st.InQuoted text start at h below (joins-quoted (get_or text at 0) n)
+
+-- so many bytes more
+pub plain-run : (text : List ℕ) (start at run : ℕ) → Joins st.InField text start at → at + run ≤ length text
+    → ((k : ℕ) → at ≤ k → k < at + run → is_field_end (get_or text k 0) ≡ false) → Joins st.InField text start (at + run)
+plain-run text start at zero h fits joins =
+    let same : at ≡ at + zero = omega arith in
+    subst (λ k. Joins st.InField text start k) same h
+plain-run text start at (suc run) h fits joins =
+    let next : at + run + 1 ≡ at + suc run = omega arith in
+    let before = plain-run text start at run h (omega arith) (λ k from to. joins k from (omega arith)) in
+    subst (λ k. Joins st.InField text start k) next (plain-more text start (at + run) before (omega arith) (joins (at + run) (omega arith) (omega arith)))
 
 -- a field ends at a byte that ends fields, and at the end of the text
 pub stops-at : (text : List ℕ) (at : ℕ) → at < length text → is_field_end (get_or text at 0) ≡ true → ends_field (drop at text) ≡ true

@@ -7,6 +7,7 @@ pub mod Trace
 pub mod Watched
 -- Internal.
 pub mod Cutting
+pub mod Lanes
 pub mod Parsing
 pub mod Rows
 pub mod Stored

@@ -2,7 +2,13 @@
 // copied: what stands between quotes is only passed over.
 
 ghost use Rattle.std.specs.Prelude.{◌≡◌, ◌≤◌, length, drop, true};
-ghost use Rattle.trace.specs.Cutting.{CutsField, IsCut, EndsField, EndsPlain, EndsQuoted, IsMarkEnd, StartsRecord, begins_with, is_field_end, is_line_end, AreValues};
+ghost use Rattle.csv.specs.declared.parser.State.TheVariants.{InField};
+ghost use Rattle.trace.specs.Cutting.{CutsField, IsCut, EndsField, EndsPlain, EndsQuoted, IsMarkEnd, Joins, StartsRecord, begins_with, is_field_end, is_line_end, AreValues};
+
+use crate::lanes::{LANES, field_run};
+
+// How far a field is looked at byte by byte.
+const NEAR: usize = 8;
 
 // U+FEFF in UTF-8.
 const BYTE_ORDER_MARK: [u8; 3] = [0xef, 0xbb, 0xbf];
@@ -128,6 +134,7 @@ fn has(text: &[u8], at: usize, byte: u8) -> bool
 }
 
 // The field that begins here.
+#[inline(always)]
 fn next_field(text: &[u8], start: usize) -> Field<'_>
     requires { start ≤ length text.now }
     ensures { CutsField text.now start result }
@@ -149,11 +156,35 @@ fn next_field(text: &[u8], start: usize) -> Field<'_>
 }
 
 // Where a field ends, from a place that is behind its quotes.
+#[inline(always)]
 fn plain_end(text: &[u8], start: usize) -> usize
     requires { start ≤ length text.now }
     ensures { EndsPlain text.now start result }
 {
-    for end in start..text.len() {
+    let near = text.len().min(start + NEAR);
+    for end in start..near {
+        if is_field_end(text[end]) {
+            return end;
+        }
+    }
+    far_end(text, start, near)
+}
+
+// Where a field ends that goes on as far as a place. Most fields are short, and are not looked at in blocks.
+#[inline(never)]
+fn far_end(text: &[u8], start: usize, from: usize) -> usize
+    requires { Joins InField text.now start from }
+    ensures { EndsPlain text.now start result }
+{
+    let mut at = from;
+    'blocks: while text.len() - at >= LANES {
+        let run = field_run(text, at);
+        if run < LANES {
+            return at + run;
+        }
+        at += LANES;
+    }
+    for end in at..text.len() {
         if is_field_end(text[end]) {
             return end;
         }
@@ -162,6 +193,7 @@ fn plain_end(text: &[u8], start: usize) -> usize
 }
 
 // Where a field that begins with a quote ends. Two quotes between its quotes stand for one.
+#[inline(never)]
 fn quoted_end(text: &[u8], start: usize) -> usize
     requires { begins_with 34 (drop start text.now) ≡ true }
     ensures { EndsField text.now start result }

@@ -1,11 +1,12 @@
-// Hexadecimal digits. A table reads them, since a branch on each digit's kind would often be
-// mispredicted.
+// Hexadecimal digits, sixteen pairs at a time. A table reads the rest, since a branch on each digit's
+// kind would often be mispredicted.
 
 ghost use Rattle.std.specs.Prelude.{◌≡◌, ◌*◌, ◌⊎◌, length, unwrap_or, Ok, OnOk, IfErr, IsErr, MatchBool};
 ghost use Rattle.hex.specs.Hex.{decode_of, hex_digit_value};
 ghost use Rattle.trace.specs.declared.fault.TraceFaultKind.TheVariants as fault;
 
 use crate::fault::TraceFaultKind;
+use crate::lanes::{LANES, decode_block, is_block};
 
 // The value of each byte as a digit, and 16 where it is none.
 #[rattlefmt::skip]
@@ -41,7 +42,15 @@ fn decode_into(digits: &[u8], out: &mut [u8]) -> bool
     requires { length digits.now ≡ 2 * length out.old }
     ensures { MatchBool result (decode_of digits.now ≡ Ok out.new) (IsErr (decode_of digits.now)) }
 {
-    'bytes: for i in 0..out.len() {
+    let mut at = 0;
+    'blocks: while out.len() - at >= LANES {
+        if !is_block(digits, 2 * at) {
+            break;
+        }
+        decode_block(digits, 2 * at).copy_to_slice(&mut out[at..]);
+        at += LANES;
+    }
+    'bytes: for i in at..out.len() {
         let (high, low) = (value(digits[2 * i]), value(digits[2 * i + 1]));
         if high > 15 || low > 15 {
             return false;

@@ -6,6 +6,7 @@ mod commands;
 mod cutting;
 mod digits;
 mod fault;
+mod lanes;
 mod limits;
 mod loading;
 mod page;

@@ -1,9 +1,13 @@
-use Rattle.std.proofs.Common.{◌≡◌, ◌*◌, take, drop}
-use Rattle.hex.specs.Hex.{decode_pairs}
-use Rattle.hex.proofs.Pairs.{prepend}
+use Rattle.std.proofs.Common.{◌≡◌, ◌-◌, ◌*◌, ◌≤◌, length}
+use Rattle.trace.proofs.LaneFacts.{AreDecoded}
 use Rattle.trace.proofs.digits.decode_into.Given as goal
 
 -- the bytes so far are those of the digits so far
+abbrev pub invariant-blocks-2 : goal.invariant-blocks-2
+invariant-blocks-2 l = (l.at ≤ length l.out) × (length l.digits ≡ 2 * length l.out) × AreDecoded l.digits l.out l.at
+
+abbrev pub decreases-blocks-2 : goal.decreases-blocks-2
+decreases-blocks-2 l = length l.out - l.at
+
 abbrev pub invariant-bytes : goal.invariant-bytes
-invariant-bytes l =
-    decode_pairs 0 l.digits ≡ prepend (take l.i l.out) (decode_pairs (2 * l.i) (drop (2 * l.i) l.digits))
+invariant-bytes l = (length l.digits ≡ 2 * length l.out) × AreDecoded l.digits l.out l.i

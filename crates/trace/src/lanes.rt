@@ -1,0 +1,77 @@
+// Sixteen bytes of a text at once.
+
+ghost use Rattle.std.specs.Prelude.{◌≡◌, ◌+◌, ◌*◌, ◌≤◌, length, map, IsTrue};
+ghost use Rattle.trace.specs.Lanes.{AreDigits, Decodes, IsBlock, IsRun, digit_lane, first_set};
+
+use std::simd::prelude::*;
+
+/// How many bytes are looked at together.
+pub(crate) const LANES: usize = 16;
+
+// The place of the lowest bit that is set.
+#[inline(always)]
+fn first_set(mask: u64) -> usize
+    ensures { result ≡ first_set mask }
+{
+    if mask == 0 {
+        LANES
+    } else {
+        mask.trailing_zeros() as usize
+    }
+}
+
+/// How many of the bytes from a place on come before one that ends a field.
+#[inline(always)]
+pub(crate) fn field_run(text: &[u8], at: usize) -> usize
+    requires { at + LANES ≤ length text.now }
+    ensures { IsRun text.now at result }
+{
+    let bytes = u8x16::from_slice(&text[at..]);
+    let line_ends = bytes.simd_eq(u8x16::splat(b'\r')) | bytes.simd_eq(u8x16::splat(b'\n'));
+    let ends = line_ends | bytes.simd_eq(u8x16::splat(b','));
+    first_set(ends.to_bitmask())
+}
+
+// Whether all are digits.
+#[inline(always)]
+fn are_digits(text: &[u8], at: usize) -> bool
+    requires { at + LANES ≤ length text.now }
+    ensures { IsTrue result → AreDigits text.now at }
+{
+    let bytes = u8x16::from_slice(&text[at..]);
+    let not_decimal = (bytes - u8x16::splat(b'0')).simd_ge(u8x16::splat(10));
+    let no_letter = ((bytes | u8x16::splat(0x20)) - u8x16::splat(b'a')).simd_ge(u8x16::splat(6));
+    (not_decimal & no_letter).to_bitmask() == 0
+}
+
+// The values of digits.
+#[inline(always)]
+fn values(digits: u8x16) -> u8x16
+    ensures { result ≡ map digit_lane digits }
+{
+    let letters = digits.simd_gt(u8x16::splat(b'9'));
+    let beyond = letters.select(u8x16::splat(9), u8x16::splat(0));
+    (digits & u8x16::splat(15)) + beyond
+}
+
+/// Whether sixteen pairs of digits stand from a place on.
+#[inline(always)]
+pub(crate) fn is_block(text: &[u8], at: usize) -> bool
+    requires { at + 2 * LANES ≤ length text.now }
+    ensures { IsTrue result → IsBlock text.now at }
+{
+    are_digits(text, at) && are_digits(text, at + LANES)
+}
+
+/// The bytes that sixteen pairs of digits write.
+#[inline(always)]
+pub(crate) fn decode_block(text: &[u8], at: usize) -> u8x16
+    requires room { at + 2 * LANES ≤ length text.now }
+    requires digits { IsBlock text.now at }
+    ensures { Decodes text.now at result }
+{
+    let front = values(u8x16::from_slice(&text[at..]));
+    let back = values(u8x16::from_slice(&text[at + LANES..]));
+    let (high, low) = front.deinterleave(back);
+    (high << u8x16::splat(4)) + low
+}
