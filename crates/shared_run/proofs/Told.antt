@@ -100,6 +100,15 @@ whole_pages geo cs rows digits all same played t row low p a within is =
     let long : length found.page.items ≡ page_bytes_of geo = played.room t there p line.0 found line.1 at line.2 in
     omega (arith, same, long)
 
+-- what was played, under other names for the commands and the rows
+pub renamed : (geo : Geometry) (cs were : List Command) (rows stood : List (Vec Answer Global)) → cs ≡ were → rows ≡ stood → ArePlayed geo were (answers_by stood) → ArePlayed geo cs (answers_by rows)
+renamed geo cs were rows stood same same_rows played =
+    subst (λ l. ArePlayed geo l (answers_by rows)) (sym same) (subst (λ r. ArePlayed geo were (answers_by r)) (sym same_rows) played)
+
+-- and what the bytes mean
+pub renamed_meaning : (geo : Geometry) (cs were : List Command) (input : Option (List ℕ)) → cs ≡ were → IfSome input (λ bytes. commands_of bytes geo ≡ Ok were) → IfSome input (λ bytes. commands_of bytes geo ≡ Ok cs)
+renamed_meaning geo cs were input same meaning = subst (λ l. IfSome input (λ bytes. commands_of bytes geo ≡ Ok l)) (sym same) meaning
+
 module _ (geo : Geometry) (cs : List Command) (rows : ℕ → List Answer) (played : ArePlayed geo cs rows) where
   -- the text of what was played is a text of the bytes that mean these commands
   is_text : (bytes : List ℕ) → commands_of bytes geo ≡ Ok cs → IsTextOf geo bytes (text_of cs rows)
