@@ -76,8 +76,8 @@ fn a_die_keeps_and_copies_pages(rt: HostRuntime) -> Result<(), Fail> {
         bench.read(&rt, copy),
     ];
     let page = ([1, 0, 0, 0, 0, 0, 0, 0], 2);
-    assert_eq!(rt; (programmed, copied, bench.die.copybacks()), (0, 0, 1));
-    assert_eq!(rt; reads, [page, ([255; 8], 0xffff_ffff_ffff_ffff), page]);
+    assert!(rt; (programmed, copied, bench.die.copybacks()) == (0, 0, 1));
+    assert!(rt; reads == [page, ([255; 8], 0xffff_ffff_ffff_ffff), page]);
     Ok(())
 }
 
@@ -89,8 +89,8 @@ fn the_last_erase_retires_a_block(rt: HostRuntime) -> Result<(), Fail> {
     let programmed = bench.die.next(0);
     let read = bench.read(&rt, FIRST);
     let second = bench.erase(&rt, 0);
-    assert_eq!(rt; (first, second), (0, 1));
-    assert_eq!(rt; (programmed, read), (0, ([255; 8], 0xffff_ffff_ffff_ffff)));
-    assert_eq!(rt; (bench.die.retired(0), bench.die.erases(0)), (true, 2));
+    assert!(rt; (first, second) == (0, 1));
+    assert!(rt; (programmed, read) == (0, ([255; 8], 0xffff_ffff_ffff_ffff)));
+    assert!(rt; (bench.die.retired(0), bench.die.erases(0)) == (true, 2));
     Ok(())
 }

@@ -24,18 +24,18 @@ fn geometry_of(n: [u32; 8]) -> Result<Geometry, GeometryFault> {
 #[test]
 fn the_small_geometries_are_accepted(rt: HostRuntime) -> Result<(), Fail> {
     let one_thread = geometry_of([1, 3, 2, 1, 3, 10, 0, 0])?;
-    assert_eq!(rt; one_thread.blocks(), 3);
-    assert_eq!(rt; one_thread.page_bytes(), 8);
+    assert!(rt; one_thread.blocks() == 3);
+    assert!(rt; one_thread.page_bytes() == 8);
     let shared = geometry_of([1, 5, 2, 1, 2, 10, 2, 1])?;
-    assert_eq!(rt; shared.hosts(), 2);
-    assert_eq!(rt; shared.brooms(), 1);
+    assert!(rt; shared.hosts() == 2);
+    assert!(rt; shared.brooms() == 1);
     Ok(())
 }
 
 #[test]
 fn each_faulty_row_has_its_fault(rt: HostRuntime) -> Result<(), Fail> {
     for (numbers, fault) in FAULTS {
-        assert_eq!(rt; geometry_of(numbers), Err(fault), "{numbers:?}");
+        assert!(rt; geometry_of(numbers) == Err(fault), "{numbers:?}");
     }
     Ok(())
 }
@@ -81,13 +81,12 @@ fn each_limit_is_where_it_is_said_to_be(rt: HostRuntime) -> Result<(), Fail> {
         assert!(rt; geometry_of(numbers).is_ok(), "{numbers:?}");
     }
     for (numbers, fault) in BEYOND {
-        assert_eq!(rt; geometry_of(numbers), Err(fault), "{numbers:?}");
+        assert!(rt; geometry_of(numbers) == Err(fault), "{numbers:?}");
     }
     // A table of exactly 16,777,216 words, and one of a word more.
     assert!(rt; geometry_of([1, 1000, 1048, 15, 8216, 10, 0, 0]).is_ok());
-    assert_eq!(rt;
-        geometry_of([1, 1000, 1048, 15, 8217, 10, 0, 0]),
-        Err(GeometryFault::TooManyWords)
+    assert!(rt;
+        geometry_of([1, 1000, 1048, 15, 8217, 10, 0, 0]) == Err(GeometryFault::TooManyWords)
     );
     Ok(())
 }
@@ -95,16 +94,16 @@ fn each_limit_is_where_it_is_said_to_be(rt: HostRuntime) -> Result<(), Fail> {
 #[test]
 fn a_fault_is_printed_by_its_name(rt: HostRuntime) -> Result<(), Fail> {
     let text = format!(in rt.alloc(); "{}", GeometryFault::TooFewBlocks)?;
-    assert_eq!(rt; text.as_str(), "TooFewBlocks");
+    assert!(rt; text.as_str() == "TooFewBlocks");
     Ok(())
 }
 
 #[test]
 fn blocks_are_dealt_to_luns_in_runs(rt: HostRuntime) -> Result<(), Fail> {
     let two = geometry_of([2, 4, 2, 1, 3, 10, 0, 0])?;
-    assert_eq!(rt; two.blocks(), 4);
-    assert_eq!(rt; two.lun_of(1), 0);
-    assert_eq!(rt; two.lun_of(2), 1);
+    assert!(rt; two.blocks() == 4);
+    assert!(rt; two.lun_of(1) == 0);
+    assert!(rt; two.lun_of(2) == 1);
     Ok(())
 }
 
@@ -112,7 +111,7 @@ fn blocks_are_dealt_to_luns_in_runs(rt: HostRuntime) -> Result<(), Fail> {
 fn a_word_is_eight_bytes_least_first(rt: HostRuntime) -> Result<(), Fail> {
     let mut page = [0u8; 16];
     put_word(&mut page, 1, 0x0102_0304_0506_0708);
-    assert_eq!(rt; page, [0, 0, 0, 0, 0, 0, 0, 0, 8, 7, 6, 5, 4, 3, 2, 1]);
-    assert_eq!(rt; word_at(&page, 1), 0x0102_0304_0506_0708);
+    assert!(rt; page == [0, 0, 0, 0, 0, 0, 0, 0, 8, 7, 6, 5, 4, 3, 2, 1]);
+    assert!(rt; word_at(&page, 1) == 0x0102_0304_0506_0708);
     Ok(())
 }

@@ -205,11 +205,11 @@ fn collection_and_wear_follow_the_worked_rows(rt: HostRuntime) -> Result<(), Fai
 #[test]
 fn a_trim_empties_a_sector_and_programs_nothing(rt: HostRuntime) -> Result<(), Fail> {
     let mut bench = Bench::new(&rt, 1, 3, 2, 3, 10)?;
-    assert_eq!(rt; bench.write(&rt, 0, 65), Some(Was::Empty));
-    assert_eq!(rt; bench.trim(&rt, 0), Was::Written);
-    assert_eq!(rt; bench.trim(&rt, 0), Was::Empty);
-    assert_eq!(rt; bench.read(&rt, 0), None);
-    assert_eq!(rt; bench.ftl.counts().programs, 1);
+    assert!(rt; bench.write(&rt, 0, 65) == Some(Was::Empty));
+    assert!(rt; bench.trim(&rt, 0) == Was::Written);
+    assert!(rt; bench.trim(&rt, 0) == Was::Empty);
+    assert!(rt; bench.read(&rt, 0) == None);
+    assert!(rt; bench.ftl.counts().programs == 1);
     Ok(())
 }
 
@@ -217,10 +217,10 @@ fn a_trim_empties_a_sector_and_programs_nothing(rt: HostRuntime) -> Result<(), F
 #[test]
 fn a_written_sector_is_refused_before_a_page_is_programmed(rt: HostRuntime) -> Result<(), Fail> {
     let mut bench = Bench::new(&rt, 1, 3, 2, 3, 10)?;
-    assert_eq!(rt; bench.write_new(&rt, 0, 0x41), Ok(()));
-    assert_eq!(rt; bench.write_new(&rt, 0, 0x42), Err(NewOneFault::Written));
-    assert_eq!(rt; bench.read(&rt, 0), Some(0x41));
-    assert_eq!(rt; bench.ftl.counts().programs, 1);
+    assert!(rt; bench.write_new(&rt, 0, 0x41) == Ok(()));
+    assert!(rt; bench.write_new(&rt, 0, 0x42) == Err(NewOneFault::Written));
+    assert!(rt; bench.read(&rt, 0) == Some(0x41));
+    assert!(rt; bench.ftl.counts().programs == 1);
     Ok(())
 }
 
@@ -231,9 +231,9 @@ fn the_blocks_tell_their_wear(rt: HostRuntime) -> Result<(), Fail> {
         assert!(rt; bench.write(&rt, 0, byte).is_some());
         assert!(rt; bench.write(&rt, 1, byte).is_some());
     }
-    assert_eq!(rt; bench.wear(&rt, 0), (2, 0, true));
-    assert_eq!(rt; bench.wear(&rt, 1), (1, 0, false));
-    assert_eq!(rt; bench.wear(&rt, 2), (1, 2, false));
+    assert!(rt; bench.wear(&rt, 0) == (2, 0, true));
+    assert!(rt; bench.wear(&rt, 1) == (1, 0, false));
+    assert!(rt; bench.wear(&rt, 2) == (1, 2, false));
     Ok(())
 }
 
@@ -295,16 +295,13 @@ fn compare(rt: &(impl Abort + AllocGlobal), bench: &mut Bench, commands: u32) ->
         let sector = (seed >> 8) % sectors;
         let byte = (seed >> 16 & 255) as u8;
         match seed >> 28 {
-            0 | 1 => assert_eq!(rt; bench.trim(rt, sector), plain.trim(sector)),
-            2..=5 => assert_eq!(rt; bench.read(rt, sector), plain.read(sector)),
-            _ => assert_eq!(rt;
-                bench.write(rt, sector, byte),
-                Some(plain.write(sector, byte)?)
-            ),
+            0 | 1 => assert!(rt; bench.trim(rt, sector) == plain.trim(sector)),
+            2..=5 => assert!(rt; bench.read(rt, sector) == plain.read(sector)),
+            _ => assert!(rt; bench.write(rt, sector, byte) == Some(plain.write(sector, byte)?)),
         }
     }
     for sector in 0..sectors {
-        assert_eq!(rt; bench.read(rt, sector), plain.read(sector));
+        assert!(rt; bench.read(rt, sector) == plain.read(sector));
     }
     Ok(())
 }
@@ -313,7 +310,7 @@ fn compare(rt: &(impl Abort + AllocGlobal), bench: &mut Bench, commands: u32) ->
 fn it_answers_as_a_plain_store_while_nothing_is_collected(rt: HostRuntime) -> Result<(), Fail> {
     let mut bench = Bench::new(&rt, 1, 64, 64, 100, 10)?;
     compare(&rt, &mut bench, 5000)?;
-    assert_eq!(rt; bench.ftl.counts().erases, 0);
+    assert!(rt; bench.ftl.counts().erases == 0);
     Ok(())
 }
 

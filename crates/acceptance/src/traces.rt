@@ -58,9 +58,8 @@ fn each_faulty_record_has_its_fault(rt: HostRuntime) -> Result<(), Fail> {
         ("the sector of a meet", "0,meet,1,", kind::Unused),
         ("a quote that isn't closed", "\"0,read,0,", kind::Fields),
     ] {
-        assert_eq!(rt;
-            first_fault(rt.alloc(), text.as_bytes())?,
-            at(1, fault),
+        assert!(rt;
+            first_fault(rt.alloc(), text.as_bytes())? == at(1, fault),
             "{name}"
         );
     }
@@ -129,18 +128,18 @@ fn accepted_records_are_commands(rt: HostRuntime) -> Result<(), Fail> {
         ),
     ] {
         let commands = commands(rt.alloc(), text.as_bytes())?;
-        assert_eq!(rt; commands.len(), 1, "{name}");
+        assert!(rt; commands.len() == 1, "{name}");
         let command = commands.command(0);
-        assert_eq!(rt; command.worker, 7, "{name}");
-        assert_eq!(rt; command.op, op, "{name}");
-        assert_eq!(rt; command.sector, sector, "{name}");
+        assert!(rt; command.worker == 7, "{name}");
+        assert!(rt; command.op == op, "{name}");
+        assert!(rt; command.sector == sector, "{name}");
         let mut bytes = [0xffu8; 8];
         let len = command.page.len();
-        assert_eq!(rt; len, page.len(), "{name}");
-        assert_eq!(rt; command.page.is_empty(), page.is_empty(), "{name}");
+        assert!(rt; len == page.len(), "{name}");
+        assert!(rt; command.page.is_empty() == page.is_empty(), "{name}");
         if len == 8 {
             command.page.copy_into(&mut bytes);
-            assert_eq!(rt; bytes.as_slice(), page, "{name}");
+            assert!(rt; bytes.as_slice() == page, "{name}");
         }
     }
     Ok(())
@@ -168,9 +167,8 @@ fn records_end_as_csv_says(rt: HostRuntime) -> Result<(), Fail> {
             2,
         ),
     ] {
-        assert_eq!(rt;
-            commands(rt.alloc(), text.as_bytes())?.len(),
-            count,
+        assert!(rt;
+            commands(rt.alloc(), text.as_bytes())?.len() == count,
             "{name}"
         );
     }
@@ -214,7 +212,10 @@ fn the_first_faulty_record_is_answered_by_its_number(rt: HostRuntime) -> Result<
         ),
         ("a doubled quote", "0,\"re\"\"ad\",0,\n", at(1, kind::Op)),
     ] {
-        assert_eq!(rt; first_fault(rt.alloc(), text.as_bytes())?, fault, "{name}");
+        assert!(rt;
+            first_fault(rt.alloc(), text.as_bytes())? == fault,
+            "{name}"
+        );
     }
     Ok(())
 }
@@ -229,7 +230,7 @@ fn each_beginning_of_a_line_has_its_answer(rt: HostRuntime) -> Result<(), Fail> 
             11 => at(1, kind::Hex),
             _ => at(1, kind::Fields),
         };
-        assert_eq!(rt; first_fault(rt.alloc(), &line[..k])?, answer, "{k}");
+        assert!(rt; first_fault(rt.alloc(), &line[..k])? == answer, "{k}");
     }
     Ok(())
 }
@@ -244,7 +245,7 @@ fn bytes_that_are_no_text_fail_their_check(rt: HostRuntime) -> Result<(), Fail> 
         (b"0,write,0,\xff\xff".as_slice(), kind::Hex),
         (b"0,read,0,\xff\xff".as_slice(), kind::Unused),
     ] {
-        assert_eq!(rt; first_fault(rt.alloc(), text)?, at(1, fault), "{fault}");
+        assert!(rt; first_fault(rt.alloc(), text)? == at(1, fault), "{fault}");
     }
     Ok(())
 }
@@ -255,15 +256,9 @@ fn long_data_is_too_long_or_no_digits(rt: HostRuntime) -> Result<(), Fail> {
     for _ in 0..100_000 {
         text.push(b'0')?;
     }
-    assert_eq!(rt;
-        first_fault(rt.alloc(), text.as_slice())?,
-        at(1, TraceFaultKind::TooLong)
-    );
+    assert!(rt; first_fault(rt.alloc(), text.as_slice())? == at(1, TraceFaultKind::TooLong));
     text.push(b'0')?;
-    assert_eq!(rt;
-        first_fault(rt.alloc(), text.as_slice())?,
-        at(1, TraceFaultKind::Hex)
-    );
+    assert!(rt; first_fault(rt.alloc(), text.as_slice())? == at(1, TraceFaultKind::Hex));
     Ok(())
 }
 
@@ -281,7 +276,7 @@ fn numbers_end_at_their_limits(rt: HostRuntime) -> Result<(), Fail> {
         ("0,read,01048575,", at(1, kind::Sector)),
     ] {
         let found = parse(rt.alloc(), text.as_bytes(), &largest).err();
-        assert_eq!(rt; found, fault, "{text}");
+        assert!(rt; found == fault, "{text}");
     }
     Ok(())
 }
@@ -289,11 +284,8 @@ fn numbers_end_at_their_limits(rt: HostRuntime) -> Result<(), Fail> {
 #[test]
 fn a_worker_is_below_the_number_of_hosts(rt: HostRuntime) -> Result<(), Fail> {
     let shared = Geometry::new(1, 5, 2, 1, 2, 10, 2, 1)?;
-    assert_eq!(rt; parse(rt.alloc(), b"1,read,0,", &shared)?.len(), 1);
-    assert_eq!(rt;
-        parse(rt.alloc(), b"2,read,0,", &shared).err(),
-        at(1, TraceFaultKind::Worker)
-    );
+    assert!(rt; parse(rt.alloc(), b"1,read,0,", &shared)?.len() == 1);
+    assert!(rt; parse(rt.alloc(), b"2,read,0,", &shared).err() == at(1, TraceFaultKind::Worker));
     Ok(())
 }
 
@@ -305,17 +297,14 @@ fn commands_come_in_order(rt: HostRuntime) -> Result<(), Fail> {
     for command in commands.iter() {
         names.extend_from_slice(command.op.name().as_bytes())?;
     }
-    assert_eq!(rt; names.as_slice(), b"writemeetread".as_slice());
+    assert!(rt; names.as_slice() == b"writemeetread".as_slice());
     Ok(())
 }
 
 #[test]
 fn a_fault_prints_its_line_and_kind(rt: HostRuntime) -> Result<(), Fail> {
     let fault = first_fault(rt.alloc(), b"0,read,0,\n0,read,3,\n")?.ok_or("no fault")?;
-    assert_eq!(rt;
-        format!(in rt.alloc(); "{fault}")?.as_str(),
-        "line 2: Sector"
-    );
+    assert!(rt; format!(in rt.alloc(); "{fault}")?.as_str() == "line 2: Sector");
     Ok(())
 }
 
@@ -360,9 +349,9 @@ fn a_trace_is_read_to_its_end(rt: HostRuntime) -> Result<(), Fail> {
             size,
             fails_at: None,
         });
-        assert_eq!(rt; load(rt.alloc(), &mut reader)?.as_slice(), text.as_slice());
-        assert_eq!(rt; reader.failures(), 0);
-        assert_eq!(rt; reader.into_inner().rest.len(), 0);
+        assert!(rt; load(rt.alloc(), &mut reader)?.as_slice() == text.as_slice());
+        assert!(rt; reader.failures() == 0);
+        assert!(rt; reader.into_inner().rest.len() == 0);
     }
     Ok(())
 }
@@ -391,15 +380,15 @@ fn a_trace_of_100000_lines_is_loaded_and_parsed(rt: HostRuntime) -> Result<(), F
         });
         let loaded = load(rt.alloc(), &mut reader)?;
         assert!(rt; loaded.as_slice() == text.as_slice());
-        assert_eq!(rt; reader.failures(), 0);
+        assert!(rt; reader.failures() == 0);
         let commands = commands(rt.alloc(), loaded.as_slice())?;
-        assert_eq!(rt; commands.len(), 100_000);
+        assert!(rt; commands.len() == 100_000);
         for (i, byte) in [(99_998, 1), (99_999, 9)] {
             let page = commands.command(i).page;
             let mut bytes = [0u8; 8];
-            assert_eq!(rt; page.len(), 8);
+            assert!(rt; page.len() == 8);
             page.copy_into(&mut bytes);
-            assert_eq!(rt; bytes[0], byte);
+            assert!(rt; bytes[0] == byte);
         }
     }
     Ok(())
@@ -409,10 +398,7 @@ fn a_trace_of_100000_lines_is_loaded_and_parsed(rt: HostRuntime) -> Result<(), F
 fn the_fault_of_line_100001_is_told(rt: HostRuntime) -> Result<(), Fail> {
     let mut text = long_trace(rt.alloc(), b"0,read,0,\n", 99_999)?;
     text.extend_from_slice(b"\n0,read,3,")?;
-    assert_eq!(rt;
-        first_fault(rt.alloc(), text.as_slice())?,
-        at(100_001, TraceFaultKind::Sector)
-    );
+    assert!(rt; first_fault(rt.alloc(), text.as_slice())? == at(100_001, TraceFaultKind::Sector));
     Ok(())
 }
 
@@ -423,10 +409,7 @@ fn ten_million_commas_are_a_record_of_too_many_fields(rt: HostRuntime) -> Result
         let start = text.len();
         text.resize(start + 10_000_000, b',')?;
         let line = if front.len() > 2 { 2 } else { 1 };
-        assert_eq!(rt;
-            first_fault(rt.alloc(), text.as_slice())?,
-            at(line, TraceFaultKind::Fields)
-        );
+        assert!(rt; first_fault(rt.alloc(), text.as_slice())? == at(line, TraceFaultKind::Fields));
     }
     Ok(())
 }
@@ -438,22 +421,16 @@ fn a_reader_that_fails_ends_the_load(rt: HostRuntime) -> Result<(), Fail> {
         size: 3,
         fails_at: Some(4),
     });
-    assert_eq!(rt;
-        load(rt.alloc(), &mut reader).err(),
-        at(0, TraceFaultKind::Read)
-    );
-    assert_eq!(rt; reader.failures(), 1);
+    assert!(rt; load(rt.alloc(), &mut reader).err() == at(0, TraceFaultKind::Read));
+    assert!(rt; reader.failures() == 1);
     Ok(())
 }
 
 #[test]
 fn a_trace_without_end_is_big(rt: HostRuntime) {
     let mut reader = Watched::new(Endless);
-    assert_eq!(rt;
-        load(rt.alloc(), &mut reader).err(),
-        at(0, TraceFaultKind::Big)
-    );
-    assert_eq!(rt; reader.failures(), 0);
+    assert!(rt; load(rt.alloc(), &mut reader).err() == at(0, TraceFaultKind::Big));
+    assert!(rt; reader.failures() == 0);
 }
 
 // Takes so many bytes, and then nothing; its flush fails.
@@ -477,13 +454,13 @@ impl Write for Full {
 #[test]
 fn a_write_that_takes_nothing_is_a_failure(rt: HostRuntime) -> Result<(), Fail> {
     let mut writer = Watched::new(Full { room: 3 });
-    assert_eq!(rt; writer.write(b"")?, 0);
-    assert_eq!(rt; writer.write(b"four")?, 3);
-    assert_eq!(rt; writer.failures(), 0);
-    assert_eq!(rt; writer.write(b"r")?, 0);
-    assert_eq!(rt; writer.failures(), 1);
+    assert!(rt; writer.write(b"")? == 0);
+    assert!(rt; writer.write(b"four")? == 3);
+    assert!(rt; writer.failures() == 0);
+    assert!(rt; writer.write(b"r")? == 0);
+    assert!(rt; writer.failures() == 1);
     assert!(rt; writer.flush().is_err());
-    assert_eq!(rt; writer.failures(), 2);
+    assert!(rt; writer.failures() == 2);
     Ok(())
 }
 
@@ -517,13 +494,13 @@ fn what_never_fails_has_no_failure(rt: HostRuntime) -> Result<(), Fail> {
     let mut bytes = Vec::new(rt.alloc());
     for size in [1, 2, 511, 4_096, 65_536, 80_000] {
         bytes.resize(size, 0)?;
-        assert_eq!(rt; watched.read(bytes.as_mut_slice())?, size);
-        assert_eq!(rt; bytes.as_slice().first(), Some(&7));
-        assert_eq!(rt; watched.write(bytes.as_slice())?, size);
+        assert!(rt; watched.read(bytes.as_mut_slice())? == size);
+        assert!(rt; bytes.as_slice().first() == Some(&7));
+        assert!(rt; watched.write(bytes.as_slice())? == size);
         watched.flush()?;
     }
-    assert_eq!(rt; watched.failures(), 0);
-    assert_eq!(rt; watched.inner().flushes, 6);
-    assert_eq!(rt; watched.into_inner().flushes, 6);
+    assert!(rt; watched.failures() == 0);
+    assert!(rt; watched.inner().flushes == 6);
+    assert!(rt; watched.into_inner().flushes == 6);
     Ok(())
 }

@@ -8,16 +8,16 @@ fn a_map_word_names_generation_block_and_page(rt: HostRuntime) -> Result<(), Fai
         block: 2,
         page: 3,
     };
-    assert_eq!(rt; page.pack(), 0x8000_0001_0002_0003);
-    assert_eq!(rt; MapWord::unpack(0x8000_0001_0002_0003), Some(page));
+    assert!(rt; page.pack() == 0x8000_0001_0002_0003);
+    assert!(rt; MapWord::unpack(0x8000_0001_0002_0003) == Some(page));
     let first = MapWord {
         generation: 0,
         block: 0,
         page: 0,
     };
-    assert_eq!(rt; first.pack(), 0x8000_0000_0000_0000);
-    assert_eq!(rt; MapWord::unpack(0), None);
-    assert_eq!(rt; MapWord::unpack(0x7fff_ffff_ffff_ffff), None);
+    assert!(rt; first.pack() == 0x8000_0000_0000_0000);
+    assert!(rt; MapWord::unpack(0) == None);
+    assert!(rt; MapWord::unpack(0x7fff_ffff_ffff_ffff) == None);
     Ok(())
 }
 
@@ -29,8 +29,8 @@ fn a_pin_word_has_readers_phase_pages_and_generation(rt: HostRuntime) -> Result<
         written: 2,
         generation: 5,
     };
-    assert_eq!(rt; pin.pack(), 0x0000_0005_0002_3002);
-    assert_eq!(rt; PinWord::unpack(0x0000_0005_0002_3002), Some(pin));
+    assert!(rt; pin.pack() == 0x0000_0005_0002_3002);
+    assert!(rt; PinWord::unpack(0x0000_0005_0002_3002) == Some(pin));
     Ok(())
 }
 
@@ -113,25 +113,25 @@ const BLOCK_ZERO: [(u64, PinWord); 8] = [
 #[test]
 fn a_block_goes_round_by_its_words(rt: HostRuntime) -> Result<(), Fail> {
     for (word, pin) in BLOCK_ZERO {
-        assert_eq!(rt; PinWord::unpack(word), Some(pin), "{pin}");
+        assert!(rt; PinWord::unpack(word) == Some(pin), "{pin}");
     }
     Ok(())
 }
 
 #[test]
 fn owners_add_these_numbers(rt: HostRuntime) -> Result<(), Fail> {
-    assert_eq!(rt; TAKEN, 0x1000);
-    assert_eq!(rt; NEXT_PHASE, 0x2000);
-    assert_eq!(rt; PAGE_WRITTEN, 0x1_0000);
-    assert_eq!(rt; freed(2), 0xfffd_7000);
-    assert_eq!(rt; kept(2), 0xfffd_8000);
+    assert!(rt; TAKEN == 0x1000);
+    assert!(rt; NEXT_PHASE == 0x2000);
+    assert!(rt; PAGE_WRITTEN == 0x1_0000);
+    assert!(rt; freed(2) == 0xfffd_7000);
+    assert!(rt; kept(2) == 0xfffd_8000);
     Ok(())
 }
 
 #[test]
 fn a_word_of_no_state_is_refused(rt: HostRuntime) -> Result<(), Fail> {
     for word in [0x2000u64, 0xd000, 0x1_0000] {
-        assert_eq!(rt; PinWord::unpack(word), None, "{word}");
+        assert!(rt; PinWord::unpack(word) == None, "{word}");
     }
     Ok(())
 }
@@ -144,7 +144,7 @@ fn words_are_shown_in_words(rt: HostRuntime) -> Result<(), Fail> {
         page: 3,
     };
     let text = format!(in rt.alloc(); "{page}")?;
-    assert_eq!(rt; text.as_str(), "block 2 page 3 generation 1");
+    assert!(rt; text.as_str() == "block 2 page 3 generation 1");
     let pin = PinWord {
         readers: 2,
         phase: Phase::Closed,
@@ -152,6 +152,6 @@ fn words_are_shown_in_words(rt: HostRuntime) -> Result<(), Fail> {
         generation: 5,
     };
     let text = format!(in rt.alloc(); "{pin}")?;
-    assert_eq!(rt; text.as_str(), "closed, 2 written, generation 5, 2 readers");
+    assert!(rt; text.as_str() == "closed, 2 written, generation 5, 2 readers");
     Ok(())
 }
