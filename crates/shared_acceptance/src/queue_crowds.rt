@@ -1,7 +1,7 @@
 //! Threads with a pass each.
 ghost use Rattle.std.specs.Prelude.{◌<◌};
 
-use crate::queue_hands::{Hand, Hands, next_hand};
+use crate::queue_hands::{Hand, QueueCall, next_hand};
 use erase_queue::EraseQueue;
 use std::sync::Wait;
 use std::test::Fail;
@@ -60,7 +60,7 @@ fn each_number_that_two_threads_put_is_taken_once_by_two_others(
         ),
     );
     assert!(rt; each_once(&first, &second));
-    assert!(rt; c.answers(&rt, &[Hands::Take(None)]));
+    assert!(rt; c.answers(&rt, &[QueueCall::Take(None)]));
     Ok(())
 }
 
@@ -101,7 +101,7 @@ fn four_threads_share_a_queue_with_one_place(rt: HostRuntime) -> Result<(), Fail
         ),
     );
     assert!(rt; zeros.0 && zeros.1);
-    assert!(rt; c.answers(&rt, &[Hands::Take(None)]));
+    assert!(rt; c.answers(&rt, &[QueueCall::Take(None)]));
     Ok(())
 }
 
@@ -112,20 +112,20 @@ fn what_a_dropped_pass_has_put_is_taken_by_the_others(rt: HostRuntime) -> Result
     let mut b = next_hand(&queue, &mut passes);
     let mut c = next_hand(&queue, &mut passes);
     let puts = [
-        Hands::Put(0, true),
-        Hands::Put(1, true),
-        Hands::Put(2, true),
+        QueueCall::Put(0, true),
+        QueueCall::Put(1, true),
+        QueueCall::Put(2, true),
     ];
     assert!(rt; a.answers(&rt, &puts));
     drop(a);
-    assert!(rt; b.answers(&rt, &[Hands::Take(Some(0))]));
+    assert!(rt; b.answers(&rt, &[QueueCall::Take(Some(0))]));
     drop(b);
     let then = [
-        Hands::Put(4, true),
-        Hands::Take(Some(1)),
-        Hands::Take(Some(2)),
-        Hands::Take(Some(4)),
-        Hands::Take(None),
+        QueueCall::Put(4, true),
+        QueueCall::Take(Some(1)),
+        QueueCall::Take(Some(2)),
+        QueueCall::Take(Some(4)),
+        QueueCall::Take(None),
     ];
     assert!(rt; c.answers(&rt, &then));
     Ok(())

@@ -8,7 +8,7 @@ use std::thread::yield_now;
 
 /// A call on a queue, with the answer that it has to give.
 #[derive(Clone, Copy)]
-pub enum Hands {
+pub enum QueueCall {
     Put(usize, bool),
     Take(Option<usize>),
     /// So often the pass has found the queue full, and empty.
@@ -38,7 +38,7 @@ pub fn next_hand<'a>(queue: &'a EraseQueue, passes: &mut Vec<QueuePass>) -> Hand
 
 impl Hand<'_> {
     /// Whether these calls, one after another, answer what they have to.
-    pub fn answers(&mut self, rt: &impl Wait, calls: &[Hands]) -> bool {
+    pub fn answers(&mut self, rt: &impl Wait, calls: &[QueueCall]) -> bool {
         for call in calls {
             if !self.answers_one(rt, *call) {
                 return false;
@@ -47,13 +47,13 @@ impl Hand<'_> {
         true
     }
 
-    fn answers_one(&mut self, rt: &impl Wait, call: Hands) -> bool {
+    fn answers_one(&mut self, rt: &impl Wait, call: QueueCall) -> bool {
         match call {
-            Hands::Put(block, stands) => {
+            QueueCall::Put(block, stands) => {
                 block < self.queue.limit() && self.queue.put(rt, &mut self.pass, block) == stands
             }
-            Hands::Take(block) => self.queue.take(rt, &mut self.pass) == block,
-            Hands::Counts(fulls, empties) => {
+            QueueCall::Take(block) => self.queue.take(rt, &mut self.pass) == block,
+            QueueCall::Counts(fulls, empties) => {
                 self.pass.fulls() == fulls && self.pass.empties() == empties
             }
         }

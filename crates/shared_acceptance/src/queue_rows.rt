@@ -1,21 +1,21 @@
 //! Numbers put and taken by one thread.
-use crate::queue_hands::{Hands, next_hand};
+use crate::queue_hands::{QueueCall, next_hand};
 use erase_queue::EraseQueue;
 use std::test::Fail;
 
-const ROWS: [Hands; 12] = [
-    Hands::Put(0, true),
-    Hands::Put(1, true),
-    Hands::Put(2, true),
-    Hands::Put(1, false),
-    Hands::Take(Some(0)),
-    Hands::Put(1, true),
-    Hands::Take(Some(1)),
-    Hands::Take(Some(2)),
-    Hands::Counts(1, 0),
-    Hands::Take(Some(1)),
-    Hands::Take(None),
-    Hands::Counts(1, 1),
+const ROWS: [QueueCall; 12] = [
+    QueueCall::Put(0, true),
+    QueueCall::Put(1, true),
+    QueueCall::Put(2, true),
+    QueueCall::Put(1, false),
+    QueueCall::Take(Some(0)),
+    QueueCall::Put(1, true),
+    QueueCall::Take(Some(1)),
+    QueueCall::Take(Some(2)),
+    QueueCall::Counts(1, 0),
+    QueueCall::Take(Some(1)),
+    QueueCall::Take(None),
+    QueueCall::Counts(1, 1),
 ];
 
 #[test]
