@@ -1,0 +1,32 @@
+-- The one device of a schedule, and the value that is held there.
+use Rattle.std.specs.Prelude.{◌≡◌, ℕ, Option, List, [], Some}
+use Rattle.std.proofs.Props.{props}
+use Rattle.geometry.specs.Geometry.{blocks_of, sectors_of, page_bytes_of, words_of}
+use Rattle.flash_rule.specs.declared.facts.Pin.{Pin}
+use Rattle.flash_rule.specs.declared.facts.Pin.TheVariants as pin
+use Rattle.flash_table.specs.declared.flash.Flash.{Flash}
+use Rattle.flash_table.specs.Flash.{view_of, geometry_of}
+use Rattle.host.specs.declared.holding.Held.{Held}
+use Rattle.host.specs.Holding.{Holds, pass_of}
+use Rattle.volume.specs.declared.volume.Volume.{Volume}
+use Rattle.volume.specs.Volume.{flash_of}
+
+-- This is the device of the schedule, with its three sectors of two words and its ten blocks
+abbrev pub IsHome : Option Volume → Volume → Type 0
+IsHome home v =
+    (home ≡ Some v) × (sectors_of (geometry_of (flash_of v)) ≡ 3) × (page_bytes_of (geometry_of (flash_of v)) ≡ 16) × (blocks_of (geometry_of (flash_of v)) ≡ 10) × (words_of (geometry_of (flash_of v)) ≡ 2)
+
+-- the value that a pin has, if it is accepted
+abbrev pub value_in : Pin → List ℕ
+value_in pin.Clear = []
+value_in (pin.Candidate at value) = []
+value_in (pin.Accepted at value) = value
+value_in (pin.Stray block) = []
+
+-- the value that is held
+abbrev pub held_value : Held → List ℕ
+held_value h = value_in (view_of (pass_of h)).pin
+
+-- that this value is held is a fact that has one proof at most, so that a struct can keep it beside its hold
+pub Holds-prop : (f : Flash) (h : Held) (value : List ℕ) → IsProp (Holds f h value)
+Holds-prop f h value = hlevel props

@@ -1,0 +1,2 @@
+-- What the actors of a schedule keep.
+pub mod Home

@@ -1,0 +1,154 @@
+//! The plain array that judges each answer, with the number of erases of each block.
+ghost use Rattle.std.specs.Prelude.{◌<◌};
+
+use broom::{Drain, Erase};
+use geometry::{Got, Was, put_word};
+
+pub const SECTORS: u32 = 3;
+
+pub const BLOCKS: u32 = 10;
+
+pub const BYTES: usize = 16;
+
+/// The page of a number: no two pages that are written have a word in common.
+pub fn page(number: u64) -> [u8; BYTES] {
+    let mut page = [0; BYTES];
+    put_word(&mut page, 0, number);
+    put_word(&mut page, 1, !number);
+    page
+}
+
+/// What a read answers, with its buffer, in which all bytes were 99.
+#[derive(Clone, Copy, Debug, PartialEq, Eq)]
+pub struct Seen {
+    pub got: Got,
+    pub out: [u8; BYTES],
+    pub tries: u64,
+}
+
+/// The numbers that the sectors hold, 0 for an empty one.
+pub type Numbers = [u64; 3];
+
+/// What is to be read of a sector after so many looks, where the last one came upon these numbers.
+fn wanted(numbers: &Numbers, sector: u32, tries: u64) -> Seen
+    requires { sector < 3 }
+{
+    let number = numbers[sector as usize];
+    let (got, out) = match number {
+        0 => (Got::Empty, [99; BYTES]),
+        _ => (Got::Data, page(number)),
+    };
+    Seen { got, out, tries }
+}
+
+/// The array as it is to be, and the number that was written last. Of each block, how often it was erased, and whether it is retired; of
+/// each actor, the block that it holds.
+#[derive(Clone, Copy)]
+pub struct Judge {
+    pub numbers: Numbers,
+    last: u64,
+    endurance: u32,
+    erases: [u32; 10],
+    retired: [bool; 10],
+    pub held: [Option<u32>; 3],
+    /// Whether each answer so far was the one that was to be.
+    pub right: bool,
+}
+
+impl Judge {
+    pub fn new(endurance: u32) -> Judge {
+        Judge {
+            numbers: [0; 3],
+            last: 0,
+            endurance,
+            erases: [0; 10],
+            retired: [false; 10],
+            held: [None; 3],
+            right: true,
+        }
+    }
+
+    /// A number that was never written.
+    pub fn fresh(&mut self) -> u64 {
+        self.last = self.last.wrapping_add(1);
+        self.last
+    }
+
+    /// Something that was to hold of an answer.
+    pub fn expect(&mut self, holds: bool) {
+        self.right = self.right && holds;
+    }
+
+    fn was(&self, sector: u32) -> Was
+        requires { sector < 3 }
+    {
+        match self.numbers[sector as usize] {
+            0 => Was::Empty,
+            _ => Was::Written,
+        }
+    }
+
+    /// A write or a trim, which writes 0, has answered what the sector was.
+    pub fn put(&mut self, sector: u32, number: u64, was: Was)
+        requires { sector < 3 }
+    {
+        self.expect(was == self.was(sector));
+        self.numbers[sector as usize] = number;
+    }
+
+    /// A write of an empty sector has answered what the sector was.
+    pub fn put_new(&mut self, sector: u32, number: u64, was: Was)
+        requires { sector < 3 }
+    {
+        self.expect(was == self.was(sector));
+        if was == Was::Empty {
+            self.numbers[sector as usize] = number;
+        }
+    }
+
+    /// A read has answered, after so many looks, of which the last came upon these numbers.
+    pub fn read(&mut self, sector: u32, seen: Seen, looks: u64, numbers: &Numbers)
+        requires { sector < 3 }
+    {
+        self.expect(seen == wanted(numbers, sector, looks));
+    }
+
+    /// A hold found a page in this generation of a block, and it is the one of the sector's number or not.
+    pub fn hold(&mut self, sector: u32, block: u32, generation: u32, is_kept: bool)
+        requires { sector < 3 }
+    {
+        self.expect(is_kept && self.was(sector) == Was::Written);
+        self.expect(block < BLOCKS && generation == self.erases[(block % BLOCKS) as usize]);
+    }
+
+    /// A hold found the sector empty.
+    pub fn hold_empty(&mut self, sector: u32)
+        requires { sector < 3 }
+    {
+        self.expect(self.was(sector) == Was::Empty);
+    }
+
+    /// A drain has answered. A block that is retired is never drained.
+    pub fn drain(&mut self, drain: Drain, pages: u32) {
+        if let Drain::Drained { block, copied } = drain {
+            self.expect(block < BLOCKS && !self.retired[(block % BLOCKS) as usize]);
+            self.expect(copied < pages);
+        }
+    }
+
+    /// An erase has answered. A block that is held is not erased, and the last of its erases retires it.
+    pub fn erase(&mut self, erase: Erase) {
+        let (block, retires) = match erase {
+            Erase::Erased { block, kept: _ } => (block, false),
+            Erase::Retired { block } => (block, true),
+            Erase::Pinned | Erase::Stale | Erase::QueueEmpty => return,
+        };
+        let [a, b, c] = self.held;
+        self.expect(a != Some(block) && b != Some(block) && c != Some(block));
+        let k = (block % BLOCKS) as usize;
+        self.expect(block < BLOCKS && !self.retired[k]);
+        self.erases[k] = self.erases[k].wrapping_add(1);
+        self.retired[k] = retires;
+        self.expect(retires == (self.erases[k] == self.endurance));
+    }
+}
