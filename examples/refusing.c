@@ -2,6 +2,7 @@
 //   REFUSE_ALLOCATION=K  the K-th allocation        REFUSE_READ=K, REFUSE_WRITE=K  the K-th read of standard input, write to
 //   REFUSE_WITH=E        by this error number       standard output (with error 0 a write takes nothing)
 //   MOST=N               a read gives, and a write takes, N bytes at most; with SEED=S from 1 to N at random
+//   AFTER_WRITE=W        allocations are counted from the W-th write to standard output, and only until the next one
 //   REPORT=FILE          gets the numbers of allocations, of reads and writes, and of writes to standard error at the end
 #define _GNU_SOURCE
 #include <errno.h>
@@ -42,20 +43,21 @@ static int is_refused(long *count, const char *name) {
     return 1;
 }
 
+static int has_no_memory(void) {
+    if (getenv("AFTER_WRITE") && writes != number("AFTER_WRITE"))
+        return 0;
+    if (!is_refused(&allocations, "REFUSE_ALLOCATION"))
+        return 0;
+    errno = ENOMEM;
+    return 1;
+}
+
 void *malloc(size_t size) {
-    if (is_refused(&allocations, "REFUSE_ALLOCATION")) {
-        errno = ENOMEM;
-        return NULL;
-    }
-    return __libc_malloc(size);
+    return has_no_memory() ? NULL : __libc_malloc(size);
 }
 
 void *realloc(void *old, size_t size) {
-    if (is_refused(&allocations, "REFUSE_ALLOCATION")) {
-        errno = ENOMEM;
-        return NULL;
-    }
-    return __libc_realloc(old, size);
+    return has_no_memory() ? NULL : __libc_realloc(old, size);
 }
 
 ssize_t read(int file, void *bytes, size_t length) {
