@@ -1,5 +1,5 @@
 //! Hosts, holders of pages and brooms at one device.
-ghost use Rattle.std.specs.Prelude.{◌≡◌, ◌<◌, Option, None};
+ghost use Rattle.std.specs.Prelude.{◌<◌, Option, None};
 ghost use Rattle.volume.specs.declared.volume.Volume.{Volume};
 ghost use Rattle.volume.specs.Volume.{flash_of};
 ghost use Rattle.volume.specs.Brooms.{IsBroomReady, IsBroomReady-prop};

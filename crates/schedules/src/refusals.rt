@@ -1,7 +1,7 @@
 //! A device is opened and closed where memory may be refused once. `examples/short_of_memory` runs this test alone, refuses each allocation
 //! of the two calls in turn, and reads what is told here.
 ghost use Rattle.std.specs.Prelude.{◌≡◌, ◌<◌, All, IfOk, length};
-ghost use Rattle.geometry.specs.Geometry.{hosts_of, sectors_of, page_bytes_of};
+ghost use Rattle.geometry.specs.Geometry.{hosts_of};
 ghost use Rattle.flash_table.specs.Flash.{geometry_of};
 ghost use Rattle.host.specs.Ready.{IsReady};
 ghost use Rattle.volume.specs.Brooms.{IsBroomReady};
