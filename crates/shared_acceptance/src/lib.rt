@@ -33,8 +33,6 @@ mod queue_rows;
 #[cfg(test)]
 mod rows;
 #[cfg(test)]
-mod schedules;
-#[cfg(test)]
 mod sizes;
 #[cfg(test)]
 mod sweepers;
