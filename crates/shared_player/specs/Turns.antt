@@ -1,5 +1,8 @@
 -- The workers of a round, on their way.
-use Rattle.std.specs.Prelude.{ℕ, List, [], ◌∷◌, map}
+use Rattle.std.specs.Prelude.{◌≡◌, ℕ, ◌+◌, ◌≤◌, ◌++◌, List, [], ◌∷◌, map}
+use Rattle.std.specs.VecDeque.{deque_capacity, deque_len}
+use Rattle.std.specs.declared.collections.VecDeque.{VecDeque}
+use Rattle.std.specs.Global.{Global}
 use Rattle.shared_player.specs.declared.post.Post.{Post}
 use Rattle.shared_player.specs.declared.turns.Turn.{Turn}
 use Rattle.shared_player.specs.declared.turns.Turn.TheVariants.{Idle, Playing}
@@ -24,3 +27,13 @@ HaveTurned (x ∷ asks) (r ∷ posts) = HasPlayed x.1 x.0 r × HaveTurned asks p
 -- each post was played, in order, with so many tries of each write
 abbrev pub HavePlayed : ℕ → List Post → List Post → Type 0
 HavePlayed n posts back = HaveTurned (map (with_patience n) posts) back
+
+-- these workers have set out, behind others, each asked to play its post
+abbrev pub HaveSetOut : ℕ → List Turn → List Post → List Turn → Type 0
+HaveSetOut n before posts after = map (asked n) after ≡ map (asked n) before ++ map (with_patience n) posts
+
+-- some of one row have gone to another or away, and both rows keep their room
+pub record HaveGone {X Y : Type 0} (from from' : VecDeque X Global) (to to' : VecDeque Y Global) : Type 0 where
+  pub few : deque_len from' + deque_len to' ≤ deque_len from + deque_len to
+  pub from_room : deque_capacity from' ≡ deque_capacity from
+  pub to_room : deque_capacity to' ≡ deque_capacity to

@@ -40,8 +40,13 @@ pub fn play_commands<R: Threads + Wait + Sync, S: Starts + Copy + Drop, G: Gate 
     let Plan { rows: places, ends } = Plan::new(alloc, commands, geometry.hosts())?;
     let mut rows = Vec::with_capacity(alloc, geometry.hosts() as usize)?;
     let (volume, crew) = deal(alloc, geometry, commands, places)?;
-    let crew = play_rounds(rt, alloc, starts, &volume, crew, &ends, patience, gates)?;
-    let Back { posts, sweepers } = crew;
+    let crew = play_rounds(rt, starts, &volume, crew, &ends, patience, gates)?;
+    let Back {
+        posts,
+        sweepers,
+        turns: _,
+        sweeping: _,
+    } = crew;
     fold_sweepers(rt, sweepers);
     hand_out(posts, &mut rows);
     Ok(rows)

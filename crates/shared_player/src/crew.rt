@@ -1,34 +1,66 @@
 //! The threads of a round: brooms and workers start, the workers are joined, and then the brooms are told to stop.
-ghost use Rattle.std.specs.Prelude.{◌≡◌, ◌+◌, ◌≤◌, ◌++◌, IfOk, OnOk, length, map, vec_capacity, vec_len};
-ghost use Rattle.shared_player.specs.Turns.{asked, with_patience, HaveTurned, HavePlayed};
+ghost use Rattle.std.specs.Prelude.{◌≡◌, ◌+◌, ◌≤◌, IfOk, OnOk, length, map};
+ghost use Rattle.std.specs.VecDeque.{deque_capacity, deque_len};
+ghost use Rattle.shared_player.specs.Turns.{asked, HaveGone, HaveSetOut, HaveTurned, HavePlayed};
 
 use crate::post::Post;
 use crate::starts::{NoShift, Starts};
 use crate::sweeper::{Sweeper, sweep};
 use crate::turns::{Turn, join_post, start_post};
 use flash_table::Gate;
-use std::alloc::Global;
+use std::alloc::{AllocError, Global};
 use std::collections::VecDeque;
 use std::sync::Wait;
 use std::sync::atomic::{AtomicBool, Ordering};
 use std::thread::{self, JoinHandle, Scope, Threads};
 
+/// The workers and the brooms of a run between two rounds, and the room for the threads of a round, which is taken once.
+#[derive(Drop)]
+pub struct Back {
+    pub posts: Vec<Post>,
+    pub sweepers: Vec<Sweeper>,
+    pub turns: VecDeque<Turn>,
+    pub sweeping: VecDeque<JoinHandle<Sweeper>>,
+    pub ghost posts_room: { length posts.items ≤ deque_capacity turns },
+    pub ghost sweepers_room: { length sweepers.items ≤ deque_capacity sweeping },
+    pub ghost no_turn: { deque_len turns ≡ 0 },
+    pub ghost no_sweep: { deque_len sweeping ≡ 0 },
+}
+
+impl Back {
+    /// These workers and brooms, with room for their threads. `Err` is out of memory, and then all passes and brooms are given up.
+    pub fn new(alloc: Global, posts: Vec<Post>, sweepers: Vec<Sweeper>) -> Result<Back, AllocError>
+        ensures posts { IfOk result (λ back. back.posts.items ≡ posts.items) }
+        ensures sweepers { IfOk result (λ back. back.sweepers.items ≡ sweepers.items) }
+    {
+        let turns = VecDeque::with_capacity(alloc, posts.len())?;
+        let sweeping = VecDeque::with_capacity(alloc, sweepers.len())?;
+        Ok(Back {
+            posts,
+            sweepers,
+            turns,
+            sweeping,
+        })
+    }
+}
+
 // The workers and the brooms of a round, each with its gate, and the flag that tells the brooms to stop.
 #[derive(Drop)]
 struct Crew<'a, G> {
-    posts: Vec<Post>,
+    back: Back,
     post_gates: &'a mut [G],
-    sweepers: Vec<Sweeper>,
     sweeper_gates: &'a mut [G],
     stop: &'a AtomicBool,
     patience: u32,
 }
 
-/// What comes back from a round.
+// Who is still to start in a round, or has come back, and who is on the way.
 #[derive(Drop)]
-pub struct Back {
-    pub posts: Vec<Post>,
-    pub sweepers: Vec<Sweeper>,
+struct Roll {
+    posts: VecDeque<Post>,
+    turns: VecDeque<Turn>,
+    sweepers: VecDeque<Sweeper>,
+    sweeping: VecDeque<JoinHandle<Sweeper>>,
 }
 
 // Starts the brooms.
@@ -36,17 +68,17 @@ fn start_sweepers<'s, E, R: Threads + Wait + Sync, S: Starts, G: Gate + Send>(
     scope: &Scope<'s, E>,
     rt: &'s R,
     starts: &mut S,
-    sweepers: Vec<Sweeper>,
+    sweepers: &mut VecDeque<Sweeper>,
     stop: &'s AtomicBool,
     gates: &'s mut [G],
-    sweeping: &mut Vec<JoinHandle<Sweeper>>,
+    sweeping: &mut VecDeque<JoinHandle<Sweeper>>,
 ) -> Result<(), NoShift>
-    requires gates { length sweepers.items ≡ length gates.old }
-    requires room { vec_len sweeping.old + length sweepers.items ≤ vec_capacity sweeping.old }
-    ensures started { OnOk result (vec_len sweeping.new ≡ vec_len sweeping.old + length sweepers.items) }
-    ensures few { vec_len sweeping.new ≤ vec_len sweeping.old + length sweepers.items }
+    requires gates { deque_len sweepers.old ≡ length gates.old }
+    requires room { deque_len sweeping.old + deque_len sweepers.old ≤ deque_capacity sweeping.old }
+    ensures started { OnOk result (deque_len sweeping.new ≡ deque_len sweeping.old + deque_len sweepers.old) }
+    ensures none { OnOk result (deque_len sweepers.new ≡ 0) }
+    ensures gone { HaveGone sweepers.old sweepers.new sweeping.old sweeping.new }
 {
-    let mut sweepers = VecDeque::from_vec(sweepers);
     for gate in gates.iter_mut() {
         let Some(sweeper) = sweepers.pop_front() else {
             unreachable!()
@@ -55,7 +87,7 @@ fn start_sweepers<'s, E, R: Threads + Wait + Sync, S: Starts, G: Gate + Send>(
             return Err(NoShift::Threads);
         }
         match scope.spawn(move || sweep(rt, sweeper, stop, gate)) {
-            Ok(handle) => sweeping.push_reserved(handle),
+            Ok(handle) => sweeping.push_back_reserved(handle),
             Err(_refused) => return Err(NoShift::Threads),
         }
     }
@@ -66,46 +98,56 @@ fn start_sweepers<'s, E, R: Threads + Wait + Sync, S: Starts, G: Gate + Send>(
 fn start_posts<'s, E, S: Starts, G: Gate + Send>(
     scope: &Scope<'s, E>,
     starts: &mut S,
-    posts: Vec<Post>,
+    posts: &mut VecDeque<Post>,
     patience: u32,
     gates: &'s mut [G],
-    turns: &mut Vec<Turn>,
+    turns: &mut VecDeque<Turn>,
 ) -> Result<(), NoShift>
-    requires gates { length posts.items ≡ length gates.old }
-    requires room { vec_len turns.old + length posts.items ≤ vec_capacity turns.old }
-    ensures started { OnOk result (map (asked patience) turns.new.items ≡ map (asked patience) turns.old.items ++ map (with_patience patience) posts.items) }
-    ensures few { vec_len turns.new ≤ vec_len turns.old + length posts.items }
+    requires gates { deque_len posts.old ≡ length gates.old }
+    requires room { deque_len turns.old + deque_len posts.old ≤ deque_capacity turns.old }
+    ensures started { OnOk result (HaveSetOut patience turns.old.items posts.old.items turns.new.items) }
+    ensures none { OnOk result (deque_len posts.new ≡ 0) }
+    ensures gone { HaveGone posts.old posts.new turns.old turns.new }
 {
-    let mut posts = VecDeque::from_vec(posts);
     for gate in gates.iter_mut() {
         let Some(post) = posts.pop_front() else {
             unreachable!()
         };
-        turns.push_reserved(start_post(scope, starts, post, patience, gate)?);
+        turns.push_back_reserved(start_post(scope, starts, post, patience, gate)?);
     }
     Ok(())
 }
 
 // Joins the workers, in order.
-fn join_posts<R: Threads>(rt: &R, patience: u32, turns: Vec<Turn>, played: &mut Vec<Post>)
-    requires none { length played.old.items ≡ 0 }
-    requires room { length turns.items ≤ vec_capacity played.old }
-    ensures { HaveTurned (map (asked patience) turns.items) played.new.items }
+fn join_posts<R: Threads>(
+    rt: &R,
+    patience: u32,
+    turns: &mut VecDeque<Turn>,
+    posts: &mut VecDeque<Post>,
+)
+    requires { deque_len posts.old + deque_len turns.old ≤ deque_capacity posts.old }
+    ensures turned { deque_len posts.old ≡ 0 → HaveTurned (map (asked patience) turns.old.items) posts.new.items }
+    ensures none { deque_len turns.new ≡ 0 }
+    ensures gone { HaveGone turns.old turns.new posts.old posts.new }
 {
-    let mut turns = VecDeque::from_vec(turns);
     while let Some(turn) = turns.pop_front() {
-        played.push_reserved(join_post(rt, patience, turn));
+        posts.push_back_reserved(join_post(rt, patience, turn));
     }
 }
 
 // Joins the brooms, in order.
-fn join_sweepers<R: Threads>(rt: &R, sweeping: Vec<JoinHandle<Sweeper>>, swept: &mut Vec<Sweeper>)
-    requires room { vec_len swept.old + length sweeping.items ≤ vec_capacity swept.old }
-    ensures { vec_len swept.new ≡ vec_len swept.old + length sweeping.items }
+fn join_sweepers<R: Threads>(
+    rt: &R,
+    sweeping: &mut VecDeque<JoinHandle<Sweeper>>,
+    sweepers: &mut VecDeque<Sweeper>,
+)
+    requires { deque_len sweepers.old + deque_len sweeping.old ≤ deque_capacity sweepers.old }
+    ensures swept { deque_len sweepers.new ≡ deque_len sweepers.old + deque_len sweeping.old }
+    ensures none { deque_len sweeping.new ≡ 0 }
+    ensures gone { HaveGone sweeping.old sweeping.new sweepers.old sweepers.new }
 {
-    let mut sweeping = VecDeque::from_vec(sweeping);
     while let Some(handle) = sweeping.pop_front() {
-        swept.push_reserved(handle.join(rt));
+        sweepers.push_back_reserved(handle.join(rt));
     }
 }
 
@@ -114,84 +156,147 @@ fn start_all<'s, E, R: Threads + Wait + Sync, S: Starts, G: Gate + Send>(
     scope: &Scope<'s, E>,
     rt: &'s R,
     starts: &mut S,
-    crew: Crew<'s, G>,
-    sweeping: &mut Vec<JoinHandle<Sweeper>>,
-    turns: &mut Vec<Turn>,
+    roll: &mut Roll,
+    patience: u32,
+    stop: &'s AtomicBool,
+    post_gates: &'s mut [G],
+    sweeper_gates: &'s mut [G],
 ) -> Result<(), NoShift>
-    requires posts { length crew.posts.items ≡ length crew.post_gates.now }
-    requires sweepers { length crew.sweepers.items ≡ length crew.sweeper_gates.now }
-    requires posts_room { vec_len turns.old + length crew.posts.items ≤ vec_capacity turns.old }
-    requires sweepers_room { vec_len sweeping.old + length crew.sweepers.items ≤ vec_capacity sweeping.old }
-    ensures posts { OnOk result (map (asked crew.entry.patience) turns.new.items ≡ map (asked crew.entry.patience) turns.old.items ++ map (with_patience crew.entry.patience) crew.entry.posts.items) }
-    ensures sweepers { OnOk result (vec_len sweeping.new ≡ vec_len sweeping.old + length crew.entry.sweepers.items) }
-    ensures few_posts { vec_len turns.new ≤ vec_len turns.old + length crew.entry.posts.items }
-    ensures few_sweepers { vec_len sweeping.new ≤ vec_len sweeping.old + length crew.entry.sweepers.items }
+    requires posts { deque_len roll.old.posts ≡ length post_gates.old }
+    requires sweepers { deque_len roll.old.sweepers ≡ length sweeper_gates.old }
+    requires posts_room { deque_len roll.old.turns + deque_len roll.old.posts ≤ deque_capacity roll.old.turns }
+    requires sweepers_room { deque_len roll.old.sweeping + deque_len roll.old.sweepers ≤ deque_capacity roll.old.sweeping }
+    ensures posts { OnOk result (HaveSetOut patience roll.old.turns.items roll.old.posts.items roll.new.turns.items) }
+    ensures no_post { OnOk result (deque_len roll.new.posts ≡ 0) }
+    ensures sweepers { OnOk result (deque_len roll.new.sweeping ≡ deque_len roll.old.sweeping + deque_len roll.old.sweepers) }
+    ensures no_sweeper { OnOk result (deque_len roll.new.sweepers ≡ 0) }
+    ensures posts_gone { HaveGone roll.old.posts roll.new.posts roll.old.turns roll.new.turns }
+    ensures sweepers_gone { HaveGone roll.old.sweepers roll.new.sweepers roll.old.sweeping roll.new.sweeping }
 {
-    let Crew {
-        posts,
-        post_gates,
-        sweepers,
-        sweeper_gates,
+    start_sweepers(
+        scope,
+        rt,
+        starts,
+        &mut roll.sweepers,
         stop,
+        sweeper_gates,
+        &mut roll.sweeping,
+    )?;
+    start_posts(
+        scope,
+        starts,
+        &mut roll.posts,
         patience,
-    } = crew;
-    start_sweepers(scope, rt, starts, sweepers, stop, sweeper_gates, sweeping)?;
-    start_posts(scope, starts, posts, patience, post_gates, turns)
+        post_gates,
+        &mut roll.turns,
+    )
 }
 
 // Starts all, and joins all that could be started. The brooms are told to stop once the workers are joined, on every path.
 fn run_all<'s, E, R: Threads + Wait + Sync, S: Starts, G: Gate + Send>(
     scope: &Scope<'s, E>,
     rt: &'s R,
-    alloc: Global,
     starts: &mut S,
     crew: Crew<'s, G>,
 ) -> Result<Back, NoShift>
-    requires posts { length crew.posts.items ≡ length crew.post_gates.now }
-    requires sweepers { length crew.sweepers.items ≡ length crew.sweeper_gates.now }
-    ensures played { IfOk result (λ back. HavePlayed crew.entry.patience crew.entry.posts.items back.posts.items) }
-    ensures swept { IfOk result (λ back. length back.sweepers.items ≡ length crew.entry.sweepers.items) }
+    requires posts { length crew.back.posts.items ≡ length crew.post_gates.now }
+    requires sweepers { length crew.back.sweepers.items ≡ length crew.sweeper_gates.now }
+    ensures played { IfOk result (λ back. HavePlayed crew.entry.patience crew.entry.back.posts.items back.posts.items) }
+    ensures swept { IfOk result (λ back. length back.sweepers.items ≡ length crew.entry.back.sweepers.items) }
 {
-    let mut turns = Vec::with_capacity(alloc, crew.posts.len())?;
-    let mut played = Vec::with_capacity(alloc, crew.posts.len())?;
-    let mut sweeping = Vec::with_capacity(alloc, crew.sweepers.len())?;
-    let mut swept = Vec::with_capacity(alloc, crew.sweepers.len())?;
-    let stop = crew.stop;
-    let patience = crew.patience;
-    let started = start_all(scope, rt, starts, crew, &mut sweeping, &mut turns);
-    join_posts(rt, patience, turns, &mut played);
+    let Crew {
+        back,
+        post_gates,
+        sweeper_gates,
+        stop,
+        patience,
+    } = crew;
+    let mut roll = enroll(back);
+    let started = start_all(
+        scope,
+        rt,
+        starts,
+        &mut roll,
+        patience,
+        stop,
+        post_gates,
+        sweeper_gates,
+    );
+    join_posts(rt, patience, &mut roll.turns, &mut roll.posts);
     stop.store(true, Ordering::SeqCst);
-    join_sweepers(rt, sweeping, &mut swept);
+    join_sweepers(rt, &mut roll.sweeping, &mut roll.sweepers);
     started?;
-    Ok(Back {
-        posts: played,
-        sweepers: swept,
-    })
+    Ok(dismiss(roll))
+}
+
+// All are to start.
+fn enroll(back: Back) -> Roll
+    ensures posts { result.posts.items ≡ back.posts.items }
+    ensures sweepers { deque_len result.sweepers ≡ length back.sweepers.items }
+    ensures turns { deque_len result.turns ≡ 0 }
+    ensures sweeping { deque_len result.sweeping ≡ 0 }
+    ensures posts_room { deque_len result.posts ≤ deque_capacity result.turns }
+    ensures sweepers_room { deque_len result.sweepers ≤ deque_capacity result.sweeping }
+{
+    let Back {
+        posts,
+        sweepers,
+        turns,
+        sweeping,
+    } = back;
+    Roll {
+        posts: VecDeque::from_vec(posts),
+        turns,
+        sweepers: VecDeque::from_vec(sweepers),
+        sweeping,
+    }
+}
+
+// All have come back.
+fn dismiss(roll: Roll) -> Back
+    requires turns { deque_len roll.turns ≡ 0 }
+    requires sweeping { deque_len roll.sweeping ≡ 0 }
+    requires posts_room { deque_len roll.posts ≤ deque_capacity roll.turns }
+    requires sweepers_room { deque_len roll.sweepers ≤ deque_capacity roll.sweeping }
+    ensures posts { result.posts.items ≡ roll.posts.items }
+    ensures sweepers { length result.sweepers.items ≡ deque_len roll.sweepers }
+{
+    let Roll {
+        posts,
+        turns,
+        sweepers,
+        sweeping,
+    } = roll;
+    Back {
+        posts: posts.into_vec(),
+        sweepers: sweepers.into_vec(),
+        turns,
+        sweeping,
+    }
 }
 
 // One scope for all threads of a round.
 fn shift<'a, R: Threads + Wait + Sync, S: Starts + Drop, G: Gate + Send>(
     rt: &'a R,
-    alloc: Global,
     starts: S,
     crew: Crew<'a, G>,
 ) -> Result<Back, NoShift>
-    requires posts { length crew.posts.items ≡ length crew.post_gates.now }
-    requires sweepers { length crew.sweepers.items ≡ length crew.sweeper_gates.now }
-    ensures played { IfOk result (λ back. HavePlayed crew.entry.patience crew.entry.posts.items back.posts.items) }
-    ensures swept { IfOk result (λ back. length back.sweepers.items ≡ length crew.entry.sweepers.items) }
+    requires posts { length crew.back.posts.items ≡ length crew.post_gates.now }
+    requires sweepers { length crew.back.sweepers.items ≡ length crew.sweeper_gates.now }
+    ensures played { IfOk result (λ back. HavePlayed crew.entry.patience crew.entry.back.posts.items back.posts.items) }
+    ensures swept { IfOk result (λ back. length back.sweepers.items ≡ length crew.entry.back.sweepers.items) }
 {
     thread::scope(
         thread::scope_env(),
         rt,
         move |scope| -> Result<Back, NoShift>
-            requires posts { length crew.posts.items ≡ length crew.post_gates.now }
-            requires sweepers { length crew.sweepers.items ≡ length crew.sweeper_gates.now }
-            ensures played { IfOk result (λ back. HavePlayed crew.entry.patience crew.entry.posts.items back.posts.items) }
-            ensures swept { IfOk result (λ back. length back.sweepers.items ≡ length crew.entry.sweepers.items) }
+            requires posts { length crew.back.posts.items ≡ length crew.post_gates.now }
+            requires sweepers { length crew.back.sweepers.items ≡ length crew.sweeper_gates.now }
+            ensures played { IfOk result (λ back. HavePlayed crew.entry.patience crew.entry.back.posts.items back.posts.items) }
+            ensures swept { IfOk result (λ back. length back.sweepers.items ≡ length crew.entry.back.sweepers.items) }
         {
             let mut starts = starts;
-            run_all(scope, rt, alloc, &mut starts, crew)
+            run_all(scope, rt, &mut starts, crew)
         },
     )
 }
@@ -200,26 +305,23 @@ fn shift<'a, R: Threads + Wait + Sync, S: Starts + Drop, G: Gate + Send>(
 /// gate for each worker, and then one for each broom. After a fault no thread runs, and all passes and brooms are given up.
 pub fn play_posts<R: Threads + Wait + Sync, S: Starts + Drop, G: Gate + Send>(
     rt: &R,
-    alloc: Global,
     starts: S,
-    posts: Vec<Post>,
-    sweepers: Vec<Sweeper>,
+    back: Back,
     patience: u32,
     gates: &mut [G],
 ) -> Result<Back, NoShift>
-    requires gates { length posts.items + length sweepers.items ≡ length gates.old }
-    ensures played { IfOk result (λ back. HavePlayed patience posts.items back.posts.items) }
-    ensures swept { IfOk result (λ back. length back.sweepers.items ≡ length sweepers.items) }
+    requires gates { length back.posts.items + length back.sweepers.items ≡ length gates.old }
+    ensures played { IfOk result (λ r. HavePlayed patience back.posts.items r.posts.items) }
+    ensures swept { IfOk result (λ r. length r.sweepers.items ≡ length back.sweepers.items) }
 {
     let stop = AtomicBool::new(false);
-    let (post_gates, sweeper_gates) = gates.split_at_mut(posts.len());
+    let (post_gates, sweeper_gates) = gates.split_at_mut(back.posts.len());
     let crew = Crew {
-        posts,
+        back,
         post_gates,
-        sweepers,
         sweeper_gates,
         stop: &stop,
         patience,
     };
-    shift(rt, alloc, starts, crew)
+    shift(rt, starts, crew)
 }

@@ -139,5 +139,5 @@ pub(crate) fn deal(
     let (volume, passes, brooms) = unseated.into_parts();
     seat_posts(&volume, passes, post_owners, shares, &mut posts);
     seat_sweepers(&volume, brooms, sweeper_owners, &mut sweepers);
-    Ok((volume, Back { posts, sweepers }))
+    Ok((volume, Back::new(alloc, posts, sweepers)?))
 }

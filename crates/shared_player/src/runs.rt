@@ -11,7 +11,6 @@ use crate::post::Post;
 use crate::starts::{NoShift, Starts};
 use flash_table::Gate;
 use rounds::past;
-use std::alloc::Global;
 use std::sync::Wait;
 use std::thread::Threads;
 use volume::Volume;
@@ -39,10 +38,19 @@ fn turn_crew(crew: Back, end: usize) -> Back
     ensures turned { AreTurned end crew.posts.items result.posts.items }
     ensures sweepers { length result.sweepers.items ≡ length crew.sweepers.items }
 {
-    let Back { posts, sweepers } = crew;
-    let mut posts = posts;
+    let Back {
+        mut posts,
+        sweepers,
+        turns,
+        sweeping,
+    } = crew;
     turn_all(&mut posts, end);
-    Back { posts, sweepers }
+    Back {
+        posts,
+        sweepers,
+        turns,
+        sweeping,
+    }
 }
 
 // Whether no post has a line in the round.
@@ -60,7 +68,6 @@ fn have_no_line(posts: &[Post]) -> bool
 // Plays the posts' lines. Where there is none, no thread is started.
 fn play_crew<R: Threads + Wait + Sync, S: Starts + Drop, G: Gate + Send>(
     rt: &R,
-    alloc: Global,
     starts: S,
     crew: Back,
     patience: u32,
@@ -73,8 +80,7 @@ fn play_crew<R: Threads + Wait + Sync, S: Starts + Drop, G: Gate + Send>(
     if have_no_line(&crew.posts) {
         return Ok(crew);
     }
-    let Back { posts, sweepers } = crew;
-    play_posts(rt, alloc, starts, posts, sweepers, patience, gates)
+    play_posts(rt, starts, crew, patience, gates)
 }
 
 // All passes of a crew meet.
@@ -85,16 +91,24 @@ fn meet_crew(volume: &Volume, crew: Back) -> Back
     ensures seated { AreSeated (passes_of result.posts.items) }
     ensures sweepers { length result.sweepers.items ≡ length crew.sweepers.items }
 {
-    let Back { posts, sweepers } = crew;
-    let mut posts = posts;
+    let Back {
+        mut posts,
+        sweepers,
+        turns,
+        sweeping,
+    } = crew;
     sweep_posts(volume, &mut posts);
-    Back { posts, sweepers }
+    Back {
+        posts,
+        sweepers,
+        turns,
+        sweeping,
+    }
 }
 
 /// Plays the round before an end: each worker with a line in it is a thread, brooms sweep beside them, and once all are joined the passes meet.
 pub fn play_round<R: Threads + Wait + Sync, S: Starts + Drop, G: Gate + Send>(
     rt: &R,
-    alloc: Global,
     starts: S,
     volume: &Volume,
     crew: Back,
@@ -110,14 +124,13 @@ pub fn play_round<R: Threads + Wait + Sync, S: Starts + Drop, G: Gate + Send>(
     ensures sweepers { IfOk result (λ back. length back.sweepers.items ≡ length crew.sweepers.items) }
 {
     let crew = turn_crew(crew, end);
-    let crew = play_crew(rt, alloc, starts, crew, patience, gates)?;
+    let crew = play_crew(rt, starts, crew, patience, gates)?;
     Ok(meet_crew(volume, crew))
 }
 
 /// Plays all rounds of a trace, by their ends. After a fault no thread runs, and all passes and brooms are given up.
 pub fn play_rounds<R: Threads + Wait + Sync, S: Starts + Copy + Drop, G: Gate + Send>(
     rt: &R,
-    alloc: Global,
     starts: S,
     volume: &Volume,
     crew: Back,
@@ -132,7 +145,7 @@ pub fn play_rounds<R: Threads + Wait + Sync, S: Starts + Copy + Drop, G: Gate + 
 {
     let mut crew = crew;
     for i in 0..ends.len() {
-        crew = play_round(rt, alloc, starts, volume, crew, ends[i], patience, gates)?;
+        crew = play_round(rt, starts, volume, crew, ends[i], patience, gates)?;
     }
     Ok(crew)
 }

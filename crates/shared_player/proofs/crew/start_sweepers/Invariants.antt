@@ -1,6 +1,10 @@
-use Rattle.std.proofs.Common.{◌≡◌, ◌+◌, ◌≤◌, length, vec_len, vec_capacity}
+use Rattle.std.proofs.Common.{◌≡◌, ◌+◌, ◌≤◌, deque_capacity, deque_len, length}
 use Rattle.shared_player.proofs.crew.start_sweepers.Given as goal
 
 abbrev pub invariant-loop-gate : goal.invariant-loop-gate
-invariant-loop-gate g l =
-    (vec_len l.sweeping ≡ vec_len l.fn.sweeping + l.gate-index) × (vec_len l.sweeping + length l.sweepers.items ≤ vec_capacity l.sweeping) × (l.gate-index + length l.sweepers.items ≡ length l.fn.gates)
+invariant-loop-gate g l = record {
+  left : l.gate-index + deque_len l.sweepers ≡ length l.fn.gates;
+  started : deque_len l.sweeping ≡ deque_len l.fn.sweeping + l.gate-index;
+  from_room : deque_capacity l.sweepers ≡ deque_capacity l.fn.sweepers;
+  to_room : deque_capacity l.sweeping ≡ deque_capacity l.fn.sweeping;
+}

@@ -12,7 +12,9 @@ use Rattle.trace.specs.declared.commands.Command.{Command}
 use Rattle.volume.specs.declared.volume.Volume.{Volume}
 use Rattle.volume.specs.Brooms.{IsBroomReady}
 use Rattle.volume.specs.Volume.{flash_of}
+use Rattle.rounds.specs.Plans.{ends_of}
 use Rattle.shared_player.specs.Meetings.{IsAt}
+use Rattle.shared_player.specs.Runs.{AreManned, HasBegun}
 use Rattle.shared_player.specs.Shares.{HasFitShare, IsOwner, with_commands, work_in}
 use Rattle.shared_player.proofs.Openings.{begun, manned, row_count, rows_doable}
 use Rattle.shared_player.proofs.dealing.deal.Goals as goal
@@ -54,20 +56,23 @@ pub returns-clause-begun : goal.returns-clause-begun
 returns-clause-begun c =
     let new = c.in_ok-unseated.ensures in
     let parts = c.into_parts-volume.ensures in
-    begun (arc_value c.into_parts-volume.result.0) c.args.geometry.now (arc_value c.args.commands.now) c.args.rows.items c.into_parts-volume.result.1.items c.seat_posts.new.posts.items
+    let cs = arc_value c.args.commands.now in
+    subst (HasBegun (arc_value c.into_parts-volume.result.0) cs (ends_of cs)) (sym c.in_ok-new.ensures.posts)
+    (begun (arc_value c.into_parts-volume.result.0) c.args.geometry.now (arc_value c.args.commands.now) c.args.rows.items c.into_parts-volume.result.1.items c.seat_posts.new.posts.items
     (ap (λ (v : Volume). geometry_of (flash_of v)) parts.volume ∙ new.geometry) c.requires.hosts c.requires.playable c.requires.rows
     (ap (length {A = Pass}) parts.passes ∙ new.playing)
     (subst (λ (x : Volume × List Pass). (t : ℕ) (p : Pass) → slice_get x.1 t ≡ Some p → view_of p ≡ first_view (device (flash_of x.0)) t) (λ i. (sym parts.volume i, sym parts.passes i)) new.first)
     c.seat_posts.ensures.passes (c.seat_posts.ensures.work ∙ c.in_ok-shares.ensures.work)
-    (subst (λ (v : Volume). All (IsAt v) c.seat_posts.new.posts.items) c.deref.ensures c.seat_posts.ensures.at) c.seat_posts.ensures.none
+    (subst (λ (v : Volume). All (IsAt v) c.seat_posts.new.posts.items) c.deref.ensures c.seat_posts.ensures.at) c.seat_posts.ensures.none)
 
 pub returns-clause-manned : goal.returns-clause-manned
 returns-clause-manned c =
     let new = c.in_ok-unseated.ensures in
     let parts = c.into_parts-volume.ensures in
-    manned (arc_value c.into_parts-volume.result.0) c.args.geometry.now (arc_value c.args.commands.now) c.args.rows.items c.into_parts-volume.result.1.items c.seat_posts.new.posts.items
+    subst (AreManned (arc_value c.into_parts-volume.result.0)) (sym c.in_ok-new.ensures.posts)
+    (manned (arc_value c.into_parts-volume.result.0) c.args.geometry.now (arc_value c.args.commands.now) c.args.rows.items c.into_parts-volume.result.1.items c.seat_posts.new.posts.items
     (ap (λ (v : Volume). geometry_of (flash_of v)) parts.volume ∙ new.geometry) c.requires.hosts c.requires.playable c.requires.rows
     (ap (length {A = Pass}) parts.passes ∙ new.playing)
     (subst (λ (x : Volume × List Pass). (t : ℕ) (p : Pass) → slice_get x.1 t ≡ Some p → view_of p ≡ first_view (device (flash_of x.0)) t) (λ i. (sym parts.volume i, sym parts.passes i)) new.first)
     c.seat_posts.ensures.passes (c.seat_posts.ensures.work ∙ c.in_ok-shares.ensures.work)
-    (subst (λ (v : Volume). All (IsAt v) c.seat_posts.new.posts.items) c.deref.ensures c.seat_posts.ensures.at) c.seat_posts.ensures.none
+    (subst (λ (v : Volume). All (IsAt v) c.seat_posts.new.posts.items) c.deref.ensures c.seat_posts.ensures.at) c.seat_posts.ensures.none)
