@@ -5,7 +5,7 @@
 #[cfg(test)]
 mod at_once;
 #[cfg(test)]
-mod playing;
+mod hands;
 #[cfg(test)]
 mod refused;
 #[cfg(test)]

@@ -1,5 +1,5 @@
 //! Threads that are refused.
-use crate::playing::{play, small, told};
+use crate::hands::{play, small, told};
 use flash_table::NoGate;
 use shared_player::{NoShift, Starts};
 use std::test::Fail;

@@ -1,5 +1,5 @@
 //! Rows whose answers are the same in every schedule, and a trace whose answers are not.
-use crate::playing::{play_freely, small, told};
+use crate::hands::{play_freely, small, told};
 use lines::{Answer, Kind};
 use std::test::Fail;
 
