@@ -16,7 +16,7 @@ pub use facts::{Cycle, Name, Owned, Pin, Role, Source, Work};
 pub use forced::pin_words_are_forced;
 pub use plays::{
     AddReader, Close, ComeHome, Count, DealBroom, DealPass, GetWord, GiveBack, Lend, Look,
-    PlaceNew, PlaceTrim, PlaceWrite, PutWord, Take, TakeIn, RemoveReader,
+    PlaceNew, PlaceTrim, PlaceWrite, PutWord, RemoveReader, Take, TakeIn,
 };
 pub use reclaim_plays::{Claim, Condemn, Drain, FreeBlock, KeepBlock, LoadState, RetireBlock};
 pub use rule::Device;
