@@ -6,13 +6,16 @@ mod hex;
 mod layer;
 mod trace;
 
-use answers::{Answers, Short};
+use answers::{Answers, EMPTY, MET, NAMES, WORN, WRITTEN, was};
 use layer::{Ftl, Geometry};
 use std::io::{self, Read, Write};
 use std::process::ExitCode;
 use trace::{Command, Op};
 
 const MAX_TRACE_BYTES: usize = 268_435_456;
+
+/// A trace may name this many workers, whose numbers are ignored.
+const MAX_WORKERS: u32 = 500;
 
 fn main() -> ExitCode {
     let Some(geometry) = options() else {
@@ -32,13 +35,11 @@ fn main() -> ExitCode {
         eprintln!("line 0: Big");
         return ExitCode::from(3);
     }
-    let commands = match trace::parse(&mut text, &geometry) {
-        Ok(commands) => commands,
-        Err((line, kind)) => {
-            eprintln!("line {line}: {kind}");
-            return ExitCode::from(3);
-        }
-    };
+    let mut commands = Vec::new();
+    if let Err((line, kind)) = trace::parse(&mut text, &geometry, MAX_WORKERS, |_, command| commands.push(command)) {
+        eprintln!("line {line}: {kind}");
+        return ExitCode::from(3);
+    }
     if play(&text, &commands, &geometry, io::stdout().lock()).is_err() {
         eprintln!("output: failed");
         return ExitCode::from(1);
@@ -91,15 +92,3 @@ fn play(text: &[u8], commands: &[Command], geometry: &Geometry, writer: impl Wri
     answers.totals(&ftl.counts);
     answers.flush()
 }
-
-fn was(written: bool) -> &'static Short {
-    if written { &WRITTEN } else { &EMPTY }
-}
-
-/// The names of the ops, in their order.
-static NAMES: [Short; 5] =
-    [Short::new("read,"), Short::new("write,"), Short::new("new,"), Short::new("trim,"), Short::new("meet,")];
-static WRITTEN: Short = Short::new("written\n");
-static EMPTY: Short = Short::new("empty\n");
-static WORN: Short = Short::new("worn\n");
-static MET: Short = Short::new("met\n");
