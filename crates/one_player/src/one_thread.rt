@@ -64,10 +64,10 @@ pub fn run_with_wear<R: Read, W: Write, V: Write>(
     ensures writer_unfailed { OnOk result (failures_of writer.new ≡ failures_of writer.old) }
 
     // The wear is that of the device after the trace. Where its writer failed, a beginning of it was written.
-    ensures wear { IfOk result (λ told. OnOk told (Tells (IsWearOf geometry.now) (stream_of R.remaining reader.old) (over V.contents wear.old wear.new))) }
-    ensures wear_unfailed { IfOk result (λ told. OnOk told (failures_of wear.new ≡ failures_of wear.old)) }
-    ensures wear_part { IfOk result (λ told. OnErr told (TellsPart (IsWearOf geometry.now) (stream_of R.remaining reader.old) (over V.contents wear.old wear.new))) }
-    ensures wear_failed { IfOk result (λ told. OnErr told (failures_of wear.new ≢ failures_of wear.old)) }
+    ensures wear { IfOk result (λ it. OnOk it (Tells (IsWearOf geometry.now) (stream_of R.remaining reader.old) (over V.contents wear.old wear.new))) }
+    ensures wear_unfailed { IfOk result (λ it. OnOk it (failures_of wear.new ≡ failures_of wear.old)) }
+    ensures wear_part { IfOk result (λ it. OnErr it (TellsPart (IsWearOf geometry.now) (stream_of R.remaining reader.old) (over V.contents wear.old wear.new))) }
+    ensures wear_failed { IfOk result (λ it. OnErr it (failures_of wear.new ≢ failures_of wear.old)) }
 
     // After a fault of the run no wear was written.
     ensures why { IfErr result (ExplainsRun IsTextOf geometry.now (over R.remaining reader.old reader.new) (over W.contents writer.old writer.new)) }
