@@ -14,7 +14,7 @@ use crate::stop::Stop;
 use crate::telling::tell;
 use answers::{OutputFailed, RunFault, send};
 use clap::error::ErrorKind;
-use geometry::{Geometry, GeometryFault};
+use geometry::{DeviceNumbers, Geometry, GeometryFault};
 use one_player::{run, run_with_wear};
 use shared_run::run_by_workers;
 use std::alloc::Global;
@@ -124,16 +124,16 @@ fn device(given: Options<'_>) -> Result<Geometry, GeometryFault>
     ensures numbers { IfOk result (λ geo. numbers_of geo ≡ numbers_given given.entry) }
     ensures first { IfErr result (λ found. first_fault (numbers_given given.entry) ≡ Some found) }
 {
-    Geometry::new(
-        given.luns,
-        given.blocks,
-        given.pages,
-        given.words,
-        given.sectors,
-        given.endurance,
-        given.workers,
-        given.brooms,
-    )
+    Geometry::of(DeviceNumbers {
+        luns: given.luns,
+        blocks: given.blocks,
+        pages: given.pages,
+        words: given.words,
+        sectors: given.sectors,
+        endurance: given.endurance,
+        hosts: given.workers,
+        brooms: given.brooms,
+    })
 }
 
 // Answers clap's refusal: the help that the words ask for goes to the output.
