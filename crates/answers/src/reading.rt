@@ -4,7 +4,7 @@ ghost use Rattle.trace.specs.Trace.{commands_of};
 ghost use Rattle.trace.specs.Watched.{failures_of, inner_of};
 ghost use Rattle.answers.specs.Outcome.{ExplainsTrace};
 ghost use Rattle.answers.specs.Playable.{IsPlayable};
-ghost use Rattle.answers.specs.Streams.{stream_of};
+ghost use Rattle.answers.specs.Streams.{over};
 
 use geometry::Geometry;
 use std::alloc::Global;
@@ -21,7 +21,7 @@ pub fn read_commands<R: Read>(
     ensures unfailed { OnOk result (failures_of reader.new ≡ failures_of reader.old) }
     ensures commands { IfOk result (λ commands. IfSome (R.remaining (inner_of reader.old)) (λ bytes. commands_of bytes geometry.now ≡ Ok commands)) }
     ensures playable { IfOk result (λ commands. All (IsPlayable geometry.now) commands) }
-    ensures why { IfErr result (λ fault. ExplainsTrace fault geometry.now (stream_of R.remaining reader.old) (stream_of R.remaining reader.new)) }
+    ensures why { IfErr result (λ fault. ExplainsTrace fault geometry.now (over R.remaining reader.old reader.new)) }
 {
     let text = load(alloc, reader)?;
     parse(alloc, &text, geometry)

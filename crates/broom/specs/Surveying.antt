@@ -1,5 +1,5 @@
 -- The two parts of a survey, and the victim that is chosen.
-use Rattle.std.specs.Prelude.{◌≡◌, ℕ, ◌<◌, ◌≤◌, All, List, Bool, ◌++◌, Option, IfSome, length}
+use Rattle.std.specs.Prelude.{◌≡◌, ℕ, ◌<◌, ◌≤◌, All, List, Bool, ◌++◌, Option, IfSome, MatchOption, length}
 use Rattle.geometry.specs.Greedy.{IsClosed}
 use Rattle.geometry.specs.History.{Begins}
 use Rattle.geometry.specs.Limits.{Numbers}
@@ -12,7 +12,7 @@ use Rattle.flash_rule.specs.Views.{AreOfHosts}
 use Rattle.broom.specs.declared.broom.Broom.{Broom}
 use Rattle.broom.specs.Survey.{Survey, IsVictim, counts_of, closed_of, loads_of, looks_of}
 use Rattle.broom.specs.Ready.{view_of_broom}
-use Rattle.broom.specs.Told.{Surveyed}
+use Rattle.broom.specs.Told.{GainedNothing, Surveyed}
 
 -- The state has room in its word, the generation is below the endurance, and no more pages are written than there are
 pub record IsInRange (z : Numbers) (p : PinWord) : Type 0 where
@@ -46,3 +46,7 @@ pub record Chosen (v : View) (block : ℕ) (after : Broom) : Type 0 where
   pub closed : IsClosed (closed_of survey.states) block
   pub ranges : All (IsInRange v.numbers) survey.states
   pub changed : view_of_broom after ≡ record v { seen = (view_of_broom after).seen; loaded = (view_of_broom after).loaded; named = v.named ++ looks_of survey.pages; busy = (view_of_broom after).busy; stale = (view_of_broom after).stale }
+
+-- a survey was made, and its victim chosen, or there was nothing to gain
+abbrev pub Chooses : View → Option ℕ → Broom → Type 0
+Chooses v victim after = MatchOption victim (GainedNothing v (view_of_broom after)) (λ block. Chosen v block after)

@@ -1,13 +1,12 @@
 //! The survey that a broom makes before it claims a block: the state of each block, and for each sector its page.
-ghost use Rattle.std.specs.Prelude.{◌≡◌, ℕ, MatchOption, None, length};
+ghost use Rattle.std.specs.Prelude.{◌≡◌, None, length};
 ghost use Rattle.geometry.specs.Geometry.{blocks_of};
 ghost use Rattle.flash_rule.specs.Views.{AreOfHosts};
 ghost use Rattle.flash_table.specs.Flash.{IsBroomOf, broom_view, own_blocks, geometry_of, device};
 ghost use Rattle.broom.specs.Survey as survey;
 ghost use Rattle.broom.specs.Ready.{IsReady, view_of_broom, blocks_of_broom};
 ghost use Rattle.broom.specs.Handing.{HandsNothing};
-ghost use Rattle.broom.specs.Told.{GainedNothing};
-ghost use Rattle.broom.specs.Surveying.{StatesLoaded, PagesCounted, Chosen};
+ghost use Rattle.broom.specs.Surveying.{StatesLoaded, PagesCounted, Chooses};
 
 use crate::broom::Broom;
 use flash_table::{BroomSeat, Flash};
@@ -70,7 +69,7 @@ fn count_pages(flash: &Flash, seat: &mut BroomSeat, states: &[PinWord], counts: 
 // Surveys the device, and chooses the block to be drained, if there is something to gain.
 pub(crate) fn choose(flash: &Flash, broom: &mut Broom) -> Option<u32>
     requires { IsReady flash.now broom.old }
-    ensures told { MatchOption result (GainedNothing (view_of_broom broom.old) (view_of_broom broom.new)) (λ block. Chosen (view_of_broom broom.old) block broom.new) }
+    ensures told { Chooses (view_of_broom broom.old) result broom.new }
     ensures ready { IsReady flash.now broom.new }
     ensures blocks { blocks_of_broom broom.new ≡ blocks_of_broom broom.old }
     ensures queue { HandsNothing broom.old broom.new }

@@ -1,20 +1,18 @@
-ghost use Rattle.std.specs.Prelude.{◌≡◌, ◌≢◌, ℕ, List, Some, ◌+◌, ◌*◌, ◌<◌, ◌≤◌, false, if◌then◌else◌, All, None, [], ◌++◌, length, option_map, slice_get, slice_index_or, slice_set, IfOk, OnOk, OnErr};
-ghost use Rattle.std.specs.Io.KnownBytes.{Appends};
+ghost use Rattle.std.specs.Prelude.{◌≡◌, ◌≢◌, ℕ, List, Some, ◌+◌, ◌*◌, ◌<◌, ◌≤◌, false, All, None, [], ◌++◌, length, option_map, slice_index_or, IfOk, OnOk, OnErr};
 ghost use Rattle.geometry.specs.Geometry.{hosts_of, page_bytes_of};
 ghost use Rattle.hex.specs.Hex.{encode_lower};
-ghost use Rattle.trace.specs.Watched.{failures_of, inner_of};
-ghost use Rattle.answers.specs.Answers.{line_text};
-ghost use Rattle.answers.specs.Delivery.{AppendsBeginning};
+ghost use Rattle.trace.specs.Watched.{failures_of};
 ghost use Rattle.answers.specs.Lines.{page_digits_of, waiting_of};
 ghost use Rattle.answers.specs.Replies.{reply_text};
 ghost use Rattle.answers.specs.declared.line.TheConstants.{PIECE_BYTES};
 ghost use Rattle.answers.specs.declared.reply.Reply.TheVariants as replies;
+ghost use Rattle.answers.specs.Streams.{Sends, SendsBeginning, over};
 ghost use Rattle.lines.specs.declared.answer.Answer.{Answer};
 ghost use Rattle.lines.specs.declared.answer.Kind.TheVariants as kinds;
-ghost use Rattle.rounds.specs.Merging.{answer_for, is_meet, HaveAnswers};
+ghost use Rattle.rounds.specs.Merging.{is_meet, HaveAnswers};
 ghost use Rattle.rounds.specs.Texts.{answer_text};
 ghost use Rattle.rounds.specs.Rows.{answers_by, answers_in};
-ghost use Rattle.delivery.specs.Delivering.{digits_in, text_of, workers_in, HasDigits};
+ghost use Rattle.delivery.specs.Delivering.{HasDigits, digits_in, line_of, next_of, passed, text_of, workers_in};
 
 use crate::delivery::Delivery;
 use answers::{Lines, OutputFailed, Reply};
@@ -47,9 +45,9 @@ impl Delivery {
         requires workers { length rows.now ≡ workers_in self }
         requires answers { HaveAnswers (answers_by rows.now) commands.now }
         requires pages { All (λ row. All (HasDigits (digits_in self)) (answers_in row)) rows.now }
-        ensures sent { OnOk result (Appends (W.contents (inner_of writer.old)) (W.contents (inner_of writer.new)) (text_of commands.now (answers_by rows.now))) }
+        ensures sent { OnOk result (Sends (over W.contents writer.old writer.new) (text_of commands.now (answers_by rows.now))) }
         ensures unfailed { OnOk result (failures_of writer.new ≡ failures_of writer.old) }
-        ensures part { OnErr result (AppendsBeginning (W.contents (inner_of writer.old)) (W.contents (inner_of writer.new)) (text_of commands.now (answers_by rows.now))) }
+        ensures part { OnErr result (SendsBeginning (over W.contents writer.old writer.new) (text_of commands.now (answers_by rows.now))) }
         ensures failed { OnErr result (failures_of writer.new ≢ failures_of writer.old) }
     {
         let Delivery {
@@ -76,8 +74,8 @@ fn next_answer<'a>(
 ) -> Option<&'a Answer>
     requires workers { length next.old ≡ length rows.now }
     requires there { is_meet command.now.op ≡ false → slice_index_or next.old command.now.worker 0 < length (answers_by rows.now command.now.worker) }
-    ensures answer { option_map (λ a. a.now) result ≡ (if is_meet command.now.op then None else slice_get (answers_by rows.now command.now.worker) (slice_index_or next.old command.now.worker 0)) }
-    ensures next { next.new ≡ (if is_meet command.now.op then next.old else slice_set next.old command.now.worker (slice_index_or next.old command.now.worker 0 + 1)) }
+    ensures answer { option_map (λ a. a.now) result ≡ next_of (answers_by rows.now) next.old command.now }
+    ensures next { next.new ≡ passed next.old command.now }
 {
     if let Op::Meet = command.op {
         return None;
@@ -92,7 +90,7 @@ fn next_answer<'a>(
 fn put_answer(lines: &mut Lines, line: u64, command: &Command<'_>, answer: Option<&Answer>)
     requires pages { (a : Answer) → option_map (λ x. x.now) answer ≡ Some a → HasDigits (page_digits_of lines.old) a }
     requires room { length (waiting_of lines.old) ≤ PIECE_BYTES }
-    ensures waiting { let x = answer_for command.now (option_map (λ a. a.now) answer.entry) in waiting_of lines.new ≡ waiting_of lines.old ++ line_text line command.now.op command.now.sector (answer_text x.kind x.page) }
+    ensures waiting { waiting_of lines.new ≡ waiting_of lines.old ++ line_of line command.now (option_map (λ a. a.now) answer.entry) }
     ensures page { page_digits_of lines.new ≡ page_digits_of lines.old }
 {
     match answer {

@@ -1,15 +1,14 @@
 ghost use Rattle.std.specs.Prelude.{◌≡◌, ◌≢◌, ◌+◌, ◌*◌, ◌<◌, ◌≤◌, [], ◌++◌, length, vec_len, IfOk, OnOk, OnErr};
-ghost use Rattle.std.specs.Io.KnownBytes.{Appends};
 ghost use Rattle.std.specs.List.{fold};
 ghost use Rattle.geometry.specs.Geometry.{blocks_of, page_bytes_of};
 ghost use Rattle.geometry.specs.History.{step};
 ghost use Rattle.ftl_one.specs.OneFtl.{geometry_of, sectors_of, stock_of};
-ghost use Rattle.trace.specs.Watched.{failures_of, inner_of};
+ghost use Rattle.trace.specs.Watched.{failures_of};
 ghost use Rattle.answers.specs.Answers.{calls_of, wear_names};
-ghost use Rattle.answers.specs.Delivery.{AppendsBeginning, IsUnderWay};
 ghost use Rattle.answers.specs.Lines.{page_digits_of, waiting_of};
 ghost use Rattle.answers.specs.Playable.{IsPlayable};
 ghost use Rattle.answers.specs.declared.line.TheConstants.{PIECE_BYTES};
+ghost use Rattle.answers.specs.Streams.{Moves, Sends, SendsBeginning, over};
 ghost use Rattle.one_player.specs.Playing.{end_text, is_refused, line_by, stock_after};
 ghost use Rattle.one_player.specs.Wear.{block_line};
 
@@ -86,10 +85,10 @@ impl Desk {
 
     /// Hands on the lines that wait.
     pub fn hand_on<W: Write>(&mut self, writer: &mut Watched<W>) -> Result<(), OutputFailed>
-        ensures sent { OnOk result (Appends (W.contents (inner_of writer.old)) (W.contents (inner_of writer.new)) (waiting_of self.old.lines)) }
+        ensures sent { OnOk result (Sends (over W.contents writer.old writer.new) (waiting_of self.old.lines)) }
         ensures empty { OnOk result (waiting_of self.new.lines ≡ []) }
         ensures unfailed { OnOk result (failures_of writer.new ≡ failures_of writer.old) }
-        ensures part { OnErr result (AppendsBeginning (W.contents (inner_of writer.old)) (W.contents (inner_of writer.new)) (waiting_of self.old.lines)) }
+        ensures part { OnErr result (SendsBeginning (over W.contents writer.old writer.new) (waiting_of self.old.lines)) }
         ensures failed { OnErr result (failures_of writer.new ≢ failures_of writer.old) }
     {
         self.lines.hand_on(writer)
@@ -97,11 +96,11 @@ impl Desk {
 
     /// Hands on the lines that wait, if they are many: there is room for another line then.
     pub fn make_room<W: Write>(&mut self, writer: &mut Watched<W>) -> Result<(), OutputFailed>
-        ensures moved { OnOk result (IsUnderWay (W.contents (inner_of writer.old)) (W.contents (inner_of writer.new)) (waiting_of self.new.lines) (waiting_of self.old.lines)) }
+        ensures moved { OnOk result (Moves (over W.contents writer.old writer.new) (waiting_of self.new.lines) (waiting_of self.old.lines)) }
         ensures room { OnOk result (length (waiting_of self.new.lines) ≤ PIECE_BYTES) }
         ensures page { vec_len self.new.page ≡ vec_len self.old.page }
         ensures unfailed { OnOk result (failures_of writer.new ≡ failures_of writer.old) }
-        ensures part { OnErr result (AppendsBeginning (W.contents (inner_of writer.old)) (W.contents (inner_of writer.new)) (waiting_of self.old.lines)) }
+        ensures part { OnErr result (SendsBeginning (over W.contents writer.old writer.new) (waiting_of self.old.lines)) }
         ensures failed { OnErr result (failures_of writer.new ≢ failures_of writer.old) }
     {
         self.lines.make_room(writer)

@@ -1,15 +1,14 @@
-ghost use Rattle.std.specs.Prelude.{◌≡◌, ◌≢◌, [], codes, length, vec_len, All, IfErr, IfOk, IfSome, OnOk, OnErr, Err};
-ghost use Rattle.std.specs.Io.KnownBytes.{Appends, IsAtEnd};
+ghost use Rattle.std.specs.Prelude.{◌≡◌, ◌≢◌, [], length, vec_len, All, IfErr, IfOk, IfSome, OnOk, OnErr, Err};
+ghost use Rattle.std.specs.Io.KnownBytes.{IsAtEnd};
 ghost use Rattle.geometry.specs.Geometry.{hosts_of, page_bytes_of, sectors_of as sector_count_of};
 ghost use Rattle.geometry.specs.History.{after};
 ghost use Rattle.ftl_one.specs.OneFtl.{geometry_of, sectors_of, stock_of};
 ghost use Rattle.ftl_one.specs.Stock.{opening};
 ghost use Rattle.trace.specs.Watched.{failures_of, inner_of};
-ghost use Rattle.answers.specs.Delivery.{AppendsBeginning, AppendsPart, AppendsText};
 ghost use Rattle.answers.specs.Lines.{waiting_of};
 ghost use Rattle.answers.specs.Outcome.{ExplainsRun};
 ghost use Rattle.answers.specs.Playable.{IsPlayable};
-ghost use Rattle.answers.specs.Streams.{stream_of};
+ghost use Rattle.answers.specs.Streams.{Sends, SendsBeginning, Tells, TellsPart, over, stream_of};
 ghost use Rattle.one_player.specs.Playing.{IsTextOf, stock_before, text_of_commands};
 ghost use Rattle.one_player.specs.Wear.{IsStockOf, IsWearOf};
 
@@ -36,12 +35,12 @@ pub fn run<R: Read, W: Write>(
 
     // The reader was read to its end, what was written is the text of all its bytes, and no call failed.
     ensures end { OnOk result (IsAtEnd (R.remaining (inner_of reader.new))) }
-    ensures text { OnOk result (IfSome (R.remaining (inner_of reader.old)) (λ bytes. AppendsText (IsTextOf geometry.now) bytes (W.contents (inner_of writer.old)) (W.contents (inner_of writer.new)))) }
+    ensures text { OnOk result (Tells (IsTextOf geometry.now) (stream_of R.remaining reader.old) (over W.contents writer.old writer.new)) }
     ensures reader_unfailed { OnOk result (failures_of reader.new ≡ failures_of reader.old) }
     ensures writer_unfailed { OnOk result (failures_of writer.new ≡ failures_of writer.old) }
 
     // A fault says what happened. Only a failed writer has taken bytes, and those are a beginning of the text.
-    ensures why { IfErr result (λ fault. ExplainsRun (IsTextOf geometry.now) fault geometry.now (stream_of R.remaining reader.old) (stream_of R.remaining reader.new) (stream_of W.contents writer.old) (stream_of W.contents writer.new)) }
+    ensures why { IfErr result (ExplainsRun IsTextOf geometry.now (over R.remaining reader.old reader.new) (over W.contents writer.old writer.new)) }
 {
     match run_out(alloc, reader, writer, geometry) {
         Ok(_) => Ok(()),
@@ -60,18 +59,18 @@ pub fn run_with_wear<R: Read, W: Write, V: Write>(
 ) -> Result<Result<(), OutputFailed>, RunFault>
     requires { hosts_of geometry.now ≡ 0 }
     ensures end { OnOk result (IsAtEnd (R.remaining (inner_of reader.new))) }
-    ensures text { OnOk result (IfSome (R.remaining (inner_of reader.old)) (λ bytes. AppendsText (IsTextOf geometry.now) bytes (W.contents (inner_of writer.old)) (W.contents (inner_of writer.new)))) }
+    ensures text { OnOk result (Tells (IsTextOf geometry.now) (stream_of R.remaining reader.old) (over W.contents writer.old writer.new)) }
     ensures reader_unfailed { OnOk result (failures_of reader.new ≡ failures_of reader.old) }
     ensures writer_unfailed { OnOk result (failures_of writer.new ≡ failures_of writer.old) }
 
     // The wear is that of the device after the trace. Where its writer failed, a beginning of it was written.
-    ensures wear { IfOk result (λ told. OnOk told (IfSome (R.remaining (inner_of reader.old)) (λ bytes. AppendsText (IsWearOf geometry.now) bytes (V.contents (inner_of wear.old)) (V.contents (inner_of wear.new))))) }
-    ensures wear_unfailed { IfOk result (λ told. OnOk told (failures_of wear.new ≡ failures_of wear.old)) }
-    ensures wear_part { IfOk result (λ told. OnErr told (IfSome (R.remaining (inner_of reader.old)) (λ bytes. AppendsPart (IsWearOf geometry.now) bytes (V.contents (inner_of wear.old)) (V.contents (inner_of wear.new))))) }
-    ensures wear_failed { IfOk result (λ told. OnErr told (failures_of wear.new ≢ failures_of wear.old)) }
+    ensures wear { IfOk result (λ it. OnOk it (Tells (IsWearOf geometry.now) (stream_of R.remaining reader.old) (over V.contents wear.old wear.new))) }
+    ensures wear_unfailed { IfOk result (λ it. OnOk it (failures_of wear.new ≡ failures_of wear.old)) }
+    ensures wear_part { IfOk result (λ it. OnErr it (TellsPart (IsWearOf geometry.now) (stream_of R.remaining reader.old) (over V.contents wear.old wear.new))) }
+    ensures wear_failed { IfOk result (λ it. OnErr it (failures_of wear.new ≢ failures_of wear.old)) }
 
     // After a fault of the run no wear was written.
-    ensures why { IfErr result (λ fault. ExplainsRun (IsTextOf geometry.now) fault geometry.now (stream_of R.remaining reader.old) (stream_of R.remaining reader.new) (stream_of W.contents writer.old) (stream_of W.contents writer.new)) }
+    ensures why { IfErr result (ExplainsRun IsTextOf geometry.now (over R.remaining reader.old reader.new) (over W.contents writer.old writer.new)) }
     ensures no_wear { OnErr result (stream_of V.contents wear.new ≡ stream_of V.contents wear.old) }
 {
     match run_out(alloc, reader, writer, geometry) {
@@ -92,12 +91,12 @@ fn run_out<R: Read, W: Write>(
 ) -> Result<Played, RunFault>
     requires { hosts_of geometry.now ≡ 0 }
     ensures end { OnOk result (IsAtEnd (R.remaining (inner_of reader.new))) }
-    ensures text { OnOk result (IfSome (R.remaining (inner_of reader.old)) (λ bytes. AppendsText (IsTextOf geometry.now) bytes (W.contents (inner_of writer.old)) (W.contents (inner_of writer.new)))) }
+    ensures text { OnOk result (Tells (IsTextOf geometry.now) (stream_of R.remaining reader.old) (over W.contents writer.old writer.new)) }
     ensures reader_unfailed { OnOk result (failures_of reader.new ≡ failures_of reader.old) }
     ensures writer_unfailed { OnOk result (failures_of writer.new ≡ failures_of writer.old) }
     ensures geometry { IfOk result (λ played. geometry_of played.ftl ≡ geometry.now) }
     ensures stock { IfOk result (λ played. IfSome (R.remaining (inner_of reader.old)) (λ bytes. IsStockOf geometry.now bytes (stock_of played.ftl))) }
-    ensures why { IfErr result (λ fault. ExplainsRun (IsTextOf geometry.now) fault geometry.now (stream_of R.remaining reader.old) (stream_of R.remaining reader.new) (stream_of W.contents writer.old) (stream_of W.contents writer.new)) }
+    ensures why { IfErr result (ExplainsRun IsTextOf geometry.now (over R.remaining reader.old reader.new) (over W.contents writer.old writer.new)) }
 {
     let commands = match read_commands(alloc, reader, geometry) {
         Ok(commands) => commands,
@@ -127,11 +126,11 @@ fn play<W: Write>(
     requires playable { All (IsPlayable (geometry_of ftl.old)) commands.now }
     requires page { vec_len desk.old.page ≡ page_bytes_of (geometry_of ftl.old) }
     requires lines { waiting_of desk.old.lines ≡ [] }
-    ensures sent { OnOk result (Appends (W.contents (inner_of writer.old)) (W.contents (inner_of writer.new)) (text_of_commands (geometry_of ftl.old) commands.now)) }
+    ensures sent { OnOk result (Sends (over W.contents writer.old writer.new) (text_of_commands (geometry_of ftl.old) commands.now)) }
     ensures geometry { OnOk result (geometry_of ftl.new ≡ geometry_of ftl.old) }
     ensures stock { OnOk result (stock_of ftl.new ≡ stock_before (geometry_of ftl.old) commands.now (length commands.now)) }
     ensures lines_sent { OnOk result (waiting_of desk.new.lines ≡ []) }
-    ensures part { OnErr result (AppendsBeginning (W.contents (inner_of writer.old)) (W.contents (inner_of writer.new)) (text_of_commands (geometry_of ftl.old) commands.now)) }
+    ensures part { OnErr result (SendsBeginning (over W.contents writer.old writer.new) (text_of_commands (geometry_of ftl.old) commands.now)) }
     ensures unfailed { OnOk result (failures_of writer.new ≡ failures_of writer.old) }
     ensures failed { OnErr result (failures_of writer.new ≢ failures_of writer.old) }
 {

@@ -1,9 +1,8 @@
 ghost use Rattle.std.specs.Prelude.{◌≡◌, ◌≢◌, [], OnErr, OnOk};
-ghost use Rattle.std.specs.Io.KnownBytes.{Appends};
 ghost use Rattle.ftl_one.specs.OneFtl.{geometry_of, stock_of};
-ghost use Rattle.trace.specs.Watched.{failures_of, inner_of};
-ghost use Rattle.answers.specs.Delivery.{AppendsBeginning};
+ghost use Rattle.trace.specs.Watched.{failures_of};
 ghost use Rattle.answers.specs.Lines.{waiting_of};
+ghost use Rattle.answers.specs.Streams.{Sends, SendsBeginning, over};
 ghost use Rattle.one_player.specs.Wear.{wear_text};
 
 use crate::desk::Desk;
@@ -27,8 +26,8 @@ pub fn tell_wear<V: Write>(
     wear: &mut Watched<V>,
 ) -> Result<(), OutputFailed>
     requires lines { waiting_of desk.old.lines ≡ [] }
-    ensures sent { OnOk result (Appends (V.contents (inner_of wear.old)) (V.contents (inner_of wear.new)) (wear_text (geometry_of ftl.now) (stock_of ftl.now))) }
-    ensures part { OnErr result (AppendsBeginning (V.contents (inner_of wear.old)) (V.contents (inner_of wear.new)) (wear_text (geometry_of ftl.now) (stock_of ftl.now))) }
+    ensures sent { OnOk result (Sends (over V.contents wear.old wear.new) (wear_text (geometry_of ftl.now) (stock_of ftl.now))) }
+    ensures part { OnErr result (SendsBeginning (over V.contents wear.old wear.new) (wear_text (geometry_of ftl.now) (stock_of ftl.now))) }
     ensures unfailed { OnOk result (failures_of wear.new ≡ failures_of wear.old) }
     ensures failed { OnErr result (failures_of wear.new ≢ failures_of wear.old) }
 {

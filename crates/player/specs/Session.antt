@@ -1,6 +1,6 @@
 -- How a session of the program ends.
-use Rattle.std.specs.Prelude.{◌≡◌, ◌≢◌, ◌⊎◌, ◌≤◌, ⊤, ℕ, zero, suc, true, List, [], Option, IfSome, MatchOption, is_some, Some, Result, Ok, Err}
-use Rattle.std.specs.Io.KnownBytes.{Appends, IsAtEnd}
+use Rattle.std.specs.Prelude.{◌≡◌, ◌≢◌, ◌⊎◌, ◌≤◌, ⊤, ℕ, zero, suc, true, List, [], MatchOption, is_some, Some, Result, Ok, Err}
+use Rattle.std.specs.Io.KnownBytes.{IsAtEnd}
 use Rattle.clap.specs.Words.{IsAmong, Text, kind_of}
 use Rattle.clap.specs.declared.error.Error.{Error}
 use Rattle.clap.specs.declared.error.kind.ErrorKind.TheVariants as kind
@@ -10,9 +10,8 @@ use Rattle.geometry.specs.declared.geometry.Geometry.{Geometry}
 use Rattle.geometry.specs.declared.fault.GeometryFault.{GeometryFault}
 use Rattle.trace.specs.declared.fault.TraceFaultKind.{TraceFaultKind}
 use Rattle.trace.specs.declared.fault.TraceFaultKind.TheVariants as fault
-use Rattle.answers.specs.Delivery.{AppendsBeginning, AppendsPart, AppendsText}
 use Rattle.answers.specs.Outcome.{ExplainsRun}
-use Rattle.answers.specs.Streams.{Stream}
+use Rattle.answers.specs.Streams.{Passage, Sends, SendsBeginning, Stream, Tells, TellsPart}
 use Rattle.answers.specs.declared.fault.RunFault.{RunFault}
 use Rattle.answers.specs.declared.fault.RunFault.TheVariants as run
 use Rattle.one_player.specs.Playing.{IsTextOf}
@@ -72,45 +71,45 @@ abbrev pub IsTextFor : Geometry → List ℕ → List ℕ → Type 0
 IsTextFor geo bytes text = IsTextBy (hosts_of geo) geo bytes text
 
 -- the trace was played: the input was read to its end, the text of all its bytes was written, and no call failed
-pub record Answered (words : List Text) (input_old input_new output_old output_new : Stream) : Type 0 where
+pub record Answered (words : List Text) (input output : Passage) : Type 0 where
   pub geo : Geometry
   pub device : IsDescribed words geo
-  pub end : IsAtEnd input_new.bytes
-  pub text : IfSome input_old.bytes (λ bytes. AppendsText (IsTextFor geo) bytes output_old.bytes output_new.bytes)
-  pub input_unfailed : input_new.failures ≡ input_old.failures
-  pub output_unfailed : output_new.failures ≡ output_old.failures
+  pub end : IsAtEnd input.after.bytes
+  pub text : Tells (IsTextFor geo) input.before output
+  pub input_unfailed : input.after.failures ≡ input.before.failures
+  pub output_unfailed : output.after.failures ≡ output.before.failures
 
 -- the wear is told where the options name a file for it: that of the device after the trace, and no call failed. Else
 -- nothing is told
-abbrev pub TellsWear : Geometry → Options → Option (List ℕ) → Stream → Stream → Type 0
-TellsWear geo given input wear_old wear_new =
-    MatchOption given.wear (wear_new ≡ wear_old) (λ name. (wear_new.failures ≡ wear_old.failures) × IfSome input (λ bytes. AppendsText (IsWearOf geo) bytes wear_old.bytes wear_new.bytes))
+abbrev pub TellsWear : Geometry → Options → Stream → Passage → Type 0
+TellsWear geo given input wear =
+    MatchOption given.wear (wear.after ≡ wear.before) (λ name. (wear.after.failures ≡ wear.before.failures) × Tells (IsWearOf geo) input wear)
 
 -- the trace was played, and the wear told as the options want it
-pub record Played (words : List Text) (input_old input_new output_old output_new wear_old wear_new : Stream) : Type 0 where
-  pub answered : Answered words input_old input_new output_old output_new
-  pub wear : TellsWear answered.geo answered.device.given input_old.bytes wear_old wear_new
+pub record Played (words : List Text) (input output wear : Passage) : Type 0 where
+  pub answered : Answered words input output
+  pub told : TellsWear answered.geo answered.device.given input.before wear
 
 -- the trace was played, and the file for the wear could not be written: a beginning of the wear is told
-pub record LosesWear (words : List Text) (input_old input_new output_old output_new wear_old wear_new : Stream) : Type 0 where
-  pub answered : Answered words input_old input_new output_old output_new
+pub record LosesWear (words : List Text) (input output wear : Passage) : Type 0 where
+  pub answered : Answered words input output
   pub asked : is_some answered.device.given.wear ≡ true
-  pub failed : wear_new.failures ≢ wear_old.failures
-  pub part : IfSome input_old.bytes (λ bytes. AppendsPart (IsWearOf answered.geo) bytes wear_old.bytes wear_new.bytes)
+  pub failed : wear.after.failures ≢ wear.before.failures
+  pub part : TellsPart (IsWearOf answered.geo) input.before wear
 
 -- the words asked for help, which was written, and nothing was read
-pub record Helped (words : List Text) (input_old input_new output_old output_new : Stream) : Type 0 where
+pub record Helped (words : List Text) (input output : Passage) : Type 0 where
   pub asked : IsAmong kind.DisplayHelp (faults_given words)
   pub text : List ℕ
-  pub out : Appends output_old.bytes output_new.bytes text
-  pub unread : input_new ≡ input_old
-  pub unfailed : output_new.failures ≡ output_old.failures
+  pub out : Sends output text
+  pub unread : input.after ≡ input.before
+  pub unfailed : output.after.failures ≡ output.before.failures
 
 -- a run on the described device stopped
-pub record Stopped (words : List Text) (found : RunFault) (input_old input_new output_old output_new : Stream) : Type 0 where
+pub record Stopped (words : List Text) (found : RunFault) (input output : Passage) : Type 0 where
   pub geo : Geometry
   pub device : IsDescribed words geo
-  pub why : ExplainsRun (IsTextFor geo) found geo input_old input_new output_old output_new
+  pub why : ExplainsRun IsTextFor geo input output found
 
 -- the words describe a device with workers, and name a file for the wear, which one thread alone tells
 pub record WantsSharedWear (words : List Text) : Type 0 where
@@ -120,37 +119,37 @@ pub record WantsSharedWear (words : List Text) : Type 0 where
   pub asked : is_some device.given.wear ≡ true
 
 -- some of a text went out, and then the writer failed
-pub record AppendsSome (old new : Stream) : Type 0 where
+pub record AppendsSome (output : Passage) : Type 0 where
   pub text : List ℕ
-  pub part : AppendsBeginning old.bytes new.bytes text
-  pub failed : new.failures ≢ old.failures
+  pub part : SendsBeginning output text
+  pub failed : output.after.failures ≢ output.before.failures
 
 -- why a session stopped. Nothing is on the output but after `Output` of a run, `Help` and `Wear`, nothing was read but
 -- by a run, and of the wear nothing is told but with `Wear`
-abbrev pub ExplainsStop : Stop → List Text → Stream → Stream → Stream → Stream → Stream → Stream → Type 0
-ExplainsStop (stop.Arguments error) words input_old input_new output_old output_new wear_old wear_new =
-    IsAmong (kind_of error) (faults_given words) × (kind_of error ≢ kind.DisplayHelp) × (input_new ≡ input_old) × (output_new ≡ output_old) × (wear_new ≡ wear_old)
-ExplainsStop (stop.Encoding place) words input_old input_new output_old output_new wear_old wear_new = ⊥
-ExplainsStop (stop.Geometry found) words input_old input_new output_old output_new wear_old wear_new =
-    DescribesNone words found × (input_new ≡ input_old) × (output_new ≡ output_old) × (wear_new ≡ wear_old)
-ExplainsStop (stop.Run found) words input_old input_new output_old output_new wear_old wear_new =
-    Stopped words found input_old input_new output_old output_new × (wear_new ≡ wear_old)
-ExplainsStop stop.Help words input_old input_new output_old output_new wear_old wear_new =
-    IsAmong kind.DisplayHelp (faults_given words) × (input_new ≡ input_old) × AppendsSome output_old output_new × (wear_new ≡ wear_old)
-ExplainsStop stop.Memory words input_old input_new output_old output_new wear_old wear_new =
-    (input_new ≡ input_old) × (output_new ≡ output_old) × (wear_new ≡ wear_old)
-ExplainsStop stop.Wear words input_old input_new output_old output_new wear_old wear_new =
-    LosesWear words input_old input_new output_old output_new wear_old wear_new
-ExplainsStop stop.SharedWear words input_old input_new output_old output_new wear_old wear_new =
-    WantsSharedWear words × (input_new ≡ input_old) × (output_new ≡ output_old) × (wear_new ≡ wear_old)
+abbrev pub ExplainsStop : Stop → List Text → Passage → Passage → Passage → Type 0
+ExplainsStop (stop.Arguments error) words input output wear =
+    IsAmong (kind_of error) (faults_given words) × (kind_of error ≢ kind.DisplayHelp) × (input.after ≡ input.before) × (output.after ≡ output.before) × (wear.after ≡ wear.before)
+ExplainsStop (stop.Encoding place) words input output wear = ⊥
+ExplainsStop (stop.Geometry found) words input output wear =
+    DescribesNone words found × (input.after ≡ input.before) × (output.after ≡ output.before) × (wear.after ≡ wear.before)
+ExplainsStop (stop.Run found) words input output wear =
+    Stopped words found input output × (wear.after ≡ wear.before)
+ExplainsStop stop.Help words input output wear =
+    IsAmong kind.DisplayHelp (faults_given words) × (input.after ≡ input.before) × AppendsSome output × (wear.after ≡ wear.before)
+ExplainsStop stop.Memory words input output wear =
+    (input.after ≡ input.before) × (output.after ≡ output.before) × (wear.after ≡ wear.before)
+ExplainsStop stop.Wear words input output wear =
+    LosesWear words input output wear
+ExplainsStop stop.SharedWear words input output wear =
+    WantsSharedWear words × (input.after ≡ input.before) × (output.after ≡ output.before) × (wear.after ≡ wear.before)
 
 -- how an attempt ended
-abbrev pub Explains : Result (Unit {0}) Stop → List Text → Stream → Stream → Stream → Stream → Stream → Stream → Type 0
-Explains (Ok _) words input_old input_new output_old output_new wear_old wear_new =
-    Played words input_old input_new output_old output_new wear_old wear_new
-    ⊎ (Helped words input_old input_new output_old output_new × (wear_new ≡ wear_old))
-Explains (Err why) words input_old input_new output_old output_new wear_old wear_new =
-    ExplainsStop why words input_old input_new output_old output_new wear_old wear_new
+abbrev pub Explains : Result (Unit {0}) Stop → List Text → Passage → Passage → Passage → Type 0
+Explains (Ok _) words input output wear =
+    Played words input output wear
+    ⊎ (Helped words input output × (wear.after ≡ wear.before))
+Explains (Err why) words input output wear =
+    ExplainsStop why words input output wear
 
 -- the exit status
 abbrev pub status_after : Result (Unit {0}) Stop → ℕ
@@ -158,27 +157,27 @@ status_after (Ok _) = 0
 status_after (Err why) = status_of why
 
 -- how a session ended, and that the status and what was told on standard error tell it
-pub record EndsSession (status : ℕ) (words : List Text) (input_old input_new output_old output_new errors_old errors_new wear_old wear_new : Stream) : Type 0 where
+pub record EndsSession (status : ℕ) (words : List Text) (input output errors wear : Passage) : Type 0 where
   pub ending : Result (Unit {0}) Stop
   pub status_is : status ≡ status_after ending
-  pub why : Explains ending words input_old input_new output_old output_new wear_old wear_new
-  pub told : TellsEnding ending errors_old errors_new
+  pub why : Explains ending words input output wear
+  pub told : TellsEnding ending errors
 
 -- what comes of the words that clap refused with an error: the help is written, and every other text is told elsewhere
-abbrev pub AnswersClap : Error → Result (Unit {0}) Stop → Stream → Stream → Type 0
-AnswersClap error (Ok _) output_old output_new =
-    (kind_of error ≡ kind.DisplayHelp) × (output_new.failures ≡ output_old.failures) × (text : List ℕ) × Appends output_old.bytes output_new.bytes text
-AnswersClap error (Err (stop.Arguments told)) output_old output_new =
-    (told ≡ error) × (kind_of error ≢ kind.OutOfMemory) × (kind_of error ≢ kind.DisplayHelp) × (output_new ≡ output_old)
-AnswersClap error (Err (stop.Encoding place)) output_old output_new = ⊥
-AnswersClap error (Err (stop.Geometry found)) output_old output_new = ⊥
-AnswersClap error (Err (stop.Run found)) output_old output_new = ⊥
-AnswersClap error (Err stop.Help) output_old output_new =
-    (kind_of error ≡ kind.DisplayHelp) × AppendsSome output_old output_new
-AnswersClap error (Err stop.Memory) output_old output_new =
-    ((kind_of error ≡ kind.OutOfMemory) ⊎ (kind_of error ≡ kind.DisplayHelp)) × (output_new ≡ output_old)
-AnswersClap error (Err stop.Wear) output_old output_new = ⊥
-AnswersClap error (Err stop.SharedWear) output_old output_new = ⊥
+abbrev pub AnswersClap : Error → Result (Unit {0}) Stop → Passage → Type 0
+AnswersClap error (Ok _) output =
+    (kind_of error ≡ kind.DisplayHelp) × (output.after.failures ≡ output.before.failures) × (text : List ℕ) × Sends output text
+AnswersClap error (Err (stop.Arguments told)) output =
+    (told ≡ error) × (kind_of error ≢ kind.OutOfMemory) × (kind_of error ≢ kind.DisplayHelp) × (output.after ≡ output.before)
+AnswersClap error (Err (stop.Encoding place)) output = ⊥
+AnswersClap error (Err (stop.Geometry found)) output = ⊥
+AnswersClap error (Err (stop.Run found)) output = ⊥
+AnswersClap error (Err stop.Help) output =
+    (kind_of error ≡ kind.DisplayHelp) × AppendsSome output
+AnswersClap error (Err stop.Memory) output =
+    ((kind_of error ≡ kind.OutOfMemory) ⊎ (kind_of error ≡ kind.DisplayHelp)) × (output.after ≡ output.before)
+AnswersClap error (Err stop.Wear) output = ⊥
+AnswersClap error (Err stop.SharedWear) output = ⊥
 
 -- why the words of a command line could not be read; arguments count from 1
 abbrev pub IsUnread : Stop → Type 0

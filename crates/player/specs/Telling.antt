@@ -1,10 +1,8 @@
 -- What a session tells on standard error.
 use Rattle.std.specs.Prelude.{◌≡◌, ℕ, List, ◌++◌, codes, decimal, Option, None, Some, IfSome, Result, Ok, Err}
-use Rattle.std.specs.Io.KnownBytes.{Appends}
 use Rattle.geometry.specs.Faults.{fault_name}
-use Rattle.answers.specs.Delivery.{AppendsBeginning}
 use Rattle.answers.specs.Faults.{run_text}
-use Rattle.answers.specs.Streams.{Stream}
+use Rattle.answers.specs.Streams.{Passage, Sends, SendsBeginning}
 use Rattle.player.specs.declared.stop.Stop.{Stop}
 use Rattle.player.specs.declared.stop.Stop.TheVariants as stop
 
@@ -20,15 +18,15 @@ line_of stop.Wear = Some (codes "wear: failed\n")
 line_of stop.SharedWear = Some (codes "wear: not with workers\n")
 
 -- a line went out whole where no call of the writer failed, and else a beginning of it
-pub record IsTold (line : List ℕ) (old new : Stream) : Type 0 where
-  pub part : AppendsBeginning old.bytes new.bytes line
-  pub whole : new.failures ≡ old.failures → Appends old.bytes new.bytes line
+pub record IsTold (line : List ℕ) (errors : Passage) : Type 0 where
+  pub part : SendsBeginning errors line
+  pub whole : errors.after.failures ≡ errors.before.failures → Sends errors line
 
 -- the line of this stop was told
-abbrev pub TellsStop : Stop → Stream → Stream → Type 0
-TellsStop why old new = IfSome (line_of why) (λ line. IsTold line old new)
+abbrev pub TellsStop : Stop → Passage → Type 0
+TellsStop why errors = IfSome (line_of why) (λ line. IsTold line errors)
 
 -- a session that ends well tells nothing, and else it tells why it stopped
-abbrev pub TellsEnding : Result (Unit {0}) Stop → Stream → Stream → Type 0
-TellsEnding (Ok _) old new = new ≡ old
-TellsEnding (Err why) old new = TellsStop why old new
+abbrev pub TellsEnding : Result (Unit {0}) Stop → Passage → Type 0
+TellsEnding (Ok _) errors = errors.after ≡ errors.before
+TellsEnding (Err why) errors = TellsStop why errors

@@ -1,11 +1,10 @@
-ghost use Rattle.std.specs.Prelude.{◌≡◌, Some, map, IfErr, IfOk, IfSome, OnOk};
+ghost use Rattle.std.specs.Prelude.{◌≡◌, Some, map, IfErr, IfOk, OnOk};
 ghost use Rattle.std.specs.Io.KnownBytes.{IsAtEnd};
 ghost use Rattle.geometry.specs.Geometry.{numbers_of};
 ghost use Rattle.geometry.specs.Limits.{first_fault};
 ghost use Rattle.trace.specs.Watched.{failures_of, inner_of};
-ghost use Rattle.answers.specs.Delivery.{AppendsText};
 ghost use Rattle.answers.specs.Outcome.{ExplainsRun};
-ghost use Rattle.answers.specs.Streams.{stream_of};
+ghost use Rattle.answers.specs.Streams.{Tells, over, stream_of};
 ghost use Rattle.player.specs.CommandLine.{numbers_given};
 ghost use Rattle.player.specs.Session.{AnswersClap, EndsSession, Explains, IsTextFor};
 
@@ -15,7 +14,7 @@ use crate::stop::Stop;
 use crate::telling::tell;
 use answers::{OutputFailed, RunFault, send};
 use clap::error::ErrorKind;
-use geometry::{Geometry, GeometryFault};
+use geometry::{DeviceNumbers, Geometry, GeometryFault};
 use one_player::{run, run_with_wear};
 use shared_run::run_by_workers;
 use std::alloc::Global;
@@ -44,7 +43,11 @@ pub fn session<'a, T: Threads + Wait + Sync, R: Read, W: Write, E: Write, V: Wri
     errors: &mut Watched<E>,
     wear: &mut Watched<V>,
 ) -> u8
-    ensures ending { EndsSession result (map (λ w. w.now) words.entry.now) (stream_of R.remaining reader.old) (stream_of R.remaining reader.new) (stream_of W.contents writer.old) (stream_of W.contents writer.new) (stream_of E.contents errors.old) (stream_of E.contents errors.new) (stream_of V.contents wear.old) (stream_of V.contents wear.new) }
+    ensures ending { EndsSession result (map (λ w. w.now) words.entry.now)
+        (over R.remaining reader.old reader.new)
+        (over W.contents writer.old writer.new)
+        (over E.contents errors.old errors.new)
+        (over V.contents wear.old wear.new) }
 
     // A session that ends well tells nothing there.
     ensures quiet { result ≡ 0 → stream_of E.contents errors.new ≡ stream_of E.contents errors.old }
@@ -64,7 +67,10 @@ fn attempt<'a, T: Threads + Wait + Sync, R: Read, W: Write, V: Write>(
     writer: &mut Watched<W>,
     wear: &mut Watched<V>,
 ) -> Result<(), Stop>
-    ensures { Explains result (map (λ w. w.now) words.entry.now) (stream_of R.remaining reader.old) (stream_of R.remaining reader.new) (stream_of W.contents writer.old) (stream_of W.contents writer.new) (stream_of V.contents wear.old) (stream_of V.contents wear.new) }
+    ensures { Explains result (map (λ w. w.now) words.entry.now)
+        (over R.remaining reader.old reader.new)
+        (over W.contents writer.old writer.new)
+        (over V.contents wear.old wear.new) }
 {
     let given = match options(alloc, words) {
         Ok(given) => given,
@@ -102,10 +108,10 @@ fn play<T: Threads + Wait + Sync, R: Read, W: Write>(
     patience: u32,
 ) -> Result<(), RunFault>
     ensures end { OnOk result (IsAtEnd (R.remaining (inner_of reader.new))) }
-    ensures text { OnOk result (IfSome (R.remaining (inner_of reader.old)) (λ bytes. AppendsText (IsTextFor geometry.now) bytes (W.contents (inner_of writer.old)) (W.contents (inner_of writer.new)))) }
+    ensures text { OnOk result (Tells (IsTextFor geometry.now) (stream_of R.remaining reader.old) (over W.contents writer.old writer.new)) }
     ensures reader_unfailed { OnOk result (failures_of reader.new ≡ failures_of reader.old) }
     ensures writer_unfailed { OnOk result (failures_of writer.new ≡ failures_of writer.old) }
-    ensures why { IfErr result (λ fault. ExplainsRun (IsTextFor geometry.now) fault geometry.now (stream_of R.remaining reader.old) (stream_of R.remaining reader.new) (stream_of W.contents writer.old) (stream_of W.contents writer.new)) }
+    ensures why { IfErr result (ExplainsRun IsTextFor geometry.now (over R.remaining reader.old reader.new) (over W.contents writer.old writer.new)) }
 {
     if geometry.hosts() == 0 {
         return run(alloc, reader, writer, geometry);
@@ -118,21 +124,21 @@ fn device(given: Options<'_>) -> Result<Geometry, GeometryFault>
     ensures numbers { IfOk result (λ geo. numbers_of geo ≡ numbers_given given.entry) }
     ensures first { IfErr result (λ found. first_fault (numbers_given given.entry) ≡ Some found) }
 {
-    Geometry::new(
-        given.luns,
-        given.blocks,
-        given.pages,
-        given.words,
-        given.sectors,
-        given.endurance,
-        given.workers,
-        given.brooms,
-    )
+    Geometry::of(DeviceNumbers {
+        luns: given.luns,
+        blocks: given.blocks,
+        pages: given.pages,
+        words: given.words,
+        sectors: given.sectors,
+        endurance: given.endurance,
+        hosts: given.workers,
+        brooms: given.brooms,
+    })
 }
 
 // Answers clap's refusal: the help that the words ask for goes to the output.
 fn refuse<W: Write>(alloc: Global, error: clap::Error, writer: &mut Watched<W>) -> Result<(), Stop>
-    ensures { AnswersClap error result (stream_of W.contents writer.old) (stream_of W.contents writer.new) }
+    ensures { AnswersClap error result (over W.contents writer.old writer.new) }
 {
     match error.kind() {
         ErrorKind::OutOfMemory => Err(Stop::Memory),

@@ -1,7 +1,7 @@
 ghost use Rattle.std.specs.Prelude.{◌≡◌, ◌+◌, ◌≤◌, ◌++◌, codes, length, option_map};
 ghost use Rattle.trace.specs.Faults.{fault_text};
 ghost use Rattle.answers.specs.Faults.{run_text};
-ghost use Rattle.answers.specs.Streams.{stream_of};
+ghost use Rattle.answers.specs.Streams.{over};
 ghost use Rattle.player.specs.Session.{status_of};
 ghost use Rattle.player.specs.Telling.{IsTold, TellsStop, line_of};
 ghost use Rattle.player.specs.declared.telling.TheConstants.{LINE_BYTES};
@@ -21,7 +21,7 @@ type Line = ArrayString<LINE_BYTES>;
 /// is the exit status, and whether the line was written changes nothing.
 pub fn tell<E: Write>(stop: &Stop, errors: &mut Watched<E>) -> u8
     ensures status { result ≡ status_of stop.now }
-    ensures told { TellsStop stop.now (stream_of E.contents errors.old) (stream_of E.contents errors.new) }
+    ensures told { TellsStop stop.now (over E.contents errors.old errors.new) }
 {
     let Some(line) = line(stop) else {
         if let Stop::Arguments(error) = stop {
@@ -35,7 +35,7 @@ pub fn tell<E: Write>(stop: &Stop, errors: &mut Watched<E>) -> u8
 
 // Hands on a line, and doesn't mind whether it went out.
 fn tell_line<E: Write>(line: &str, errors: &mut Watched<E>)
-    ensures { IsTold line.now (stream_of E.contents errors.old) (stream_of E.contents errors.new) }
+    ensures { IsTold line.now (over E.contents errors.old errors.new) }
 {
     let _ = send(errors, line.as_bytes());
 }

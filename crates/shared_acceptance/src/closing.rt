@@ -9,7 +9,7 @@ use std::process::Abort;
 use volume::Volume;
 
 /// Whether the sector has this value.
-pub fn has(sectors: &[Option<Vec<u8>>], sector: usize, value: &[u8]) -> bool {
+pub(crate) fn has(sectors: &[Option<Vec<u8>>], sector: usize, value: &[u8]) -> bool {
     match sectors.get(sector) {
         Some(Some(bytes)) => bytes.as_slice() == value,
         _ => false,
@@ -17,7 +17,7 @@ pub fn has(sectors: &[Option<Vec<u8>>], sector: usize, value: &[u8]) -> bool {
 }
 
 /// The sectors when these two passes, in this order, are given up.
-pub fn close(
+pub(crate) fn close(
     rt: &(impl Abort + AllocGlobal),
     volume: Volume,
     a: Pass,
@@ -33,7 +33,7 @@ pub fn close(
 }
 
 /// The same, of one pass, where the other one was given up before.
-pub fn close_alone(
+pub(crate) fn close_alone(
     rt: &(impl Abort + AllocGlobal),
     volume: Volume,
     pass: Pass,
@@ -60,6 +60,6 @@ fn close_by(
 }
 
 /// Whether the two sectors have pages of these bytes.
-pub fn have(sectors: &[Option<Vec<u8>>], first: u8, second: u8) -> bool {
+pub(crate) fn have(sectors: &[Option<Vec<u8>>], first: u8, second: u8) -> bool {
     has(sectors, 0, &page(first)) && has(sectors, 1, &page(second))
 }

@@ -5,7 +5,7 @@ ghost use Rattle.volume.specs.Volume.{flash_of};
 
 use crate::closing::{close, have};
 use crate::hands::{Call, Hand, first_look};
-use crate::opening::{Desk, last_pass};
+use crate::opening::{TwoHosts, last_pass};
 use flash_table::Pass;
 use geometry::{Geometry, Got, Was};
 use std::test::Fail;
@@ -28,7 +28,7 @@ fn write_hundred(hand: &mut Hand, sector: u32) -> bool
 
 #[test]
 fn two_threads_write_a_hundred_values_each(rt: HostRuntime) -> Result<(), Fail> {
-    let Desk { volume, a, b } = Desk::open(&rt, 101)?;
+    let TwoHosts { volume, a, b } = TwoHosts::open(&rt, 101)?;
     let mut a = Hand {
         volume: &volume,
         pass: a,
@@ -52,7 +52,7 @@ fn two_threads_write_a_hundred_values_each(rt: HostRuntime) -> Result<(), Fail> 
 }
 
 // A device with the passes of three hosts.
-fn open_three(rt: &impl AllocGlobal, blocks: u32) -> Result<(Desk, Pass), Fail>
+fn open_three(rt: &impl AllocGlobal, blocks: u32) -> Result<(TwoHosts, Pass), Fail>
     ensures { IfOk result (λ r. IsReady (flash_of r.0.volume) r.1) }
 {
     let geometry = Geometry::new(1, blocks, 2, 1, 2, 10, 3, 0)?;
@@ -62,7 +62,7 @@ fn open_three(rt: &impl AllocGlobal, blocks: u32) -> Result<(Desk, Pass), Fail>
     let b = last_pass(&volume, &mut passes);
     let a = last_pass(&volume, &mut passes);
     passes.destroy_empty();
-    Ok((Desk { volume, a, b }, c))
+    Ok((TwoHosts { volume, a, b }, c))
 }
 
 // Reads sector 0 a thousand times while another one writes 1 to 100 to it. Each read finds a value that was written, at its first look, and
@@ -88,7 +88,7 @@ fn read_thousand(hand: &mut Hand) -> bool
 
 #[test]
 fn two_threads_read_a_sector_while_a_third_overwrites_it(rt: HostRuntime) -> Result<(), Fail> {
-    let (Desk { volume, a, b }, c) = open_three(&rt, 101)?;
+    let (TwoHosts { volume, a, b }, c) = open_three(&rt, 101)?;
     let mut a = Hand {
         volume: &volume,
         pass: a,

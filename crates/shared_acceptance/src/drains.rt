@@ -9,7 +9,7 @@ ghost use Rattle.volume.specs.Volume.{flash_of};
 use crate::closing::{close, close_alone, have};
 use crate::hands::{Call, EMPTY, Hand, WRITTEN, page};
 use crate::meanwhile::{BroomAt, HostAt};
-use crate::opening::{Desk, open_swept, open_swept_by_two};
+use crate::opening::{TwoHosts, open_swept, open_swept_by_two};
 use crate::sweepers::{Sweep, Sweeper, drained};
 use broom::{Drain, Erase};
 use flash_table::{Gate, Point};
@@ -36,7 +36,7 @@ const WRITES: [Call; 3] = [
 
 #[test]
 fn a_write_before_the_exchange_stays(rt: HostRuntime) -> Result<(), Fail> {
-    let (Desk { volume, a, b }, broom) = open_swept(&rt)?;
+    let (TwoHosts { volume, a, b }, broom) = open_swept(&rt)?;
     let mut broom = Sweeper {
         volume: &volume,
         broom,
@@ -61,7 +61,7 @@ fn a_write_before_the_exchange_stays(rt: HostRuntime) -> Result<(), Fail> {
 
 #[test]
 fn nothing_is_gained_while_each_closed_block_is_all_live(rt: HostRuntime) -> Result<(), Fail> {
-    let (Desk { volume, a, b }, broom) = open_swept(&rt)?;
+    let (TwoHosts { volume, a, b }, broom) = open_swept(&rt)?;
     let mut broom = Sweeper {
         volume: &volume,
         broom,
@@ -82,7 +82,7 @@ fn nothing_is_gained_while_each_closed_block_is_all_live(rt: HostRuntime) -> Res
 
 #[test]
 fn hosts_leave_a_brooms_spare_alone(rt: HostRuntime) -> Result<(), Fail> {
-    let (Desk { volume, a, b }, broom) = open_swept(&rt)?;
+    let (TwoHosts { volume, a, b }, broom) = open_swept(&rt)?;
     let mut a = Hand {
         volume: &volume,
         pass: a,
@@ -106,7 +106,7 @@ fn hosts_leave_a_brooms_spare_alone(rt: HostRuntime) -> Result<(), Fail> {
 
 #[test]
 fn a_block_whose_host_is_gone_is_drained(rt: HostRuntime) -> Result<(), Fail> {
-    let (Desk { volume, a, b }, broom) = open_swept(&rt)?;
+    let (TwoHosts { volume, a, b }, broom) = open_swept(&rt)?;
     let mut broom = Sweeper {
         volume: &volume,
         broom,
@@ -131,7 +131,7 @@ fn a_block_whose_host_is_gone_is_drained(rt: HostRuntime) -> Result<(), Fail> {
 
 #[test]
 fn two_brooms_drain_a_block_each_and_no_sector_changes(rt: HostRuntime) -> Result<(), Fail> {
-    let (Desk { volume, a, b }, first, second) = open_swept_by_two(&rt)?;
+    let (TwoHosts { volume, a, b }, first, second) = open_swept_by_two(&rt)?;
     let mut first = Sweeper {
         volume: &volume,
         broom: first,
@@ -195,7 +195,7 @@ fn hold_one(volume: &Volume, holding: Holding) -> Holding
 fn a_block_that_is_read_is_lost_and_then_drained_under_its_reader(
     rt: HostRuntime,
 ) -> Result<(), Fail> {
-    let (Desk { volume, a, b }, broom) = open_swept(&rt)?;
+    let (TwoHosts { volume, a, b }, broom) = open_swept(&rt)?;
     let mut broom = Sweeper {
         volume: &volume,
         broom,

@@ -1,7 +1,7 @@
 //! A broom that drains and erases blocks beside two hosts.
 use crate::hands::{Call, EMPTY, Hand, Seen, WRITTEN, page};
 use crate::meanwhile::{Both, BroomAt, HostAt};
-use crate::opening::{Desk, open_swept};
+use crate::opening::{TwoHosts, open_swept};
 use crate::sweepers::{Sweep, Sweeper, drained, erased};
 use flash_table::Point;
 use geometry::Got;
@@ -28,7 +28,7 @@ fn sweeps() -> [Sweep; 4] {
 #[test]
 fn a_read_looks_again_where_its_block_was_erased(rt: HostRuntime) -> Result<(), Fail> {
     for rounds in 1..=2u8 {
-        let (Desk { volume, a, b }, broom) = open_swept(&rt)?;
+        let (TwoHosts { volume, a, b }, broom) = open_swept(&rt)?;
         let mut a = Hand {
             volume: &volume,
             pass: a,

@@ -1,7 +1,7 @@
 //! Each point of a gate is reached: what another thread does there is seen in the answer.
 use crate::hands::{Call, EMPTY, Hand, WRITTEN, first_look};
 use crate::meanwhile::{Both, BroomAt, HostAt};
-use crate::opening::{Desk, open_swept, open_swept_by_two};
+use crate::opening::{TwoHosts, open_swept, open_swept_by_two};
 use crate::sweepers::{Sweep, Sweeper, drained, erased};
 use broom::Erase;
 use flash_table::Point;
@@ -9,7 +9,7 @@ use std::test::Fail;
 
 #[test]
 fn a_pinned_block_is_drained_and_not_erased(rt: HostRuntime) -> Result<(), Fail> {
-    let (Desk { volume, a, b }, broom) = open_swept(&rt)?;
+    let (TwoHosts { volume, a, b }, broom) = open_swept(&rt)?;
     let mut a = Hand {
         volume: &volume,
         pass: a,
@@ -43,7 +43,7 @@ fn a_pinned_block_is_drained_and_not_erased(rt: HostRuntime) -> Result<(), Fail>
 
 #[test]
 fn a_block_that_another_broom_erased_is_not_erased_again(rt: HostRuntime) -> Result<(), Fail> {
-    let (Desk { volume, a, b }, first, second) = open_swept_by_two(&rt)?;
+    let (TwoHosts { volume, a, b }, first, second) = open_swept_by_two(&rt)?;
     let mut first = Sweeper {
         volume: &volume,
         broom: first,

@@ -11,7 +11,7 @@ use host::NewFault;
 use volume::Volume;
 
 /// The eight bytes of a page that is told by its first one.
-pub fn page(byte: u8) -> [u8; 8] {
+pub(crate) fn page(byte: u8) -> [u8; 8] {
     [byte, 0, 0, 0, 0, 0, 0, 0]
 }
 
@@ -24,7 +24,7 @@ pub struct Seen {
 }
 
 /// What is read at the first look.
-pub fn first_look(sector: Option<u8>) -> Seen {
+pub(crate) fn first_look(sector: Option<u8>) -> Seen {
     let (got, out) = match sector {
         Some(byte) => (Got::Data, page(byte)),
         None => (Got::Empty, [99; 8]),
@@ -61,7 +61,7 @@ pub struct Hand<'a> {
 
 impl Hand<'_> {
     /// Whether these calls, one after another, answer what they have to.
-    pub fn answers(&mut self, calls: &[Call]) -> bool
+    pub(crate) fn answers(&mut self, calls: &[Call]) -> bool
         ensures { self.new.volume ≡ self.old.volume }
     {
         for call in calls {
@@ -84,14 +84,14 @@ impl Hand<'_> {
     }
 
     /// What the sector was, or nothing where no block is left.
-    pub fn write(&mut self, sector: u32, byte: u8) -> Option<Was>
+    pub(crate) fn write(&mut self, sector: u32, byte: u8) -> Option<Was>
         requires { sector < 2 }
         ensures { self.new.volume ≡ self.old.volume }
     {
         self.volume.write(&mut self.pass, sector, &page(byte)).ok()
     }
 
-    pub fn write_gated<G: Gate>(&mut self, sector: u32, byte: u8, gate: &mut G) -> Option<Was>
+    pub(crate) fn write_gated<G: Gate>(&mut self, sector: u32, byte: u8, gate: &mut G) -> Option<Was>
         requires { sector < 2 }
         ensures { self.new.volume ≡ self.old.volume }
     {
@@ -100,14 +100,14 @@ impl Hand<'_> {
             .ok()
     }
 
-    pub fn write_new(&mut self, sector: u32, byte: u8) -> Result<(), NewFault>
+    pub(crate) fn write_new(&mut self, sector: u32, byte: u8) -> Result<(), NewFault>
         requires { sector < 2 }
         ensures { self.new.volume ≡ self.old.volume }
     {
         self.volume.write_new(&mut self.pass, sector, &page(byte))
     }
 
-    pub fn write_new_gated<G: Gate>(
+    pub(crate) fn write_new_gated<G: Gate>(
         &mut self,
         sector: u32,
         byte: u8,
@@ -120,14 +120,14 @@ impl Hand<'_> {
             .write_new_gated(&mut self.pass, sector, &page(byte), gate)
     }
 
-    pub fn trim(&mut self, sector: u32) -> Was
+    pub(crate) fn trim(&mut self, sector: u32) -> Was
         requires { sector < 2 }
         ensures { self.new.volume ≡ self.old.volume }
     {
         self.volume.trim(&mut self.pass, sector)
     }
 
-    pub fn read(&mut self, sector: u32) -> Seen
+    pub(crate) fn read(&mut self, sector: u32) -> Seen
         requires { sector < 2 }
         ensures { self.new.volume ≡ self.old.volume }
     {
@@ -140,7 +140,7 @@ impl Hand<'_> {
         }
     }
 
-    pub fn read_gated<G: Gate>(&mut self, sector: u32, gate: &mut G) -> Seen
+    pub(crate) fn read_gated<G: Gate>(&mut self, sector: u32, gate: &mut G) -> Seen
         requires { sector < 2 }
         ensures { self.new.volume ≡ self.old.volume }
     {
@@ -155,7 +155,7 @@ impl Hand<'_> {
         }
     }
 
-    pub fn meet(&mut self, other: &mut Hand)
+    pub(crate) fn meet(&mut self, other: &mut Hand)
         requires { other.old.volume.now ≡ self.old.volume.now }
         ensures mine { self.new.volume ≡ self.old.volume }
         ensures other { other.new.volume ≡ other.old.volume }
@@ -164,7 +164,7 @@ impl Hand<'_> {
     }
 
     /// The pass makes no more steps.
-    pub fn leave(self) {
+    pub(crate) fn leave(self) {
         let Hand { volume, pass } = self;
         volume.retire(pass);
     }

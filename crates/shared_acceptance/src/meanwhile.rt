@@ -24,7 +24,7 @@ impl Gate for HostAt<'_> {
 
 impl<'a> HostAt<'a> {
     /// The gate at this point.
-    pub fn new(point: Point, hand: Hand<'a>, calls: &'a [Call], each: usize) -> HostAt<'a> {
+    pub(crate) fn new(point: Point, hand: Hand<'a>, calls: &'a [Call], each: usize) -> HostAt<'a> {
         HostAt {
             point,
             hand,
@@ -35,7 +35,7 @@ impl<'a> HostAt<'a> {
     }
 
     /// The host, and whether all its calls were made and answered what they had to.
-    pub fn end(self) -> (Hand<'a>, bool) {
+    pub(crate) fn end(self) -> (Hand<'a>, bool) {
         let HostAt {
             point: _,
             hand,
@@ -68,7 +68,7 @@ impl Gate for BroomAt<'_> {
 
 impl<'a> BroomAt<'a> {
     /// The gate at this point.
-    pub fn new(point: Point, broom: Sweeper<'a>, sweeps: &'a [Sweep], each: usize) -> BroomAt<'a> {
+    pub(crate) fn new(point: Point, broom: Sweeper<'a>, sweeps: &'a [Sweep], each: usize) -> BroomAt<'a> {
         BroomAt {
             point,
             broom,
@@ -79,7 +79,7 @@ impl<'a> BroomAt<'a> {
     }
 
     /// The broom, and whether all its calls were made and answered what they had to.
-    pub fn end(self) -> (Sweeper<'a>, bool) {
+    pub(crate) fn end(self) -> (Sweeper<'a>, bool) {
         let BroomAt {
             point: _,
             broom,

@@ -1,7 +1,7 @@
 //! Writes of an empty sector.
 use crate::hands::{Call, Hand};
 use crate::meanwhile::HostAt;
-use crate::opening::Desk;
+use crate::opening::TwoHosts;
 use flash_table::Point;
 use geometry::Was;
 use host::NewFault;
@@ -10,7 +10,7 @@ use std::thread::join_mut;
 
 #[test]
 fn a_written_sector_is_not_written_anew_until_it_is_trimmed(rt: HostRuntime) -> Result<(), Fail> {
-    let Desk { volume, a, b } = Desk::open(&rt, 5)?;
+    let TwoHosts { volume, a, b } = TwoHosts::open(&rt, 5)?;
     let mut a = Hand {
         volume: &volume,
         pass: a,
@@ -36,7 +36,7 @@ fn a_written_sector_is_not_written_anew_until_it_is_trimmed(rt: HostRuntime) -> 
 
 #[test]
 fn the_first_exchange_wins_and_not_the_first_call(rt: HostRuntime) -> Result<(), Fail> {
-    let Desk { volume, a, b } = Desk::open(&rt, 5)?;
+    let TwoHosts { volume, a, b } = TwoHosts::open(&rt, 5)?;
     let mut a = Hand {
         volume: &volume,
         pass: a,
@@ -66,7 +66,7 @@ fn winner(first: Result<(), NewFault>, second: Result<(), NewFault>) -> Option<u
 
 #[test]
 fn of_two_threads_just_one_writes_an_empty_sector(rt: HostRuntime) -> Result<(), Fail> {
-    let Desk { volume, a, b } = Desk::open(&rt, 1000)?;
+    let TwoHosts { volume, a, b } = TwoHosts::open(&rt, 1000)?;
     let mut a = Hand {
         volume: &volume,
         pass: a,

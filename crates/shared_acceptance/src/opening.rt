@@ -13,7 +13,7 @@ use std::test::Fail;
 use volume::Volume;
 
 /// A device with the passes of two hosts, A with number 0 and B with number 1.
-pub struct Desk {
+pub struct TwoHosts {
     pub volume: Volume,
     pub a: Pass,
     pub b: Pass,
@@ -23,17 +23,17 @@ pub struct Desk {
     ghost b_ready: { IsReady (flash_of volume) b },
 }
 
-impl Desk {
+impl TwoHosts {
     /// A device of so many blocks and no broom, with nothing written.
-    pub fn open(rt: &impl AllocGlobal, blocks: u32) -> Result<Desk, Fail> {
-        let (desk, brooms) = open_with(rt, blocks, 10, 0)?;
+    pub(crate) fn open(rt: &impl AllocGlobal, blocks: u32) -> Result<TwoHosts, Fail> {
+        let (hosts, brooms) = open_with(rt, blocks, 10, 0)?;
         brooms.destroy_empty();
-        Ok(desk)
+        Ok(hosts)
     }
 }
 
 /// Takes the pass with the highest number.
-pub fn last_pass(volume: &Volume, passes: &mut Vec<Pass>) -> Pass
+pub(crate) fn last_pass(volume: &Volume, passes: &mut Vec<Pass>) -> Pass
     requires some { 0 < length passes.old.items }
     requires ready { All (IsReady (flash_of volume.now)) passes.old.items }
     ensures long { length passes.new.items + 1 ≡ length passes.old.items }
@@ -47,7 +47,7 @@ pub fn last_pass(volume: &Volume, passes: &mut Vec<Pass>) -> Pass
 }
 
 /// Takes the broom with the highest number.
-pub fn last_broom(volume: &Volume, brooms: &mut Vec<Broom>) -> Broom
+pub(crate) fn last_broom(volume: &Volume, brooms: &mut Vec<Broom>) -> Broom
     requires some { 0 < length brooms.old.items }
     requires ready { All (IsBroomReady volume.now) brooms.old.items }
     ensures long { length brooms.new.items + 1 ≡ length brooms.old.items }
@@ -66,7 +66,7 @@ fn open_with(
     blocks: u32,
     endurance: u32,
     brooms: u32,
-) -> Result<(Desk, Vec<Broom>), Fail>
+) -> Result<(TwoHosts, Vec<Broom>), Fail>
     ensures count { IfOk result (λ r. length r.1.items ≡ brooms) }
     ensures ready { IfOk result (λ r. All (IsBroomReady r.0.volume) r.1.items) }
 {
@@ -75,33 +75,33 @@ fn open_with(
     let b = last_pass(&volume, &mut passes);
     let a = last_pass(&volume, &mut passes);
     passes.destroy_empty();
-    Ok((Desk { volume, a, b }, brooms))
+    Ok((TwoHosts { volume, a, b }, brooms))
 }
 
 /// A device of five blocks, with a broom whose spare is block 4.
-pub fn open_swept(rt: &impl AllocGlobal) -> Result<(Desk, Broom), Fail>
+pub(crate) fn open_swept(rt: &impl AllocGlobal) -> Result<(TwoHosts, Broom), Fail>
     ensures { IfOk result (λ r. IsBroomReady r.0.volume r.1) }
 {
     open_swept_often(rt, 10)
 }
 
 /// The same, with blocks that may be erased so often.
-pub fn open_swept_often(rt: &impl AllocGlobal, endurance: u32) -> Result<(Desk, Broom), Fail>
+pub(crate) fn open_swept_often(rt: &impl AllocGlobal, endurance: u32) -> Result<(TwoHosts, Broom), Fail>
     ensures { IfOk result (λ r. IsBroomReady r.0.volume r.1) }
 {
-    let (desk, mut brooms) = open_with(rt, 5, endurance, 1)?;
-    let broom = last_broom(&desk.volume, &mut brooms);
+    let (hosts, mut brooms) = open_with(rt, 5, endurance, 1)?;
+    let broom = last_broom(&hosts.volume, &mut brooms);
     brooms.destroy_empty();
-    Ok((desk, broom))
+    Ok((hosts, broom))
 }
 
 /// A device of seven blocks, with two brooms.
-pub fn open_swept_by_two(rt: &impl AllocGlobal) -> Result<(Desk, Broom, Broom), Fail>
+pub(crate) fn open_swept_by_two(rt: &impl AllocGlobal) -> Result<(TwoHosts, Broom, Broom), Fail>
     ensures { IfOk result (λ r. IsBroomReady r.0.volume r.1 × IsBroomReady r.0.volume r.2) }
 {
-    let (desk, mut brooms) = open_with(rt, 7, 10, 2)?;
-    let second = last_broom(&desk.volume, &mut brooms);
-    let first = last_broom(&desk.volume, &mut brooms);
+    let (hosts, mut brooms) = open_with(rt, 7, 10, 2)?;
+    let second = last_broom(&hosts.volume, &mut brooms);
+    let first = last_broom(&hosts.volume, &mut brooms);
     brooms.destroy_empty();
-    Ok((desk, first, second))
+    Ok((hosts, first, second))
 }

@@ -4,7 +4,7 @@ ghost use Rattle.std.specs.Prelude.{◌≡◌, ◌<◌, Some, length, slice_get}
 ghost use Rattle.trace.specs.declared.commands.Op.TheVariants as op;
 
 use crate::hands::Hand;
-use crate::opening::Desk;
+use crate::opening::TwoHosts;
 use flash_table::{Gate, Point};
 use geometry::Geometry;
 use lines::{Answer, Kind};
@@ -69,7 +69,7 @@ fn a_player_stops_at_its_gate_for_each_answer(rt: HostRuntime) -> Result<(), Fai
     assert!(rt; commands.len() == 1);
     let line = commands.command(0);
     assert!(rt; is_trim(&line));
-    let Desk { volume, a, b } = Desk::open(&rt, 5)?;
+    let TwoHosts { volume, a, b } = TwoHosts::open(&rt, 5)?;
     let a = Hand {
         volume: &volume,
         pass: a,

@@ -24,7 +24,7 @@ pub struct Hand<'a> {
 }
 
 /// The next hand of these passes.
-pub fn next_hand<'a>(queue: &'a EraseQueue, passes: &mut Vec<QueuePass>) -> Hand<'a>
+pub(crate) fn next_hand<'a>(queue: &'a EraseQueue, passes: &mut Vec<QueuePass>) -> Hand<'a>
     requires some { 0 < length passes.old.items }
     requires passes { All (IsNewPass queue.now) passes.old.items }
     ensures long { length passes.new.items + 1 ≡ length passes.old.items }
@@ -38,7 +38,7 @@ pub fn next_hand<'a>(queue: &'a EraseQueue, passes: &mut Vec<QueuePass>) -> Hand
 
 impl Hand<'_> {
     /// Whether these calls, one after another, answer what they have to.
-    pub fn answers(&mut self, rt: &impl Wait, calls: &[QueueCall]) -> bool {
+    pub(crate) fn answers(&mut self, rt: &impl Wait, calls: &[QueueCall]) -> bool {
         for call in calls {
             if !self.answers_one(rt, *call) {
                 return false;
@@ -60,7 +60,7 @@ impl Hand<'_> {
     }
 
     /// Puts a number, once there is room for it.
-    pub fn put(&mut self, rt: &impl Wait, block: usize) {
+    pub(crate) fn put(&mut self, rt: &impl Wait, block: usize) {
         for _ in rt.forever() {
             if block >= self.queue.limit() || self.queue.put(rt, &mut self.pass, block) {
                 return;
@@ -70,7 +70,7 @@ impl Hand<'_> {
     }
 
     /// Waits for a number, and takes it.
-    pub fn take(&mut self, rt: &impl Wait) -> usize {
+    pub(crate) fn take(&mut self, rt: &impl Wait) -> usize {
         for _ in rt.forever() {
             if let Some(block) = self.queue.take(rt, &mut self.pass) {
                 return block;

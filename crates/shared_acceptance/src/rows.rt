@@ -2,7 +2,7 @@
 use crate::closing::{close, have};
 use crate::hands::{Call, EMPTY, Hand, WRITTEN, page};
 use crate::meanwhile::HostAt;
-use crate::opening::{Desk, open_swept};
+use crate::opening::{TwoHosts, open_swept};
 use flash_table::Point;
 use geometry::Was;
 use host::Holding;
@@ -10,7 +10,7 @@ use std::test::Fail;
 
 #[test]
 fn what_one_host_writes_another_reads_without_a_meeting(rt: HostRuntime) -> Result<(), Fail> {
-    let (Desk { volume, a, b }, broom) = open_swept(&rt)?;
+    let (TwoHosts { volume, a, b }, broom) = open_swept(&rt)?;
     let mut a = Hand {
         volume: &volume,
         pass: a,
@@ -29,7 +29,7 @@ fn what_one_host_writes_another_reads_without_a_meeting(rt: HostRuntime) -> Resu
 
 #[test]
 fn ten_writes_fill_five_blocks_and_nothing_is_lost(rt: HostRuntime) -> Result<(), Fail> {
-    let Desk { volume, a, b } = Desk::open(&rt, 5)?;
+    let TwoHosts { volume, a, b } = TwoHosts::open(&rt, 5)?;
     let mut a = Hand {
         volume: &volume,
         pass: a,
@@ -53,7 +53,7 @@ fn ten_writes_fill_five_blocks_and_nothing_is_lost(rt: HostRuntime) -> Result<()
 
 #[test]
 fn hosts_that_met_close_with_what_both_wrote(rt: HostRuntime) -> Result<(), Fail> {
-    let Desk { volume, a, b } = Desk::open(&rt, 5)?;
+    let TwoHosts { volume, a, b } = TwoHosts::open(&rt, 5)?;
     let mut a = Hand {
         volume: &volume,
         pass: a,
@@ -74,7 +74,7 @@ fn hosts_that_met_close_with_what_both_wrote(rt: HostRuntime) -> Result<(), Fail
 
 #[test]
 fn a_trim_before_the_swap_is_the_earlier_call(rt: HostRuntime) -> Result<(), Fail> {
-    let Desk { volume, a, b } = Desk::open(&rt, 5)?;
+    let TwoHosts { volume, a, b } = TwoHosts::open(&rt, 5)?;
     let mut a = Hand {
         volume: &volume,
         pass: a,
@@ -96,7 +96,7 @@ fn a_trim_before_the_swap_is_the_earlier_call(rt: HostRuntime) -> Result<(), Fai
 
 #[test]
 fn a_hold_keeps_its_value_until_it_is_released(rt: HostRuntime) -> Result<(), Fail> {
-    let Desk { volume, a, b } = Desk::open(&rt, 5)?;
+    let TwoHosts { volume, a, b } = TwoHosts::open(&rt, 5)?;
     let mut a = Hand {
         volume: &volume,
         pass: a,
@@ -130,7 +130,7 @@ fn a_hold_keeps_its_value_until_it_is_released(rt: HostRuntime) -> Result<(), Fa
 
 #[test]
 fn a_host_that_is_given_up_keeps_no_block(rt: HostRuntime) -> Result<(), Fail> {
-    let Desk { volume, a, b } = Desk::open(&rt, 5)?;
+    let TwoHosts { volume, a, b } = TwoHosts::open(&rt, 5)?;
     let mut a = Hand {
         volume: &volume,
         pass: a,

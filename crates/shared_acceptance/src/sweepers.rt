@@ -17,12 +17,12 @@ pub enum Sweep {
 }
 
 /// A drain of this block that moved so many pages.
-pub fn drained(block: u32, copied: u32) -> Drain {
+pub(crate) fn drained(block: u32, copied: u32) -> Drain {
     Drain::Drained { block, copied }
 }
 
 /// An erase of this block, which is free then.
-pub fn erased(block: u32) -> Erase {
+pub(crate) fn erased(block: u32) -> Erase {
     Erase::Erased { block, kept: false }
 }
 
@@ -35,7 +35,7 @@ pub struct Sweeper<'a> {
 
 impl Sweeper<'_> {
     /// Whether these calls, one after another, answer what they have to.
-    pub fn answers(&mut self, sweeps: &[Sweep]) -> bool
+    pub(crate) fn answers(&mut self, sweeps: &[Sweep]) -> bool
         ensures { self.new.volume ≡ self.old.volume }
     {
         for sweep in sweeps {
@@ -52,7 +52,7 @@ impl Sweeper<'_> {
     }
 
     /// The same, with turns over the queue.
-    pub fn takes_turns(&mut self, rt: &impl Wait, sweeps: &[Sweep]) -> bool
+    pub(crate) fn takes_turns(&mut self, rt: &impl Wait, sweeps: &[Sweep]) -> bool
         ensures { self.new.volume ≡ self.old.volume }
     {
         for sweep in sweeps {
@@ -68,21 +68,21 @@ impl Sweeper<'_> {
         true
     }
 
-    pub fn drain<G: Gate>(&mut self, gate: &mut G) -> Drain
+    pub(crate) fn drain<G: Gate>(&mut self, gate: &mut G) -> Drain
         ensures { self.new.volume ≡ self.old.volume }
     {
         self.volume.drain(&mut self.broom, gate)
     }
 
     /// What comes of a block of the device; any other number is that of no drained block.
-    pub fn erase(&mut self, block: u32) -> Erase
+    pub(crate) fn erase(&mut self, block: u32) -> Erase
         ensures { self.new.volume ≡ self.old.volume }
     {
         self.erase_gated(block, &mut NoGate)
     }
 
     /// The same, with a gate.
-    pub fn erase_gated<G: Gate>(&mut self, block: u32, gate: &mut G) -> Erase
+    pub(crate) fn erase_gated<G: Gate>(&mut self, block: u32, gate: &mut G) -> Erase
         ensures { self.new.volume ≡ self.old.volume }
     {
         if block >= self.volume.geometry().blocks() {
@@ -104,7 +104,7 @@ impl Sweeper<'_> {
     }
 
     /// The broom makes no more steps.
-    pub fn leave(self) {
+    pub(crate) fn leave(self) {
         let Sweeper { volume, broom } = self;
         volume.retire_broom(broom);
     }

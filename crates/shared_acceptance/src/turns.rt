@@ -7,7 +7,7 @@ ghost use Rattle.shared_acceptance.specs.Kept.{held_value, Holds-prop};
 ghost use Rattle.volume.specs.Volume.{flash_of};
 
 use crate::hands::{Call, EMPTY, Hand, WRITTEN, page};
-use crate::opening::{Desk, open_swept_by_two, open_swept_often};
+use crate::opening::{TwoHosts, open_swept_by_two, open_swept_often};
 use crate::sweepers::{Sweep, Sweeper, drained, erased};
 use broom::{Drain, Erase};
 use geometry::Was;
@@ -94,7 +94,7 @@ fn a_held_block_is_put_back_until_it_is_released(rt: HostRuntime) -> Result<(), 
         (10, erased(0), (0, 1)),
         (1, Erase::Retired { block: 0 }, (2, 0)),
     ] {
-        let (Desk { volume, a, b }, broom) = open_swept_often(&rt, endurance)?;
+        let (TwoHosts { volume, a, b }, broom) = open_swept_often(&rt, endurance)?;
         let mut a = Hand {
             volume: &volume,
             pass: a,
@@ -131,7 +131,7 @@ fn a_held_block_is_put_back_until_it_is_released(rt: HostRuntime) -> Result<(), 
 fn a_hold_that_is_not_released_keeps_its_block_while_others_wear_out(
     rt: HostRuntime,
 ) -> Result<(), Fail> {
-    let (Desk { volume, a, b }, broom) = open_swept_often(&rt, 2)?;
+    let (TwoHosts { volume, a, b }, broom) = open_swept_often(&rt, 2)?;
     let mut a = Hand {
         volume: &volume,
         pass: a,
@@ -181,7 +181,7 @@ fn a_hold_that_is_not_released_keeps_its_block_while_others_wear_out(
 
 #[test]
 fn a_block_for_which_the_queue_has_no_room_is_set_aside(rt: HostRuntime) -> Result<(), Fail> {
-    let (Desk { volume, a, b }, first, second) = open_swept_by_two(&rt)?;
+    let (TwoHosts { volume, a, b }, first, second) = open_swept_by_two(&rt)?;
     let mut a = Hand {
         volume: &volume,
         pass: a,

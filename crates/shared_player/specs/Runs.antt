@@ -91,3 +91,7 @@ pub record HasEnded (volume : Volume) (patience : ℕ) (trace : List Command) (p
   pub told : AreAtOneHistory (sectors_of (geometry_of (flash_of volume))) (length posts) trace (rows_of posts)
   pub each : (t : ℕ) → t < length posts → HasRun t patience (lines_for t trace) (rows_of posts t) (views_of volume (passes_of posts) t)
   pub text : IsDisjointTrace trace → IsTextOfSome (sectors_of (geometry_of (flash_of volume))) trace (lines_text 0 (merge trace (rows_of posts)))
+
+-- a run of whatever trace these posts were to begin with has ended with those
+abbrev pub EndsRun : Volume → ℕ → List ℕ → List Post → List Post → Type 0
+EndsRun volume patience ends before after = (trace : List Command) → HasBegun volume trace ends before → HasEnded volume patience trace after

@@ -1,8 +1,7 @@
 //! A run over all rounds of a trace.
-ghost use Rattle.std.specs.Prelude.{◌≡◌, ◌+◌, All, IfOk, List, length, map, true};
-ghost use Rattle.trace.specs.declared.commands.Command.{Command};
+ghost use Rattle.std.specs.Prelude.{◌≡◌, ◌+◌, All, IfOk, length, map, true};
 ghost use Rattle.shared_player.specs.Meetings.{AreSeated, PassesMet, passes_of, rest_of};
-ghost use Rattle.shared_player.specs.Runs.{IsTurned, AreTurned, IsIdle, RoundPlayed, AreManned, HasBegun, HasEnded};
+ghost use Rattle.shared_player.specs.Runs.{IsTurned, AreTurned, IsIdle, RoundPlayed, AreManned, EndsRun};
 ghost use Rattle.shared_player.specs.Turns.{HavePlayed};
 
 use crate::crew::{Back, play_posts};
@@ -140,7 +139,7 @@ pub fn play_rounds<R: Threads + Wait + Sync, S: Starts + Copy + Drop, G: Gate + 
 ) -> Result<Back, NoShift>
     requires gates { length crew.posts.items + length crew.sweepers.items ≡ length gates.old }
     requires manned { AreManned volume.now crew.posts.items }
-    ensures run { IfOk result (λ back. (trace : List Command) → HasBegun volume.now trace ends.now crew.posts.items → HasEnded volume.now patience trace back.posts.items) }
+    ensures run { IfOk result (λ back. EndsRun volume.now patience ends.now crew.posts.items back.posts.items) }
     ensures manned { IfOk result (λ back. AreManned volume.now back.posts.items) }
 {
     let mut crew = crew;

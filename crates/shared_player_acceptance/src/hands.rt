@@ -12,12 +12,12 @@ use std::thread::Threads;
 use trace::Watched;
 
 /// A device of so many blocks of two pages of one word, with two sectors.
-pub fn small(blocks: u32, hosts: u32, brooms: u32) -> Result<Geometry, Fail> {
+pub(crate) fn small(blocks: u32, hosts: u32, brooms: u32) -> Result<Geometry, Fail> {
     Ok(Geometry::new(1, blocks, 2, 1, 2, 1000, hosts, brooms)?)
 }
 
 /// Plays a trace, with these gates.
-pub fn play<
+pub(crate) fn play<
     R: Threads + Wait + Sync + Abort + AllocGlobal,
     S: Starts + Copy + Drop,
     G: Gate + Send,
@@ -42,7 +42,7 @@ pub fn play<
 }
 
 /// Plays a trace with gates that do nothing.
-pub fn play_freely<R: Threads + Wait + Sync + Abort + AllocGlobal>(
+pub(crate) fn play_freely<R: Threads + Wait + Sync + Abort + AllocGlobal>(
     rt: &R,
     geometry: &Geometry,
     trace: &[u8],
@@ -71,7 +71,7 @@ fn tell(text: &mut String, answer: &Answer) -> Result<(), Fail> {
 }
 
 /// What the workers were answered: a word for each line, and a bar behind each worker's.
-pub fn told(alloc: Global, rows: &[Vec<Answer>]) -> Result<String, Fail> {
+pub(crate) fn told(alloc: Global, rows: &[Vec<Answer>]) -> Result<String, Fail> {
     let mut text = String::new(alloc);
     for row in rows {
         for answer in row {

@@ -4,8 +4,9 @@ use Rattle.geometry.specs.Geometry.{hosts_of}
 use Rattle.geometry.specs.declared.geometry.Geometry.{Geometry}
 use Rattle.answers.specs.Delivery.{AppendsText}
 use Rattle.answers.specs.Outcome.{ExplainsRun}
-use Rattle.answers.specs.Streams.{Stream}
+use Rattle.answers.specs.Streams.{Passage, Stream, Tells, TellsPart, stream_of}
 use Rattle.answers.specs.declared.fault.RunFault.{RunFault}
+use Rattle.answers.specs.declared.fault.RunFault.TheVariants as run
 use Rattle.one_player.specs.Playing.{IsTextOf}
 use Rattle.one_player.specs.Wear.{IsWearOf}
 use Rattle.player.specs.declared.command_line.Options.{Options}
@@ -13,19 +14,23 @@ use Rattle.player.specs.Session.{IsTextBy, IsTextFor, TellsWear}
 use Rattle.player.proofs.sessions.attempt.Goals as goal
 
 -- where no file is named, nothing is told
-none_told : (geo : Geometry) (given : Options) (input : Option (List ℕ)) (wear : Stream) → given.wear ≡ None → TellsWear geo given input wear wear
+none_told : (geo : Geometry) (given : Options) (input wear : Stream) → given.wear ≡ None → TellsWear geo given input (record { before = wear; after = wear })
 none_told geo given input wear is = rw is refl
 
 -- where a file is named, the wear is told
-some_told : (geo : Geometry) (given : Options) (input : Option (List ℕ)) (old new : Stream) (name : Bor (List ℕ)) → given.wear ≡ Some name → new.failures ≡ old.failures → IfSome input (λ bytes. AppendsText (IsWearOf geo) bytes old.bytes new.bytes) → TellsWear geo given input old new
-some_told geo given input old new name is unfailed text = rw is (unfailed, text)
+some_told : (geo : Geometry) (given : Options) (input : Stream) (wear : Passage) (name : Bor (List ℕ)) → given.wear ≡ Some name → wear.after.failures ≡ wear.before.failures → Tells (IsWearOf geo) input wear → TellsWear geo given input wear
+some_told geo given input wear name is unfailed text = rw is (unfailed, text)
 
 -- without hosts the text is that of one thread
 one_text : (geo : Geometry) (input old new : Option (List ℕ)) → hosts_of geo ≡ 0 → IfSome input (λ bytes. AppendsText (IsTextOf geo) bytes old new) → IfSome input (λ bytes. AppendsText (IsTextFor geo) bytes old new)
 one_text geo input old new none text = subst (λ h. IfSome input (λ bytes. AppendsText (IsTextBy h geo) bytes old new)) (sym none) text
 
-one_why : (geo : Geometry) (fault : RunFault) (a b c d : Stream) → hosts_of geo ≡ 0 → ExplainsRun (IsTextOf geo) fault geo a b c d → ExplainsRun (IsTextFor geo) fault geo a b c d
-one_why geo fault a b c d none why = subst (λ h. ExplainsRun (IsTextBy h geo) fault geo a b c d) (sym none) why
+one_why : (geo : Geometry) (fault : RunFault) (input output : Passage) → hosts_of geo ≡ 0 → ExplainsRun IsTextOf geo input output fault → ExplainsRun IsTextFor geo input output fault
+one_why geo (run.Trace found) input output none why = why
+one_why geo run.Memory input output none why = why
+one_why geo run.Threads input output none why = why
+one_why geo run.Output input output none (reads, failed, part) =
+    (reads, failed, subst (λ h. TellsPart (IsTextBy h geo) input.before output) (sym none) part)
 
 ok_of : {T E : Type 0} (P : Type 0) (r : Result T E) (x : T) → r ≡ Ok x → OnOk r P → P
 ok_of P r x is holds = subst (λ s. OnOk s P) is holds
@@ -43,7 +48,7 @@ returns-in-Ok-play g c = inl (record {
     input_unfailed = c.in-Ok-play.ensures.reader_unfailed;
     output_unfailed = c.in-Ok-play.ensures.writer_unfailed;
   };
-  wear = none_told c.in-Ok-device.geometry c.in-Ok.given _ _ c.in-None.is;
+  told = none_told c.in-Ok-device.geometry c.in-Ok.given (stream_of g.R.Read.remaining c.args.reader.now) _ c.in-None.is;
 })
 
 pub returns-in-Ok-Ok : goal.returns-in-Ok-Ok
@@ -59,7 +64,7 @@ returns-in-Ok-Ok g c =
         input_unfailed = told.ensures.reader_unfailed;
         output_unfailed = told.ensures.writer_unfailed;
       };
-      wear = some_told c.in-Ok-device.geometry c.in-Ok.given _ _ _ c.in-Some.field-0 c.in-Some.is
+      told = some_told c.in-Ok-device.geometry c.in-Ok.given (stream_of g.R.Read.remaining c.args.reader.now) _ c.in-Some.field-0 c.in-Some.is
           (ok_of _ told.field-0 told.field-0-0 told.field-0-is told.ensures.wear_unfailed)
           (ok_of _ told.field-0 told.field-0-0 told.field-0-is told.ensures.wear);
     })
@@ -89,7 +94,7 @@ returns-in-Err-run_with_wear g c =
       record {
         geo = geo;
         device = record { accepted = c.in-Ok.ensures.outcome; given = c.in-Ok.given; told = c.in-Ok.ensures.numbers; numbers = c.in-Ok-device.ensures.numbers };
-        why = one_why geo _ _ _ _ _ none c.in-Err-run_with_wear.ensures.why;
+        why = one_why geo _ _ _ none c.in-Err-run_with_wear.ensures.why;
       },
       c.in-Err-run_with_wear.ensures.no_wear,
     )
