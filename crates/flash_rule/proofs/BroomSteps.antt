@@ -91,6 +91,7 @@ module _ (z : Numbers) (g : World) (vs : List View) (id : ℕ) (v : View) (n : N
         holding = record {
           name = holds.name;
           calls = λ t is. ((holds.calls t is).0, own_calls t is);
+          lists = holds.lists;
           owned = owned;
           work = holds.work;
           source = lawful;

@@ -17,13 +17,13 @@ use Rattle.flash_rule.specs.World.{World, put, put_name, is_owned}
 use Rattle.flash_rule.specs.Rule.{LawfulOwned, LawfulView, IsDealt, IsFilling}
 use Rattle.flash_rule.specs.Onward.{Onward}
 use Rattle.flash_rule.specs.Seats.{Ruled, spare, spares, next_spare, new_broom, dealt_broom}
-use Rattle.flash_rule.proofs.Points.{put_here, put_else, eq_self}
+use Rattle.flash_rule.proofs.Points.{put_here, put_else, eq_self, name_here, name_else}
 use Rattle.flash_rule.proofs.Owning.{some_same, none_some, nothing, with_here, with_else, without_here, without_else, owned_else, one_with_open, one_without}
 use Rattle.flash_rule.proofs.Ceding.{ceded_split}
-use Rattle.flash_rule.proofs.Frames.{counted, knowledge_kept}
+use Rattle.flash_rule.proofs.Frames.{counted, knowledge_kept, lists_stay}
 use Rattle.flash_rule.proofs.Assembly.{owner_kept}
 use Rattle.flash_rule.proofs.Still.{pin_stays}
-use Rattle.flash_rule.proofs.Splitting.{Owner, split_with, current_kept, name_here, name_else, player_same}
+use Rattle.flash_rule.proofs.Splitting.{Owner, split_with, current_kept, player_same}
 
 -- the dealer's spares, one by one
 pub first_spare : (n from : ℕ) → owned_at from (spares (suc n) from) ≡ Some (spare from)
@@ -56,7 +56,7 @@ module _ (z : Numbers) (id : ℕ) (v : View) where
       let b : ℕ = next_spare v in
       let n : Name = Broom v.brooms in
       let new : ℕ = length vs in
-      let g' : World = record g { owner = put g.owner b new; brooms = g.brooms + 1; seat = put_name g.seat n new; badge = put_name g.badge n new } in
+      let g' : World = record g { owner = put g.owner b new; brooms = g.brooms + 1; seat = put_name g.seat n new; programs = put_name g.programs n []; erases = put_name g.erases n []; badge = put_name g.badge n new } in
       let mine = holds.owned b (spare b) has in
       let not_yet : (m : Name) → IsDealt g m → ¬ (m ≡ n) = fresh_broom g v.brooms (omega arith) in
       let still_dealt : (m : Name) → IsDealt g m → IsDealt g' m = dealt_more g g' refl (omega arith) in
@@ -70,6 +70,7 @@ module _ (z : Numbers) (id : ℕ) (v : View) where
         named = λ s m is. inl is;
         programmer = λ m _. refl;
         eraser = λ c k _. refl;
+        lists = λ m dealt. lists_stay g g' id m (name_else g.programs n [] m (not_yet m dealt)) (name_else g.erases n [] m (not_yet m dealt));
         dealer = λ apart. absurd (apart d.0);
         badge = λ m dealt _ _. name_else g.badge n new m (not_yet m dealt);
       } in
@@ -91,6 +92,7 @@ module _ (z : Numbers) (id : ℕ) (v : View) where
         holding = record {
           name = λ m is. absurd (not_player m is);
           calls = λ t is. absurd (not_player (Pass t) is);
+          lists = λ m is. absurd (not_player m is);
           owned = λ c o is.
               let unlike = elsewhere c o is in
               owned_else z g g' id v.work v.work v.cleared v.wiped c o refl (put_else g.owner b new c unlike) (λ p i. refl) (λ s m named _. inl named) (λ p _ f. f)
@@ -139,6 +141,10 @@ module _ (z : Numbers) (id : ℕ) (v : View) where
               let P : Name → Type 0 = λ m. (g'.seat m ≡ new) × IsDealt g' m in
               let here : P n = (name_here g.seat n new, omega arith) in subst P same here;
           calls = λ t is. absurd (cc);
+          lists = λ m is.
+              let same : n ≡ m = player_same n m is in
+              let P : Name → Type 0 = λ m. (g'.programs m ≡ []) × (g'.erases m ≡ []) in
+              let here : P n = (name_here g.programs n [], name_here g.erases n []) in subst P same here;
           owned = λ c o is. dite (ℕ_discrete c b)
               (λ same.
               let entry : spare b ≡ o = some_same (spare b) o (sym (with_here (spare b) []) ∙ (ap (λ j. owned_at j (spares 1 b)) (sym same) ∙ is)) in

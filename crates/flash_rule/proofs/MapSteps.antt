@@ -19,7 +19,7 @@ use Rattle.flash_rule.specs.Rule.{LawfulSector, LawfulView, Lawful}
 use Rattle.flash_rule.specs.Onward.{Onward}
 use Rattle.flash_rule.specs.Plays.{Placed}
 use Rattle.flash_rule.proofs.Points.{put_else, put_all}
-use Rattle.flash_rule.proofs.Frames.{counted, knowledge_kept}
+use Rattle.flash_rule.proofs.Frames.{counted, knowledge_kept, lists_stay}
 use Rattle.flash_rule.proofs.Assembly.{assembled, block_kept, sector_kept}
 use Rattle.flash_rule.proofs.Ceding.{ceded_still}
 use Rattle.flash_rule.proofs.Still.{pin_stays, pass_numbers}
@@ -86,6 +86,7 @@ module _ (z : Numbers) (g : World) (vs : List View) (id : ℕ) (v : View) (t s :
         named = λ u n is. put_all g.map s m (λ j x. x ≡ Some n → (g.map j ≡ Some n) ⊎ (g.owner n.block ≡ id)) (mine n) (λ j _ is. inl is) u is;
         programmer = λ n _. refl;
         eraser = λ b n _. refl;
+        lists = λ n _. lists_stay g g' id n refl refl;
         dealer = λ _. (refl, refl);
         badge = λ n _ _ _. refl;
       } in
@@ -98,6 +99,7 @@ module _ (z : Numbers) (g : World) (vs : List View) (id : ℕ) (v : View) (t s :
         holding = record {
           name = holds.name;
           calls = λ u is. (calls u is, calls u is);
+          lists = holds.lists;
           owned = λ b o owns.
               let k = holds.owned b o owns in
               record {

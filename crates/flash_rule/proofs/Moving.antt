@@ -23,7 +23,7 @@ use Rattle.flash_rule.specs.Onward.{Onward}
 use Rattle.flash_rule.specs.BroomPlays.{CanMove, Moved}
 use Rattle.flash_rule.proofs.Points.{put_here, put_else, put_all}
 use Rattle.flash_rule.proofs.Owning.{some_same, none_some}
-use Rattle.flash_rule.proofs.Frames.{counted, knowledge_kept}
+use Rattle.flash_rule.proofs.Frames.{counted, knowledge_kept, lists_stay}
 use Rattle.flash_rule.proofs.Assembly.{assembled, block_kept, sector_kept}
 use Rattle.flash_rule.proofs.Ceding.{ceded_still}
 use Rattle.flash_rule.proofs.Still.{pin_stays, met_now}
@@ -83,6 +83,7 @@ module _ (z : Numbers) (g : World) (vs : List View) (id : ℕ) (v : View) (n : N
               (λ is. inr (ap (λ (y : MapWord). g.owner y.block) (sym (some_same copy m is)) ∙ the_copy.0)) (λ j _ is. inl is) s is;
           programmer = λ m _. refl;
           eraser = λ b k _. refl;
+          lists = λ m _. lists_stay g exchanged_world id m refl refl;
           dealer = λ _. (refl, refl);
           badge = λ m _ _ _. refl;
         }
@@ -138,6 +139,7 @@ module _ (z : Numbers) (g : World) (vs : List View) (id : ℕ) (v : View) (n : N
           holding = record {
             name = holds.name;
             calls = λ t is. let c = (holds.calls t is).0 in (c, c);
+            lists = holds.lists;
             owned = λ b o own. clears z exchanged_world id v.work v.cleared v.wiped v.owns x.page.block source.entry kind.reclaims source.own source.victim unnamed b o own (still_owned b o (holds.owned b o own));
             work = λ w is.
                 let k = holds.work w is in

@@ -7,6 +7,7 @@ use lib.ListN.{get_elem?}
 use Rattle.atomic_table.specs.Table.{Splits, Joins}
 use Rattle.atomic_table.proofs.Lists.{at_set, set_else}
 use Rattle.geometry.proofs.Histories.{Begins-refl}
+use Rattle.geometry.specs.History.{Begins}
 use Rattle.geometry.specs.Limits.{Numbers}
 use Rattle.flash_rule.specs.declared.facts.Name.{Name}
 use Rattle.flash_rule.specs.declared.facts.Name.TheVariants.{Pass, Broom}
@@ -23,13 +24,13 @@ use Rattle.flash_rule.specs.World.{World, put_name}
 use Rattle.flash_rule.specs.Rule.{LawfulBlock, LawfulCopy, LawfulKnowledge, LawfulView, Lawful, IsDealt}
 use Rattle.flash_rule.specs.Onward.{Onward}
 use Rattle.flash_rule.specs.Seats.{Ruled, newcomer, name_of, carried, lender, lent_note, host_of, giver, given_note, home, gone}
-use Rattle.flash_rule.proofs.Points.{total_set}
+use Rattle.flash_rule.proofs.Points.{total_set, name_here, name_else}
 use Rattle.flash_rule.proofs.Owning.{some_same, none_some}
 use Rattle.flash_rule.proofs.Ceding.{ceded_split, ceded_gone}
-use Rattle.flash_rule.proofs.Frames.{counted, others, knowledge_kept, copy_kept}
+use Rattle.flash_rule.proofs.Frames.{begins_same, lists_stay, counted, others, knowledge_kept, copy_kept}
 use Rattle.flash_rule.proofs.Assembly.{owner_kept}
 use Rattle.flash_rule.proofs.Still.{pin_stays}
-use Rattle.flash_rule.proofs.Splitting.{split, current_kept, name_here, name_else, player_same}
+use Rattle.flash_rule.proofs.Splitting.{split, current_kept, player_same}
 
 -- the table with one badge moved
 abbrev pub badged : World → Name → ℕ → World
@@ -48,6 +49,7 @@ badge_moves z g id other n seat was =
       named = λ s m is. inl is;
       programmer = λ m _. refl;
       eraser = λ b k _. refl;
+      lists = λ m _. lists_stay g (badged g n seat) id m refl refl;
       dealer = λ _. (refl, refl);
       badge = λ m _ apart apart'. name_else g.badge n seat m (λ same. ⊎_elim (λ e. apart (ap g.badge same ∙ e)) (λ e. apart' (ap g.badge same ∙ e)) was);
     }
@@ -64,10 +66,14 @@ name_is : (r : Role) (n : Name) → r ≡ Player n → name_of r ≡ n
 name_is r n is = ap name_of is
 
 -- a new note: the badge of n, and copies of a player's lists
-note_lawful : (z : Numbers) (g : World) (seat : ℕ) (v : View) (owner n : Name) → v.numbers ≡ z → v.role ≡ Player owner → LawfulKnowledge z g v → g.badge n ≡ seat → IsDealt g n
+note_lawful : (z : Numbers) (g : World) (seat : ℕ) (v : View) (owner n : Name) → v.numbers ≡ z → v.role ≡ Player owner → IsDealt g owner → (g.programs owner ≡ v.programs) × (g.erases owner ≡ v.erases)
+    → LawfulKnowledge z g v → g.badge n ≡ seat → IsDealt g n
     → LawfulView z g seat (record (newcomer v.numbers Note) { guest = Some n; copy = Some (carried v) })
-note_lawful z g seat v owner n numbers role knows here dealt =
+note_lawful z g seat v owner n numbers role known lists knows here dealt =
     let of_is : owner ≡ name_of v.role = sym (name_is v.role owner role) in
+    let P : Name → Type 0 = λ k. IsDealt g k × Begins v.programs (g.programs k) × Begins v.erases (g.erases k) in
+    let of_owner : P owner = (known, begins_same v.programs (g.programs owner) lists.0, begins_same v.erases (g.erases owner) lists.1) in
+    let copied : P (name_of v.role) = subst P of_is of_owner in
     record {
       kind = record {
         numbers = λ _. numbers;
@@ -87,15 +93,19 @@ note_lawful z g seat v owner n numbers role knows here dealt =
         copy = λ c is.
             subst (λ (c : Carried). LawfulCopy z g Note c) (some_same (carried v) c is)
             (record {
+              dealt = copied.0;
+              other = λ e. absurd (cc);
               seen = knows.seen;
+              programmed = copied.1;
+              erased = copied.2;
               programs = knows.programs (name_of v.role) (role ∙ ap Player of_is);
               erases = knows.erases (name_of v.role) (role ∙ ap Player of_is);
-              other = λ e. absurd (cc);
             });
       };
       holding = record {
         name = λ m is. absurd (cc);
         calls = λ t is. absurd (cc);
+        lists = λ m is. absurd (cc);
         owned = λ b o is. absurd (none_some o is);
         work = λ w is. absurd (none_some w is);
         source = λ x is. absurd (none_some x is);
@@ -104,6 +114,10 @@ note_lawful z g seat v owner n numbers role knows here dealt =
         dealer = λ is. absurd (cc);
       };
     }
+
+-- copies are lawful for any seat that isn't their player's
+another : (z : Numbers) (g : World) (note taker : Role) (c : Carried) → LawfulCopy z g note c → ¬ (taker ≡ Player c.of) → LawfulCopy z g taker c
+another z g note taker c h other = record { dealt = h.dealt; other = other; seen = h.seen; programmed = h.programmed; erased = h.erased; programs = h.programs; erases = h.erases }
 
 player_live : (r : Role) (n : Name) → r ≡ Player n → is_live_role r ≡ true
 player_live r n is = ap is_live_role is
@@ -129,6 +143,7 @@ module _ (z : Numbers) (id : ℕ) (v : View) (n : Name) (role : v.role ≡ Playe
         holding = record {
           name = λ m is. let k = holds.name m is in (k.0, as_dealt g n new m k.1);
           calls = holds.calls;
+          lists = holds.lists;
           owned = λ b o is. let k = holds.owned b o is in record { block = k.block; low = k.low; owner = k.owner; owned = k.owned; phase = k.phase; generation = k.generation; written = k.written; rest = k.rest; dead = k.dead; clean = k.clean };
           work = λ w is. let k = holds.work w is in record { entry = k.entry; own = k.own; opened = k.opened; generation = k.generation; page = k.page; counted = k.counted; short = k.short; full = k.full; stands = k.stands };
           source = λ x is. let k = holds.source x is in record { entry = k.entry; own = k.own; victim = k.victim; generation = k.generation; page = k.page; written = k.written; stamp = k.stamp; value = k.value };
@@ -139,7 +154,7 @@ module _ (z : Numbers) (id : ℕ) (v : View) (n : Name) (role : v.role ≡ Playe
       } in
       let added : LawfulView z g' new (lent_note v) =
       subst (λ (m : Name). LawfulView z g' new (record (newcomer v.numbers Note) { guest = Some m; copy = Some (carried v) })) (sym (name_is v.role n role))
-      (note_lawful z g' new v n n numbers role knows (name_here g.badge n new) (as_dealt g n new n named.1)) in (
+      (note_lawful z g' new v n n numbers role (as_dealt g n new n named.1) (h.holding.lists n role) knows (name_here g.badge n new) (as_dealt g n new n named.1)) in (
         g',
         fits,
         split z g g' vs id v (lender v) (lent_note v) law at refl refl refl on refl own added (λ b. refl) refl refl (omega arith) (omega arith) law.dealt (λ s low. current_kept z g g' s refl refl refl refl (law.sectors s low))
@@ -165,6 +180,7 @@ module _ (z : Numbers) (id : ℕ) (v : View) (n : Name) (role : v.role ≡ Playe
         holding = record {
           name = λ k is. let t = holds.name k is in (t.0, as_dealt g m new k t.1);
           calls = holds.calls;
+          lists = holds.lists;
           owned = λ b o is. let k = holds.owned b o is in record { block = k.block; low = k.low; owner = k.owner; owned = k.owned; phase = k.phase; generation = k.generation; written = k.written; rest = k.rest; dead = k.dead; clean = k.clean };
           work = λ w is. let k = holds.work w is in record { entry = k.entry; own = k.own; opened = k.opened; generation = k.generation; page = k.page; counted = k.counted; short = k.short; full = k.full; stands = k.stands };
           source = λ x is. let k = holds.source x is in record { entry = k.entry; own = k.own; victim = k.victim; generation = k.generation; page = k.page; written = k.written; stamp = k.stamp; value = k.value };
@@ -175,7 +191,7 @@ module _ (z : Numbers) (id : ℕ) (v : View) (n : Name) (role : v.role ≡ Playe
       } in
       let added : LawfulView z g' new (given_note v) =
       subst (λ (x : Option Name). LawfulView z g' new (record (newcomer v.numbers Note) { guest = x; copy = Some (carried v) })) (sym guest)
-      (note_lawful z g' new v n m numbers role knows (name_here g.badge m new) (as_dealt g m new m was.1)) in (
+      (note_lawful z g' new v n m numbers role (as_dealt g m new n (h.holding.name n role).1) (h.holding.lists n role) knows (name_here g.badge m new) (as_dealt g m new m was.1)) in (
         g',
         fits,
         split z g g' vs id v (giver v) (given_note v) law at refl refl refl on refl own added (λ b. refl) refl refl (omega arith) (omega arith) law.dealt (λ s low. current_kept z g g' s refl refl refl refl (law.sectors s low))
@@ -198,6 +214,7 @@ gone_lawful z g seat =
       holding = record {
         name = λ m is. absurd (cc);
         calls = λ t is. absurd (cc);
+        lists = λ m is. absurd (cc);
         owned = λ b o is. absurd (none_some o is);
         work = λ w is. absurd (none_some w is);
         source = λ x is. absurd (none_some x is);
@@ -288,11 +305,12 @@ module _ (z : Numbers) (id other : ℕ) (v w : View) (n m : Name) (c : Carried) 
               let new : LawfulCopy z g' w.role c = copy_kept z g g' id other on w.role c old in
               let same : c ≡ d = some_same c d (sym copy ∙ is) in
               subst (λ (d : Carried). LawfulCopy z g' v.role d) same
-              (record { seen = new.seen; programs = new.programs; erases = new.erases; other = λ e. names (player_same n m (sym role ∙ (e ∙ ap Player of_is))) });
+              (another z g' w.role v.role c new (λ e. names (player_same n m (sym role ∙ (e ∙ ap Player of_is)))));
         };
         holding = record {
           name = λ x is. let t = holds.name x is in (t.0, as_dealt g m id x t.1);
           calls = holds.calls;
+          lists = holds.lists;
           owned = λ b o is. let k = holds.owned b o is in record { block = k.block; low = k.low; owner = k.owner; owned = k.owned; phase = k.phase; generation = k.generation; written = k.written; rest = k.rest; dead = k.dead; clean = k.clean };
           work = λ x is. let k = holds.work x is in record { entry = k.entry; own = k.own; opened = k.opened; generation = k.generation; page = k.page; counted = k.counted; short = k.short; full = k.full; stands = k.stands };
           source = λ x is. let k = holds.source x is in record { entry = k.entry; own = k.own; victim = k.victim; generation = k.generation; page = k.page; written = k.written; stamp = k.stamp; value = k.value };
@@ -331,11 +349,12 @@ module _ (z : Numbers) (id other : ℕ) (v w : View) (n m : Name) (c : Carried) 
               let old = k.knowledge.copy c copy in
               let new : LawfulCopy z g' w.role c = copy_kept z g g' id other on w.role c old in
               let same : c ≡ d = some_same c d (sym copy ∙ is) in
-              subst (λ (d : Carried). LawfulCopy z g' v.role d) same (record { seen = new.seen; programs = new.programs; erases = new.erases; other = unlike });
+              subst (λ (d : Carried). LawfulCopy z g' v.role d) same (another z g' w.role v.role c new unlike);
         };
         holding = record {
           name = λ x is. let t = holds.name x is in (t.0, as_dealt g m id x t.1);
           calls = holds.calls;
+          lists = holds.lists;
           owned = λ b o is. let k = holds.owned b o is in record { block = k.block; low = k.low; owner = k.owner; owned = k.owned; phase = k.phase; generation = k.generation; written = k.written; rest = k.rest; dead = k.dead; clean = k.clean };
           work = λ x is. let k = holds.work x is in record { entry = k.entry; own = k.own; opened = k.opened; generation = k.generation; page = k.page; counted = k.counted; short = k.short; full = k.full; stands = k.stands };
           source = λ x is. let k = holds.source x is in record { entry = k.entry; own = k.own; victim = k.victim; generation = k.generation; page = k.page; written = k.written; stamp = k.stamp; value = k.value };

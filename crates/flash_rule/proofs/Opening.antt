@@ -79,6 +79,8 @@ module _ (z : Numbers) (limits : IsWithinLimits z) where
         seat = λ n. 0;
         programmer = λ b p g. None;
         eraser = λ b g. None;
+        programs = λ n. [];
+        erases = λ n. [];
         badge = λ n. 0;
       }
 
@@ -175,6 +177,7 @@ module _ (z : Numbers) (limits : IsWithinLimits z) where
         holding = record {
           name = λ n is. absurd (cc);
           calls = λ t is. absurd (cc);
+          lists = λ n is. absurd (cc);
           owned = opening_owned;
           work = λ w is. absurd (none_some w is);
           source = λ x is. absurd (none_some x is);

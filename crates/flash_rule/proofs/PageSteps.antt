@@ -25,7 +25,7 @@ use Rattle.flash_rule.specs.Onward.{Onward}
 use Rattle.flash_rule.specs.Plays.{next_page, words_in, SettledBut, Spared}
 use Rattle.flash_rule.proofs.Points.{eq_self}
 use Rattle.flash_rule.proofs.Owning.{some_same}
-use Rattle.flash_rule.proofs.Frames.{counted, knowledge_kept}
+use Rattle.flash_rule.proofs.Frames.{counted, knowledge_kept, lists_stay}
 use Rattle.flash_rule.proofs.Assembly.{assembled, block_kept, sector_kept}
 use Rattle.flash_rule.proofs.Ceding.{ceded_still}
 use Rattle.flash_rule.proofs.Still.{pin_stays, pass_of, intact_age, met, programs_once}
@@ -110,6 +110,7 @@ module _ (z : Numbers) (g : World) (vs : List View) (id : ℕ) (v : View) (o : O
         named = λ s m is. inl is;
         programmer = λ m _. refl;
         eraser = λ c n _. refl;
+        lists = λ n _. lists_stay g g' id n refl refl;
         dealer = λ _. (refl, refl);
         badge = λ n _ _ _. refl;
       } in
@@ -153,6 +154,7 @@ module _ (z : Numbers) (g : World) (vs : List View) (id : ℕ) (v : View) (o : O
         holding = record {
           name = holds.name;
           calls = holds.calls;
+          lists = holds.lists;
           owned = λ c e owns. dite (ℕ_discrete c b)
               (λ same.
               let P : ℕ → Type 0 = λ c. owned_at c v.owns ≡ Some e in

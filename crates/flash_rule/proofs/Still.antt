@@ -28,6 +28,7 @@ use Rattle.flash_rule.specs.World.{World, is_intact, is_nameable, age_of, half_c
 use Rattle.flash_rule.specs.Rule.{IsCurrent, Programs, Erases, LawfulKind, LawfulKnowledge, LawfulPin, LawfulView, LawfulCopy, Lawful, IsValue}
 use Rattle.flash_rule.specs.Onward.{PinOnward, Onward}
 use Rattle.flash_rule.specs.Plays.{Looked, Met, Disjoint, Once, is_unpinned}
+use Rattle.flash_rule.proofs.Frames.{lists_stay}
 use Rattle.flash_rule.proofs.Assembly.{assembled, block_kept}
 use Rattle.flash_rule.proofs.Ceding.{ceded_still}
 use Rattle.flash_rule.proofs.Owning.{some_same}
@@ -47,6 +48,7 @@ all_stays z g id other =
       named = λ s m is. inl is;
       programmer = λ m _. refl;
       eraser = λ b n _. refl;
+      lists = λ n _. lists_stay g g id n refl refl;
       dealer = λ _. (refl, refl);
       badge = λ n _ _ _. refl;
     }
@@ -202,6 +204,7 @@ module _ (z : Numbers) (g : World) (vs : List View) (id : ℕ) (v : View) (s : �
         holding = record {
           name = holds.name;
           calls = λ t is. let c = (holds.calls t is).0 in (c, c);
+          lists = holds.lists;
           owned = holds.owned;
           work = holds.work;
           source = holds.source;

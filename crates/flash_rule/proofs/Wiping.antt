@@ -19,7 +19,7 @@ use Rattle.flash_rule.specs.Rule.{LawfulOwned, LawfulView, Lawful}
 use Rattle.flash_rule.specs.Onward.{Onward}
 use Rattle.flash_rule.specs.BroomPlays.{IsErasing, wiper}
 use Rattle.flash_rule.proofs.Owning.{some_same}
-use Rattle.flash_rule.proofs.Frames.{counted, knowledge_kept}
+use Rattle.flash_rule.proofs.Frames.{counted, knowledge_kept, lists_stay}
 use Rattle.flash_rule.proofs.Places.{row_same}
 use Rattle.flash_rule.proofs.Assembly.{assembled, block_kept, sector_kept}
 use Rattle.flash_rule.proofs.Ceding.{ceded_still}
@@ -74,6 +74,7 @@ module _ (z : Numbers) (g : World) (vs : List View) (id : ℕ) (v : View) (n : N
         named = λ s m is. inl is;
         programmer = λ m _. refl;
         eraser = λ c k _. refl;
+        lists = λ m _. lists_stay g wipe_world id m refl refl;
         dealer = λ _. (refl, refl);
         badge = λ m _ _ _. refl;
       }
@@ -139,6 +140,7 @@ module _ (z : Numbers) (g : World) (vs : List View) (id : ℕ) (v : View) (n : N
         holding = record {
           name = holds.name;
           calls = holds.calls;
+          lists = holds.lists;
           owned = λ c e owns. dite (ℕ_discrete c o.block)
               (λ same.
               let entry : o ≡ e = some_same o e (sym erasing.own ∙ (ap (λ j. owned_at j v.owns) (sym same) ∙ owns)) in

@@ -100,12 +100,21 @@ LawfulPin z g known (Candidate m value) = IsCandidate z g known m value
 LawfulPin z g known (Accepted m value) = IsAccepted z g m value
 LawfulPin z g known (Stray b) = b < z.blocks
 
--- NOTES. The copied lists begin lists of the player that they are of, and that player is another one
+-- A player of this number has been handed out
+abbrev pub IsDealt : World → Name → Type 0
+IsDealt g (Pass t) = t < g.passes
+IsDealt g (Broom i) = i < g.brooms
+
+-- NOTES. The player of the copies has been handed out, and is another one. What it had seen, by the copy, begins the history; the copied lists
+-- begin that player's lists, so no entry is left out of them; and each of their entries is that player's, by its place
 pub record LawfulCopy (z : Numbers) (g : World) (role : Role) (c : Carried) : Type 0 where
+  pub dealt : IsDealt g c.of
+  pub other : ¬ (role ≡ Player c.of)
   pub seen : Begins c.seen g.history
+  pub programmed : Begins c.programs (g.programs c.of)
+  pub erased : Begins c.erases (g.erases c.of)
   pub programs : Programs z g c.of c.programs
   pub erases : Erases z g c.of c.erases
-  pub other : ¬ (role ≡ Player c.of)
 
 -- At most one of these blocks is being drained or erased
 abbrev pub ReclaimsOne : List Owned → Type 0
@@ -177,15 +186,12 @@ pub record LawfulSource (z : Numbers) (g : World) (owns : List Owned) (cleared :
   pub stamp : g.pages x.page.block x.page.page z.words ≡ x.stamp
   pub value : (value : List ℕ) → x.value ≡ Some value → HoldsValue z (g.pages x.page.block x.page.page) value × IsValue z value
 
--- A player of this number has been handed out
-abbrev pub IsDealt : World → Name → Type 0
-IsDealt g (Pass t) = t < g.passes
-IsDealt g (Broom i) = i < g.brooms
-
--- What is a seat's alone: its name, its calls in the history, its blocks, its work, its source and its badges
+-- What is a seat's alone: its name, its calls in the history, its lists of what it programmed and erased, which are all that its player did,
+-- its blocks, its work, its source and its badges
 pub record LawfulHolding (z : Numbers) (g : World) (id : ℕ) (v : View) : Type 0 where
   pub name : (n : Name) → v.role ≡ Player n → (g.seat n ≡ id) × IsDealt g n
   pub calls : (t : ℕ) → v.role ≡ Player (Pass t) → (calls_of t g.history ≡ v.mine) × (calls_of t v.seen ≡ v.mine)
+  pub lists : (n : Name) → v.role ≡ Player n → (g.programs n ≡ v.programs) × (g.erases n ≡ v.erases)
   pub owned : (b : ℕ) (o : Owned) → owned_at b v.owns ≡ Some o → LawfulOwned z g id v.work v.cleared v.wiped b o
   pub work : (w : Work) → v.work ≡ Some w → LawfulWork z g v.owns w
   pub source : (x : Source) → v.source ≡ Some x → LawfulSource z g v.owns v.cleared x
