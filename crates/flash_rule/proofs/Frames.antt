@@ -1,5 +1,5 @@
 -- What a step leaves to the seats that don't make it.
-use Rattle.std.proofs.Common.{◌≡◌, ℕ, ◌<◌, ◌≤◌, inl, inr, ⊎_elim, true, List, [], ◌∷◌, zero, suc, sym, ap, ◌∙◌, arith}
+use Rattle.std.proofs.Common.{◌≡◌, ℕ, ◌<◌, ◌≤◌, inl, inr, ⊎_elim, true, List, [], ◌∷◌, Some, zero, suc, sym, ap, ◌∙◌, subst, arith}
 use mathlib.Core.Option.{some, some-injective, some-ne-none}
 use mathlib.Core.Logic.{dite}
 use native.Mathlib.Decide.{ℕ_discrete}
@@ -23,7 +23,7 @@ use Rattle.flash_rule.specs.declared.carried.Carried.{Carried}
 use Rattle.flash_rule.specs.declared.view.View.{View}
 use Rattle.flash_rule.specs.Views.{one_if, total, pin_is_on, pins_on}
 use Rattle.flash_rule.specs.World.{World, is_owned}
-use Rattle.flash_rule.specs.Rule.{IsProgrammed, Programs, Erases, IsAccepted, IsCandidate, LawfulPin, LawfulCopy, LawfulKnowledge, LawfulOwned, LawfulWork, LawfulSource, LawfulHolding, LawfulView, Lawful}
+use Rattle.flash_rule.specs.Rule.{IsProgrammed, Programs, Erases, IsAccepted, IsCandidate, LawfulPin, LawfulCopy, Grown, LawfulKnowledge, LawfulOwned, LawfulWork, LawfulSource, LawfulHolding, LawfulView, Lawful}
 use Rattle.flash_rule.proofs.Points.{eq_self}
 use Rattle.flash_rule.specs.Onward.{PinOnward, Untouched, ListsOnward, Onward}
 
@@ -120,6 +120,14 @@ module _ (z : Numbers) (g g' : World) (id other : ℕ) (on : Onward z g g' id ot
         erases = erases_kept c.of c.erases h.erases;
       }
 
+  -- copies of all that a player did begin with each of its copies
+  whole_lists : {role : Role} (c d : Carried) → LawfulCopy z g role c → c.of ≡ d.of → (d.programs ≡ g.programs d.of) × (d.erases ≡ g.erases d.of) → Grown c d
+  whole_lists c d h same all =
+      record {
+        programs = subst (λ l. Begins c.programs l) (ap g.programs same ∙ sym all.0) h.programmed;
+        erases = subst (λ l. Begins c.erases l) (ap g.erases same ∙ sym all.1) h.erased;
+      }
+
   pub knowledge_kept : (v : View) → ((b : ℕ) → pin_is_on b v.pin ≡ true → b < z.blocks → 0 < (g.pins b).readers) → LawfulKnowledge z g v → LawfulKnowledge z g' v
   knowledge_kept v counted h =
       record {
@@ -129,6 +137,10 @@ module _ (z : Numbers) (g g' : World) (id other : ℕ) (on : Onward z g g' id ot
         programs = λ n is. programs_kept n v.programs (h.programs n is);
         erases = λ n is. erases_kept n v.erases (h.erases n is);
         copy = λ c is. copy_kept v.role c (h.copy c is);
+        older = h.older;
+        out = λ n c d whose is there same.
+            ⊎_elim (λ (was : g.carries n ≡ Some d). h.out n c d whose is was same)
+            (λ (all : (d.programs ≡ g.programs d.of) × (d.erases ≡ g.erases d.of)). whole_lists c d (h.copy c is) same all) (on.carries n d there);
       }
 
   module _ (at : ℕ) (apart : ¬ (at ≡ id)) where
@@ -193,8 +205,10 @@ module _ (z : Numbers) (g g' : World) (id other : ℕ) (on : Onward z g g' id ot
           owned = λ b o is. owned_kept v b o (h.owned b o is);
           work = λ w is. work_kept v w h (h.work w is);
           source = λ x is. source_kept v x h (h.source x is);
-          whole = λ whole n is. let k = h.whole whole n is in on.badge n (h.name n is).1 (λ e. apart (sym k ∙ e)) (λ e. apart' (sym k ∙ e)) ∙ k;
-          guest = λ n is. let k = h.guest n is in (on.badge n k.1 (λ e. apart (sym k.0 ∙ e)) (λ e. apart' (sym k.0 ∙ e)) ∙ k.0, (on.seat n k.1).1);
+          whole = λ whole n is. let k = h.whole whole n is in (on.badge n (h.name n is).1 (λ e. apart (sym k ∙ e)) (λ e. apart' (sym k ∙ e))).0 ∙ k;
+          guest = λ n is. let k = h.guest n is in ((on.badge n k.1 (λ e. apart (sym k.0 ∙ e)) (λ e. apart' (sym k.0 ∙ e))).0 ∙ k.0, (on.seat n k.1).1);
+          note = λ n role is. let k = h.guest n is in (on.badge n k.1 (λ e. apart (sym k.0 ∙ e)) (λ e. apart' (sym k.0 ∙ e))).1 ∙ h.note n role is;
+          home = λ n is whole. let k = h.whole whole n is in (on.badge n (h.name n is).1 (λ e. apart (sym k ∙ e)) (λ e. apart' (sym k ∙ e))).1 ∙ h.home n is whole;
           dealer = λ is. let k = h.dealer is in let d = on.dealer (λ e. apart (k.0 ∙ sym e)) in (k.0, k.1 ∙ sym d.0, k.2 ∙ sym d.1);
         }
 

@@ -49,7 +49,7 @@ module _ (z : Numbers) (g : World) (vs : List View) (id : ℕ) (v : View) (n : N
         callers = callers_now z g vs id v n law at role;
         succeeded = succeeded;
         failed = failed;
-        met = met_now z g v n role h.knowledge (mover moves) refl refl refl refl;
+        met = met_now z g v n role h.knowledge (mover moves) refl refl refl refl refl;
       }
 
   -- ---- the map word names another page, or none
@@ -85,7 +85,8 @@ module _ (z : Numbers) (g : World) (vs : List View) (id : ℕ) (v : View) (n : N
           eraser = λ b k _. refl;
           lists = λ m _. lists_stay g exchanged_world id m refl refl;
           dealer = λ _. (refl, refl);
-          badge = λ m _ _ _. refl;
+          badge = λ m _ _ _. (refl, refl);
+          carries = λ m c is. inl is;
         }
 
     -- the copy is in no victim
@@ -128,6 +129,7 @@ module _ (z : Numbers) (g : World) (vs : List View) (id : ℕ) (v : View) (n : N
         record {
           kind = record {
             numbers = kind.numbers;
+            host = kind.host;
             known = kind.known;
             opens = kind.opens;
             unpinned = kind.unpinned;
@@ -135,7 +137,7 @@ module _ (z : Numbers) (g : World) (vs : List View) (id : ℕ) (v : View) (n : N
             owns_none = kind.owns_none;
             reclaims = kind.reclaims;
           };
-          knowledge = record { seen = Begins-refl g.history; pin = knows.pin; known = knows.known; programs = knows.programs; erases = knows.erases; copy = knows.copy };
+          knowledge = record { seen = Begins-refl g.history; pin = knows.pin; known = knows.known; programs = knows.programs; erases = knows.erases; copy = knows.copy; older = knows.older; out = knows.out };
           holding = record {
             name = holds.name;
             calls = λ t is. let c = (holds.calls t is).0 in (c, c);
@@ -147,6 +149,8 @@ module _ (z : Numbers) (g : World) (vs : List View) (id : ℕ) (v : View) (n : N
             source = λ y none. absurd (none_some y none);
             whole = holds.whole;
             guest = holds.guest;
+            note = holds.note;
+            home = holds.home;
             dealer = holds.dealer;
           };
         }

@@ -145,6 +145,7 @@ module _ (z : Numbers) (g : World) (vs : List View) (id : ℕ) (v : View) (o : O
         let mine_after : LawfulView z g' id counter = record {
           kind = record {
             numbers = kind.numbers;
+            host = kind.host;
             known = kind.known;
             opens = λ is c e owns. dite (ℕ_discrete c b)
                 (λ same. sym (ap (λ (x : Owned). x.phase) (same_entry c e same owns)) ∙ opened)
@@ -176,6 +177,8 @@ module _ (z : Numbers) (g : World) (vs : List View) (id : ℕ) (v : View) (o : O
                 (get_last v.programs x.page m k is);
             erases = knows.erases;
             copy = knows.copy;
+            older = knows.older;
+            out = knows.out;
           };
           holding = record {
             name = holds.name;
@@ -220,6 +223,8 @@ module _ (z : Numbers) (g : World) (vs : List View) (id : ℕ) (v : View) (o : O
                 };
             whole = holds.whole;
             guest = holds.guest;
+            note = holds.note;
+            home = holds.home;
             dealer = holds.dealer;
           };
         } in
@@ -284,6 +289,7 @@ module _ (z : Numbers) (g : World) (vs : List View) (id : ℕ) (v : View) (o : O
       let after : LawfulView z g' id closer = record {
         kind = record {
           numbers = kind.numbers;
+          host = kind.host;
           known = kind.known;
           opens = λ is c e owns. kind.opens is c e (sym (without_else b c v.owns (elsewhere c e owns)) ∙ owns);
           unpinned = kind.unpinned;
@@ -291,7 +297,7 @@ module _ (z : Numbers) (g : World) (vs : List View) (id : ℕ) (v : View) (o : O
           owns_none = λ is. ap (λ l. without b l) (kind.owns_none is);
           reclaims = one_without b v.owns kind.reclaims;
         };
-        knowledge = record { seen = knows.seen; pin = knows.pin; known = knows.known; programs = knows.programs; erases = knows.erases; copy = knows.copy };
+        knowledge = record { seen = knows.seen; pin = knows.pin; known = knows.known; programs = knows.programs; erases = knows.erases; copy = knows.copy; older = knows.older; out = knows.out };
         holding = record {
           name = holds.name;
           calls = holds.calls;
@@ -319,6 +325,8 @@ module _ (z : Numbers) (g : World) (vs : List View) (id : ℕ) (v : View) (o : O
               };
           whole = holds.whole;
           guest = holds.guest;
+          note = holds.note;
+          home = holds.home;
           dealer = holds.dealer;
         };
       } in

@@ -112,7 +112,8 @@ module _ (z : Numbers) (g : World) (vs : List View) (id : ℕ) (v : View) (o : O
         eraser = λ c n _. refl;
         lists = λ n _. lists_stay g g' id n refl refl;
         dealer = λ _. (refl, refl);
-        badge = λ n _ _ _. refl;
+        badge = λ n _ _ _. (refl, refl);
+        carries = λ n c is. inl is;
       } in
       let knows = knowledge_kept z g g' id id on v (λ c is below. counted vs law id v at c is below) h.knowledge in
       let not_filling : (c q : ℕ) (e : Owned) → owned_at c v.owns ≡ Some e → c ≢ b → e.written ≤ q → IsFilling v.work c q → ⊥ = λ c q e owns unlike from f.
@@ -143,6 +144,7 @@ module _ (z : Numbers) (g : World) (vs : List View) (id : ℕ) (v : View) (o : O
       let after : LawfulView z g' id putter = record {
         kind = record {
           numbers = kind.numbers;
+          host = kind.host;
           known = kind.known;
           opens = kind.opens;
           unpinned = kind.unpinned;
@@ -150,7 +152,7 @@ module _ (z : Numbers) (g : World) (vs : List View) (id : ℕ) (v : View) (o : O
           owns_none = kind.owns_none;
           reclaims = kind.reclaims;
         };
-        knowledge = record { seen = knows.seen; pin = knows.pin; known = knows.known; programs = knows.programs; erases = knows.erases; copy = knows.copy };
+        knowledge = record { seen = knows.seen; pin = knows.pin; known = knows.known; programs = knows.programs; erases = knows.erases; copy = knows.copy; older = knows.older; out = knows.out };
         holding = record {
           name = holds.name;
           calls = holds.calls;
@@ -212,6 +214,8 @@ module _ (z : Numbers) (g : World) (vs : List View) (id : ℕ) (v : View) (o : O
               };
           whole = holds.whole;
           guest = holds.guest;
+          note = holds.note;
+          home = holds.home;
           dealer = holds.dealer;
         };
       } in
@@ -273,4 +277,5 @@ spared z g vs id v m value c law at pinned copied =
           let begun = (copy.erases k x is).1 in
           let here : age_of (g.pins x.block) ≡ age_of (g.pins m.block) = ap (λ b. age_of (g.pins b)) same in
           let generation = a.intact.same in omega arith;
+      newer = λ o was. h.knowledge.older o c was copied;
     }

@@ -93,7 +93,8 @@ pin_turns z g id b q owner d on mine programmed erased lists =
       eraser = erased;
       lists = lists;
       dealer = λ _. (refl, refl);
-      badge = λ n _ _ _. refl;
+      badge = λ n _ _ _. (refl, refl);
+      carries = λ n c is. inl is;
     }
 
 pub pin_moves : (z : Numbers) (g : World) (id b : ℕ) (q : PinWord) (owner : ℕ) → PinOnward (g.pins b) q
@@ -199,6 +200,7 @@ module _ (z : Numbers) (g : World) (vs : List View) (id : ℕ) (v : View) (b : �
       let own : LawfulView z taken id taker = record {
         kind = record {
           numbers = kind.numbers;
+          host = kind.host;
           known = kind.known;
           opens = λ is c o owns. dite (ℕ_discrete c b)
               (λ same. let e : newly_owned ≡ o = some_same newly_owned o (sym (with_here newly_owned v.owns) ∙ (ap (λ j. owned_at j (with_owned newly_owned v.owns)) (sym same) ∙ owns)) in sym (ap (λ (x : Owned). x.phase) e))
@@ -208,7 +210,7 @@ module _ (z : Numbers) (g : World) (vs : List View) (id : ℕ) (v : View) (b : �
           owns_none = λ is. let no : true ≡ false = sym (pass_may_own v.role pass) ∙ is in absurd (cc);
           reclaims = one_with_open newly_owned v.owns refl kind.reclaims;
         };
-        knowledge = record { seen = knows.seen; pin = knows.pin; known = knows.known; programs = knows.programs; erases = knows.erases; copy = knows.copy };
+        knowledge = record { seen = knows.seen; pin = knows.pin; known = knows.known; programs = knows.programs; erases = knows.erases; copy = knows.copy; older = knows.older; out = knows.out };
         holding = record {
           name = holds.name;
           calls = holds.calls;
@@ -245,6 +247,8 @@ module _ (z : Numbers) (g : World) (vs : List View) (id : ℕ) (v : View) (b : �
               };
           whole = holds.whole;
           guest = holds.guest;
+          note = holds.note;
+          home = holds.home;
           dealer = holds.dealer;
         };
       } in
@@ -276,8 +280,8 @@ module _ (z : Numbers) (g : World) (vs : List View) (id : ℕ) (v : View) (b : �
       let holds = h.holding in
       still z g vs id v (record v { denied = v.denied ++ b ∷ [] }) law at
       (record {
-        kind = record { numbers = kind.numbers; known = kind.known; opens = kind.opens; unpinned = kind.unpinned; idle = kind.idle; owns_none = kind.owns_none; reclaims = kind.reclaims };
-        knowledge = record { seen = knows.seen; pin = knows.pin; known = knows.known; programs = knows.programs; erases = knows.erases; copy = knows.copy };
-        holding = record { name = holds.name; calls = holds.calls; lists = holds.lists; owned = holds.owned; work = holds.work; source = holds.source; whole = holds.whole; guest = holds.guest; dealer = holds.dealer };
+        kind = record { numbers = kind.numbers; host = kind.host; known = kind.known; opens = kind.opens; unpinned = kind.unpinned; idle = kind.idle; owns_none = kind.owns_none; reclaims = kind.reclaims };
+        knowledge = record { seen = knows.seen; pin = knows.pin; known = knows.known; programs = knows.programs; erases = knows.erases; copy = knows.copy; older = knows.older; out = knows.out };
+        holding = record { name = holds.name; calls = holds.calls; lists = holds.lists; owned = holds.owned; work = holds.work; source = holds.source; whole = holds.whole; guest = holds.guest; note = holds.note; home = holds.home; dealer = holds.dealer };
       })
       (λ c. refl) refl refl refl refl refl

@@ -84,7 +84,7 @@ module _ (z : Numbers) (g : World) (vs : List View) (id : ℕ) (v : View) (b : �
       let on = read_onward in
       let knows = knowledge_kept z g g' id id on v (λ c is below. counted vs law id v at c is below) h.knowledge in
       let own : LawfulView z g' id reader = record {
-        kind = record { numbers = kind.numbers; known = λ _. long; opens = kind.opens; unpinned = λ not. let no : true ≡ false = sym pass ∙ not in absurd (cc); idle = kind.idle; owns_none = kind.owns_none; reclaims = kind.reclaims };
+        kind = record { numbers = kind.numbers; host = kind.host; known = λ _. long; opens = kind.opens; unpinned = λ not. let no : true ≡ false = sym pass ∙ not in absurd (cc); idle = kind.idle; owns_none = kind.owns_none; reclaims = kind.reclaims };
         knowledge = record {
           seen = knows.seen;
           pin = lawful;
@@ -92,6 +92,8 @@ module _ (z : Numbers) (g : World) (vs : List View) (id : ℕ) (v : View) (b : �
           programs = knows.programs;
           erases = knows.erases;
           copy = knows.copy;
+          older = knows.older;
+          out = knows.out;
         };
         holding = record {
           name = holds.name;
@@ -102,6 +104,8 @@ module _ (z : Numbers) (g : World) (vs : List View) (id : ℕ) (v : View) (b : �
           source = λ x is. let k = holds.source x is in record { entry = k.entry; own = k.own; victim = k.victim; generation = k.generation; page = k.page; written = k.written; stamp = k.stamp; value = k.value };
           whole = holds.whole;
           guest = holds.guest;
+          note = holds.note;
+          home = holds.home;
           dealer = holds.dealer;
         };
       } in

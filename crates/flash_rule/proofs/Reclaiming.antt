@@ -93,9 +93,9 @@ module _ (z : Numbers) (g : World) (vs : List View) (id : ℕ) (v : View) (law :
       let holds = h.holding in
       still z g vs id v (record v { loaded = loaded; lost = lost; busy = busy; stale = stale }) law at
       (record {
-        kind = record { numbers = kind.numbers; known = kind.known; opens = kind.opens; unpinned = kind.unpinned; idle = kind.idle; owns_none = kind.owns_none; reclaims = kind.reclaims };
-        knowledge = record { seen = knows.seen; pin = knows.pin; known = knows.known; programs = knows.programs; erases = knows.erases; copy = knows.copy };
-        holding = record { name = holds.name; calls = holds.calls; lists = holds.lists; owned = holds.owned; work = holds.work; source = holds.source; whole = holds.whole; guest = holds.guest; dealer = holds.dealer };
+        kind = record { numbers = kind.numbers; host = kind.host; known = kind.known; opens = kind.opens; unpinned = kind.unpinned; idle = kind.idle; owns_none = kind.owns_none; reclaims = kind.reclaims };
+        knowledge = record { seen = knows.seen; pin = knows.pin; known = knows.known; programs = knows.programs; erases = knows.erases; copy = knows.copy; older = knows.older; out = knows.out };
+        holding = record { name = holds.name; calls = holds.calls; lists = holds.lists; owned = holds.owned; work = holds.work; source = holds.source; whole = holds.whole; guest = holds.guest; note = holds.note; home = holds.home; dealer = holds.dealer };
       })
       (λ c. refl) refl refl refl refl refl
 
@@ -166,6 +166,7 @@ module _ (z : Numbers) (g : World) (vs : List View) (id : ℕ) (v : View) (b : �
       let own : LawfulView z g' id turner = record {
         kind = record {
           numbers = kind.numbers;
+          host = kind.host;
           known = kind.known;
           opens = λ is c e has. dite (ℕ_discrete c b) (λ same. t.opens is e (ap (λ j. owned_at j owns) (sym same) ∙ has)) (λ unlike. kind.opens is c e (sym (t.there c unlike) ∙ has));
           unpinned = kind.unpinned;
@@ -173,7 +174,7 @@ module _ (z : Numbers) (g : World) (vs : List View) (id : ℕ) (v : View) (b : �
           owns_none = t.owns_none;
           reclaims = t.reclaims;
         };
-        knowledge = record { seen = knows.seen; pin = knows.pin; known = knows.known; programs = knows.programs; erases = λ n is. t.erases n is (knows.erases n is); copy = knows.copy };
+        knowledge = record { seen = knows.seen; pin = knows.pin; known = knows.known; programs = knows.programs; erases = λ n is. t.erases n is (knows.erases n is); copy = knows.copy; older = knows.older; out = knows.out };
         holding = record {
           name = holds.name;
           calls = holds.calls;
@@ -210,6 +211,8 @@ module _ (z : Numbers) (g : World) (vs : List View) (id : ℕ) (v : View) (b : �
               };
           whole = holds.whole;
           guest = holds.guest;
+          note = holds.note;
+          home = holds.home;
           dealer = holds.dealer;
         };
       } in

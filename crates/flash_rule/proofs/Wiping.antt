@@ -76,7 +76,8 @@ module _ (z : Numbers) (g : World) (vs : List View) (id : ℕ) (v : View) (n : N
         eraser = λ c k _. refl;
         lists = λ m _. lists_stay g wipe_world id m refl refl;
         dealer = λ _. (refl, refl);
-        badge = λ m _ _ _. refl;
+        badge = λ m _ _ _. (refl, refl);
+        carries = λ m c is. inl is;
       }
 
   -- one word more of the block is all ones
@@ -129,6 +130,7 @@ module _ (z : Numbers) (g : World) (vs : List View) (id : ℕ) (v : View) (n : N
       record {
         kind = record {
           numbers = kind.numbers;
+          host = kind.host;
           known = kind.known;
           opens = kind.opens;
           unpinned = kind.unpinned;
@@ -136,7 +138,7 @@ module _ (z : Numbers) (g : World) (vs : List View) (id : ℕ) (v : View) (n : N
           owns_none = kind.owns_none;
           reclaims = kind.reclaims;
         };
-        knowledge = record { seen = knows.seen; pin = knows.pin; known = knows.known; programs = knows.programs; erases = knows.erases; copy = knows.copy };
+        knowledge = record { seen = knows.seen; pin = knows.pin; known = knows.known; programs = knows.programs; erases = knows.erases; copy = knows.copy; older = knows.older; out = knows.out };
         holding = record {
           name = holds.name;
           calls = holds.calls;
@@ -175,6 +177,8 @@ module _ (z : Numbers) (g : World) (vs : List View) (id : ℕ) (v : View) (n : N
               };
           whole = holds.whole;
           guest = holds.guest;
+          note = holds.note;
+          home = holds.home;
           dealer = holds.dealer;
         };
       }

@@ -7,6 +7,7 @@ use Rattle.geometry.specs.declared.pin_word.PinWord.{PinWord}
 use Rattle.geometry.specs.declared.pin_word.Phase.TheVariants.{Free}
 use Rattle.flash_rule.specs.declared.facts.Name.{Name}
 use Rattle.flash_rule.specs.declared.facts.Name.TheVariants.{Pass}
+use Rattle.flash_rule.specs.declared.carried.Carried.{Carried}
 use Rattle.flash_rule.specs.Views.{calls_of}
 use Rattle.flash_rule.specs.World.{World, is_owned, is_intact, age_of}
 use Rattle.flash_rule.specs.Rule.{IsProgrammed, IsDealt}
@@ -37,7 +38,7 @@ pub record ListsOnward (g g' : World) (id : ℕ) (n : Name) : Type 0 where
 
 -- A step of one seat, or of two where one is joined into the other, adds to the history calls of that seat alone, moves each block
 -- onward, leaves the blocks of others and the pages that can be read, names pages of its own blocks alone, adds to the lists of that seat's
--- player alone, and forgets nothing
+-- player alone, lets go with a badge copies of all that their player did, and forgets nothing
 pub record Onward (z : Numbers) (g g' : World) (id other : ℕ) : Type 0 where
   pub history : Begins g.history g'.history
   pub calls : (t : ℕ) → ¬ (g.seat (Pass t) ≡ id) → calls_of t g'.history ≡ calls_of t g.history
@@ -50,4 +51,5 @@ pub record Onward (z : Numbers) (g g' : World) (id other : ℕ) : Type 0 where
   pub eraser : (b n : ℕ) → 2 * n < age_of (g.pins b) → g'.eraser b n ≡ g.eraser b n
   pub lists : (n : Name) → IsDealt g n → ListsOnward g g' id n
   pub dealer : ¬ (id ≡ 0) → (g'.passes ≡ g.passes) × (g'.brooms ≡ g.brooms)
-  pub badge : (n : Name) → IsDealt g n → ¬ (g.badge n ≡ id) → ¬ (g.badge n ≡ other) → g'.badge n ≡ g.badge n
+  pub badge : (n : Name) → IsDealt g n → ¬ (g.badge n ≡ id) → ¬ (g.badge n ≡ other) → (g'.badge n ≡ g.badge n) × (g'.carries n ≡ g.carries n)
+  pub carries : (n : Name) (c : Carried) → g'.carries n ≡ Some c → (g.carries n ≡ Some c) ⊎ ((c.programs ≡ g.programs c.of) × (c.erases ≡ g.erases c.of))

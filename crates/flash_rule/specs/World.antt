@@ -12,6 +12,7 @@ use Rattle.geometry.specs.declared.pin_word.Phase.{Phase}
 use Rattle.geometry.specs.declared.pin_word.Phase.TheVariants.{Free, Open, Closed, Victim, Drained, Erasing, Retired}
 use Rattle.flash_rule.specs.declared.facts.Cycle.{Cycle}
 use Rattle.flash_rule.specs.declared.facts.Name.{Name}
+use Rattle.flash_rule.specs.declared.carried.Carried.{Carried}
 use Rattle.flash_rule.specs.Views.{same_name}
 
 -- What the words and all seats stand for at one moment: the history, the map, the states and pages of the blocks, and whose everything is
@@ -39,6 +40,8 @@ pub record World : Type 0 where
   pub erases : Name → List Cycle
   -- the seat where a player's badge is
   pub badge : Name → ℕ
+  -- the copies that a player's badge has with it while it is on a note
+  pub carries : Name → Option Carried
 
 -- a function with one value replaced
 abbrev pub put : {X : Type 0} → (ℕ → X) → ℕ → X → ℕ → X
