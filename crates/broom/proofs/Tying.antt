@@ -1,6 +1,6 @@
 -- A broom that meets another one, or stands by a page: what goes along with the notes, and what each knows in the end.
 use Rattle.std.proofs.Common.{◌≡◌, ℕ, true, List, [], ◌∷◌, ◌++◌, Option, Some, None, sym, refl, ap, ◌∙◌, subst, arith}
-use Rattle.geometry.specs.History.{held}
+use Rattle.geometry.specs.History.{held, Begins}
 use Rattle.geometry.specs.Limits.{Numbers}
 use Rattle.geometry.specs.MapWords.{map_word}
 use Rattle.geometry.specs.declared.map_word.MapWord.{MapWord}
@@ -103,7 +103,7 @@ module _ (v v' w : View) (found : Option MapWord) (mine : v.role ≡ Player (nam
       let copied = ap (λ (x : View). x.copy) e in
       record {
         found = found;
-        changed = ap giver e ∙ (λ i. record v { seen = w.seen; named = v.named ++ (0, sector_word found) ∷ []; copy = sym copied i; guest = sym alone i });
+        changed = ap giver e ∙ (λ i. record v { seen = w.seen; named = v.named ++ (0, sector_word found) ∷ []; copy = sym copied i; older = v.copy; guest = sym alone i });
         empty = look_empty (host_of v (lent_note v')) w found told none;
         mapped = look_mapped (host_of v (lent_note v')) w found told none;
       }
@@ -116,7 +116,7 @@ module _ (v v' w : View) (found : Option MapWord) (mine : v.role ≡ Player (nam
         let copied = ap (λ (x : View). x.copy) e in
         record {
           found = again;
-          changed = e ∙ (λ i. record v' { seen = u.seen; named = v'.named ++ (0, sector_word again) ∷ []; copy = sym copied i; whole = sym whole i });
+          changed = e ∙ (λ i. record v' { seen = u.seen; named = v'.named ++ (0, sector_word again) ∷ []; copy = sym copied i; older = v'.copy; whole = sym whole i });
           empty = look_empty (home (lender v') (given_note w)) u again last none';
           mapped = look_mapped (home (lender v') (given_note w)) u again last none';
         }
@@ -137,6 +137,13 @@ module _ (v v' w : View) (found : Option MapWord) (mine : v.role ≡ Player (nam
           erased_once = (met.erased_once.0, theirs.erased_once.0);
           heard = ap (λ (x : View). x.copy) told.changed;
           told = ap (λ (x : View). x.copy) last.changed;
+          before = (
+            (λ c had of. let grown = met.newer c (ap (λ (x : View). x.older) told.changed ∙ had) (sym (ap name_of of)) in (grown.programs, grown.erases)),
+            λ c had of.
+                let grown = theirs.newer c (ap (λ (x : View). x.older) last.changed ∙ had) (sym (ap name_of (role ∙ of))) in
+                let stays = told.changed in
+                (subst (Begins c.programs) (ap (λ (x : View). x.programs) stays) grown.programs, subst (Begins c.erases) (ap (λ (x : View). x.erases) stays) grown.erases),
+          );
         }
 
 -- ---- a broom that stands by a page: the pass, v, has read a word with the broom's note
@@ -162,7 +169,7 @@ module _ (v x : View) (page : MapWord) (mine : v.role ≡ Player (name_of v.role
         let copied = ap (λ (z : View). z.copy) e in
         record {
           found = found;
-          changed = e ∙ (λ i. record x { seen = y.seen; named = x.named ++ (0, sector_word found) ∷ []; copy = sym copied i; whole = sym whole i });
+          changed = e ∙ (λ i. record x { seen = y.seen; named = x.named ++ (0, sector_word found) ∷ []; copy = sym copied i; older = x.copy; whole = sym whole i });
           empty = look_empty (home (lender x) (given_note (host_of v (lent_note x)))) y found told none;
           mapped = look_mapped (home (lender x) (given_note (host_of v (lent_note x)))) y found told none;
         }
@@ -171,7 +178,7 @@ module _ (v x : View) (page : MapWord) (mine : v.role ≡ Player (name_of v.role
     stood alone =
         let met : Met y (carried v) = told.met (carried v) refl in
         record {
-          pass = λ i. record v { copy = Some (carried x); guest = sym alone i };
+          pass = λ i. record v { copy = Some (carried x); older = v.copy; guest = sym alone i };
           broom = stood_heard;
           told = ap (λ (z : View). z.copy) told.changed;
           later = told.later;
@@ -179,4 +186,8 @@ module _ (v x : View) (page : MapWord) (mine : v.role ≡ Player (name_of v.role
           spared = spared.erases;
           programs = spared.programs;
           programmed_once = spared.programmed_once;
+          before = (
+            (λ c had of. let grown = spared.newer c had (sym (ap name_of of)) in (grown.programs, grown.erases)),
+            λ c had of. let grown = met.newer c (ap (λ (z : View). z.older) told.changed ∙ had) (sym (ap name_of of)) in (grown.programs, grown.erases),
+          );
         }

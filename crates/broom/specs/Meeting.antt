@@ -9,7 +9,7 @@ use Rattle.flash_rule.specs.declared.facts.Pin.TheVariants.{Accepted}
 use Rattle.flash_rule.specs.declared.view.View.{View}
 use Rattle.flash_rule.specs.World.{sector_word}
 use Rattle.flash_rule.specs.Seats.{carried}
-use Rattle.flash_rule.specs.Plays.{Disjoint, Once}
+use Rattle.flash_rule.specs.Plays.{Disjoint, Once, GoesOnFrom}
 use Rattle.flash_table.specs.declared.flash.Flash.{Flash}
 use Rattle.flash_table.specs.declared.pass.Pass.{Pass}
 use Rattle.flash_table.specs.Flash.{IsPassOf, view_of, geometry_of}
@@ -31,12 +31,13 @@ pub record IsPinned (f : Flash) (p : Pass) (at : MapWord) (value : List ℕ) : T
 -- of the other one, and nothing else has changed
 pub record HasHeard (v w : View) : Type 0 where
   pub found : Option MapWord
-  pub changed : w ≡ record v { seen = w.seen; named = v.named ++ (0, sector_word found) ∷ []; copy = w.copy }
+  pub changed : w ≡ record v { seen = w.seen; named = v.named ++ (0, sector_word found) ∷ []; copy = w.copy; older = v.copy }
   pub empty : found ≡ None → held v.numbers.sectors w.seen 0 ≡ None
   pub mapped : (m : MapWord) → found ≡ Some m → (value : List ℕ) × (held v.numbers.sectors w.seen 0 ≡ Some value)
 
 -- Two brooms that met: each has seen what both had seen, and the second one what the first has; they have programmed no page both, and
--- erased no block in one generation both; neither of them did so twice. Each has heard what the other one has done
+-- erased no block in one generation both; neither of them did so twice. Each has heard what the other one has done, and what it had heard
+-- of the other one before begins that
 pub record BroomsMet (v v' x x' : View) : Type 0 where
   pub first : HasHeard v x
   pub second : HasHeard v' x'
@@ -50,11 +51,13 @@ pub record BroomsMet (v v' x x' : View) : Type 0 where
   pub erased_once : Once x.erases × Once x'.erases
   pub heard : x.copy ≡ Some (carried v')
   pub told : x'.copy ≡ Some (carried x)
+  pub before : GoesOnFrom v v' × GoesOnFrom v' v
 
 -- A broom stood by a page that a pass holds: of the page's block it has erased earlier generations only, it has programmed no page that
--- the pass has, neither of them has programmed one twice, and it has seen all that the pass had. Each has heard what the other one has done; the pass has changed in nothing else
+-- the pass has, neither of them has programmed one twice, and it has seen all that the pass had. Each has heard what the other one has done,
+-- and what it had heard of the other one before begins that; the pass has changed in nothing else
 pub record StoodTold (v x : View) (page : MapWord) (w y : View) : Type 0 where
-  pub pass : w ≡ record v { copy = Some (carried x) }
+  pub pass : w ≡ record v { copy = Some (carried x); older = v.copy }
   pub broom : HasHeard x y
   pub told : y.copy ≡ Some (carried v)
   pub later : Begins x.seen y.seen
@@ -62,3 +65,4 @@ pub record StoodTold (v x : View) (page : MapWord) (w y : View) : Type 0 where
   pub spared : (k : ℕ) (c : Cycle) → slice_get x.erases k ≡ Some c → c.block ≡ page.block → c.generation < page.generation
   pub programs : Disjoint v.programs x.programs
   pub programmed_once : Once v.programs × Once x.programs
+  pub before : GoesOnFrom v x × GoesOnFrom x v

@@ -80,6 +80,7 @@ module _ (z : Numbers) (g : World) (vs : List View) (id : ℕ) (v : View) (n : N
       (record {
         kind = record {
           numbers = kind.numbers;
+          host = kind.host;
           known = kind.known;
           opens = kind.opens;
           unpinned = kind.unpinned;
@@ -87,15 +88,18 @@ module _ (z : Numbers) (g : World) (vs : List View) (id : ℕ) (v : View) (n : N
           owns_none = kind.owns_none;
           reclaims = kind.reclaims;
         };
-        knowledge = record { seen = begins; pin = knows.pin; known = knows.known; programs = knows.programs; erases = knows.erases; copy = knows.copy };
+        knowledge = record { seen = begins; pin = knows.pin; known = knows.known; programs = knows.programs; erases = knows.erases; copy = knows.copy; older = knows.older; out = knows.out };
         holding = record {
           name = holds.name;
           calls = λ t is. ((holds.calls t is).0, own_calls t is);
+          lists = holds.lists;
           owned = owned;
           work = holds.work;
           source = lawful;
           whole = holds.whole;
           guest = holds.guest;
+          note = holds.note;
+          home = holds.home;
           dealer = holds.dealer;
         };
       })
@@ -183,7 +187,7 @@ module _ (z : Numbers) (g : World) (vs : List View) (id : ℕ) (v : View) (n : N
           (let e : v.numbers.pages ≡ z.pages = ap (λ (y : Numbers). y.pages) same in let l = fits.1 in omega arith),
         )
 
-    met_here : (w : View) → w.role ≡ v.role → w.seen ≡ g.history → w.programs ≡ v.programs → w.erases ≡ v.erases → (c : Carried) → v.copy ≡ Some c → Met w c
+    met_here : (w : View) → w.role ≡ v.role → w.seen ≡ g.history → w.programs ≡ v.programs → w.erases ≡ v.erases → w.older ≡ v.older → (c : Carried) → v.copy ≡ Some c → Met w c
     met_here = met_now z g v n role (law.views id v at).knowledge
 
     own_calls : (t : ℕ) → v.role ≡ Player (Pass t) → calls_of t g.history ≡ v.mine
@@ -204,7 +208,7 @@ module _ (z : Numbers) (g : World) (vs : List View) (id : ℕ) (v : View) (n : N
             live = λ x value is stamp. absurd (apart x is stamp);
             dead = λ x is stamp. absurd (apart x is stamp);
             others = λ _. (refl, refl);
-            met = met_here (looker v.source v.cleared) refl refl refl refl;
+            met = met_here (looker v.source v.cleared) refl refl refl refl refl;
           },
         )
 
@@ -259,7 +263,7 @@ module _ (z : Numbers) (g : World) (vs : List View) (id : ℕ) (v : View) (n : N
               live = λ y value its_before _ _ holds. (live_told y value its_before holds, refl);
               dead = λ y its_before _ not. absurd (not_dead y its_before not);
               others = λ apart. absurd (apart x is stamp);
-              met = met_here (looker (Some live_source) v.cleared) refl refl refl refl;
+              met = met_here (looker (Some live_source) v.cleared) refl refl refl refl refl;
             },
           )
 
@@ -278,7 +282,7 @@ module _ (z : Numbers) (g : World) (vs : List View) (id : ℕ) (v : View) (n : N
             live = λ y value its_before _ found. absurd (other (found ∙ ap (λ (y : Source). map_word y.page) (some_same y x (sym its_before ∙ is))));
             dead = λ y its_before _ _. (refl, refl);
             others = λ apart. absurd (apart x is stamp);
-            met = met_here (looker None (v.cleared + 1)) refl refl refl refl;
+            met = met_here (looker None (v.cleared + 1)) refl refl refl refl refl;
           },
         )
 

@@ -1,5 +1,5 @@
 -- The dealer hands out the next broom, with the first of the spares that it still owns.
-use Rattle.std.proofs.Common.{◌≡◌, ◌≢◌, ℕ, zero, suc, ◌+◌, ◌<◌, ◌≤◌, inl, ne_eqb, true, false, [], ◌∷◌, ◌++◌, None, Some, length, set, sym, refl, ap, ◌∙◌, subst, arith, length-set}
+use Rattle.std.proofs.Common.{◌≡◌, ◌≢◌, ℕ, zero, suc, ◌+◌, ◌<◌, ◌≤◌, ◌⊎◌, inl, ne_eqb, true, false, [], ◌∷◌, ◌++◌, None, Some, length, set, sym, refl, ap, ◌∙◌, subst, arith, length-set}
 use mathlib.Core.Logic.{dite}
 use native.Mathlib.Decide.{ℕ_discrete}
 use lib.ListN.{get_elem?}
@@ -9,7 +9,7 @@ use Rattle.geometry.proofs.Histories.{Begins-refl}
 use Rattle.geometry.specs.Limits.{Numbers}
 use Rattle.flash_rule.specs.declared.facts.Name.{Name}
 use Rattle.flash_rule.specs.declared.facts.Name.TheVariants.{Pass, Broom}
-use Rattle.flash_rule.specs.declared.facts.Role.TheVariants.{Dealer, Player}
+use Rattle.flash_rule.specs.declared.facts.Role.TheVariants.{Dealer, Player, Note}
 use Rattle.flash_rule.specs.declared.facts.Owned.{Owned}
 use Rattle.flash_rule.specs.declared.view.View.{View}
 use Rattle.flash_rule.specs.Views.{is_pass, is_player, is_live_role, weight, owned_at, without}
@@ -17,13 +17,13 @@ use Rattle.flash_rule.specs.World.{World, put, put_name, is_owned}
 use Rattle.flash_rule.specs.Rule.{LawfulOwned, LawfulView, IsDealt, IsFilling}
 use Rattle.flash_rule.specs.Onward.{Onward}
 use Rattle.flash_rule.specs.Seats.{Ruled, spare, spares, next_spare, new_broom, dealt_broom}
-use Rattle.flash_rule.proofs.Points.{put_here, put_else, eq_self}
+use Rattle.flash_rule.proofs.Points.{put_here, put_else, eq_self, name_here, name_else, name_all}
 use Rattle.flash_rule.proofs.Owning.{some_same, none_some, nothing, with_here, with_else, without_here, without_else, owned_else, one_with_open, one_without}
 use Rattle.flash_rule.proofs.Ceding.{ceded_split}
-use Rattle.flash_rule.proofs.Frames.{counted, knowledge_kept}
+use Rattle.flash_rule.proofs.Frames.{counted, knowledge_kept, lists_stay}
 use Rattle.flash_rule.proofs.Assembly.{owner_kept}
 use Rattle.flash_rule.proofs.Still.{pin_stays}
-use Rattle.flash_rule.proofs.Splitting.{Owner, split_with, current_kept, name_here, name_else, player_same}
+use Rattle.flash_rule.proofs.Splitting.{Owner, split_with, current_kept, player_same}
 
 -- the dealer's spares, one by one
 pub first_spare : (n from : ℕ) → owned_at from (spares (suc n) from) ≡ Some (spare from)
@@ -56,7 +56,7 @@ module _ (z : Numbers) (id : ℕ) (v : View) where
       let b : ℕ = next_spare v in
       let n : Name = Broom v.brooms in
       let new : ℕ = length vs in
-      let g' : World = record g { owner = put g.owner b new; brooms = g.brooms + 1; seat = put_name g.seat n new; badge = put_name g.badge n new } in
+      let g' : World = record g { owner = put g.owner b new; brooms = g.brooms + 1; seat = put_name g.seat n new; programs = put_name g.programs n []; erases = put_name g.erases n []; badge = put_name g.badge n new; carries = put_name g.carries n None } in
       let mine = holds.owned b (spare b) has in
       let not_yet : (m : Name) → IsDealt g m → ¬ (m ≡ n) = fresh_broom g v.brooms (omega arith) in
       let still_dealt : (m : Name) → IsDealt g m → IsDealt g' m = dealt_more g g' refl (omega arith) in
@@ -70,8 +70,11 @@ module _ (z : Numbers) (id : ℕ) (v : View) where
         named = λ s m is. inl is;
         programmer = λ m _. refl;
         eraser = λ c k _. refl;
+        lists = λ m dealt. lists_stay g g' id m (name_else g.programs n [] m (not_yet m dealt)) (name_else g.erases n [] m (not_yet m dealt));
         dealer = λ apart. absurd (apart d.0);
-        badge = λ m dealt _ _. name_else g.badge n new m (not_yet m dealt);
+        badge = λ m dealt _ _. (name_else g.badge n new m (not_yet m dealt), name_else g.carries n None m (not_yet m dealt));
+        carries = λ m c. name_all g.carries n None (λ k x. x ≡ Some c → (g.carries k ≡ Some c) ⊎ ((c.programs ≡ g.programs c.of) × (c.erases ≡ g.erases c.of)))
+            (λ is. absurd (none_some c is)) (λ k _ is. inl is) m;
       } in
       let knows = knowledge_kept z g g' id id on v (λ c is below. counted vs law id v at c is below) h.knowledge in
       let not_player : (m : Name) → v.role ≡ Player m → ⊥ = λ m is. let e : Dealer ≡ Player m = sym role ∙ is in absurd (cc) in
@@ -80,6 +83,7 @@ module _ (z : Numbers) (id : ℕ) (v : View) where
       let own : LawfulView z g' id (dealt_broom v) = record {
         kind = record {
           numbers = kind.numbers;
+          host = kind.host;
           known = kind.known;
           opens = λ is. let no : true ≡ false = sym is ∙ ap is_pass role in absurd (cc);
           unpinned = kind.unpinned;
@@ -87,10 +91,11 @@ module _ (z : Numbers) (id : ℕ) (v : View) where
           owns_none = λ is. ap (λ l. without b l) (kind.owns_none is);
           reclaims = one_without b v.owns kind.reclaims;
         };
-        knowledge = record { seen = knows.seen; pin = knows.pin; known = knows.known; programs = knows.programs; erases = knows.erases; copy = knows.copy };
+        knowledge = record { seen = knows.seen; pin = knows.pin; known = knows.known; programs = knows.programs; erases = knows.erases; copy = knows.copy; older = knows.older; out = knows.out };
         holding = record {
           name = λ m is. absurd (not_player m is);
           calls = λ t is. absurd (not_player (Pass t) is);
+          lists = λ m is. absurd (not_player m is);
           owned = λ c o is.
               let unlike = elsewhere c o is in
               owned_else z g g' id v.work v.work v.cleared v.wiped c o refl (put_else g.owner b new c unlike) (λ p i. refl) (λ s m named _. inl named) (λ p _ f. f)
@@ -99,6 +104,8 @@ module _ (z : Numbers) (id : ℕ) (v : View) where
           source = λ x is. absurd (none_some x (sym (kind.idle (ap is_player role)).1 ∙ is));
           whole = λ _ m is. absurd (not_player m is);
           guest = λ m is. let k = holds.guest m is in (name_else g.badge n new m (not_yet m k.1) ∙ k.0, still_dealt m k.1);
+          note = λ m is. let e : Dealer ≡ Note = sym role ∙ is in absurd (cc);
+          home = λ m is. absurd (not_player m is);
           dealer = λ _. (d.0, d.1, ap (λ k. k + 1) d.2);
         };
       } in
@@ -118,6 +125,7 @@ module _ (z : Numbers) (id : ℕ) (v : View) where
       let added : LawfulView z g' new (new_broom v) = record {
         kind = record {
           numbers = λ _. numbers;
+          host = λ k m is guest. absurd (none_some m guest);
           known = λ is. absurd (cc);
           opens = λ is. absurd (cc);
           unpinned = λ _. refl;
@@ -132,6 +140,8 @@ module _ (z : Numbers) (id : ℕ) (v : View) where
           programs = λ m is k x at. absurd (nothing k x at);
           erases = λ m is k x at. absurd (nothing k x at);
           copy = λ c is. absurd (none_some c is);
+          older = λ o c is. absurd (none_some o is);
+          out = λ m c d _ is. absurd (none_some c is);
         };
         holding = record {
           name = λ m is.
@@ -139,6 +149,10 @@ module _ (z : Numbers) (id : ℕ) (v : View) where
               let P : Name → Type 0 = λ m. (g'.seat m ≡ new) × IsDealt g' m in
               let here : P n = (name_here g.seat n new, omega arith) in subst P same here;
           calls = λ t is. absurd (cc);
+          lists = λ m is.
+              let same : n ≡ m = player_same n m is in
+              let P : Name → Type 0 = λ m. (g'.programs m ≡ []) × (g'.erases m ≡ []) in
+              let here : P n = (name_here g.programs n [], name_here g.erases n []) in subst P same here;
           owned = λ c o is. dite (ℕ_discrete c b)
               (λ same.
               let entry : spare b ≡ o = some_same (spare b) o (sym (with_here (spare b) []) ∙ (ap (λ j. owned_at j (spares 1 b)) (sym same) ∙ is)) in
@@ -148,6 +162,8 @@ module _ (z : Numbers) (id : ℕ) (v : View) where
           source = λ x is. absurd (none_some x is);
           whole = λ _ m is. let same : n ≡ m = player_same n m is in let P : Name → Type 0 = λ m. g'.badge m ≡ new in let here : P n = name_here g.badge n new in subst P same here;
           guest = λ m is. absurd (none_some m is);
+          note = λ m is. absurd (cc);
+          home = λ m is _. let same : n ≡ m = player_same n m is in let P : Name → Type 0 = λ m. g'.carries m ≡ None in let here : P n = name_here g.carries n None in subst P same here;
           dealer = λ is. absurd (cc);
         };
       } in

@@ -4,6 +4,7 @@ use Rattle.std.proofs.lemmas.List.{append-nil}
 use mathlib.Core.Option.{some}
 use lib.ListN.{get_elem?}
 use Rattle.geometry.specs.Limits.{Numbers}
+use Rattle.geometry.proofs.Histories.{Begins-refl}
 use Rattle.geometry.specs.declared.pin_word.PinWord.{PinWord}
 use Rattle.geometry.specs.declared.pin_word.Phase.TheVariants.{Free, Open, Victim, Erasing, Retired}
 use Rattle.flash_rule.specs.declared.facts.Owned.{Owned}
@@ -17,7 +18,7 @@ use Rattle.flash_rule.specs.BroomPlays.{IsErasing, CanRenew}
 use Rattle.flash_rule.proofs.Points.{put_here}
 use Rattle.flash_rule.proofs.Places.{row_within}
 use Rattle.flash_rule.proofs.Owning.{owns_none_else, may_own_else, some_same, with_here, with_else, without_else, one_with_open, one_without}
-use Rattle.flash_rule.proofs.PinSteps.{turned}
+use Rattle.flash_rule.proofs.PinSteps.{deeds, turned}
 use Rattle.flash_rule.proofs.Ceding.{ceded_owned, ceded_last}
 use Rattle.flash_rule.proofs.Reclaiming.{turns, entry_set, entry_gone, owner_numbers}
 
@@ -67,7 +68,7 @@ module _ (z : Numbers) (g : World) (vs : List View) (id : ℕ) (v : View) (o : O
   retirer = record v { owns = without o.block v.owns; ceded = v.ceded ++ retired_block ∷ [] }
 
   abbrev pub retire_world : World
-  retire_world = turned g o.block retired_state id g.programmer g.eraser
+  retire_world = turned g o.block retired_state id (deeds g)
 
   -- a block that is being erased retires
   pub retires : Lawful z retire_world (set vs id retirer)
@@ -75,7 +76,7 @@ module _ (z : Numbers) (g : World) (vs : List View) (id : ℕ) (v : View) (o : O
       let b : ℕ = o.block in
       let h = law.views id v at in
       let block = law.blocks b entry.low in
-      turns z g vs id v b retired_state (without b v.owns) v.erases v.cleared v.wiped v.drains (v.ceded ++ retired_block ∷ []) g.eraser law at entry.low
+      turns z g vs id v b retired_state (without b v.owns) v.erases v.cleared v.wiped v.drains (v.ceded ++ retired_block ∷ []) g.eraser g.erases law at entry.low
       (ceded_last z g.pins vs id v retirer law.ceded at refl b retired_state entry.low
       (inr (refl, (let e : rank (g.pins b).phase ≡ 5 = ap rank is_erasing in omega arith), omega arith))
       retired_block (λ i. record { block = b; phase = Retired; generation = sym entry.generation i; written = sym entry.written i }) refl (sym (append-nil v.drains)) eraser_owns)
@@ -105,6 +106,8 @@ module _ (z : Numbers) (g : World) (vs : List View) (id : ℕ) (v : View) (o : O
         reclaims = one_without b v.owns h.kind.reclaims;
         idle = λ is. (h.kind.idle is).3;
         erases = λ n _ old. old;
+        lists = λ n _. (Begins-refl (g.erases n), λ _. refl);
+        listed = λ n _ its. its;
         cleared = omega arith;
         wiped = omega arith;
         source = λ x _ k. (source_else x k, refl);
@@ -133,14 +136,14 @@ module _ (z : Numbers) (g : World) (vs : List View) (id : ℕ) (v : View) (o : O
   freer = record v { owns = without o.block v.owns; ceded = v.ceded ++ freed_as o ∷ [] }
 
   abbrev pub free_world : World
-  free_world = turned g o.block freed_state id g.programmer g.eraser
+  free_world = turned g o.block freed_state id (deeds g)
 
   -- a wiped block is free in its next generation
   pub frees : CanRenew v o → Lawful z free_world (set vs id freer)
   frees can =
       let b : ℕ = o.block in
       let h = law.views id v at in
-      turns z g vs id v b freed_state (without b v.owns) v.erases v.cleared v.wiped v.drains (v.ceded ++ freed_as o ∷ []) g.eraser law at entry.low
+      turns z g vs id v b freed_state (without b v.owns) v.erases v.cleared v.wiped v.drains (v.ceded ++ freed_as o ∷ []) g.eraser g.erases law at entry.low
       (ceded_last z g.pins vs id v freer law.ceded at refl b freed_state entry.low (inl (omega arith)) (freed_as o)
       (λ i. record { block = b; phase = Free; generation = sym entry.generation i + 1; written = 0 }) refl (sym (append-nil v.drains)) eraser_owns)
       (record {
@@ -169,6 +172,8 @@ module _ (z : Numbers) (g : World) (vs : List View) (id : ℕ) (v : View) (o : O
         reclaims = one_without b v.owns h.kind.reclaims;
         idle = λ is. (h.kind.idle is).3;
         erases = λ n _ old. old;
+        lists = λ n _. (Begins-refl (g.erases n), λ _. refl);
+        listed = λ n _ its. its;
         cleared = omega arith;
         wiped = omega arith;
         source = λ x _ k. (source_else x k, refl);
@@ -185,7 +190,7 @@ module _ (z : Numbers) (g : World) (vs : List View) (id : ℕ) (v : View) (o : O
   keeper = record v { owns = with_owned kept_block v.owns }
 
   abbrev pub keep_world : World
-  keep_world = turned g o.block kept_state id g.programmer g.eraser
+  keep_world = turned g o.block kept_state id (deeds g)
 
   -- a wiped block is its eraser's, open in its next generation
   pub keeps_block : CanRenew v o → Lawful z keep_world (set vs id keeper)
@@ -205,7 +210,7 @@ module _ (z : Numbers) (g : World) (vs : List View) (id : ℕ) (v : View) (o : O
         dead = λ is. absurd (cc);
         clean = λ is. absurd (cc);
       } in
-      turns z g vs id v b kept_state (with_owned kept_block v.owns) v.erases v.cleared v.wiped v.drains v.ceded g.eraser law at entry.low
+      turns z g vs id v b kept_state (with_owned kept_block v.owns) v.erases v.cleared v.wiped v.drains v.ceded g.eraser g.erases law at entry.low
       (ceded_owned z g.pins vs id v keeper law.ceded at refl b kept_state refl refl refl (inl (omega arith)))
       (record {
         onward = record {
@@ -233,6 +238,8 @@ module _ (z : Numbers) (g : World) (vs : List View) (id : ℕ) (v : View) (o : O
         reclaims = one_with_open kept_block v.owns refl h.kind.reclaims;
         idle = λ is. (h.kind.idle is).3;
         erases = λ n _ old. old;
+        lists = λ n _. (Begins-refl (g.erases n), λ _. refl);
+        listed = λ n _ its. its;
         cleared = omega arith;
         wiped = omega arith;
         source = λ x _ k. (source_else x k, refl);

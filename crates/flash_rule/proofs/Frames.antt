@@ -1,9 +1,11 @@
 -- What a step leaves to the seats that don't make it.
-use Rattle.std.proofs.Common.{◌≡◌, ℕ, ◌<◌, ◌≤◌, inl, inr, ⊎_elim, true, List, [], ◌∷◌, zero, suc, sym, ap, ◌∙◌, arith}
+use Rattle.std.proofs.Common.{◌≡◌, ℕ, ◌<◌, ◌≤◌, inl, inr, ⊎_elim, true, List, [], ◌∷◌, Some, zero, suc, sym, ap, ◌∙◌, subst, arith}
 use mathlib.Core.Option.{some, some-injective, some-ne-none}
 use mathlib.Core.Logic.{dite}
 use native.Mathlib.Decide.{ℕ_discrete}
 use lib.ListN.{get_elem?}
+use Rattle.std.proofs.lemmas.List.{append-nil}
+use Rattle.geometry.specs.History.{Begins}
 use Rattle.geometry.specs.Limits.{Numbers}
 use Rattle.geometry.proofs.Histories.{Begins-trans}
 use Rattle.geometry.specs.declared.map_word.MapWord.{MapWord}
@@ -21,9 +23,9 @@ use Rattle.flash_rule.specs.declared.carried.Carried.{Carried}
 use Rattle.flash_rule.specs.declared.view.View.{View}
 use Rattle.flash_rule.specs.Views.{one_if, total, pin_is_on, pins_on}
 use Rattle.flash_rule.specs.World.{World, is_owned}
-use Rattle.flash_rule.specs.Rule.{IsProgrammed, Programs, Erases, IsAccepted, IsCandidate, LawfulPin, LawfulCopy, LawfulKnowledge, LawfulOwned, LawfulWork, LawfulSource, LawfulHolding, LawfulView, Lawful}
+use Rattle.flash_rule.specs.Rule.{IsProgrammed, Programs, Erases, IsAccepted, IsCandidate, LawfulPin, LawfulCopy, Grown, LawfulKnowledge, LawfulOwned, LawfulWork, LawfulSource, LawfulHolding, LawfulView, Lawful}
 use Rattle.flash_rule.proofs.Points.{eq_self}
-use Rattle.flash_rule.specs.Onward.{PinOnward, Untouched, Onward}
+use Rattle.flash_rule.specs.Onward.{PinOnward, Untouched, ListsOnward, Onward}
 
 pub programmed_onward : {p q : PinWord} (m : MapWord) → PinOnward p q → IsProgrammed p m → IsProgrammed q m
 programmed_onward {p} {q} m on (inl older) = let h = on.generation in inl (omega arith)
@@ -31,6 +33,15 @@ programmed_onward {p} {q} m on (inr here) =
     dite (ℕ_discrete q.generation p.generation)
     (λ same. let w = on.written same in inr (here.0 ∙ sym same, omega arith))
     (λ apart. let h = on.generation in let e = here.0 in inl (omega arith))
+
+-- a list begins those that are the same
+pub begins_same : {X : Type 0} (k l : List X) → l ≡ k → Begins k l
+begins_same k l same = ([], append-nil k ∙ sym same)
+
+-- where nothing is programmed or erased, all lists stay
+pub lists_stay : (g g' : World) (id : ℕ) (n : Name) → g'.programs n ≡ g.programs n → g'.erases n ≡ g.erases n → ListsOnward g g' id n
+lists_stay g g' id n programs erases =
+    record { programs = begins_same (g.programs n) (g'.programs n) programs; erases = begins_same (g.erases n) (g'.erases n) erases; others = λ _. (programs, erases) }
 
 -- one view's number is part of the total
 pub total_at : (f : View → ℕ) (vs : List View) (id : ℕ) (v : View) → get_elem? vs id ≡ some v → f v ≤ total f vs
@@ -98,11 +109,23 @@ module _ (z : Numbers) (g g' : World) (id other : ℕ) (on : Onward z g g' id ot
 
   pub copy_kept : (role : Role) (c : Carried) → LawfulCopy z g role c → LawfulCopy z g' role c
   copy_kept role c h =
+      let lists = on.lists c.of h.dealt in
       record {
+        dealt = (on.seat c.of h.dealt).1;
+        other = h.other;
         seen = Begins-trans c.seen g.history g'.history h.seen on.history;
+        programmed = Begins-trans c.programs (g.programs c.of) (g'.programs c.of) h.programmed lists.programs;
+        erased = Begins-trans c.erases (g.erases c.of) (g'.erases c.of) h.erased lists.erases;
         programs = programs_kept c.of c.programs h.programs;
         erases = erases_kept c.of c.erases h.erases;
-        other = h.other;
+      }
+
+  -- copies of all that a player did begin with each of its copies
+  whole_lists : {role : Role} (c d : Carried) → LawfulCopy z g role c → c.of ≡ d.of → (d.programs ≡ g.programs d.of) × (d.erases ≡ g.erases d.of) → Grown c d
+  whole_lists c d h same all =
+      record {
+        programs = subst (λ l. Begins c.programs l) (ap g.programs same ∙ sym all.0) h.programmed;
+        erases = subst (λ l. Begins c.erases l) (ap g.erases same ∙ sym all.1) h.erased;
       }
 
   pub knowledge_kept : (v : View) → ((b : ℕ) → pin_is_on b v.pin ≡ true → b < z.blocks → 0 < (g.pins b).readers) → LawfulKnowledge z g v → LawfulKnowledge z g' v
@@ -114,6 +137,10 @@ module _ (z : Numbers) (g g' : World) (id other : ℕ) (on : Onward z g g' id ot
         programs = λ n is. programs_kept n v.programs (h.programs n is);
         erases = λ n is. erases_kept n v.erases (h.erases n is);
         copy = λ c is. copy_kept v.role c (h.copy c is);
+        older = h.older;
+        out = λ n c d whose is there same.
+            ⊎_elim (λ (was : g.carries n ≡ Some d). h.out n c d whose is was same)
+            (λ (all : (d.programs ≡ g.programs d.of) × (d.erases ≡ g.erases d.of)). whole_lists c d (h.copy c is) same all) (on.carries n d there);
       }
 
   module _ (at : ℕ) (apart : ¬ (at ≡ id)) where
@@ -171,11 +198,17 @@ module _ (z : Numbers) (g g' : World) (id other : ℕ) (on : Onward z g g' id ot
         record {
           name = λ n is. let k = h.name n is in let s = on.seat n k.1 in (s.0 ∙ k.0, s.1);
           calls = λ t is. let k = h.calls t is in let s = h.name (Pass t) is in (on.calls t (λ e. apart (sym s.0 ∙ e)) ∙ k.0, k.1);
+          lists = λ n is.
+              let k = h.name n is in
+              let stay = (on.lists n k.1).others (λ e. apart (sym k.0 ∙ e)) in
+              let its = h.lists n is in (stay.0 ∙ its.0, stay.1 ∙ its.1);
           owned = λ b o is. owned_kept v b o (h.owned b o is);
           work = λ w is. work_kept v w h (h.work w is);
           source = λ x is. source_kept v x h (h.source x is);
-          whole = λ whole n is. let k = h.whole whole n is in on.badge n (h.name n is).1 (λ e. apart (sym k ∙ e)) (λ e. apart' (sym k ∙ e)) ∙ k;
-          guest = λ n is. let k = h.guest n is in (on.badge n k.1 (λ e. apart (sym k.0 ∙ e)) (λ e. apart' (sym k.0 ∙ e)) ∙ k.0, (on.seat n k.1).1);
+          whole = λ whole n is. let k = h.whole whole n is in (on.badge n (h.name n is).1 (λ e. apart (sym k ∙ e)) (λ e. apart' (sym k ∙ e))).0 ∙ k;
+          guest = λ n is. let k = h.guest n is in ((on.badge n k.1 (λ e. apart (sym k.0 ∙ e)) (λ e. apart' (sym k.0 ∙ e))).0 ∙ k.0, (on.seat n k.1).1);
+          note = λ n role is. let k = h.guest n is in (on.badge n k.1 (λ e. apart (sym k.0 ∙ e)) (λ e. apart' (sym k.0 ∙ e))).1 ∙ h.note n role is;
+          home = λ n is whole. let k = h.whole whole n is in (on.badge n (h.name n is).1 (λ e. apart (sym k ∙ e)) (λ e. apart' (sym k ∙ e))).1 ∙ h.home n is whole;
           dealer = λ is. let k = h.dealer is in let d = on.dealer (λ e. apart (k.0 ∙ sym e)) in (k.0, k.1 ∙ sym d.0, k.2 ∙ sym d.1);
         }
 

@@ -19,7 +19,7 @@ use Rattle.flash_rule.specs.Rule.{LawfulSector, LawfulView, Lawful}
 use Rattle.flash_rule.specs.Onward.{Onward}
 use Rattle.flash_rule.specs.Plays.{Placed}
 use Rattle.flash_rule.proofs.Points.{put_else, put_all}
-use Rattle.flash_rule.proofs.Frames.{counted, knowledge_kept}
+use Rattle.flash_rule.proofs.Frames.{counted, knowledge_kept, lists_stay}
 use Rattle.flash_rule.proofs.Assembly.{assembled, block_kept, sector_kept}
 use Rattle.flash_rule.proofs.Ceding.{ceded_still}
 use Rattle.flash_rule.proofs.Still.{pin_stays, pass_numbers}
@@ -86,18 +86,21 @@ module _ (z : Numbers) (g : World) (vs : List View) (id : ℕ) (v : View) (t s :
         named = λ u n is. put_all g.map s m (λ j x. x ≡ Some n → (g.map j ≡ Some n) ⊎ (g.owner n.block ≡ id)) (mine n) (λ j _ is. inl is) u is;
         programmer = λ n _. refl;
         eraser = λ b n _. refl;
+        lists = λ n _. lists_stay g g' id n refl refl;
         dealer = λ _. (refl, refl);
-        badge = λ n _ _ _. refl;
+        badge = λ n _ _ _. (refl, refl);
+        carries = λ n c is. inl is;
       } in
       let knows = knowledge_kept z g g' id id on v (λ b is below. counted vs law id v at b is below) h.knowledge in
       let calls : (u : ℕ) → v.role ≡ Player (Pass u) → calls_of u (g.history ++ c ∷ []) ≡ v.mine ++ c ∷ [] = λ u is.
       let same : t ≡ u = pass_same t u (sym role ∙ is) in calls_here u g.history c (by_me ∙ same) ∙ ap (λ l. l ++ c ∷ []) (holds.calls u is).0 in
       let after : LawfulView z g' id placer = record {
-        kind = record { numbers = kind.numbers; known = kind.known; opens = kind.opens; unpinned = kind.unpinned; idle = kind.idle; owns_none = kind.owns_none; reclaims = kind.reclaims };
-        knowledge = record { seen = Begins-refl (g.history ++ c ∷ []); pin = knows.pin; known = knows.known; programs = knows.programs; erases = knows.erases; copy = knows.copy };
+        kind = record { numbers = kind.numbers; host = kind.host; known = kind.known; opens = kind.opens; unpinned = kind.unpinned; idle = kind.idle; owns_none = kind.owns_none; reclaims = kind.reclaims };
+        knowledge = record { seen = Begins-refl (g.history ++ c ∷ []); pin = knows.pin; known = knows.known; programs = knows.programs; erases = knows.erases; copy = knows.copy; older = knows.older; out = knows.out };
         holding = record {
           name = holds.name;
           calls = λ u is. (calls u is, calls u is);
+          lists = holds.lists;
           owned = λ b o owns.
               let k = holds.owned b o owns in
               record {
@@ -130,6 +133,8 @@ module _ (z : Numbers) (g : World) (vs : List View) (id : ℕ) (v : View) (t s :
               let e : Open ≡ Victim = sym (kind.opens is_a_pass x.page.block k.entry k.own) ∙ k.victim in absurd (cc);
           whole = holds.whole;
           guest = holds.guest;
+          note = holds.note;
+          home = holds.home;
           dealer = λ is. let e : Player (Pass t) ≡ Dealer = sym role ∙ is in absurd (cc);
         };
       } in

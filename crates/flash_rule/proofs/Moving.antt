@@ -23,7 +23,7 @@ use Rattle.flash_rule.specs.Onward.{Onward}
 use Rattle.flash_rule.specs.BroomPlays.{CanMove, Moved}
 use Rattle.flash_rule.proofs.Points.{put_here, put_else, put_all}
 use Rattle.flash_rule.proofs.Owning.{some_same, none_some}
-use Rattle.flash_rule.proofs.Frames.{counted, knowledge_kept}
+use Rattle.flash_rule.proofs.Frames.{counted, knowledge_kept, lists_stay}
 use Rattle.flash_rule.proofs.Assembly.{assembled, block_kept, sector_kept}
 use Rattle.flash_rule.proofs.Ceding.{ceded_still}
 use Rattle.flash_rule.proofs.Still.{pin_stays, met_now}
@@ -49,7 +49,7 @@ module _ (z : Numbers) (g : World) (vs : List View) (id : ℕ) (v : View) (n : N
         callers = callers_now z g vs id v n law at role;
         succeeded = succeeded;
         failed = failed;
-        met = met_now z g v n role h.knowledge (mover moves) refl refl refl refl;
+        met = met_now z g v n role h.knowledge (mover moves) refl refl refl refl refl;
       }
 
   -- ---- the map word names another page, or none
@@ -83,8 +83,10 @@ module _ (z : Numbers) (g : World) (vs : List View) (id : ℕ) (v : View) (n : N
               (λ is. inr (ap (λ (y : MapWord). g.owner y.block) (sym (some_same copy m is)) ∙ the_copy.0)) (λ j _ is. inl is) s is;
           programmer = λ m _. refl;
           eraser = λ b k _. refl;
+          lists = λ m _. lists_stay g exchanged_world id m refl refl;
           dealer = λ _. (refl, refl);
-          badge = λ m _ _ _. refl;
+          badge = λ m _ _ _. (refl, refl);
+          carries = λ m c is. inl is;
         }
 
     -- the copy is in no victim
@@ -127,6 +129,7 @@ module _ (z : Numbers) (g : World) (vs : List View) (id : ℕ) (v : View) (n : N
         record {
           kind = record {
             numbers = kind.numbers;
+            host = kind.host;
             known = kind.known;
             opens = kind.opens;
             unpinned = kind.unpinned;
@@ -134,10 +137,11 @@ module _ (z : Numbers) (g : World) (vs : List View) (id : ℕ) (v : View) (n : N
             owns_none = kind.owns_none;
             reclaims = kind.reclaims;
           };
-          knowledge = record { seen = Begins-refl g.history; pin = knows.pin; known = knows.known; programs = knows.programs; erases = knows.erases; copy = knows.copy };
+          knowledge = record { seen = Begins-refl g.history; pin = knows.pin; known = knows.known; programs = knows.programs; erases = knows.erases; copy = knows.copy; older = knows.older; out = knows.out };
           holding = record {
             name = holds.name;
             calls = λ t is. let c = (holds.calls t is).0 in (c, c);
+            lists = holds.lists;
             owned = λ b o own. clears z exchanged_world id v.work v.cleared v.wiped v.owns x.page.block source.entry kind.reclaims source.own source.victim unnamed b o own (still_owned b o (holds.owned b o own));
             work = λ w is.
                 let k = holds.work w is in
@@ -145,6 +149,8 @@ module _ (z : Numbers) (g : World) (vs : List View) (id : ℕ) (v : View) (n : N
             source = λ y none. absurd (none_some y none);
             whole = holds.whole;
             guest = holds.guest;
+            note = holds.note;
+            home = holds.home;
             dealer = holds.dealer;
           };
         }

@@ -7,6 +7,7 @@ use lib.ListN.{get_elem?}
 use Rattle.atomic_table.specs.Table.{Splits, Joins}
 use Rattle.atomic_table.proofs.Lists.{at_set, set_else}
 use Rattle.geometry.proofs.Histories.{Begins-refl}
+use Rattle.geometry.specs.History.{Begins}
 use Rattle.geometry.specs.Limits.{Numbers}
 use Rattle.flash_rule.specs.declared.facts.Name.{Name}
 use Rattle.flash_rule.specs.declared.facts.Name.TheVariants.{Pass, Broom}
@@ -20,24 +21,25 @@ use Rattle.flash_rule.specs.declared.view.View.{View}
 use Rattle.flash_rule.specs.Views.{one_if, is_pass, is_live_role, may_own, pin_is_on, pins_on, weight, role_weight, owned_at, same_name}
 use Rattle.std.specs.Prelude.{if◌then◌else◌}
 use Rattle.flash_rule.specs.World.{World, put_name}
-use Rattle.flash_rule.specs.Rule.{LawfulBlock, LawfulCopy, LawfulKnowledge, LawfulView, Lawful, IsDealt}
+use Rattle.flash_rule.specs.Rule.{LawfulBlock, LawfulCopy, Grown, LawfulKnowledge, LawfulView, Lawful, IsDealt}
 use Rattle.flash_rule.specs.Onward.{Onward}
 use Rattle.flash_rule.specs.Seats.{Ruled, newcomer, name_of, carried, lender, lent_note, host_of, giver, given_note, home, gone}
-use Rattle.flash_rule.proofs.Points.{total_set}
+use Rattle.flash_rule.proofs.Points.{total_set, name_here, name_else, name_all}
 use Rattle.flash_rule.proofs.Owning.{some_same, none_some}
 use Rattle.flash_rule.proofs.Ceding.{ceded_split, ceded_gone}
-use Rattle.flash_rule.proofs.Frames.{counted, others, knowledge_kept, copy_kept}
+use Rattle.flash_rule.proofs.Frames.{begins_same, lists_stay, counted, others, knowledge_kept, copy_kept}
 use Rattle.flash_rule.proofs.Assembly.{owner_kept}
 use Rattle.flash_rule.proofs.Still.{pin_stays}
-use Rattle.flash_rule.proofs.Splitting.{split, current_kept, name_here, name_else, player_same}
+use Rattle.flash_rule.proofs.Splitting.{split, current_kept, player_same}
 
--- the table with one badge moved
-abbrev pub badged : World → Name → ℕ → World
-badged g n seat = record g { badge = put_name g.badge n seat }
+-- the table with one badge moved, and what it has with it
+abbrev pub badged : World → Name → ℕ → Option Carried → World
+badged g n seat c = record g { badge = put_name g.badge n seat; carries = put_name g.carries n c }
 
 -- the badge was with one of the two seats
-pub badge_moves : (z : Numbers) (g : World) (id other : ℕ) (n : Name) (seat : ℕ) → (g.badge n ≡ id) ⊎ (g.badge n ≡ other) → Onward z g (badged g n seat) id other
-badge_moves z g id other n seat was =
+pub badge_moves : (z : Numbers) (g : World) (id other : ℕ) (n : Name) (seat : ℕ) (c : Option Carried) → (g.badge n ≡ id) ⊎ (g.badge n ≡ other)
+    → ((d : Carried) → c ≡ Some d → (d.programs ≡ g.programs d.of) × (d.erases ≡ g.erases d.of)) → Onward z g (badged g n seat c) id other
+badge_moves z g id other n seat c was all =
     record {
       history = Begins-refl g.history;
       calls = λ t _. refl;
@@ -48,29 +50,38 @@ badge_moves z g id other n seat was =
       named = λ s m is. inl is;
       programmer = λ m _. refl;
       eraser = λ b k _. refl;
+      lists = λ m _. lists_stay g (badged g n seat c) id m refl refl;
       dealer = λ _. (refl, refl);
-      badge = λ m _ apart apart'. name_else g.badge n seat m (λ same. ⊎_elim (λ e. apart (ap g.badge same ∙ e)) (λ e. apart' (ap g.badge same ∙ e)) was);
+      badge = λ m _ apart apart'.
+          let other_name : ¬ (m ≡ n) = λ same. ⊎_elim (λ e. apart (ap g.badge same ∙ e)) (λ e. apart' (ap g.badge same ∙ e)) was in
+          (name_else g.badge n seat m other_name, name_else g.carries n c m other_name);
+      carries = λ m d. name_all g.carries n c (λ k x. x ≡ Some d → (g.carries k ≡ Some d) ⊎ ((d.programs ≡ g.programs d.of) × (d.erases ≡ g.erases d.of))) (λ is. inr (all d is)) (λ k _ is. inl is) m;
     }
   where
-    as_dealt : (m : Name) → IsDealt g m → IsDealt (badged g n seat) m
+    as_dealt : (m : Name) → IsDealt g m → IsDealt (badged g n seat c) m
     as_dealt (Pass t) low = low
     as_dealt (Broom i) low = low
 
-pub as_dealt : (g : World) (n : Name) (seat : ℕ) (m : Name) → IsDealt g m → IsDealt (badged g n seat) m
-as_dealt g n seat (Pass t) low = low
-as_dealt g n seat (Broom i) low = low
+pub as_dealt : (g : World) (n : Name) (seat : ℕ) (c : Option Carried) (m : Name) → IsDealt g m → IsDealt (badged g n seat c) m
+as_dealt g n seat c (Pass t) low = low
+as_dealt g n seat c (Broom i) low = low
 
 name_is : (r : Role) (n : Name) → r ≡ Player n → name_of r ≡ n
 name_is r n is = ap name_of is
 
 -- a new note: the badge of n, and copies of a player's lists
-note_lawful : (z : Numbers) (g : World) (seat : ℕ) (v : View) (owner n : Name) → v.numbers ≡ z → v.role ≡ Player owner → LawfulKnowledge z g v → g.badge n ≡ seat → IsDealt g n
+note_lawful : (z : Numbers) (g : World) (seat : ℕ) (v : View) (owner n : Name) → v.numbers ≡ z → v.role ≡ Player owner → IsDealt g owner → (g.programs owner ≡ v.programs) × (g.erases owner ≡ v.erases)
+    → LawfulKnowledge z g v → g.badge n ≡ seat → IsDealt g n → g.carries n ≡ Some (carried v) → ((d : Carried) → g.carries owner ≡ Some d → Grown (carried v) d)
     → LawfulView z g seat (record (newcomer v.numbers Note) { guest = Some n; copy = Some (carried v) })
-note_lawful z g seat v owner n numbers role knows here dealt =
+note_lawful z g seat v owner n numbers role known lists knows here dealt carries out =
     let of_is : owner ≡ name_of v.role = sym (name_is v.role owner role) in
+    let P : Name → Type 0 = λ k. IsDealt g k × Begins v.programs (g.programs k) × Begins v.erases (g.erases k) in
+    let of_owner : P owner = (known, begins_same v.programs (g.programs owner) lists.0, begins_same v.erases (g.erases owner) lists.1) in
+    let copied : P (name_of v.role) = subst P of_is of_owner in
     record {
       kind = record {
         numbers = λ _. numbers;
+        host = λ k m is. absurd (cc);
         known = λ is. absurd (cc);
         opens = λ is. absurd (cc);
         unpinned = λ _. refl;
@@ -87,23 +98,53 @@ note_lawful z g seat v owner n numbers role knows here dealt =
         copy = λ c is.
             subst (λ (c : Carried). LawfulCopy z g Note c) (some_same (carried v) c is)
             (record {
+              dealt = copied.0;
+              other = λ e. absurd (cc);
               seen = knows.seen;
+              programmed = copied.1;
+              erased = copied.2;
               programs = knows.programs (name_of v.role) (role ∙ ap Player of_is);
               erases = knows.erases (name_of v.role) (role ∙ ap Player of_is);
-              other = λ e. absurd (cc);
             });
+        older = λ o c is. absurd (none_some o is);
+        out = λ m c d whose is there same.
+            let its : carried v ≡ c = some_same (carried v) c is in
+            ⊎_elim
+            (λ (his : m ≡ c.of).
+            let name : m ≡ owner = his ∙ (ap (λ (x : Carried). x.of) (sym its) ∙ sym of_is) in
+            subst (λ (x : Carried). Grown x d) its (out d (ap g.carries (sym name) ∙ there)))
+            (λ (no : Note ≡ Player m). absurd (cc)) whose;
       };
       holding = record {
         name = λ m is. absurd (cc);
         calls = λ t is. absurd (cc);
+        lists = λ m is. absurd (cc);
         owned = λ b o is. absurd (none_some o is);
         work = λ w is. absurd (none_some w is);
         source = λ x is. absurd (none_some x is);
         whole = λ is. absurd (cc);
+        note = λ m _ is. ap g.carries (sym (some_same n m is)) ∙ carries;
+        home = λ m is. absurd (cc);
         guest = λ m is. let same : n ≡ m = some_same n m is in let P : Name → Type 0 = λ m. (g.badge m ≡ seat) × IsDealt g m in let now : P n = (here, dealt) in subst P same now;
         dealer = λ is. absurd (cc);
       };
     }
+
+-- copies are lawful for any seat that isn't their player's
+another : (z : Numbers) (g : World) (from taker : Role) (c : Carried) → LawfulCopy z g from c → ¬ (taker ≡ Player c.of) → LawfulCopy z g taker c
+another z g from taker c h other = record { dealt = h.dealt; other = other; seen = h.seen; programmed = h.programmed; erased = h.erased; programs = h.programs; erases = h.erases }
+
+-- copies grow at their end, if at all
+grown_refl : (c : Carried) → Grown c c
+grown_refl c = record { programs = Begins-refl c.programs; erases = Begins-refl c.erases }
+
+-- copies that a player makes are of all that it did
+copies_all : (g : World) (v : View) (n : Name) → v.role ≡ Player n → (g.programs n ≡ v.programs) × (g.erases n ≡ v.erases)
+    → (d : Carried) → Some (carried v) ≡ Some d → (d.programs ≡ g.programs d.of) × (d.erases ≡ g.erases d.of)
+copies_all g v n role lists d is =
+    let name : n ≡ name_of v.role = sym (name_is v.role n role) in
+    let all : (v.programs ≡ g.programs (name_of v.role)) × (v.erases ≡ g.erases (name_of v.role)) = (sym lists.0 ∙ ap g.programs name, sym lists.1 ∙ ap g.erases name) in
+    subst (λ (d : Carried). (d.programs ≡ g.programs d.of) × (d.erases ≡ g.erases d.of)) (some_same (carried v) d is) all
 
 player_live : (r : Role) (n : Name) → r ≡ Player n → is_live_role r ≡ true
 player_live r n is = ap is_live_role is
@@ -117,29 +158,35 @@ module _ (z : Numbers) (id : ℕ) (v : View) (n : Name) (role : v.role ≡ Playe
       let kind = h.kind in
       let numbers : v.numbers ≡ z = kind.numbers (player_live v.role n role) in
       let new : ℕ = length vs in
-      let g' : World = badged g n new in
+      let g' : World = badged g n new (Some (carried v)) in
       let named = h.holding.name n role in
       let was : g.badge n ≡ id = h.holding.whole whole n role in
-      let on : Onward z g g' id id = badge_moves z g id id n new (inl was) in
+      let all : (d : Carried) → Some (carried v) ≡ Some d → (d.programs ≡ g.programs d.of) × (d.erases ≡ g.erases d.of) = copies_all g v n role (h.holding.lists n role) in
+      let on : Onward z g g' id id = badge_moves z g id id n new (Some (carried v)) (inl was) all in
       let knows = knowledge_kept z g g' id id on v (λ b is below. counted vs law id v at b is below) h.knowledge in
       let holds = h.holding in
       let own : LawfulView z g' id (lender v) = record {
-        kind = record { numbers = kind.numbers; known = kind.known; opens = kind.opens; unpinned = kind.unpinned; idle = kind.idle; owns_none = kind.owns_none; reclaims = kind.reclaims };
-        knowledge = record { seen = knows.seen; pin = knows.pin; known = knows.known; programs = knows.programs; erases = knows.erases; copy = knows.copy };
+        kind = record { numbers = kind.numbers; host = λ _ m _ is. absurd (none_some m (sym alone ∙ is)); known = kind.known; opens = kind.opens; unpinned = kind.unpinned; idle = kind.idle; owns_none = kind.owns_none; reclaims = kind.reclaims };
+        knowledge = record { seen = knows.seen; pin = knows.pin; known = knows.known; programs = knows.programs; erases = knows.erases; copy = knows.copy; older = knows.older; out = knows.out };
         holding = record {
-          name = λ m is. let k = holds.name m is in (k.0, as_dealt g n new m k.1);
+          name = λ m is. let k = holds.name m is in (k.0, as_dealt g n new (Some (carried v)) m k.1);
           calls = holds.calls;
+          lists = holds.lists;
           owned = λ b o is. let k = holds.owned b o is in record { block = k.block; low = k.low; owner = k.owner; owned = k.owned; phase = k.phase; generation = k.generation; written = k.written; rest = k.rest; dead = k.dead; clean = k.clean };
           work = λ w is. let k = holds.work w is in record { entry = k.entry; own = k.own; opened = k.opened; generation = k.generation; page = k.page; counted = k.counted; short = k.short; full = k.full; stands = k.stands };
           source = λ x is. let k = holds.source x is in record { entry = k.entry; own = k.own; victim = k.victim; generation = k.generation; page = k.page; written = k.written; stamp = k.stamp; value = k.value };
           whole = λ is. absurd (cc);
           guest = λ m is. absurd (none_some m (sym alone ∙ is));
+          note = λ m is. let e : Player n ≡ Note = sym role ∙ is in absurd (cc);
+          home = λ m _ is. absurd (cc);
           dealer = λ is. let e : Player n ≡ Dealer = sym role ∙ is in absurd (cc);
         };
       } in
       let added : LawfulView z g' new (lent_note v) =
       subst (λ (m : Name). LawfulView z g' new (record (newcomer v.numbers Note) { guest = Some m; copy = Some (carried v) })) (sym (name_is v.role n role))
-      (note_lawful z g' new v n n numbers role knows (name_here g.badge n new) (as_dealt g n new n named.1)) in (
+      (note_lawful z g' new v n n numbers role (as_dealt g n new (Some (carried v)) n named.1) (h.holding.lists n role) knows (name_here g.badge n new) (as_dealt g n new (Some (carried v)) n named.1)
+      (name_here g.carries n (Some (carried v)))
+      (λ d is. let its : carried v ≡ d = some_same (carried v) d (sym (name_here g.carries n (Some (carried v))) ∙ is) in subst (λ (d : Carried). Grown (carried v) d) its (grown_refl (carried v)))) in (
         g',
         fits,
         split z g g' vs id v (lender v) (lent_note v) law at refl refl refl on refl own added (λ b. refl) refl refl (omega arith) (omega arith) law.dealt (λ s low. current_kept z g g' s refl refl refl refl (law.sectors s low))
@@ -154,28 +201,36 @@ module _ (z : Numbers) (id : ℕ) (v : View) (n : Name) (role : v.role ≡ Playe
       let kind = h.kind in
       let numbers : v.numbers ≡ z = kind.numbers (player_live v.role n role) in
       let new : ℕ = length vs in
-      let g' : World = badged g m new in
+      let g' : World = badged g m new (Some (carried v)) in
       let was = h.holding.guest m guest in
-      let on : Onward z g g' id id = badge_moves z g id id m new (inl was.0) in
+      let all : (d : Carried) → Some (carried v) ≡ Some d → (d.programs ≡ g.programs d.of) × (d.erases ≡ g.erases d.of) = copies_all g v n role (h.holding.lists n role) in
+      let on : Onward z g g' id id = badge_moves z g id id m new (Some (carried v)) (inl was.0) all in
+      let whole : v.whole ≡ true = kind.host n m role guest in
+      let unlike : ¬ (n ≡ m) = λ same. apart (role ∙ ap Player same) in
+      let nothing_out : g'.carries n ≡ None = name_else g.carries m (Some (carried v)) n unlike ∙ h.holding.home n role whole in
       let knows = knowledge_kept z g g' id id on v (λ b is below. counted vs law id v at b is below) h.knowledge in
       let holds = h.holding in
       let own : LawfulView z g' id (giver v) = record {
-        kind = record { numbers = kind.numbers; known = kind.known; opens = kind.opens; unpinned = kind.unpinned; idle = kind.idle; owns_none = kind.owns_none; reclaims = kind.reclaims };
-        knowledge = record { seen = knows.seen; pin = knows.pin; known = knows.known; programs = knows.programs; erases = knows.erases; copy = knows.copy };
+        kind = record { numbers = kind.numbers; host = λ _ k _ is. absurd (none_some k is); known = kind.known; opens = kind.opens; unpinned = kind.unpinned; idle = kind.idle; owns_none = kind.owns_none; reclaims = kind.reclaims };
+        knowledge = record { seen = knows.seen; pin = knows.pin; known = knows.known; programs = knows.programs; erases = knows.erases; copy = knows.copy; older = knows.older; out = knows.out };
         holding = record {
-          name = λ k is. let t = holds.name k is in (t.0, as_dealt g m new k t.1);
+          name = λ k is. let t = holds.name k is in (t.0, as_dealt g m new (Some (carried v)) k t.1);
           calls = holds.calls;
+          lists = holds.lists;
           owned = λ b o is. let k = holds.owned b o is in record { block = k.block; low = k.low; owner = k.owner; owned = k.owned; phase = k.phase; generation = k.generation; written = k.written; rest = k.rest; dead = k.dead; clean = k.clean };
           work = λ w is. let k = holds.work w is in record { entry = k.entry; own = k.own; opened = k.opened; generation = k.generation; page = k.page; counted = k.counted; short = k.short; full = k.full; stands = k.stands };
           source = λ x is. let k = holds.source x is in record { entry = k.entry; own = k.own; victim = k.victim; generation = k.generation; page = k.page; written = k.written; stamp = k.stamp; value = k.value };
           whole = λ is k role'. name_else g.badge m new k (λ same. apart (role' ∙ ap Player same)) ∙ holds.whole is k role';
           guest = λ k is. absurd (none_some k is);
+          note = λ k is. let e : Player n ≡ Note = sym role ∙ is in absurd (cc);
+          home = λ k is _. ap g'.carries (sym (player_same n k (sym role ∙ is))) ∙ nothing_out;
           dealer = λ is. let e : Player n ≡ Dealer = sym role ∙ is in absurd (cc);
         };
       } in
       let added : LawfulView z g' new (given_note v) =
       subst (λ (x : Option Name). LawfulView z g' new (record (newcomer v.numbers Note) { guest = x; copy = Some (carried v) })) (sym guest)
-      (note_lawful z g' new v n m numbers role knows (name_here g.badge m new) (as_dealt g m new m was.1)) in (
+      (note_lawful z g' new v n m numbers role (as_dealt g m new (Some (carried v)) n (h.holding.name n role).1) (h.holding.lists n role) knows (name_here g.badge m new) (as_dealt g m new (Some (carried v)) m was.1)
+      (name_here g.carries m (Some (carried v))) (λ d is. absurd (none_some d (sym nothing_out ∙ is)))) in (
         g',
         fits,
         split z g g' vs id v (giver v) (given_note v) law at refl refl refl on refl own added (λ b. refl) refl refl (omega arith) (omega arith) law.dealt (λ s low. current_kept z g g' s refl refl refl refl (law.sectors s low))
@@ -193,16 +248,19 @@ stays_with f m id x is = by_test (same_name x m) where
 gone_lawful : (z : Numbers) (g : World) (seat : ℕ) → LawfulView z g seat gone
 gone_lawful z g seat =
     record {
-      kind = record { numbers = λ is. absurd (cc); known = λ is. absurd (cc); opens = λ is. absurd (cc); unpinned = λ _. refl; idle = λ _. (refl, refl, refl, refl); owns_none = λ _. refl; reclaims = λ b c o e is. absurd (none_some o is) };
-      knowledge = record { seen = (g.history, refl); pin = tt; known = λ b _. omega arith; programs = λ m is. absurd (cc); erases = λ m is. absurd (cc); copy = λ c is. absurd (none_some c is) };
+      kind = record { numbers = λ is. absurd (cc); host = λ n m is. absurd (cc); known = λ is. absurd (cc); opens = λ is. absurd (cc); unpinned = λ _. refl; idle = λ _. (refl, refl, refl, refl); owns_none = λ _. refl; reclaims = λ b c o e is. absurd (none_some o is) };
+      knowledge = record { seen = (g.history, refl); pin = tt; known = λ b _. omega arith; programs = λ m is. absurd (cc); erases = λ m is. absurd (cc); copy = λ c is. absurd (none_some c is); older = λ o c is. absurd (none_some o is); out = λ m c d _ is. absurd (none_some c is) };
       holding = record {
         name = λ m is. absurd (cc);
         calls = λ t is. absurd (cc);
+        lists = λ m is. absurd (cc);
         owned = λ b o is. absurd (none_some o is);
         work = λ w is. absurd (none_some w is);
         source = λ x is. absurd (none_some x is);
         whole = λ is. absurd (cc);
         guest = λ m is. absurd (none_some m is);
+        note = λ m is. absurd (cc);
+        home = λ m is. absurd (cc);
         dealer = λ is. absurd (cc);
       };
     }
@@ -214,7 +272,7 @@ module _ (z : Numbers) (g : World) (vs : List View) (id other : ℕ) (v w u : Vi
   note_clear : w.pin ≡ Clear
   note_clear = (law.views other w there).kind.unpinned (ap is_pass note)
 
-  join_block : (b : ℕ) → LawfulBlock z g vs b → pins_on b u ≡ pins_on b v → u.owns ≡ v.owns → LawfulBlock z (badged g n id) (set (set vs id u) other gone) b
+  join_block : (b : ℕ) → LawfulBlock z g vs b → pins_on b u ≡ pins_on b v → u.owns ≡ v.owns → LawfulBlock z (badged g n id None) (set (set vs id u) other gone) b
   join_block b block same owns =
       let there' : get_elem? (set vs id u) other ≡ some w = set_else vs id other u apart ∙ there in
       let t = total_set (pins_on b) vs id v u at in
@@ -236,10 +294,10 @@ module _ (z : Numbers) (g : World) (vs : List View) (id other : ℕ) (v w u : Vi
             (λ unlike. (k.0, k.1, set_else (set vs id u) other (g.owner b) gone unlike ∙ k.2, k.3));
       }
 
-  pub join : (g.badge n ≡ id) ⊎ (g.badge n ≡ other) → LawfulView z (badged g n id) id u → ((b : ℕ) → pins_on b u ≡ pins_on b v) → u.owns ≡ v.owns → weight z u ≡ weight z v → u.role ≡ v.role → u.ceded ≡ v.ceded → u.drains ≡ v.drains → Lawful z (badged g n id) (set (set vs id u) other gone)
+  pub join : (g.badge n ≡ id) ⊎ (g.badge n ≡ other) → LawfulView z (badged g n id None) id u → ((b : ℕ) → pins_on b u ≡ pins_on b v) → u.owns ≡ v.owns → weight z u ≡ weight z v → u.role ≡ v.role → u.ceded ≡ v.ceded → u.drains ≡ v.drains → Lawful z (badged g n id None) (set (set vs id u) other gone)
   join was own same owns weighs role ceded drains =
-      let g' = badged g n id in
-      let on : Onward z g g' id other = badge_moves z g id other n id was in
+      let g' = badged g n id None in
+      let on : Onward z g g' id other = badge_moves z g id other n id None was (λ d is. absurd (none_some d is)) in
       let there' : get_elem? (set vs id u) other ≡ some w = set_else vs id other u apart ∙ there in
       record {
         limits = law.limits;
@@ -267,16 +325,18 @@ module _ (z : Numbers) (id other : ℕ) (v w : View) (n m : Name) (c : Carried) 
       let there' : get_elem? vs other ≡ some w = sym (set_else vs id other (host_of v w) apart) ∙ there in
       let h = law.views id v at in
       let k = law.views other w there' in
-      let g' : World = badged g m id in
+      let g' : World = badged g m id None in
       let was = k.holding.guest m guest in
       let mine : g.badge n ≡ id = h.holding.whole whole n role in
       let names : ¬ (n ≡ m) = λ e. apart (sym was.0 ∙ (ap g.badge (sym e) ∙ mine)) in
-      let on : Onward z g g' id other = badge_moves z g id other m id (inr was.0) in
+      let on : Onward z g g' id other = badge_moves z g id other m id None (inr was.0) (λ d is. absurd (none_some d is)) in
       let knows = knowledge_kept z g g' id other on v (λ b is below. counted vs law id v at b is below) h.knowledge in
       let kind = h.kind in
       let holds = h.holding in
+      let none_here : g'.carries m ≡ None = name_here g.carries m None in
+      let nothing_out : g'.carries n ≡ None = name_else g.carries m None n names ∙ h.holding.home n role whole in
       let own : LawfulView z g' id (host_of v w) = record {
-        kind = record { numbers = kind.numbers; known = kind.known; opens = kind.opens; unpinned = kind.unpinned; idle = kind.idle; owns_none = kind.owns_none; reclaims = kind.reclaims };
+        kind = record { numbers = kind.numbers; host = λ _ _ _ _. whole; known = kind.known; opens = kind.opens; unpinned = kind.unpinned; idle = kind.idle; owns_none = kind.owns_none; reclaims = kind.reclaims };
         knowledge = record {
           seen = knows.seen;
           pin = knows.pin;
@@ -288,11 +348,20 @@ module _ (z : Numbers) (id other : ℕ) (v w : View) (n m : Name) (c : Carried) 
               let new : LawfulCopy z g' w.role c = copy_kept z g g' id other on w.role c old in
               let same : c ≡ d = some_same c d (sym copy ∙ is) in
               subst (λ (d : Carried). LawfulCopy z g' v.role d) same
-              (record { seen = new.seen; programs = new.programs; erases = new.erases; other = λ e. names (player_same n m (sym role ∙ (e ∙ ap Player of_is))) });
+              (another z g' w.role v.role c new (λ e. names (player_same n m (sym role ∙ (e ∙ ap Player of_is)))));
+          older = λ o d old new same.
+              let its : c ≡ d = some_same c d (sym copy ∙ new) in
+              h.knowledge.out m o d (inl (sym of_is ∙ (ap (λ (x : Carried). x.of) its ∙ sym same))) old (k.holding.note m note guest ∙ new) same;
+          out = λ x d e whose is there same.
+              let its : c ≡ d = some_same c d (sym copy ∙ is) in
+              ⊎_elim
+              (λ (his : x ≡ d.of). let name : x ≡ m = his ∙ (ap (λ (y : Carried). y.of) (sym its) ∙ of_is) in absurd (none_some e (sym none_here ∙ (ap g'.carries (sym name) ∙ there))))
+              (λ (own : v.role ≡ Player x). absurd (none_some e (sym nothing_out ∙ (ap g'.carries (player_same n x (sym role ∙ own)) ∙ there)))) whose;
         };
         holding = record {
-          name = λ x is. let t = holds.name x is in (t.0, as_dealt g m id x t.1);
+          name = λ x is. let t = holds.name x is in (t.0, as_dealt g m id None x t.1);
           calls = holds.calls;
+          lists = holds.lists;
           owned = λ b o is. let k = holds.owned b o is in record { block = k.block; low = k.low; owner = k.owner; owned = k.owned; phase = k.phase; generation = k.generation; written = k.written; rest = k.rest; dead = k.dead; clean = k.clean };
           work = λ x is. let k = holds.work x is in record { entry = k.entry; own = k.own; opened = k.opened; generation = k.generation; page = k.page; counted = k.counted; short = k.short; full = k.full; stands = k.stands };
           source = λ x is. let k = holds.source x is in record { entry = k.entry; own = k.own; victim = k.victim; generation = k.generation; page = k.page; written = k.written; stamp = k.stamp; value = k.value };
@@ -300,7 +369,9 @@ module _ (z : Numbers) (id other : ℕ) (v w : View) (n m : Name) (c : Carried) 
           guest = λ x is.
               let same : m ≡ x = some_same m x (sym guest ∙ is) in
               let P : Name → Type 0 = λ x. (g'.badge x ≡ id) × IsDealt g' x in
-              let now : P m = (name_here g.badge m id, as_dealt g m id m was.1) in subst P same now;
+              let now : P m = (name_here g.badge m id, as_dealt g m id None m was.1) in subst P same now;
+          note = λ x is. let e : Player n ≡ Note = sym role ∙ is in absurd (cc);
+          home = λ x is _. ap g'.carries (sym (player_same n x (sym role ∙ is))) ∙ nothing_out;
           dealer = λ is. let e : Player n ≡ Dealer = sym role ∙ is in absurd (cc);
         };
       } in
@@ -313,14 +384,16 @@ module _ (z : Numbers) (id other : ℕ) (v w : View) (n m : Name) (c : Carried) 
       let there' : get_elem? vs other ≡ some w = sym (set_else vs id other (home v w) apart) ∙ there in
       let h = law.views id v at in
       let k = law.views other w there' in
-      let g' : World = badged g m id in
+      let g' : World = badged g m id None in
       let was = k.holding.guest m guest in
-      let on : Onward z g g' id other = badge_moves z g id other m id (inr was.0) in
+      let on : Onward z g g' id other = badge_moves z g id other m id None (inr was.0) (λ d is. absurd (none_some d is)) in
       let knows = knowledge_kept z g g' id other on v (λ b is below. counted vs law id v at b is below) h.knowledge in
+      let its_knows = knowledge_kept z g g' id other on w (λ b is below. counted vs law other w there' b is below) k.knowledge in
       let kind = h.kind in
       let holds = h.holding in
+      let none_here : g'.carries m ≡ None = name_here g.carries m None in
       let own : LawfulView z g' id (home v w) = record {
-        kind = record { numbers = kind.numbers; known = kind.known; opens = kind.opens; unpinned = kind.unpinned; idle = kind.idle; owns_none = kind.owns_none; reclaims = kind.reclaims };
+        kind = record { numbers = kind.numbers; host = λ _ _ _ _. refl; known = kind.known; opens = kind.opens; unpinned = kind.unpinned; idle = kind.idle; owns_none = kind.owns_none; reclaims = kind.reclaims };
         knowledge = record {
           seen = knows.seen;
           pin = knows.pin;
@@ -331,11 +404,16 @@ module _ (z : Numbers) (id other : ℕ) (v w : View) (n m : Name) (c : Carried) 
               let old = k.knowledge.copy c copy in
               let new : LawfulCopy z g' w.role c = copy_kept z g g' id other on w.role c old in
               let same : c ≡ d = some_same c d (sym copy ∙ is) in
-              subst (λ (d : Carried). LawfulCopy z g' v.role d) same (record { seen = new.seen; programs = new.programs; erases = new.erases; other = unlike });
+              subst (λ (d : Carried). LawfulCopy z g' v.role d) same (another z g' w.role v.role c new unlike);
+          older = λ o d old new same. h.knowledge.out m o d (inr (role ∙ ap Player (sym mine))) old (k.holding.note m note guest ∙ new) same;
+          out = λ x d e whose is there same.
+              ⊎_elim (λ (his : x ≡ d.of). its_knows.out x d e (inl his) is there same)
+              (λ (own : v.role ≡ Player x). let name : m ≡ x = mine ∙ player_same n x (sym role ∙ own) in absurd (none_some e (sym none_here ∙ (ap g'.carries name ∙ there)))) whose;
         };
         holding = record {
-          name = λ x is. let t = holds.name x is in (t.0, as_dealt g m id x t.1);
+          name = λ x is. let t = holds.name x is in (t.0, as_dealt g m id None x t.1);
           calls = holds.calls;
+          lists = holds.lists;
           owned = λ b o is. let k = holds.owned b o is in record { block = k.block; low = k.low; owner = k.owner; owned = k.owned; phase = k.phase; generation = k.generation; written = k.written; rest = k.rest; dead = k.dead; clean = k.clean };
           work = λ x is. let k = holds.work x is in record { entry = k.entry; own = k.own; opened = k.opened; generation = k.generation; page = k.page; counted = k.counted; short = k.short; full = k.full; stands = k.stands };
           source = λ x is. let k = holds.source x is in record { entry = k.entry; own = k.own; victim = k.victim; generation = k.generation; page = k.page; written = k.written; stamp = k.stamp; value = k.value };
@@ -343,7 +421,9 @@ module _ (z : Numbers) (id other : ℕ) (v w : View) (n m : Name) (c : Carried) 
               let same : m ≡ x = mine ∙ player_same n x (sym role ∙ role') in
               let P : Name → Type 0 = λ x. g'.badge x ≡ id in
               let now : P m = name_here g.badge m id in subst P same now;
-          guest = λ x is. let t = holds.guest x is in (stays_with g.badge m id x t.0, as_dealt g m id x t.1);
+          guest = λ x is. let t = holds.guest x is in (stays_with g.badge m id x t.0, as_dealt g m id None x t.1);
+          note = λ x is. let e : Player n ≡ Note = sym role ∙ is in absurd (cc);
+          home = λ x is _. ap g'.carries (sym (mine ∙ player_same n x (sym role ∙ is))) ∙ none_here;
           dealer = λ is. let e : Player n ≡ Dealer = sym role ∙ is in absurd (cc);
         };
       } in

@@ -79,7 +79,10 @@ module _ (z : Numbers) (limits : IsWithinLimits z) where
         seat = λ n. 0;
         programmer = λ b p g. None;
         eraser = λ b g. None;
+        programs = λ n. [];
+        erases = λ n. [];
         badge = λ n. 0;
+        carries = λ n. None;
       }
 
   phase_low : (b : ℕ) → b < z.blocks - z.brooms → (opening_pin b).phase ≡ Free
@@ -170,16 +173,19 @@ module _ (z : Numbers) (limits : IsWithinLimits z) where
   opening_view : LawfulView z opening_world 0 (dealer z)
   opening_view =
       record {
-        kind = record { numbers = λ _. refl; known = λ is. absurd (cc); opens = λ is. absurd (cc); unpinned = λ _. refl; idle = λ _. (refl, refl, refl, refl); owns_none = λ is. absurd (cc); reclaims = λ b c o e is _ busy. absurd (idle b o is busy) };
-        knowledge = record { seen = Begins-refl []; pin = tt; known = λ b _. omega arith; programs = λ n is. absurd (cc); erases = λ n is. absurd (cc); copy = λ c is. absurd (none_some c is) };
+        kind = record { numbers = λ _. refl; host = λ n m is. absurd (cc); known = λ is. absurd (cc); opens = λ is. absurd (cc); unpinned = λ _. refl; idle = λ _. (refl, refl, refl, refl); owns_none = λ is. absurd (cc); reclaims = λ b c o e is _ busy. absurd (idle b o is busy) };
+        knowledge = record { seen = Begins-refl []; pin = tt; known = λ b _. omega arith; programs = λ n is. absurd (cc); erases = λ n is. absurd (cc); copy = λ c is. absurd (none_some c is); older = λ o c is. absurd (none_some o is); out = λ m c d _ is. absurd (none_some c is) };
         holding = record {
           name = λ n is. absurd (cc);
           calls = λ t is. absurd (cc);
+          lists = λ n is. absurd (cc);
           owned = opening_owned;
           work = λ w is. absurd (none_some w is);
           source = λ x is. absurd (none_some x is);
           whole = λ is. absurd (cc);
           guest = λ n is. absurd (none_some n is);
+          note = λ n is. absurd (cc);
+          home = λ n is. absurd (cc);
           dealer = λ _. (refl, refl, refl);
         };
       }

@@ -5,7 +5,9 @@ use mathlib.Core.Option.{some}
 use mathlib.Core.Logic.{dite}
 use native.Mathlib.Decide.{ℕ_discrete}
 use lib.ListN.{get_elem?}
+use Rattle.geometry.specs.History.{Begins}
 use Rattle.geometry.specs.Limits.{Numbers}
+use Rattle.geometry.proofs.Histories.{Begins-refl}
 use Rattle.geometry.specs.declared.map_word.MapWord.{MapWord}
 use Rattle.geometry.specs.declared.pin_word.PinWord.{PinWord}
 use Rattle.geometry.specs.declared.pin_word.Phase.TheVariants.{Free, Open, Closed, Victim}
@@ -16,16 +18,16 @@ use Rattle.flash_rule.specs.declared.facts.Role.TheVariants.{Dealer, Player, Not
 use Rattle.flash_rule.specs.declared.facts.Work.{Work}
 use Rattle.flash_rule.specs.declared.view.View.{View}
 use Rattle.flash_rule.specs.Views.{is_player, may_own, pins_on, owned_at, without, with_owned}
-use Rattle.flash_rule.specs.World.{World, put, is_owned, is_intact, is_still, half_cycle}
+use Rattle.flash_rule.specs.World.{World, put, put_name, is_owned, is_intact, is_still, half_cycle}
 use Rattle.flash_rule.specs.Ceded.{rank}
-use Rattle.flash_rule.specs.Rule.{IsProgrammed, IsFilling, LawfulKind, LawfulOwned, LawfulWork, LawfulView, Lawful}
-use Rattle.flash_rule.specs.Onward.{Onward}
+use Rattle.flash_rule.specs.Rule.{IsProgrammed, IsDealt, IsFilling, LawfulKind, LawfulOwned, LawfulWork, LawfulView, Lawful}
+use Rattle.flash_rule.specs.Onward.{ListsOnward, Onward}
 use Rattle.flash_rule.specs.Plays.{next_page, IsSettled}
-use Rattle.flash_rule.proofs.Points.{put_here, total_set}
+use Rattle.flash_rule.proofs.Points.{put_here, total_set, name_here, name_else, name_all}
 use Rattle.flash_rule.proofs.Owning.{owns_none_else, may_own_else, some_same, none_some, with_here, with_else, without_here, without_else, one_with_open, one_without, get_last, put3, put3_here, put3_else}
 use Rattle.flash_rule.proofs.Frames.{counted, knowledge_kept}
 use Rattle.flash_rule.proofs.Ceding.{ceded_owned, ceded_last}
-use Rattle.flash_rule.proofs.PinSteps.{moved, pin_moves, pin_moved, moved_else, seat_set}
+use Rattle.flash_rule.proofs.PinSteps.{Deeds, deeds, turned, moved, pin_turns, pin_moves, pin_turned_nameable, turned_else, seat_set}
 
 -- a seat with work is a player's
 pub player_of : (r : Role) → is_player r ≡ true → (n : Name) × (r ≡ Player n)
@@ -67,8 +69,25 @@ module _ (z : Numbers) (g : World) (vs : List View) (id : ℕ) (v : View) (o : O
     abbrev pub programmed : Name → ℕ → ℕ → ℕ → Option (Name × ℕ)
     programmed n = put3 g.programmer o.block o.written o.generation (Some (n, length v.programs))
 
+    abbrev pub listed : Name → Name → List MapWord
+    listed n = put_name g.programs n (v.programs ++ x.page ∷ [])
+
+    abbrev pub count_deeds : Name → Deeds
+    count_deeds n = record (deeds g) { programmer = programmed n; programs = listed n }
+
     abbrev pub count_world : Name → World
-    count_world n = moved g o.block counted_state id (programmed n)
+    count_world n = turned g o.block counted_state id (count_deeds n)
+
+    -- the page stands at the end of the player's list, and in no other one's
+    page_listed : (n : Name) → v.role ≡ Player n → (m : Name) → IsDealt g m → ListsOnward g (count_world n) id m
+    page_listed n role m _ =
+        let holds = (law.views id v at).holding in
+        let its = (holds.lists n role).0 in
+        record {
+          programs = name_all g.programs n (v.programs ++ x.page ∷ []) (λ k l. Begins (g.programs k) l) (x.page ∷ [], ap (λ l. l ++ x.page ∷ []) its) (λ k _. Begins-refl (g.programs k)) m;
+          erases = Begins-refl (g.erases m);
+          others = λ other. (name_else g.programs n (v.programs ++ x.page ∷ []) m (λ same. other (ap g.seat same ∙ (holds.name n role).0)), refl);
+        }
 
     -- the page is below the end of its block
     pub page_room : o.written < z.pages
@@ -88,7 +107,7 @@ module _ (z : Numbers) (g : World) (vs : List View) (id : ℕ) (v : View) (o : O
         let here : put g.pins b q b ≡ q = put_here g.pins b q in
         let written_is : (g.pins b).written ≡ o.written = mine.written in
         let generation_is : (g.pins b).generation ≡ o.generation = mine.generation in
-        let on : Onward z g g' id id = pin_moves z g id b q id (programmed n)
+        let on : Onward z g g' id id = pin_turns z g id b q id (count_deeds n)
         (record {
           generation = omega arith;
           age = omega arith;
@@ -103,7 +122,8 @@ module _ (z : Numbers) (g : World) (vs : List View) (id : ℕ) (v : View) (o : O
         let done' : P b = subst P same.0 done in
         let e1 = same.1 in
         let e2 = same.2 in
-        ⊎_elim (λ (older : m.generation < (g.pins b).generation). absurd (omega arith)) (λ (h : (m.generation ≡ (g.pins b).generation) × (m.page < (g.pins b).written)). let l = h.1 in absurd (omega arith)) done')) in
+        ⊎_elim (λ (older : m.generation < (g.pins b).generation). absurd (omega arith)) (λ (h : (m.generation ≡ (g.pins b).generation) × (m.page < (g.pins b).written)). let l = h.1 in absurd (omega arith)) done'))
+        (λ c k _. refl) (page_listed n role) in
         let knows = knowledge_kept z g g' id id on v (λ c is below. counted vs law id v at c is below) h.knowledge in
         let page_block : x.page.block ≡ b = ap (λ (m : MapWord). m.block) page in
         let page_page : x.page.page ≡ o.written = ap (λ (m : MapWord). m.page) page in
@@ -125,6 +145,7 @@ module _ (z : Numbers) (g : World) (vs : List View) (id : ℕ) (v : View) (o : O
         let mine_after : LawfulView z g' id counter = record {
           kind = record {
             numbers = kind.numbers;
+            host = kind.host;
             known = kind.known;
             opens = λ is c e owns. dite (ℕ_discrete c b)
                 (λ same. sym (ap (λ (x : Owned). x.phase) (same_entry c e same owns)) ∙ opened)
@@ -156,13 +177,19 @@ module _ (z : Numbers) (g : World) (vs : List View) (id : ℕ) (v : View) (o : O
                 (get_last v.programs x.page m k is);
             erases = knows.erases;
             copy = knows.copy;
+            older = knows.older;
+            out = knows.out;
           };
           holding = record {
             name = holds.name;
             calls = holds.calls;
+            lists = λ n' role'.
+                let same_name : n ≡ n' = player_same n n' (sym role ∙ role') in
+                let P : Name → Type 0 = λ k. (listed n k ≡ counter.programs) × (g.erases k ≡ v.erases) in
+                let its : P n = (name_here g.programs n (v.programs ++ x.page ∷ []), (holds.lists n role).1) in subst P same_name its;
             owned = λ c e owns. dite (ℕ_discrete c b)
                 (λ same. let P : ℕ × Owned → Type 0 = λ x. LawfulOwned z g' id v.work v.cleared v.wiped x.0 x.1 in subst P (λ i. (sym same i, same_entry c e same owns i)) now)
-                (λ unlike. moved_else z g vs id v counter b q id (programmed n) law at v.work v.work v.cleared v.wiped c e unlike (λ p _ f. f) (holds.owned c e (sym (with_else more c v.owns unlike) ∙ owns)));
+                (λ unlike. turned_else z g vs id v counter b q id (count_deeds n) law at v.work v.work v.cleared v.wiped c e unlike (λ p _ f. f) (holds.owned c e (sym (with_else more c v.owns unlike) ∙ owns)));
             work = λ y is.
                 let k = holds.work x doing in
                 let same : x ≡ y = some_same x y (sym doing ∙ is) in
@@ -196,10 +223,12 @@ module _ (z : Numbers) (g : World) (vs : List View) (id : ℕ) (v : View) (o : O
                 };
             whole = holds.whole;
             guest = holds.guest;
+            note = holds.note;
+            home = holds.home;
             dealer = holds.dealer;
           };
         } in
-        pin_moved z g vs id v counter b q id (programmed n) law at on mine_after
+        pin_turned_nameable z g vs id v counter b q id (count_deeds n) law at on mine_after
         (λ named. (refl, named, omega arith))
         (record {
           readers = (let e : (put g.pins b q b).readers ≡ (g.pins b).readers = ap (λ (p : PinWord). p.readers) here in let r = block.readers in let t = total_set (pins_on b) vs id v counter at in omega arith);
@@ -226,7 +255,7 @@ module _ (z : Numbers) (g : World) (vs : List View) (id : ℕ) (v : View) (o : O
   closed_state = record (g.pins o.block) { phase = Closed }
 
   abbrev pub close_world : World
-  close_world = moved g o.block closed_state id g.programmer
+  close_world = moved g o.block closed_state id
 
   pub closes : IsSettled v → Lawful z close_world (set vs id closer)
   closes settled =
@@ -240,7 +269,7 @@ module _ (z : Numbers) (g : World) (vs : List View) (id : ℕ) (v : View) (o : O
       let g' = close_world in
       let here : put g.pins b q b ≡ q = put_here g.pins b q in
       let phase_is = is_open in
-      let on : Onward z g g' id id = pin_moves z g id b q id g.programmer
+      let on : Onward z g g' id id = pin_moves z g id b q id
       (record {
         generation = omega arith;
         age = (let e : half_cycle (g.pins b).phase ≡ 0 = ap half_cycle phase_is in omega arith);
@@ -249,7 +278,7 @@ module _ (z : Numbers) (g : World) (vs : List View) (id : ℕ) (v : View) (o : O
         was = λ _ _ _. ap is_intact phase_is;
         free = λ _ is. absurd (cc);
       })
-      (λ other _. absurd (other mine.owner)) (λ m _. refl) in
+      (λ other _. absurd (other mine.owner)) in
       let knows = knowledge_kept z g g' id id on v (λ c is below. counted vs law id v at c is below) h.knowledge in
       let elsewhere : (c : ℕ) (e : Owned) → owned_at c (without b v.owns) ≡ Some e → c ≢ b = λ c e owns same.
       absurd (none_some e (sym (without_here b v.owns) ∙ (ap (λ j. owned_at j (without b v.owns)) (sym same) ∙ owns))) in
@@ -260,6 +289,7 @@ module _ (z : Numbers) (g : World) (vs : List View) (id : ℕ) (v : View) (o : O
       let after : LawfulView z g' id closer = record {
         kind = record {
           numbers = kind.numbers;
+          host = kind.host;
           known = kind.known;
           opens = λ is c e owns. kind.opens is c e (sym (without_else b c v.owns (elsewhere c e owns)) ∙ owns);
           unpinned = kind.unpinned;
@@ -267,14 +297,15 @@ module _ (z : Numbers) (g : World) (vs : List View) (id : ℕ) (v : View) (o : O
           owns_none = λ is. ap (λ l. without b l) (kind.owns_none is);
           reclaims = one_without b v.owns kind.reclaims;
         };
-        knowledge = record { seen = knows.seen; pin = knows.pin; known = knows.known; programs = knows.programs; erases = knows.erases; copy = knows.copy };
+        knowledge = record { seen = knows.seen; pin = knows.pin; known = knows.known; programs = knows.programs; erases = knows.erases; copy = knows.copy; older = knows.older; out = knows.out };
         holding = record {
           name = holds.name;
           calls = holds.calls;
+          lists = holds.lists;
           owned = λ c e owns.
               let unlike = elsewhere c e owns in
               let was = sym (without_else b c v.owns unlike) ∙ owns in
-              moved_else z g vs id v closer b q id g.programmer law at v.work None v.cleared v.wiped c e unlike (λ p from f. absurd (not_filling c p e was from f)) (holds.owned c e was);
+              turned_else z g vs id v closer b q id (deeds g) law at v.work None v.cleared v.wiped c e unlike (λ p from f. absurd (not_filling c p e was from f)) (holds.owned c e was);
           work = λ y is. absurd (none_some y is);
           source = λ y is.
               let k = holds.source y is in
@@ -294,10 +325,12 @@ module _ (z : Numbers) (g : World) (vs : List View) (id : ℕ) (v : View) (o : O
               };
           whole = holds.whole;
           guest = holds.guest;
+          note = holds.note;
+          home = holds.home;
           dealer = holds.dealer;
         };
       } in
-      pin_moved z g vs id v closer b q id g.programmer law at on after
+      pin_turned_nameable z g vs id v closer b q id (deeds g) law at on after
       (λ named. (refl, refl, omega arith))
       (record {
         readers = (let e : (put g.pins b q b).readers ≡ (g.pins b).readers = ap (λ (p : PinWord). p.readers) here in let r = block.readers in let t = total_set (pins_on b) vs id v closer at in omega arith);

@@ -25,7 +25,7 @@ use Rattle.flash_rule.specs.Onward.{Onward}
 use Rattle.flash_rule.specs.Plays.{next_page, words_in, SettledBut, Spared}
 use Rattle.flash_rule.proofs.Points.{eq_self}
 use Rattle.flash_rule.proofs.Owning.{some_same}
-use Rattle.flash_rule.proofs.Frames.{counted, knowledge_kept}
+use Rattle.flash_rule.proofs.Frames.{counted, knowledge_kept, lists_stay}
 use Rattle.flash_rule.proofs.Assembly.{assembled, block_kept, sector_kept}
 use Rattle.flash_rule.proofs.Ceding.{ceded_still}
 use Rattle.flash_rule.proofs.Still.{pin_stays, pass_of, intact_age, met, programs_once}
@@ -110,8 +110,10 @@ module _ (z : Numbers) (g : World) (vs : List View) (id : ℕ) (v : View) (o : O
         named = λ s m is. inl is;
         programmer = λ m _. refl;
         eraser = λ c n _. refl;
+        lists = λ n _. lists_stay g g' id n refl refl;
         dealer = λ _. (refl, refl);
-        badge = λ n _ _ _. refl;
+        badge = λ n _ _ _. (refl, refl);
+        carries = λ n c is. inl is;
       } in
       let knows = knowledge_kept z g g' id id on v (λ c is below. counted vs law id v at c is below) h.knowledge in
       let not_filling : (c q : ℕ) (e : Owned) → owned_at c v.owns ≡ Some e → c ≢ b → e.written ≤ q → IsFilling v.work c q → ⊥ = λ c q e owns unlike from f.
@@ -142,6 +144,7 @@ module _ (z : Numbers) (g : World) (vs : List View) (id : ℕ) (v : View) (o : O
       let after : LawfulView z g' id putter = record {
         kind = record {
           numbers = kind.numbers;
+          host = kind.host;
           known = kind.known;
           opens = kind.opens;
           unpinned = kind.unpinned;
@@ -149,10 +152,11 @@ module _ (z : Numbers) (g : World) (vs : List View) (id : ℕ) (v : View) (o : O
           owns_none = kind.owns_none;
           reclaims = kind.reclaims;
         };
-        knowledge = record { seen = knows.seen; pin = knows.pin; known = knows.known; programs = knows.programs; erases = knows.erases; copy = knows.copy };
+        knowledge = record { seen = knows.seen; pin = knows.pin; known = knows.known; programs = knows.programs; erases = knows.erases; copy = knows.copy; older = knows.older; out = knows.out };
         holding = record {
           name = holds.name;
           calls = holds.calls;
+          lists = holds.lists;
           owned = λ c e owns. dite (ℕ_discrete c b)
               (λ same.
               let P : ℕ → Type 0 = λ c. owned_at c v.owns ≡ Some e in
@@ -210,6 +214,8 @@ module _ (z : Numbers) (g : World) (vs : List View) (id : ℕ) (v : View) (o : O
               };
           whole = holds.whole;
           guest = holds.guest;
+          note = holds.note;
+          home = holds.home;
           dealer = holds.dealer;
         };
       } in
@@ -271,4 +277,5 @@ spared z g vs id v m value c law at pinned copied =
           let begun = (copy.erases k x is).1 in
           let here : age_of (g.pins x.block) ≡ age_of (g.pins m.block) = ap (λ b. age_of (g.pins b)) same in
           let generation = a.intact.same in omega arith;
+      newer = λ o was. h.knowledge.older o c was copied;
     }

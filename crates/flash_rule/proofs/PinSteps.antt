@@ -11,6 +11,7 @@ use Rattle.geometry.specs.declared.pin_word.PinWord.{PinWord}
 use Rattle.geometry.specs.declared.pin_word.Phase.{Phase}
 use Rattle.geometry.specs.declared.pin_word.Phase.TheVariants.{Free, Open}
 use Rattle.flash_rule.specs.declared.facts.Owned.{Owned}
+use Rattle.flash_rule.specs.declared.facts.Cycle.{Cycle}
 use Rattle.flash_rule.specs.declared.facts.Name.{Name}
 use Rattle.flash_rule.specs.declared.facts.Role.{Role}
 use Rattle.flash_rule.specs.declared.facts.Role.TheVariants.{Dealer, Player, Note, Gone}
@@ -19,11 +20,11 @@ use Rattle.flash_rule.specs.declared.view.View.{View}
 use Rattle.flash_rule.specs.Views.{is_pass, may_own, pins_on, weight, owned_at, with_owned}
 use Rattle.flash_rule.specs.World.{World, put, is_owned, is_intact, is_nameable, is_still, half_cycle, age_of}
 use Rattle.flash_rule.specs.Ceded.{rank, LawfulCeded}
-use Rattle.flash_rule.specs.Rule.{IsCurrent, IsProgrammed, IsFilling, LawfulBlock, LawfulOwned, LawfulView, Lawful}
-use Rattle.flash_rule.specs.Onward.{PinOnward, Untouched, Onward}
+use Rattle.flash_rule.specs.Rule.{IsCurrent, IsProgrammed, IsFilling, LawfulBlock, LawfulOwned, LawfulView, Lawful, IsDealt}
+use Rattle.flash_rule.specs.Onward.{PinOnward, Untouched, ListsOnward, Onward}
 use Rattle.flash_rule.proofs.Points.{put_here, put_else, put_all, total_set}
 use Rattle.flash_rule.proofs.Owning.{some_same, with_here, with_else, owned_else, one_with_open}
-use Rattle.flash_rule.proofs.Frames.{counted, knowledge_kept}
+use Rattle.flash_rule.proofs.Frames.{counted, knowledge_kept, lists_stay}
 use Rattle.flash_rule.proofs.Assembly.{assembled, block_kept, named_kept}
 use Rattle.flash_rule.proofs.Ceding.{ceded_owned}
 use Rattle.flash_rule.proofs.Still.{pin_stays, still}
@@ -33,20 +34,31 @@ seat_set [] id v w at = absurd (some-ne-none v (sym at))
 seat_set (x ∷ xs) zero v w at = refl
 seat_set (x ∷ xs) (suc id) v w at = seat_set xs id v w at
 
--- the table with one block's state, its owner, the programmers and the erasers changed
-abbrev pub turned : World → ℕ → PinWord → ℕ → (ℕ → ℕ → ℕ → Option (Name × ℕ)) → (ℕ → ℕ → Option (Name × ℕ)) → World
-turned g b q owner programmer eraser = record g { pins = put g.pins b q; owner = put g.owner b owner; programmer = programmer; eraser = eraser }
+-- who programmed and erased what, and what each one did, in order
+pub record Deeds : Type 0 where
+  pub programmer : ℕ → ℕ → ℕ → Option (Name × ℕ)
+  pub eraser : ℕ → ℕ → Option (Name × ℕ)
+  pub programs : Name → List MapWord
+  pub erases : Name → List Cycle
 
--- the same with the erasers as they were
-abbrev pub moved : World → ℕ → PinWord → ℕ → (ℕ → ℕ → ℕ → Option (Name × ℕ)) → World
-moved g b q owner programmer = turned g b q owner programmer g.eraser
+-- those of a table
+abbrev pub deeds : World → Deeds
+deeds g = record { programmer = g.programmer; eraser = g.eraser; programs = g.programs; erases = g.erases }
+
+-- the table with one block's state, its owner and the deeds changed
+abbrev pub turned : World → ℕ → PinWord → ℕ → Deeds → World
+turned g b q owner d = record g { pins = put g.pins b q; owner = put g.owner b owner; programmer = d.programmer; eraser = d.eraser; programs = d.programs; erases = d.erases }
+
+-- the same with the deeds as they were
+abbrev pub moved : World → ℕ → PinWord → ℕ → World
+moved g b q owner = turned g b q owner (deeds g)
 
 -- ONE PIN WORD CHANGES. The new state is onward of the old one, and as it was but for readers if another seat owns the block
-pub pin_turns : (z : Numbers) (g : World) (id b : ℕ) (q : PinWord) (owner : ℕ) (programmer : ℕ → ℕ → ℕ → Option (Name × ℕ)) (eraser : ℕ → ℕ → Option (Name × ℕ)) → PinOnward (g.pins b) q
+pub pin_turns : (z : Numbers) (g : World) (id b : ℕ) (q : PinWord) (owner : ℕ) (d : Deeds) → PinOnward (g.pins b) q
     → (g.owner b ≢ id → is_owned (g.pins b).phase ≡ true → (owner ≡ g.owner b) × (q.phase ≡ (g.pins b).phase) × (q.generation ≡ (g.pins b).generation) × (q.written ≡ (g.pins b).written))
-    → ((m : MapWord) → IsProgrammed (g.pins m.block) m → programmer m.block m.page m.generation ≡ g.programmer m.block m.page m.generation)
-    → ((c n : ℕ) → 2 * n < age_of (g.pins c) → eraser c n ≡ g.eraser c n) → Onward z g (turned g b q owner programmer eraser) id id
-pin_turns z g id b q owner programmer eraser on mine listed erased =
+    → ((m : MapWord) → IsProgrammed (g.pins m.block) m → d.programmer m.block m.page m.generation ≡ g.programmer m.block m.page m.generation)
+    → ((c n : ℕ) → 2 * n < age_of (g.pins c) → d.eraser c n ≡ g.eraser c n) → ((n : Name) → IsDealt g n → ListsOnward g (turned g b q owner d) id n) → Onward z g (turned g b q owner d) id id
+pin_turns z g id b q owner d on mine programmed erased lists =
     record {
       history = Begins-refl g.history;
       calls = λ t _. refl;
@@ -58,14 +70,14 @@ pin_turns z g id b q owner programmer eraser on mine listed erased =
           let owned' : is_owned (g.pins b).phase ≡ true = ap (λ j. is_owned (g.pins j).phase) (sym same) ∙ owned in
           let m = mine other' owned' in
           let here : put g.pins b q b ≡ q = put_here g.pins b q in
-          let untouched : Untouched g (turned g b q owner programmer eraser) b = record {
+          let untouched : Untouched g (turned g b q owner d) b = record {
             owner = put_here g.owner b owner ∙ m.0;
             phase = ap (λ (p : PinWord). p.phase) here ∙ m.1;
             generation = ap (λ (p : PinWord). p.generation) here ∙ m.2;
             written = ap (λ (p : PinWord). p.written) here ∙ m.3;
             pages = λ p i. refl;
           } in
-          subst (λ j. Untouched g (turned g b q owner programmer eraser) j) (sym same) untouched)
+          subst (λ j. Untouched g (turned g b q owner d) j) (sym same) untouched)
           (λ unlike.
           let here = put_else g.pins b q c unlike in
           record {
@@ -77,27 +89,28 @@ pin_turns z g id b q owner programmer eraser on mine listed erased =
           });
       pages = λ c p i _ _ _. refl;
       named = λ s m is. inl is;
-      programmer = listed;
+      programmer = programmed;
       eraser = erased;
+      lists = lists;
       dealer = λ _. (refl, refl);
-      badge = λ n _ _ _. refl;
+      badge = λ n _ _ _. (refl, refl);
+      carries = λ n c is. inl is;
     }
 
-pub pin_moves : (z : Numbers) (g : World) (id b : ℕ) (q : PinWord) (owner : ℕ) (programmer : ℕ → ℕ → ℕ → Option (Name × ℕ)) → PinOnward (g.pins b) q
+pub pin_moves : (z : Numbers) (g : World) (id b : ℕ) (q : PinWord) (owner : ℕ) → PinOnward (g.pins b) q
     → (g.owner b ≢ id → is_owned (g.pins b).phase ≡ true → (owner ≡ g.owner b) × (q.phase ≡ (g.pins b).phase) × (q.generation ≡ (g.pins b).generation) × (q.written ≡ (g.pins b).written))
-    → ((m : MapWord) → IsProgrammed (g.pins m.block) m → programmer m.block m.page m.generation ≡ g.programmer m.block m.page m.generation)
-    → Onward z g (moved g b q owner programmer) id id
-pin_moves z g id b q owner programmer on mine listed = pin_turns z g id b q owner programmer g.eraser on mine listed (λ c n _. refl)
+    → Onward z g (moved g b q owner) id id
+pin_moves z g id b q owner on mine = pin_turns z g id b q owner (deeds g) on mine (λ m _. refl) (λ c n _. refl) (λ n _. lists_stay g (moved g b q owner) id n refl refl)
 
-module _ (z : Numbers) (g : World) (vs : List View) (id : ℕ) (v w : View) (b : ℕ) (q : PinWord) (owner : ℕ) (programmer : ℕ → ℕ → ℕ → Option (Name × ℕ)) (eraser : ℕ → ℕ → Option (Name × ℕ)) (law : Lawful z g vs) (at : get_elem? vs id ≡ some v) where
+module _ (z : Numbers) (g : World) (vs : List View) (id : ℕ) (v w : View) (b : ℕ) (q : PinWord) (owner : ℕ) (d : Deeds) (law : Lawful z g vs) (at : get_elem? vs id ≡ some v) where
   -- the rule after a change of one pin word; a page of this block that a map word names stays where one may name it
-  pub pin_turned : Onward z g (turned g b q owner programmer eraser) id id → LawfulView z (turned g b q owner programmer eraser) id w
+  pub pin_turned : Onward z g (turned g b q owner d) id id → LawfulView z (turned g b q owner d) id w
       → ((s : ℕ) (m : MapWord) → s < z.sectors → g.map s ≡ Some m → m.block ≡ b → IsCurrent z g s m → (q.generation ≡ (g.pins b).generation) × (is_nameable q.phase ≡ true) × ((g.pins b).written ≤ q.written))
-      → LawfulBlock z (turned g b q owner programmer eraser) (set vs id w) b
+      → LawfulBlock z (turned g b q owner d) (set vs id w) b
       → ((c : ℕ) → c ≢ b → pins_on c w ≡ pins_on c v) → ((c : ℕ) → c ≢ b → (o : Owned) → owned_at c v.owns ≡ Some o → (o' : Owned) × (owned_at c w.owns ≡ Some o'))
-      → weight z w ≡ weight z v → LawfulCeded z (put g.pins b q) (set vs id w) → Lawful z (turned g b q owner programmer eraser) (set vs id w)
+      → weight z w ≡ weight z v → LawfulCeded z (put g.pins b q) (set vs id w) → Lawful z (turned g b q owner d) (set vs id w)
   pin_turned on own nameable here counted keeps weighs ceded =
-      let g' = turned g b q owner programmer eraser in
+      let g' = turned g b q owner d in
       assembled z g g' vs id v w law at on own
       (λ s low. named_kept z g g' s (law.sectors s low) refl refl (λ m is current.
       let c : ℕ = m.block in
@@ -118,21 +131,19 @@ module _ (z : Numbers) (g : World) (vs : List View) (id : ℕ) (v w : View) (b :
       (λ unlike. block_kept z g g' vs id v w c at (law.blocks c low) (put_else g.pins b q c unlike) (put_else g.owner b owner c unlike) (λ p i. refl) (counted c unlike) (keeps c unlike)))
       law.strangers weighs law.dealt ceded
 
-module _ (z : Numbers) (g : World) (vs : List View) (id : ℕ) (v w : View) (b : ℕ) (q : PinWord) (owner : ℕ) (programmer : ℕ → ℕ → ℕ → Option (Name × ℕ)) (law : Lawful z g vs) (at : get_elem? vs id ≡ some v) where
   -- the same where the block stays nameable if it was
-  pub pin_moved : Onward z g (moved g b q owner programmer) id id → LawfulView z (moved g b q owner programmer) id w
+  pub pin_turned_nameable : Onward z g (turned g b q owner d) id id → LawfulView z (turned g b q owner d) id w
       → (is_nameable (g.pins b).phase ≡ true → (q.generation ≡ (g.pins b).generation) × (is_nameable q.phase ≡ true) × ((g.pins b).written ≤ q.written))
-      → LawfulBlock z (moved g b q owner programmer) (set vs id w) b
+      → LawfulBlock z (turned g b q owner d) (set vs id w) b
       → ((c : ℕ) → c ≢ b → pins_on c w ≡ pins_on c v) → ((c : ℕ) → c ≢ b → (o : Owned) → owned_at c v.owns ≡ Some o → (o' : Owned) × (owned_at c w.owns ≡ Some o'))
-      → weight z w ≡ weight z v → LawfulCeded z (put g.pins b q) (set vs id w) → Lawful z (moved g b q owner programmer) (set vs id w)
-  pin_moved on own nameable =
-      pin_turned z g vs id v w b q owner programmer g.eraser law at on own (λ s m low is same current. nameable (ap (λ j. is_nameable (g.pins j).phase) (sym same) ∙ current.phase))
+      → weight z w ≡ weight z v → LawfulCeded z (put g.pins b q) (set vs id w) → Lawful z (turned g b q owner d) (set vs id w)
+  pin_turned_nameable on own nameable = pin_turned on own (λ s m low is same current. nameable (ap (λ j. is_nameable (g.pins j).phase) (sym same) ∙ current.phase))
 
   -- an owned block other than the one that changes
-  pub moved_else : (doing doing' : Option Work) (cleared wiped c : ℕ) (o : Owned) → c ≢ b → ((p : ℕ) → o.written ≤ p → IsFilling doing c p → IsFilling doing' c p)
-      → LawfulOwned z g id doing cleared wiped c o → LawfulOwned z (moved g b q owner programmer) id doing' cleared wiped c o
-  moved_else doing doing' cleared wiped c o unlike filling h =
-      owned_else z g (moved g b q owner programmer) id doing doing' cleared wiped c o (put_else g.pins b q c unlike) (put_else g.owner b owner c unlike) (λ p i. refl) (λ s m is _. inl is) filling h
+  pub turned_else : (doing doing' : Option Work) (cleared wiped c : ℕ) (o : Owned) → c ≢ b → ((p : ℕ) → o.written ≤ p → IsFilling doing c p → IsFilling doing' c p)
+      → LawfulOwned z g id doing cleared wiped c o → LawfulOwned z (turned g b q owner d) id doing' cleared wiped c o
+  turned_else doing doing' cleared wiped c o unlike filling h =
+      owned_else z g (turned g b q owner d) id doing doing' cleared wiped c o (put_else g.pins b q c unlike) (put_else g.owner b owner c unlike) (λ p i. refl) (λ s m is _. inl is) filling h
 
 -- ---- take
 free_not : (f : Phase) → f ≡ Free → is_owned f ≡ true → ⊥
@@ -149,7 +160,7 @@ module _ (z : Numbers) (g : World) (vs : List View) (id : ℕ) (v : View) (b : �
   taker = record v { taken = v.taken + 1; owns = with_owned newly_owned v.owns }
 
   abbrev pub taken : World
-  taken = moved g b taken_state id g.programmer
+  taken = moved g b taken_state id
 
   -- a block that was found free is the pass's
   pub takes : (g.pins b).phase ≡ Free → Lawful z taken (set vs id taker)
@@ -163,7 +174,7 @@ module _ (z : Numbers) (g : World) (vs : List View) (id : ℕ) (v : View) (b : �
       let here : put g.pins b taken_state b ≡ taken_state = put_here g.pins b taken_state in
       let not_mine : (c : ℕ) (o : Owned) → owned_at c v.owns ≡ Some o → c ≢ b = λ c o is same.
       let k = holds.owned c o is in not_owned (ap (λ j. is_owned (g.pins j).phase) (sym same) ∙ (ap is_owned k.phase ∙ k.owned)) in
-      let on : Onward z g taken id id = pin_moves z g id b taken_state id g.programmer
+      let on : Onward z g taken id id = pin_moves z g id b taken_state id
       (record {
         generation = omega arith;
         age = (let e : half_cycle (g.pins b).phase ≡ 0 = ap half_cycle free in omega arith);
@@ -172,7 +183,7 @@ module _ (z : Numbers) (g : World) (vs : List View) (id : ℕ) (v : View) (b : �
         was = λ _ _ not. absurd (not free);
         free = λ _ is. absurd (cc);
       })
-      (λ _ is. absurd (not_owned is)) (λ m _. refl) in
+      (λ _ is. absurd (not_owned is)) in
       let knows = knowledge_kept z g taken id id on v (λ c is below. counted vs law id v at c is below) h.knowledge in
       let fresh : LawfulOwned z taken id v.work v.cleared v.wiped b newly_owned = record {
         block = refl;
@@ -189,6 +200,7 @@ module _ (z : Numbers) (g : World) (vs : List View) (id : ℕ) (v : View) (b : �
       let own : LawfulView z taken id taker = record {
         kind = record {
           numbers = kind.numbers;
+          host = kind.host;
           known = kind.known;
           opens = λ is c o owns. dite (ℕ_discrete c b)
               (λ same. let e : newly_owned ≡ o = some_same newly_owned o (sym (with_here newly_owned v.owns) ∙ (ap (λ j. owned_at j (with_owned newly_owned v.owns)) (sym same) ∙ owns)) in sym (ap (λ (x : Owned). x.phase) e))
@@ -198,15 +210,16 @@ module _ (z : Numbers) (g : World) (vs : List View) (id : ℕ) (v : View) (b : �
           owns_none = λ is. let no : true ≡ false = sym (pass_may_own v.role pass) ∙ is in absurd (cc);
           reclaims = one_with_open newly_owned v.owns refl kind.reclaims;
         };
-        knowledge = record { seen = knows.seen; pin = knows.pin; known = knows.known; programs = knows.programs; erases = knows.erases; copy = knows.copy };
+        knowledge = record { seen = knows.seen; pin = knows.pin; known = knows.known; programs = knows.programs; erases = knows.erases; copy = knows.copy; older = knows.older; out = knows.out };
         holding = record {
           name = holds.name;
           calls = holds.calls;
+          lists = holds.lists;
           owned = λ c o owns. dite (ℕ_discrete c b)
               (λ same.
               let e : newly_owned ≡ o = some_same newly_owned o (sym (with_here newly_owned v.owns) ∙ (ap (λ j. owned_at j (with_owned newly_owned v.owns)) (sym same) ∙ owns)) in
               let P : ℕ × Owned → Type 0 = λ x. LawfulOwned z taken id v.work v.cleared v.wiped x.0 x.1 in subst P (λ i. (sym same i, e i)) fresh)
-              (λ unlike. moved_else z g vs id v taker b taken_state id g.programmer law at v.work v.work v.cleared v.wiped c o unlike (λ p _ f. f) (holds.owned c o (sym (with_else newly_owned c v.owns unlike) ∙ owns)));
+              (λ unlike. turned_else z g vs id v taker b taken_state id (deeds g) law at v.work v.work v.cleared v.wiped c o unlike (λ p _ f. f) (holds.owned c o (sym (with_else newly_owned c v.owns unlike) ∙ owns)));
           work = λ x is.
               let k = holds.work x is in
               record {
@@ -234,10 +247,12 @@ module _ (z : Numbers) (g : World) (vs : List View) (id : ℕ) (v : View) (b : �
               };
           whole = holds.whole;
           guest = holds.guest;
+          note = holds.note;
+          home = holds.home;
           dealer = holds.dealer;
         };
       } in
-      pin_moved z g vs id v taker b taken_state id g.programmer law at on own
+      pin_turned_nameable z g vs id v taker b taken_state id (deeds g) law at on own
       (λ named. let no : true ≡ false = sym named ∙ ap is_nameable free in absurd (cc))
       (record {
         readers = (let e : (put g.pins b taken_state b).readers ≡ (g.pins b).readers = ap (λ (p : PinWord). p.readers) here in let r = block.readers in let t = total_set (pins_on b) vs id v taker at in omega arith);
@@ -265,8 +280,8 @@ module _ (z : Numbers) (g : World) (vs : List View) (id : ℕ) (v : View) (b : �
       let holds = h.holding in
       still z g vs id v (record v { denied = v.denied ++ b ∷ [] }) law at
       (record {
-        kind = record { numbers = kind.numbers; known = kind.known; opens = kind.opens; unpinned = kind.unpinned; idle = kind.idle; owns_none = kind.owns_none; reclaims = kind.reclaims };
-        knowledge = record { seen = knows.seen; pin = knows.pin; known = knows.known; programs = knows.programs; erases = knows.erases; copy = knows.copy };
-        holding = record { name = holds.name; calls = holds.calls; owned = holds.owned; work = holds.work; source = holds.source; whole = holds.whole; guest = holds.guest; dealer = holds.dealer };
+        kind = record { numbers = kind.numbers; host = kind.host; known = kind.known; opens = kind.opens; unpinned = kind.unpinned; idle = kind.idle; owns_none = kind.owns_none; reclaims = kind.reclaims };
+        knowledge = record { seen = knows.seen; pin = knows.pin; known = knows.known; programs = knows.programs; erases = knows.erases; copy = knows.copy; older = knows.older; out = knows.out };
+        holding = record { name = holds.name; calls = holds.calls; lists = holds.lists; owned = holds.owned; work = holds.work; source = holds.source; whole = holds.whole; guest = holds.guest; note = holds.note; home = holds.home; dealer = holds.dealer };
       })
       (λ c. refl) refl refl refl refl refl

@@ -1,12 +1,14 @@
--- A function with one value replaced, numbers compared by test, and totals over a list of views.
-use Rattle.std.proofs.Common.{◌≡◌, ◌≢◌, ℕ, zero, suc, ◌+◌, eq-eqb, ne_eqb, ◌==◌, true, false, List, [], ◌∷◌, set, sym, refl, ap, ◌∙◌, subst, arith}
+-- A function with one value replaced, numbers and names compared by test, and totals over a list of views.
+use Rattle.std.proofs.Common.{◌≡◌, ◌≢◌, ℕ, zero, suc, ◌+◌, eq-eqb, ne_eqb, ◌==◌, Bool, true, false, List, [], ◌∷◌, set, sym, refl, ap, ◌∙◌, subst, arith}
 use mathlib.Core.Logic.{dite}
 use mathlib.Core.Option.{some, some-injective, some-ne-none}
 use native.Mathlib.Decide.{ℕ_discrete}
 use lib.ListN.{get_elem?}
 use Rattle.flash_rule.specs.declared.view.View.{View}
-use Rattle.flash_rule.specs.Views.{total}
-use Rattle.flash_rule.specs.World.{put}
+use Rattle.flash_rule.specs.declared.facts.Name.{Name}
+use Rattle.flash_rule.specs.declared.facts.Name.TheVariants.{Pass, Broom}
+use Rattle.flash_rule.specs.Views.{total, same_name}
+use Rattle.flash_rule.specs.World.{put, put_name}
 
 pub eq_self : (n : ℕ) → (n == n) ≡ true
 eq_self n = eq-eqb n n refl
@@ -27,6 +29,37 @@ module _ {X : Type 0} (f : ℕ → X) (k : ℕ) (x : X) where
       dite (ℕ_discrete j k)
       (λ e. subst (λ (i : ℕ). P i (put f k x i)) (sym e) (subst (P k) (sym put_here) here))
       (λ ne. subst (P j) (sym (put_else j ne)) (there j ne))
+
+-- ---- functions of passes and brooms
+name_self : (n : Name) → same_name n n ≡ true
+name_self (Pass t) = eq_self t
+name_self (Broom i) = eq_self i
+
+names_apart : (n m : Name) → ¬ (n ≡ m) → same_name n m ≡ false
+names_apart (Pass t) (Pass u) apart = ne_eqb t u (λ e. apart (ap Pass e))
+names_apart (Pass t) (Broom j) apart = refl
+names_apart (Broom i) (Pass u) apart = refl
+names_apart (Broom i) (Broom j) apart = ne_eqb i j (λ e. apart (ap Broom e))
+
+one_name : (n m : Name) → same_name n m ≡ true → n ≡ m
+one_name (Pass t) (Pass u) is = ap Pass (true_eq t u is)
+one_name (Pass t) (Broom j) is = absurd (cc)
+one_name (Broom i) (Pass u) is = absurd (cc)
+one_name (Broom i) (Broom j) is = ap Broom (true_eq i j is)
+
+module _ {X : Type 0} (f : Name → X) (n : Name) (x : X) where
+  pub name_here : put_name f n x n ≡ x
+  name_here = rw (name_self n) refl
+
+  pub name_else : (m : Name) → ¬ (m ≡ n) → put_name f n x m ≡ f m
+  name_else m apart = rw (names_apart m n apart) refl
+
+  -- what holds of the new value for its name, and of the old ones for others, holds of all
+  pub name_all : (P : Name → X → Type 0) → P n x → ((m : Name) → ¬ (m ≡ n) → P m (f m)) → (m : Name) → P m (put_name f n x m)
+  name_all P here there m = by_test (same_name m n) refl where
+    by_test : (t : Bool) → same_name m n ≡ t → P m (put_name f n x m)
+    by_test true is = let same = one_name m n is in subst (λ (k : Name). P k (put_name f n x k)) (sym same) (subst (P n) (sym name_here) here)
+    by_test false is = let apart : ¬ (m ≡ n) = λ same. let no : false ≡ true = sym is ∙ (ap (λ k. same_name k n) same ∙ name_self n) in absurd (cc) in subst (P m) (sym (name_else m apart)) (there m apart)
 
 -- the total after a change of one view
 pub total_set : (f : View → ℕ) (vs : List View) (id : ℕ) (v w : View) → get_elem? vs id ≡ some v → total f (set vs id w) + f v ≡ total f vs + f w

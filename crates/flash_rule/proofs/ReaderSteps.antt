@@ -31,7 +31,7 @@ use Rattle.flash_rule.proofs.Places.{fits_pin}
 use Rattle.flash_rule.proofs.Frames.{counted, knowledge_kept}
 use Rattle.flash_rule.proofs.Assembly.{owner_kept, state_fits}
 use Rattle.flash_rule.proofs.Ceding.{ceded_read}
-use Rattle.flash_rule.proofs.PinSteps.{moved, pin_moves, pin_moved}
+use Rattle.flash_rule.proofs.PinSteps.{deeds, moved, pin_moves, pin_turned_nameable}
 use Rattle.flash_rule.proofs.Still.{sum_set, sum_below, age_low, pass_numbers}
 
 module _ (z : Numbers) (g : World) (vs : List View) (id : ℕ) (v : View) (b : ℕ) (readers : ℕ) (pin : Pin) (known : List ℕ) (law : Lawful z g vs) (at : get_elem? vs id ≡ some v) (pass : is_pass v.role ≡ true) (low : b < z.blocks) where
@@ -42,13 +42,13 @@ module _ (z : Numbers) (g : World) (vs : List View) (id : ℕ) (v : View) (b : �
   reader = record v { pin = pin; known = known }
 
   abbrev pub read_world : World
-  read_world = moved g b read_state (g.owner b) g.programmer
+  read_world = moved g b read_state (g.owner b)
 
   pub read_onward : Onward z g read_world id id
   read_onward =
-      pin_moves z g id b read_state (g.owner b) g.programmer
+      pin_moves z g id b read_state (g.owner b)
       (record { generation = omega arith; age = omega arith; written = λ _. omega arith; held = λ _ intact. (refl, intact); was = λ _ intact _. intact; free = λ _ free. free })
-      (λ _ _. (refl, refl, refl, refl)) (λ m _. refl)
+      (λ _ _. (refl, refl, refl, refl))
 
   -- an owned block, whoever reads it
   owned_read : (c : ℕ) (o : Owned) → LawfulOwned z g id v.work v.cleared v.wiped c o → LawfulOwned z read_world id v.work v.cleared v.wiped c o
@@ -84,7 +84,7 @@ module _ (z : Numbers) (g : World) (vs : List View) (id : ℕ) (v : View) (b : �
       let on = read_onward in
       let knows = knowledge_kept z g g' id id on v (λ c is below. counted vs law id v at c is below) h.knowledge in
       let own : LawfulView z g' id reader = record {
-        kind = record { numbers = kind.numbers; known = λ _. long; opens = kind.opens; unpinned = λ not. let no : true ≡ false = sym pass ∙ not in absurd (cc); idle = kind.idle; owns_none = kind.owns_none; reclaims = kind.reclaims };
+        kind = record { numbers = kind.numbers; host = kind.host; known = λ _. long; opens = kind.opens; unpinned = λ not. let no : true ≡ false = sym pass ∙ not in absurd (cc); idle = kind.idle; owns_none = kind.owns_none; reclaims = kind.reclaims };
         knowledge = record {
           seen = knows.seen;
           pin = lawful;
@@ -92,19 +92,24 @@ module _ (z : Numbers) (g : World) (vs : List View) (id : ℕ) (v : View) (b : �
           programs = knows.programs;
           erases = knows.erases;
           copy = knows.copy;
+          older = knows.older;
+          out = knows.out;
         };
         holding = record {
           name = holds.name;
           calls = holds.calls;
+          lists = holds.lists;
           owned = λ c o owns. owned_read c o (holds.owned c o owns);
           work = λ w is. let k = holds.work w is in record { entry = k.entry; own = k.own; opened = k.opened; generation = k.generation; page = k.page; counted = k.counted; short = k.short; full = k.full; stands = k.stands };
           source = λ x is. let k = holds.source x is in record { entry = k.entry; own = k.own; victim = k.victim; generation = k.generation; page = k.page; written = k.written; stamp = k.stamp; value = k.value };
           whole = holds.whole;
           guest = holds.guest;
+          note = holds.note;
+          home = holds.home;
           dealer = holds.dealer;
         };
       } in
-      pin_moved z g vs id v reader b q (g.owner b) g.programmer law at on own
+      pin_turned_nameable z g vs id v reader b q (g.owner b) (deeds g) law at on own
       (λ named. (refl, named, omega arith))
       (record {
         readers = (let e : (put g.pins b q b).readers ≡ readers = ap (λ (p : PinWord). p.readers) is in let r = block.readers in let t = total_set (pins_on b) vs id v reader at in omega arith);
@@ -181,17 +186,17 @@ module _ (z : Numbers) (slots id : ℕ) (me : Sitter) where
       let f : v.numbers.blocks * (2 * v.numbers.endurance) ≡ z.blocks * (2 * z.endurance) = ap (λ (y : Numbers). y.blocks * (2 * y.endurance)) numbers in omega arith in
       let none_yet : (j : ℕ) → pins_on j v ≡ 0 = λ j. ap (λ (x : Pin). one_if (pin_is_on j x)) is in
       let q : PinWord = read_state z g t.views id v b (p.readers + 1) Clear [] law at pass low in
-      let word : (w : View) → Lawful z (moved g b q (g.owner b) g.programmer) (set t.views id w) → (n + READER) % 2 ^ 64 ≡ pin_word q = λ w lawful.
-      let after : World = moved g b q (g.owner b) g.programmer in
+      let word : (w : View) → Lawful z (moved g b q (g.owner b)) (set t.views id w) → (n + READER) % 2 ^ 64 ≡ pin_word q = λ w lawful.
+      let after : World = moved g b q (g.owner b) in
       let fits_q : FitsPin q = subst FitsPin (put_here g.pins b q) (state_fits z after (set t.views id w) lawful b low) in
       ap (λ (y : ℕ). (y + READER) % 2 ^ 64) found ∙ adds p q READER fits_q (reads p) in
-      let answer : (w : View) → Lawful z (moved g b q (g.owner b) g.programmer) (set t.views id w) → Pinned v m value n w
+      let answer : (w : View) → Lawful z (moved g b q (g.owner b)) (set t.views id w) → Pinned v m value n w
       → (w : View) × (a : Act (Unit {0})) × Valid t.homes me.1 a × Ruled z (stepped t k ((n + READER) % 2 ^ 64) id me.1 w a) × pin_told (step slots k READER 0 none) me n (w, carried_after me.1 a) = λ w lawful told. (
         w,
         keeps,
         tt,
         (
-          moved g b q (g.owner b) g.programmer,
+          moved g b q (g.owner b),
           subst (λ y. Fits z g.map (put g.pins b q) g.pages (set t.words k y)) (sym (word w lawful)) (fits_pin z g.map g.pins g.pages t.words fits b q low),
           lawful,
         ),
@@ -267,7 +272,7 @@ module _ (z : Numbers) (slots id : ℕ) (me : Sitter) where
         keeps,
         tt,
         (
-          moved g b q (g.owner b) g.programmer,
+          moved g b q (g.owner b),
           subst (λ y. Fits z g.map (put g.pins b q) g.pages (set t.words k y)) (sym now) (fits_pin z g.map g.pins g.pages t.words fits b q low),
           lawful,
         ),

@@ -1,5 +1,5 @@
 -- Each step of a broom on a pin word, as the table asks for it: whatever the table is, the step keeps the rule and tells what it says.
-use Rattle.std.proofs.Common.{◌≡◌, ◌≢◌, ℕ, ◌+◌, ◌%◌, ◌^◌, ◌<◌, ◌≤◌, ◌⊎◌, inl, inr, ⊎_elim, ◌==◌, eq-eqb, ne_eqb, true, Option, List, [], ◌∷◌, ◌++◌, Some, set, sym, refl, ap, ◌∙◌, subst, arith}
+use Rattle.std.proofs.Common.{◌≡◌, ◌≢◌, ℕ, ◌+◌, ◌%◌, ◌^◌, ◌<◌, ◌≤◌, ◌⊎◌, inl, inr, ⊎_elim, ◌==◌, eq-eqb, ne_eqb, true, List, [], ◌∷◌, ◌++◌, Some, set, sym, refl, ap, ◌∙◌, subst, arith}
 use Rattle.std.proofs.Math.ListN.{get_or}
 use prog.Atomic.{either}
 use mathlib.Core.Option.{some, none}
@@ -31,9 +31,9 @@ use Rattle.flash_rule.proofs.Points.{put_here}
 use Rattle.flash_rule.proofs.Places.{fits_load, fits_pin, pin_within}
 use Rattle.flash_rule.proofs.Owning.{some_same}
 use Rattle.flash_rule.proofs.Assembly.{state_fits}
-use Rattle.flash_rule.proofs.PinSteps.{turned}
+use Rattle.flash_rule.proofs.PinSteps.{Deeds, deeds, turned, moved}
 use Rattle.flash_rule.proofs.Reclaiming.{unowned, notes, owner_numbers, broom_live}
-use Rattle.flash_rule.proofs.ReclaimSteps.{claims, claimed_state, claimer, condemns, condemned_state, condemner, listed, drains_block, drained_state, drainer}
+use Rattle.flash_rule.proofs.ReclaimSteps.{claims, claimed_state, claimer, condemns, condemned_state, condemner, condemn_deeds, drains_block, drained_state, drainer}
 use Rattle.flash_rule.proofs.EraseSteps.{retires, retired_state, retirer, frees, freed_state, freer, keeps_block, kept_state, keeper, erasing_low, erasing_written, is_erasing}
 
 drained_or_not : (f : Phase) → (f ≡ Drained) ⊎ (¬ (f ≡ Drained))
@@ -64,22 +64,22 @@ module _ (z : Numbers) (id : ℕ) (me : Sitter) (t : State (Unit {0}) View) (g :
   word_of = get_or t.words (pin_index z b) 0
 
   -- it becomes that of another state
-  ruled_as : (q : PinWord) (eraser : ℕ → ℕ → Option (Name × ℕ)) (w : View) (new : ℕ) → new ≡ pin_word q → Lawful z (turned g b q id g.programmer eraser) (set t.views id w)
+  ruled_as : (q : PinWord) (d : Deeds) (w : View) (new : ℕ) → new ≡ pin_word q → Lawful z (turned g b q id d) (set t.views id w)
       → Ruled z (stepped t (pin_index z b) new id me.1 w keeps)
-  ruled_as q eraser w new is lawful = (
-    turned g b q id g.programmer eraser,
+  ruled_as q d w new is lawful = (
+    turned g b q id d,
     subst (λ y. Fits z g.map (put g.pins b q) g.pages (set t.words (pin_index z b) y)) (sym is) (fits_pin z g.map g.pins g.pages t.words fits b q low),
     lawful,
   )
 
   -- an addition doesn't wrap
-  ruled_plus : (q : PinWord) (w : View) (added : ℕ) → pin_word (g.pins b) + added ≡ pin_word q → Lawful z (turned g b q id g.programmer g.eraser) (set t.views id w)
+  ruled_plus : (q : PinWord) (w : View) (added : ℕ) → pin_word (g.pins b) + added ≡ pin_word q → Lawful z (moved g b q id) (set t.views id w)
       → Ruled z (stepped t (pin_index z b) ((word_of + added) % 2 ^ 64) id me.1 w keeps)
   ruled_plus q w added sum lawful =
-      let after : World = turned g b q id g.programmer g.eraser in
+      let after : World = moved g b q id in
       let fitting : FitsPin q = subst FitsPin (put_here g.pins b q) (state_fits z after (set t.views id w) lawful b low) in
       let found : word_of ≡ pin_word (g.pins b) = fits.blocks b low in
-      ruled_as q g.eraser w ((word_of + added) % 2 ^ 64) (ap (λ (y : ℕ). (y + added) % 2 ^ 64) found ∙ bits.adds (g.pins b) q added fitting sum) lawful
+      ruled_as q (deeds g) w ((word_of + added) % 2 ^ 64) (ap (λ (y : ℕ). (y + added) % 2 ^ 64) found ∙ bits.adds (g.pins b) q added fitting sum) lawful
 
   -- it stays
   ruled_still : (w : View) (new : ℕ) → new ≡ word_of → Lawful z g (set t.views id w) → Ruled z (stepped t (pin_index z b) new id me.1 w keeps)
@@ -163,7 +163,7 @@ module _ (z : Numbers) (slots id : ℕ) (me : Sitter) where
       let q : PinWord = claimed_state z g t.views id v b law at broom low can.rested in
       let w : View = claimer z g t.views id v b law at broom low can.rested in
       let now : either (n == old) new n ≡ pin_word q = exchanged n old new is ∙ (ap (λ (y : PinWord). pin_word y + NEXT_PHASE) (sym same) ∙ bits.next_phase (g.pins b) Closed Victim phase refl) in
-      answer w (ruled_as z id me t g fits b low q g.eraser w (either (n == old) new n) now (claims z g t.views id v b law at broom low can.rested phase))
+      answer w (ruled_as z id me t g fits b low q (deeds g) w (either (n == old) new n) now (claims z g t.views id v b law at broom low can.rested phase))
       (record { fresh = λ _. unowned z g t.views id v law at b (ap is_owned phase); won = λ _. ap (λ (y : PinWord). record v { owns = with_owned (owned_as b y Victim) v.owns; cleared = 0 }) same; lost = λ not. absurd (not is) }))
       (λ (other : n ≢ old).
       let w : View = record v { lost = v.lost ++ b ∷ [] } in
@@ -204,7 +204,7 @@ module _ (z : Numbers) (slots id : ℕ) (me : Sitter) where
       let q : PinWord = condemned_state z g t.views id v b law at broom low can.rested in
       let w : View = condemner z g t.views id v b law at broom low can.rested in
       let now : either (n == old) new n ≡ pin_word q = exchanged n old new is ∙ (ap (λ (y : PinWord). pin_word y + NEXT_PHASE) (sym same) ∙ bits.next_phase (g.pins b) Drained Erasing phase refl) in
-      answer w (ruled_as z id me t g fits b low q (listed z g t.views id v b law at broom low can.rested name.0) w (either (n == old) new n) now (condemns z g t.views id v b law at broom low can.rested name.0 name.1 phase unread))
+      answer w (ruled_as z id me t g fits b low q (condemn_deeds z g t.views id v b law at broom low can.rested name.0) w (either (n == old) new n) now (condemns z g t.views id v b law at broom low can.rested name.0 name.1 phase unread))
       (record { fresh = λ _. unowned z g t.views id v law at b (ap is_owned phase); won = λ _. ap (λ (y : PinWord). record v { owns = with_owned (owned_as b y Erasing) v.owns; erases = v.erases ++ cycle_of (owned_as b y Erasing) ∷ []; wiped = 0 }) same; busy = λ not. absurd (not is) }))
       (λ (other : n ≢ old).
       let w : View = record v { busy = v.busy ++ b ∷ [] } in

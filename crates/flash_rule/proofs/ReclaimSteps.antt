@@ -2,7 +2,9 @@
 use Rattle.std.proofs.Common.{◌≡◌, ℕ, ◌*◌, ◌<◌, inr, ⊎_elim, true, false, List, [], ◌∷◌, ◌++◌, Option, Some, length, set, slice_get, sym, refl, ap, ◌∙◌, subst, arith}
 use mathlib.Core.Option.{some}
 use lib.ListN.{get_elem?}
+use Rattle.geometry.specs.History.{Begins}
 use Rattle.geometry.specs.Limits.{Numbers}
+use Rattle.geometry.proofs.Histories.{Begins-refl}
 use Rattle.geometry.specs.declared.pin_word.PinWord.{PinWord}
 use Rattle.geometry.specs.declared.pin_word.Phase.TheVariants.{Open, Closed, Victim, Drained, Erasing}
 use Rattle.flash_rule.specs.declared.facts.Name.{Name}
@@ -12,15 +14,18 @@ use Rattle.flash_rule.specs.declared.facts.Source.{Source}
 use Rattle.flash_rule.specs.declared.facts.Cycle.{Cycle}
 use Rattle.flash_rule.specs.declared.view.View.{View}
 use Rattle.flash_rule.specs.Views.{is_pass, is_broom, may_own, owned_at, without, with_owned}
-use Rattle.flash_rule.specs.World.{World, put, is_owned, is_intact, is_nameable, is_still, half_cycle, age_of}
+use Rattle.flash_rule.specs.World.{World, put, put_name, is_owned, is_intact, is_nameable, is_still, half_cycle, age_of}
 use Rattle.flash_rule.specs.Ceded.{rank}
 use Rattle.flash_rule.specs.Rule.{Erases, LawfulOwned, Lawful}
 use Rattle.flash_rule.specs.BroomPlays.{owned_as, cycle_of, IsAtRest, CanDrain}
-use Rattle.flash_rule.proofs.Points.{put_here}
+use Rattle.flash_rule.proofs.Points.{put_here, name_here, name_else, name_all}
 use Rattle.flash_rule.proofs.Owning.{owns_none_else, may_own_else, some_same, with_here, with_else, without_else, one_at_rest, one_without, get_last, put2, put2_here, put2_else}
 use Rattle.flash_rule.proofs.Ceding.{ceded_owned, ceded_last}
-use Rattle.flash_rule.proofs.PinSteps.{turned}
-use Rattle.flash_rule.proofs.Reclaiming.{turns, broom_player, broom_no_pass, broom_may_own, entry_set, entry_gone}
+use Rattle.flash_rule.proofs.PinSteps.{Deeds, deeds, turned}
+use Rattle.flash_rule.proofs.Reclaiming.{erased_as, turns, broom_player, broom_no_pass, broom_may_own, entry_set, entry_gone}
+
+player_same : (n m : Name) → Player n ≡ Player m → n ≡ m
+player_same n m e = cc
 
 -- ---- what a seat at rest has
 module _ (z : Numbers) (g : World) (vs : List View) (id : ℕ) (v : View) (b : ℕ) (law : Lawful z g vs) (at : get_elem? vs id ≡ some v) (broom : is_broom v.role ≡ true) (low : b < z.blocks) (rested : IsAtRest v) where
@@ -47,7 +52,7 @@ module _ (z : Numbers) (g : World) (vs : List View) (id : ℕ) (v : View) (b : �
   claimer = record v { owns = with_owned claimed_block v.owns; cleared = 0 }
 
   abbrev pub claim_world : World
-  claim_world = turned g b claimed_state id g.programmer g.eraser
+  claim_world = turned g b claimed_state id (deeds g)
 
   -- a closed block is the broom's victim
   pub claims : (g.pins b).phase ≡ Closed → Lawful z claim_world (set vs id claimer)
@@ -67,7 +72,7 @@ module _ (z : Numbers) (g : World) (vs : List View) (id : ℕ) (v : View) (b : �
         dead = λ _ p s below. absurd (omega arith);
         clean = λ is. absurd (cc);
       } in
-      turns z g vs id v b q (with_owned claimed_block v.owns) v.erases 0 v.wiped v.drains v.ceded g.eraser law at low
+      turns z g vs id v b q (with_owned claimed_block v.owns) v.erases 0 v.wiped v.drains v.ceded g.eraser g.erases law at low
       (ceded_owned z g.pins vs id v claimer law.ceded at refl b q refl refl refl (inr (refl, (let e : rank (g.pins b).phase ≡ 2 = ap rank closed in omega arith), omega arith)))
       (record {
         onward = record {
@@ -95,6 +100,8 @@ module _ (z : Numbers) (g : World) (vs : List View) (id : ℕ) (v : View) (b : �
         reclaims = one_at_rest claimed_block v.owns rested;
         idle = λ is. ((law.views id v at).kind.idle is).3;
         erases = λ n _ old. old;
+        lists = λ n _. (Begins-refl (g.erases n), λ _. refl);
+        listed = λ n _ its. its;
         cleared = omega arith;
         wiped = omega arith;
         source = λ x is _. absurd (no_source x is);
@@ -113,8 +120,14 @@ module _ (z : Numbers) (g : World) (vs : List View) (id : ℕ) (v : View) (b : �
   abbrev pub listed : Name → ℕ → ℕ → Option (Name × ℕ)
   listed n = put2 g.eraser b (g.pins b).generation (Some (n, length v.erases))
 
+  abbrev pub all_erases : Name → Name → List Cycle
+  all_erases n = put_name g.erases n (v.erases ++ cycle_of condemned_block ∷ [])
+
+  abbrev pub condemn_deeds : Name → Deeds
+  condemn_deeds n = erased_as g (listed n) (all_erases n)
+
   abbrev pub condemn_world : Name → World
-  condemn_world n = turned g b condemned_state id g.programmer (listed n)
+  condemn_world n = turned g b condemned_state id (condemn_deeds n)
 
   -- the erase is listed as this broom's
   erase_listed : (n : Name) → v.role ≡ Player n → (n' : Name) → v.role ≡ Player n' → Erases z (condemn_world n) n' v.erases → Erases z (condemn_world n) n' (v.erases ++ cycle_of condemned_block ∷ [])
@@ -129,14 +142,12 @@ module _ (z : Numbers) (g : World) (vs : List View) (id : ℕ) (v : View) (b : �
       let whose : listed n b generation ≡ Some (n', k) = put2_here g.eraser b generation (Some (n, length v.erases)) ∙ λ i. Some (same_name i, sym new.0 i) in
       subst (λ (c : Cycle). (c.block < z.blocks) × (2 * c.generation < age_of (put g.pins b q c.block)) × (listed n c.block c.generation ≡ Some (n', k))) new.1 (low, older, whose))
       (get_last v.erases (cycle_of condemned_block) c k is)
-    where
-      player_same : (n m : Name) → Player n ≡ Player m → n ≡ m
-      player_same n m e = cc
 
   -- a drained block without readers is the broom's to erase
   pub condemns : (n : Name) → v.role ≡ Player n → (g.pins b).phase ≡ Drained → (g.pins b).readers ≡ 0 → Lawful z (condemn_world n) (set vs id condemner)
   condemns n role drained unread =
       let block = law.blocks b low in
+      let holds = (law.views id v at).holding in
       let q : PinWord = condemned_state in
       let here : put g.pins b q b ≡ q = put_here g.pins b q in
       let even : half_cycle (g.pins b).phase ≡ 0 = ap half_cycle drained in
@@ -152,7 +163,7 @@ module _ (z : Numbers) (g : World) (vs : List View) (id : ℕ) (v : View) (b : �
         dead = λ is. absurd (cc);
         clean = λ _ p i _ _ below. absurd (omega arith);
       } in
-      turns z g vs id v b q (with_owned condemned_block v.owns) (v.erases ++ cycle_of condemned_block ∷ []) v.cleared 0 v.drains v.ceded (listed n) law at low
+      turns z g vs id v b q (with_owned condemned_block v.owns) (v.erases ++ cycle_of condemned_block ∷ []) v.cleared 0 v.drains v.ceded (listed n) (all_erases n) law at low
       (ceded_owned z g.pins vs id v condemner law.ceded at refl b q refl refl refl (inr (refl, (let e : rank (g.pins b).phase ≡ 4 = ap rank drained in omega arith), omega arith)))
       (record {
         onward = record {
@@ -182,6 +193,11 @@ module _ (z : Numbers) (g : World) (vs : List View) (id : ℕ) (v : View) (b : �
         reclaims = one_at_rest condemned_block v.owns rested;
         idle = λ is. let no : true ≡ false = sym (broom_player v.role broom) ∙ is in absurd (cc);
         erases = erase_listed n role;
+        lists = λ m _. (
+          name_all g.erases n condemner.erases (λ k l. Begins (g.erases k) l) (cycle_of condemned_block ∷ [], ap (λ l. l ++ cycle_of condemned_block ∷ []) (holds.lists n role).1) (λ k _. Begins-refl (g.erases k)) m,
+          λ other. name_else g.erases n condemner.erases m (λ same. other (ap g.seat same ∙ (holds.name n role).0)),
+        );
+        listed = λ m role' _. subst (λ (k : Name). all_erases n k ≡ condemner.erases) (player_same n m (sym role ∙ role')) (name_here g.erases n condemner.erases);
         cleared = omega arith;
         wiped = omega arith;
         source = λ x is _. absurd (no_source x is);
@@ -199,7 +215,7 @@ module _ (z : Numbers) (g : World) (vs : List View) (id : ℕ) (v : View) (o : O
   drainer = record v { owns = without o.block v.owns; drains = v.drains ++ cycle_of o ∷ []; ceded = v.ceded ++ drained_block ∷ [] }
 
   abbrev pub drain_world : World
-  drain_world = turned g o.block drained_state id g.programmer g.eraser
+  drain_world = turned g o.block drained_state id (deeds g)
 
   -- a victim whose written pages are all cleared is drained, and nobody's
   pub drains_block : CanDrain v o → Lawful z drain_world (set vs id drainer)
@@ -211,7 +227,7 @@ module _ (z : Numbers) (g : World) (vs : List View) (id : ℕ) (v : View) (o : O
       let victim : (g.pins b).phase ≡ Victim = mine.phase ∙ can.victim in
       let written_is = mine.written in
       let cleared = can.cleared in
-      turns z g vs id v b drained_state (without b v.owns) v.erases v.cleared v.wiped (v.drains ++ cycle_of o ∷ []) (v.ceded ++ drained_block ∷ []) g.eraser law at mine.low
+      turns z g vs id v b drained_state (without b v.owns) v.erases v.cleared v.wiped (v.drains ++ cycle_of o ∷ []) (v.ceded ++ drained_block ∷ []) g.eraser g.erases law at mine.low
       (ceded_last z g.pins vs id v drainer law.ceded at refl b drained_state mine.low
       (inr (refl, (let e : rank (g.pins b).phase ≡ 3 = ap rank victim in omega arith), omega arith))
       drained_block (λ i. record { block = b; phase = Drained; generation = sym mine.generation i; written = sym mine.written i }) refl refl
@@ -246,6 +262,8 @@ module _ (z : Numbers) (g : World) (vs : List View) (id : ℕ) (v : View) (o : O
         reclaims = one_without b v.owns h.kind.reclaims;
         idle = λ is. (h.kind.idle is).3;
         erases = λ n _ old. old;
+        lists = λ n _. (Begins-refl (g.erases n), λ _. refl);
+        listed = λ n _ its. its;
         cleared = omega arith;
         wiped = omega arith;
         source = λ x is k. (

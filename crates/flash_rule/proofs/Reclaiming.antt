@@ -4,7 +4,9 @@ use mathlib.Core.Option.{some}
 use mathlib.Core.Logic.{dite}
 use native.Mathlib.Decide.{ℕ_discrete}
 use lib.ListN.{get_elem?}
+use Rattle.geometry.specs.History.{Begins}
 use Rattle.geometry.specs.Limits.{Numbers}
+use Rattle.geometry.proofs.Histories.{Begins-refl}
 use Rattle.geometry.specs.declared.map_word.MapWord.{MapWord}
 use Rattle.geometry.specs.declared.pin_word.PinWord.{PinWord}
 use Rattle.geometry.specs.declared.pin_word.Phase.TheVariants.{Free, Open}
@@ -19,13 +21,13 @@ use Rattle.flash_rule.specs.declared.view.View.{View}
 use Rattle.flash_rule.specs.Views.{is_pass, is_broom, is_player, is_live_role, may_own, pins_on, owned_at, without, with_owned}
 use Rattle.flash_rule.specs.World.{World, put, is_owned, is_nameable, is_still, age_of, IsBlank}
 use Rattle.flash_rule.specs.Ceded.{LawfulCeded}
-use Rattle.flash_rule.specs.Rule.{IsCurrent, Erases, ReclaimsOne, LawfulOwned, LawfulSource, LawfulKind, LawfulView, Lawful}
+use Rattle.flash_rule.specs.Rule.{IsCurrent, Erases, ReclaimsOne, LawfulOwned, LawfulSource, LawfulKind, LawfulView, Lawful, IsDealt}
 use Rattle.flash_rule.specs.Onward.{PinOnward, Onward}
 use Rattle.flash_rule.proofs.Points.{put_here, put_else, total_set}
 use Rattle.flash_rule.proofs.Owning.{owns_none_else, some_same, none_some, with_here, without_here, owned_else}
 use Rattle.flash_rule.proofs.Frames.{counted, knowledge_kept}
 use Rattle.flash_rule.proofs.Still.{still}
-use Rattle.flash_rule.proofs.PinSteps.{turned, pin_turns, pin_turned, seat_set}
+use Rattle.flash_rule.proofs.PinSteps.{Deeds, deeds, turned, pin_turns, pin_turned, seat_set}
 
 -- ---- a broom's role
 pub broom_player : (r : Role) → is_broom r ≡ true → is_player r ≡ true
@@ -91,15 +93,20 @@ module _ (z : Numbers) (g : World) (vs : List View) (id : ℕ) (v : View) (law :
       let holds = h.holding in
       still z g vs id v (record v { loaded = loaded; lost = lost; busy = busy; stale = stale }) law at
       (record {
-        kind = record { numbers = kind.numbers; known = kind.known; opens = kind.opens; unpinned = kind.unpinned; idle = kind.idle; owns_none = kind.owns_none; reclaims = kind.reclaims };
-        knowledge = record { seen = knows.seen; pin = knows.pin; known = knows.known; programs = knows.programs; erases = knows.erases; copy = knows.copy };
-        holding = record { name = holds.name; calls = holds.calls; owned = holds.owned; work = holds.work; source = holds.source; whole = holds.whole; guest = holds.guest; dealer = holds.dealer };
+        kind = record { numbers = kind.numbers; host = kind.host; known = kind.known; opens = kind.opens; unpinned = kind.unpinned; idle = kind.idle; owns_none = kind.owns_none; reclaims = kind.reclaims };
+        knowledge = record { seen = knows.seen; pin = knows.pin; known = knows.known; programs = knows.programs; erases = knows.erases; copy = knows.copy; older = knows.older; out = knows.out };
+        holding = record { name = holds.name; calls = holds.calls; lists = holds.lists; owned = holds.owned; work = holds.work; source = holds.source; whole = holds.whole; guest = holds.guest; note = holds.note; home = holds.home; dealer = holds.dealer };
       })
       (λ c. refl) refl refl refl refl refl
 
+-- the deeds of a table with other erases
+abbrev pub erased_as : World → (ℕ → ℕ → Option (Name × ℕ)) → (Name → List Cycle) → Deeds
+erased_as g eraser erases = record (deeds g) { eraser = eraser; erases = erases }
+
 -- The state q of the block b, and what its seat has then, fit together: the new state is onward of the old one, which is nobody else's and
--- not open; what a map word names of the block it may still name; other blocks of the seat stay; and no more is cleared or wiped than was
-pub record IsTurn (z : Numbers) (g : World) (id : ℕ) (v : View) (b : ℕ) (q : PinWord) (owns' : List Owned) (erases' : List Cycle) (cleared' wiped' : ℕ) (eraser' : ℕ → ℕ → Option (Name × ℕ)) : Type 0 where
+-- not open; what a map word names of the block it may still name; other blocks of the seat stay; no more is cleared or wiped than was; and
+-- what the seat lists as erased is all that its player did, which stands behind what it had done, while others' lists stay
+pub record IsTurn (z : Numbers) (g : World) (id : ℕ) (v : View) (b : ℕ) (q : PinWord) (owns' : List Owned) (erases' : List Cycle) (cleared' wiped' : ℕ) (eraser' : ℕ → ℕ → Option (Name × ℕ)) (listed' : Name → List Cycle) : Type 0 where
   pub onward : PinOnward (g.pins b) q
   pub alone : g.owner b ≢ id → ¬ (is_owned (g.pins b).phase ≡ true)
   pub shut : ¬ ((g.pins b).phase ≡ Open)
@@ -112,30 +119,33 @@ pub record IsTurn (z : Numbers) (g : World) (id : ℕ) (v : View) (b : ℕ) (q :
   pub owner : is_owned q.phase ≡ true → (e : Owned) × (owned_at b owns' ≡ Some e)
   pub named : (s : ℕ) (m : MapWord) → s < z.sectors → g.map s ≡ Some m → m.block ≡ b → IsCurrent z g s m → (q.generation ≡ (g.pins b).generation) × (is_nameable q.phase ≡ true) × ((g.pins b).written ≤ q.written)
   pub there : (c : ℕ) → c ≢ b → owned_at c owns' ≡ owned_at c v.owns
-  pub here : (e : Owned) → owned_at b owns' ≡ Some e → LawfulOwned z (turned g b q id g.programmer eraser') id v.work cleared' wiped' b e
+  pub here : (e : Owned) → owned_at b owns' ≡ Some e → LawfulOwned z (turned g b q id (erased_as g eraser' listed')) id v.work cleared' wiped' b e
   pub opens : is_pass v.role ≡ true → (e : Owned) → owned_at b owns' ≡ Some e → e.phase ≡ Open
   pub owns_none : may_own v.role ≡ false → owns' ≡ []
   pub reclaims : ReclaimsOne owns'
   pub idle : is_player v.role ≡ false → erases' ≡ []
-  pub erases : (n : Name) → v.role ≡ Player n → Erases z (turned g b q id g.programmer eraser') n v.erases → Erases z (turned g b q id g.programmer eraser') n erases'
+  pub erases : (n : Name) → v.role ≡ Player n → Erases z (turned g b q id (erased_as g eraser' listed')) n v.erases → Erases z (turned g b q id (erased_as g eraser' listed')) n erases'
+  pub lists : (n : Name) → IsDealt g n → Begins (g.erases n) (listed' n) × (¬ (g.seat n ≡ id) → listed' n ≡ g.erases n)
+  pub listed : (n : Name) → v.role ≡ Player n → g.erases n ≡ v.erases → listed' n ≡ erases'
   pub cleared : cleared' ≤ v.cleared
   pub wiped : wiped' ≤ v.wiped
   pub source : (x : Source) → v.source ≡ Some x → LawfulSource z g v.owns v.cleared x → (x.page.block ≢ b) × (cleared' ≡ v.cleared)
 
-module _ (z : Numbers) (g : World) (vs : List View) (id : ℕ) (v : View) (b : ℕ) (q : PinWord) (owns : List Owned) (erases : List Cycle) (cleared wiped : ℕ) (drains : List Cycle) (ceded : List Owned) (eraser : ℕ → ℕ → Option (Name × ℕ)) (law : Lawful z g vs) (at : get_elem? vs id ≡ some v) (low : b < z.blocks) where
+module _ (z : Numbers) (g : World) (vs : List View) (id : ℕ) (v : View) (b : ℕ) (q : PinWord) (owns : List Owned) (erases : List Cycle) (cleared wiped : ℕ) (drains : List Cycle) (ceded : List Owned) (eraser : ℕ → ℕ → Option (Name × ℕ)) (listed : Name → List Cycle) (law : Lawful z g vs) (at : get_elem? vs id ≡ some v) (low : b < z.blocks) where
   abbrev pub turner : View
   turner = record v { owns = owns; erases = erases; cleared = cleared; wiped = wiped; drains = drains; ceded = ceded }
 
   -- the rule after such a change
-  pub turns : LawfulCeded z (put g.pins b q) (set vs id turner) → IsTurn z g id v b q owns erases cleared wiped eraser → Lawful z (turned g b q id g.programmer eraser) (set vs id turner)
+  pub turns : LawfulCeded z (put g.pins b q) (set vs id turner) → IsTurn z g id v b q owns erases cleared wiped eraser listed → Lawful z (turned g b q id (erased_as g eraser listed)) (set vs id turner)
   turns given t =
       let h = law.views id v at in
       let kind = h.kind in
       let holds = h.holding in
       let block = law.blocks b low in
-      let g' : World = turned g b q id g.programmer eraser in
+      let g' : World = turned g b q id (erased_as g eraser listed) in
       let here : put g.pins b q b ≡ q = put_here g.pins b q in
-      let on : Onward z g g' id id = pin_turns z g id b q id g.programmer eraser t.onward (λ other is. absurd (t.alone other is)) (λ m _. refl) t.eraser in
+      let on : Onward z g g' id id = pin_turns z g id b q id (erased_as g eraser listed) t.onward (λ other is. absurd (t.alone other is)) (λ m _. refl) t.eraser
+      (λ n dealt. let l = t.lists n dealt in record { programs = Begins-refl (g.programs n); erases = l.0; others = λ other. (refl, l.1 other) }) in
       let knows = knowledge_kept z g g' id id on v (λ c is below. counted vs law id v at c is below) h.knowledge in
       let elsewhere : (c : ℕ) (e : Owned) → c ≢ b → LawfulOwned z g id v.work v.cleared v.wiped c e → LawfulOwned z g' id v.work cleared wiped c e = λ c e unlike k.
       let fewer = t.cleared in
@@ -156,6 +166,7 @@ module _ (z : Numbers) (g : World) (vs : List View) (id : ℕ) (v : View) (b : �
       let own : LawfulView z g' id turner = record {
         kind = record {
           numbers = kind.numbers;
+          host = kind.host;
           known = kind.known;
           opens = λ is c e has. dite (ℕ_discrete c b) (λ same. t.opens is e (ap (λ j. owned_at j owns) (sym same) ∙ has)) (λ unlike. kind.opens is c e (sym (t.there c unlike) ∙ has));
           unpinned = kind.unpinned;
@@ -163,10 +174,11 @@ module _ (z : Numbers) (g : World) (vs : List View) (id : ℕ) (v : View) (b : �
           owns_none = t.owns_none;
           reclaims = t.reclaims;
         };
-        knowledge = record { seen = knows.seen; pin = knows.pin; known = knows.known; programs = knows.programs; erases = λ n is. t.erases n is (knows.erases n is); copy = knows.copy };
+        knowledge = record { seen = knows.seen; pin = knows.pin; known = knows.known; programs = knows.programs; erases = λ n is. t.erases n is (knows.erases n is); copy = knows.copy; older = knows.older; out = knows.out };
         holding = record {
           name = holds.name;
           calls = holds.calls;
+          lists = λ n is. ((holds.lists n is).0, t.listed n is (holds.lists n is).1);
           owned = λ c e has. dite (ℕ_discrete c b)
               (λ same. subst (λ j. LawfulOwned z g' id v.work cleared wiped j e) (sym same) (t.here e (ap (λ j. owned_at j owns) (sym same) ∙ has)))
               (λ unlike. elsewhere c e unlike (holds.owned c e (sym (t.there c unlike) ∙ has)));
@@ -199,10 +211,12 @@ module _ (z : Numbers) (g : World) (vs : List View) (id : ℕ) (v : View) (b : �
               };
           whole = holds.whole;
           guest = holds.guest;
+          note = holds.note;
+          home = holds.home;
           dealer = holds.dealer;
         };
       } in
-      pin_turned z g vs id v turner b q id g.programmer eraser law at on own t.named
+      pin_turned z g vs id v turner b q id (erased_as g eraser listed) law at on own t.named
       (record {
         readers = (let e : (put g.pins b q b).readers ≡ q.readers = ap (λ (p : PinWord). p.readers) here in let r = block.readers in let u = t.readers in let s = total_set (pins_on b) vs id v turner at in omega arith);
         written = (let e : (put g.pins b q b).written ≡ q.written = ap (λ (p : PinWord). p.written) here in let r = t.written in omega arith);

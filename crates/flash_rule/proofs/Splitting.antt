@@ -1,5 +1,5 @@
 -- Seats that are split off another and joined into one: passes dealt, and the moves of notes.
-use Rattle.std.proofs.Common.{◌≡◌, ◌≢◌, ℕ, zero, suc, ◌+◌, ◌-◌, ◌<◌, ◌≤◌, ◌⊎◌, inl, inr, ⊎_elim, ne_eqb, true, false, List, [], ◌∷◌, ◌++◌, Some, length, set, replicate, slice_get, sym, refl, ap, ◌∙◌, subst, arith, length-set}
+use Rattle.std.proofs.Common.{◌≡◌, ◌≢◌, ℕ, zero, suc, ◌+◌, ◌-◌, ◌<◌, ◌≤◌, ◌⊎◌, inl, inr, ⊎_elim, true, List, [], ◌∷◌, ◌++◌, None, Some, length, set, replicate, sym, refl, ap, ◌∙◌, subst, arith, length-set}
 use Rattle.std.proofs.lemmas.List.{length-replicate}
 use Rattle.std.proofs.Math.ListN.{get_or}
 use mathlib.Core.Option.{some, some-injective, some-ne-none}
@@ -11,12 +11,12 @@ use Rattle.geometry.specs.Limits.{Numbers}
 use Rattle.geometry.specs.declared.pin_word.PinWord.{PinWord}
 use Rattle.flash_rule.specs.declared.facts.Name.{Name}
 use Rattle.flash_rule.specs.declared.facts.Name.TheVariants.{Pass, Broom}
-use Rattle.flash_rule.specs.declared.facts.Role.TheVariants.{Dealer, Player}
+use Rattle.flash_rule.specs.declared.facts.Role.TheVariants.{Dealer, Player, Note}
 use Rattle.flash_rule.specs.declared.facts.Owned.{Owned}
 use Rattle.flash_rule.specs.declared.facts.Pin.{Pin}
 use Rattle.flash_rule.specs.declared.facts.Pin.TheVariants.{Clear}
 use Rattle.flash_rule.specs.declared.view.View.{View}
-use Rattle.flash_rule.specs.Views.{one_if, total, is_player, is_live_role, pin_is_on, pins_on, weight, role_weight, owned_at, AreOfHosts, calls_of, same_name}
+use Rattle.flash_rule.specs.Views.{one_if, total, is_player, is_live_role, pin_is_on, pins_on, weight, role_weight, owned_at, AreOfHosts, calls_of}
 use Rattle.flash_rule.specs.World.{World, put_name, is_owned, is_still, is_nameable}
 use Rattle.flash_rule.specs.Ceded.{LawfulCeded}
 use Rattle.geometry.specs.History.{held}
@@ -24,10 +24,10 @@ use Rattle.geometry.specs.declared.pin_word.Phase.TheVariants.{Free}
 use Rattle.flash_rule.specs.Rule.{LawfulSector, LawfulBlock, LawfulView, Lawful, IsDealt}
 use Rattle.flash_rule.specs.Onward.{Onward}
 use Rattle.flash_rule.specs.Seats.{Ruled, new_pass, dealt_pass}
-use Rattle.flash_rule.proofs.Points.{total_set, eq_self}
+use Rattle.flash_rule.proofs.Points.{total_set, name_here, name_else, name_all}
 use Rattle.flash_rule.proofs.Owning.{none_some, nothing}
 use Rattle.flash_rule.proofs.Ceding.{ceded_split}
-use Rattle.flash_rule.proofs.Frames.{counted, others, knowledge_kept}
+use Rattle.flash_rule.proofs.Frames.{counted, others, knowledge_kept, lists_stay}
 use Rattle.flash_rule.proofs.Assembly.{owner_kept, sector_kept}
 use Rattle.flash_rule.proofs.Still.{pin_stays}
 
@@ -47,22 +47,6 @@ seat_low (x ∷ vs) zero v at = omega arith
 seat_low (x ∷ vs) (suc id) v at = let r = seat_low vs id v at in omega arith
 
 -- ---- names
-name_self : (n : Name) → same_name n n ≡ true
-name_self (Pass t) = eq_self t
-name_self (Broom i) = eq_self i
-
-names_apart : (n m : Name) → ¬ (n ≡ m) → same_name n m ≡ false
-names_apart (Pass t) (Pass u) apart = ne_eqb t u (λ e. apart (ap Pass e))
-names_apart (Pass t) (Broom j) apart = refl
-names_apart (Broom i) (Pass u) apart = refl
-names_apart (Broom i) (Broom j) apart = ne_eqb i j (λ e. apart (ap Broom e))
-
-pub name_here : (f : Name → ℕ) (n : Name) (x : ℕ) → put_name f n x n ≡ x
-name_here f n x = rw (name_self n) refl
-
-pub name_else : (f : Name → ℕ) (n : Name) (x : ℕ) (m : Name) → ¬ (m ≡ n) → put_name f n x m ≡ f m
-name_else f n x m apart = rw (names_apart m n apart) refl
-
 pub player_same : (n m : Name) → Player n ≡ Player m → n ≡ m
 player_same n m e = cc
 
@@ -81,9 +65,9 @@ fresh_name : (g : World) (t : ℕ) → g.passes ≤ t → (m : Name) → IsDealt
 fresh_name g t high (Pass u) low e = let same : u ≡ t = broom_or_pass u t e in absurd (omega arith)
 fresh_name g t high (Broom j) low e = absurd (cc)
 
-dealt_more : (g : World) (f h : Name → ℕ) (m : Name) → IsDealt g m → IsDealt (record g { passes = g.passes + 1; seat = f; badge = h }) m
-dealt_more g f h (Pass u) low = omega arith
-dealt_more g f h (Broom j) low = low
+dealt_more : (g g' : World) → g'.passes ≡ g.passes + 1 → g'.brooms ≡ g.brooms → (m : Name) → IsDealt g m → IsDealt g' m
+dealt_more g g' passes brooms (Pass u) low = omega arith
+dealt_more g g' passes brooms (Broom j) low = omega arith
 
 -- a page that a map word may name is named still where map, states, pages and history are the same
 pub current_kept : (z : Numbers) (g g' : World) (s : ℕ) → g'.map ≡ g.map → g'.pins ≡ g.pins → g'.pages ≡ g.pages → g'.history ≡ g.history → LawfulSector z g s → LawfulSector z g' s
@@ -165,9 +149,9 @@ module _ (z : Numbers) (id : ℕ) (v : View) where
       let passes_is = d.1 in
       let n : Name = Pass v.passes in
       let new : ℕ = length vs in
-      let g' : World = record g { passes = g.passes + 1; seat = put_name g.seat n new; badge = put_name g.badge n new } in
+      let g' : World = record g { passes = g.passes + 1; seat = put_name g.seat n new; programs = put_name g.programs n []; erases = put_name g.erases n []; badge = put_name g.badge n new; carries = put_name g.carries n None } in
       let not_yet : (m : Name) → IsDealt g m → ¬ (m ≡ n) = fresh_name g v.passes (omega arith) in
-      let still_dealt : (m : Name) → IsDealt g m → IsDealt g' m = dealt_more g (put_name g.seat n new) (put_name g.badge n new) in
+      let still_dealt : (m : Name) → IsDealt g m → IsDealt g' m = dealt_more g g' refl refl in
       let on : Onward z g g' id id = record {
         history = Begins-refl g.history;
         calls = λ t _. refl;
@@ -178,18 +162,22 @@ module _ (z : Numbers) (id : ℕ) (v : View) where
         named = λ s m is. inl is;
         programmer = λ m _. refl;
         eraser = λ b k _. refl;
+        lists = λ m dealt. lists_stay g g' id m (name_else g.programs n [] m (not_yet m dealt)) (name_else g.erases n [] m (not_yet m dealt));
         dealer = λ apart. absurd (apart d.0);
-        badge = λ m dealt _ _. name_else g.badge n new m (not_yet m dealt);
+        badge = λ m dealt _ _. (name_else g.badge n new m (not_yet m dealt), name_else g.carries n None m (not_yet m dealt));
+        carries = λ m c. name_all g.carries n None (λ k x. x ≡ Some c → (g.carries k ≡ Some c) ⊎ ((c.programs ≡ g.programs c.of) × (c.erases ≡ g.erases c.of)))
+            (λ is. absurd (none_some c is)) (λ k _ is. inl is) m;
       } in
       let knows = knowledge_kept z g g' id id on v (λ b is below. counted vs law id v at b is below) h.knowledge in
       let not_player : (m : Name) → v.role ≡ Player m → ⊥ = λ m is. let e : Dealer ≡ Player m = sym role ∙ is in absurd (cc) in
       let holds = h.holding in
       let own : LawfulView z g' id (dealt_pass v) = record {
-        kind = record { numbers = kind.numbers; known = kind.known; opens = kind.opens; unpinned = kind.unpinned; idle = kind.idle; owns_none = kind.owns_none; reclaims = kind.reclaims };
-        knowledge = record { seen = knows.seen; pin = knows.pin; known = knows.known; programs = knows.programs; erases = knows.erases; copy = knows.copy };
+        kind = record { numbers = kind.numbers; host = kind.host; known = kind.known; opens = kind.opens; unpinned = kind.unpinned; idle = kind.idle; owns_none = kind.owns_none; reclaims = kind.reclaims };
+        knowledge = record { seen = knows.seen; pin = knows.pin; known = knows.known; programs = knows.programs; erases = knows.erases; copy = knows.copy; older = knows.older; out = knows.out };
         holding = record {
           name = λ m is. absurd (not_player m is);
           calls = λ t is. absurd (not_player (Pass t) is);
+          lists = λ m is. absurd (not_player m is);
           owned = λ b o is.
               let k = holds.owned b o is in
               record { block = k.block; low = k.low; owner = k.owner; owned = k.owned; phase = k.phase; generation = k.generation; written = k.written; rest = k.rest; dead = k.dead; clean = k.clean };
@@ -197,12 +185,15 @@ module _ (z : Numbers) (id : ℕ) (v : View) where
           source = λ x is. absurd (none_some x (sym (kind.idle (ap is_player role)).1 ∙ is));
           whole = λ _ m is. absurd (not_player m is);
           guest = λ m is. let k = holds.guest m is in (name_else g.badge n new m (not_yet m k.1) ∙ k.0, still_dealt m k.1);
+          note = λ m is. let e : Dealer ≡ Note = sym role ∙ is in absurd (cc);
+          home = λ m is. absurd (not_player m is);
           dealer = λ _. (d.0, ap (λ k. k + 1) d.1, d.2);
         };
       } in
       let added : LawfulView z g' new (new_pass v) = record {
         kind = record {
           numbers = λ _. numbers;
+          host = λ k m is guest. absurd (none_some m guest);
           known = λ _. length-replicate v.numbers.blocks 0 ∙ ap (λ (y : Numbers). y.blocks) numbers;
           opens = λ _ b o is. absurd (none_some o is);
           unpinned = λ is. absurd (cc);
@@ -217,6 +208,8 @@ module _ (z : Numbers) (id : ℕ) (v : View) where
           programs = λ m is k x at. absurd (nothing k x at);
           erases = λ m is k x at. absurd (nothing k x at);
           copy = λ c is. absurd (none_some c is);
+          older = λ o c is. absurd (none_some o is);
+          out = λ m c d _ is. absurd (none_some c is);
         };
         holding = record {
           name = λ m is.
@@ -225,11 +218,17 @@ module _ (z : Numbers) (id : ℕ) (v : View) where
               let here : P n = (name_here g.seat n new, omega arith) in subst P same here;
           calls = λ t is.
               let same : v.passes ≡ t = pass_same v.passes t is in (ap (λ k. calls_of k g.history) (sym same) ∙ law.strangers v.passes (omega arith), refl);
+          lists = λ m is.
+              let same : n ≡ m = player_same n m is in
+              let P : Name → Type 0 = λ m. (g'.programs m ≡ []) × (g'.erases m ≡ []) in
+              let here : P n = (name_here g.programs n [], name_here g.erases n []) in subst P same here;
           owned = λ b o is. absurd (none_some o is);
           work = λ w is. absurd (none_some w is);
           source = λ x is. absurd (none_some x is);
           whole = λ _ m is. let same : n ≡ m = player_same n m is in let P : Name → Type 0 = λ m. g'.badge m ≡ new in let here : P n = name_here g.badge n new in subst P same here;
           guest = λ m is. absurd (none_some m is);
+          note = λ m is. absurd (cc);
+          home = λ m is _. let same : n ≡ m = player_same n m is in let P : Name → Type 0 = λ m. g'.carries m ≡ None in let here : P n = name_here g.carries n None in subst P same here;
           dealer = λ is. absurd (cc);
         };
       } in

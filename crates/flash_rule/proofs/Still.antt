@@ -28,6 +28,7 @@ use Rattle.flash_rule.specs.World.{World, is_intact, is_nameable, age_of, half_c
 use Rattle.flash_rule.specs.Rule.{IsCurrent, Programs, Erases, LawfulKind, LawfulKnowledge, LawfulPin, LawfulView, LawfulCopy, Lawful, IsValue}
 use Rattle.flash_rule.specs.Onward.{PinOnward, Onward}
 use Rattle.flash_rule.specs.Plays.{Looked, Met, Disjoint, Once, is_unpinned}
+use Rattle.flash_rule.proofs.Frames.{lists_stay}
 use Rattle.flash_rule.proofs.Assembly.{assembled, block_kept}
 use Rattle.flash_rule.proofs.Ceding.{ceded_still}
 use Rattle.flash_rule.proofs.Owning.{some_same}
@@ -47,8 +48,10 @@ all_stays z g id other =
       named = λ s m is. inl is;
       programmer = λ m _. refl;
       eraser = λ b n _. refl;
+      lists = λ n _. lists_stay g g id n refl refl;
       dealer = λ _. (refl, refl);
-      badge = λ n _ _ _. refl;
+      badge = λ n _ _ _. (refl, refl);
+      carries = λ n c is. inl is;
     }
 
 -- a seat that keeps its blocks and its pinned block
@@ -150,9 +153,9 @@ met z g v n c role h copy = (
     same_first a j b k e = ap (first_or a) e
 
 -- the copies that a player has, once it sees the history of this moment
-pub met_now : (z : Numbers) (g : World) (v : View) (n : Name) → v.role ≡ Player n → LawfulKnowledge z g v → (w : View) → w.role ≡ v.role → w.seen ≡ g.history → w.programs ≡ v.programs → w.erases ≡ v.erases
+pub met_now : (z : Numbers) (g : World) (v : View) (n : Name) → v.role ≡ Player n → LawfulKnowledge z g v → (w : View) → w.role ≡ v.role → w.seen ≡ g.history → w.programs ≡ v.programs → w.erases ≡ v.erases → w.older ≡ v.older
     → (c : Carried) → v.copy ≡ Some c → Met w c
-met_now z g v n player h w role seen programs erases c is =
+met_now z g v n player h w role seen programs erases older c is =
     let copy = h.copy c is in
     let m = met z g v n c player h copy in
     record {
@@ -162,6 +165,7 @@ met_now z g v n player h w role seen programs erases c is =
       erases = subst (λ l. Disjoint l c.erases) (sym erases) m.2;
       programmed_once = (subst (λ (l : List MapWord). Once l) (sym programs) (programs_once z g n v.programs (h.programs n player)), programs_once z g c.of c.programs copy.programs);
       erased_once = (subst (λ (l : List Cycle). Once l) (sym erases) (erases_once z g n v.erases (h.erases n player)), erases_once z g c.of c.erases copy.erases);
+      newer = λ o was. h.older o c (sym older ∙ was) is;
     }
 
 -- a page that a map word names has room in the word
@@ -197,16 +201,19 @@ module _ (z : Numbers) (g : World) (vs : List View) (id : ℕ) (v : View) (s : �
       let holds = h.holding in
       still z g vs id v w law at
       (record {
-        kind = record { numbers = kind.numbers; known = λ _. long; opens = kind.opens; unpinned = λ not. let no : true ≡ false = sym pass ∙ not in absurd (cc); idle = kind.idle; owns_none = kind.owns_none; reclaims = kind.reclaims };
-        knowledge = record { seen = Begins-refl g.history; pin = lawful; known = ages; programs = knows.programs; erases = knows.erases; copy = knows.copy };
+        kind = record { numbers = kind.numbers; host = kind.host; known = λ _. long; opens = kind.opens; unpinned = λ not. let no : true ≡ false = sym pass ∙ not in absurd (cc); idle = kind.idle; owns_none = kind.owns_none; reclaims = kind.reclaims };
+        knowledge = record { seen = Begins-refl g.history; pin = lawful; known = ages; programs = knows.programs; erases = knows.erases; copy = knows.copy; older = knows.older; out = knows.out };
         holding = record {
           name = holds.name;
           calls = λ t is. let c = (holds.calls t is).0 in (c, c);
+          lists = holds.lists;
           owned = holds.owned;
           work = holds.work;
           source = holds.source;
           whole = holds.whole;
           guest = holds.guest;
+          note = holds.note;
+          home = holds.home;
           dealer = holds.dealer;
         };
       })
@@ -239,7 +246,7 @@ module _ (z : Numbers) (g : World) (vs : List View) (id : ℕ) (v : View) (s : �
           named = λ not. absurd (not refl);
           rises = omega arith;
           bounded = let b = known_bounded v.known long h.knowledge.known in let e : v.numbers.blocks * (2 * v.numbers.endurance) ≡ z.blocks * (2 * z.endurance) = ap (λ (y : Numbers). y.blocks * (2 * y.endurance)) same in omega arith;
-          met = met_now z g v (Pass by.0) by.1 h.knowledge w refl refl refl refl;
+          met = met_now z g v (Pass by.0) by.1 h.knowledge w refl refl refl refl refl;
         },
       )
 
@@ -292,7 +299,7 @@ module _ (z : Numbers) (g : World) (vs : List View) (id : ℕ) (v : View) (s : �
           );
           rises = let k = h.knowledge.known m.block c.block in let t = sum_set v.known m.block (2 * m.generation) in_range in omega arith;
           bounded = let b = known_bounded known long' ages in let e : v.numbers.blocks * (2 * v.numbers.endurance) ≡ z.blocks * (2 * z.endurance) = ap (λ (y : Numbers). y.blocks * (2 * y.endurance)) same in omega arith;
-          met = met_now z g v (Pass by.0) by.1 h.knowledge w refl refl refl refl;
+          met = met_now z g v (Pass by.0) by.1 h.knowledge w refl refl refl refl refl;
         },
       )
     where

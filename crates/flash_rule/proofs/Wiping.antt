@@ -19,7 +19,7 @@ use Rattle.flash_rule.specs.Rule.{LawfulOwned, LawfulView, Lawful}
 use Rattle.flash_rule.specs.Onward.{Onward}
 use Rattle.flash_rule.specs.BroomPlays.{IsErasing, wiper}
 use Rattle.flash_rule.proofs.Owning.{some_same}
-use Rattle.flash_rule.proofs.Frames.{counted, knowledge_kept}
+use Rattle.flash_rule.proofs.Frames.{counted, knowledge_kept, lists_stay}
 use Rattle.flash_rule.proofs.Places.{row_same}
 use Rattle.flash_rule.proofs.Assembly.{assembled, block_kept, sector_kept}
 use Rattle.flash_rule.proofs.Ceding.{ceded_still}
@@ -74,8 +74,10 @@ module _ (z : Numbers) (g : World) (vs : List View) (id : ℕ) (v : View) (n : N
         named = λ s m is. inl is;
         programmer = λ m _. refl;
         eraser = λ c k _. refl;
+        lists = λ m _. lists_stay g wipe_world id m refl refl;
         dealer = λ _. (refl, refl);
-        badge = λ m _ _ _. refl;
+        badge = λ m _ _ _. (refl, refl);
+        carries = λ m c is. inl is;
       }
 
   -- one word more of the block is all ones
@@ -128,6 +130,7 @@ module _ (z : Numbers) (g : World) (vs : List View) (id : ℕ) (v : View) (n : N
       record {
         kind = record {
           numbers = kind.numbers;
+          host = kind.host;
           known = kind.known;
           opens = kind.opens;
           unpinned = kind.unpinned;
@@ -135,10 +138,11 @@ module _ (z : Numbers) (g : World) (vs : List View) (id : ℕ) (v : View) (n : N
           owns_none = kind.owns_none;
           reclaims = kind.reclaims;
         };
-        knowledge = record { seen = knows.seen; pin = knows.pin; known = knows.known; programs = knows.programs; erases = knows.erases; copy = knows.copy };
+        knowledge = record { seen = knows.seen; pin = knows.pin; known = knows.known; programs = knows.programs; erases = knows.erases; copy = knows.copy; older = knows.older; out = knows.out };
         holding = record {
           name = holds.name;
           calls = holds.calls;
+          lists = holds.lists;
           owned = λ c e owns. dite (ℕ_discrete c o.block)
               (λ same.
               let entry : o ≡ e = some_same o e (sym erasing.own ∙ (ap (λ j. owned_at j v.owns) (sym same) ∙ owns)) in
@@ -173,6 +177,8 @@ module _ (z : Numbers) (g : World) (vs : List View) (id : ℕ) (v : View) (n : N
               };
           whole = holds.whole;
           guest = holds.guest;
+          note = holds.note;
+          home = holds.home;
           dealer = holds.dealer;
         };
       }

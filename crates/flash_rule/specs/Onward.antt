@@ -7,6 +7,7 @@ use Rattle.geometry.specs.declared.pin_word.PinWord.{PinWord}
 use Rattle.geometry.specs.declared.pin_word.Phase.TheVariants.{Free}
 use Rattle.flash_rule.specs.declared.facts.Name.{Name}
 use Rattle.flash_rule.specs.declared.facts.Name.TheVariants.{Pass}
+use Rattle.flash_rule.specs.declared.carried.Carried.{Carried}
 use Rattle.flash_rule.specs.Views.{calls_of}
 use Rattle.flash_rule.specs.World.{World, is_owned, is_intact, age_of}
 use Rattle.flash_rule.specs.Rule.{IsProgrammed, IsDealt}
@@ -29,8 +30,15 @@ pub record Untouched (g g' : World) (b : ℕ) : Type 0 where
   pub written : (g'.pins b).written ≡ (g.pins b).written
   pub pages : (p i : ℕ) → g'.pages b p i ≡ g.pages b p i
 
+-- A player's lists of what it has programmed and erased get longer at their end alone, and stay where another seat steps
+pub record ListsOnward (g g' : World) (id : ℕ) (n : Name) : Type 0 where
+  pub programs : Begins (g.programs n) (g'.programs n)
+  pub erases : Begins (g.erases n) (g'.erases n)
+  pub others : ¬ (g.seat n ≡ id) → (g'.programs n ≡ g.programs n) × (g'.erases n ≡ g.erases n)
+
 -- A step of one seat, or of two where one is joined into the other, adds to the history calls of that seat alone, moves each block
--- onward, leaves the blocks of others and the pages that can be read, names pages of its own blocks alone, and forgets nothing
+-- onward, leaves the blocks of others and the pages that can be read, names pages of its own blocks alone, adds to the lists of that seat's
+-- player alone, lets go with a badge copies of all that their player did, and forgets nothing
 pub record Onward (z : Numbers) (g g' : World) (id other : ℕ) : Type 0 where
   pub history : Begins g.history g'.history
   pub calls : (t : ℕ) → ¬ (g.seat (Pass t) ≡ id) → calls_of t g'.history ≡ calls_of t g.history
@@ -41,5 +49,7 @@ pub record Onward (z : Numbers) (g g' : World) (id other : ℕ) : Type 0 where
   pub named : (s : ℕ) (m : MapWord) → g'.map s ≡ Some m → (g.map s ≡ Some m) ⊎ (g.owner m.block ≡ id)
   pub programmer : (m : MapWord) → IsProgrammed (g.pins m.block) m → g'.programmer m.block m.page m.generation ≡ g.programmer m.block m.page m.generation
   pub eraser : (b n : ℕ) → 2 * n < age_of (g.pins b) → g'.eraser b n ≡ g.eraser b n
+  pub lists : (n : Name) → IsDealt g n → ListsOnward g g' id n
   pub dealer : ¬ (id ≡ 0) → (g'.passes ≡ g.passes) × (g'.brooms ≡ g.brooms)
-  pub badge : (n : Name) → IsDealt g n → ¬ (g.badge n ≡ id) → ¬ (g.badge n ≡ other) → g'.badge n ≡ g.badge n
+  pub badge : (n : Name) → IsDealt g n → ¬ (g.badge n ≡ id) → ¬ (g.badge n ≡ other) → (g'.badge n ≡ g.badge n) × (g'.carries n ≡ g.carries n)
+  pub carries : (n : Name) (c : Carried) → g'.carries n ≡ Some c → (g.carries n ≡ Some c) ⊎ ((c.programs ≡ g.programs c.of) × (c.erases ≡ g.erases c.of))

@@ -21,7 +21,7 @@ use Rattle.flash_rule.specs.declared.carried.Carried.{Carried}
 use Rattle.flash_rule.specs.declared.view.View.{View}
 use Rattle.flash_rule.specs.Views.{owned_at, without, with_owned, AreOfHosts, calls_of, sum_of}
 use Rattle.flash_rule.specs.World.{data_word, Intact}
-use Rattle.flash_rule.specs.Rule.{IsValue}
+use Rattle.flash_rule.specs.Rule.{IsValue, Grown}
 
 -- a seat that steps on this table: its view, and the slots that it holds, which are none
 abbrev pub Sitter : Type 0
@@ -43,7 +43,7 @@ abbrev pub Once : {X : Type 0} → List X → Type 0
 Once {X} xs = (j k : ℕ) (x : X) → slice_get xs j ≡ Some x → slice_get xs k ≡ Some x → j ≡ k
 
 -- The copies are of another player, the history that was seen begins with the copied one, that player programmed and erased nothing that this one did,
--- and neither of them did anything twice
+-- and neither of them did anything twice. They begin with the copies of that player that were here before them, if there were any
 pub record Met (w : View) (c : Carried) : Type 0 where
   pub other : ¬ (w.role ≡ Player c.of)
   pub seen : Begins c.seen w.seen
@@ -51,6 +51,11 @@ pub record Met (w : View) (c : Carried) : Type 0 where
   pub erases : Disjoint w.erases c.erases
   pub programmed_once : Once w.programs × Once c.programs
   pub erased_once : Once w.erases × Once c.erases
+  pub newer : (o : Carried) → w.older ≡ Some o → o.of ≡ c.of → Grown o c
+
+-- If the copies that the first one has are of the second one, the second one's lists begin with them: it has gone on from there
+abbrev pub GoesOnFrom : View → View → Type 0
+GoesOnFrom v w = (c : Carried) → v.copy ≡ Some c → w.role ≡ Player c.of → Begins c.programs w.programs × Begins c.erases w.erases
 
 -- LOOK. The pass sees the history of this moment, whose calls are of hosts. The word found is 0 where the sector is empty after it, and else names a page with the
 -- sector's value, which is now a candidate
@@ -156,12 +161,13 @@ put_told st me n after =
     → after.0 ≡ record me.0 { work = Some (record { page = next_page o; words = words_in me.0.work o ++ st.first ∷ [] }) })
 
 -- The copies are of another player, which programmed no page that this one did, and has not erased this page's block since its generation began;
--- and neither of them programmed a page twice
+-- and neither of them programmed a page twice. They begin with the copies of that player that were here before them, if there were any
 pub record Spared (v : View) (m : MapWord) (c : Carried) : Type 0 where
   pub other : ¬ (v.role ≡ Player c.of)
   pub programs : Disjoint v.programs c.programs
   pub programmed_once : Once v.programs × Once c.programs
   pub erases : (k : ℕ) (x : Cycle) → slice_get c.erases k ≡ Some x → x.block ≡ m.block → x.generation < m.generation
+  pub newer : (o : Carried) → v.older ≡ Some o → o.of ≡ c.of → Grown o c
 
 -- GET WORD. A word of an accepted pin's page is the value's, and nobody has erased the page's block; the view stays
 abbrev pub get_told : Step (Unit {0}) → Sitter → ℕ → Sitter → Type 0

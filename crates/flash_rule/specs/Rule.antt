@@ -11,7 +11,7 @@ use Rattle.geometry.specs.declared.pin_word.Phase.TheVariants.{Free, Open, Victi
 use Rattle.flash_rule.specs.declared.facts.Name.{Name}
 use Rattle.flash_rule.specs.declared.facts.Name.TheVariants.{Pass, Broom}
 use Rattle.flash_rule.specs.declared.facts.Role.{Role}
-use Rattle.flash_rule.specs.declared.facts.Role.TheVariants.{Dealer, Player}
+use Rattle.flash_rule.specs.declared.facts.Role.TheVariants.{Dealer, Player, Note}
 use Rattle.flash_rule.specs.declared.facts.Owned.{Owned}
 use Rattle.flash_rule.specs.declared.facts.Pin.{Pin}
 use Rattle.flash_rule.specs.declared.facts.Pin.TheVariants.{Clear, Candidate, Accepted, Stray}
@@ -100,20 +100,34 @@ LawfulPin z g known (Candidate m value) = IsCandidate z g known m value
 LawfulPin z g known (Accepted m value) = IsAccepted z g m value
 LawfulPin z g known (Stray b) = b < z.blocks
 
--- NOTES. The copied lists begin lists of the player that they are of, and that player is another one
+-- A player of this number has been handed out
+abbrev pub IsDealt : World → Name → Type 0
+IsDealt g (Pass t) = t < g.passes
+IsDealt g (Broom i) = i < g.brooms
+
+-- NOTES. The player of the copies has been handed out, and is another one. What it had seen, by the copy, begins the history; the copied lists
+-- begin that player's lists, so no entry is left out of them; and each of their entries is that player's, by its place
 pub record LawfulCopy (z : Numbers) (g : World) (role : Role) (c : Carried) : Type 0 where
+  pub dealt : IsDealt g c.of
+  pub other : ¬ (role ≡ Player c.of)
   pub seen : Begins c.seen g.history
+  pub programmed : Begins c.programs (g.programs c.of)
+  pub erased : Begins c.erases (g.erases c.of)
   pub programs : Programs z g c.of c.programs
   pub erases : Erases z g c.of c.erases
-  pub other : ¬ (role ≡ Player c.of)
+
+-- LATER COPIES. The lists of a player that were copied later begin with those that were copied earlier
+pub record Grown (earlier later : Carried) : Type 0 where
+  pub programs : Begins earlier.programs later.programs
+  pub erases : Begins earlier.erases later.erases
 
 -- At most one of these blocks is being drained or erased
 abbrev pub ReclaimsOne : List Owned → Type 0
 ReclaimsOne owns =
     (b c : ℕ) (o e : Owned) → owned_at b owns ≡ Some o → owned_at c owns ≡ Some e → is_reclaimed o.phase ≡ true → is_reclaimed e.phase ≡ true → b ≡ c
 
--- What a view says by itself, whatever the table is: the table's numbers, which fields its role uses, and that of its own blocks
--- it drains or erases at most one
+-- What a view says by itself, whatever the table is: the table's numbers, which fields its role uses, that of its own blocks it drains or
+-- erases at most one, and that a player with a guest has its own badge too
 pub record LawfulKind (z : Numbers) (v : View) : Type 0 where
   pub numbers : is_live_role v.role ≡ true → v.numbers ≡ z
   pub known : is_pass v.role ≡ true → length v.known ≡ z.blocks
@@ -122,8 +136,11 @@ pub record LawfulKind (z : Numbers) (v : View) : Type 0 where
   pub idle : is_player v.role ≡ false → (v.work ≡ None) × (v.source ≡ None) × (v.programs ≡ []) × (v.erases ≡ [])
   pub owns_none : may_own v.role ≡ false → v.owns ≡ []
   pub reclaims : ReclaimsOne v.owns
+  pub host : (n m : Name) → v.role ≡ Player n → v.guest ≡ Some m → v.whole ≡ true
 
--- What a view knows: it has seen a beginning of the history, its pin is lawful, no block is younger than known, and its lists and copies are lawful
+-- What a view knows: it has seen a beginning of the history, its pin is lawful, no block is younger than known, and its lists and copies are
+-- lawful. The copies that it had before begin those that it has, if both are of one player; and where that player's badge, or the seat's own,
+-- is on a note with copies of that player, those begin with the seat's
 pub record LawfulKnowledge (z : Numbers) (g : World) (v : View) : Type 0 where
   pub seen : Begins v.seen g.history
   pub pin : LawfulPin z g v.known v.pin
@@ -131,6 +148,8 @@ pub record LawfulKnowledge (z : Numbers) (g : World) (v : View) : Type 0 where
   pub programs : (n : Name) → v.role ≡ Player n → Programs z g n v.programs
   pub erases : (n : Name) → v.role ≡ Player n → Erases z g n v.erases
   pub copy : (c : Carried) → v.copy ≡ Some c → LawfulCopy z g v.role c
+  pub older : (o c : Carried) → v.older ≡ Some o → v.copy ≡ Some c → o.of ≡ c.of → Grown o c
+  pub out : (n : Name) (c d : Carried) → (n ≡ c.of) ⊎ (v.role ≡ Player n) → v.copy ≡ Some c → g.carries n ≡ Some d → c.of ≡ d.of → Grown c d
 
 -- The page that the seat is filling, which isn't counted yet
 pub record IsFilling (doing : Option Work) (b p : ℕ) : Type 0 where
@@ -177,20 +196,19 @@ pub record LawfulSource (z : Numbers) (g : World) (owns : List Owned) (cleared :
   pub stamp : g.pages x.page.block x.page.page z.words ≡ x.stamp
   pub value : (value : List ℕ) → x.value ≡ Some value → HoldsValue z (g.pages x.page.block x.page.page) value × IsValue z value
 
--- A player of this number has been handed out
-abbrev pub IsDealt : World → Name → Type 0
-IsDealt g (Pass t) = t < g.passes
-IsDealt g (Broom i) = i < g.brooms
-
--- What is a seat's alone: its name, its calls in the history, its blocks, its work, its source and its badges
+-- What is a seat's alone: its name, its calls in the history, its lists of what it programmed and erased, which are all that its player did,
+-- its blocks, its work, its source and its badges. A note is what its badge has with it, and a badge at home has nothing with it
 pub record LawfulHolding (z : Numbers) (g : World) (id : ℕ) (v : View) : Type 0 where
   pub name : (n : Name) → v.role ≡ Player n → (g.seat n ≡ id) × IsDealt g n
   pub calls : (t : ℕ) → v.role ≡ Player (Pass t) → (calls_of t g.history ≡ v.mine) × (calls_of t v.seen ≡ v.mine)
+  pub lists : (n : Name) → v.role ≡ Player n → (g.programs n ≡ v.programs) × (g.erases n ≡ v.erases)
   pub owned : (b : ℕ) (o : Owned) → owned_at b v.owns ≡ Some o → LawfulOwned z g id v.work v.cleared v.wiped b o
   pub work : (w : Work) → v.work ≡ Some w → LawfulWork z g v.owns w
   pub source : (x : Source) → v.source ≡ Some x → LawfulSource z g v.owns v.cleared x
   pub whole : v.whole ≡ true → (n : Name) → v.role ≡ Player n → g.badge n ≡ id
   pub guest : (n : Name) → v.guest ≡ Some n → (g.badge n ≡ id) × IsDealt g n
+  pub note : (n : Name) → v.role ≡ Note → v.guest ≡ Some n → g.carries n ≡ v.copy
+  pub home : (n : Name) → v.role ≡ Player n → v.whole ≡ true → g.carries n ≡ None
   pub dealer : v.role ≡ Dealer → (id ≡ 0) × (v.passes ≡ g.passes) × (v.brooms ≡ g.brooms)
 
 -- What holds of a seat: of its kind, of what it knows, and of what is its alone

@@ -53,6 +53,7 @@ newcomer z role =
       whole = false;
       guest = None;
       copy = None;
+      older = None;
     }
 
 -- an open block with nothing written
@@ -115,7 +116,7 @@ lent_note v = record (newcomer v.numbers Note) { guest = Some (name_of v.role); 
 
 -- TAKE IN. A player that has its own badge takes in a note with the badge and copies of another one
 abbrev pub host_of : View → View → View
-host_of v note = record v { guest = note.guest; copy = note.copy }
+host_of v note = record v { guest = note.guest; copy = note.copy; older = v.copy }
 
 -- GIVE BACK. The other's badge goes with a note that carries copies of this player's lists
 abbrev pub giver : View → View
@@ -127,7 +128,7 @@ given_note v = record (newcomer v.numbers Note) { guest = v.guest; copy = Some (
 
 -- COME HOME. A player takes in its own badge with copies of the other's lists
 abbrev pub home : View → View → View
-home v note = record v { whole = true; copy = note.copy }
+home v note = record v { whole = true; copy = note.copy; older = v.copy }
 
 -- what is left of a seat that was joined into another
 abbrev pub gone : View

@@ -10,7 +10,9 @@ use Rattle.geometry.specs.declared.map_word.MapWord.{MapWord}
 use Rattle.geometry.specs.declared.pin_word.PinWord.{PinWord}
 use Rattle.geometry.specs.declared.pin_word.Phase.{Phase}
 use Rattle.geometry.specs.declared.pin_word.Phase.TheVariants.{Free, Open, Closed, Victim, Drained, Erasing, Retired}
+use Rattle.flash_rule.specs.declared.facts.Cycle.{Cycle}
 use Rattle.flash_rule.specs.declared.facts.Name.{Name}
+use Rattle.flash_rule.specs.declared.carried.Carried.{Carried}
 use Rattle.flash_rule.specs.Views.{same_name}
 
 -- What the words and all seats stand for at one moment: the history, the map, the states and pages of the blocks, and whose everything is
@@ -33,15 +35,20 @@ pub record World : Type 0 where
   pub programmer : ℕ → ℕ → ℕ → Option (Name × ℕ)
   -- who erased a block in a generation, and as which of its erases
   pub eraser : ℕ → ℕ → Option (Name × ℕ)
+  -- what each pass and broom has programmed and erased so far, in order
+  pub programs : Name → List MapWord
+  pub erases : Name → List Cycle
   -- the seat where a player's badge is
   pub badge : Name → ℕ
+  -- the copies that a player's badge has with it while it is on a note
+  pub carries : Name → Option Carried
 
 -- a function with one value replaced
 abbrev pub put : {X : Type 0} → (ℕ → X) → ℕ → X → ℕ → X
 put f k x j = if j == k then x else f j
 
 -- a function of passes and brooms with one value replaced
-abbrev pub put_name : (Name → ℕ) → Name → ℕ → Name → ℕ
+abbrev pub put_name : {X : Type 0} → (Name → X) → Name → X → Name → X
 put_name f n x m = if same_name m n then x else f m
 
 -- the pages with one word replaced

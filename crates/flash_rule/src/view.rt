@@ -64,7 +64,9 @@ pub struct View {
     pub ghost whole: { Bool },
     /// The player whose badge is here beside the seat's own.
     pub ghost guest: { Option Name },
+    /// The copies that were taken in last, and those that were here before them.
     pub ghost copy: { Option Carried },
+    pub ghost older: { Option Carried },
 }
 
 impl Model for View {

@@ -1,5 +1,5 @@
 -- What a step's play makes of a broom's seat.
-use Rattle.std.proofs.Common.{◌≡◌, ℕ, ◌+◌, ◌-◌, ◌*◌, ◌<◌, ◌≤◌, ◌⊎◌, inl, inr, ⊎_elim, ◌==◌, eq-eqb, ne_eqb, true, [], ◌∷◌, ◌++◌, List, length, Option, None, Some, sym, refl, ap, ◌∙◌, subst, arith}
+use Rattle.std.proofs.Common.{◌≡◌, ℕ, ◌+◌, ◌-◌, ◌*◌, ◌<◌, ◌≤◌, ◌⊎◌, inl, inr, ⊎_elim, ◌==◌, eq-eqb, ne_eqb, true, [], ◌∷◌, ◌++◌, List, length, Option, None, Some, IfSome, IfNone, sym, refl, ap, ◌∙◌, subst, arith}
 use Rattle.std.specs.Bool.{MatchBool}
 use mathlib.Core.Option.{none}
 use mathlib.Core.Logic.{dite}
@@ -8,6 +8,7 @@ use Rattle.atomic_table.specs.Table.{step}
 use Rattle.geometry.specs.Limits.{Numbers}
 use Rattle.geometry.specs.MapWords.{map_word, FitsMap}
 use Rattle.geometry.specs.declared.map_word.MapWord.{MapWord}
+use Rattle.geometry.specs.declared.map_word.TheConstants.{MAPPED}
 use Rattle.geometry.specs.PinWords.{pin_word, FitsPin}
 use Rattle.geometry.specs.TableOrder.{pin_index, page_index}
 use Rattle.geometry.specs.declared.pin_word.PinWord.{PinWord}
@@ -21,7 +22,7 @@ use Rattle.flash_rule.specs.declared.view.View.{View}
 use Rattle.flash_rule.specs.Views.{is_broom, is_player, without, with_owned}
 use Rattle.flash_rule.specs.Plays.{Sitter, CanPut, CanCount, CanClose, words_in, next_page, put_told, count_told, close_told}
 use Rattle.flash_rule.specs.BroomPlays.{GotStamp, CanGetStamp, CanMove, Moved, stamp_told, source_told, move_told, Loaded, IsLastLoaded, CanClaim, Claimed, CanDrain, state_told, claim_told, drain_told}
-use Rattle.flash_rule.specs.World.{data_word}
+use Rattle.flash_rule.specs.World.{data_word, sector_word}
 use Rattle.flash_rule.proofs.Owning.{some_same}
 use Rattle.flash_table.specs.declared.flash.Flash.{Flash}
 use Rattle.flash_table.specs.declared.broom_seat.BroomSeat.{BroomSeat}
@@ -34,6 +35,11 @@ use Rattle.flash_table.specs.GivingUp.{left_closed, left_drained}
 use Rattle.flash_table.specs.Flash.{IsBroomOf, broom_view, own_blocks, device}
 use Rattle.flash_table.proofs.Blocks.{all_open, draining_at}
 use Rattle.flash_table.proofs.Told.{same_block}
+
+-- a map word that was found is that of what it was unpacked to
+pub unpacked : (r : Option MapWord) (n : ℕ) → IfSome r (λ p. FitsMap p × (map_word p ≡ n)) → IfNone r (n < MAPPED) → (¬ (n ≡ 0) → (m : MapWord) × (n ≡ map_word m)) → n ≡ sector_word r
+unpacked (Some p) n has nothing named = sym has.1
+unpacked None n has nothing named = dite (ℕ_discrete n 0) (λ zero. zero) (λ other. let t = named other in let e = t.1 in absurd (omega arith))
 
 pub broom_player : (f : Flash) (s : BroomSeat) → IsBroomOf f s → is_player (broom_view s).role ≡ true
 broom_player f s h = ap is_player h.role.1

@@ -1,6 +1,7 @@
 -- Two passes that meet: what goes along with their notes, and what each of them knows in the end.
-use Rattle.std.proofs.Common.{◌≡◌, ℕ, ◌+◌, ◌++◌, true, false, List, [], Option, Some, None, is_some, sym, refl, ap, ◌∙◌}
+use Rattle.std.proofs.Common.{◌≡◌, ℕ, ◌+◌, ◌++◌, true, false, List, [], Option, Some, None, is_some, sym, refl, ap, ◌∙◌, subst}
 use Rattle.std.proofs.lemmas.List.{append-nil}
+use Rattle.geometry.specs.History.{Begins}
 use Rattle.flash_rule.specs.declared.facts.Name.{Name}
 use Rattle.flash_rule.specs.declared.facts.Role.{Role}
 use Rattle.flash_rule.specs.declared.facts.Role.TheVariants.{Player}
@@ -62,14 +63,21 @@ module _ (v v' w : View) (n : ℕ) (pass : is_pass v.role ≡ true) (pass' : is_
       let copied = ap (λ (x : View). x.copy) looked.changed in
       let again_copied = ap (λ (x : View). x.copy) again.changed in
       record {
-        first = ap giver looked.changed ∙ (λ i. record v { seen = w.seen; looks = v.looks + 1; pin = w.pin; known = w.known; copy = sym copied i; guest = sym alone i });
-        second = again.changed ∙ (λ i. record v' { seen = u.seen; looks = v'.looks + 1; pin = u.pin; known = u.known; copy = sym again_copied i; whole = sym whole i });
+        first = ap giver looked.changed ∙ (λ i. record v { seen = w.seen; looks = v.looks + 1; pin = w.pin; known = w.known; copy = sym copied i; older = v.copy; guest = sym alone i });
+        second = again.changed ∙ (λ i. record v' { seen = u.seen; looks = v'.looks + 1; pin = u.pin; known = u.known; copy = sym again_copied i; older = v'.copy; whole = sym whole i });
         later = looked.later;
         brought = met.seen;
         shared = last.seen;
         apart = apart;
         programs = disjoint_sym u w last.programs;
         once = (met.programmed_once.0, last.programmed_once.0);
+        before = (
+          (λ c had of. let grown = met.newer c (ap (λ (x : View). x.older) looked.changed ∙ had) (sym (ap name_of of)) in (grown.programs, grown.erases)),
+          λ c had of.
+              let grown = last.newer c (ap (λ (x : View). x.older) again.changed ∙ had) (sym (ap name_of (role ∙ of))) in
+              let stays = looked.changed in
+              (subst (Begins c.programs) (ap (λ (x : View). x.programs) stays) grown.programs, subst (Begins c.erases) (ap (λ (x : View). x.erases) stays) grown.erases),
+        );
       }
 
 -- a pass with nothing open owns nothing and fills nothing

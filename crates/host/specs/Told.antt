@@ -10,7 +10,7 @@ use Rattle.flash_rule.specs.declared.facts.Owned.{Owned}
 use Rattle.flash_rule.specs.declared.facts.Pin.TheVariants.{Clear, Candidate}
 use Rattle.flash_rule.specs.declared.view.View.{View}
 use Rattle.flash_rule.specs.Views.{sum_of}
-use Rattle.flash_rule.specs.Plays.{Disjoint, Once, next_page}
+use Rattle.flash_rule.specs.Plays.{Disjoint, Once, GoesOnFrom, next_page}
 use Rattle.host.specs.declared.writing_new.NewFault.{NewFault}
 use Rattle.host.specs.declared.writing_new.NewFault.TheVariants as fault
 use Rattle.flash_table.specs.Steps.{IsAccepted}
@@ -76,13 +76,14 @@ was_found (Err fault.Written) = Some was.Written
 was_found (Err fault.NoBlock) = None
 
 -- Two passes that met: each has seen what both had seen, and the second one what the first has; they have programmed no page both,
--- and none of them one page twice
+-- and none of them one page twice. What either had heard of the other before begins what that one has programmed and erased
 pub record MetTold (v v' x x' : View) : Type 0 where
-  pub first : x ≡ record v { seen = x.seen; looks = v.looks + 1; pin = x.pin; known = x.known; copy = x.copy }
-  pub second : x' ≡ record v' { seen = x'.seen; looks = v'.looks + 1; pin = x'.pin; known = x'.known; copy = x'.copy }
+  pub first : x ≡ record v { seen = x.seen; looks = v.looks + 1; pin = x.pin; known = x.known; copy = x.copy; older = v.copy }
+  pub second : x' ≡ record v' { seen = x'.seen; looks = v'.looks + 1; pin = x'.pin; known = x'.known; copy = x'.copy; older = v'.copy }
   pub later : Begins v.seen x.seen
   pub brought : Begins v'.seen x.seen
   pub shared : Begins x.seen x'.seen
   pub apart : ¬ (v.role ≡ v'.role)
   pub programs : Disjoint x.programs x'.programs
   pub once : Once x.programs × Once x'.programs
+  pub before : GoesOnFrom v v' × GoesOnFrom v' v

@@ -132,7 +132,7 @@ has_left v w u opened owns looked left =
     let closed : closed_list opened ≡ closed_blocks v.owns = closed_owned opened ∙ ap closed_blocks (sym owns ∙ before) in
     record {
       changed = left
-          ∙ (λ i. record (looked.changed i) { seen = (sym left i).seen; looks = (sym left i).looks; pin = (sym left i).pin; known = (sym left i).known; copy = (sym left i).copy; owns = []; work = None; ceded = ceded i ++ closed i });
+          ∙ (λ i. record (looked.changed i) { seen = (sym left i).seen; looks = (sym left i).looks; pin = (sym left i).pin; known = (sym left i).known; copy = (sym left i).copy; older = (sym left i).older; owns = []; work = None; ceded = ceded i ++ closed i });
       later = subst (λ (l : List Call). Begins v.seen l) (sym (ap (λ (x : View). x.seen) left)) looked.later;
     }
 

@@ -20,7 +20,7 @@ looked-refl v = record { changed = refl; later = Begins-refl v.seen }
 pub looked-trans : (u v w : View) → HasLooked u v → HasLooked v w → HasLooked u w
 looked-trans u v w a b =
     record {
-      changed = b.changed ∙ ap (λ (x : View). record x { seen = w.seen; looks = w.looks; pin = w.pin; known = w.known; copy = w.copy }) a.changed;
+      changed = b.changed ∙ ap (λ (x : View). record x { seen = w.seen; looks = w.looks; pin = w.pin; known = w.known; copy = w.copy; older = w.older }) a.changed;
       later = Begins-trans u.seen v.seen w.seen a.later b.later;
     }
 
@@ -28,8 +28,9 @@ pub searched : (v w : View) (tries : ℕ) → Searched v tries w → HasLooked v
 searched v w tries told =
     let looks = ap (λ (x : View). x.looks) told.changed in
     let copy = ap (λ (x : View). x.copy) told.changed in
+    let older = ap (λ (x : View). x.older) told.changed in
     record {
-      changed = told.changed ∙ (λ i. record v { seen = w.seen; looks = sym looks i; pin = w.pin; known = w.known; copy = sym copy i });
+      changed = told.changed ∙ (λ i. record v { seen = w.seen; looks = sym looks i; pin = w.pin; known = w.known; copy = sym copy i; older = sym older i });
       later = told.later;
     }
 
@@ -37,13 +38,15 @@ module _ (v v' w w' : View) (told : MetTold v v' w w') where
   pub met_first : HasLooked v w
   met_first =
       let looks = ap (λ (x : View). x.looks) told.first in
-      record { changed = told.first ∙ (λ i. record v { seen = w.seen; looks = sym looks i; pin = w.pin; known = w.known; copy = w.copy }); later = told.later }
+      let older = ap (λ (x : View). x.older) told.first in
+      record { changed = told.first ∙ (λ i. record v { seen = w.seen; looks = sym looks i; pin = w.pin; known = w.known; copy = w.copy; older = sym older i }); later = told.later }
 
   pub met_second : HasLooked v' w'
   met_second =
       let looks = ap (λ (x : View). x.looks) told.second in
+      let older = ap (λ (x : View). x.older) told.second in
       record {
-        changed = told.second ∙ (λ i. record v' { seen = w'.seen; looks = sym looks i; pin = w'.pin; known = w'.known; copy = w'.copy });
+        changed = told.second ∙ (λ i. record v' { seen = w'.seen; looks = sym looks i; pin = w'.pin; known = w'.known; copy = w'.copy; older = sym older i });
         later = Begins-trans v'.seen w.seen w'.seen told.brought told.shared;
       }
 

@@ -1,10 +1,11 @@
-use Rattle.std.proofs.Common.{ap, ◌∙◌, arith}
+use Rattle.std.proofs.Common.{ap, ◌∙◌, subst, arith}
 use Rattle.geometry.specs.Geometry.{numbers_of}
 use Rattle.flash_rule.specs.declared.view.View.{View}
-use Rattle.flash_table.specs.Flash.{device}
+use Rattle.flash_rule.specs.BroomPlays.{Named}
+use Rattle.flash_table.specs.Flash.{broom_view, device}
 use Rattle.flash_table.proofs.Rows.{just_now}
 use Rattle.flash_table.proofs.HereBrooms.{broom_look_here}
-use Rattle.flash_table.proofs.ToldBrooms.{broom_player, stays_broom}
+use Rattle.flash_table.proofs.ToldBrooms.{broom_player, stays_broom, unpacked}
 use Rattle.flash_table.proofs.flash.Flash.broom_look.Goals as goal
 
 pub load-found-requires : goal.load-found-requires
@@ -18,6 +19,12 @@ pub invariant_of-broom : goal.invariant_of-broom
 invariant_of-broom c =
     let s = c.args.broom.now in
     record { bare = c.load-found.ensures.2.0 ∙ s.bare; owns = just_now _ _ _ (ap (λ (w : View). w.owns) c.load-found.ensures.2.1.changed) s.owns }
+
+pub returns-clause-told : goal.returns-clause-told
+returns-clause-told c =
+    let told = c.load-found.ensures.2.1 in
+    let word = unpacked c.unpack.result c.load-found.result c.unpack.ensures.some c.unpack.ensures.none (λ some. let t = told.page some in (t.0, t.2)) in
+    subst (λ n. Named (broom_view c.args.broom.now) c.args.sector n c.load-found.new.seat.me.0) word told
 
 pub returns-clause-broom : goal.returns-clause-broom
 returns-clause-broom c =
