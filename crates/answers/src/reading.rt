@@ -9,7 +9,7 @@ ghost use Rattle.answers.specs.Streams.{over};
 use geometry::Geometry;
 use std::alloc::Global;
 use std::io::Read;
-use trace::{Commands, TraceFault, Watched, load, parse};
+use trace::{Commands, TraceFault, Watched, load, parse_owned};
 
 /// Reads a whole trace, and gives its commands for this device.
 pub fn read_commands<R: Read>(
@@ -24,5 +24,5 @@ pub fn read_commands<R: Read>(
     ensures why { IfErr result (λ fault. ExplainsTrace fault geometry.now (over R.remaining reader.old reader.new)) }
 {
     let text = load(alloc, reader)?;
-    parse(alloc, &text, geometry)
+    parse_owned(alloc, text, geometry)
 }

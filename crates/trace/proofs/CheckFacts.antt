@@ -54,22 +54,18 @@ module _ (geo : Geometry) (a b c d : List ℕ) where
       refuses_sector k r = rw (p, q, r) refl
 
       module _ (sector : ℕ) (r : number_below (sectors_of geo) fault.Sector c ≡ Ok sector) where
-        refuses_page : (k : TraceFaultKind) → page_of (page_bytes_of geo) o worker sector d ≡ Err k → command_of geo (a ∷ b ∷ c ∷ d ∷ []) ≡ Err k
+        pub refuses_page : (k : TraceFaultKind) → page_of (page_bytes_of geo) o worker sector d ≡ Err k → command_of geo (a ∷ b ∷ c ∷ d ∷ []) ≡ Err k
         unfolding command_of
         refuses_page k s = rw (p, q, r, s) refl
 
-        accepts : (page : List ℕ) → page_of (page_bytes_of geo) o worker sector d ≡ Ok page
+        pub accepts : (page : List ℕ) → page_of (page_bytes_of geo) o worker sector d ≡ Ok page
             → command_of geo (a ∷ b ∷ c ∷ d ∷ []) ≡ Ok (record { worker = worker; op = o; sector = sector; page = page })
         unfolding command_of
         accepts page s = rw (p, q, r, s) refl
 
-        pub refuses_by_page : (k : TraceFaultKind) → RefusesBy (page_of (page_bytes_of geo) o worker sector d) k → RefusesBy (command_of geo (a ∷ b ∷ c ∷ d ∷ [])) k
-        refuses_by_page k (inl memory) = inl memory
-        refuses_by_page k (inr s) = inr (refuses_page k s)
-
-        pub adds_accepted : (page : List ℕ) (old new : List Command) → page_of (page_bytes_of geo) o worker sector d ≡ Ok page
-            → new ≡ old ++ record { worker = worker; op = o; sector = sector; page = page } ∷ [] → Adds (command_of geo (a ∷ b ∷ c ∷ d ∷ [])) old new
-        adds_accepted page old new s grown = rw (accepts page s) grown
+-- a check that gave this command, which is added
+pub adds_accepted : (check : Result Command TraceFaultKind) (command : Command) (old new : List Command) → check ≡ Ok command → new ≡ old ++ command ∷ [] → Adds check old new
+adds_accepted check command old new is grown = rw is grown
 
 -- ---- the faults of a check are those of a record
 
@@ -207,6 +203,38 @@ first_other text geo commands fields rows left e first count = record {
   order = e ∙ rw (first, refuses_fields geo fields count) refl;
   line = refl;
 }
+
+-- a fault of a record keeps its line
+fault_kept : (line : ℕ) (k : TraceFaultKind) → is_of_record k ≡ true → fault_at line k ≡ record { line = line; kind = k }
+fault_kept line fault.Fields h = refl
+fault_kept line fault.Worker h = refl
+fault_kept line fault.Op h = refl
+fault_kept line fault.Sector h = refl
+fault_kept line fault.Hex h = refl
+fault_kept line fault.TooLong h = refl
+fault_kept line fault.Unused h = refl
+fault_kept line fault.Read h = cc h
+fault_kept line fault.Memory h = cc h
+fault_kept line fault.Big h = cc h
+
+-- a record that is refused behind commands is the first fault
+first_kept : (text : List ℕ) (geo : Geometry) (commands : List Command) (fields : List (List ℕ)) (left : List (List (List ℕ))) (k : TraceFaultKind)
+    → checked geo text ≡ map Ok commands ++ map (command_of geo) (fields ∷ left) → command_of geo fields ≡ Err k
+    → IsFirstFault (checked geo text) (record { line = length commands + 1; kind = k })
+first_kept text geo commands fields left k e h = record {
+  before = commands;
+  after = map (command_of geo) left;
+  order = e ∙ rw h refl;
+  line = refl;
+}
+
+pub first_refused : (text : List ℕ) (geo : Geometry) (commands : List Command) (fields : List (List ℕ)) (rows left : List (List (List ℕ))) (k : TraceFaultKind)
+    → checked geo text ≡ map Ok commands ++ map (command_of geo) rows → rows ≡ fields ∷ left → RefusesBy (command_of geo fields) k
+    → OnTrue (is_of_record (fault_at (length commands + 1) k).kind) (IsFirstFault (checked geo text) (fault_at (length commands + 1) k))
+first_refused text geo commands fields rows left k e first (inl memory) = rw memory tt
+first_refused text geo commands fields rows left k e first (inr h) =
+    let of_record = command_of_record geo fields k h in
+    rw (fault_kept (length commands + 1) k of_record, of_record) (first_kept text geo commands fields left k (rw first at e) h)
 
 -- two ways to begin one list
 pub same_first : {A : Type 0} (xs : List A) (x y : A) (left right : List A) → xs ≡ x ∷ left → xs ≡ y ∷ right → (x ≡ y) × (left ≡ right)

@@ -1,12 +1,16 @@
--- The commands that are kept, by their places.
-use Rattle.std.proofs.Common.{◌≡◌, ℕ, zero, suc, ◌+◌, ◌<◌, ◌≤◌, List, [], ◌∷◌, ◌++◌, length, map, take, drop, refl, sym, ap, arith}
-use Rattle.std.proofs.lemmas.List.{map-append, take-append-le, take_all}
-use Rattle.std.proofs.lemmas.List.Elements.{All-head, All-tail}
-use Rattle.std.proofs.Math.Seq.{drop-append_seam}
+-- The commands that are kept, by the places of their digits.
+use Rattle.std.proofs.Common.{◌≡◌, ℕ, zero, suc, ◌+◌, ◌-◌, ◌<◌, ◌≤◌, inl, inr, List, [], ◌∷◌, ◌++◌, length, map, take, drop, refl, sym, subst, ap, ap₂, ◌∙◌, append_assoc, arith, length-append}
+use Rattle.std.proofs.lemmas.List.{length-map, map-append, take-append-le, take_all}
+use Rattle.std.proofs.lemmas.List.Elements.{All-append, All-cons, All-nil}
+use Rattle.std.proofs.Math.Seq.{drop-append-add, drop-append_seam}
 use Rattle.std.specs.Prelude.{All, slice_index_or}
-use Rattle.trace.specs.Page.{page_with}
-use Rattle.trace.specs.Stored.{IsKept, command_at}
-use Rattle.trace.specs.declared.commands.Stored.{Stored}
+use Rattle.trace.specs.Digits.{IsData}
+use Rattle.trace.specs.Parsing.{page_len}
+use Rattle.trace.specs.Stored.{IsKept, command_at, digits_at, drafted, head_of, with_digits}
+use Rattle.trace.specs.declared.commands.Command.{Command}
+use Rattle.trace.specs.declared.draft.Draft.{Draft}
+use Rattle.trace.specs.declared.draft.Head.{Head}
+use Rattle.trace.specs.declared.draft.Stored.{Stored}
 
 -- what a list holds at a place and after it, seen through a function
 pub drop-map_at : {A B : Type 0} (f : A → B) (xs : List A) (i : ℕ) (x : A) → i < length xs → x ≡ slice_index_or xs i x → drop i (map f xs) ≡ f x ∷ drop (suc i) (map f xs)
@@ -20,22 +24,96 @@ part-append zero count xs ys h = take-append-le count xs ys (omega arith)
 part-append (suc start) count [] ys h = absurd (omega arith)
 part-append (suc start) count (x ∷ xs) ys h = part-append start count xs ys (omega arith)
 
--- a command stays where others' data follows its own
-command_at-append : (bytes more : List ℕ) (s : Stored) → IsKept (length bytes) s → command_at (bytes ++ more) s ≡ command_at bytes s
-command_at-append bytes more s h = rw (part-append s.start s.given bytes more h.within) refl
+-- digits that stand in the text
+pub digits-text : (text odd : List ℕ) (s : Stored) → s.start + s.digits ≤ length text → digits_at text odd s ≡ take s.digits (drop s.start text)
+digits-text text odd s h = part-append s.start s.digits text odd h
+
+-- digits that stand behind it
+pub digits-odd : (text odd : List ℕ) (s : Stored) → length text ≤ s.start → digits_at text odd s ≡ take s.digits (drop (s.start - length text) odd)
+digits-odd text odd s h =
+    let there : s.start ≡ length text + (s.start - length text) = omega arith in
+    ap (λ n. take s.digits (drop n (text ++ odd))) there ∙ ap (take s.digits) (drop-append-add text odd (s.start - length text))
+
+-- digits that are put behind the odd ones
+digits-new : (text odd digits : List ℕ) (s : Stored) → s.start ≡ length text + length odd → s.digits ≡ length digits → digits_at text (odd ++ digits) s ≡ digits
+digits-new text odd digits s start count =
+    let seam : s.start ≡ length (text ++ odd) = omega (arith, start, length-append text odd) in
+    ap (λ l. take s.digits (drop s.start l)) (sym (append_assoc text odd digits))
+    ∙ ap₂ (λ (n k : ℕ). take n (drop k ((text ++ odd) ++ digits))) count seam
+    ∙ ap (take (length digits)) (drop-append_seam (text ++ odd) digits)
+    ∙ take_all (length digits) digits (omega arith)
+
+-- a command stays where others' digits follow
+digits-append : (text odd more : List ℕ) (s : Stored) → s.start + s.digits ≤ length (text ++ odd) → digits_at text (odd ++ more) s ≡ digits_at text odd s
+digits-append text odd more s h =
+    ap (λ l. take s.digits (drop s.start l)) (sym (append_assoc text odd more)) ∙ part-append s.start s.digits (text ++ odd) more h
+
+kept-append : (text odd more : List ℕ) (size : ℕ) (s : Stored) → IsKept text odd size s → IsKept text (odd ++ more) size s
+kept-append text odd more size s h =
+    let same = digits-append text odd more s h.within in
+    record {
+      within = omega (arith, h.within, length-append text odd, length-append text (odd ++ more), length-append odd more);
+      whole = h.whole;
+      fits = subst (IsData (page_len s.op size)) (sym same) h.fits;
+    }
+
+all_kept-append : (text odd more : List ℕ) (size : ℕ) (xs : List Stored) → All (IsKept text odd size) xs → All (IsKept text (odd ++ more) size) xs
+all_kept-append text odd more size xs h k d lt = kept-append text odd more size _ (h k d lt)
 
 -- and so do all
-commands-append : (bytes more : List ℕ) (xs : List Stored) → All (IsKept (length bytes)) xs → map (command_at (bytes ++ more)) xs ≡ map (command_at bytes) xs
-commands-append bytes more [] h = refl
-commands-append bytes more (x ∷ xs) h =
-    let first = command_at-append bytes more x (All-head (IsKept (length bytes)) x xs h) in
-    let others = commands-append bytes more xs (All-tail (IsKept (length bytes)) x xs h) in
-    cc
+commands-append : (text odd more : List ℕ) (size : ℕ) (xs : List Stored) → All (IsKept text odd size) xs → map (command_at text (odd ++ more) size) xs ≡ map (command_at text odd size) xs
+commands-append text odd more size [] h = refl
+commands-append text odd more size (x ∷ xs) h =
+    let kept : IsKept text odd size x = h 0 x (omega arith) in
+    let others : All (IsKept text odd size) xs = λ k d lt. h (suc k) d (omega arith) in
+    ap₂ (λ (c : Command) (cs : List Command). c ∷ cs) (ap (with_digits (head_of x) size) (digits-append text odd more x kept.within)) (commands-append text odd more size xs others)
 
--- a command is added behind the others
-pub commands-push : (bytes given : List ℕ) (xs : List Stored) (s : Stored) → All (IsKept (length bytes)) xs → s.start ≡ length bytes → s.given ≡ length given
-    → map (command_at (bytes ++ given)) (xs ++ s ∷ []) ≡ map (command_at bytes) xs ++ record { worker = s.worker; op = s.op; sector = s.sector; page = page_with s.page_len given } ∷ []
-commands-push bytes given xs s kept start count =
-    let part : take s.given (drop s.start (bytes ++ given)) ≡ given =
-    rw (start, count, drop-append_seam bytes given) (take_all (length given) given (omega arith)) in
-    rw (map-append (command_at (bytes ++ given)) xs (s ∷ []), commands-append bytes given xs kept, part) refl
+-- ---- one command more
+
+module _ (text odd : List ℕ) (size : ℕ) (xs : List Stored) (s : Stored) (head : Head) (is : head_of s ≡ head) where
+  op_is : s.op ≡ head.op
+  op_is = ap (λ (h : Head). h.op) is
+
+  -- a command is added behind the others
+  pushed : (digits : List ℕ) → digits_at text odd s ≡ digits → map (command_at text odd size) (xs ++ s ∷ []) ≡ map (command_at text odd size) xs ++ with_digits head size digits ∷ []
+  pushed digits e =
+      map-append (command_at text odd size) xs (s ∷ [])
+      ∙ ap₂ (λ (h : Head) (d : List ℕ). map (command_at text odd size) xs ++ with_digits h size d ∷ []) is e
+
+  -- and is kept beside them
+  kept : All (IsKept text odd size) xs → IsKept text odd size s → All (IsKept text odd size) (xs ++ s ∷ [])
+  kept before h = All-append (IsKept text odd size) xs (s ∷ []) before (All-cons (IsKept text odd size) s [] h (All-nil (IsKept text odd size)))
+
+  data_is : (digits : List ℕ) → digits_at text odd s ≡ digits → IsData (page_len head.op size) digits → IsData (page_len s.op size) (digits_at text odd s)
+  data_is digits e h = subst (λ o. IsData (page_len o size) (digits_at text odd s)) (sym op_is) (subst (IsData (page_len head.op size)) (sym e) h)
+
+-- one whose digits stand in the text
+module _ (text odd : List ℕ) (size : ℕ) (xs : List Stored) (s : Stored) (head : Head) (is : head_of s ≡ head) (within : s.start + s.digits ≤ length text) where
+  pub push-commands : map (command_at text odd size) (xs ++ s ∷ []) ≡ map (command_at text odd size) xs ++ with_digits head size (take s.digits (drop s.start text)) ∷ []
+  push-commands = pushed text odd size xs s head is _ (digits-text text odd s within)
+
+  pub push-kept : All (IsKept text odd size) xs → IsData (page_len head.op size) (take s.digits (drop s.start text)) → All (IsKept text odd size) (xs ++ s ∷ [])
+  push-kept before h = kept text odd size xs s head is before record {
+    within = omega (arith, within, length-append text odd);
+    whole = inl within;
+    fits = data_is text odd size xs s head is _ (digits-text text odd s within) h;
+  }
+
+-- one whose digits are put behind the odd ones
+module _ (text odd digits : List ℕ) (size : ℕ) (xs : List Stored) (s : Stored) (head : Head) (is : head_of s ≡ head) (start : s.start ≡ length text + length odd) (count : s.digits ≡ length digits) where
+  pub push_odd-commands : All (IsKept text odd size) xs
+      → map (command_at text (odd ++ digits) size) (xs ++ s ∷ []) ≡ map (command_at text odd size) xs ++ with_digits head size digits ∷ []
+  push_odd-commands before =
+      pushed text (odd ++ digits) size xs s head is digits (digits-new text odd digits s start count)
+      ∙ ap (λ cs. cs ++ with_digits head size digits ∷ []) (commands-append text odd digits size xs before)
+
+  pub push_odd-kept : All (IsKept text odd size) xs → IsData (page_len head.op size) digits → All (IsKept text (odd ++ digits) size) (xs ++ s ∷ [])
+  push_odd-kept before h = kept text (odd ++ digits) size xs s head is (all_kept-append text odd digits size xs before) record {
+    within = omega (arith, start, count, length-append text (odd ++ digits), length-append odd digits);
+    whole = inr (omega (arith, start));
+    fits = data_is text (odd ++ digits) size xs s head is digits (digits-new text odd digits s start count) h;
+  }
+
+-- the number of the line behind the commands so far
+pub line_is : (text : List ℕ) (d : Draft) → length d.stored.items + 1 ≡ length (drafted text d) + 1
+line_is text d = ap (λ n. n + 1) (sym (length-map d.stored.items (command_at text d.odd.items d.page_bytes)))

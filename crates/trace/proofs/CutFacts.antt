@@ -1,7 +1,7 @@
 -- How the fields and the records of a text are cut, by the steps of csv's machine.
 use Rattle.std.proofs.Common.{◌≡◌, ◌≢◌, ℕ, zero, suc, subst, ◌+◌, ◌-◌, ◌<◌, ◌≤◌, Bool, true, false, List, [], ◌∷◌, ◌++◌, length, take, drop, get_or, refl, ap, sym, ◌∙◌, arith, length-drop, get_or-drop}
 use Rattle.std.specs.Prelude.{◌==◌, ◌||◌}
-use Rattle.std.proofs.lemmas.List.{drop-drop, drop_all, drop_more, take_more}
+use Rattle.std.proofs.lemmas.List.{drop-drop, drop_all, drop_more, length-take-le, take_more}
 use Rattle.std.proofs.lemmas.Bool.{eqb-true}
 use Rattle.csv.specs.Machine.{Runs, next_record, step}
 use Rattle.csv.specs.Reading.{default_config}
@@ -10,7 +10,7 @@ use Rattle.csv.specs.declared.parser.State.{State}
 use Rattle.csv.specs.declared.parser.State.TheVariants as st
 use Rattle.csv.proofs.ReadFacts.{part-rest, run-copies, runs-step}
 use Rattle.csv.proofs.RoundTrip.{after-quote-same, start-same}
-use Rattle.trace.specs.Cutting.{EndsPlain, EndsQuoted, IsField, Joins, begins_with, ends_field, is_field_end, is_line_end, read_on}
+use Rattle.trace.specs.Cutting.{EndsPlain, EndsQuoted, IsField, Joins, StandsBefore, begins_with, ends_field, is_field_end, is_line_end, read_on}
 
 -- ---- bytes
 
@@ -115,6 +115,13 @@ plain-field text start end h e = record {
   reads = λ fields. plain-begins fields (drop start text) h ∙ reads-joined st.InField text start end fields [] e.joins;
   stops = e.stops;
 }
+
+-- its value stands right before its end
+pub stands-before : (text : List ℕ) (start end : ℕ) → start ≤ end → end ≤ length text → StandsBefore text end (take (end - start) (drop start text))
+stands-before text start end low high =
+    let long : length (take (end - start) (drop start text)) ≡ end - start = length-take-le (end - start) (drop start text) (omega (arith, length-drop start text)) in
+    let there : end - (end - start) ≡ start = omega arith in
+    record { low = omega (arith, long); is = rw (long, there) refl }
 
 -- ---- a field that begins with a quote
 

@@ -1,8 +1,15 @@
--- Pairs of digits, from the values of their digits.
-use Rattle.std.proofs.Common.{◌≡◌, ℕ, ◌+◌, ◌*◌, ◌<◌, ◌≤◌, ◌⊎◌, inl, inr, Option, Some, None, unwrap_or, Ok, Err, refl, sym, ap, arith}
-use Rattle.hex.specs.Hex.{hex_digit_value, pair_value}
+-- Digits, from their values.
+use Rattle.std.proofs.Common.{◌≡◌, ℕ, ◌+◌, ◌*◌, ◌/◌, ◌%◌, ◌<◌, ◌≤◌, true, false, List, [], ◌∷◌, length, get_or, Option, Some, None, unwrap_or, Result, Ok, Err, is_some, refl, sym, ap, ◌∙◌, arith}
+use Rattle.std.proofs.lemmas.List.Elements.{All-from_get_or, All-get_or}
+use Rattle.std.specs.Prelude.{IsErr}
+use Rattle.std.specs.Result.{result_unwrap_or}
+use Rattle.hex.specs.Hex.{decode_of, hex_digit_value, is_hex_digit, pair_value}
+use Rattle.hex.proofs.HexLemmas.{decode_of-digits, decode_of-odd, decode_of-ok}
+use Rattle.trace.specs.Digits.{IsData, bytes_of}
+use Rattle.trace.specs.Parsing.{page_len}
+use Rattle.trace.specs.declared.commands.Op.{Op}
+use Rattle.trace.specs.declared.commands.Op.TheVariants as op
 use Rattle.hex.specs.declared.error.FromHexError.{FromHexError}
-use Rattle.hex.specs.declared.error.FromHexError.TheVariants.{InvalidHexCharacter}
 
 -- a value below 16 is a digit's
 some_below : (o : Option ℕ) (v : ℕ) → v ≡ unwrap_or o 16 → v ≤ 15 → o ≡ Some v
@@ -23,17 +30,74 @@ pub pair_read : (a b i high low : ℕ) → high ≡ unwrap_or (hex_digit_value a
 pair_read a b i high low first second high_small low_small =
     rw (some_below (hex_digit_value a) high first high_small, some_below (hex_digit_value b) low second low_small) refl
 
-refused_first : (a b i : ℕ) → hex_digit_value a ≡ None → (e : FromHexError) × (pair_value a b i ≡ Err e)
-refused_first a b i none = (InvalidHexCharacter a i, rw none refl)
+-- a digit, by its value
+pub digit_below : (c v : ℕ) → v ≡ unwrap_or (hex_digit_value c) 16 → v ≤ 15 → is_hex_digit c ≡ true
+digit_below c v e small = ap is_some (some_below (hex_digit_value c) v e small)
 
-refused_second : (a b i : ℕ) (o : Option ℕ) → hex_digit_value a ≡ o → hex_digit_value b ≡ None → (e : FromHexError) × (pair_value a b i ≡ Err e)
-refused_second a b i (Some v) first second = (InvalidHexCharacter b (i + 1), rw (first, second) refl)
-refused_second a b i None first second = refused_first a b i first
+pub digit_above : (c v : ℕ) → v ≡ unwrap_or (hex_digit_value c) 16 → 15 < v → is_hex_digit c ≡ false
+digit_above c v e big = ap is_some (none_above (hex_digit_value c) v e (digit_small c) big)
 
--- two bytes that are not both digits
-pub pair_refused : (a b i high low : ℕ) → high ≡ unwrap_or (hex_digit_value a) 16 → low ≡ unwrap_or (hex_digit_value b) 16
-    → (15 < high) ⊎ ((high ≤ 15) × (15 < low)) → (e : FromHexError) × (pair_value a b i ≡ Err e)
-pair_refused a b i high low first second (inl big) =
-    refused_first a b i (none_above (hex_digit_value a) high first (digit_small a) big)
-pair_refused a b i high low first second (inr (_, big)) =
-    refused_second a b i (hex_digit_value a) refl (none_above (hex_digit_value b) low second (digit_small b) big)
+pub value_below : (c v : ℕ) → v ≡ unwrap_or (hex_digit_value c) 16 → is_hex_digit c ≡ true → v ≤ 15
+value_below c v e h = by (hex_digit_value c) e h (digit_small c)
+  where
+    by : (o : Option ℕ) → v ≡ unwrap_or o 16 → is_some o ≡ true → ((w : ℕ) → o ≡ Some w → w < 16) → v ≤ 15
+    by (Some w) q d small = let below = small w refl in omega arith
+    by None q d small = cc d
+
+-- ---- digits as data
+
+-- the bytes of digits that write some
+pub bytes_are : (digits bytes : List ℕ) → decode_of digits ≡ Ok bytes → decode_of digits ≡ Ok (bytes_of digits)
+unfolding bytes_of
+bytes_are digits bytes h = h ∙ ap Ok (sym (ap (λ (r : Result (List ℕ) FromHexError). result_unwrap_or r []) h))
+
+-- nothing but digits, and an even number
+pub pairs_are : (digits : List ℕ) → length digits % 2 ≡ 0 → ((k : ℕ) → k < length digits → is_hex_digit (get_or digits k 0) ≡ true) → decode_of digits ≡ Ok (bytes_of digits)
+pairs_are digits even all =
+    let (bytes, is) = decode_of-digits digits even (All-from_get_or (λ c. is_hex_digit c ≡ true) digits 0 all) in
+    bytes_are digits bytes is
+
+-- each is one where they write bytes
+pub digit_at : (digits bytes : List ℕ) (k : ℕ) → decode_of digits ≡ Ok bytes → k < length digits → is_hex_digit (get_or digits k 0) ≡ true
+digit_at digits bytes k h below = All-get_or (λ c. is_hex_digit c ≡ true) digits k 0 below (decode_of-ok digits bytes h).1
+
+-- one that is none
+pub refused_at : (digits : List ℕ) (k : ℕ) → k < length digits → is_hex_digit (get_or digits k 0) ≡ false → IsErr (decode_of digits)
+refused_at digits k below h = by (decode_of digits) refl
+  where
+    by : (r : Result (List ℕ) FromHexError) → decode_of digits ≡ r → IsErr r
+    by (Ok bytes) e = absurd (cc (sym h ∙ digit_at digits bytes k e below))
+    by (Err e) q = refl
+
+pub refused_odd : (digits : List ℕ) → length digits % 2 ≡ 1 → IsErr (decode_of digits)
+refused_odd digits odd = rw (decode_of-odd digits odd) refl
+
+-- digits that write no more than this
+pub data_is : (most : ℕ) (digits : List ℕ) → decode_of digits ≡ Ok (bytes_of digits) → length digits ≤ 2 * most → IsData most digits
+data_is most digits h few =
+    let count = (decode_of-ok digits (bytes_of digits) h).2 in
+    record { bytes = h; count = count; fits = omega (arith, count, few) }
+
+pub written : (most : ℕ) (digits : List ℕ) → decode_of digits ≡ Ok (bytes_of digits) → length digits / 2 ≤ most → IsData most digits
+written most digits h few =
+    let even = (decode_of-ok digits (bytes_of digits) h).0 in
+    data_is most digits h (omega (arith, even, few))
+
+-- none write nothing
+pub data_none : (most : ℕ) (digits : List ℕ) → length digits ≡ 0 → IsData most digits
+data_none most digits none = data_is most digits (pairs_are digits (omega (arith, none)) (λ k below. absurd (omega (arith, none)))) (omega (arith, none))
+
+pub none_written : (digits : List ℕ) → length digits ≡ 0 → bytes_of digits ≡ []
+none_written digits none = by (bytes_of digits) (data_none 0 digits none).fits
+  where
+    by : (bytes : List ℕ) → length bytes ≤ 0 → bytes ≡ []
+    by [] h = refl
+    by (b ∷ bytes) h = absurd (omega arith)
+
+-- the digits of a page are at most twice as many as its bytes
+pub few_digits : (size : ℕ) (o : Op) (digits : List ℕ) → IsData (page_len o size) digits → length digits ≤ 2 * size
+few_digits size op.Write digits h = omega (arith, h.count, h.fits)
+few_digits size op.New digits h = omega (arith, h.count, h.fits)
+few_digits size op.Read digits h = omega (arith, h.count, h.fits)
+few_digits size op.Trim digits h = omega (arith, h.count, h.fits)
+few_digits size op.Meet digits h = omega (arith, h.count, h.fits)

@@ -4,5 +4,6 @@ pub mod CutFacts
 pub mod DigitFacts
 pub mod LaneFacts
 pub mod NumberFacts
+pub mod PageFacts
 pub mod RecordFacts
 pub mod RowFacts

@@ -13,7 +13,7 @@ use Rattle.csv.specs.declared.parser.Action.TheVariants as act
 use Rattle.csv.specs.declared.parser.State.{State}
 use Rattle.csv.specs.declared.parser.State.TheVariants as st
 use Rattle.csv.proofs.RoundTrip.{record-same}
-use Rattle.trace.specs.Cutting.{AreValues, CutsField, HasOtherFields, IsField, IsMarkEnd, IsRecord, StartsRecord, begins_with, ends_field, ends_no_line, fields_of_row, is_line_end, lines_of, read_on}
+use Rattle.trace.specs.Cutting.{AreValues, CutsField, HasOtherFields, IsField, IsMarkEnd, IsRecord, StandsBefore, StartsRecord, begins_with, ends_field, ends_no_line, fields_of_row, is_line_end, lines_of, read_on}
 use Rattle.trace.specs.Rows.{records_after}
 use Rattle.trace.specs.Trace.{records_of}
 use Rattle.trace.specs.declared.cutting.Field.{Field}
@@ -331,6 +331,10 @@ module _ (text : List ℕ) (at mark start : ℕ) (m : IsMarkEnd text at mark) (s
               let f = rw h.digits at d.told in
               cc
 
+          place-told : (row : Option Row) → AreValues row worker op sector digits → IfSome row (λ r. StandsBefore text digits.end r.digits.now)
+          place-told None h = tt
+          place-told (Some r) h = rw h.digits at d.place
+
           pub cut-four : digits.comma ≡ false → (row : Option Row) → AreValues row worker op sector digits → IsRecord text at digits.end row
           cut-four c row h = record {
             low = omega (arith, m.low, s.low, w.is.low, o.is.low, t.is.low, d.is.low);
@@ -339,4 +343,5 @@ module _ (text : List ℕ) (at mark start : ℕ) (m : IsMarkEnd text at mark) (s
             first = lines ∙ reads-last text start (w.value ∷ o.value ∷ t.value ∷ []) (sector.end + 1) digits.end d.value fourth d.is (sym d.comma ∙ c);
             count = refl;
             told = values-told row h;
+            place = place-told row h;
           }

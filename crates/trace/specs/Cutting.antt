@@ -69,11 +69,17 @@ pub record IsField (text : List ℕ) (start end : ℕ) (value : List ℕ) : Type
 abbrev pub EndsField : List ℕ → ℕ → ℕ → Type 0
 EndsField text start end = (value : List ℕ) × IsField text start end value
 
+-- these bytes stand in a text right before a place
+pub record StandsBefore (text : List ℕ) (end : ℕ) (part : List ℕ) : Type 0 where
+  pub low : length part ≤ end
+  pub is : part ≡ take (length part) (drop (end - length part) text)
+
 -- the field that was cut is the one that stands there, with its value, if that was told
 pub record CutsField (text : List ℕ) (start : ℕ) (f : Field) : Type 0 where
   pub value : List ℕ
   pub is : IsField text start f.end value
   pub told : IfSome f.value (λ bytes. bytes.now ≡ value)
+  pub place : IfSome f.value (λ bytes. StandsBefore text f.end bytes.now)
   pub comma : f.comma ≡ begins_with 44 (drop f.end text)
 
 -- ---- records
@@ -117,7 +123,7 @@ pub record HasOtherFields (text : List ℕ) (at : ℕ) : Type 0 where
   pub first : records_of (drop at text) ≡ fields ∷ others
   pub count : length fields ≢ 4
 
--- the first record from a place on has four fields, which are these, if they were told, and ends at this place
+-- the first record from a place on has four fields, which are these, if they were told, and ends at this place, as its digits do
 pub record IsRecord (text : List ℕ) (at end : ℕ) (row : Option Row) : Type 0 where
   pub low : at < end
   pub high : end ≤ length text
@@ -125,6 +131,7 @@ pub record IsRecord (text : List ℕ) (at end : ℕ) (row : Option Row) : Type 0
   pub first : records_of (drop at text) ≡ fields ∷ records_of (drop end text)
   pub count : length fields ≡ 4
   pub told : IfSome row (λ r. fields ≡ fields_of_row r)
+  pub place : IfSome row (λ r. StandsBefore text end r.digits.now)
 
 -- what comes next from a place on
 abbrev pub IsCut : List ℕ → ℕ → Cut → Type 0

@@ -7,6 +7,8 @@ pub mod Trace
 pub mod Watched
 -- Internal.
 pub mod Cutting
+pub mod Digits
+pub mod Drafting
 pub mod Lanes
 pub mod Parsing
 pub mod Rows

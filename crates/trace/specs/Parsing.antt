@@ -1,7 +1,6 @@
 -- What the steps of parsing make of one record.
-use Rattle.std.specs.Prelude.{◌≡◌, ◌≤◌, ℕ, List, [], ◌∷◌, ◌++◌, drop, length, map, Result, Ok, Err, ◌⊎◌}
+use Rattle.std.specs.Prelude.{◌≡◌, ℕ, List, [], ◌∷◌, ◌++◌, drop, map, Result, Ok, Err, ◌⊎◌}
 use Rattle.geometry.specs.declared.geometry.Geometry.{Geometry}
-use Rattle.trace.specs.Page.{page_with}
 use Rattle.trace.specs.Trace.{checked, command_of, records_of, whole_fault}
 use Rattle.trace.specs.declared.commands.Command.{Command}
 use Rattle.trace.specs.declared.commands.Op.{Op}
@@ -31,10 +30,6 @@ page_len op.New size = size
 page_len op.Read size = 0
 page_len op.Trim size = 0
 page_len op.Meet size = 0
-
--- these bytes make the page, and are no more than it has
-abbrev pub MakesPage : ℕ → Op → List ℕ → Result (List ℕ) TraceFaultKind → Type 0
-MakesPage size op given page = (page ≡ Ok (page_with (page_len op size) given)) × (length given ≤ page_len op size)
 
 -- the records before a place of a text are these commands
 abbrev pub AreSoFar : Geometry → List ℕ → ℕ → List Command → Type 0

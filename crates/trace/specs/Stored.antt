@@ -1,14 +1,43 @@
--- How the commands of a trace are kept: each with the place of its data among the bytes of all.
-use Rattle.std.specs.Prelude.{ℕ, ◌+◌, ◌≤◌, List, take, drop}
+-- How the commands of a trace are kept: each with the place of its digits, in the text or behind its end among the odd ones.
+use Rattle.std.specs.Prelude.{◌≡◌, ◌⊎◌, ℕ, ◌+◌, ◌*◌, ◌≤◌, List, [], ◌∷◌, All, ◌++◌, length, map, take, drop}
 use Rattle.trace.specs.declared.commands.Command.{Command}
-use Rattle.trace.specs.declared.commands.Stored.{Stored}
+use Rattle.trace.specs.declared.draft.Draft.{Draft}
+use Rattle.trace.specs.declared.draft.Head.{Head}
+use Rattle.trace.specs.declared.draft.Stored.{Stored}
+use Rattle.trace.specs.Digits.{IsData, bytes_of}
 use Rattle.trace.specs.Page.{page_with}
+use Rattle.trace.specs.Parsing.{page_len}
+
+-- the command of a line that has these digits, where a page has this size
+abbrev pub with_digits : Head → ℕ → List ℕ → Command
+with_digits head size digits = record { worker = head.worker; op = head.op; sector = head.sector; page = page_with (page_len head.op size) (bytes_of digits) }
+
+-- what a line says beside its digits
+abbrev pub head_of : Stored → Head
+head_of s = record { worker = s.worker; op = s.op; sector = s.sector_low + 65536 * s.sector_high }
+
+-- its digits
+abbrev pub digits_at : List ℕ → List ℕ → Stored → List ℕ
+digits_at text odd s = take s.digits (drop s.start (text ++ odd))
 
 -- the command that is kept so
-abbrev pub command_at : List ℕ → Stored → Command
-command_at bytes s = record { worker = s.worker; op = s.op; sector = s.sector; page = page_with s.page_len (take s.given (drop s.start bytes)) }
+abbrev pub command_at : List ℕ → List ℕ → ℕ → Stored → Command
+command_at text odd size s = with_digits (head_of s) size (digits_at text odd s)
 
--- its data lies within that many bytes, and is no longer than its page
-pub record IsKept (count : ℕ) (s : Stored) : Type 0 where
-  pub within : s.start + s.given ≤ count
-  pub fits : s.given ≤ s.page_len
+-- its digits lie in the text or all behind it, and write no more than its page
+pub record IsKept (text odd : List ℕ) (size : ℕ) (s : Stored) : Type 0 where
+  pub within : s.start + s.digits ≤ length (text ++ odd)
+  pub whole : (s.start + s.digits ≤ length text) ⊎ (length text ≤ s.start)
+  pub fits : IsData (page_len s.op size) (digits_at text odd s)
+
+-- the commands so far, over their text
+abbrev pub drafted : List ℕ → Draft → List Command
+drafted text d = map (command_at text d.odd.items d.page_bytes) d.stored.items
+
+-- one command more, of a line with these digits
+abbrev pub Pushes : List ℕ → Draft → Draft → Head → List ℕ → Type 0
+Pushes text old new head digits = drafted text new ≡ drafted text old ++ with_digits head old.page_bytes digits ∷ []
+
+-- all are kept so
+abbrev pub AreKept : List ℕ → Draft → Type 0
+AreKept text d = All (IsKept text d.odd.items d.page_bytes) d.stored.items

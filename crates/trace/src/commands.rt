@@ -1,10 +1,11 @@
-ghost use Rattle.std.specs.Prelude.{◌≡◌, ◌+◌, ◌^◌, ◌==◌, ◌<◌, ◌≤◌, [], ◌∷◌, ◌++◌, drop, length, slice_get, OnOk};
+ghost use Rattle.std.specs.Prelude.{◌≡◌, ◌⊎◌, ◌+◌, ◌^◌, ◌==◌, ◌<◌, ◌≤◌, ◌∷◌, ◌++◌, drop, length, slice_get, Some};
 ghost use Rattle.std.specs.Iterator.{YieldsFirst, item_count};
 ghost use Rattle.trace.specs.Trace.{name_of};
-ghost use Rattle.trace.specs.Page.{page_with};
+ghost use Rattle.trace.specs.Parsing.{page_len};
+ghost use Rattle.trace.specs.Stored.{AreKept, digits_at, drafted};
 
+use crate::draft::{Draft, Stored};
 use crate::page::Page;
-use std::alloc::{AllocError, Global};
 use std::marker::Model;
 
 /// What a line of a trace asks for.
@@ -44,73 +45,46 @@ pub struct Command<'a> {
     pub page: Page<'a>,
 }
 
-// A command, and where the data that the trace gave it stands among the bytes of all commands.
-#[derive(Clone, Copy)]
-struct Stored {
-    worker: u32,
-    op: Op,
-    sector: u32,
-    page_len: u16,
-    given: u16,
-    start: usize,
-}
-
-const _: () = prove!(size_of::<Stored>() == 24);
-
-/// The commands of a trace, in order. A command takes 24 bytes and the data that the trace gave it.
+/// The commands of a trace, in order. They keep its text, and a command takes 16 bytes beside it: the
+/// digits of a write stay in the text, and are decoded where its page is copied.
 #[derive(Drop)]
 pub struct Commands {
+    text: Vec<u8>,
+    odd: Vec<u8>,
+    page_bytes: u16,
     stored: Vec<Stored>,
-    bytes: Vec<u8>,
 }
 
 impl Model for Commands {
-    ghost use Rattle.std.specs.Prelude.{List, map, length, All};
+    ghost use Rattle.std.specs.Prelude.{List, map, All};
     ghost use Rattle.trace.specs.declared.commands.Command.{Command};
 
     ghost Value = { List Command };
 
     ghost use Rattle.trace.specs.Stored.{command_at, IsKept};
 
-    ghost view = { λ a. map (command_at a.bytes.items) a.stored.items };
+    ghost view = { λ a. map (command_at a.text.items a.odd.items a.page_bytes) a.stored.items };
 
-    ghost invariant = { λ a. All (IsKept (length a.bytes.items)) a.stored.items };
+    ghost invariant = { λ a. All (IsKept a.text.items a.odd.items a.page_bytes) a.stored.items };
 }
 
 impl Commands {
-    // No command yet.
-    pub(crate) fn new(alloc: Global) -> Commands
-        ensures { result ≡ [] }
+    // The commands of a text that was read to its end.
+    pub(crate) fn new(text: Vec<u8>, draft: Draft) -> Commands
+        requires { AreKept text.items draft }
+        ensures { result ≡ drafted text.items draft }
     {
+        let Draft {
+            page_bytes,
+            stored,
+            odd,
+        } = draft;
         Commands {
-            stored: Vec::new(alloc),
-            bytes: Vec::new(alloc),
+            text,
+            odd,
+            page_bytes,
+            stored,
         }
-    }
-
-    // One command more: its page has `page_len` bytes and begins with the given ones.
-    pub(crate) fn push(
-        &mut self,
-        worker: u32,
-        op: Op,
-        sector: u32,
-        given: &[u8],
-        page_len: u16,
-    ) -> Result<(), AllocError>
-        requires { length given.now ≤ page_len }
-        ensures { OnOk result (self.new ≡ self.old ++ record { worker = worker; op = op; sector = sector; page = page_with page_len given.now } ∷ []) }
-    {
-        let start = self.bytes.len();
-        self.bytes.extend_from_slice(given)?;
-        self.stored.push(Stored {
-            worker,
-            op,
-            sector,
-            page_len,
-            given: given.len() as u16,
-            start,
-        })?;
-        Ok(())
     }
 
     pub fn len(&self) -> usize
@@ -133,12 +107,13 @@ impl Commands {
         ensures rest { drop i self.now ≡ result ∷ drop (i + 1) self.now }
     {
         let stored = self.stored[i];
-        let given = &self.bytes[stored.start..stored.start + stored.given as usize];
+        let head = stored.head();
+        let digits = digits_at(&self.text, &self.odd, &stored);
         Command {
-            worker: stored.worker,
-            op: stored.op,
-            sector: stored.sector,
-            page: Page::new(given, stored.page_len as usize),
+            worker: u32::from(head.worker),
+            op: head.op,
+            sector: head.sector,
+            page: Page::new(digits, page_len(head.op, self.page_bytes) as usize),
         }
     }
 
@@ -150,6 +125,31 @@ impl Commands {
             commands: self,
             next: 0,
         }
+    }
+}
+
+// The digits of a command.
+fn digits_at<'a>(text: &'a [u8], odd: &'a [u8], stored: &Stored) -> &'a [u8]
+    requires within { stored.now.start + stored.now.digits ≤ length (text.now ++ odd.now) }
+    requires whole { (stored.now.start + stored.now.digits ≤ length text.now) ⊎ (length text.now ≤ stored.now.start) }
+    ensures { result.now ≡ digits_at text.now odd.now stored.now }
+{
+    let start = stored.start;
+    let count = usize::from(stored.digits);
+    if count <= text.len() && start <= text.len() - count {
+        &text[start..start + count]
+    } else {
+        &odd[start - text.len()..start - text.len() + count]
+    }
+}
+
+// How many bytes the page of a command has, where a page has `size`.
+pub(crate) fn page_len(op: Op, size: u16) -> u16
+    ensures { result ≡ page_len op size }
+{
+    match op {
+        Op::Write | Op::New => size,
+        Op::Read | Op::Trim | Op::Meet => 0,
     }
 }
 

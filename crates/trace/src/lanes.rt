@@ -32,9 +32,9 @@ pub(crate) fn field_run(text: &[u8], at: usize) -> usize
     first_set(ends.to_bitmask())
 }
 
-// Whether all are digits.
+/// Whether sixteen digits stand from a place on.
 #[inline(always)]
-fn are_digits(text: &[u8], at: usize) -> bool
+pub(crate) fn are_digits(text: &[u8], at: usize) -> bool
     requires { at + LANES ≤ length text.now }
     ensures { IsTrue result → AreDigits text.now at }
 {
@@ -52,15 +52,6 @@ fn values(digits: u8x16) -> u8x16
     let letters = digits.simd_gt(u8x16::splat(b'9'));
     let beyond = letters.select(u8x16::splat(9), u8x16::splat(0));
     (digits & u8x16::splat(15)) + beyond
-}
-
-/// Whether sixteen pairs of digits stand from a place on.
-#[inline(always)]
-pub(crate) fn is_block(text: &[u8], at: usize) -> bool
-    requires { at + 2 * LANES ≤ length text.now }
-    ensures { IsTrue result → IsBlock text.now at }
-{
-    are_digits(text, at) && are_digits(text, at + LANES)
 }
 
 /// The bytes that sixteen pairs of digits write.

@@ -5,6 +5,7 @@
 mod commands;
 mod cutting;
 mod digits;
+mod draft;
 mod fault;
 mod lanes;
 mod limits;
@@ -19,5 +20,5 @@ pub use fault::{TraceFault, TraceFaultKind};
 pub use limits::{MAX_DIGITS, MAX_TRACE_BYTES};
 pub use loading::load;
 pub use page::Page;
-pub use parsing::parse;
+pub use parsing::{parse, parse_owned};
 pub use watched::Watched;

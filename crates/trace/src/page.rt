@@ -1,33 +1,37 @@
-ghost use Rattle.std.specs.Prelude.{◌≡◌, ◌==◌, ◌≤◌, length};
+ghost use Rattle.std.specs.Prelude.{◌≡◌, ◌==◌, length};
+ghost use Rattle.trace.specs.Digits.{IsData, bytes_of};
 ghost use Rattle.trace.specs.Page.{page_with};
 
+use crate::digits::decode;
 use std::marker::Model;
 
-/// The data of a command. It keeps only the bytes that the trace gave; the rest of the page is zeros.
+/// The data of a command: the digits that the trace gave for the first bytes of its page. The others
+/// are zeros.
 #[derive(Drop)]
 pub struct Page<'a> {
-    given: &'a [u8],
+    digits: &'a [u8],
     len: usize,
 }
 
 impl<'a> Model for Page<'a> {
-    ghost use Rattle.std.specs.Prelude.{ℕ, List, ◌≤◌, length};
+    ghost use Rattle.std.specs.Prelude.{ℕ, List};
+    ghost use Rattle.trace.specs.Digits.{IsData, bytes_of};
     ghost use Rattle.trace.specs.Page.{page_with};
 
     ghost Value = { List ℕ };
 
-    ghost view = { λ p. page_with p.len p.given.now };
+    ghost view = { λ p. page_with p.len (bytes_of p.digits.now) };
 
-    ghost invariant = { λ p. length p.given.now ≤ p.len };
+    ghost invariant = { λ p. IsData p.len p.digits.now };
 }
 
 impl<'a> Page<'a> {
-    // The page of `len` bytes that begins with the given ones.
-    pub(crate) fn new(given: &'a [u8], len: usize) -> Page<'a>
-        requires { length given.now ≤ len }
-        ensures { result ≡ page_with len given.now }
+    // The page of `len` bytes that begins with those that the digits write.
+    pub(crate) fn new(digits: &'a [u8], len: usize) -> Page<'a>
+        requires { IsData len digits.now }
+        ensures { result ≡ page_with len (bytes_of digits.now) }
     {
-        Page { given, len }
+        Page { digits, len }
     }
 
     /// How many bytes the page has: those of a page for a write, and none for the other ops.
@@ -48,8 +52,8 @@ impl<'a> Page<'a> {
         requires { length out.old ≡ length self.now }
         ensures { out.new ≡ self.now }
     {
-        let (front, rest) = out.split_at_mut(self.given.len());
-        front.copy_from_slice(self.given);
+        let (front, rest) = out.split_at_mut(self.digits.len() / 2);
+        decode(self.digits, front);
         rest.fill(0);
     }
 }

@@ -1,13 +1,17 @@
-ghost use Rattle.std.specs.Prelude.{◌≡◌, ◌≤◌, ◌+◌, length, IfOk, IfErr, MatchBool, OnOk};
+ghost use Rattle.std.specs.Prelude.{◌≡◌, ◌≤◌, ◌<◌, ◌+◌, ◌^◌, length, Ok, Err, IfOk, IfErr, MatchBool, OnOk};
 ghost use Rattle.std.specs.Bool.{OnTrue};
-ghost use Rattle.trace.specs.Cutting.{fields_of_row};
-ghost use Rattle.trace.specs.Parsing.{Adds, AreSoFar, MakesPage, RefusesBy, fault_at, page_len};
+ghost use Rattle.geometry.specs.Geometry.{page_bytes_of};
+ghost use Rattle.trace.specs.Cutting.{StandsBefore, fields_of_row};
+ghost use Rattle.trace.specs.Drafting.{IsChecked, IsDraft, MakePage};
+ghost use Rattle.trace.specs.Parsing.{Adds, AreSoFar, RefusesBy, fault_at};
+ghost use Rattle.trace.specs.Stored.{AreKept, drafted};
 ghost use Rattle.trace.specs.Trace.{AreCommands, IsFirstFault, checked, command_of, commands_of, is_of_record, number_below, op_of, page_of, whole_fault, workers_of};
 ghost use Rattle.trace.specs.declared.fault.TraceFaultKind.TheVariants.{Memory};
 
 use crate::commands::{Commands, Op};
 use crate::cutting::{Cut, Row, next_cut};
-use crate::digits::decode;
+use crate::digits::are_pairs;
+use crate::draft::{Draft, Head};
 use crate::fault::{TraceFault, TraceFaultKind};
 use crate::limits::MAX_DIGITS;
 use crate::rows::{next_record, records, row_of};
@@ -15,7 +19,7 @@ use csv::ByteRecord;
 use geometry::{Geometry, LONE_WORKERS, WORD_BYTES};
 use std::alloc::Global;
 
-/// The commands of a trace for this device, or its first fault.
+/// The commands of a trace for this device, or its first fault. They keep a copy of the text.
 pub fn parse(alloc: Global, text: &[u8], geometry: &Geometry) -> Result<Commands, TraceFault>
     // Each record is a command.
     ensures commands { IfOk result (λ commands. commands_of text.now geometry.now ≡ Ok commands) }
@@ -27,17 +31,51 @@ pub fn parse(alloc: Global, text: &[u8], geometry: &Geometry) -> Result<Commands
         (fault ≡ whole_fault Memory)) }
     ensures first { IfErr result (λ fault. OnTrue (is_of_record fault.kind) (IsFirstFault (checked geometry.now text.now) fault)) }
 {
-    let mut given = Vec::new(alloc);
-    let mut commands = Commands::new(alloc);
+    match text.to_vec(alloc) {
+        Ok(copy) => parse_owned(alloc, copy, geometry),
+        Err(_) => Err(TraceFault::whole(TraceFaultKind::Memory)),
+    }
+}
+
+/// The same of a text that is handed over: the commands keep it, and nothing of it is copied.
+pub fn parse_owned(
+    alloc: Global,
+    text: Vec<u8>,
+    geometry: &Geometry,
+) -> Result<Commands, TraceFault>
+    ensures commands { IfOk result (λ commands. commands_of text.items geometry.now ≡ Ok commands) }
+    ensures each { IfOk result (λ commands. AreCommands (checked geometry.now text.items) commands) }
+    ensures fault { IfErr result (λ fault. MatchBool (is_of_record fault.kind)
+        (commands_of text.items geometry.now ≡ Err fault)
+        (fault ≡ whole_fault Memory)) }
+    ensures first { IfErr result (λ fault. OnTrue (is_of_record fault.kind) (IsFirstFault (checked geometry.now text.items) fault)) }
+{
+    match parse_lines(alloc, &text, geometry) {
+        Ok(draft) => Ok(Commands::new(text, draft)),
+        Err(fault) => Err(fault),
+    }
+}
+
+// The commands of a text, which is to be kept beside them.
+fn parse_lines(alloc: Global, text: &[u8], geometry: &Geometry) -> Result<Draft, TraceFault>
+    ensures kept { IfOk result (AreKept text.now) }
+    ensures commands { IfOk result (λ draft. commands_of text.now geometry.now ≡ Ok (drafted text.now draft)) }
+    ensures each { IfOk result (λ draft. AreCommands (checked geometry.now text.now) (drafted text.now draft)) }
+    ensures fault { IfErr result (λ fault. MatchBool (is_of_record fault.kind)
+        (commands_of text.now geometry.now ≡ Err fault)
+        (fault ≡ whole_fault Memory)) }
+    ensures first { IfErr result (λ fault. OnTrue (is_of_record fault.kind) (IsFirstFault (checked geometry.now text.now) fault)) }
+{
+    let mut draft = Draft::new(alloc, page_bytes(geometry));
     let mut at = 0;
     'records: loop {
-        let line = next_line(&commands);
+        let line = next_line(&draft);
         match next_cut(text, at) {
-            Cut::End => return Ok(commands),
+            Cut::End => return Ok(draft),
             Cut::Fields => return Err(fault(line, TraceFaultKind::Fields)),
-            Cut::Record(_, None) => return parse_rest(alloc, text, at, geometry, given, commands),
+            Cut::Record(_, None) => return parse_rest(alloc, text, at, geometry, draft),
             Cut::Record(end, Some(row)) => {
-                if let Err(kind) = add(&row, geometry, &mut given, &mut commands) {
+                if let Err(kind) = add_cut(text, end, &row, geometry, &mut draft) {
                     return Err(fault(line, kind));
                 }
                 at = end;
@@ -53,13 +91,14 @@ fn parse_rest(
     text: &[u8],
     start: usize,
     geometry: &Geometry,
-    mut given: Vec<u8>,
-    mut commands: Commands,
-) -> Result<Commands, TraceFault>
+    mut draft: Draft,
+) -> Result<Draft, TraceFault>
     requires place { start ≤ length text.now }
-    requires so_far { AreSoFar geometry.now text.now start commands }
-    ensures commands { IfOk result (λ commands. commands_of text.now geometry.now ≡ Ok commands) }
-    ensures each { IfOk result (λ commands. AreCommands (checked geometry.now text.now) commands) }
+    requires draft { IsDraft geometry.now text.now draft }
+    requires so_far { AreSoFar geometry.now text.now start (drafted text.now draft) }
+    ensures kept { IfOk result (AreKept text.now) }
+    ensures commands { IfOk result (λ draft. commands_of text.now geometry.now ≡ Ok (drafted text.now draft)) }
+    ensures each { IfOk result (λ draft. AreCommands (checked geometry.now text.now) (drafted text.now draft)) }
     ensures fault { IfErr result (λ fault. MatchBool (is_of_record fault.kind)
         (commands_of text.now geometry.now ≡ Err fault)
         (fault ≡ whole_fault Memory)) }
@@ -69,9 +108,9 @@ fn parse_rest(
     let mut byte_record = ByteRecord::new(alloc);
     let mut at = start;
     'records: loop {
-        let line = next_line(&commands);
+        let line = next_line(&draft);
         let end = match next_cut(text, at) {
-            Cut::End => return Ok(commands),
+            Cut::End => return Ok(draft),
             Cut::Fields => return Err(fault(line, TraceFaultKind::Fields)),
             Cut::Record(end, _) => end,
         };
@@ -80,7 +119,7 @@ fn parse_rest(
             Ok(false) => unreachable!(),
             Err(_) => return Err(TraceFault::whole(TraceFaultKind::Memory)),
         }
-        if let Err(kind) = add(&row_of(&byte_record), geometry, &mut given, &mut commands) {
+        if let Err(kind) = add_read(text, &row_of(&byte_record), geometry, &mut draft) {
             return Err(fault(line, kind));
         }
         at = end;
@@ -88,10 +127,10 @@ fn parse_rest(
 }
 
 // The number of the record behind these commands.
-fn next_line(commands: &Commands) -> u64
-    ensures { result ≡ length commands.now + 1 }
+fn next_line(draft: &Draft) -> u64
+    ensures { result ≡ length draft.now.stored.items + 1 }
 {
-    commands.len() as u64 + 1
+    draft.len() as u64 + 1
 }
 
 // The fault of a record, or out of memory at it.
@@ -104,30 +143,76 @@ fn fault(line: u64, kind: TraceFaultKind) -> TraceFault
     }
 }
 
-// Checks a record and adds its command. The bytes of its data pass through `given`.
-fn add(
+// Checks a record that was cut in the text and ends at a place, and adds its command.
+fn add_cut(
+    text: &[u8],
+    end: usize,
     row: &Row,
     geometry: &Geometry,
-    given: &mut Vec<u8>,
-    commands: &mut Commands,
+    draft: &mut Draft,
 ) -> Result<(), TraceFaultKind>
-    ensures added { OnOk result (Adds (command_of geometry.now (fields_of_row row.now)) commands.old commands.new) }
+    requires draft { IsDraft geometry.now text.now draft.old }
+    requires within { end ≤ length text.now }
+    requires place { StandsBefore text.now end row.now.digits.now }
+    ensures draft { OnOk result (IsDraft geometry.now text.now draft.new) }
+    ensures added { OnOk result (Adds (command_of geometry.now (fields_of_row row.now)) (drafted text.now draft.old) (drafted text.now draft.new)) }
     ensures refused { IfErr result (RefusesBy (command_of geometry.now (fields_of_row row.now))) }
 {
-    let worker = number_below(workers(geometry), TraceFaultKind::Worker, row.worker)?;
-    let op = op_named(row.op)?;
-    let sector = number_below(geometry.sectors(), TraceFaultKind::Sector, row.sector)?;
-    let size = (geometry.words() * WORD_BYTES) as u16;
-    read_data(size, op, worker, sector, row.digits, given)?;
-    match commands.push(worker, op, sector, given, page_len(op, size)) {
+    let head = check(row, geometry)?;
+    let digits = row.digits.len();
+    match draft.push(text, head, end - digits, digits as u16) {
         Ok(()) => Ok(()),
         Err(_) => Err(TraceFaultKind::Memory),
     }
 }
 
+// The same of a record that `csv` read.
+fn add_read(
+    text: &[u8],
+    row: &Row,
+    geometry: &Geometry,
+    draft: &mut Draft,
+) -> Result<(), TraceFaultKind>
+    requires draft { IsDraft geometry.now text.now draft.old }
+    ensures draft { OnOk result (IsDraft geometry.now text.now draft.new) }
+    ensures added { OnOk result (Adds (command_of geometry.now (fields_of_row row.now)) (drafted text.now draft.old) (drafted text.now draft.new)) }
+    ensures refused { IfErr result (RefusesBy (command_of geometry.now (fields_of_row row.now))) }
+{
+    let head = check(row, geometry)?;
+    match draft.push_odd(text, head, row.digits) {
+        Ok(()) => Ok(()),
+        Err(_) => Err(TraceFaultKind::Memory),
+    }
+}
+
+// Checks a record, and gives what it says beside its digits.
+fn check(row: &Row, geometry: &Geometry) -> Result<Head, TraceFaultKind>
+    ensures checked { IfOk result (IsChecked geometry.now row.now) }
+    ensures refused { IfErr result (λ kind. command_of geometry.now (fields_of_row row.now) ≡ Err kind) }
+{
+    let worker = number_below(workers(geometry), TraceFaultKind::Worker, row.worker)?;
+    let op = op_named(row.op)?;
+    let sector = number_below(geometry.sectors(), TraceFaultKind::Sector, row.sector)?;
+    check_digits(page_bytes(geometry), op, worker, sector, row.digits)?;
+    Ok(Head {
+        worker: worker as u16,
+        op,
+        sector,
+    })
+}
+
+// How many bytes a page has.
+fn page_bytes(geometry: &Geometry) -> u16
+    ensures value { result ≡ page_bytes_of geometry.now }
+    ensures small { result ≤ 4096 }
+{
+    (geometry.words() * WORD_BYTES) as u16
+}
+
 // How many workers a trace may name.
 fn workers(geometry: &Geometry) -> u32
-    ensures { result ≡ workers_of geometry.now }
+    ensures value { result ≡ workers_of geometry.now }
+    ensures few { result < 2 ^ 16 }
 {
     match geometry.hosts() {
         0 => LONE_WORKERS,
@@ -138,7 +223,8 @@ fn workers(geometry: &Geometry) -> u32
 // The number that a field writes, if it is below the bound.
 #[tactic(auto, unfolding(crate::specs::Trace::number_below))]
 fn number_below(bound: u32, otherwise: TraceFaultKind, text: &[u8]) -> Result<u32, TraceFaultKind>
-    ensures { result ≡ number_below bound otherwise text.now }
+    ensures value { result ≡ number_below bound otherwise text.now }
+    ensures below { IfOk result (λ number. number < bound) }
 {
     if text.is_empty() || text.len() > MAX_DIGITS {
         return Err(otherwise);
@@ -177,39 +263,30 @@ fn op_named(text: &[u8]) -> Result<Op, TraceFaultKind>
     }
 }
 
-// Reads the bytes that the data of an op gives to its page, in place of those that `given` held.
+// Checks the data of an op, which are the digits of no more than its page.
 #[tactic(auto, unfolding(crate::specs::Trace::page_of))]
-fn read_data(
+fn check_digits(
     size: u16,
     op: Op,
     worker: u32,
     sector: u32,
     digits: &[u8],
-    given: &mut Vec<u8>,
 ) -> Result<(), TraceFaultKind>
-    ensures made { OnOk result (MakesPage size op given.new.items (page_of size op worker sector digits.now)) }
-    ensures refused { IfErr result (RefusesBy (page_of size op worker sector digits.now)) }
+    ensures made { OnOk result (MakePage size op digits.now (page_of size op worker sector digits.now)) }
+    ensures refused { IfErr result (λ kind. page_of size op worker sector digits.now ≡ Err kind) }
 {
     match op {
         Op::Write | Op::New => {
-            decode(digits, given)?;
-            if given.len() > size as usize {
+            if !are_pairs(digits) {
+                return Err(TraceFaultKind::Hex);
+            }
+            if digits.len() / 2 > size as usize {
                 return Err(TraceFaultKind::TooLong);
             }
         }
-        Op::Read | Op::Trim if digits.is_empty() => given.clear(),
-        Op::Meet if digits.is_empty() && worker == 0 && sector == 0 => given.clear(),
+        Op::Read | Op::Trim if digits.is_empty() => {}
+        Op::Meet if digits.is_empty() && worker == 0 && sector == 0 => {}
         _ => return Err(TraceFaultKind::Unused),
     }
     Ok(())
-}
-
-// How many bytes the page of a command has, where a page has `size`.
-fn page_len(op: Op, size: u16) -> u16
-    ensures { result ≡ page_len op size }
-{
-    match op {
-        Op::Write | Op::New => size,
-        Op::Read | Op::Trim | Op::Meet => 0,
-    }
 }

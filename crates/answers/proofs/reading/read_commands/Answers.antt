@@ -8,5 +8,5 @@ use Rattle.answers.proofs.reading.read_commands.Goals as goal
 pub returns-clause-playable : goal.returns-clause-playable
 returns-clause-playable g c =
     let geo = c.args.geometry.now in
-    let text = c.deref.result.now in
-    IfOk-weaker c.parse.result (AreCommands (checked geo text)) (All (IsPlayable geo)) (commands_are_playable geo text) c.parse.ensures.each
+    let text = c.in_ok-text.text.items in
+    IfOk-weaker c.parse_owned.result (AreCommands (checked geo text)) (All (IsPlayable geo)) (commands_are_playable geo text) c.parse_owned.ensures.each

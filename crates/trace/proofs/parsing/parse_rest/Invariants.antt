@@ -1,6 +1,8 @@
 use Rattle.std.proofs.Common.{◌≡◌, ◌≤◌, ◌-◌, drop, length}
+use Rattle.trace.specs.Drafting.{IsDraft}
 use Rattle.trace.specs.Parsing.{AreSoFar}
 use Rattle.trace.specs.Rows.{IsReading, records_left}
+use Rattle.trace.specs.Stored.{drafted}
 use Rattle.trace.specs.Trace.{records_of}
 use Rattle.trace.proofs.parsing.parse_rest.Given as goal
 
@@ -8,7 +10,8 @@ use Rattle.trace.proofs.parsing.parse_rest.Given as goal
 abbrev pub invariant-records : goal.invariant-records
 invariant-records l = record {
   place : l.at ≤ length l.text;
-  so_far : AreSoFar l.geometry l.text l.at l.commands;
+  draft : IsDraft l.geometry l.text l.draft;
+  so_far : AreSoFar l.geometry l.text l.at (drafted l.text l.draft);
   reading : IsReading l.rows;
   left : records_left l.rows ≡ records_of (drop l.at l.text);
 }

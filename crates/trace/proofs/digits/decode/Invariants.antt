@@ -1,6 +1,6 @@
 use Rattle.std.proofs.Common.{◌≡◌, ◌-◌, ◌*◌, ◌≤◌, length}
 use Rattle.trace.proofs.LaneFacts.{AreDecoded}
-use Rattle.trace.proofs.digits.decode_into.Given as goal
+use Rattle.trace.proofs.digits.decode.Given as goal
 
 -- the bytes so far are those of the digits so far
 abbrev pub invariant-blocks-2 : goal.invariant-blocks-2
