@@ -1,5 +1,5 @@
 -- What a die keeps true, and its blocks after a command, in the terms of its fields.
-use Rattle.std.proofs.Common.{◌≡◌, ◌≢◌, ◌⊎◌, inl, inr, map, eqb, ℕ, ◌+◌, ◌*◌, ◌<◌, ◌≤◌, List, [], ◌∷◌, ◌++◌, length, get_or, set, Bool, false, true, sym, ap, ◌∙◌, refl, arith, vec_len, subst, get_or-set_same, get_or-set_other, length-set}
+use Rattle.std.proofs.Common.{◌≡◌, ◌≢◌, inl, inr, map, eqb, ℕ, ◌+◌, ◌*◌, ◌<◌, ◌≤◌, List, length, get_or, set, false, sym, ap, ◌∙◌, refl, arith, subst, get_or-set_same, get_or-set_other}
 use Rattle.std.proofs.lemmas.List.{get_or_read}
 use Rattle.std.specs.List.{range_with_len}
 use Rattle.std.proofs.lemmas.Bool.{cases_eq, eqb-false}
@@ -8,7 +8,7 @@ use Rattle.geometry.specs.declared.page_addr.PageAddr.{PageAddr}
 use Rattle.geometry.specs.Geometry.{blocks_of, pages_of, page_bytes_of, endurance_of}
 use Rattle.die.specs.declared.block_state.BlockState.{BlockState}
 use Rattle.die.specs.declared.die.Die.{Die}
-use Rattle.die.specs.Die.{geometry_of, block_of, ChangesBlock, IsUsable, IsNext}
+use Rattle.die.specs.Die.{block_of, ChangesBlock, IsUsable, IsNext}
 use Rattle.die.specs.Pages.{Page, Block, programmed, erased, page_at}
 use Rattle.die.specs.Storage.{stored, block_in}
 use Rattle.die.specs.Slots.{PutsSlot}

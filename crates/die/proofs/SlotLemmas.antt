@@ -1,6 +1,6 @@
 -- Writing one place of the storage: what it holds then, and that the other places keep what they hold.
-use Rattle.std.proofs.Common.{◌≡◌, ◌≢◌, ℕ, ◌+◌, ◌-◌, ◌*◌, ◌<◌, ◌≤◌, ◌⊎◌, inl, inr, List, ◌++◌, length, take, drop, get_or, sym, ap, ◌∙◌, refl, arith, length-append, length-take, length-drop, get_or-take, get_or-drop}
-use Rattle.std.proofs.lemmas.List.{same_lists, places, take_at, drop_at, append_assoc, length-take-le, get_or-append_right, take_all}
+use Rattle.std.proofs.Common.{◌≡◌, ℕ, ◌+◌, ◌-◌, ◌*◌, ◌<◌, ◌≤◌, inl, inr, List, ◌++◌, length, take, drop, get_or, sym, ap, ◌∙◌, arith, length-append, length-take, length-drop, get_or-take, get_or-drop}
+use Rattle.std.proofs.lemmas.List.{same_lists, take_at, drop_at, append_assoc, length-take-le, get_or-append_right, take_all, take-append-le, drop-append-le, drop-drop}
 use Rattle.std.proofs.Math.Seq.{paste}
 use Rattle.std.proofs.lemmas.List.{get_or_append_left}
 use Rattle.std.proofs.Math.Nat.{mul-le-mul_right}
@@ -58,3 +58,41 @@ PutsSlot-paste n d place s fits long =
             ]
           ]);
     }
+
+-- a place that lies in the first of two parts, and one that lies in the second
+pub slot-front : (n : ℕ) (xs ys : List ℕ) (k : ℕ) → (k + 1) * n ≤ length xs → slot n (xs ++ ys) k ≡ slot n xs k
+unfolding slot
+slot-front n xs ys k within =
+    ap (take n) (drop-append-le (k * n) xs ys (omega arith))
+    ∙ take-append-le n (drop (k * n) xs) ys (omega (arith, length-drop (k * n) xs))
+
+slot-back : (n : ℕ) (xs ys : List ℕ) (cut k : ℕ) → length xs ≡ cut * n → cut ≤ k → slot n (xs ++ ys) k ≡ take n (drop (k * n - cut * n) ys)
+unfolding slot
+slot-back n xs ys cut k size past =
+    let low : cut * n ≤ k * n = mul-le-mul_right n past in
+    let sum : cut * n + (k * n - cut * n) ≡ k * n = omega arith in
+    ap (λ (i : ℕ). take n (drop i (xs ++ ys))) (sym sum)
+    ∙ (ap (take n) (sym (drop-drop (k * n - cut * n) (cut * n) (xs ++ ys)))
+    ∙ ap (λ (zs : List ℕ). take n (drop (k * n - cut * n) zs)) (drop_at xs ys (cut * n) size))
+
+-- a place below a cut is written
+pub PutsSlot-below : (n : ℕ) (xs xs' ys : List ℕ) (cut place : ℕ) (page : List ℕ) → length xs ≡ cut * n → place < cut → PutsSlot n xs xs' place page → PutsSlot n (xs ++ ys) (xs' ++ ys) place page
+PutsSlot-below n xs xs' ys cut place page size low puts =
+    let room : (place + 1) * n ≤ cut * n = mul-le-mul_right n (omega arith) in
+    record {
+      size = omega (arith, length-append xs ys, length-append xs' ys, puts.size);
+      changed = slot-front n xs' ys place (omega (arith, puts.size, size)) ∙ puts.changed;
+      others = λ k apart within. elim (cases_lt k cut) [
+        | inl inside ↦
+            let fits : (k + 1) * n ≤ cut * n = mul-le-mul_right n (omega arith) in
+            slot-front n xs' ys k (omega (arith, puts.size, size)) ∙ (puts.others k apart (omega (arith, size)) ∙ sym (slot-front n xs ys k (omega (arith, size))))
+        | inr past ↦ slot-back n xs' ys cut k (puts.size ∙ size) past ∙ sym (slot-back n xs ys cut k size past)
+      ];
+    }
+
+-- the front of the part above a cut is written
+pub paste-above : (d : List ℕ) (at n : ℕ) (s : List ℕ) → length s ≡ n → take at d ++ (s ++ drop n (drop at d)) ≡ paste d at s n
+paste-above d at n s size =
+    ap (λ (xs : List ℕ). take at d ++ (s ++ xs)) (drop-drop n at d)
+    ∙ (ap (λ (xs : List ℕ). take at d ++ (xs ++ drop (at + n) d)) (sym (take_all n s (omega (arith, size))))
+    ∙ sym (append_assoc (take at d) (take n s) (drop (at + n) d)))

@@ -19,7 +19,7 @@ pub struct Die {
     // The main bytes of all pages, block by block.
     bytes: Vec<u8>,
     // The stamps of all pages, block by block.
-    stamps: Vec<u64>,
+    stamps: Vec<u32>,
     states: Vec<BlockState>,
     // How many pages were copied back, modulo 2^64.
     copybacks: u64,
@@ -48,7 +48,7 @@ impl Die {
         Ok(Die {
             geometry,
             bytes: vec![in alloc; ERASED_BYTE; places * geometry.page_bytes()]?,
-            stamps: vec![in alloc; ERASED_STAMP; places]?,
+            stamps: vec![in alloc; 0; places]?,
             states: vec![in alloc; unused; blocks]?,
             copybacks: 0,
         })
@@ -85,7 +85,7 @@ impl Die {
         }
         let place = self.place_of(at);
         get_page(&self.bytes, place, out);
-        self.stamps[place]
+        u64::from(self.stamps[place])
     }
 
     /// ONFI 4.0, Read with a column address in the spare bytes: the stamp of a programmed page alone.
@@ -93,7 +93,7 @@ impl Die {
         requires { IsProgrammed self.now at }
         ensures { result ≡ (page_at (page_bytes_of (geometry_of self.now)) (block_of self.now at.block) at.page).stamp }
     {
-        self.stamps[self.place_of(at)]
+        u64::from(self.stamps[self.place_of(at)])
     }
 
     /// ONFI 4.0, Page Program: the page holds the bytes and the stamp. The status is 0, for only an
@@ -108,7 +108,7 @@ impl Die {
     {
         let place = self.place_of(at);
         put_page(&mut self.bytes, place, bytes);
-        self.stamps[place] = u64::from(stamp);
+        self.stamps[place] = stamp;
         self.states[at.block as usize].next += 1;
         0
     }

@@ -20,11 +20,17 @@ pub fn put_page(bytes: &mut [u8], place: usize, page: &[u8])
 }
 
 /// Copies a page from its place over another place, both among the bytes of all pages.
-pub fn move_page(bytes: &mut Vec<u8>, page_bytes: usize, from: usize, to: usize)
-    requires from_within { (from + 1) * page_bytes ≤ length bytes.old.items }
-    requires to_within { (to + 1) * page_bytes ≤ length bytes.old.items }
-    ensures { PutsSlot page_bytes bytes.old.items bytes.new.items to (slot page_bytes bytes.old.items from) }
+pub fn move_page(bytes: &mut [u8], page_bytes: usize, from: usize, to: usize)
+    requires from_within { (from + 1) * page_bytes ≤ length bytes.old }
+    requires to_within { (to + 1) * page_bytes ≤ length bytes.old }
+    requires apart { from ≢ to }
+    ensures { PutsSlot page_bytes bytes.old bytes.new to (slot page_bytes bytes.old from) }
 {
-    let start = from * page_bytes;
-    bytes.copy_within(start..start + page_bytes, to * page_bytes);
+    if from < to {
+        let (below, above) = bytes.split_at_mut(to * page_bytes);
+        get_page(below, from, &mut above[..page_bytes]);
+    } else {
+        let (below, above) = bytes.split_at_mut(from * page_bytes);
+        put_page(below, to, &above[..page_bytes]);
+    }
 }

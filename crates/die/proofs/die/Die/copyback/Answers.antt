@@ -1,37 +1,45 @@
-use Rattle.std.proofs.Common.{◌≡◌, ◌≢◌, ◌∙◌, ℕ, ◌+◌, ◌*◌, ◌<◌, ◌≤◌, List, length, get_or, set, sym, ap, refl, subst, arith, length-set}
-use Rattle.std.proofs.lemmas.List.{get_or_read}
-use Rattle.std.proofs.lemmas.Nat.{mul-add-lt}
+use Rattle.std.proofs.Common.{◌≡◌, ◌∙◌, ℕ, ◌+◌, ◌*◌, ◌<◌, ◌≤◌, List, length, get_or, sym, ap, refl, subst, arith, length-set}
+use Rattle.std.specs.Vec.{with_items, vec_len}
+use Rattle.std.proofs.lemmas.List.{get_or_read, with_items_is}
+use Rattle.std.proofs.lemmas.Nat.{same_from_place}
 use Rattle.std.proofs.Math.Nat.{mul-le-mul_right}
 use Rattle.geometry.specs.Geometry.{blocks_of, pages_of, page_bytes_of}
 use Rattle.die.specs.declared.block_state.BlockState.{BlockState}
-use Rattle.die.specs.declared.die.Die.{Die}
-use Rattle.die.specs.Die.{ChangesBlock, block_of}
-use Rattle.die.specs.Pages.{Page, programmed, page_at}
+use Rattle.die.specs.Die.{block_of}
+use Rattle.die.specs.Pages.{Page, page_at}
 use Rattle.die.specs.Slots.{PutsSlot, slot}
 use Rattle.die.specs.Storage.{stored}
 use Rattle.die.proofs.DieLemmas.{state_of, state_read, next-state, counted, sound-set, sound-counted, adds_page, changes_by_adding, pages_within, page-stored}
 use Rattle.die.proofs.die.Die.copyback.Goals as goal
-use Rattle.die.proofs.die.Die.copyback.Goals.{After-index_mut-2}
+use Rattle.die.proofs.die.Die.copyback.Goals.{After-deref_mut, After-index_mut-2}
 
 pub place_of-source-requires-clause-page : goal.place_of-source-requires-clause-page
 place_of-source-requires-clause-page c =
     omega (arith, c.requires.source.programmed, pages_within c.args.self.now c.args.from.block c.requires.source.usable.within)
 
-pub move_page-requires-clause-from_within : goal.move_page-requires-clause-from_within
-move_page-requires-clause-from_within c =
+-- a place below those of all pages lies within the bytes
+within_bytes : (c : After-deref_mut) (place : ℕ) → place < blocks_of c.args.self.now.geometry * pages_of c.args.self.now.geometry → (place + 1) * c.page_bytes-page_bytes.result ≤ length c.deref_mut.result.now
+within_bytes c place low =
     let d = c.args.self.now in
-    let n = c.page_bytes-page_bytes.result in
-    let place : c.place_of-source.result + 1 ≤ blocks_of d.geometry * pages_of d.geometry = omega (arith, c.place_of-source.ensures.within) in
-    let room = mul-le-mul_right n place in
-    omega (arith, room, d.bytes_sized, ap (λ (k : ℕ). blocks_of d.geometry * pages_of d.geometry * k) c.page_bytes-page_bytes.ensures)
+    let room = mul-le-mul_right c.page_bytes-page_bytes.result (the_next place (blocks_of d.geometry * pages_of d.geometry) low) in
+    omega (arith, room, d.bytes_sized, ap (λ (xs : List ℕ). length xs) c.deref_mut.ensures.value, ap (λ (k : ℕ). blocks_of d.geometry * pages_of d.geometry * k) c.page_bytes-page_bytes.ensures)
+  where
+    the_next : (k n : ℕ) → k < n → k + 1 ≤ n
+    the_next k n h = omega (arith, h)
+
+pub move_page-requires-clause-from_within : goal.move_page-requires-clause-from_within
+move_page-requires-clause-from_within c = within_bytes (goal.at.move_page-requires-clause-from_within c).After-deref_mut c.place_of-source.result c.place_of-source.ensures.within
 
 pub move_page-requires-clause-to_within : goal.move_page-requires-clause-to_within
-move_page-requires-clause-to_within c =
+move_page-requires-clause-to_within c = within_bytes (goal.at.move_page-requires-clause-to_within c).After-deref_mut c.place_of-place.result c.place_of-place.ensures.within
+
+-- the page that is programmed isn't the one that is copied, which is programmed already
+pub move_page-requires-clause-apart : goal.move_page-requires-clause-apart
+move_page-requires-clause-apart c = λ e.
     let d = c.args.self.now in
-    let n = c.page_bytes-page_bytes.result in
-    let place : c.place_of-place.result + 1 ≤ blocks_of d.geometry * pages_of d.geometry = omega (arith, c.place_of-place.ensures.within) in
-    let room = mul-le-mul_right n place in
-    omega (arith, room, d.bytes_sized, ap (λ (k : ℕ). blocks_of d.geometry * pages_of d.geometry * k) c.page_bytes-page_bytes.ensures)
+    let page_low : c.args.from.page < pages_of d.geometry = omega (arith, c.requires.source.programmed, pages_within d c.args.from.block c.requires.source.usable.within) in
+    let same = same_from_place c.args.from.block c.args.from.page c.args.to.block c.args.to.page (pages_of d.geometry) page_low c.requires.next.within (sym c.place_of-source.ensures.value ∙ (e ∙ c.place_of-place.ensures.value)) in
+    omega (arith, same.1, c.requires.source.programmed, c.requires.next.next, ap (λ (b : ℕ). length (block_of d b).pages) same.0)
 
 pub index-requires : goal.index-requires
 index-requires c =
@@ -47,9 +55,15 @@ overflow_add-index_mut c =
     omega (arith, ap (λ (s : BlockState). s.next) e, next-state c.args.self.now c.args.to c.requires.next, c.requires.next.within, c.args.self.now.geometry.in_limits.pages_high)
 
 -- the place holds what the source's holds, and the other places what they held
-the_bytes : (c : After-index_mut-2) → PutsSlot (page_bytes_of c.args.self.now.geometry) c.args.self.now.bytes.items c.move_page.new.bytes.items c.place_of-place.result (slot (page_bytes_of c.args.self.now.geometry) c.args.self.now.bytes.items c.place_of-source.result)
+the_bytes : (c : After-index_mut-2) → ((with_items c.args.self.now.bytes c.move_page.new.bytes).items ≡ c.move_page.new.bytes) × PutsSlot (page_bytes_of c.args.self.now.geometry) c.args.self.now.bytes.items c.move_page.new.bytes c.place_of-place.result (slot (page_bytes_of c.args.self.now.geometry) c.args.self.now.bytes.items c.place_of-source.result)
 the_bytes c =
-    subst (λ (n : ℕ). PutsSlot n c.args.self.now.bytes.items c.move_page.new.bytes.items c.place_of-place.result (slot n c.args.self.now.bytes.items c.place_of-source.result)) c.page_bytes-page_bytes.ensures c.move_page.ensures
+    let d = c.args.self.now in
+    let was = c.deref_mut.ensures.value in
+    let sized : length c.move_page.new.bytes ≡ vec_len d.bytes = omega (arith, c.move_page.ensures.size, ap (λ (xs : List ℕ). length xs) was, d.bytes.ok.0) in
+    let by_size = subst (λ (n : ℕ). PutsSlot n c.deref_mut.result.now c.move_page.new.bytes c.place_of-place.result (slot n c.deref_mut.result.now c.place_of-source.result)) c.page_bytes-page_bytes.ensures c.move_page.ensures in (
+      with_items_is d.bytes c.move_page.new.bytes sized,
+      subst (λ (xs : List ℕ). PutsSlot (page_bytes_of d.geometry) xs c.move_page.new.bytes c.place_of-place.result (slot (page_bytes_of d.geometry) xs c.place_of-source.result)) was by_size,
+    )
 
 pub invariant_of-self : goal.invariant_of-self
 invariant_of-self c =
@@ -57,7 +71,7 @@ invariant_of-self c =
     let d = c.args.self.now in
     let s = c.index_mut-2.result.now in
     record {
-      bytes_sized = (the_bytes at_end).size ∙ d.bytes_sized;
+      bytes_sized = ap (λ (xs : List ℕ). length xs) (the_bytes at_end).0 ∙ ((the_bytes at_end).1.size ∙ d.bytes_sized);
       stamps_sized = length-set d.stamps.items c.place_of-place.result c.index.result.now ∙ d.stamps_sized;
       states_sized = length-set d.states.items c.args.to.block (counted s) ∙ d.states_sized;
       sound = sound-set d c.args.to.block (counted s) c.requires.next.usable.within (sound-counted d c.args.to s c.requires.next (the_state at_end));
@@ -81,5 +95,7 @@ returns-clause-changes c =
     let at_end = (goal.at.returns-clause-changes c).After-index_mut-2 in
     let d = c.args.self.now in
     let page : Page = record { value = slot (page_bytes_of d.geometry) d.bytes.items c.place_of-source.result; stamp = c.index.result.now } in
-    let adds = adds_page d c.args.to c.place_of-place.result page c.move_page.new.bytes.items c.index_mut-2.result.now c.requires.next c.place_of-place.ensures.value (the_bytes at_end) (the_state at_end) in
+    let b = the_bytes at_end in
+    let puts = subst (λ (xs : List ℕ). PutsSlot (page_bytes_of d.geometry) d.bytes.items xs c.place_of-place.result page.value) (sym b.0) b.1 in
+    let adds = adds_page d c.args.to c.place_of-place.result page (with_items d.bytes c.move_page.new.bytes).items c.index_mut-2.result.now c.requires.next c.place_of-place.ensures.value puts (the_state at_end) in
     rw (← the_page at_end) (changes_by_adding d _ c.args.to.block c.args.to.page page refl adds)

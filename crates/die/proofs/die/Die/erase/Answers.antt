@@ -1,4 +1,4 @@
-use Rattle.std.proofs.Common.{◌≡◌, ◌∙◌, ℕ, ◌+◌, eqb, cond, Bool, true, false, List, set, sym, ap, refl, arith, length-set}
+use Rattle.std.proofs.Common.{◌≡◌, ◌∙◌, ℕ, ◌+◌, eqb, cond, Bool, true, false, List, set, sym, ap, refl, length-set}
 use mir.Val.{bool_byte}
 use Rattle.geometry.specs.Geometry.{endurance_of, page_bytes_of, pages_of}
 use Rattle.die.specs.declared.block_state.BlockState.{BlockState}

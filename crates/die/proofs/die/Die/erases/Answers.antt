@@ -1,4 +1,4 @@
-use Rattle.std.proofs.Common.{◌∙◌, sym, ap, ℕ, arith}
+use Rattle.std.proofs.Common.{◌∙◌, sym, ap, arith}
 use Rattle.die.specs.declared.block_state.BlockState.{BlockState}
 use Rattle.die.proofs.DieLemmas.{state_read, erases-block, erases_below}
 use Rattle.die.proofs.die.Die.erases.Goals as goal

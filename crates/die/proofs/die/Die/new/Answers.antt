@@ -1,7 +1,7 @@
-use Rattle.std.proofs.Common.{◌≡◌, ◌∙◌, ℕ, ◌<◌, ◌+◌, ◌*◌, List, get_or, map, replicate, refl, ap, sym, arith, rules}
+use Rattle.std.proofs.Common.{◌≡◌, ◌∙◌, ◌+◌, ◌*◌, List, get_or, map, replicate, refl, ap, arith, rules}
 use Rattle.std.specs.List.{range_with_len}
 use Rattle.std.proofs.lemmas.List.{get_or-replicate}
-use Rattle.geometry.specs.Geometry.{blocks_of, pages_of, page_bytes_of}
+use Rattle.geometry.specs.Geometry.{pages_of, page_bytes_of}
 use Rattle.die.specs.declared.block_state.BlockState.{BlockState}
 use Rattle.die.specs.Die.{block_of}
 use Rattle.die.specs.Pages.{Block}

@@ -1,6 +1,6 @@
-use Rattle.std.proofs.Common.{◌∙◌, sym, ap, ℕ, arith}
+use Rattle.std.proofs.Common.{◌∙◌, sym, ap, arith}
 use Rattle.die.specs.declared.block_state.BlockState.{BlockState}
-use Rattle.die.proofs.DieLemmas.{state_read, length-block, pages_within}
+use Rattle.die.proofs.DieLemmas.{state_read, length-block}
 use Rattle.die.proofs.die.Die.next.Goals as goal
 
 pub returns-clause-value : goal.returns-clause-value

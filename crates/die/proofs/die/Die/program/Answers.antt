@@ -1,13 +1,11 @@
-use Rattle.std.proofs.Common.{◌≡◌, ◌≢◌, ◌∙◌, ℕ, ◌+◌, ◌*◌, ◌<◌, ◌≤◌, List, length, get_or, set, sym, ap, refl, subst, arith, get_or-set_same, get_or-set_other, length-set}
+use Rattle.std.proofs.Common.{◌≡◌, ◌∙◌, ℕ, ◌+◌, ◌*◌, ◌≤◌, List, length, sym, ap, refl, subst, arith, length-set}
 use Rattle.std.specs.Vec.{with_items, vec_len}
 use Rattle.std.proofs.lemmas.List.{with_items_is}
 use Rattle.std.proofs.Math.Nat.{mul-le-mul_right}
-use Rattle.geometry.specs.Geometry.{blocks_of, pages_of, page_bytes_of, endurance_of}
+use Rattle.geometry.specs.Geometry.{blocks_of, pages_of, page_bytes_of}
 use Rattle.die.specs.declared.block_state.BlockState.{BlockState}
 use Rattle.die.specs.Pages.{Page}
 use Rattle.die.specs.Slots.{PutsSlot}
-use Rattle.die.specs.Sound.{unused}
-use Rattle.die.proofs.BlockLemmas.{Adds, others-added, block-added}
 use Rattle.die.proofs.DieLemmas.{state_of, state_read, next-state, counted, sound-set, sound-counted, adds_page, changes_by_adding}
 use Rattle.die.proofs.die.Die.program.Goals as goal
 use Rattle.die.proofs.die.Die.program.Goals.{After-index_mut-2}
@@ -48,7 +46,7 @@ invariant_of-self c =
     let s = c.index_mut-2.result.now in
     record {
       bytes_sized = ap (λ (xs : List ℕ). length xs) b.0 ∙ (b.1.size ∙ d.bytes_sized);
-      stamps_sized = length-set d.stamps.items c.place_of-place.result c.from.result ∙ d.stamps_sized;
+      stamps_sized = length-set d.stamps.items c.place_of-place.result c.args.stamp ∙ d.stamps_sized;
       states_sized = length-set d.states.items c.args.at.block (counted s) ∙ d.states_sized;
       sound = sound-set d c.args.at.block (counted s) c.requires.next.usable.within (sound-counted d c.args.at s c.requires.next e);
     }
@@ -59,7 +57,7 @@ returns-clause-changes c =
     let e = the_state at_end in
     let d = c.args.self.now in
     let b = the_bytes at_end in
-    let page : Page = record { value = c.args.bytes.now; stamp = c.from.result } in
+    let page : Page = record { value = c.args.bytes.now; stamp = c.args.stamp } in
     let puts = subst (λ (xs : List ℕ). PutsSlot (page_bytes_of d.geometry) d.bytes.items xs c.place_of-place.result c.args.bytes.now) (sym b.0) b.1 in
     let adds = adds_page d c.args.at c.place_of-place.result page (with_items d.bytes c.put_page.new.bytes).items c.index_mut-2.result.now c.requires.next c.place_of-place.ensures.value puts e in
-    rw (← c.from.ensures) (changes_by_adding d _ c.args.at.block c.args.at.page page refl adds)
+    changes_by_adding d _ c.args.at.block c.args.at.page page refl adds

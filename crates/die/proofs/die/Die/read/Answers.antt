@@ -1,4 +1,4 @@
-use Rattle.std.proofs.Common.{◌≡◌, ◌∙◌, ℕ, ◌<◌, ◌≤◌, ◌+◌, ◌*◌, List, length, replicate, get_or, refl, ap, sym, subst, arith, rules}
+use Rattle.std.proofs.Common.{◌≡◌, ◌∙◌, ℕ, ◌<◌, ◌≤◌, ◌+◌, ◌*◌, List, length, replicate, get_or, ap, sym, arith, rules}
 use Rattle.std.proofs.lemmas.List.{get_or_past, get_or_read}
 use Rattle.std.proofs.Math.Nat.{mul-le-mul_right}
 use Rattle.geometry.specs.Geometry.{blocks_of, pages_of, page_bytes_of}
@@ -69,5 +69,5 @@ unfolding stored
 returns-clause-stamp c =
     let at_end = (goal.at.returns-clause-stamp c).After-get_page in
     let d = c.args.self.now in
-    get_or_read d.stamps.items c.place_of-place.result c.index-2.result.now (omega (arith, c.place_of-place.ensures.within, d.stamps_sized)) c.index-2.ensures 0
-    ∙ ap (λ (p : Page). p.stamp) (sym (the_page at_end))
+    c.from.ensures ∙ (get_or_read d.stamps.items c.place_of-place.result c.index-2.result.now (omega (arith, c.place_of-place.ensures.within, d.stamps_sized)) c.index-2.ensures 0
+    ∙ ap (λ (p : Page). p.stamp) (sym (the_page at_end)))
