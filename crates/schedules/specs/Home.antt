@@ -30,3 +30,8 @@ held_value h = value_in (view_of (pass_of h)).pin
 -- that this value is held is a fact that has one proof at most, so that a struct can keep it beside its hold
 pub Holds-prop : (f : Flash) (h : Held) (value : List ℕ) → IsProp (Holds f h value)
 Holds-prop f h value = hlevel props
+
+-- This is the device of the crowd, with its six sectors of four words and its 128 blocks
+abbrev pub IsCrowded : Option Volume → Volume → Type 0
+IsCrowded home v =
+    (home ≡ Some v) × (sectors_of (geometry_of (flash_of v)) ≡ 6) × (page_bytes_of (geometry_of (flash_of v)) ≡ 32) × (blocks_of (geometry_of (flash_of v)) ≡ 128)

@@ -7,7 +7,7 @@ ghost use Rattle.host.specs.Ready.{IsReady};
 ghost use Rattle.host.specs.Holding.{Holds};
 ghost use Rattle.schedules.specs.Home.{IsHome, held_value, Holds-prop};
 
-use crate::judge::{BYTES, Seen, page};
+use crate::judge::{BYTES, SECTORS, Seen, page};
 use broom::{Broom, Drain, Erase};
 use flash_table::{Gate, Pass};
 use geometry::Was;
@@ -91,6 +91,37 @@ impl<'a, H: Home> Host<'a, H> {
             }),
             Holding::Empty(pass) => Actor::Host(Host { volume, pass, of }),
         }
+    }
+
+    /// The block of a sector's page, or nothing for an empty sector. The page is held only for a moment.
+    pub fn find(self, sector: u32) -> (Host<'a, H>, Option<u32>)
+        requires { sector < 3 }
+    {
+        let Host { volume, pass, of } = self;
+        match volume.hold(pass, sector) {
+            Holding::Held(held) => {
+                let block = held.block();
+                let pass = volume.release(held);
+                (Host { volume, pass, of }, Some(block))
+            }
+            Holding::Empty(pass) => (Host { volume, pass, of }, None),
+        }
+    }
+
+    /// How many sectors have their page in each block.
+    pub fn count_live(self) -> (Host<'a, H>, [u32; 10]) {
+        let mut host = self;
+        let mut counts = [0u32; 10];
+        for sector in 0..SECTORS {
+            let (same, found) = host.find(sector);
+            host = same;
+            if let Some(block) = found
+                && let Some(count) = counts.get_mut(block as usize)
+            {
+                *count = count.wrapping_add(1);
+            }
+        }
+        (host, counts)
     }
 
     fn meet(&mut self, other: &mut Host<'a, H>) {

@@ -51,6 +51,9 @@ pub struct Judge {
     erases: [u32; 10],
     retired: [bool; 10],
     pub held: [Option<u32>; 3],
+    // Of each host, how many pages of its open block it has programmed; and which blocks are known to be full, and not drained since.
+    programmed: [u32; 3],
+    full: [bool; 10],
     /// Whether each answer so far was the one that was to be.
     pub right: bool,
 }
@@ -64,6 +67,8 @@ impl Judge {
             erases: [0; 10],
             retired: [false; 10],
             held: [None; 3],
+            programmed: [0; 3],
+            full: [false; 10],
             right: true,
         }
     }
@@ -128,11 +133,44 @@ impl Judge {
         self.expect(self.was(sector) == Was::Empty);
     }
 
+    /// A host has programmed a page. The answer is whether its block is full by that.
+    pub fn program(&mut self, host: usize, pages: u32) -> bool
+        requires { host < 3 }
+    {
+        let programmed = self.programmed[host].wrapping_add(1);
+        self.programmed[host] = if programmed == pages { 0 } else { programmed };
+        programmed == pages
+    }
+
+    /// The page that a host has written last was found in this block, which is full by it, and so it is closed.
+    pub fn fill(&mut self, found: Option<u32>) {
+        let Some(block) = found else {
+            self.right = false;
+            return;
+        };
+        self.expect(block < BLOCKS);
+        self.full[(block % BLOCKS) as usize] = true;
+    }
+
+    /// Whether a page of this block is held.
+    pub fn is_held(&self, block: Option<u32>) -> bool {
+        let [a, b, c] = self.held;
+        block.is_some() && (a == block || b == block || c == block)
+    }
+
     /// A drain has answered. A block that is retired is never drained.
     pub fn drain(&mut self, drain: Drain, pages: u32) {
         if let Drain::Drained { block, copied } = drain {
             self.expect(block < BLOCKS && !self.retired[(block % BLOCKS) as usize]);
             self.expect(copied < pages);
+            self.full[(block % BLOCKS) as usize] = false;
+        }
+    }
+
+    /// A drain found nothing to gain, where each block has so many live pages: no closed block has a dead one.
+    pub fn gain_nothing(&mut self, live: &[u32; 10], pages: u32) {
+        for block in 0..10 {
+            self.expect(!self.full[block] || live[block] == pages);
         }
     }
 

@@ -5,9 +5,21 @@
 #[cfg(test)]
 mod actors;
 #[cfg(test)]
+mod broom_judge;
+#[cfg(test)]
 mod calls;
 #[cfg(test)]
 mod cast;
+#[cfg(test)]
+mod crowd;
+#[cfg(test)]
+mod crowd_brooms;
+#[cfg(test)]
+mod crowd_hosts;
+#[cfg(test)]
+mod crowd_notes;
+#[cfg(test)]
+mod crowd_values;
 #[cfg(test)]
 mod draws;
 #[cfg(test)]

@@ -6,6 +6,7 @@ ghost use Rattle.volume.specs.Volume.{flash_of};
 ghost use Rattle.schedules.specs.Home.{IsHome};
 
 use crate::actors::Home;
+use crate::broom_judge::BroomJudge;
 use crate::cast::Cast;
 use crate::draws::Draws;
 use crate::entries::{fold, give_back, next_broom, next_host};
@@ -59,9 +60,11 @@ fn play<'x, R: Wait + Abort + AllocGlobal, H: Home>(
             cast,
             draws: Draws::new(seed),
             judge: Judge::new(volume.geometry().endurance()),
+            broom_judge: BroomJudge::new(volume.geometry().pages()),
             tally,
             looks: Looks::none(),
             pages: volume.geometry().pages(),
+            names_blocks: seed % 4 == 3,
         },
         looks: Looks::none(),
     };
@@ -73,11 +76,14 @@ fn play<'x, R: Wait + Abort + AllocGlobal, H: Home>(
         rt,
         cast,
         draws: _,
-        judge,
+        mut judge,
+        broom_judge,
         tally,
         looks: _,
         pages: _,
+        names_blocks: _,
     } = stage;
+    judge.expect(broom_judge.right);
     let Cast {
         a,
         b,

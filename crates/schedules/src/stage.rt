@@ -3,12 +3,15 @@
 ghost use Rattle.std.specs.Prelude.{◌<◌};
 
 use crate::actors::{Actor, Home};
+use crate::broom_judge::{BroomJudge, Course, Start};
 use crate::calls::{Call, Done, act};
 use crate::cast::{ACTORS, Cast};
 use crate::draws::Draws;
 use crate::judge::{BLOCKS, Judge, Numbers, SECTORS, Seen};
 use crate::tally::Tally;
+use broom::{Drain, Erase};
 use flash_table::{Gate, NoGate, Point};
+use geometry::Was;
 use std::sync::Wait;
 
 /// How often a call has looked, and the numbers that the sectors held when it looked last.
@@ -16,6 +19,8 @@ use std::sync::Wait;
 pub struct Looks {
     pub count: u64,
     pub numbers: Numbers,
+    /// How often it stood before a move of a page.
+    pub moves: u32,
 }
 
 impl Looks {
@@ -23,6 +28,20 @@ impl Looks {
         Looks {
             count: 0,
             numbers: [0; 3],
+            moves: 0,
+        }
+    }
+
+    // Those of a call that is not gated: it looks once, and no move of a page fails.
+    fn alone(numbers: Numbers, done: Done) -> Looks {
+        let moves = match done {
+            Done::Drained(Drain::Drained { block: _, copied }) => copied,
+            _ => 0,
+        };
+        Looks {
+            count: 1,
+            numbers,
+            moves,
         }
     }
 
@@ -31,7 +50,17 @@ impl Looks {
             self.count = self.count.wrapping_add(1);
             self.numbers = *numbers;
         }
+        if point == Point::BeforeMove {
+            self.moves = self.moves.wrapping_add(1);
+        }
     }
+}
+
+// Which of the two brooms an actor is.
+fn broom_of(k: u32) -> usize
+    ensures { result < 2 }
+{
+    (k % 2) as usize
 }
 
 /// The actors that are inside no call, the judge, and what the innermost gated call has looked at.
@@ -40,25 +69,71 @@ pub struct Stage<'a, R: Wait, H: Home> {
     pub cast: Cast<'a, H>,
     pub draws: Draws,
     pub judge: Judge,
+    pub broom_judge: BroomJudge,
     pub tally: Tally,
     pub looks: Looks,
     pub pages: u32,
+    /// Whether brooms name most of the blocks that they erase, so that their numbers stay in the queue.
+    pub names_blocks: bool,
+}
+
+/// A call on its way: who makes it, and what it begins with.
+#[derive(Clone, Copy)]
+struct Begun {
+    k: u32,
+    call: Call,
+    start: Start,
+    calls: u64,
+    ghost below: { k < 5 },
 }
 
 impl<'a, R: Wait, H: Home> Stage<'a, R, H> {
-    // An actor that goes into a call, unless it is inside one, and the call.
-    fn draw_call(&mut self) -> Option<(u32, Actor<'a, H>, Call)> {
-        let k = self.draws.below(ACTORS);
-        let actor = self.cast.take(k)?;
-        let number = self.judge.fresh();
-        self.tally.calls = self.tally.calls.wrapping_add(1);
-        let call = Call {
+    // What is drawn for a call.
+    fn draw(&mut self) -> Call {
+        Call {
             kind: self.draws.below(20),
             sector: self.draws.below(SECTORS),
             block: self.draws.below(BLOCKS),
-            number,
+            number: self.judge.fresh(),
+        }
+    }
+
+    // The same, for a broom.
+    fn draw_broom(&mut self) -> Call {
+        let call = self.draw();
+        if !self.names_blocks || call.kind < 11 {
+            return call;
+        }
+        Call {
+            kind: 17,
+            sector: call.sector,
+            block: self.broom_judge.drained_or(call.block),
+            number: call.number,
+        }
+    }
+
+    // An actor that goes into a call, unless it is inside one, and the call.
+    fn begin(&mut self) -> Option<(Actor<'a, H>, Begun)> {
+        let k = self.draws.below(ACTORS);
+        let actor = self.cast.take(k)?;
+        self.tally.calls = self.tally.calls.wrapping_add(1);
+        let (call, start) = match &actor {
+            Actor::Sweeper(_) => {
+                let call = self.draw_broom();
+                (call, self.broom_judge.begin(broom_of(k), call))
+            }
+            Actor::Host(_) | Actor::Holder(_) => (self.draw(), Start::none()),
         };
-        Some((k, actor, call))
+        let calls = self.tally.calls;
+        Some((
+            actor,
+            Begun {
+                k,
+                call,
+                start,
+                calls,
+            },
+        ))
     }
 
     // An actor comes back. Its place is empty, since nobody else takes it.
@@ -75,13 +150,32 @@ impl<'a, R: Wait, H: Home> Stage<'a, R, H> {
         }
     }
 
-    // What a write answered.
-    fn judge_write(&mut self, call: Call, done: Done) {
+    // What a write answered. Where it has filled its block, the block is asked for.
+    fn judge_write(&mut self, begun: Begun, actor: Actor<'a, H>, done: Done) -> Actor<'a, H> {
+        let call = begun.call;
         self.tally.hosts.writes = self.tally.hosts.writes.wrapping_add(1);
-        match done {
-            Done::Wrote(Some(was)) => self.judge.put(call.sector, call.number, was),
-            Done::WroteNew(Some(was)) => self.judge.put_new(call.sector, call.number, was),
-            _ => self.tally.hosts.full = self.tally.hosts.full.wrapping_add(1),
+        let was_named = match done {
+            Done::Wrote(Some(was)) => {
+                self.judge.put(call.sector, call.number, was);
+                true
+            }
+            Done::WroteNew(Some(was)) => {
+                self.judge.put_new(call.sector, call.number, was);
+                was == Was::Empty
+            }
+            _ => {
+                self.tally.hosts.full = self.tally.hosts.full.wrapping_add(1);
+                return actor;
+            }
+        };
+        let is_full = self.judge.program((begun.k % 3) as usize, self.pages);
+        match actor {
+            Actor::Host(host) if is_full && was_named => {
+                let (host, found) = host.find(call.sector);
+                self.judge.fill(found);
+                Actor::Host(host)
+            }
+            other => other,
         }
     }
 
@@ -106,10 +200,72 @@ impl<'a, R: Wait, H: Home> Stage<'a, R, H> {
         }
     }
 
-    // What a call answered, whose looks were these.
-    fn judge(&mut self, call: Call, done: Done, looks: Looks) {
+    // How many sectors have their page in each block, if there is a host on the stage that can look.
+    fn count_live(&mut self) -> Option<[u32; 10]> {
+        for k in 0..3 {
+            match self.cast.take(k) {
+                Some(Actor::Host(host)) => {
+                    let (host, live) = host.count_live();
+                    self.put(k, Actor::Host(host));
+                    return Some(live);
+                }
+                Some(other) => self.put(k, other),
+                None => (),
+            }
+        }
+        None
+    }
+
+    // A drain found nothing to gain. That is judged where the other broom is inside no call.
+    fn judge_no_gain(&mut self, k: u32) {
+        let other = if k == 3 {
+            &self.cast.second
+        } else {
+            &self.cast.first
+        };
+        if other.is_none() {
+            return;
+        }
+        if let Some(live) = self.count_live() {
+            self.tally.brooms.surveyed = self.tally.brooms.surveyed.wrapping_add(1);
+            self.judge.gain_nothing(&live, self.pages);
+        }
+    }
+
+    fn judge_drain(&mut self, begun: Begun, course: Course, drain: Drain) {
+        self.tally.brooms.note_drain(drain);
+        self.judge.drain(drain, self.pages);
+        self.broom_judge
+            .drain(broom_of(begun.k), begun.call, course, drain);
+        if drain == Drain::NothingToGain {
+            self.judge_no_gain(begun.k);
+        }
+    }
+
+    // An erase that nobody else has disturbed finds readers only where a page of the block is held.
+    fn judge_erase(&mut self, begun: Begun, course: Course, erase: Erase) {
+        self.tally.brooms.note_erase(erase);
+        self.judge.erase(erase);
+        self.broom_judge
+            .erase(broom_of(begun.k), begun.call, course, erase);
+        let are_idle = self.cast.a.is_some() && self.cast.b.is_some() && self.cast.c.is_some();
+        if erase == Erase::Pinned && course.alone && are_idle {
+            let is_held = self.judge.is_held(begun.start.block);
+            self.judge.expect(is_held);
+        }
+    }
+
+    // What a call answered, whose looks were these. The actor comes back.
+    fn finish(&mut self, begun: Begun, actor: Actor<'a, H>, done: Done, looks: Looks) {
+        let call = begun.call;
+        let course = Course {
+            start: begun.start,
+            moves: looks.moves,
+            alone: self.tally.calls == begun.calls,
+        };
+        let mut actor = actor;
         match done {
-            Done::Wrote(_) | Done::WroteNew(_) => self.judge_write(call, done),
+            Done::Wrote(_) | Done::WroteNew(_) => actor = self.judge_write(begun, actor, done),
             Done::Trimmed(was) => self.judge.put(call.sector, 0, was),
             Done::Read(seen) => self.judge_read(call, seen, looks),
             Done::Held(place) => self.judge_hold(call, place),
@@ -117,27 +273,21 @@ impl<'a, R: Wait, H: Home> Stage<'a, R, H> {
                 self.tally.hosts.looks_at_held = self.tally.hosts.looks_at_held.wrapping_add(1);
                 self.judge.expect(is_kept);
             }
-            Done::Drained(drain) => {
-                self.tally.brooms.note_drain(drain);
-                self.judge.drain(drain, self.pages);
-            }
-            Done::Erased(erase) => {
-                self.tally.brooms.note_erase(erase);
-                self.judge.erase(erase);
-            }
+            Done::Drained(drain) => self.judge_drain(begun, course, drain),
+            Done::Erased(erase) => self.judge_erase(begun, course, erase),
         }
+        self.put(begun.k, actor);
     }
 
     // One call that is not gated, of an actor that is on the stage.
     fn step_alone(&mut self) {
-        let Some((k, actor, call)) = self.draw_call() else {
+        let Some((actor, begun)) = self.begin() else {
             return;
         };
         let numbers = self.judge.numbers;
-        let (actor, done) = act(actor, self.rt, call, &numbers, &mut NoGate);
-        let looks = Looks { count: 1, numbers };
-        self.judge(call, done, looks);
-        self.put(k, actor);
+        let (actor, done) = act(actor, self.rt, begun.call, &numbers, &mut NoGate);
+        let looks = Looks::alone(numbers, done);
+        self.finish(begun, actor, done, looks);
     }
 
     // Two actors that are on the stage meet: two hosts, two brooms, or a broom and a page that is held.
@@ -182,30 +332,28 @@ pub struct Nested<'a, R: Wait, H: Home> {
 impl<'a, R: Wait, H: Home> Nested<'a, R, H> {
     // One call that is gated by the stage.
     fn step_within(&mut self) {
-        let Some((k, actor, call)) = self.stage.draw_call() else {
+        let Some((actor, begun)) = self.stage.begin() else {
             return;
         };
         let rt = self.stage.rt;
         let numbers = self.stage.judge.numbers;
         self.stage.looks = Looks::none();
-        let (actor, done) = act(actor, rt, call, &numbers, &mut self.stage);
+        let (actor, done) = act(actor, rt, begun.call, &numbers, &mut self.stage);
         let looks = self.stage.looks;
-        self.stage.judge(call, done, looks);
-        self.stage.put(k, actor);
+        self.stage.finish(begun, actor, done, looks);
     }
 
     /// One call that is gated by all of this.
     pub fn step(&mut self) {
-        let Some((k, actor, call)) = self.stage.draw_call() else {
+        let Some((actor, begun)) = self.stage.begin() else {
             return;
         };
         let rt = self.stage.rt;
         let numbers = self.stage.judge.numbers;
         self.looks = Looks::none();
-        let (actor, done) = act(actor, rt, call, &numbers, self);
+        let (actor, done) = act(actor, rt, begun.call, &numbers, self);
         let looks = self.looks;
-        self.stage.judge(call, done, looks);
-        self.stage.put(k, actor);
+        self.stage.finish(begun, actor, done, looks);
     }
 }
 

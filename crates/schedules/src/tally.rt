@@ -67,6 +67,7 @@ pub struct BroomCalls {
     pub drained: u64,
     pub copied: u64,
     pub nothing_to_gain: u64,
+    pub surveyed: u64,
     pub no_spare: u64,
     pub lost: u64,
     pub queue_full: u64,
@@ -79,7 +80,7 @@ pub struct BroomCalls {
 }
 
 impl BroomCalls {
-    /// Whether each answer was given, but for that of a full queue.
+    /// Whether each answer was given, and nothing to gain was judged by the live pages.
     pub fn gave_all(&self) -> bool {
         self.has_drained() && self.has_erased()
     }
@@ -89,7 +90,9 @@ impl BroomCalls {
             && self.copied > 0
             && self.nothing_to_gain > 0
             && self.no_spare > 0
+            && self.surveyed > 0
             && self.lost > 0
+            && self.queue_full > 0
     }
 
     fn has_erased(&self) -> bool {
