@@ -1,3 +1,4 @@
+use Rattle.std.proofs.lemmas.Grind.{common_steps}
 use Rattle.std.proofs.Common.{rules, ◌≡◌, ℕ, MatchBool, refl, sym, ap, ◌∙◌, arith}
 use Rattle.geometry.specs.Geometry.{endurance_of}
 use Rattle.geometry.specs.Limits.{Numbers}
@@ -22,6 +23,9 @@ wiped g c =
 -- the endurance, as the device and as the broom's view have it
 endures : (g : Over) (c : After-wipe_all g) (n : ℕ) → n ≡ endurance_of (geometry_of c.args.flash.now) → n ≡ (broom_view c.args.broom.now.seat).numbers.endurance
 endures g c n is = is ∙ ap (λ (z : Numbers). z.endurance) (sym c.requires.broom.rested.seat.numbers)
+
+pub returns-then-ne-clause-ready : goal.returns-then-ne-clause-ready
+returns-then-ne-clause-ready g c = grind (arith, common_steps)
 
 pub returns-then-state-endurance-clause-told : goal.returns-then-state-endurance-clause-told
 returns-then-state-endurance-clause-told g c =

@@ -1,4 +1,4 @@
-use Rattle.std.proofs.Common.{◌≡◌, sym, ap, ◌∙◌, subst}
+use Rattle.std.proofs.Common.{◌≡◌, sym, ap, ◌∙◌, subst, arith}
 use Rattle.flash_rule.specs.World.{sector_word}
 use Rattle.flash_rule.specs.declared.view.View.{View}
 use Rattle.flash_rule.specs.Seats.{carried, host_of, lent_note, home, giver, given_note}
@@ -55,3 +55,6 @@ returns-clause-told c =
     stood v x (page_in c.args.page c.args.generation) (named_pass v.role c.requires.pass.1.pass.role) (named_broom x.role c.requires.broom.rested.seat.role) (spares at) y c.broom_look.result c.requires.broom.rested.source
     c.requires.broom.rested.whole looked c.requires.pass.1.alone in
     subst (λ (z : View). StoodTold v x (page_in c.args.page c.args.generation) z y) (sym (c.give_back-note.ensures.told ∙ ap giver read)) t
+
+pub returns-clause-broom : goal.returns-clause-broom
+returns-clause-broom c = grind arith

@@ -25,6 +25,9 @@ pub loop-i-init : goal.loop-i-init
 loop-i-init c value is =
     let sweeps = c.requires.sweeps.1 in filling_none c.args.flash.now c.args.seat.now c.in-Some.destination value sweeps.seat (opened (goal.at.loop-i-init c).In-Some) sweeps.filed
 
+pub get_source_word-word-requires-clause-broom : goal.get_source_word-word-requires-clause-broom
+get_source_word-word-requires-clause-broom c = grind arith
+
 pub get_source_word-word-requires-clause-source : goal.get_source_word-word-requires-clause-source
 get_source_word-word-requires-clause-source c =
     let t = c.requires.source in
@@ -36,6 +39,9 @@ read : (c : After-get_source_word-word) (value : List ℕ) → (broom_view c.arg
 read c value is =
     let got = c.get_source_word-word.ensures in
     filling_same c.args.flash.now (broom_view c.args.seat.now) (own_blocks c.args.seat.now) c.in-Some.destination value c.loop-i.i c.loop-i.seat c.get_source_word-word.new.broom (c.loop-i.invariant value is) got.broom got.same got.blocks
+
+pub put_copy_word-requires-clause-next : goal.put_copy_word-requires-clause-next
+put_copy_word-requires-clause-next c = grind arith
 
 pub loop-i-preserved : goal.loop-i-preserved
 loop-i-preserved c value is =
@@ -65,6 +71,12 @@ stamped : (c : After-put_copy_word-2) (value : List ℕ) → (broom_view c.args.
 stamped c value is =
     let h = full c value is in
     c.put_copy_word-2.ensures.told c.in-Some.destination (ap (λ (x : BroomBlocks). x.destination) h.kept ∙ h.opened) ∙ ap (λ n. record (broom_view c.loop-i.seat) { work = Some (put_work c.in-Some.destination c.loop-i.seat n) }) c.from.ensures
+
+pub put_copy_word-requires-2-clause-broom : goal.put_copy_word-requires-2-clause-broom
+put_copy_word-requires-2-clause-broom c = grind arith
+
+pub put_copy_word-requires-2-clause-next : goal.put_copy_word-requires-2-clause-next
+put_copy_word-requires-2-clause-next c = grind arith
 
 pub count_copy-requires-clause-filled : goal.count_copy-requires-clause-filled
 count_copy-requires-clause-filled c =
@@ -97,6 +109,9 @@ returns-clause-told c o value there source whole =
     let done = copied f (broom_view c.args.seat.now) (own_blocks c.args.seat.now) p value c.args.sector c.loop-i.seat c.put_copy_word-2.new.broom h now put.broom put.blocks c.count_copy.new.broom counted x source refl refl whole in
     let same : p ≡ o = some_same p o (sym (opened (goal.at.After-put_copy_word-2 at).In-Some) ∙ there) in
     let P : OpenBlock → Type 0 = λ q. Copied (broom_view c.args.seat.now) q x (next_page (owned_of p)) (broom_view c.count_copy.new.broom) in subst P same done
+
+pub returns-clause-blocks : goal.returns-clause-blocks
+returns-clause-blocks c = grind arith
 
 pub returns-clause-sweeps : goal.returns-clause-sweeps
 returns-clause-sweeps c x g =

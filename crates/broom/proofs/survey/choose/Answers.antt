@@ -1,4 +1,5 @@
 use Rattle.std.proofs.Common.{◌≡◌, ℕ, ◌<◌, List, Bool, length, Option, None, Some, get_or, sym, ap, ◌∙◌, subst, arith, MatchOption}
+use Rattle.std.proofs.lemmas.Grind.{common_steps}
 use Rattle.std.specs.Vec.{with_items}
 use Rattle.std.proofs.lemmas.List.{with_items_is, get_or_default}
 use Rattle.geometry.specs.Geometry.{blocks_of, pages_of}
@@ -73,6 +74,9 @@ returns-in_err-victim-clause-told c =
     (choice at None c.in_err-victim.ensures.value) in
     subst (λ (o : Option ℕ). MatchOption o (GainedNothing (view_of_broom c.args.broom.now) (view_of_broom (after at))) (λ block. Chosen (view_of_broom c.args.broom.now) block (after at))) (sym c.from_residual.ensures) told
 
+pub index-requires : goal.index-requires
+index-requires c = grind (arith, common_steps)
+
 pub returns-then-index-pages-clause-told : goal.returns-then-index-pages-clause-told
 returns-then-index-pages-clause-told c =
     let at = (goal.at.returns-then-index-pages-clause-told c).After-greedy in
@@ -81,6 +85,9 @@ returns-then-index-pages-clause-told c =
     let full = count_is at b below c.index.result.now c.index.ensures ∙ (c.if-index-pages.true ∙ (c.pages.ensures.value ∙ ap pages_of c.geometry.ensures)) in
     all_live c.args.flash.now c.args.broom.now (after at) c.load_states.new.seat c.load_states.new.states c.count_pages.new.counts c.load_states.new.closed c.requires.rested.seat c.load_states.ensures.told (counted at) (long at)
     b below (choice at (Some b) c.in_ok-victim.ensures.value) full
+
+pub overflow_cast-result : goal.overflow_cast-result
+overflow_cast-result c = grind (arith, common_steps)
 
 pub returns-clause-told : goal.returns-clause-told
 returns-clause-told c =

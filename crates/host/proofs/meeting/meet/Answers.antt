@@ -1,4 +1,5 @@
-use Rattle.std.proofs.Common.{◌≡◌, sym, ap, ◌∙◌, subst}
+use Rattle.std.proofs.Common.{◌≡◌, sym, ap, ◌∙◌, subst, arith}
+use Rattle.std.proofs.lemmas.Grind.{common_steps}
 use Rattle.flash_rule.specs.World.{sector_word}
 use Rattle.flash_rule.specs.declared.view.View.{View}
 use Rattle.flash_rule.specs.Plays.{Looked}
@@ -42,3 +43,9 @@ returns-clause-told c =
     let again = subst (λ (x : View). Looked x 0 (sector_word c.look-2.result) u) came c.look-2.ensures.told in
     let t = told v v' w _ c.requires.first.rested.pass.role c.requires.second.rested.pass.role looked u _ c.requires.first.rested.alone c.requires.second.rested.whole again in
     subst (λ (x : View). MetTold v v' x u) (sym c.give_back-note.ensures.told) t
+
+pub returns-clause-first : goal.returns-clause-first
+returns-clause-first c = grind (arith, common_steps)
+
+pub returns-clause-second : goal.returns-clause-second
+returns-clause-second c = grind (arith, common_steps)

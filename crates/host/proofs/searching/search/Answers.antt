@@ -1,4 +1,5 @@
-use Rattle.std.proofs.Common.{◌+◌, refl, ◌∙◌}
+use Rattle.std.proofs.Common.{◌+◌, refl, ◌∙◌, arith}
+use Rattle.std.proofs.lemmas.Grind.{common_steps}
 use Rattle.flash_rule.specs.declared.facts.Pin.TheVariants.{Accepted}
 use Rattle.flash_table.specs.Flash.{device, view_of}
 use Rattle.host.proofs.ReadingSearch.{search_begins, search_pins, search_goes_on, late_nearer, sighted, found, found_empty}
@@ -6,6 +7,9 @@ use Rattle.host.proofs.searching.search.Goals as goal
 
 pub loop-page-init : goal.loop-page-init
 loop-page-init g c = record { search = search_begins c.args.flash.now c.args.pass.now c.requires.pass; pass = c.requires.pass.rested.pass; opened = refl }
+
+pub returns-in_default-clause-told : goal.returns-in_default-clause-told
+returns-in_default-clause-told g c = grind (arith, common_steps)
 
 pub returns-in_default-clause-empty : goal.returns-in_default-clause-empty
 returns-in_default-clause-empty g c =

@@ -1,4 +1,5 @@
 use Rattle.std.proofs.Common.{◌+◌, sym, arith, subst, List}
+use Rattle.std.proofs.lemmas.Grind.{common_steps}
 use Rattle.std.specs.Option.{option_map}
 use Rattle.geometry.specs.Sectors.{Sector}
 use Rattle.geometry.specs.Geometry.{sectors_of}
@@ -15,6 +16,12 @@ pub loop-sector-init : goal.loop-sector-init
 loop-sector-init c =
     let room = c.in_ok-sectors.ensures.capacity in
     (sweep_begins c.args.flash.now (sectors_of (geometry_of c.args.flash.now)) c.args.pass.now c.in_ok-sectors.sectors.items c.in_ok-sectors.ensures.items c.requires, omega arith)
+
+pub returns-in_err-value-clause-looked : goal.returns-in_err-value-clause-looked
+returns-in_err-value-clause-looked c = grind (arith, common_steps)
+
+pub push_reserved-requires : goal.push_reserved-requires
+push_reserved-requires c = grind (arith, common_steps)
 
 pub loop-sector-preserved : goal.loop-sector-preserved
 loop-sector-preserved c =

@@ -1,4 +1,5 @@
 use Rattle.std.proofs.Common.{◌≡◌, List, ◌∷◌, ◌++◌, Some, length, take, drop, sym, ap, ◌∙◌, subst, slice_get, arith}
+use Rattle.std.proofs.lemmas.Grind.{common_steps}
 use Rattle.std.proofs.Math.Seq.{take-append_seam}
 use Rattle.std.specs.Vec.Iter.{into_iter_items}
 use Rattle.geometry.specs.Geometry.{hosts_of}
@@ -24,6 +25,9 @@ row c =
     let whole : c.args.passes.len ≡ length c.gather.new.passes = omega arith in
     sym (ap (λ n. take n (c.gather.new.passes ++ drop (length c.gather.new.passes) c.args.passes.items)) whole ∙ take-append_seam c.gather.new.passes (drop (length c.gather.new.passes) c.args.passes.items))
     ∙ (sym c.into_iter-passes.ensures.rest ∙ c.in-Some.ensures.cases.0)
+
+pub returns-in_default-clause-looked : goal.returns-in_default-clause-looked
+returns-in_default-clause-looked c = grind (arith, common_steps)
 
 pub retire-first-requires : goal.retire-first-requires
 retire-first-requires c = (taken (IsReady (flash_of c.args.self)) c.in-Some.first (into_iter_items c.next.new.self) c.gather.new.passes (row (goal.at.retire-first-requires c).In-Some) c.gather.ensures.passes).0
