@@ -1,6 +1,6 @@
 -- A block's live pages are copied one after the other, from its first page on.
-use Rattle.std.proofs.Common.{◌≡◌, ◌≢◌, ◌⊎◌, inl, inr, ℕ, ◌+◌, ◌<◌, ◌≤◌, Bool, true, false, cond, List, [], ◌∷◌, ◌++◌, length, get_or, set, take, sum_by, sym, ap, ◌∙◌, refl, subst, arith, length-append, length-set, length-take, get_or-set_same, get_or-set_other}
-use Rattle.std.proofs.lemmas.List.{append_assoc, take_more, take_more_set, take_all, append-nil, get_or_default}
+use Rattle.std.proofs.Common.{◌≡◌, ◌≢◌, ℕ, ◌+◌, ◌<◌, ◌≤◌, Bool, true, false, cond, List, [], ◌∷◌, ◌++◌, length, get_or, take, sym, ap, ◌∙◌, refl, arith, length-append, length-set, length-take, get_or-set_other}
+use Rattle.std.proofs.lemmas.List.{append_assoc, take_more, take_more_set, take_all, append-nil}
 use Rattle.std.proofs.lemmas.List.Elements.{filter-append}
 use Rattle.std.proofs.lemmas.List.Sums.{sum_by_push, sum_by-take-le, sum_by_more, length-filter, count_by-le-length}
 use Rattle.geometry.specs.declared.page_addr.PageAddr.{PageAddr}
@@ -8,7 +8,7 @@ use Rattle.geometry.specs.Geometry.{blocks_of, pages_of}
 use Rattle.ftl_one.specs.declared.store.Store.{Store}
 use Rattle.ftl_one.specs.Stock.{Entry, live_entries}
 use Rattle.ftl_one.specs.Entries.{live_count}
-use Rattle.ftl_one.specs.Store.{geometry_of, sectors_of, entries_of, erases_of, retired_of, entry_at, live_at, sector_of, KeepsBlocks, HasRoom, HasRoomFor, Relocates, Clears}
+use Rattle.ftl_one.specs.Store.{geometry_of, sectors_of, entries_of, live_at, sector_of, KeepsBlocks, HasRoom, HasRoomFor, Relocates, Clears}
 
 -- the first p pages of the victim are copied as far as they are live
 pub record ClearedTo (old now : Store) (victim spare p copies : ℕ) : Type 0 where

@@ -1,22 +1,23 @@
 -- A collection: all blocks but the spare are closed, the victim has a dead page, and what stands after it.
-use Rattle.std.proofs.Common.{◌≡◌, ◌≢◌, ◌⊎◌, inl, inr, ℕ, zero, suc, ◌+◌, ◌-◌, ◌*◌, ◌<◌, ◌≤◌, Bool, true, false, cond, eqb, List, [], ◌∷◌, ◌++◌, length, get_or, set, map, sum, sum_by, count_by, Option, None, Some, is_some, sym, ap, ◌∙◌, refl, subst, arith, length-append, length-set, get_or-set_same, get_or-set_other}
-use Rattle.std.specs.List.{position}
+use Rattle.std.proofs.Common.{◌≡◌, ◌≢◌, inl, inr, ℕ, zero, suc, ◌-◌, ◌*◌, ◌<◌, ◌≤◌, Bool, false, cond, List, [], ◌∷◌, length, get_or, map, sum, None, Some, is_some, sym, ap, ◌∙◌, subst, arith, length-append}
 use Rattle.std.proofs.lemmas.List.{length-map, get_or-map, get_or_past}
 use Rattle.std.proofs.lemmas.List.Sums.{sum_by-cons, count_by-le-length, length-filter}
-use Rattle.std.proofs.lemmas.Bool.{false≢true, cases_eq, cases_lt}
-use Rattle.geometry.specs.Geometry.{blocks_of, pages_of, sectors_of as sector_count_of}
+use Rattle.std.proofs.lemmas.Bool.{false≢true, cases_lt}
+use Rattle.geometry.specs.Geometry.{blocks_of, pages_of}
 use Rattle.geometry.specs.Greedy.{IsGreedy, IsClosed}
+use Rattle.geometry.proofs.GreedyLemmas.{greedy_of-best}
 use Rattle.ftl_one.specs.declared.role.Role.{Role}
-use Rattle.ftl_one.specs.declared.role.Role.TheVariants.{Free, Open, Closed, Spare, Retired}
+use Rattle.ftl_one.specs.declared.role.Role.TheVariants.{Open, Closed, Spare, Retired}
 use Rattle.ftl_one.specs.declared.store.Store.{Store}
 use Rattle.ftl_one.specs.declared.one_ftl.OneFtl.{OneFtl}
-use Rattle.ftl_one.specs.Stock.{Entry, live_entries, is_free, is_closed, open_of, free_of, spare_of, is_retired}
+use Rattle.ftl_one.specs.Stock.{Entry, live_entries, is_free, is_closed, open_of, free_of, spare_of, victim_of, is_retired}
 use Rattle.ftl_one.specs.Entries.{live_count}
-use Rattle.ftl_one.specs.Store.{geometry_of, entries_of, erases_of, retired_of, counts_of, HasRoomFor, Clears, Erases}
+use Rattle.ftl_one.specs.Fewest.{IsFewest}
+use Rattle.ftl_one.specs.Store.{geometry_of, entries_of, retired_of, counts_of, HasRoomFor, Clears, Erases}
 use Rattle.ftl_one.specs.Lawful.{IsLawful, role_in, has_pages}
 use Rattle.ftl_one.specs.OneFtl.{stock_of}
 use Rattle.ftl_one.proofs.LawfulLemmas.{closed_else, lawful-collect, closed≢spare}
-use Rattle.ftl_one.proofs.FtlLemmas.{none_found, closed_by, open_of-stock, free_of-stock, spare_found}
+use Rattle.ftl_one.proofs.FtlLemmas.{none_found, closed_by, open_of-stock, free_of-stock, spare_found, victim_of-stock}
 use Rattle.ftl_one.proofs.StoreLemmas.{entries_within, count-entries_of}
 
 -- a sum of terms that are at least m, but for one
@@ -66,36 +67,46 @@ module _ (f : OneFtl) (spare : ℕ) (none : open_of (stock_of f).blocks ≡ None
       clash : (k : ℕ) → f.open_block ≡ None → f.open_block ≡ Some k → ⊥
       clash k p q = cc
 
-  mark_of : (b : ℕ) → b < blocks_of (geometry_of f.store) → get_or f.closed.items b false ≡ is_closed (role_in f.roles.items b)
-  mark_of b low = ap (λ (xs : List Bool). get_or xs b false) f.closed_marks ∙ get_or-map is_closed f.roles.items b Retired false (omega (arith, low, f.roles_sized))
+  mark_of : (b : ℕ) → b < blocks_of (geometry_of f.store) → get_or (map is_closed f.roles.items) b false ≡ is_closed (role_in f.roles.items b)
+  mark_of b low = get_or-map is_closed f.roles.items b Retired false (omega (arith, low, f.roles_sized))
 
-  pub marked : (b : ℕ) → b < blocks_of (geometry_of f.store) → b ≢ spare → IsClosed f.closed.items b
+  pub marked : (b : ℕ) → b < blocks_of (geometry_of f.store) → b ≢ spare → IsClosed (map is_closed f.roles.items) b
   marked b low apart = mark_of b low ∙ ap is_closed (all_closed b low apart)
 
-  -- some block is closed
-  pub one_closed : ((b : ℕ) → IsClosed f.closed.items b → ⊥) → ⊥
-  one_closed never = elim (cases_eq spare 0) [
-    | inl e ↦ never 1 (marked 1 (omega (arith, f.store.die.geometry.in_limits.blocks_low)) (λ k. omega (arith, k, e)))
-    | inr apart ↦ never 0 (marked 0 (omega (arith, f.store.die.geometry.in_limits.blocks_low)) (λ k. apart (sym k)))
-  ]
-
   -- a block that is marked is one of the device's, and closed
-  pub victim_within : (b : ℕ) → IsClosed f.closed.items b → b < blocks_of (geometry_of f.store)
+  pub victim_within : (b : ℕ) → IsClosed (map is_closed f.roles.items) b → b < blocks_of (geometry_of f.store)
   victim_within b is = elim (cases_lt b (blocks_of (geometry_of f.store))) [
     | inl low ↦ low
-    | inr past ↦ absurd (false≢true (sym (get_or_past f.closed.items b false (omega (arith, past, f.roles_sized, ap (λ (xs : List Bool). length xs) f.closed_marks, length-map f.roles.items is_closed))) ∙ is))
+    | inr past ↦ absurd (false≢true (sym (get_or_past (map is_closed f.roles.items) b false (omega (arith, past, f.roles_sized, length-map f.roles.items is_closed))) ∙ is))
   ]
 
-  pub victim_role : (b : ℕ) → IsClosed f.closed.items b → role_in f.roles.items b ≡ Closed
+  pub victim_role : (b : ℕ) → IsClosed (map is_closed f.roles.items) b → role_in f.roles.items b ≡ Closed
   victim_role b is = closed_by (role_in f.roles.items b) (sym (mark_of b (victim_within b is)) ∙ is)
 
-  pub victim_apart : (b : ℕ) → IsClosed f.closed.items b → b ≢ spare
+  pub victim_apart : (b : ℕ) → IsClosed (map is_closed f.roles.items) b → b ≢ spare
   victim_apart b is e = closed≢spare (role_in f.roles.items b) (victim_role b is) (ap (role_in f.roles.items) e ∙ spare_role)
+
+  -- the block with the fewest live pages beside the spare is the greedy choice
+  pub greedy_by : (v : ℕ) → IsFewest (counts_of f.store) spare v → IsGreedy (counts_of f.store) (map is_closed f.roles.items) v
+  unfolding counts_of
+  greedy_by v fewest =
+      record {
+        is_closed = marked v (omega (arith, fewest.within, f.store.mapped.live_size)) fewest.apart;
+        least = λ k is. fewest.least k (omega (arith, victim_within k is, f.store.mapped.live_size)) (victim_apart k is);
+        lowest = λ k low is. fewest.lowest k low (victim_apart k is);
+      }
+
+  -- which the stock's victim is
+  pub victim_by : (v : ℕ) → IsFewest (counts_of f.store) spare v → victim_of (stock_of f).blocks ≡ Some v
+  unfolding counts_of
+  victim_by v fewest =
+      victim_of-stock f
+      ∙ greedy_of-best (counts_of f.store) (map is_closed f.roles.items) (omega (arith, f.store.mapped.live_size, f.roles_sized, length-map f.roles.items is_closed)) v (greedy_by v fewest)
 
   spare_empty : length (entries_of f.store spare) ≡ 0
   spare_empty = f.lawful.unused spare spare_within (ap has_pages spare_role)
 
-  pub spare_room : (b : ℕ) → IsClosed f.closed.items b → HasRoomFor f.store spare (live_count (entries_of f.store b))
+  pub spare_room : (b : ℕ) → IsClosed (map is_closed f.roles.items) b → HasRoomFor f.store spare (live_count (entries_of f.store b))
   spare_room b is =
       let most : live_count (entries_of f.store b) ≤ length (entries_of f.store b) = count_by-le-length (λ (e : Entry). e.live) (entries_of f.store b) in
       record {
@@ -105,7 +116,7 @@ module _ (f : OneFtl) (spare : ℕ) (none : open_of (stock_of f).blocks ≡ None
       }
 
   -- the greedy victim has a dead page, for the sectors are fewer than the pages of the closed blocks
-  pub few_live : (v : ℕ) → IsGreedy (counts_of f.store) f.closed.items v → live_count (entries_of f.store v) < pages_of (geometry_of f.store)
+  pub few_live : (v : ℕ) → IsGreedy (counts_of f.store) (map is_closed f.roles.items) v → live_count (entries_of f.store v) < pages_of (geometry_of f.store)
   unfolding counts_of
   few_live v best = elim (cases_lt (live_count (entries_of f.store v)) (pages_of (geometry_of f.store))) [
     | inl few ↦ few
@@ -122,7 +133,7 @@ module _ (f : OneFtl) (spare : ℕ) (none : open_of (stock_of f).blocks ≡ None
   ]
 
   -- what the layer keeps true after it
-  pub law_after : (mid new : Store) (v : ℕ) (failed : Bool) (role' : ℕ → Role) → IsGreedy (counts_of f.store) f.closed.items v → Clears f.store mid v spare → Erases mid new v → retired_of new v ≡ failed → role' spare ≡ Open → role' v ≡ cond failed Retired Spare → ((c : ℕ) → c ≢ spare → c ≢ v → role' c ≡ role_in f.roles.items c) → IsLawful (blocks_of (geometry_of f.store)) (pages_of (geometry_of f.store)) (λ b. length (entries_of new b)) (retired_of new) role' (Some spare)
+  pub law_after : (mid new : Store) (v : ℕ) (failed : Bool) (role' : ℕ → Role) → IsGreedy (counts_of f.store) (map is_closed f.roles.items) v → Clears f.store mid v spare → Erases mid new v → retired_of new v ≡ failed → role' spare ≡ Open → role' v ≡ cond failed Retired Spare → ((c : ℕ) → c ≢ spare → c ≢ v → role' c ≡ role_in f.roles.items c) → IsLawful (blocks_of (geometry_of f.store)) (pages_of (geometry_of f.store)) (λ b. length (entries_of new b)) (retired_of new) role' (Some spare)
   law_after mid new v failed role' best clears erases is_failed opened done others =
       let g = geometry_of f.store in
       let apart = victim_apart v best.is_closed in

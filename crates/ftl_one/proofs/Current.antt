@@ -6,7 +6,7 @@ use mathlib.Core.Logic.{dite}
 use native.Mathlib.Decide.{ℕ_discrete}
 use Rattle.std.specs.Option.{option_and_then}
 use Rattle.std.specs.Prelude.{◌==◌, if◌then◌else◌}
-use Rattle.geometry.specs.Geometry.{blocks_of, pages_of, endurance_of, sectors_of as sector_count_of}
+use Rattle.geometry.specs.Geometry.{pages_of, endurance_of, sectors_of as sector_count_of}
 use Rattle.geometry.specs.History.{Write, WriteNew}
 use Rattle.geometry.specs.Sectors.{Sector, sector_at, was_of}
 use Rattle.geometry.specs.declared.answer.Was.TheVariants as was
@@ -17,10 +17,10 @@ use Rattle.die.specs.Pages.{Block, page_at}
 use Rattle.ftl_one.specs.declared.one_ftl.OneFtl.{OneFtl}
 use Rattle.ftl_one.specs.Stock.{Entry, Stock, Block as StockBlock, unused, is_current, has_page, next, write_of, ready}
 use Rattle.ftl_one.specs.declared.role.Role.TheVariants.{Retired}
-use Rattle.ftl_one.specs.Entries.{names, is_page, entry_of, entries_in, value_in}
+use Rattle.ftl_one.specs.Entries.{names, is_page, entries_in, value_in}
 use Rattle.ftl_one.specs.Store as pages
 use Rattle.ftl_one.specs.OneFtl.{geometry_of, sectors_of, stock_of}
-use Rattle.ftl_one.specs.Blocks.{block_in, blocks_in}
+use Rattle.ftl_one.specs.Blocks.{blocks_in}
 use Rattle.ftl_one.proofs.EntryLemmas.{length-entries, get_or-entries, is_page-at}
 use Rattle.ftl_one.proofs.MapLemmas.{sector-at}
 use Rattle.ftl_one.proofs.StoreLemmas.{size_of}

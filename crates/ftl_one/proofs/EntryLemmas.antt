@@ -1,15 +1,14 @@
 -- The entries of a block as the map and the die's pages change.
-use Rattle.std.proofs.Common.{◌≡◌, ◌≢◌, ◌⊎◌, inl, inr, ℕ, suc, ◌+◌, ◌<◌, ◌≤◌, Bool, true, false, ◌&&◌, cond, eqb, List, [], ◌∷◌, ◌++◌, length, get_or, set, map, sum_by, count_by, Option, None, Some, sym, ap, ◌∙◌, refl, subst, arith, length-append, length-set, get_or-set_same, get_or-set_other}
+use Rattle.std.proofs.Common.{◌≡◌, ◌≢◌, inl, inr, ℕ, ◌<◌, Bool, true, false, eqb, List, [], ◌∷◌, ◌++◌, length, get_or, set, map, Option, None, Some, sym, ap, ◌∙◌, refl, arith, length-set, get_or-set_same, get_or-set_other}
 use Rattle.std.specs.List.{range_with_len}
-use Rattle.std.proofs.lemmas.List.{length-map, same_lists, get_or_default, get_or_past, get_or-map, get_or_push, get_or_append_left, length_push, get_or-append_right}
+use Rattle.std.proofs.lemmas.List.{length-map, same_lists, get_or-map, get_or_push, get_or_append_left, length_push}
 use Rattle.std.proofs.lemmas.List.FromFn.{length-map-range_with_len, get_or-map-range_with_len, map-range_with_len_more}
-use Rattle.std.proofs.lemmas.List.Sums.{sum_by-set, sum_by_push}
-use Rattle.std.proofs.lemmas.Bool.{false≢true, eqb-true, eqb-false, eq-eqb, ne_eqb, and_from, and_parts, and_left, and_right, cases_Bool, cases_eq}
+use Rattle.std.proofs.lemmas.Bool.{false≢true, eqb-true, eq-eqb, ne_eqb, and_from, and_parts, and_left, and_right, cases_eq}
 use Rattle.geometry.specs.declared.page_addr.PageAddr.{PageAddr}
 use Rattle.die.specs.Pages.{Block, Page, page_at, programmed, erased_page}
 use Rattle.die.proofs.BlockLemmas.{map_range_same}
-use Rattle.ftl_one.specs.Stock.{Entry, forgotten, live_entries}
-use Rattle.ftl_one.specs.Entries.{is_page, names, entry_of, entries_in, live_count, lies}
+use Rattle.ftl_one.specs.Stock.{Entry, forgotten}
+use Rattle.ftl_one.specs.Entries.{is_page, names, entry_of, entries_in}
 
 pub length-entries : (n : ℕ) (current : List (Option PageAddr)) (b : ℕ) (block : Block) → length (entries_in n current b block) ≡ length block.pages
 unfolding entries_in

@@ -1,30 +1,29 @@
 -- The layer's blocks after each of its moves, and what the totals weigh.
-use Rattle.std.proofs.Common.{◌≡◌, ◌≢◌, ◌⊎◌, inl, inr, ℕ, zero, suc, ◌+◌, ◌-◌, ◌*◌, ◌<◌, ◌≤◌, ◌^◌, Bool, true, false, not, cond, eqb, ltb, List, [], ◌∷◌, ◌++◌, length, get_or, set, map, sum, sum_by, count_by, Option, None, Some, is_some, sym, ap, ◌∙◌, refl, subst, arith, length-append, length-set, get_or-set_same, get_or-set_other}
-use Rattle.std.specs.List.{range_with_len, position, position_or_len, prefix_len}
+use Rattle.std.proofs.Common.{◌≡◌, ◌≢◌, inl, inr, ℕ, zero, suc, ◌+◌, ◌-◌, ◌*◌, ◌<◌, ◌≤◌, ◌^◌, Bool, true, false, not, cond, eqb, List, [], ◌∷◌, ◌++◌, length, get_or, set, map, sum_by, None, Some, sym, ap, ◌∙◌, refl, subst, arith, length-append, length-set, length-drop, drop, get_or-drop, get_or-set_same, get_or-set_other}
+use Rattle.std.specs.List.{position, position_or_len}
 use Rattle.std.specs.Vec.{with_items}
 use Rattle.std.proofs.lemmas.List.{with_items_is, length-map, get_or-map, length_push}
 use Rattle.std.proofs.lemmas.List.FromFn.{sum_by-map-range_with_len_more}
-use Rattle.std.proofs.lemmas.List.Sums.{sum_by-cons, sum_by-set, prefix_len_passes, count_by-le-length, length-filter}
+use Rattle.std.proofs.lemmas.List.Sums.{sum_by-cons, sum_by-set, prefix_len_passes, position_or_len_is, length-filter}
 use Rattle.std.proofs.lemmas.List.Quantifiers.{position-Some}
-use Rattle.std.proofs.lemmas.Bool.{false≢true, cases_eq, cases_lt, cases_Bool, lt-ltb, not-true, eq-eqb, ne_eqb}
+use Rattle.std.proofs.lemmas.Bool.{false≢true, cases_eq, cases_lt, lt-ltb, le-ltb, not-true, eq-eqb, ne_eqb}
 use Rattle.std.proofs.lemmas.Nat.{mul-le}
-use Rattle.geometry.specs.Geometry.{blocks_of, pages_of, endurance_of, sectors_of as sector_count_of, hosts_of}
-use Rattle.geometry.specs.Greedy.{greedy_of, IsGreedy, IsClosed}
+use Rattle.geometry.specs.Geometry.{blocks_of, pages_of, endurance_of}
+use Rattle.geometry.specs.Greedy.{greedy_of}
 use Rattle.geometry.specs.declared.limits.TheConstants.{MAX_BLOCKS, MAX_ENDURANCE, MAX_PAGES}
 use Rattle.die.proofs.DieLemmas.{erases-block}
 use Rattle.ftl_one.specs.declared.role.Role.{Role}
 use Rattle.ftl_one.specs.declared.role.Role.TheVariants.{Free, Open, Closed, Spare, Retired}
 use Rattle.ftl_one.specs.declared.store.Store.{Store}
 use Rattle.ftl_one.specs.declared.one_ftl.OneFtl.{OneFtl}
-use Rattle.ftl_one.specs.Stock.{Stock, Block, Entry, is_open, is_free, is_spare, is_closed, open_of, free_of, spare_of, live_of, victim_of, change_at, unused, forget, forgotten, with_page, closed_if_full, filled, emptied, live_entries, is_retired}
-use Rattle.ftl_one.specs.Entries.{live_count}
-use Rattle.ftl_one.specs.Store.{geometry_of, sectors_of, entries_of, erases_of, retired_of, counts_of, KeepsBlocks, Puts, Clears, Erases, HasRoom}
-use Rattle.ftl_one.specs.Lawful.{IsLawful, role_in}
+use Rattle.ftl_one.specs.Stock.{Block, Entry, is_open, is_free, is_spare, is_closed, open_of, free_of, spare_of, live_of, victim_of, change_at, unused, forget, forgotten, with_page, closed_if_full, filled, emptied, live_entries, is_retired}
+use Rattle.ftl_one.specs.Store.{geometry_of, entries_of, erases_of, retired_of, counts_of, KeepsBlocks, Puts, Clears, Erases, HasRoom}
+use Rattle.ftl_one.specs.Lawful.{role_in}
 use Rattle.ftl_one.specs.Blocks.{block_in, blocks_in, weight}
 use Rattle.ftl_one.specs.Laws.{HasRetired, block_at}
 use Rattle.ftl_one.specs.OneFtl.{stock_of}
 use Rattle.ftl_one.proofs.BlocksLemmas.{table, length-table, get_or-table, table_is, table-change, table-map, position_alone, open_of-blocks, free_of-blocks, spare_of-blocks, victim_of-blocks}
-use Rattle.ftl_one.proofs.LawfulLemmas.{closed_else, inside, open≢retired}
+use Rattle.ftl_one.proofs.LawfulLemmas.{inside, open≢retired, spare≢retired}
 use Rattle.ftl_one.proofs.StoreLemmas.{entries_within}
 
 -- a role by its test
@@ -66,6 +65,38 @@ none_found p xs d e k low = elim (cases_lt (position_or_len p xs) (length xs)) [
     some_none : (n : ℕ) → Some n ≡ None → ⊥
     some_none n h = cc
 
+-- a search that begins where no role below is a free one's
+module _ (roles : List Role) (from : ℕ) (within : from ≤ length roles) (below : (b : ℕ) → b < from → is_free (role_in roles b) ≡ false) where
+  later : (k : ℕ) → from ≤ k → role_in (drop from roles) (k - from) ≡ role_in roles k
+  later k high =
+      let sum : from + (k - from) ≡ k = omega arith in
+      get_or-drop from roles (k - from) Retired ∙ ap (role_in roles) sum
+
+  pub position_from : (ahead : ℕ) → position is_free (drop from roles) ≡ Some ahead → position is_free roles ≡ Some (from + ahead)
+  position_from ahead e =
+      let found = position-Some is_free (drop from roles) ahead Retired e in
+      let low : from + ahead < length roles = omega (arith, found.0, length-drop from roles) in
+      let here : is_free (role_in roles (from + ahead)) ≡ true = ap is_free (sym (get_or-drop from roles ahead Retired)) ∙ found.1 in
+      let at : position_or_len is_free roles ≡ from + ahead =
+      position_or_len_is is_free roles (from + ahead) Retired (omega (arith, low))
+      (λ k short. elim (cases_lt k from) [
+        | inl under ↦ below k under
+        | inr over ↦ ap is_free (sym (later k over)) ∙ found.2 (k - from) (omega (arith, short, over))
+      ])
+      (λ h. here) in
+      rw at (rw (lt-ltb (from + ahead) (length roles) low) refl)
+
+  pub position_from-none : position is_free (drop from roles) ≡ None → position is_free roles ≡ None
+  position_from-none e =
+      let at : position_or_len is_free roles ≡ length roles =
+      position_or_len_is is_free roles (length roles) Retired (omega arith)
+      (λ k short. elim (cases_lt k from) [
+        | inl under ↦ below k under
+        | inr over ↦ ap is_free (sym (later k over)) ∙ none_found is_free (drop from roles) Retired e (k - from) (omega (arith, short, over, length-drop from roles))
+      ])
+      (λ h. absurd (omega (arith, h))) in
+      rw at (rw (le-ltb (length roles) (length roles) (omega arith)) refl)
+
 -- the open block, the lowest free block and the spare of the stock
 pub open_of-stock : (f : OneFtl) → open_of (stock_of f).blocks ≡ f.open_block
 unfolding stock_of
@@ -86,14 +117,23 @@ pub free_of-stock : (f : OneFtl) → free_of (stock_of f).blocks ≡ position is
 unfolding stock_of
 free_of-stock f = free_of-blocks f.store f.roles.items
 
-pub spare_of-stock : (f : OneFtl) → spare_of (stock_of f).blocks ≡ position is_spare f.roles.items
-unfolding stock_of
-spare_of-stock f = spare_of-blocks f.store f.roles.items
+-- the spare is one of the device's blocks
+spare_inside : (f : OneFtl) (b : ℕ) → role_in f.roles.items b ≡ Spare → b < length f.roles.items
+spare_inside f b is =
+    let g = geometry_of f.store in
+    omega (arith, f.roles_sized, inside (blocks_of g) (pages_of g) (λ k. length (entries_of f.store k)) (retired_of f.store) (role_in f.roles.items) f.open_block f.lawful b (spare≢retired (role_in f.roles.items b) is))
 
-pub victim_of-stock : (f : OneFtl) → victim_of (stock_of f).blocks ≡ greedy_of (counts_of f.store) f.closed.items
+pub spare_of-stock : (f : OneFtl) → spare_of (stock_of f).blocks ≡ f.spare
 unfolding stock_of
-victim_of-stock f =
-    victim_of-blocks f.store f.roles.items f.roles_sized ∙ ap (greedy_of (counts_of f.store)) (sym f.closed_marks)
+spare_of-stock f =
+    spare_of-blocks f.store f.roles.items
+    ∙ position_alone is_spare f.roles.items Retired f.spare
+    (λ k low on. f.knows_spare.spare_is k (spare_by (role_in f.roles.items k) on))
+    (λ k e. let is = f.knows_spare.spare_at k e in (spare_inside f k is, ap is_spare is))
+
+pub victim_of-stock : (f : OneFtl) → victim_of (stock_of f).blocks ≡ greedy_of (counts_of f.store) (map is_closed f.roles.items)
+unfolding stock_of
+victim_of-stock f = victim_of-blocks f.store f.roles.items f.roles_sized
 
 -- a block from its parts
 abbrev parts : Role → ℕ → List Entry → Block
@@ -247,6 +287,17 @@ pub block_at-stock : (f : OneFtl) (b : ℕ) → b < blocks_of (geometry_of f.sto
 unfolding stock_of
 block_at-stock f b low = get_or-blocks f.store f.roles.items b (unused Retired) (omega (arith, low, f.roles_sized))
 
+-- no block below the lowest free one is free
+pub none_below : (f : OneFtl) (b : ℕ) → free_of (stock_of f).blocks ≡ Some b → (k : ℕ) → k < b → is_free (role_in f.roles.items k) ≡ false
+none_below f b e = (position-Some is_free f.roles.items b Retired (sym (free_of-stock f) ∙ e)).2
+
+-- one block gets a role that isn't a free one's
+pub free-kept : (roles : List Role) (from b : ℕ) (r : Role) → ((k : ℕ) → k < from → is_free (role_in roles k) ≡ false) → b < length roles → is_free r ≡ false → (k : ℕ) → k < from → is_free (role_in (set roles b r) k) ≡ false
+free-kept roles from b r none low off k below = elim (cases_eq k b) [
+  | inl e ↦ ap is_free (ap (role_in (set roles b r)) e ∙ get_or-set_same roles b r Retired low) ∙ off
+  | inr apart ↦ ap is_free (get_or-set_other roles b k r Retired apart) ∙ none k below
+]
+
 -- the lowest free block is free
 pub free_found : (f : OneFtl) (b : ℕ) → free_of (stock_of f).blocks ≡ Some b → (b < length f.roles.items) × (role_in f.roles.items b ≡ Free)
 free_found f b e =
@@ -255,8 +306,8 @@ free_found f b e =
 
 pub spare_found : (f : OneFtl) (b : ℕ) → spare_of (stock_of f).blocks ≡ Some b → (b < length f.roles.items) × (role_in f.roles.items b ≡ Spare)
 spare_found f b e =
-    let found = position-Some is_spare f.roles.items b Retired (sym (spare_of-stock f) ∙ e) in
-    (found.0, spare_by (role_in f.roles.items b) found.1)
+    let is = f.knows_spare.spare_at b (sym (spare_of-stock f) ∙ e) in
+    (spare_inside f b is, is)
 
 -- the open block has a page left
 pub open_found : (f : OneFtl) (b : ℕ) → open_of (stock_of f).blocks ≡ Some b → (b < blocks_of (geometry_of f.store)) × (role_in f.roles.items b ≡ Open)
@@ -304,16 +355,11 @@ total_small f =
     let all = mul-le (length f.roles.items) m MAX_BLOCKS ((MAX_PAGES + 1) * MAX_ENDURANCE + MAX_PAGES) (omega (arith, f.roles_sized, s.die.geometry.in_limits.blocks_high)) (omega (arith, one, s.die.geometry.in_limits.pages_high)) in
     omega (arith, f.bounded, most, all)
 
--- the roles and the marks of the layer once one was rewritten
+-- the roles of the layer once one was rewritten
 pub roles_now : (f : OneFtl) (was new : List Role) (b : ℕ) (r : Role) → new ≡ set was b r → was ≡ f.roles.items → (with_items f.roles new).items ≡ set f.roles.items b r
 roles_now f was new b r e same =
     let now : new ≡ set f.roles.items b r = e ∙ ap (λ (xs : List Role). set xs b r) same in
     with_items_is f.roles new (omega (arith, ap (λ (xs : List Role). length xs) now, length-set f.roles.items b r, f.roles.ok.0)) ∙ now
-
-pub marks_now : (f : OneFtl) (was new : List Bool) (b : ℕ) (t : Bool) → new ≡ set was b t → was ≡ f.closed.items → (with_items f.closed new).items ≡ set f.closed.items b t
-marks_now f was new b t e same =
-    let now : new ≡ set f.closed.items b t = e ∙ ap (λ (xs : List Bool). set xs b t) same in
-    with_items_is f.closed new (omega (arith, ap (λ (xs : List Bool). length xs) now, length-set f.closed.items b t, f.closed.ok.0)) ∙ now
 
 -- where a block is retired there is no spare
 pub no_spare : (f : OneFtl) → HasRetired (stock_of f) → (spare : ℕ) → spare_of (stock_of f).blocks ≡ Some spare → ⊥

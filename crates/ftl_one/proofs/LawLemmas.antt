@@ -1,13 +1,13 @@
 -- What the stock's definition gives of a write: at most one block is collected, and it is a closed one with the
 -- fewest live pages.
-use Rattle.std.proofs.Common.{◌≡◌, ◌≢◌, ◌⊎◌, inl, inr, ℕ, ◌+◌, ◌<◌, ◌≤◌, Bool, true, false, cond, eqb, List, [], ◌∷◌, ◌++◌, length, get_or, set, map, Option, None, Some, sym, ap, ◌∙◌, refl, subst, arith, length-set, get_or-set_same, get_or-set_other}
+use Rattle.std.proofs.Common.{◌≡◌, ◌≢◌, ◌⊎◌, inl, inr, ℕ, ◌+◌, ◌<◌, Bool, true, false, cond, eqb, List, length, get_or, map, Option, None, Some, sym, ap, ◌∙◌, refl, subst, arith, length-set, get_or-set_same, get_or-set_other}
 use Rattle.std.specs.Option.{option_and_then}
 use Rattle.std.proofs.lemmas.List.{length-map, get_or-map, get_or_past}
 use Rattle.std.proofs.lemmas.Bool.{false≢true, cases_eq, cases_lt}
 use Rattle.std.proofs.lemmas.List.Quantifiers.{position-Some}
 use Rattle.geometry.proofs.GreedyLemmas.{greedy_of-closed, greedy_of-least}
 use Rattle.ftl_one.specs.declared.role.Role.{Role}
-use Rattle.ftl_one.specs.declared.role.Role.TheVariants.{Free, Open, Closed, Spare, Retired}
+use Rattle.ftl_one.specs.declared.role.Role.TheVariants.{Open, Closed, Spare, Retired}
 use Rattle.ftl_one.specs.Stock.{Stock, Block, unused, live_of, is_closed, is_spare, open_of, free_of, spare_of, victim_of, forget, with_page, closed_if_full, change_at, filled, emptied, opened, collected, collect, ready_by, ready, write_into, write_of}
 use Rattle.ftl_one.specs.Laws.{block_at, ErasesNothing, Collects}
 use Rattle.ftl_one.proofs.FtlLemmas.{closed_by, spare_by}

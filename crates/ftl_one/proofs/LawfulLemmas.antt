@@ -1,9 +1,9 @@
 -- What the layer keeps true, as blocks are opened, written, closed and collected.
-use Rattle.std.proofs.Common.{◌≡◌, ◌≢◌, ◌⊎◌, inl, inr, ℕ, ◌+◌, ◌<◌, ◌≤◌, Bool, true, false, cond, Option, None, Some, sym, ap, ◌∙◌, refl, subst, arith}
+use Rattle.std.proofs.Common.{◌≡◌, ◌≢◌, inl, inr, ℕ, ◌+◌, ◌<◌, ◌≤◌, Bool, true, false, cond, Option, None, Some, sym, ap, ◌∙◌, refl, arith}
 use Rattle.std.proofs.lemmas.Bool.{cases_eq, cases_lt}
 use Rattle.ftl_one.specs.declared.role.Role.{Role}
 use Rattle.ftl_one.specs.declared.role.Role.TheVariants.{Free, Open, Closed, Spare, Retired}
-use Rattle.ftl_one.specs.Lawful.{IsLawful, has_pages}
+use Rattle.ftl_one.specs.Lawful.{IsLawful, KnowsSpare, has_pages}
 use Rattle.ftl_one.specs.Stock.{is_retired}
 
 some_same : (b c : ℕ) → Some b ≡ Some c → b ≡ c
@@ -29,6 +29,9 @@ open≢spare r h k = cc
 pub open≢retired : (r : Role) → r ≡ Open → r ≡ Retired → ⊥
 open≢retired r h k = cc
 
+pub free≢spare : (r : Role) → r ≡ Free → r ≡ Spare → ⊥
+free≢spare r h k = cc
+
 pub closed≢spare : (r : Role) → r ≡ Closed → r ≡ Spare → ⊥
 closed≢spare r h k = cc
 
@@ -37,6 +40,20 @@ closed≢retired r h k = cc
 
 pub spare≢retired : (r : Role) → r ≡ Spare → r ≡ Retired → ⊥
 spare≢retired r h k = cc
+
+-- the spare is the one that it was, where another block gets a role that isn't the spare's
+pub spare-kept : (role role' : ℕ → Role) (spare : Option ℕ) (b : ℕ) → KnowsSpare role spare → role b ≢ Spare → role' b ≢ Spare → ((c : ℕ) → c ≢ b → role' c ≡ role c) → KnowsSpare role' spare
+spare-kept role role' spare b knows old new there =
+    record {
+      spare_is = λ c is. elim (cases_eq c b) [
+        | inl e ↦ absurd (new (sym (ap role' e) ∙ is))
+        | inr apart ↦ knows.spare_is c (sym (there c apart) ∙ is)
+      ];
+      spare_at = λ c e. let is = knows.spare_at c e in elim (cases_eq c b) [
+        | inl same ↦ absurd (old (sym (ap role same) ∙ is))
+        | inr apart ↦ there c apart ∙ is
+      ];
+    }
 
 module _ (count pages : ℕ) (size : ℕ → ℕ) (retired : ℕ → Bool) (role : ℕ → Role) (open_block : Option ℕ) (law : IsLawful count pages size retired role open_block) where
   -- a block that isn't retired is one of the device's
@@ -241,3 +258,16 @@ module _ (count pages : ℕ) (size : ℕ → ℕ) (retired : ℕ → Bool) (role
           | inr other ↦ absurd (apart (law.one_spare c spare (sym (others c apart other) ∙ is) is_spare))
         ]
       ]
+
+-- after a collection the victim is the spare, or there is none where its erase failed
+pub spare-collected : (count pages : ℕ) (size : ℕ → ℕ) (retired : ℕ → Bool) (role : ℕ → Role) (open_block : Option ℕ) (victim : ℕ) (failed : Bool) → IsLawful count pages size retired role open_block → victim < count → role victim ≡ cond failed Retired Spare → KnowsSpare role (cond failed None (Some victim))
+spare-collected count pages size retired role open_block victim true law low done =
+    record {
+      spare_is = λ b is. absurd (law.spare_last b victim low is done);
+      spare_at = λ b e. absurd (none_some None b refl e);
+    }
+spare-collected count pages size retired role open_block victim false law low done =
+    record {
+      spare_is = λ b is. ap Some (law.one_spare victim b done is);
+      spare_at = λ b e. ap role (sym (some_same victim b e)) ∙ done;
+    }

@@ -1,4 +1,5 @@
 pub mod Rows
+pub mod MapEntryLemmas
 pub mod EntryLemmas
 pub mod MapLemmas
 pub mod StoreLemmas
@@ -11,3 +12,4 @@ pub mod Current
 pub mod CollectLemmas
 pub mod NewLemmas
 pub mod LawLemmas
+pub mod FewestLemmas

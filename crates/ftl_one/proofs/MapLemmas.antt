@@ -1,13 +1,13 @@
 -- What the map keeps true, as a sector is forgotten, a page is put, and a block is erased.
-use Rattle.std.proofs.Common.{◌≡◌, ◌≢◌, ◌⊎◌, inl, inr, ℕ, suc, ◌+◌, ◌<◌, ◌≤◌, Bool, true, false, cond, eqb, List, [], ◌∷◌, ◌++◌, length, get_or, set, map, sum, sum_by, count_by, Option, None, Some, is_some, sym, ap, ◌∙◌, refl, subst, arith, length-append, length-set, get_or-set_same, get_or-set_other}
+use Rattle.std.proofs.Common.{◌≡◌, ◌≢◌, inl, inr, ℕ, ◌+◌, ◌<◌, ◌≤◌, Bool, true, false, cond, List, [], ◌∷◌, ◌++◌, length, get_or, set, map, count_by, Option, None, Some, is_some, sym, ap, ◌∙◌, refl, subst, arith, length-set, get_or-set_same, get_or-set_other}
 use Rattle.std.specs.Option.{option_map}
-use Rattle.std.proofs.lemmas.List.{length-map, same_lists, get_or_default, get_or_past, get_or-map, get_or_push, map-set, set-get_or, nil_from_length, length_push}
-use Rattle.std.proofs.lemmas.List.Sums.{sum_by-set, sum_by_push, count_by-le-length}
-use Rattle.std.proofs.lemmas.Bool.{false≢true, eqb-true, eq-eqb, ne_eqb, cases_Bool, cases_eq, cases_lt}
+use Rattle.std.proofs.lemmas.List.{length-map, same_lists, get_or-map, map-set, set-get_or, nil_from_length, length_push}
+use Rattle.std.proofs.lemmas.List.Sums.{sum_by-set, sum_by_push}
+use Rattle.std.proofs.lemmas.Bool.{eq-eqb, ne_eqb, cases_eq, cases_lt}
 use Rattle.geometry.specs.declared.page_addr.PageAddr.{PageAddr}
 use Rattle.geometry.specs.Sectors.{Sector}
 use Rattle.die.specs.Pages.{Block, Page, page_at, programmed, erased}
-use Rattle.ftl_one.specs.Stock.{Entry, forgotten, live_entries}
+use Rattle.ftl_one.specs.Stock.{Entry, forgotten}
 use Rattle.ftl_one.specs.Entries.{is_page, names, entry_of, entries_in, live_count, lies, Recounts, IsCurrent, IsMapped, value_in, sectors_in}
 use Rattle.ftl_one.proofs.EntryLemmas.{length-entries, get_or-entries, entries-remapped, entries-programmed, forgotten_elsewhere, forgotten_here, page_at-programmed, page_at-last, is_page-block, is_page-page, is_page-at, names-set_same}
 

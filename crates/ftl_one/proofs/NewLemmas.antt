@@ -1,15 +1,15 @@
 -- A new layer: the last block is the spare, the others are free, and none has a page.
-use Rattle.std.proofs.Common.{◌≡◌, ◌≢◌, ◌⊎◌, inl, inr, ℕ, zero, suc, ◌+◌, ◌<◌, ◌≤◌, Bool, true, false, List, [], ◌∷◌, ◌++◌, length, get_or, set, replicate, map, Option, None, Some, sym, ap, ◌∙◌, refl, subst, arith, length-append, length-set, get_or-set_same, get_or-set_other}
-use Rattle.std.proofs.lemmas.List.{length-replicate, get_or-replicate, get_or_append_left, get_or_push, get_or_past, set_at, replicate_more, length_push, map-append}
-use Rattle.std.proofs.lemmas.Bool.{cases_lt, cases_order}
+use Rattle.std.proofs.Common.{◌≡◌, inl, inr, ℕ, ◌+◌, ◌<◌, Bool, false, List, [], ◌∷◌, ◌++◌, length, get_or, set, replicate, None, Some, sym, ap, ◌∙◌, subst, arith}
+use Rattle.std.proofs.lemmas.List.{length-replicate, get_or-replicate, get_or_append_left, get_or_push, get_or_past, set_at, replicate_more, length_push}
+use Rattle.std.proofs.lemmas.Bool.{cases_order}
 use Rattle.geometry.specs.declared.geometry.Geometry.{Geometry}
-use Rattle.geometry.specs.Geometry.{blocks_of, pages_of}
+use Rattle.geometry.specs.Geometry.{blocks_of}
 use Rattle.ftl_one.specs.declared.role.Role.{Role}
 use Rattle.ftl_one.specs.declared.role.Role.TheVariants.{Free, Open, Closed, Spare, Retired}
 use Rattle.ftl_one.specs.declared.store.Store.{Store}
-use Rattle.ftl_one.specs.Stock.{Block, Entry, unused, is_closed, is_retired}
-use Rattle.ftl_one.specs.Store.{geometry_of, entries_of, erases_of, retired_of, IsNew}
-use Rattle.ftl_one.specs.Lawful.{IsLawful, role_in, has_pages}
+use Rattle.ftl_one.specs.Stock.{Block, Entry, unused, is_retired}
+use Rattle.ftl_one.specs.Store.{entries_of, IsNew}
+use Rattle.ftl_one.specs.Lawful.{IsLawful, KnowsSpare, role_in}
 use Rattle.ftl_one.specs.Blocks.{block_in, blocks_in}
 use Rattle.ftl_one.proofs.BlocksLemmas.{table_is}
 
@@ -107,13 +107,16 @@ lawful-new n pages size retired empty usable =
     none_some : (b : ℕ) → None ≡ Some b → ⊥
     none_some b h = cc
 
--- no block is marked closed
-pub marks_new : (n : ℕ) → map is_closed (roles_new n) ≡ replicate (n + 1) false
-marks_new n = map-append is_closed (replicate n Free) (Spare ∷ []) ∙ (ap (λ (xs : List Bool). xs ++ false ∷ []) (open_all n) ∙ replicate_more n false)
+-- the last block is the spare
+pub spare_new : (n : ℕ) → KnowsSpare (role_in (roles_new n)) (Some n)
+spare_new n =
+    record {
+      spare_is = λ b is. ap Some (sym (only_spare n b is));
+      spare_at = λ b e. ap (role_in (roles_new n)) (sym (some_same b e)) ∙ spare-last n;
+    }
   where
-    open_all : (k : ℕ) → map is_closed (replicate k Free) ≡ replicate k false
-    open_all zero = refl
-    open_all (suc k) = ap (λ (xs : List Bool). false ∷ xs) (open_all k)
+    some_same : (b : ℕ) → Some n ≡ Some b → n ≡ b
+    some_same b h = cc
 
 -- the blocks of a new layer
 pub blocks_new : (s : Store) (g : Geometry) (n : ℕ) → blocks_of g ≡ n + 1 → IsNew s g → blocks_in s (roles_new n) ≡ replicate n (unused Free) ++ unused Spare ∷ []

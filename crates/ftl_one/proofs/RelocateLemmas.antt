@@ -1,15 +1,14 @@
 -- A live page is copied: the copy is the sector's page then, and the array is as before.
-use Rattle.std.proofs.Common.{◌≡◌, ◌≢◌, ℕ, ◌+◌, ◌<◌, ◌≤◌, Bool, true, false, cond, List, [], ◌∷◌, ◌++◌, length, get_or, set, map, Option, None, Some, sym, ap, ◌∙◌, refl, subst, arith}
+use Rattle.std.proofs.Common.{◌≡◌, ◌≢◌, ℕ, ◌<◌, Bool, true, false, cond, List, [], ◌∷◌, ◌++◌, length, get_or, set, map, None, Some, sym, ap, ◌∙◌, refl, arith}
 use Rattle.std.proofs.lemmas.Bool.{ne_eqb}
 use Rattle.geometry.specs.declared.page_addr.PageAddr.{PageAddr}
 use Rattle.geometry.specs.Geometry.{blocks_of, page_bytes_of, sectors_of as sector_count_of}
-use Rattle.geometry.specs.Sectors.{Sector}
 use Rattle.die.specs.declared.die.Die.{Die}
 use Rattle.die.specs.Die.{geometry_of as die_geometry_of, block_of, ChangesBlock, IsNext}
 use Rattle.die.specs.Pages.{Page, page_at, programmed}
 use Rattle.ftl_one.specs.declared.store.Store.{Store}
 use Rattle.ftl_one.specs.Stock.{Entry, forgotten}
-use Rattle.ftl_one.specs.Entries.{is_page, names, entries_in, Recounts, lies, value_in, sectors_in}
+use Rattle.ftl_one.specs.Entries.{entries_in, Recounts, sectors_in}
 use Rattle.ftl_one.specs.Store.{geometry_of, sectors_of, entries_of, live_at, sector_of}
 use Rattle.ftl_one.proofs.EntryLemmas.{is_page-same, forgotten_here}
 use Rattle.ftl_one.proofs.MapLemmas.{set_as_is, sector-at, not_here}

@@ -3,7 +3,7 @@ use Rattle.std.proofs.Common.{◌≡◌, ℕ, List, [], ◌∷◌, ◌++◌, map
 use Rattle.std.specs.Option.{option_and_then, option_map}
 use Rattle.geometry.specs.Greedy.{greedy_of}
 use Rattle.geometry.specs.History.{Call, Write, Trim}
-use Rattle.ftl_one.specs.Stock.{Stock, Block, opening_of, next_of, live_of}
+use Rattle.ftl_one.specs.Stock.{Stock, opening_of, next_of, live_of}
 
 -- the stock of a device after a list of calls, or none where one is refused
 abbrev played : ℕ → ℕ → List Call → Option Stock

@@ -1,5 +1,5 @@
 -- A store in the terms of its die and its map.
-use Rattle.std.proofs.Common.{◌≡◌, ◌≢◌, ◌⊎◌, inl, inr, ℕ, ◌+◌, ◌<◌, ◌≤◌, ◌^◌, Bool, true, false, cond, List, [], ◌∷◌, ◌++◌, length, get_or, set, map, Option, None, Some, sym, ap, ◌∙◌, refl, subst, arith}
+use Rattle.std.proofs.Common.{◌≡◌, ◌≢◌, inl, inr, ℕ, ◌+◌, ◌<◌, ◌≤◌, ◌^◌, true, false, List, [], ◌∷◌, ◌++◌, length, get_or, set, map, Option, None, Some, sym, ap, ◌∙◌, refl, subst, arith}
 use Rattle.std.specs.Option.{IfSome, option_map}
 use Rattle.std.specs.Vec.{with_items}
 use Rattle.std.proofs.lemmas.List.{with_items_is}
@@ -8,15 +8,15 @@ use Rattle.std.proofs.lemmas.Bool.{cases_eq}
 use Rattle.geometry.specs.declared.geometry.Geometry.{Geometry}
 use Rattle.geometry.specs.declared.page_addr.PageAddr.{PageAddr}
 use Rattle.geometry.specs.Geometry.{blocks_of, pages_of, page_bytes_of, sectors_of as sector_count_of}
-use Rattle.geometry.specs.Sectors.{Sector, sector_at, was_of}
+use Rattle.geometry.specs.Sectors.{sector_at, was_of}
 use Rattle.die.specs.declared.die.Die.{Die}
 use Rattle.die.specs.Die.{geometry_of as die_geometry_of, block_of, ChangesBlock, IsUsable, IsProgrammed, IsNext}
 use Rattle.die.specs.Pages.{Block, Page, page_at, programmed}
 use Rattle.die.proofs.DieLemmas.{pages_within}
 use Rattle.ftl_one.specs.declared.store.Store.{Store}
 use Rattle.ftl_one.specs.Stock.{Entry, forgotten}
-use Rattle.ftl_one.specs.Entries.{entry_of, entries_in, live_count, Recounts, IsCurrent, IsMapped, sectors_in, value_in, was_by}
-use Rattle.ftl_one.specs.Store.{geometry_of, sectors_of, entries_of, erases_of, retired_of, counts_of, HasRoom, Puts, KeepsBlocks}
+use Rattle.ftl_one.specs.Entries.{entry_of, entries_in, live_count, Recounts, IsMapped, sectors_in, value_in, was_by}
+use Rattle.ftl_one.specs.Store.{geometry_of, sectors_of, entries_of, erases_of, retired_of, HasRoom}
 use Rattle.ftl_one.proofs.EntryLemmas.{length-entries, get_or-entries}
 use Rattle.ftl_one.proofs.MapLemmas.{Becomes, was_here, sector-at, length-sectors, mapped-put, entries-put, entries-put_other, sectors-put}
 
@@ -64,7 +64,7 @@ unfolding entries_of
 count-entries_of s b low = s.mapped.counts b low
 
 -- a count has room for one more
-pub count_small : (s : Store) (b : ℕ) → b < blocks_of (geometry_of s) → get_or s.live.items b 0 + 1 < 2 ^ 32
+pub count_small : (s : Store) (b : ℕ) → b < blocks_of (geometry_of s) → get_or s.live.items b 0 + 1 < 2 ^ 16
 count_small s b low =
     let most : live_count (entries_of s b) ≤ length (entries_of s b) = count_by-le-length (λ (entry : Entry). entry.live) (entries_of s b) in
     omega (arith, count-entries_of s b low, most, entries_within s b low, s.die.geometry.in_limits.pages_high)

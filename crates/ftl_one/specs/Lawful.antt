@@ -1,7 +1,7 @@
 -- What the layer keeps true of its blocks: by their roles, how many pages they have and whether they are retired.
-use Rattle.std.specs.Prelude.{◌≡◌, ℕ, ◌<◌, ◌≤◌, Bool, true, false, List, Option, None, Some, length, map, slice_index_or}
+use Rattle.std.specs.Prelude.{◌≡◌, ℕ, ◌<◌, ◌≤◌, Bool, true, false, List, Option, Some, slice_index_or}
 use Rattle.ftl_one.specs.declared.role.Role.{Role}
-use Rattle.ftl_one.specs.declared.role.Role.TheVariants.{Free, Open, Closed, Spare, Retired}
+use Rattle.ftl_one.specs.declared.role.Role.TheVariants.{Open, Closed, Spare, Retired}
 use Rattle.ftl_one.specs.Stock.{is_retired}
 
 -- a block of this role has pages
@@ -26,3 +26,8 @@ pub record IsLawful (count pages : ℕ) (size : ℕ → ℕ) (retired : ℕ → 
   pub one_spare : (b c : ℕ) → role b ≡ Spare → role c ≡ Spare → b ≡ c
   pub spare_last : (b c : ℕ) → c < count → role b ≡ Spare → role c ≡ Retired → ⊥
   pub outside : (b : ℕ) → count ≤ b → role b ≡ Retired
+
+-- the spare is the one that is remembered
+pub record KnowsSpare (role : ℕ → Role) (spare : Option ℕ) : Type 0 where
+  pub spare_is : (b : ℕ) → role b ≡ Spare → spare ≡ Some b
+  pub spare_at : (b : ℕ) → spare ≡ Some b → role b ≡ Spare

@@ -4,6 +4,8 @@ pub mod OneFtl
 pub mod Laws
 -- How the layer keeps its pages and roles: internal.
 pub mod Entries
+pub mod MapEntries
 pub mod Store
 pub mod Lawful
+pub mod Fewest
 pub mod Blocks

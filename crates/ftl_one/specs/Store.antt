@@ -5,7 +5,6 @@ use Rattle.geometry.specs.declared.page_addr.PageAddr.{PageAddr}
 use Rattle.geometry.specs.Geometry as geo
 use Rattle.geometry.specs.Sectors.{Sector}
 use Rattle.die.specs.Die as die
-use Rattle.die.specs.Pages.{page_at}
 use Rattle.ftl_one.specs.declared.store.Store.{Store}
 use Rattle.ftl_one.specs.Entries.{entries_in, sectors_in, live_count}
 use Rattle.ftl_one.specs.Stock.{Entry, forgotten, live_entries}

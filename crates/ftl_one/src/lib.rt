@@ -3,6 +3,8 @@
 #![tactic(auto)]
 
 mod copy;
+mod fewest;
+mod map_entry;
 mod one_ftl;
 mod recount;
 mod role;

@@ -1,14 +1,15 @@
-ghost use Rattle.std.specs.Prelude.{◌≡◌, ℕ, ◌+◌, ◌*◌, ◌<◌, ◌≤◌, length, map, sum_by, Option, None, Some};
+ghost use Rattle.std.specs.Prelude.{◌≡◌, ℕ, ◌+◌, ◌*◌, ◌<◌, ◌≤◌, false, length, map, sum_by, Option, None, Some};
 ghost use Rattle.geometry.specs.Geometry.{blocks_of, pages_of, page_bytes_of, endurance_of, sectors_of as sector_count_of, hosts_of};
 ghost use Rattle.ftl_one.specs.Store.{geometry_of as store_geometry_of, entries_of, retired_of};
-ghost use Rattle.ftl_one.specs.Stock.{is_closed};
-ghost use Rattle.ftl_one.specs.Lawful.{IsLawful, role_in};
+ghost use Rattle.ftl_one.specs.Stock.{is_free};
+ghost use Rattle.ftl_one.specs.Lawful.{IsLawful, KnowsSpare, role_in};
 ghost use Rattle.ftl_one.specs.Blocks.{blocks_in, weight};
 
+use crate::fewest::fewest_beside;
 use crate::role::Role;
-use crate::roles::{assign, hand_over, lowest_free, spare_in};
+use crate::roles::{hand_over, lowest_free, next_spare};
 use crate::store::Store;
-use geometry::{Geometry, Got, Was, greedy};
+use geometry::{Geometry, Got, Was};
 use std::alloc::{AllocError, Global};
 use thiserror::Error;
 
@@ -41,13 +42,16 @@ pub struct Counts {
 pub struct OneFtl {
     store: Store,
     roles: Vec<Role>,
-    // Which blocks are closed, for the choice of a victim.
-    closed: Vec<bool>,
     open_block: Option<u32>,
+    spare: Option<u32>,
+    // No block below is free: a block that is opened is never free again.
+    free_from: usize,
     counts: Counts,
     ghost one_thread: { hosts_of (store_geometry_of store) ≡ 0 },
     ghost roles_sized: { length roles.items ≡ blocks_of (store_geometry_of store) },
-    ghost closed_marks: { closed.items ≡ map is_closed roles.items },
+    ghost free_within: { free_from ≤ length roles.items },
+    ghost free_above: { (b : ℕ) → b < free_from → is_free (role_in roles.items b) ≡ false },
+    ghost knows_spare: { KnowsSpare (role_in roles.items) spare },
     ghost lawful: { IsLawful (blocks_of (store_geometry_of store)) (pages_of (store_geometry_of store)) (λ b. length (entries_of store b)) (retired_of store) (role_in roles.items) open_block },
     ghost bounded: { counts.programs + counts.copies + counts.erases ≤ sum_by (weight (pages_of (store_geometry_of store))) (blocks_in store roles.items) },
 }
@@ -69,16 +73,16 @@ impl OneFtl {
         ensures empty { IfOk result (λ ftl. sectors_of ftl ≡ after (sector_count_of geometry.now) []) }
         ensures stock { IfOk result (λ ftl. stock_of ftl ≡ opening geometry.now) }
     {
-        let blocks = geometry.blocks() as usize;
+        let blocks = geometry.blocks();
         let store = Store::new(alloc, geometry)?;
-        let mut roles = vec![in alloc; Role::Free; blocks]?;
-        roles[blocks - 1] = Role::Spare;
-        let closed = vec![in alloc; false; blocks]?;
+        let mut roles = vec![in alloc; Role::Free; blocks as usize]?;
+        roles[blocks as usize - 1] = Role::Spare;
         Ok(OneFtl {
             store,
             roles,
-            closed,
             open_block: None,
+            spare: Some(blocks - 1),
+            free_from: 0,
             counts: Counts {
                 programs: 0,
                 copies: 0,
@@ -194,7 +198,7 @@ impl OneFtl {
         requires { block < blocks_of (geometry_of self.now) }
         ensures { result ≡ live_of (block_at (stock_of self.now) block) }
     {
-        self.store.live()[block as usize]
+        u32::from(self.store.live()[block as usize])
     }
 
     /// Whether a block's last erase has failed, so that it is never used again.
@@ -217,12 +221,12 @@ impl OneFtl {
         if let Some(block) = self.open_block {
             return Some(block);
         }
-        if let Some(block) = lowest_free(&self.roles) {
+        if let Some(block) = lowest_free(&self.roles, self.free_from) {
             let block = block as u32;
             self.open(block);
             return Some(block);
         }
-        let spare = spare_in(&self.roles)? as u32;
+        let spare = self.spare?;
         self.collect(spare);
         Some(spare)
     }
@@ -236,7 +240,8 @@ impl OneFtl {
         ensures stock { stock_of self.new ≡ opened (stock_of self.old) block }
         ensures opened { open_of (stock_of self.new).blocks ≡ Some block }
     {
-        assign(&mut self.roles, &mut self.closed, block, Role::Open);
+        self.roles[block as usize] = Role::Open;
+        self.free_from = block as usize + 1;
         self.open_block = Some(block);
     }
 
@@ -250,16 +255,14 @@ impl OneFtl {
         ensures stock { collect (endurance_of (geometry_of self.old)) (stock_of self.old) spare (victim_of (stock_of self.old).blocks) ≡ Some (stock_of self.new) }
         ensures opened { open_of (stock_of self.new).blocks ≡ Some spare }
     {
-        let Some(victim) = greedy(self.store.live(), &self.closed) else {
-            unreachable!()
-        };
-        let victim = victim as u32;
+        let victim = fewest_beside(self.store.live(), spare as usize) as u32;
         let copies = self.store.clear(victim, spare);
         let failed = self.store.erase(victim);
         self.counts.copies += u64::from(copies);
         self.counts.erases += 1;
-        hand_over(&mut self.roles, &mut self.closed, spare, victim, failed);
+        hand_over(&mut self.roles, spare, victim, failed);
         self.open_block = Some(spare);
+        self.spare = next_spare(victim, failed);
     }
 
     // Programs the open block's next page for a sector, and closes the block if it is full then.
@@ -275,7 +278,7 @@ impl OneFtl {
         let was = self.store.put(block, sector, bytes);
         self.counts.programs += 1;
         if self.store.is_full(block) {
-            assign(&mut self.roles, &mut self.closed, block, Role::Closed);
+            self.roles[block as usize] = Role::Closed;
             self.open_block = None;
         }
         was

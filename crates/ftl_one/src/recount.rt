@@ -4,11 +4,11 @@ ghost use Rattle.ftl_one.specs.Entries.{Recounts};
 use geometry::PageAddr;
 
 /// Counts one page as dead and one as live, where there are such.
-pub fn recount(counts: &mut [u32], dead: Option<PageAddr>, live: Option<PageAddr>)
+pub fn recount(counts: &mut [u16], dead: Option<PageAddr>, live: Option<PageAddr>)
     requires dead_within { IfSome dead (λ at. at.block < length counts.old) }
     requires counted { IfSome dead (λ at. 0 < slice_index counts.old at.block) }
     requires live_within { IfSome live (λ at. at.block < length counts.old) }
-    requires room { IfSome live (λ at. slice_index counts.old at.block + 1 < 2 ^ 32) }
+    requires room { IfSome live (λ at. slice_index counts.old at.block + 1 < 2 ^ 16) }
     ensures { Recounts counts.old counts.new dead live }
 {
     if let Some(at) = dead {

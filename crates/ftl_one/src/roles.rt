@@ -1,45 +1,41 @@
-ghost use Rattle.std.specs.Prelude.{◌≡◌, ◌<◌, false, if◌then◌else◌, length, slice_set};
+ghost use Rattle.std.specs.Prelude.{◌≡◌, ℕ, ◌<◌, ◌≤◌, false, if◌then◌else◌, length, slice_set, None, Some};
 ghost use Rattle.std.specs.List.{position};
-ghost use Rattle.ftl_one.specs.Stock.{is_free, is_spare, is_closed};
+ghost use Rattle.ftl_one.specs.Lawful.{role_in};
+ghost use Rattle.ftl_one.specs.Stock.{is_free};
 ghost use Rattle.ftl_one.specs.declared.role.Role.TheVariants.{Open, Spare, Retired};
 
 use crate::role::Role;
 
-/// Gives a block a role, and marks it closed just where that role is.
-pub fn assign(roles: &mut [Role], closed: &mut [bool], block: u32, role: Role)
-    requires roles { block < length roles.old }
-    requires closed { block < length closed.old }
-    ensures roles { roles.new ≡ slice_set roles.old block role }
-    ensures closed { closed.new ≡ slice_set closed.old block (is_closed role) }
-{
-    roles[block as usize] = role;
-    closed[block as usize] = matches!(role, Role::Closed);
-}
-
 /// Makes the spare the open block and the victim the spare, or retires the victim where its erase has failed.
-pub fn hand_over(roles: &mut [Role], closed: &mut [bool], spare: u32, victim: u32, failed: bool)
-    requires spare_role { spare < length roles.old }
-    requires spare_mark { spare < length closed.old }
-    requires victim_role { victim < length roles.old }
-    requires victim_mark { victim < length closed.old }
-    ensures roles { roles.new ≡ slice_set (slice_set roles.old spare Open) victim (if failed then Retired else Spare) }
-    ensures closed { closed.new ≡ slice_set (slice_set closed.old spare false) victim false }
+pub fn hand_over(roles: &mut [Role], spare: u32, victim: u32, failed: bool)
+    requires spare { spare < length roles.old }
+    requires victim { victim < length roles.old }
+    ensures { roles.new ≡ slice_set (slice_set roles.old spare Open) victim (if failed then Retired else Spare) }
 {
-    let role = if failed { Role::Retired } else { Role::Spare };
-    assign(roles, closed, spare, Role::Open);
-    assign(roles, closed, victim, role);
+    roles[spare as usize] = Role::Open;
+    roles[victim as usize] = if failed { Role::Retired } else { Role::Spare };
 }
 
-/// The lowest free block.
-pub fn lowest_free(roles: &[Role]) -> Option<usize>
+/// The spare after a collection: the victim, unless its erase has failed.
+pub fn next_spare(victim: u32, failed: bool) -> Option<u32>
+    ensures { result ≡ (if failed then None else Some victim) }
+{
+    if failed { None } else { Some(victim) }
+}
+
+// The first free one of these roles.
+fn first_free(roles: &[Role]) -> Option<usize>
     ensures { result ≡ position is_free roles.now }
 {
     roles.iter().position(|role| matches!(role, Role::Free))
 }
 
-/// The spare.
-pub fn spare_in(roles: &[Role]) -> Option<usize>
-    ensures { result ≡ position is_spare roles.now }
+/// The lowest free block, where none below the given one is free.
+pub fn lowest_free(roles: &[Role], from: usize) -> Option<usize>
+    requires within { from ≤ length roles.now }
+    requires none_below { (b : ℕ) → b < from → is_free (role_in roles.now b) ≡ false }
+    ensures { result ≡ position is_free roles.now }
 {
-    roles.iter().position(|role| matches!(role, Role::Spare))
+    let ahead = first_free(&roles[from..])?;
+    Some(from + ahead)
 }

@@ -6,19 +6,21 @@ ghost use Rattle.die.specs.Die.{geometry_of as die_geometry_of, block_of};
 ghost use Rattle.ftl_one.specs.Entries.{IsMapped, was_by};
 
 use crate::copy::copy_page;
+use crate::map_entry::MapEntry;
 use crate::recount::recount;
 use die::Die;
 use geometry::{Geometry, Got, PageAddr, Was};
 use std::alloc::{AllocError, Global};
+use std::mem;
 
 /// The pages of a die, and the map from sectors to their current pages.
 #[derive(Drop)]
 pub struct Store {
     die: Die,
     // The current page of each sector.
-    current: Vec<Option<PageAddr>>,
+    current: Vec<MapEntry>,
     // The live pages of each block.
-    live: Vec<u32>,
+    live: Vec<u16>,
     // Room for a page on its way to another LUN.
     page: Vec<u8>,
     ghost page_sized: { length page.items ≡ page_bytes_of (die_geometry_of die) },
@@ -35,7 +37,7 @@ impl Store {
     {
         Ok(Store {
             die: Die::new(alloc, geometry)?,
-            current: vec![in alloc; None; geometry.sectors() as usize]?,
+            current: vec![in alloc; MapEntry::none(); geometry.sectors() as usize]?,
             live: vec![in alloc; 0; geometry.blocks() as usize]?,
             page: vec![in alloc; 0; geometry.page_bytes()]?,
         })
@@ -48,7 +50,7 @@ impl Store {
     }
 
     /// The counts of live pages, block by block.
-    pub fn live(&self) -> &[u32]
+    pub fn live(&self) -> &[u16]
         ensures value { result.now ≡ counts_of self.now }
         ensures size { length result.now ≡ blocks_of (geometry_of self.now) }
     {
@@ -68,7 +70,7 @@ impl Store {
         requires page { length out.old ≡ page_bytes_of (geometry_of self.now) }
         ensures { Answers (sector_at (sectors_of self.now) sector) result out.old out.new }
     {
-        match self.current[sector as usize] {
+        match self.current[sector as usize].page() {
             None => Got::Empty,
             Some(at) => {
                 self.die.read(at, out);
@@ -82,7 +84,7 @@ impl Store {
         requires { sector < sector_count_of (geometry_of self.now) }
         ensures { result ≡ was_of (sector_at (sectors_of self.now) sector) }
     {
-        answer_of(self.current[sector as usize])
+        answer_of(self.current[sector as usize].page())
     }
 
     /// Empties a sector, and answers what it was.
@@ -93,7 +95,8 @@ impl Store {
         ensures entries { (b : ℕ) → b < blocks_of (geometry_of self.old) → Forgets self.old self.new sector b }
         ensures keeps { KeepsBlocks self.old self.new }
     {
-        let was = self.current[sector as usize].take();
+        let entry = mem::replace(&mut self.current[sector as usize], MapEntry::none());
+        let was = entry.page();
         recount(&mut self.live, was, None);
         answer_of(was)
     }
@@ -109,7 +112,8 @@ impl Store {
     {
         let at = self.next_page(block);
         self.die.program(at, bytes, sector);
-        let was = self.current[sector as usize].replace(at);
+        let entry = mem::replace(&mut self.current[sector as usize], MapEntry::of(at));
+        let was = entry.page();
         recount(&mut self.live, was, Some(at));
         answer_of(was)
     }
@@ -133,7 +137,7 @@ impl Store {
         requires page { at.page < length (entries_of self.now at.block) }
         ensures { result ≡ live_at self.now at }
     {
-        self.current[self.die.stamp(at) as usize] == Some(at)
+        self.current[self.die.stamp(at) as usize].page() == Some(at)
     }
 
     // Copies a live page behind the others of another block, which has the sector's current page then.
@@ -149,7 +153,7 @@ impl Store {
         let to = self.next_page(block);
         let sector = self.die.stamp(source) as u32;
         copy_page(&mut self.die, &mut self.page, sector, source, to);
-        self.current[sector as usize] = Some(to);
+        self.current[sector as usize] = MapEntry::of(to);
         recount(&mut self.live, Some(source), Some(to));
     }
 

@@ -1,4 +1,3 @@
-use Rattle.std.proofs.Common.{◌∙◌}
 use Rattle.ftl_one.specs.OneFtl.{geometry_of, sectors_of}
 use Rattle.ftl_one.proofs.StoreLemmas.{length-sectors_of}
 use Rattle.ftl_one.proofs.one_ftl.OneFtl.geometry.Goals as goal

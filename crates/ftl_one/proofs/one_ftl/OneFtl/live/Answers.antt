@@ -15,5 +15,6 @@ unfolding geometry_of counts_of
 returns c =
     let f = c.args.self.now in
     let b = c.args.block in
-    ap (λ (xs : List ℕ). get_or xs b 0) c.live.ensures.value
-    ∙ (count-entries_of f.store b c.requires ∙ sym (ap live_of (block_at-stock f b c.requires)))
+    c.from.ensures
+    ∙ (ap (λ (xs : List ℕ). get_or xs b 0) c.live.ensures.value
+    ∙ (count-entries_of f.store b c.requires ∙ sym (ap live_of (block_at-stock f b c.requires))))

@@ -1,22 +1,19 @@
-use Rattle.std.proofs.Common.{◌≡◌, ◌≢◌, ◌⊎◌, inl, inr, ◌∙◌, ℕ, ◌+◌, ◌-◌, ◌*◌, ◌<◌, ◌≤◌, ◌^◌, Bool, true, false, cond, eqb, List, [], ◌∷◌, ◌++◌, length, get_or, set, map, sum_by, replicate, Option, None, Some, sym, ap, refl, subst, arith, length-set, get_or-set_same, get_or-set_other}
-use Rattle.std.specs.Vec.{with_items, vec_len}
+use Rattle.std.proofs.Common.{◌≡◌, ◌∙◌, ℕ, ◌<◌, false, List, length, Option, None, Some, sym, ap, refl, subst, arith}
 use Rattle.std.specs.List.{position}
-use Rattle.std.proofs.lemmas.List.{with_items_is, length-map, map-set}
-use Rattle.geometry.specs.declared.geometry.Geometry.{Geometry}
-use Rattle.geometry.specs.Geometry.{blocks_of, pages_of, page_bytes_of, endurance_of, sectors_of as sector_count_of, hosts_of}
-use Rattle.geometry.specs.History.{step, Write, Trim, after}
+use Rattle.geometry.specs.Geometry.{endurance_of}
 use Rattle.ftl_one.specs.declared.role.Role.{Role}
-use Rattle.ftl_one.specs.declared.role.Role.TheVariants.{Free, Open, Closed, Spare, Retired}
-use Rattle.ftl_one.specs.declared.store.Store.{Store}
-use Rattle.ftl_one.specs.declared.one_ftl.OneFtl.{OneFtl}
-use Rattle.ftl_one.specs.Stock.{Stock, Block, is_free, is_open, is_spare, is_closed, open_of, free_of, spare_of, victim_of, next, next_of, opening, opening_of, opened, ready, ready_by, write_of, write_into, collect, forget, change_at, unused, with_page, closed_if_full}
-use Rattle.ftl_one.specs.Store as pages
-use Rattle.ftl_one.specs.Lawful.{IsLawful, role_in}
-use Rattle.ftl_one.specs.Blocks.{block_in, blocks_in, weight}
-use Rattle.ftl_one.specs.OneFtl.{geometry_of, sectors_of, stock_of}
-use Rattle.ftl_one.proofs.LawfulLemmas.{lawful-same, lawful-open, lawful-put, lawful-close, lawful-collect, inside}
-use Rattle.ftl_one.proofs.FtlLemmas.{free_by, open_by, closed_by, spare_by, none_found, open_of-stock, free_of-stock, spare_of-stock, victim_of-stock, blocks-forget, blocks-put, blocks-role, blocks-collect, weight-forget, weight-put, weight-role, weight-collect}
+use Rattle.ftl_one.specs.Stock.{Stock, is_free, open_of, free_of, spare_of, ready, ready_by}
+use Rattle.ftl_one.specs.Lawful.{role_in}
+use Rattle.ftl_one.specs.OneFtl.{geometry_of, stock_of}
+use Rattle.ftl_one.proofs.FtlLemmas.{open_of-stock, free_of-stock, spare_of-stock}
 use Rattle.ftl_one.proofs.one_ftl.OneFtl.make_ready.Goals as goal
+
+pub lowest_free-requires-clause-within : goal.lowest_free-requires-clause-within
+lowest_free-requires-clause-within c = omega (arith, c.args.self.now.free_within, ap (λ (xs : List Role). length xs) c.deref.ensures.value)
+
+pub lowest_free-requires-clause-none_below : goal.lowest_free-requires-clause-none_below
+lowest_free-requires-clause-none_below c =
+    subst (λ (xs : List Role). (b : ℕ) → b < c.args.self.now.free_from → is_free (role_in xs b) ≡ false) (sym c.deref.ensures.value) c.args.self.now.free_above
 
 -- what the stock is ready for, by what is open, free and spare
 ready_is : (E : ℕ) (k : Stock) (o f s : Option ℕ) → open_of k.blocks ≡ o → free_of k.blocks ≡ f → spare_of k.blocks ≡ s → ready E k ≡ ready_by E k o f s
@@ -56,7 +53,7 @@ returns-in_err-spare-clause-none c =
     (ready_is (endurance_of (geometry_of c.args.self.now)) k None None None
     (open_of-stock c.args.self.now ∙ c.in_default.is)
     (free_of-stock c.args.self.now ∙ (ap (position is_free) (sym c.deref.ensures.value) ∙ (sym c.lowest_free.ensures ∙ c.in_default-lowest_free.is)))
-    (spare_of-stock c.args.self.now ∙ (ap (position is_spare) (sym c.deref-2.ensures.value) ∙ (sym c.spare_in.ensures ∙ c.in_err-spare.was))))
+    (spare_of-stock c.args.self.now ∙ c.in_err-spare.was))
 
 pub collect-requires-clause-none : goal.collect-requires-clause-none
 collect-requires-clause-none c = open_of-stock c.args.self.now ∙ c.in_default.is
@@ -67,13 +64,13 @@ collect-requires-clause-no_free c =
 
 pub collect-requires-clause-spare : goal.collect-requires-clause-spare
 collect-requires-clause-spare c =
-    spare_of-stock c.args.self.now ∙ (ap (position is_spare) (sym c.deref-2.ensures.value) ∙ (sym c.spare_in.ensures ∙ c.in_ok-spare.was))
+    spare_of-stock c.args.self.now ∙ c.in_ok-spare.was
 
 pub returns-clause-ready : goal.returns-clause-ready
 returns-clause-ready c =
     let k = stock_of c.args.self.now in
-    ready_is (endurance_of (geometry_of c.args.self.now)) k None None (Some c.in_ok-spare.field-0)
+    ready_is (endurance_of (geometry_of c.args.self.now)) k None None (Some c.in_ok-spare.spare)
     (open_of-stock c.args.self.now ∙ c.in_default.is)
     (free_of-stock c.args.self.now ∙ (ap (position is_free) (sym c.deref.ensures.value) ∙ (sym c.lowest_free.ensures ∙ c.in_default-lowest_free.is)))
-    (spare_of-stock c.args.self.now ∙ (ap (position is_spare) (sym c.deref-2.ensures.value) ∙ (sym c.spare_in.ensures ∙ c.in_ok-spare.was)))
+    (spare_of-stock c.args.self.now ∙ c.in_ok-spare.was)
     ∙ c.collect.ensures.stock

@@ -1,26 +1,22 @@
-use Rattle.std.proofs.Common.{◌≡◌, ◌≢◌, ◌⊎◌, inl, inr, ◌∙◌, ℕ, ◌+◌, ◌-◌, ◌*◌, ◌<◌, ◌≤◌, ◌^◌, Bool, true, false, cond, eqb, List, [], ◌∷◌, ◌++◌, length, get_or, set, map, sum_by, replicate, Option, None, Some, sym, ap, refl, subst, arith, length-set, get_or-set_same, get_or-set_other}
-use Rattle.std.specs.Vec.{with_items, vec_len}
-use Rattle.std.specs.List.{position}
-use Rattle.std.proofs.lemmas.List.{with_items_is, length-map, map-set}
+use Rattle.std.proofs.Common.{◌≡◌, ◌≢◌, ◌∙◌, ℕ, ◌+◌, ◌<◌, ◌≤◌, Bool, true, cond, eqb, List, length, set, map, sum_by, Option, None, Some, sym, ap, refl, subst, arith, length-set, get_or-set_same, get_or-set_other}
+use Rattle.std.proofs.lemmas.List.{length-map}
 use Rattle.geometry.specs.declared.geometry.Geometry.{Geometry}
-use Rattle.geometry.specs.Geometry.{blocks_of, pages_of, page_bytes_of, endurance_of, sectors_of as sector_count_of, hosts_of}
-use Rattle.geometry.specs.History.{step, Write, Trim, after}
+use Rattle.geometry.specs.Geometry.{blocks_of, pages_of, hosts_of}
 use Rattle.ftl_one.specs.declared.role.Role.{Role}
-use Rattle.ftl_one.specs.declared.role.Role.TheVariants.{Free, Open, Closed, Spare, Retired}
-use Rattle.ftl_one.specs.declared.store.Store.{Store}
-use Rattle.ftl_one.specs.declared.one_ftl.OneFtl.{OneFtl}
-use Rattle.ftl_one.specs.Stock.{Stock, Block, is_free, is_open, is_spare, is_closed, open_of, free_of, spare_of, victim_of, next, next_of, opening, opening_of, opened, ready, ready_by, write_of, write_into, collect, forget, change_at, unused, with_page, closed_if_full}
+use Rattle.ftl_one.specs.declared.role.Role.TheVariants.{Closed, Retired}
+use Rattle.ftl_one.specs.Stock.{Stock, Block, write_of, write_into, forget, change_at, with_page, closed_if_full}
 use Rattle.ftl_one.specs.Store as pages
 use Rattle.ftl_one.specs.Lawful.{IsLawful, role_in}
-use Rattle.ftl_one.specs.Blocks.{block_in, blocks_in, weight}
+use Rattle.ftl_one.specs.Blocks.{blocks_in, weight}
 use Rattle.ftl_one.specs.OneFtl.{geometry_of, sectors_of, stock_of}
-use Rattle.ftl_one.proofs.LawfulLemmas.{lawful-same, lawful-open, lawful-put, lawful-close, lawful-collect, inside}
-use Rattle.ftl_one.proofs.FtlLemmas.{free_by, open_by, closed_by, spare_by, none_found, open_of-stock, free_of-stock, spare_of-stock, victim_of-stock, blocks-forget, blocks-put, blocks-role, blocks-collect, weight-forget, weight-put, weight-role, weight-collect}
+use Rattle.ftl_one.proofs.LawfulLemmas.{lawful-put, lawful-close}
+use Rattle.ftl_one.proofs.FtlLemmas.{blocks-put, weight-put}
 use Rattle.std.proofs.lemmas.List.{length_push}
 use Rattle.std.proofs.lemmas.Bool.{eqb-true, eqb-false}
 use Rattle.ftl_one.specs.Stock.{Entry, forgotten}
 use Rattle.ftl_one.proofs.StoreLemmas.{entries_within}
-use Rattle.ftl_one.proofs.FtlLemmas.{length-blocks, open_found, open_room, total_small, roles_now, marks_now}
+use Rattle.ftl_one.proofs.FtlLemmas.{length-blocks, open_found, open_room, total_small, free-kept}
+use Rattle.ftl_one.proofs.LawfulLemmas.{open≢spare, closed≢spare, spare-kept}
 use Rattle.ftl_one.proofs.one_ftl.OneFtl.write_into.Goals as goal
 use Rattle.ftl_one.proofs.one_ftl.OneFtl.write_into.Goals.{After-put-was, After-is_full}
 
@@ -41,15 +37,10 @@ overflow_add-self c = omega (arith, total_small c.args.self.now)
 pub is_full-requires : goal.is_full-requires
 is_full-requires c = omega (arith, (open_found c.args.self.now c.args.block c.requires.opened).0, ap blocks_of c.put-was.ensures.puts.keeps.geometry)
 
-pub assign-requires-clause-roles : goal.assign-requires-clause-roles
-assign-requires-clause-roles c =
+pub index_mut-requires : goal.index_mut-requires
+index_mut-requires c =
     let f = c.args.self.now in
-    omega (arith, (open_found f c.args.block c.requires.opened).0, f.roles_sized, ap (λ (xs : List Role). length xs) c.deref_mut.ensures.value)
-
-pub assign-requires-clause-closed : goal.assign-requires-clause-closed
-assign-requires-clause-closed c =
-    let f = c.args.self.now in
-    omega (arith, (open_found f c.args.block c.requires.opened).0, f.roles_sized, ap (λ (xs : List Bool). length xs) c.deref_mut-then-is_full.ensures.value, ap (λ (xs : List Bool). length xs) f.closed_marks, length-map f.roles.items is_closed)
+    omega (arith, (open_found f c.args.block c.requires.opened).0, f.roles_sized, f.roles.ok.0)
 
 -- the block has one more page
 the_size : (c : After-put-was) → length (pages.entries_of c.put-was.new.self c.args.block) ≡ length (pages.entries_of c.args.self.now.store c.args.block) + 1
@@ -101,16 +92,14 @@ invariant_of-self c =
     let last : length (pages.entries_of s b) ≡ pages_of g = eqb-true (length (pages.entries_of s b)) (pages_of g) (sym (the_test full) ∙ c.if-is_full.true) in
     let law = lawful-close (blocks_of g) (pages_of g) (λ k. length (pages.entries_of f.store k)) (pages.retired_of f.store) (role_in f.roles.items) f.open_block f.lawful
     (λ k. length (pages.entries_of s k)) (pages.retired_of s) (role_in new) b found.1 last (other_sizes put) c.put-was.ensures.puts.keeps.retired here there in
-    let roles = roles_now f c.deref_mut.result.now c.assign.new.roles b Closed c.assign.ensures.roles c.deref_mut.ensures.value in
-    let marks = marks_now f c.deref_mut-then-is_full.result.now c.assign.new.closed b true c.assign.ensures.closed c.deref_mut-then-is_full.ensures.value in
     record {
       one_thread = ap hosts_of same ∙ f.one_thread;
-      roles_sized = ap (λ (xs : List Role). length xs) roles ∙ (length-set f.roles.items b Closed ∙ (f.roles_sized ∙ ap blocks_of (sym same)));
-      closed_marks = marks ∙ (ap (λ (xs : List Bool). set xs b true) f.closed_marks ∙ (sym (map-set is_closed f.roles.items b Closed) ∙ ap (map is_closed) (sym roles)));
-      lawful = subst (λ (h : Geometry). IsLawful (blocks_of h) (pages_of h) (λ k. length (pages.entries_of s k)) (pages.retired_of s) (role_in (with_items f.roles c.assign.new.roles).items) None) (sym same)
-          (subst (λ (xs : List Role). IsLawful (blocks_of g) (pages_of g) (λ k. length (pages.entries_of s k)) (pages.retired_of s) (role_in xs) None) (sym roles) law);
-      bounded = subst (λ (xs : List Role). f.counts.programs + 1 + f.counts.copies + f.counts.erases ≤ sum_by (weight (pages_of (pages.geometry_of s))) (blocks_in s xs)) (sym roles)
-          (the_weight full new (length-set f.roles.items b Closed) (here ∙ ap (λ (t : Bool). cond t Closed (role_in f.roles.items b)) (sym c.if-is_full.true)) there);
+      roles_sized = length-set f.roles.items b Closed ∙ (f.roles_sized ∙ ap blocks_of (sym same));
+      free_within = omega (arith, f.free_within, length-set f.roles.items b Closed);
+      free_above = free-kept f.roles.items f.free_from b Closed f.free_above low refl;
+      knows_spare = spare-kept (role_in f.roles.items) (role_in new) f.spare b f.knows_spare (λ h. open≢spare (role_in f.roles.items b) found.1 h) (λ h. closed≢spare (role_in new b) here h) there;
+      lawful = subst (λ (h : Geometry). IsLawful (blocks_of h) (pages_of h) (λ k. length (pages.entries_of s k)) (pages.retired_of s) (role_in new) None) (sym same) law;
+      bounded = the_weight full new (length-set f.roles.items b Closed) (here ∙ ap (λ (t : Bool). cond t Closed (role_in f.roles.items b)) (sym c.if-is_full.true)) there;
     }
 
 pub invariant_of-self-else-is_full : goal.invariant_of-self-else-is_full
@@ -131,7 +120,9 @@ invariant_of-self-else-is_full c =
     record {
       one_thread = ap hosts_of same ∙ f.one_thread;
       roles_sized = f.roles_sized ∙ ap blocks_of (sym same);
-      closed_marks = f.closed_marks;
+      free_within = f.free_within;
+      free_above = f.free_above;
+      knows_spare = f.knows_spare;
       lawful = subst (λ (h : Geometry). IsLawful (blocks_of h) (pages_of h) (λ k. length (pages.entries_of s k)) (pages.retired_of s) (role_in f.roles.items) f.open_block) (sym same) law;
       bounded = the_weight full f.roles.items refl (ap (λ (t : Bool). cond t Closed (role_in f.roles.items b)) (sym c.if-is_full.false)) (λ k apart. refl);
     }
@@ -165,9 +156,8 @@ returns-then-is_full-clause-stock c =
     let full = (goal.at.returns-then-is_full-clause-stock c).After-is_full in
     let low : b < length f.roles.items = omega (arith, (open_found f b c.requires.opened).0, f.roles_sized) in
     let new = set f.roles.items b Closed in
-    the_stock full (blocks_in c.put-was.new.self (with_items f.roles c.assign.new.roles).items)
-    (ap (blocks_in c.put-was.new.self) (roles_now f c.deref_mut.result.now c.assign.new.roles b Closed c.assign.ensures.roles c.deref_mut.ensures.value)
-    ∙ the_blocks full new (length-set f.roles.items b Closed)
+    the_stock full (blocks_in c.put-was.new.self new)
+    (the_blocks full new (length-set f.roles.items b Closed)
     (get_or-set_same f.roles.items b Closed Retired low ∙ ap (λ (t : Bool). cond t Closed (role_in f.roles.items b)) (sym c.if-is_full.true))
     (λ k apart. get_or-set_other f.roles.items b k Closed Retired apart))
 

@@ -1,7 +1,7 @@
-use Rattle.std.proofs.Common.{◌≡◌, ◌∙◌, ℕ, ◌<◌, length, ap, sym, arith}
+use Rattle.std.proofs.Common.{◌∙◌, ◌<◌, length, ap, sym, arith}
 use Rattle.geometry.specs.Geometry.{blocks_of}
 use Rattle.ftl_one.specs.Store.{entries_of}
-use Rattle.ftl_one.proofs.StoreLemmas.{length-entries_of, entries_within}
+use Rattle.ftl_one.proofs.StoreLemmas.{length-entries_of}
 use Rattle.ftl_one.proofs.ClearLemmas.{ClearedTo-none, ClearedTo-dead, ClearedTo-live, ClearedTo-room, ClearedTo-all, copies_below}
 use Rattle.ftl_one.proofs.store.Store.clear.Goals as goal
 use Rattle.ftl_one.proofs.store.Store.clear.Goals.{then-is_live, else-is_live}

@@ -1,11 +1,11 @@
-use Rattle.std.proofs.Common.{◌≡◌, ◌∙◌, ℕ, ◌<◌, ◌+◌, Bool, true, false, cond, eqb, List, [], length, get_or, sym, ap, refl, subst, arith}
+use Rattle.std.proofs.Common.{◌≡◌, ◌∙◌, ℕ, ◌+◌, Bool, true, false, cond, eqb, List, sym, ap, refl, subst}
 use Rattle.geometry.specs.declared.geometry.Geometry.{Geometry}
 use Rattle.geometry.specs.Geometry.{blocks_of, page_bytes_of, endurance_of, sectors_of as sector_count_of}
 use Rattle.die.specs.Die.{geometry_of as die_geometry_of, block_of}
 use Rattle.die.specs.Pages.{Block, erased}
 use Rattle.ftl_one.specs.Stock.{Entry}
-use Rattle.ftl_one.specs.Entries.{IsMapped, entries_in, sectors_in, live_count}
-use Rattle.ftl_one.specs.Store.{geometry_of, sectors_of, entries_of, erases_of, retired_of}
+use Rattle.ftl_one.specs.Entries.{IsMapped, entries_in, sectors_in}
+use Rattle.ftl_one.specs.Store.{sectors_of, entries_of, erases_of, retired_of}
 use Rattle.ftl_one.proofs.MapLemmas.{Becomes, mapped-erase, entries-erase, sectors-erase}
 use Rattle.ftl_one.proofs.StoreLemmas.{usable_block}
 use Rattle.ftl_one.proofs.store.Store.erase.Goals as goal

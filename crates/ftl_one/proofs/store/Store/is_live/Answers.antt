@@ -1,4 +1,4 @@
-use Rattle.std.proofs.Common.{◌≡◌, ◌∙◌, ℕ, ◌<◌, Bool, false, length, get_or, Option, None, Some, sym, ap, refl, subst, arith, rules}
+use Rattle.std.proofs.Common.{◌≡◌, ◌∙◌, ℕ, ◌<◌, false, length, get_or, Option, None, Some, sym, ap, refl, arith}
 use Rattle.std.proofs.lemmas.List.{get_or_read}
 use Rattle.std.specs.Option.{option_eq}
 use Rattle.geometry.specs.contracts.page_addr.PageAddrPartialEq.TheImpl.{eq-value}
@@ -6,8 +6,7 @@ use Rattle.geometry.specs.declared.page_addr.PageAddr.{PageAddr}
 use Rattle.die.specs.Die.{block_of}
 use Rattle.die.specs.Pages.{page_at}
 use Rattle.ftl_one.specs.Stock.{Entry}
-use Rattle.ftl_one.specs.Entries.{is_page, entry_of}
-use Rattle.ftl_one.specs.Store.{entries_of}
+use Rattle.ftl_one.specs.Entries.{is_page}
 use Rattle.ftl_one.proofs.StoreLemmas.{size_of, programmed_page, length-entries_of, get_or-entries_of}
 use Rattle.ftl_one.proofs.store.Store.is_live.Goals as goal
 
@@ -33,6 +32,6 @@ returns c =
     let named : c.index.result.now ≡ get_or s.current.items page.stamp None =
     get_or_read s.current.items c.stamp.result c.index.result.now (omega (arith, low, c.stamp.ensures)) c.index.ensures None ∙ ap (λ (k : ℕ). get_or s.current.items k None) c.stamp.ensures in
     c.eq.ensures
-    ∙ (the_eq at c.index.result.now
-    ∙ (ap (λ (o : Option PageAddr). is_page o at.block at.page) named
+    ∙ (the_eq at c.page.result
+    ∙ (ap (λ (o : Option PageAddr). is_page o at.block at.page) (c.page.ensures ∙ named)
     ∙ ap (λ (e : Entry). e.live) (sym (get_or-entries_of s at.block at.page (record { sector = 0; live = false }) c.requires.page))))

@@ -1,4 +1,4 @@
-use Rattle.std.proofs.Common.{◌≡◌, ◌∙◌, ◌⊎◌, inl, inr, ℕ, zero, suc, cond, ◌+◌, ◌<◌, ◌≤◌, List, [], ◌∷◌, length, map, get_or, replicate, sum, sum_by, count_by, Option, None, Some, is_some, sym, ap, refl, subst, arith, rules}
+use Rattle.std.proofs.Common.{◌≡◌, ◌∙◌, inl, inr, ℕ, zero, suc, cond, ◌<◌, List, [], ◌∷◌, length, map, get_or, replicate, sum_by, Option, None, Some, is_some, sym, ap, refl, subst, arith, rules}
 use Rattle.std.specs.Option.{option_map}
 use Rattle.std.proofs.lemmas.List.{length-replicate, get_or-replicate, get_or_past, nil_from_length}
 use Rattle.std.proofs.lemmas.List.Sums.{sum_by-cons}
@@ -9,7 +9,6 @@ use Rattle.geometry.specs.Geometry.{blocks_of, page_bytes_of, sectors_of as sect
 use Rattle.geometry.specs.Sectors.{Sector}
 use Rattle.die.specs.Die.{geometry_of as die_geometry_of, block_of}
 use Rattle.die.specs.Pages.{Block, new_block}
-use Rattle.ftl_one.specs.Stock.{Entry}
 use Rattle.ftl_one.specs.Entries.{IsMapped, entries_in, sectors_in, value_in, live_count}
 use Rattle.ftl_one.specs.Store.{sectors_of, entries_of, erases_of, retired_of}
 use Rattle.ftl_one.proofs.EntryLemmas.{length-entries}
@@ -35,7 +34,7 @@ no_entries : (n : ℕ) (current : List (Option PageAddr)) (b : ℕ) (block : Blo
 no_entries n current b block e = nil_from_length (entries_in n current b block) (length-entries n current b block ∙ ap (λ (k : Block). length k.pages) e)
 
 the_current : (c : In_ok-vec-3) → c.in_ok-vec.field-0.items ≡ replicate c.sectors.result None
-the_current c = c.in_ok-vec.ensures.items_if_clones_equal (λ y h. search rules)
+the_current c = c.in_ok-vec.ensures.items_if_clones_equal (λ y h. search rules) ∙ ap (λ (o : Option PageAddr). replicate c.sectors.result o) c.none.ensures
 
 the_live : (c : In_ok-vec-3) → c.in_ok-vec-2.field-0.items ≡ replicate c.blocks-2.result 0
 the_live c = c.in_ok-vec-2.ensures.items_if_clones_equal (λ y h. search rules)

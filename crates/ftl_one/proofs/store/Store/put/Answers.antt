@@ -1,18 +1,17 @@
-use Rattle.std.proofs.Common.{◌≡◌, ◌∙◌, ℕ, ◌+◌, ◌<◌, ◌^◌, List, length, get_or, set, Option, None, Some, sym, ap, refl, subst, arith}
+use Rattle.std.proofs.Common.{◌≡◌, ◌∙◌, ℕ, ◌<◌, List, length, get_or, set, Option, None, Some, sym, ap, subst, arith}
 use Rattle.std.specs.Option.{IfSome}
 use Rattle.std.specs.Vec.{with_items}
 use Rattle.std.proofs.lemmas.List.{get_or_read}
 use Rattle.geometry.specs.declared.page_addr.PageAddr.{PageAddr}
-use Rattle.geometry.specs.declared.geometry.Geometry.{Geometry}
 use Rattle.geometry.specs.Geometry.{blocks_of, page_bytes_of, sectors_of as sector_count_of}
-use Rattle.die.specs.Die.{geometry_of as die_geometry_of, block_of, IsNext, ChangesBlock}
-use Rattle.die.specs.Pages.{Page, programmed}
+use Rattle.die.specs.Die.{geometry_of as die_geometry_of, block_of, IsNext}
+use Rattle.die.specs.Pages.{Page}
 use Rattle.ftl_one.specs.Stock.{Entry}
 use Rattle.ftl_one.specs.Entries.{Recounts, IsMapped, sectors_in, entries_in}
-use Rattle.ftl_one.specs.Store.{geometry_of, sectors_of, entries_of, erases_of, retired_of}
+use Rattle.ftl_one.specs.Store.{sectors_of, entries_of, erases_of, retired_of}
 use Rattle.ftl_one.proofs.StoreLemmas.{next_of_block, count_small, named_within, named_counted, was-named, recounted, put-mapped, put-sectors, put-changed, put-others, put-erases, put-retired}
 use Rattle.ftl_one.proofs.store.Store.put.Goals as goal
-use Rattle.ftl_one.proofs.store.Store.put.Goals.{After-next_page-at, After-replace-was, After-recount}
+use Rattle.ftl_one.proofs.store.Store.put.Goals.{After-next_page-at, After-page-was, After-recount}
 
 the_next : (c : After-next_page-at) → IsNext c.args.self.now.die c.next_page-at.result
 the_next c = next_of_block c.args.self.now c.next_page-at.result c.args.block c.requires.room c.next_page-at.ensures.block c.next_page-at.ensures.page
@@ -20,21 +19,27 @@ the_next c = next_of_block c.args.self.now c.next_page-at.result c.args.block c.
 pub program-requires-clause-next : goal.program-requires-clause-next
 program-requires-clause-next c = the_next (goal.at.program-requires-clause-next c).After-next_page-at
 
+pub of-requires-clause-block : goal.of-requires-clause-block
+of-requires-clause-block c = omega (arith, c.next_page-at.ensures.block, c.requires.room.within, c.args.self.now.die.geometry.in_limits.blocks_high)
+
+pub of-requires-clause-page : goal.of-requires-clause-page
+of-requires-clause-page c = omega (arith, c.next_page-at.ensures.page, c.requires.room.room, c.args.self.now.die.geometry.in_limits.pages_high)
+
 -- the page that the map named
-the_was : (c : After-replace-was) → get_or c.args.self.now.current.items c.args.sector None ≡ c.replace-was.result
+the_was : (c : After-page-was) → get_or c.args.self.now.current.items c.args.sector None ≡ c.page-was.result
 the_was c =
     let s = c.args.self.now in
-    sym (c.replace-was.ensures.value ∙ get_or_read s.current.items c.args.sector c.index_mut.result.now (omega (arith, c.requires.sector, s.mapped.current_size)) c.index_mut.ensures.value None)
+    sym (c.page-was.ensures ∙ (c.replace-entry.ensures.value ∙ get_or_read s.current.items c.args.sector c.index_mut.result.now (omega (arith, c.requires.sector, s.mapped.current_size)) c.index_mut.ensures.value None))
 
 pub recount-requires-clause-dead_within : goal.recount-requires-clause-dead_within
 recount-requires-clause-dead_within c =
-    let was = the_was (goal.at.recount-requires-clause-dead_within c).After-replace-was in
-    subst (λ (xs : List ℕ). IfSome c.replace-was.result (λ at. at.block < length xs)) (sym c.deref_mut.ensures.value) (named_within c.args.self.now c.args.sector c.replace-was.result was)
+    let was = the_was (goal.at.recount-requires-clause-dead_within c).After-page-was in
+    subst (λ (xs : List ℕ). IfSome c.page-was.result (λ at. at.block < length xs)) (sym c.deref_mut.ensures.value) (named_within c.args.self.now c.args.sector c.page-was.result was)
 
 pub recount-requires-clause-counted : goal.recount-requires-clause-counted
 recount-requires-clause-counted c =
-    let was = the_was (goal.at.recount-requires-clause-counted c).After-replace-was in
-    subst (λ (xs : List ℕ). IfSome c.replace-was.result (λ at. 0 < get_or xs at.block 0)) (sym c.deref_mut.ensures.value) (named_counted c.args.self.now c.args.sector c.replace-was.result was)
+    let was = the_was (goal.at.recount-requires-clause-counted c).After-page-was in
+    subst (λ (xs : List ℕ). IfSome c.page-was.result (λ at. 0 < get_or xs at.block 0)) (sym c.deref_mut.ensures.value) (named_counted c.args.self.now c.args.sector c.page-was.result was)
 
 pub recount-requires-clause-live_within : goal.recount-requires-clause-live_within
 recount-requires-clause-live_within c =
@@ -48,10 +53,10 @@ recount-requires-clause-room c =
     omega (arith, small, ap (λ (k : ℕ). get_or s.live.items k 0) c.next_page-at.ensures.block, ap (λ (xs : List ℕ). get_or xs c.next_page-at.result.block 0) c.deref_mut.ensures.value)
 
 -- the counts with the new page in place of that one
-the_counts : (c : After-recount) → get_or c.args.self.now.current.items c.args.sector None ≡ c.replace-was.result → Recounts c.args.self.now.live.items c.recount.new.counts (get_or c.args.self.now.current.items c.args.sector None) (Some c.next_page-at.result)
+the_counts : (c : After-recount) → get_or c.args.self.now.current.items c.args.sector None ≡ c.page-was.result → Recounts c.args.self.now.live.items c.recount.new.counts (get_or c.args.self.now.current.items c.args.sector None) (Some c.next_page-at.result)
 the_counts c was =
     subst (λ (o : Option PageAddr). Recounts c.args.self.now.live.items c.recount.new.counts o (Some c.next_page-at.result)) (sym was)
-    (subst (λ (xs : List ℕ). Recounts xs c.recount.new.counts c.replace-was.result (Some c.next_page-at.result)) c.deref_mut.ensures.value c.recount.ensures)
+    (subst (λ (xs : List ℕ). Recounts xs c.recount.new.counts c.page-was.result (Some c.next_page-at.result)) c.deref_mut.ensures.value c.recount.ensures)
 
 -- the page that is put
 abbrev the_page : After-recount → Page
@@ -61,7 +66,7 @@ pub invariant_of-self : goal.invariant_of-self
 invariant_of-self c =
     let s = c.args.self.now in
     let at_end = (goal.at.invariant_of-self c).After-recount in
-    let was = the_was (goal.at.invariant_of-self c).After-replace-was in
+    let was = the_was (goal.at.invariant_of-self c).After-page-was in
     let next = the_next (goal.at.invariant_of-self c).After-next_page-at in
     let counts = the_counts at_end was in
     let g = die_geometry_of c.program.new.self in
@@ -70,24 +75,24 @@ invariant_of-self c =
     let P : Option PageAddr → List ℕ → Type 0 = λ o xs. IsMapped (page_bytes_of g) (blocks_of g) (sector_count_of g) (block_of c.program.new.self) (set s.current.items c.args.sector o) xs in
     record {
       page_sized = s.page_sized ∙ ap page_bytes_of (sym c.program.ensures.changes.geometry);
-      mapped = subst (λ (o : Option PageAddr). P o (with_items s.live c.recount.new.counts).items) (sym c.replace-was.ensures.after)
+      mapped = subst (λ (o : Option PageAddr). P o (with_items s.live c.recount.new.counts).items) (sym (c.replace-entry.ensures.after ∙ c.of.ensures))
           (subst (λ (xs : List ℕ). P (Some at) xs) (sym (recounted s c.recount.new.counts (get_or s.current.items c.args.sector None) (Some at) counts)) mapped);
     }
 
 pub returns-clause-answer : goal.returns-clause-answer
 returns-clause-answer c =
-    let was = the_was (goal.at.returns-clause-answer c).After-replace-was in
-    c.answer_of.ensures ∙ was-named c.args.self.now c.args.sector c.replace-was.result c.requires.sector (sym was)
+    let was = the_was (goal.at.returns-clause-answer c).After-page-was in
+    c.answer_of.ensures ∙ was-named c.args.self.now c.args.sector c.page-was.result c.requires.sector (sym was)
 
 pub returns-clause-sectors : goal.returns-clause-sectors
 unfolding sectors_of
 returns-clause-sectors c =
     let s = c.args.self.now in
     let at_end = (goal.at.returns-clause-sectors c).After-recount in
-    let was = the_was (goal.at.returns-clause-sectors c).After-replace-was in
+    let was = the_was (goal.at.returns-clause-sectors c).After-page-was in
     let next = the_next (goal.at.returns-clause-sectors c).After-next_page-at in
     let die = c.program.new.self in
-    ap (λ (o : Option PageAddr). sectors_in (page_bytes_of (die_geometry_of die)) (block_of die) (set s.current.items c.args.sector o)) c.replace-was.ensures.after
+    ap (λ (o : Option PageAddr). sectors_in (page_bytes_of (die_geometry_of die)) (block_of die) (set s.current.items c.args.sector o)) (c.replace-entry.ensures.after ∙ c.of.ensures)
     ∙ put-sectors s die c.next_page-at.result (the_page at_end) c.recount.new.counts c.requires.sector next c.program.ensures.changes (the_counts at_end was)
 
 pub returns-clause-puts : goal.returns-clause-puts
@@ -95,15 +100,15 @@ unfolding entries_of erases_of retired_of
 returns-clause-puts c =
     let s = c.args.self.now in
     let at_end = (goal.at.returns-clause-puts c).After-recount in
-    let was = the_was (goal.at.returns-clause-puts c).After-replace-was in
+    let was = the_was (goal.at.returns-clause-puts c).After-page-was in
     let next = the_next (goal.at.returns-clause-puts c).After-next_page-at in
     let die = c.program.new.self in
     let at = c.next_page-at.result in
     let counts = the_counts at_end was in
     let by : Option PageAddr → ℕ → List Entry = λ o b. entries_in (page_bytes_of (die_geometry_of die)) (set s.current.items c.args.sector o) b (block_of die b) in
     rw (← c.next_page-at.ensures.block) (record {
-      changed = ap (λ (o : Option PageAddr). by o at.block) c.replace-was.ensures.after ∙ put-changed s die at (the_page at_end) c.recount.new.counts c.requires.sector next c.program.ensures.changes counts;
-      others = λ b apart low. ap (λ (o : Option PageAddr). by o b) c.replace-was.ensures.after ∙ put-others s die at (the_page at_end) c.recount.new.counts c.requires.sector next c.program.ensures.changes counts b apart low;
+      changed = ap (λ (o : Option PageAddr). by o at.block) (c.replace-entry.ensures.after ∙ c.of.ensures) ∙ put-changed s die at (the_page at_end) c.recount.new.counts c.requires.sector next c.program.ensures.changes counts;
+      others = λ b apart low. ap (λ (o : Option PageAddr). by o b) (c.replace-entry.ensures.after ∙ c.of.ensures) ∙ put-others s die at (the_page at_end) c.recount.new.counts c.requires.sector next c.program.ensures.changes counts b apart low;
       keeps = record {
         geometry = c.program.ensures.changes.geometry;
         erases = put-erases s die at (the_page at_end) c.recount.new.counts c.requires.sector next c.program.ensures.changes counts;

@@ -1,8 +1,7 @@
-use Rattle.std.proofs.Common.{◌≡◌, ◌∙◌, ℕ, ◌<◌, length, get_or, Option, None, Some, sym, ap, refl, subst, arith}
+use Rattle.std.proofs.Common.{◌≡◌, ◌∙◌, get_or, Option, None, Some, sym, refl, arith}
 use Rattle.std.proofs.lemmas.List.{get_or_read}
 use Rattle.std.specs.Option.{option_map}
 use Rattle.geometry.specs.declared.page_addr.PageAddr.{PageAddr}
-use Rattle.geometry.specs.Sectors.{Sector, Answers}
 use Rattle.die.specs.Die.{block_of}
 use Rattle.ftl_one.specs.Entries.{value_in}
 use Rattle.ftl_one.specs.Store.{sectors_of}
@@ -27,13 +26,13 @@ the_sector c o e =
 pub read-requires-clause-usable : goal.read-requires-clause-usable
 read-requires-clause-usable c =
     let s = c.args.self.now in
-    let is = s.mapped.named c.args.sector c.in-Some.at (sym (the_page (goal.at.read-requires-clause-usable c).After-index) ∙ c.in-Some.is) in
+    let is = s.mapped.named c.args.sector c.in-Some.at (sym (the_page (goal.at.read-requires-clause-usable c).After-index) ∙ (sym c.page.ensures ∙ c.in-Some.is)) in
     record { within = is.block; not_retired = is.usable }
 
 pub returns-in-None : goal.returns-in-None
 returns-in-None c =
-    rw (the_sector (goal.at.returns-in-None c).After-index None c.in-None.is) (refl, refl)
+    rw (the_sector (goal.at.returns-in-None c).After-index None (sym c.page.ensures ∙ c.in-None.is)) (refl, refl)
 
 pub returns-in-Some : goal.returns-in-Some
 returns-in-Some c =
-    rw (the_sector (goal.at.returns-in-Some c).After-index (Some c.in-Some.at) c.in-Some.is) (refl, c.read.ensures.value)
+    rw (the_sector (goal.at.returns-in-Some c).After-index (Some c.in-Some.at) (sym c.page.ensures ∙ c.in-Some.is)) (refl, c.read.ensures.value)

@@ -1,5 +1,4 @@
-use Rattle.std.proofs.Common.{◌≡◌, ◌≢◌, ◌∙◌, ℕ, ◌+◌, ◌<◌, ◌^◌, List, length, get_or, set, Option, None, Some, sym, ap, refl, subst, arith}
-use Rattle.std.specs.Option.{IfSome}
+use Rattle.std.proofs.Common.{◌≡◌, ◌≢◌, ◌∙◌, ℕ, List, length, get_or, set, Option, None, Some, sym, ap, subst, arith}
 use Rattle.std.specs.Vec.{with_items}
 use Rattle.std.proofs.lemmas.List.{with_items_is}
 use Rattle.geometry.specs.declared.page_addr.PageAddr.{PageAddr}
@@ -7,8 +6,8 @@ use Rattle.geometry.specs.Geometry.{blocks_of, page_bytes_of, sectors_of as sect
 use Rattle.die.specs.Die.{geometry_of as die_geometry_of, block_of, IsNext}
 use Rattle.ftl_one.specs.Stock.{Entry}
 use Rattle.ftl_one.specs.Entries.{Recounts, IsMapped, sectors_in, entries_in}
-use Rattle.ftl_one.specs.Store.{geometry_of, sectors_of, entries_of, erases_of, retired_of, sector_of}
-use Rattle.ftl_one.proofs.StoreLemmas.{size_of, programmed_page, next_of_block, count_small, named_counted, recounted, put-mapped, put-erases, put-retired}
+use Rattle.ftl_one.specs.Store.{sectors_of, entries_of, erases_of, retired_of}
+use Rattle.ftl_one.proofs.StoreLemmas.{programmed_page, next_of_block, count_small, named_counted, recounted, put-mapped, put-erases, put-retired}
 use Rattle.ftl_one.proofs.RelocateLemmas.{page_of, sector_of-page, names_live, stamp_below, relocate-copied, relocate-dead, relocate-others, relocate-sectors}
 use Rattle.ftl_one.proofs.store.Store.relocate.Goals as goal
 use Rattle.ftl_one.proofs.store.Store.relocate.Goals.{After-next_page-to, After-recount}
@@ -30,6 +29,12 @@ copy_page-requires-clause-next c = next_of_block c.args.self.now c.next_page-to.
 -- the page that is programmed is the block's next
 the_next : (c : After-next_page-to) → IsNext c.args.self.now.die c.next_page-to.result
 the_next c = next_of_block c.args.self.now c.next_page-to.result c.args.block c.requires.room c.next_page-to.ensures.block c.next_page-to.ensures.page
+
+pub of-requires-clause-block : goal.of-requires-clause-block
+of-requires-clause-block c = omega (arith, c.next_page-to.ensures.block, c.requires.room.within, c.args.self.now.die.geometry.in_limits.blocks_high)
+
+pub of-requires-clause-page : goal.of-requires-clause-page
+of-requires-clause-page c = omega (arith, c.next_page-to.ensures.page, c.requires.room.room, c.args.self.now.die.geometry.in_limits.pages_high)
 
 pub index_mut-requires : goal.index_mut-requires
 index_mut-requires c =
@@ -78,13 +83,14 @@ invariant_of-self c =
     let g = die_geometry_of die in
     let at = c.next_page-to.result in
     let mapped = put-mapped s die at page c.recount.new.counts (stamp_below s c.args.source c.requires.source_block c.requires.source_page) next c.copy_page.ensures.changes counts in
-    let P : ℕ → List ℕ → Type 0 = λ k xs. IsMapped (page_bytes_of g) (blocks_of g) (sector_count_of g) (block_of die) (set s.current.items k (Some at)) xs in
+    let P : ℕ → Option PageAddr → List ℕ → Type 0 = λ k o xs. IsMapped (page_bytes_of g) (blocks_of g) (sector_count_of g) (block_of die) (set s.current.items k o) xs in
     let buffer : (with_items s.page c.copy_page.new.page).items ≡ c.copy_page.new.page =
     with_items_is s.page c.copy_page.new.page (omega (arith, c.copy_page.auto.page, c.deref_mut.ensures.len)) in
     record {
       page_sized = ap (λ (xs : List ℕ). length xs) buffer ∙ (c.copy_page.auto.page ∙ (ap (λ (xs : List ℕ). length xs) c.deref_mut.ensures.value ∙ (s.page_sized ∙ ap page_bytes_of (sym c.copy_page.ensures.changes.geometry))));
-      mapped = subst (λ (k : ℕ). P k (with_items s.live c.recount.new.counts).items) (sym c.stamp-sector.ensures)
-          (subst (λ (xs : List ℕ). P page.stamp xs) (sym (recounted s c.recount.new.counts (get_or s.current.items page.stamp None) (Some at) counts)) mapped);
+      mapped = subst (λ (o : Option PageAddr). P c.stamp-sector.result o (with_items s.live c.recount.new.counts).items) (sym c.of.ensures)
+          (subst (λ (k : ℕ). P k (Some at) (with_items s.live c.recount.new.counts).items) (sym c.stamp-sector.ensures)
+          (subst (λ (xs : List ℕ). P page.stamp (Some at) xs) (sym (recounted s c.recount.new.counts (get_or s.current.items page.stamp None) (Some at) counts)) mapped));
     }
 
 pub returns : goal.returns
@@ -100,13 +106,16 @@ returns c =
     let live = c.recount.new.counts in
     let low = stamp_below s c.args.source c.requires.source_block c.requires.source_page in
     let apart : c.args.source.block ≢ at.block = λ e. c.requires.apart (e ∙ c.next_page-to.ensures.block) in
-    let by : ℕ → ℕ → List Entry = λ k b. entries_in (page_bytes_of (die_geometry_of die)) (set s.current.items k (Some at)) b (block_of die b) in
-    let e = c.stamp-sector.ensures in
+    let by : ℕ → Option PageAddr → ℕ → List Entry = λ k o b. entries_in (page_bytes_of (die_geometry_of die)) (set s.current.items k o) b (block_of die b) in
+    let e : (b : ℕ) → by c.stamp-sector.result c.of.result b ≡ by page.stamp (Some at) b = λ b.
+    ap (λ (o : Option PageAddr). by c.stamp-sector.result o b) c.of.ensures ∙ ap (λ (k : ℕ). by k (Some at) b) c.stamp-sector.ensures in
     rw (← c.next_page-to.ensures.block, sector_of-page s c.args.source c.requires.source_page) (record {
-      copied = ap (λ (k : ℕ). by k at.block) e ∙ relocate-copied s die c.args.source at live c.requires.source_block c.requires.source_page c.requires.live apart next c.copy_page.ensures.changes counts;
-      dead = ap (λ (k : ℕ). by k c.args.source.block) e ∙ relocate-dead s die c.args.source at live c.requires.source_block c.requires.source_page c.requires.live apart next c.copy_page.ensures.changes counts;
-      others = λ b first second inside. ap (λ (k : ℕ). by k b) e ∙ relocate-others s die c.args.source at live c.requires.source_block c.requires.source_page c.requires.live apart next c.copy_page.ensures.changes counts b first second inside;
-      sectors = ap (λ (k : ℕ). sectors_in (page_bytes_of (die_geometry_of die)) (block_of die) (set s.current.items k (Some at))) e ∙ relocate-sectors s die c.args.source at live c.requires.source_block c.requires.source_page c.requires.live apart next c.copy_page.ensures.changes counts;
+      copied = e at.block ∙ relocate-copied s die c.args.source at live c.requires.source_block c.requires.source_page c.requires.live apart next c.copy_page.ensures.changes counts;
+      dead = e c.args.source.block ∙ relocate-dead s die c.args.source at live c.requires.source_block c.requires.source_page c.requires.live apart next c.copy_page.ensures.changes counts;
+      others = λ b first second inside. e b ∙ relocate-others s die c.args.source at live c.requires.source_block c.requires.source_page c.requires.live apart next c.copy_page.ensures.changes counts b first second inside;
+      sectors = ap (λ (o : Option PageAddr). sectors_in (page_bytes_of (die_geometry_of die)) (block_of die) (set s.current.items c.stamp-sector.result o)) c.of.ensures
+          ∙ (ap (λ (k : ℕ). sectors_in (page_bytes_of (die_geometry_of die)) (block_of die) (set s.current.items k (Some at))) c.stamp-sector.ensures
+          ∙ relocate-sectors s die c.args.source at live c.requires.source_block c.requires.source_page c.requires.live apart next c.copy_page.ensures.changes counts);
       keeps = record {
         geometry = c.copy_page.ensures.changes.geometry;
         erases = put-erases s die at page live low next c.copy_page.ensures.changes counts;

@@ -1,5 +1,6 @@
-use Rattle.std.proofs.Common.{◌∙◌, None, arith}
+use Rattle.std.proofs.Common.{◌∙◌, None, ap, arith}
 use Rattle.std.proofs.lemmas.List.{get_or_read}
+use Rattle.ftl_one.specs.Entries.{was_by}
 use Rattle.ftl_one.proofs.StoreLemmas.{was-named}
 use Rattle.ftl_one.proofs.store.Store.was.Goals as goal
 
@@ -7,4 +8,5 @@ pub returns : goal.returns
 returns c =
     let s = c.args.self.now in
     c.answer_of.ensures
-    ∙ was-named s c.args.sector c.index.result.now c.requires (get_or_read s.current.items c.args.sector c.index.result.now (omega (arith, c.requires, s.mapped.current_size)) c.index.ensures None)
+    ∙ (ap was_by c.page.ensures
+    ∙ was-named s c.args.sector c.index.result.now c.requires (get_or_read s.current.items c.args.sector c.index.result.now (omega (arith, c.requires, s.mapped.current_size)) c.index.ensures None))
