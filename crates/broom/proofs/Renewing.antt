@@ -92,6 +92,10 @@ loaded_unread : (v w : View) (b : ℕ) (p : PinWord) → FitsPin p → p.phase �
 loaded_unread v w b p fits drained unread h =
     let same : h.state ≡ p = pin_same h.state p h.fits fits (sym h.found) in h.ready (ap (λ (x : PinWord). x.phase) same ∙ drained) (ap (λ (x : PinWord). x.readers) same ∙ unread)
 
+-- a block that isn't drained was loaded
+pub loaded_stale : (v w : View) (b : ℕ) (p : PinWord) → FitsPin p → ¬ (p.phase ≡ Drained) → Loaded v b (pin_word p) w → w ≡ record v { loaded = v.loaded ++ (b, pin_word p) ∷ []; stale = v.stale ++ b ∷ [] }
+loaded_stale v w b p fits other h = let same : h.state ≡ p = pin_same h.state p h.fits fits (sym h.found) in h.stale (λ is. other (ap (λ (x : PinWord). x.phase) (sym same) ∙ is))
+
 -- a load, a condemn and the wiping of all words, one after the other
 pub was_wiped : (f : Flash) (s l m t : BroomSeat) (b : ℕ) (p : PinWord) → IsRested f s → FitsPin p → p.phase ≡ Drained → p.readers ≡ 0 → Loaded (broom_view s) b (pin_word p) (broom_view l) → own_blocks l ≡ own_blocks s
     → NowErases (broom_view l) (own_blocks l) b p (broom_view m) (own_blocks m) → broom_view t ≡ record (broom_view m) { wiped = words_in_block (device f) } → own_blocks t ≡ own_blocks m → WasWiped s b p t
