@@ -8,7 +8,7 @@ use Rattle.geometry.specs.Geometry.{blocks_of, pages_of}
 use Rattle.ftl_one.specs.declared.store.Store.{Store}
 use Rattle.ftl_one.specs.Stock.{Entry, live_entries}
 use Rattle.ftl_one.specs.Entries.{live_count}
-use Rattle.ftl_one.specs.Store.{geometry_of, sectors_of, entries_of, live_at, sector_of, KeepsBlocks, HasRoom, HasRoomFor, Relocates, Clears}
+use Rattle.ftl_one.specs.Store.{geometry_of, array_of, entries_of, live_at, sector_of, KeepsBlocks, HasRoom, HasRoomFor, Relocates, Clears}
 
 -- the first p pages of the victim are copied as far as they are live
 pub record ClearedTo (old now : Store) (victim spare p copies : ℕ) : Type 0 where
@@ -18,7 +18,7 @@ pub record ClearedTo (old now : Store) (victim spare p copies : ℕ) : Type 0 wh
   pub dead : live_count (take p (entries_of now victim)) ≡ 0
   pub count : copies ≡ live_count (take p (entries_of old victim))
   pub others : (c : ℕ) → c ≢ spare → c ≢ victim → c < blocks_of (geometry_of old) → entries_of now c ≡ entries_of old c
-  pub sectors : sectors_of now ≡ sectors_of old
+  pub sectors : array_of now ≡ array_of old
   pub keeps : KeepsBlocks old now
 
 abbrev nothing : Entry

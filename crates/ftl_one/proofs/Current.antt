@@ -6,7 +6,7 @@ use mathlib.Core.Logic.{dite}
 use native.Mathlib.Decide.{ℕ_discrete}
 use Rattle.std.specs.Option.{option_and_then}
 use Rattle.std.specs.Prelude.{◌==◌, if◌then◌else◌}
-use Rattle.geometry.specs.Geometry.{pages_of, endurance_of, sectors_of as sector_count_of}
+use Rattle.geometry.specs.Geometry.{pages_of, endurance_of, sectors_of}
 use Rattle.geometry.specs.History.{Write, WriteNew}
 use Rattle.geometry.specs.Sectors.{Sector, sector_at, was_of}
 use Rattle.geometry.specs.declared.answer.Was.TheVariants as was
@@ -19,7 +19,7 @@ use Rattle.ftl_one.specs.Stock.{Entry, Stock, Block as StockBlock, unused, is_cu
 use Rattle.ftl_one.specs.declared.role.Role.TheVariants.{Retired}
 use Rattle.ftl_one.specs.Entries.{names, is_page, entries_in, value_in}
 use Rattle.ftl_one.specs.Store as pages
-use Rattle.ftl_one.specs.OneFtl.{geometry_of, sectors_of, stock_of}
+use Rattle.ftl_one.specs.OneFtl.{geometry_of, array_of, stock_of}
 use Rattle.ftl_one.specs.Blocks.{blocks_in}
 use Rattle.ftl_one.proofs.EntryLemmas.{length-entries, get_or-entries, is_page-at}
 use Rattle.ftl_one.proofs.MapLemmas.{sector-at}
@@ -75,8 +75,8 @@ module _ (f : OneFtl) (s : ℕ) where
       ∙ one_current (size_of f.store) f.store.current.items s at.block (block_of f.store.die at.block) at named refl is.page is.stamp)
 
   -- what the stock says, by what the sector holds
-  pub has_page-stock : s < sector_count_of (geometry_of f) → has_page s (stock_of f) ≡ is_some (sector_at (sectors_of f) s)
-  unfolding sectors_of geometry_of pages.sectors_of
+  pub has_page-stock : s < sectors_of (geometry_of f) → has_page s (stock_of f) ≡ is_some (sector_at (array_of f) s)
+  unfolding array_of geometry_of pages.array_of
   has_page-stock low =
       let o = get_or f.store.current.items s None in
       by_map o refl

@@ -2,14 +2,14 @@
 use Rattle.std.proofs.Common.{◌≡◌, ◌≢◌, ℕ, ◌<◌, Bool, true, false, cond, List, [], ◌∷◌, ◌++◌, length, get_or, set, map, None, Some, sym, ap, ◌∙◌, refl, arith}
 use Rattle.std.proofs.lemmas.Bool.{ne_eqb}
 use Rattle.geometry.specs.declared.page_addr.PageAddr.{PageAddr}
-use Rattle.geometry.specs.Geometry.{blocks_of, page_bytes_of, sectors_of as sector_count_of}
+use Rattle.geometry.specs.Geometry.{blocks_of, page_bytes_of, sectors_of}
 use Rattle.die.specs.declared.die.Die.{Die}
 use Rattle.die.specs.Die.{geometry_of as die_geometry_of, block_of, ChangesBlock, IsNext}
 use Rattle.die.specs.Pages.{Page, page_at, programmed}
 use Rattle.ftl_one.specs.declared.store.Store.{Store}
 use Rattle.ftl_one.specs.Stock.{Entry, forgotten}
 use Rattle.ftl_one.specs.Entries.{entries_in, Recounts, sectors_in}
-use Rattle.ftl_one.specs.Store.{geometry_of, sectors_of, entries_of, live_at, sector_of}
+use Rattle.ftl_one.specs.Store.{geometry_of, array_of, entries_of, live_at, sector_of}
 use Rattle.ftl_one.proofs.EntryLemmas.{is_page-same, forgotten_here}
 use Rattle.ftl_one.proofs.MapLemmas.{set_as_is, sector-at, not_here}
 use Rattle.ftl_one.proofs.StoreLemmas.{size_of, length-entries_of, get_or-entries_of, put-changed, put-others, put-sectors}
@@ -29,7 +29,7 @@ names_live s at low live =
     let to : PageAddr = found.0 in
     found.1 ∙ ap Some (ap (λ (k : ℕ). let a : PageAddr = record { block = k; page = to.page } in a) found.2 ∙ ap (λ (k : ℕ). let a : PageAddr = record { block = at.block; page = k } in a) found.3)
 
-pub stamp_below : (s : Store) (at : PageAddr) → at.block < blocks_of (geometry_of s) → at.page < length (entries_of s at.block) → (page_of s at).stamp < sector_count_of (geometry_of s)
+pub stamp_below : (s : Store) (at : PageAddr) → at.block < blocks_of (geometry_of s) → at.page < length (entries_of s at.block) → (page_of s at).stamp < sectors_of (geometry_of s)
 stamp_below s at inside low = s.mapped.stamps at.block at.page inside (omega (arith, low, length-entries_of s at.block))
 
 module _ (old : Store) (die : Die) (source at : PageAddr) (live : List ℕ) (inside : source.block < blocks_of (geometry_of old)) (short : source.page < length (entries_of old source.block)) (alive : live_at old source ≡ true) (apart : source.block ≢ at.block) (next : IsNext old.die at) (changes : ChangesBlock old.die die at.block (programmed (block_of old.die at.block) (page_of old source))) (counts : Recounts old.live.items live (get_or old.current.items (page_of old source).stamp None) (Some at)) where
@@ -37,7 +37,7 @@ module _ (old : Store) (die : Die) (source at : PageAddr) (live : List ℕ) (ins
   unfolding entries_of
   elsewhere c other =
       let g = die_geometry_of old.die in
-      not_here (page_bytes_of g) (blocks_of g) (sector_count_of g) (block_of old.die) old.current.items old.live.items old.mapped (page_of old source).stamp c (Some source) (names_live old source short alive) (ap (λ (t : Bool). cond t 1 0) (ne_eqb source.block c (λ e. other (sym e))))
+      not_here (page_bytes_of g) (blocks_of g) (sectors_of g) (block_of old.die) old.current.items old.live.items old.mapped (page_of old source).stamp c (Some source) (names_live old source short alive) (ap (λ (t : Bool). cond t 1 0) (ne_eqb source.block c (λ e. other (sym e))))
 
   pub relocate-copied : entries_in (page_bytes_of (die_geometry_of die)) (set old.current.items (page_of old source).stamp (Some at)) at.block (block_of die at.block) ≡ entries_of old at.block ++ (record { sector = (page_of old source).stamp; live = true }) ∷ []
   relocate-copied =
@@ -54,11 +54,11 @@ module _ (old : Store) (die : Die) (source at : PageAddr) (live : List ℕ) (ins
   relocate-others c first second low =
       put-others old die at (page_of old source) live (stamp_below old source inside short) next changes counts c first low ∙ elsewhere c second
 
-  pub relocate-sectors : sectors_in (page_bytes_of (die_geometry_of die)) (block_of die) (set old.current.items (page_of old source).stamp (Some at)) ≡ sectors_of old
-  unfolding sectors_of
+  pub relocate-sectors : sectors_in (page_bytes_of (die_geometry_of die)) (block_of die) (set old.current.items (page_of old source).stamp (Some at)) ≡ array_of old
+  unfolding array_of
   relocate-sectors =
       let low = stamp_below old source inside short in
-      let held : get_or (sectors_of old) (page_of old source).stamp None ≡ Some (page_of old source).value =
+      let held : get_or (array_of old) (page_of old source).stamp None ≡ Some (page_of old source).value =
       sector-at (size_of old) (block_of old.die) old.current.items (page_of old source).stamp (Some source) (omega (arith, low, old.mapped.current_size)) (names_live old source short alive) in
       put-sectors old die at (page_of old source) live low next changes counts
-      ∙ set_as_is (sectors_of old) (page_of old source).stamp (Some (page_of old source).value) None held
+      ∙ set_as_is (array_of old) (page_of old source).stamp (Some (page_of old source).value) None held

@@ -7,7 +7,7 @@ use Rattle.std.proofs.lemmas.List.Sums.{count_by-le-length}
 use Rattle.std.proofs.lemmas.Bool.{cases_eq}
 use Rattle.geometry.specs.declared.geometry.Geometry.{Geometry}
 use Rattle.geometry.specs.declared.page_addr.PageAddr.{PageAddr}
-use Rattle.geometry.specs.Geometry.{blocks_of, pages_of, page_bytes_of, sectors_of as sector_count_of}
+use Rattle.geometry.specs.Geometry.{blocks_of, pages_of, page_bytes_of, sectors_of}
 use Rattle.geometry.specs.Sectors.{sector_at, was_of}
 use Rattle.die.specs.declared.die.Die.{Die}
 use Rattle.die.specs.Die.{geometry_of as die_geometry_of, block_of, ChangesBlock, IsUsable, IsProgrammed, IsNext}
@@ -16,7 +16,7 @@ use Rattle.die.proofs.DieLemmas.{pages_within}
 use Rattle.ftl_one.specs.declared.store.Store.{Store}
 use Rattle.ftl_one.specs.Stock.{Entry, forgotten}
 use Rattle.ftl_one.specs.Entries.{entry_of, entries_in, live_count, Recounts, IsMapped, sectors_in, value_in, was_by}
-use Rattle.ftl_one.specs.Store.{geometry_of, sectors_of, entries_of, erases_of, retired_of, HasRoom}
+use Rattle.ftl_one.specs.Store.{geometry_of, array_of, entries_of, erases_of, retired_of, HasRoom}
 use Rattle.ftl_one.proofs.EntryLemmas.{length-entries, get_or-entries}
 use Rattle.ftl_one.proofs.MapLemmas.{Becomes, was_here, sector-at, length-sectors, mapped-put, entries-put, entries-put_other, sectors-put}
 
@@ -25,8 +25,8 @@ abbrev pub size_of : Store → ℕ
 size_of s = page_bytes_of (die_geometry_of s.die)
 
 -- the array has the geometry's sectors
-pub length-sectors_of : (s : Store) → length (sectors_of s) ≡ sector_count_of (geometry_of s)
-unfolding sectors_of
+pub length-sectors_of : (s : Store) → length (array_of s) ≡ sectors_of (geometry_of s)
+unfolding array_of
 length-sectors_of s = length-sectors (size_of s) (block_of s.die) s.current.items ∙ s.mapped.current_size
 
 pub length-entries_of : (s : Store) (b : ℕ) → length (entries_of s b) ≡ length (block_of s.die b).pages
@@ -78,12 +78,12 @@ pub named_counted : (s : Store) (sector : ℕ) (o : Option PageAddr) → get_or 
 named_counted s sector None e = tt
 named_counted s sector (Some at) e =
     let g = die_geometry_of s.die in
-    let here = was_here (page_bytes_of g) (blocks_of g) (sector_count_of g) (block_of s.die) s.current.items s.live.items s.mapped sector at.block at e refl in
+    let here = was_here (page_bytes_of g) (blocks_of g) (sectors_of g) (block_of s.die) s.current.items s.live.items s.mapped sector at.block at e refl in
     omega (arith, here, s.mapped.counts at.block (s.mapped.named sector at e).block)
 
 -- what the sector was, by the page that the map names
-pub was-named : (s : Store) (sector : ℕ) (o : Option PageAddr) → sector < sector_count_of (geometry_of s) → o ≡ get_or s.current.items sector None → was_by o ≡ was_of (sector_at (sectors_of s) sector)
-unfolding sectors_of
+pub was-named : (s : Store) (sector : ℕ) (o : Option PageAddr) → sector < sectors_of (geometry_of s) → o ≡ get_or s.current.items sector None → was_by o ≡ was_of (sector_at (array_of s) sector)
+unfolding array_of
 was-named s sector o low e =
     by o ∙ sym (ap was_of (sector-at (size_of s) (block_of s.die) s.current.items sector o (omega (arith, low, s.mapped.current_size)) (sym e)))
   where
@@ -96,36 +96,36 @@ pub recounted : (s : Store) (counts : List ℕ) (was is : Option PageAddr) → R
 recounted s counts was is h = with_items_is s.live counts (omega (arith, h.size, s.live.ok.0))
 
 -- a page is put: the die has programmed it, and the map names it
-module _ (old : Store) (die : Die) (at : PageAddr) (page : Page) (live : List ℕ) (low : page.stamp < sector_count_of (geometry_of old)) (next : IsNext old.die at) (changes : ChangesBlock old.die die at.block (programmed (block_of old.die at.block) page)) (counts : Recounts old.live.items live (get_or old.current.items page.stamp None) (Some at)) where
+module _ (old : Store) (die : Die) (at : PageAddr) (page : Page) (live : List ℕ) (low : page.stamp < sectors_of (geometry_of old)) (next : IsNext old.die at) (changes : ChangesBlock old.die die at.block (programmed (block_of old.die at.block) page)) (counts : Recounts old.live.items live (get_or old.current.items page.stamp None) (Some at)) where
   becomes : Becomes (blocks_of (die_geometry_of old.die)) (block_of old.die) (block_of die) at.block (programmed (block_of old.die at.block) page)
   becomes = record { changed = changes.changed; others = changes.others }
 
-  pub put-mapped : IsMapped (page_bytes_of (die_geometry_of die)) (blocks_of (die_geometry_of die)) (sector_count_of (die_geometry_of die)) (block_of die) (set old.current.items page.stamp (Some at)) live
+  pub put-mapped : IsMapped (page_bytes_of (die_geometry_of die)) (blocks_of (die_geometry_of die)) (sectors_of (die_geometry_of die)) (block_of die) (set old.current.items page.stamp (Some at)) live
   put-mapped =
       let g = die_geometry_of old.die in
-      subst (λ (h : Geometry). IsMapped (page_bytes_of h) (blocks_of h) (sector_count_of h) (block_of die) (set old.current.items page.stamp (Some at)) live) (sym changes.geometry)
-      (mapped-put (page_bytes_of g) (blocks_of g) (sector_count_of g) (block_of old.die) (block_of die) old.current.items old.live.items live old.mapped at page low next.usable.within next.next next.usable.not_retired becomes counts)
+      subst (λ (h : Geometry). IsMapped (page_bytes_of h) (blocks_of h) (sectors_of h) (block_of die) (set old.current.items page.stamp (Some at)) live) (sym changes.geometry)
+      (mapped-put (page_bytes_of g) (blocks_of g) (sectors_of g) (block_of old.die) (block_of die) old.current.items old.live.items live old.mapped at page low next.usable.within next.next next.usable.not_retired becomes counts)
 
-  pub put-sectors : sectors_in (page_bytes_of (die_geometry_of die)) (block_of die) (set old.current.items page.stamp (Some at)) ≡ set (sectors_of old) page.stamp (Some page.value)
-  unfolding sectors_of
+  pub put-sectors : sectors_in (page_bytes_of (die_geometry_of die)) (block_of die) (set old.current.items page.stamp (Some at)) ≡ set (array_of old) page.stamp (Some page.value)
+  unfolding array_of
   put-sectors =
       let g = die_geometry_of old.die in
       ap (λ (h : Geometry). sectors_in (page_bytes_of h) (block_of die) (set old.current.items page.stamp (Some at))) changes.geometry
-      ∙ sectors-put (page_bytes_of g) (blocks_of g) (sector_count_of g) (block_of old.die) (block_of die) old.current.items old.live.items live old.mapped at page low next.usable.within next.next next.usable.not_retired becomes counts
+      ∙ sectors-put (page_bytes_of g) (blocks_of g) (sectors_of g) (block_of old.die) (block_of die) old.current.items old.live.items live old.mapped at page low next.usable.within next.next next.usable.not_retired becomes counts
 
   pub put-changed : entries_in (page_bytes_of (die_geometry_of die)) (set old.current.items page.stamp (Some at)) at.block (block_of die at.block) ≡ map (forgotten page.stamp) (entries_of old at.block) ++ (record { sector = page.stamp; live = true }) ∷ []
   unfolding entries_of
   put-changed =
       let g = die_geometry_of old.die in
       ap (λ (h : Geometry). entries_in (page_bytes_of h) (set old.current.items page.stamp (Some at)) at.block (block_of die at.block)) changes.geometry
-      ∙ entries-put (page_bytes_of g) (blocks_of g) (sector_count_of g) (block_of old.die) (block_of die) old.current.items old.live.items live old.mapped at page low next.usable.within next.next next.usable.not_retired becomes counts
+      ∙ entries-put (page_bytes_of g) (blocks_of g) (sectors_of g) (block_of old.die) (block_of die) old.current.items old.live.items live old.mapped at page low next.usable.within next.next next.usable.not_retired becomes counts
 
   pub put-others : (c : ℕ) → c ≢ at.block → c < blocks_of (geometry_of old) → entries_in (page_bytes_of (die_geometry_of die)) (set old.current.items page.stamp (Some at)) c (block_of die c) ≡ map (forgotten page.stamp) (entries_of old c)
   unfolding entries_of
   put-others c apart inside =
       let g = die_geometry_of old.die in
       ap (λ (h : Geometry). entries_in (page_bytes_of h) (set old.current.items page.stamp (Some at)) c (block_of die c)) changes.geometry
-      ∙ entries-put_other (page_bytes_of g) (blocks_of g) (sector_count_of g) (block_of old.die) (block_of die) old.current.items old.live.items live old.mapped at page low next.usable.within next.next next.usable.not_retired becomes counts c apart inside
+      ∙ entries-put_other (page_bytes_of g) (blocks_of g) (sectors_of g) (block_of old.die) (block_of die) old.current.items old.live.items live old.mapped at page low next.usable.within next.next next.usable.not_retired becomes counts c apart inside
 
   pub put-erases : (c : ℕ) → c < blocks_of (geometry_of old) → (block_of die c).erases ≡ erases_of old c
   unfolding erases_of

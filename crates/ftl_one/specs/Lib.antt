@@ -6,6 +6,7 @@ pub mod Laws
 pub mod Entries
 pub mod MapEntries
 pub mod Store
+pub mod Copying
 pub mod Lawful
 pub mod Fewest
 pub mod Blocks

@@ -16,8 +16,8 @@ unfoldable pub geometry_of : OneFtl → Geometry
 geometry_of ftl = pages.geometry_of ftl.store
 
 -- the array of sectors
-unfoldable pub sectors_of : OneFtl → List Sector
-sectors_of ftl = pages.sectors_of ftl.store
+unfoldable pub array_of : OneFtl → List Sector
+array_of ftl = pages.array_of ftl.store
 
 -- the blocks and the totals
 unfoldable pub stock_of : OneFtl → Stock

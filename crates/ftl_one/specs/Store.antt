@@ -14,8 +14,8 @@ abbrev pub geometry_of : Store → Geometry
 geometry_of store = die.geometry_of store.die
 
 -- the array of sectors
-unfoldable pub sectors_of : Store → List Sector
-sectors_of store = sectors_in (geo.page_bytes_of (die.geometry_of store.die)) (die.block_of store.die) store.current.items
+unfoldable pub array_of : Store → List Sector
+array_of store = sectors_in (geo.page_bytes_of (die.geometry_of store.die)) (die.block_of store.die) store.current.items
 
 -- the entries of a block's pages
 unfoldable pub entries_of : Store → ℕ → List Entry
@@ -78,7 +78,7 @@ pub record Relocates (old new : Store) (source : PageAddr) (b sector : ℕ) : Ty
   pub copied : entries_of new b ≡ entries_of old b ++ (record { sector = sector; live = true }) ∷ []
   pub dead : entries_of new source.block ≡ slice_set (entries_of old source.block) source.page (record { sector = sector; live = false })
   pub others : (c : ℕ) → c ≢ b → c ≢ source.block → c < geo.blocks_of (geometry_of old) → entries_of new c ≡ entries_of old c
-  pub sectors : sectors_of new ≡ sectors_of old
+  pub sectors : array_of new ≡ array_of old
   pub keeps : KeepsBlocks old new
 
 -- a block's live pages are copied behind another block's, in their order: none is left
@@ -86,7 +86,7 @@ pub record Clears (old new : Store) (victim spare : ℕ) : Type 0 where
   pub copied : entries_of new spare ≡ entries_of old spare ++ live_entries (entries_of old victim)
   pub dead : live_count (entries_of new victim) ≡ 0
   pub others : (c : ℕ) → c ≢ spare → c ≢ victim → c < geo.blocks_of (geometry_of old) → entries_of new c ≡ entries_of old c
-  pub sectors : sectors_of new ≡ sectors_of old
+  pub sectors : array_of new ≡ array_of old
   pub keeps : KeepsBlocks old new
 
 -- a block is erased: it has no entry and one more erase, the last erase of its endurance retires it, and
@@ -98,13 +98,13 @@ pub record Erases (old new : Store) (b : ℕ) : Type 0 where
   pub entries : (c : ℕ) → c ≢ b → c < geo.blocks_of (geometry_of old) → entries_of new c ≡ entries_of old c
   pub erases : (c : ℕ) → c ≢ b → c < geo.blocks_of (geometry_of old) → erases_of new c ≡ erases_of old c
   pub others : (c : ℕ) → c ≢ b → c < geo.blocks_of (geometry_of old) → retired_of new c ≡ retired_of old c
-  pub sectors : sectors_of new ≡ sectors_of old
+  pub sectors : array_of new ≡ array_of old
   pub geometry : geometry_of new ≡ geometry_of old
 
 -- a new store: every sector is empty, and no block was programmed or erased
 pub record IsNew (store : Store) (g : Geometry) : Type 0 where
   pub geometry : geometry_of store ≡ g
-  pub sectors : sectors_of store ≡ replicate (geo.sectors_of g) None
+  pub sectors : array_of store ≡ replicate (geo.sectors_of g) None
   pub entries : (b : ℕ) → b < geo.blocks_of g → entries_of store b ≡ []
   pub erases : (b : ℕ) → b < geo.blocks_of g → erases_of store b ≡ 0
   pub retired : (b : ℕ) → b < geo.blocks_of g → retired_of store b ≡ false

@@ -1,7 +1,8 @@
-ghost use Rattle.std.specs.Prelude.{◌≡◌, ◌==◌, if◌then◌else◌, length};
-ghost use Rattle.geometry.specs.Geometry.{page_bytes_of, lun_of};
-ghost use Rattle.die.specs.Die.{geometry_of, block_of, copybacks_of, one_more, ChangesBlock, IsProgrammed, IsNext};
+ghost use Rattle.std.specs.Prelude.{◌≡◌, length};
+ghost use Rattle.geometry.specs.Geometry.{page_bytes_of};
+ghost use Rattle.die.specs.Die.{geometry_of, block_of, copybacks_of, ChangesBlock, IsProgrammed, IsNext};
 ghost use Rattle.die.specs.Pages.{page_at, programmed};
+ghost use Rattle.ftl_one.specs.Copying.{copybacks_after};
 
 use die::Die;
 use geometry::PageAddr;
@@ -15,7 +16,7 @@ pub fn copy_page(die: &mut Die, page: &mut [u8], sector: u32, from: PageAddr, to
     ensures changes { ChangesBlock die.old die.new to.block
         (programmed (block_of die.old to.block)
         (page_at (page_bytes_of (geometry_of die.old)) (block_of die.old from.block) from.page)) }
-    ensures copybacks { copybacks_of die.new ≡ (if lun_of (geometry_of die.old) from.block == lun_of (geometry_of die.old) to.block then one_more (copybacks_of die.old) else copybacks_of die.old) }
+    ensures copybacks { copybacks_of die.new ≡ copybacks_after die.old from to }
 {
     let geometry = die.geometry();
     if geometry.lun_of(from.block) == geometry.lun_of(to.block) {

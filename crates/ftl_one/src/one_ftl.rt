@@ -1,5 +1,5 @@
 ghost use Rattle.std.specs.Prelude.{◌≡◌, ℕ, ◌+◌, ◌*◌, ◌<◌, ◌≤◌, false, length, map, sum_by, Option, None, Some};
-ghost use Rattle.geometry.specs.Geometry.{blocks_of, pages_of, page_bytes_of, endurance_of, sectors_of as sector_count_of, hosts_of};
+ghost use Rattle.geometry.specs.Geometry.{blocks_of, pages_of, page_bytes_of, endurance_of, sectors_of, hosts_of};
 ghost use Rattle.ftl_one.specs.Store.{geometry_of as store_geometry_of, entries_of, retired_of};
 ghost use Rattle.ftl_one.specs.Stock.{is_free};
 ghost use Rattle.ftl_one.specs.Lawful.{IsLawful, KnowsSpare, role_in};
@@ -62,7 +62,7 @@ impl OneFtl {
     ghost use Rattle.geometry.specs.Sectors.{sector_at, was_of, Answers};
     ghost use Rattle.std.specs.Prelude.{Err};
     ghost use Rattle.geometry.specs.History.{Write, WriteNew, Trim, step, after};
-    ghost use Rattle.ftl_one.specs.OneFtl.{geometry_of, sectors_of, stock_of, was_found};
+    ghost use Rattle.ftl_one.specs.OneFtl.{geometry_of, array_of, stock_of, was_found};
     ghost use Rattle.ftl_one.specs.declared.one_ftl.NewOneFault.TheVariants as fault;
     ghost use Rattle.ftl_one.specs.Stock.{Stock, next, opening, opened, open_of, free_of, spare_of, victim_of, ready, collect, write_of, live_of, is_retired};
 
@@ -70,7 +70,7 @@ impl OneFtl {
     pub fn new(alloc: Global, geometry: &Geometry) -> Result<OneFtl, AllocError>
         requires { hosts_of geometry.now ≡ 0 }
         ensures geometry { IfOk result (λ ftl. geometry_of ftl ≡ geometry.now) }
-        ensures empty { IfOk result (λ ftl. sectors_of ftl ≡ after (sector_count_of geometry.now) []) }
+        ensures empty { IfOk result (λ ftl. array_of ftl ≡ after (sectors_of geometry.now) []) }
         ensures stock { IfOk result (λ ftl. stock_of ftl ≡ opening geometry.now) }
     {
         let blocks = geometry.blocks();
@@ -94,36 +94,36 @@ impl OneFtl {
     /// The numbers that the layer was made by: how many sectors it has, and the size of a page.
     pub fn geometry(&self) -> Geometry
         ensures value { result ≡ geometry_of self.now }
-        ensures sectors { length (sectors_of self.now) ≡ sector_count_of (geometry_of self.now) }
+        ensures sectors { length (array_of self.now) ≡ sectors_of (geometry_of self.now) }
     {
         self.store.geometry()
     }
 
     /// Reads a sector into `out`, a buffer of one page.
     pub fn read(&self, sector: u32, out: &mut [u8]) -> Got
-        requires sector { sector < sector_count_of (geometry_of self.now) }
+        requires sector { sector < sectors_of (geometry_of self.now) }
         requires page { length out.old ≡ page_bytes_of (geometry_of self.now) }
-        ensures { Answers (sector_at (sectors_of self.now) sector) result out.old out.new }
+        ensures { Answers (sector_at (array_of self.now) sector) result out.old out.new }
     {
         self.store.read(sector, out)
     }
 
     /// Writes a sector, and answers what it was.
     pub fn write(&mut self, sector: u32, bytes: &[u8]) -> Result<Was, WornOut>
-        requires sector { sector < sector_count_of (geometry_of self.old) }
+        requires sector { sector < sectors_of (geometry_of self.old) }
         requires page { length bytes.now ≡ page_bytes_of (geometry_of self.old) }
         ensures geometry { geometry_of self.new ≡ geometry_of self.old }
-        ensures answer { IfOk result (λ was. was ≡ was_of (sector_at (sectors_of self.old) sector)) }
-        ensures array { OnOk result (sectors_of self.new ≡ step (sectors_of self.old) (Write 0 sector bytes.now)) }
+        ensures answer { IfOk result (λ was. was ≡ was_of (sector_at (array_of self.old) sector)) }
+        ensures array { OnOk result (array_of self.new ≡ step (array_of self.old) (Write 0 sector bytes.now)) }
         ensures stock { OnOk result (next (geometry_of self.old) (stock_of self.old) (Write 0 sector bytes.now) ≡ Some (stock_of self.new)) }
 
         // A write that is refused has changed nothing.
         ensures worn { OnErr result (next (geometry_of self.old) (stock_of self.old) (Write 0 sector bytes.now) ≡ None) }
-        ensures same_array { OnErr result (sectors_of self.new ≡ sectors_of self.old) }
+        ensures same_array { OnErr result (array_of self.new ≡ array_of self.old) }
         ensures same_stock { OnErr result (stock_of self.new ≡ stock_of self.old) }
 
         // Whatever is relocated or erased, no other sector changes; a write that succeeds is one program.
-        ensures others { (s : ℕ) → s ≢ sector → sector_at (sectors_of self.new) s ≡ sector_at (sectors_of self.old) s }
+        ensures others { (s : ℕ) → s ≢ sector → sector_at (array_of self.new) s ≡ sector_at (array_of self.old) s }
         ensures programs { OnOk result ((stock_of self.new).programs ≡ (stock_of self.old).programs + 1) }
 
         // At most one block is collected, a closed one with the fewest live pages, and none after a failed erase.
@@ -138,22 +138,22 @@ impl OneFtl {
 
     /// Writes a sector if it is empty. Where it is written, nothing is programmed.
     pub fn write_new(&mut self, sector: u32, bytes: &[u8]) -> Result<(), NewOneFault>
-        requires sector { sector < sector_count_of (geometry_of self.old) }
+        requires sector { sector < sectors_of (geometry_of self.old) }
         requires page { length bytes.now ≡ page_bytes_of (geometry_of self.old) }
         ensures geometry { geometry_of self.new ≡ geometry_of self.old }
-        ensures answer { was_found result ≡ was_of (sector_at (sectors_of self.old) sector) }
-        ensures array { OnOk result (sectors_of self.new ≡ step (sectors_of self.old) (WriteNew 0 sector bytes.now)) }
+        ensures answer { was_found result ≡ was_of (sector_at (array_of self.old) sector) }
+        ensures array { OnOk result (array_of self.new ≡ step (array_of self.old) (WriteNew 0 sector bytes.now)) }
         ensures stock { OnOk result (next (geometry_of self.old) (stock_of self.old) (WriteNew 0 sector bytes.now) ≡ Some (stock_of self.new)) }
 
         // A write that is refused has changed nothing. A written sector leaves the stock as it was, and one that is empty finds no page.
         ensures written { result ≡ Err fault.Written → next (geometry_of self.old) (stock_of self.old) (WriteNew 0 sector bytes.now) ≡ Some (stock_of self.old) }
-        ensures unchanged { result ≡ Err fault.Written → step (sectors_of self.old) (WriteNew 0 sector bytes.now) ≡ sectors_of self.old }
+        ensures unchanged { result ≡ Err fault.Written → step (array_of self.old) (WriteNew 0 sector bytes.now) ≡ array_of self.old }
         ensures worn { result ≡ Err fault.WornOut → next (geometry_of self.old) (stock_of self.old) (WriteNew 0 sector bytes.now) ≡ None }
-        ensures same_array { OnErr result (sectors_of self.new ≡ sectors_of self.old) }
+        ensures same_array { OnErr result (array_of self.new ≡ array_of self.old) }
         ensures same_stock { OnErr result (stock_of self.new ≡ stock_of self.old) }
 
         // Whatever is relocated or erased, no other sector changes; a write that succeeds is one program.
-        ensures others { (s : ℕ) → s ≢ sector → sector_at (sectors_of self.new) s ≡ sector_at (sectors_of self.old) s }
+        ensures others { (s : ℕ) → s ≢ sector → sector_at (array_of self.new) s ≡ sector_at (array_of self.old) s }
         ensures programs { OnOk result ((stock_of self.new).programs ≡ (stock_of self.old).programs + 1) }
     {
         match self.store.was(sector) {
@@ -167,10 +167,10 @@ impl OneFtl {
 
     /// Empties a sector, and answers what it was.
     pub fn trim(&mut self, sector: u32) -> Was
-        requires sector { sector < sector_count_of (geometry_of self.old) }
+        requires sector { sector < sectors_of (geometry_of self.old) }
         ensures geometry { geometry_of self.new ≡ geometry_of self.old }
-        ensures answer { result ≡ was_of (sector_at (sectors_of self.old) sector) }
-        ensures array { sectors_of self.new ≡ step (sectors_of self.old) (Trim 0 sector) }
+        ensures answer { result ≡ was_of (sector_at (array_of self.old) sector) }
+        ensures array { array_of self.new ≡ step (array_of self.old) (Trim 0 sector) }
         ensures stock { next (geometry_of self.old) (stock_of self.old) (Trim 0 sector) ≡ Some (stock_of self.new) }
     {
         self.store.forget(sector)
@@ -212,7 +212,7 @@ impl OneFtl {
     // The open block: the one that there is, or the lowest free block, or the spare after a collection.
     fn make_ready(&mut self) -> Option<u32>
         ensures geometry { geometry_of self.new ≡ geometry_of self.old }
-        ensures sectors { sectors_of self.new ≡ sectors_of self.old }
+        ensures sectors { array_of self.new ≡ array_of self.old }
         ensures ready { IfSome result (λ block. ready (endurance_of (geometry_of self.old)) (stock_of self.old) ≡ Some (stock_of self.new)) }
         ensures opened { IfSome result (λ block. open_of (stock_of self.new).blocks ≡ Some block) }
         ensures none { IfNone result (ready (endurance_of (geometry_of self.old)) (stock_of self.old) ≡ None) }
@@ -236,7 +236,7 @@ impl OneFtl {
         requires none { open_of (stock_of self.old).blocks ≡ None }
         requires free { free_of (stock_of self.old).blocks ≡ Some block }
         ensures geometry { geometry_of self.new ≡ geometry_of self.old }
-        ensures sectors { sectors_of self.new ≡ sectors_of self.old }
+        ensures sectors { array_of self.new ≡ array_of self.old }
         ensures stock { stock_of self.new ≡ opened (stock_of self.old) block }
         ensures opened { open_of (stock_of self.new).blocks ≡ Some block }
     {
@@ -251,7 +251,7 @@ impl OneFtl {
         requires no_free { free_of (stock_of self.old).blocks ≡ None }
         requires spare { spare_of (stock_of self.old).blocks ≡ Some spare }
         ensures geometry { geometry_of self.new ≡ geometry_of self.old }
-        ensures sectors { sectors_of self.new ≡ sectors_of self.old }
+        ensures sectors { array_of self.new ≡ array_of self.old }
         ensures stock { collect (endurance_of (geometry_of self.old)) (stock_of self.old) spare (victim_of (stock_of self.old).blocks) ≡ Some (stock_of self.new) }
         ensures opened { open_of (stock_of self.new).blocks ≡ Some spare }
     {
@@ -268,11 +268,11 @@ impl OneFtl {
     // Programs the open block's next page for a sector, and closes the block if it is full then.
     fn write_into(&mut self, block: u32, sector: u32, bytes: &[u8]) -> Was
         requires opened { open_of (stock_of self.old).blocks ≡ Some block }
-        requires sector { sector < sector_count_of (geometry_of self.old) }
+        requires sector { sector < sectors_of (geometry_of self.old) }
         requires page { length bytes.now ≡ page_bytes_of (geometry_of self.old) }
         ensures geometry { geometry_of self.new ≡ geometry_of self.old }
-        ensures answer { result ≡ was_of (sector_at (sectors_of self.old) sector) }
-        ensures array { sectors_of self.new ≡ step (sectors_of self.old) (Write 0 sector bytes.now) }
+        ensures answer { result ≡ was_of (sector_at (array_of self.old) sector) }
+        ensures array { array_of self.new ≡ step (array_of self.old) (Write 0 sector bytes.now) }
         ensures stock { write_of (pages_of (geometry_of self.old)) sector (stock_of self.old) ≡ Some (stock_of self.new) }
     {
         let was = self.store.put(block, sector, bytes);

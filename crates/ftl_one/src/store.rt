@@ -1,6 +1,6 @@
 ghost use Rattle.std.specs.Prelude.{◌≡◌, ℕ, ◌≢◌, ◌+◌, ◌<◌, ◌==◌, Bool, true, false, IfOk, length, slice_set, slice_index_or, None, Some};
 ghost use Rattle.std.specs.List.{range_with_len};
-ghost use Rattle.geometry.specs.Geometry.{blocks_of, pages_of, page_bytes_of, endurance_of, sectors_of as sector_count_of};
+ghost use Rattle.geometry.specs.Geometry.{blocks_of, pages_of, page_bytes_of, endurance_of, sectors_of};
 ghost use Rattle.geometry.specs.Sectors.{sector_at, was_of, Answers};
 ghost use Rattle.die.specs.Die.{geometry_of as die_geometry_of, block_of};
 ghost use Rattle.ftl_one.specs.Entries.{IsMapped, was_by};
@@ -24,11 +24,11 @@ pub struct Store {
     // Room for a page on its way to another LUN.
     page: Vec<u8>,
     ghost page_sized: { length page.items ≡ page_bytes_of (die_geometry_of die) },
-    ghost mapped: { IsMapped (page_bytes_of (die_geometry_of die)) (blocks_of (die_geometry_of die)) (sector_count_of (die_geometry_of die)) (block_of die) current.items live.items },
+    ghost mapped: { IsMapped (page_bytes_of (die_geometry_of die)) (blocks_of (die_geometry_of die)) (sectors_of (die_geometry_of die)) (block_of die) current.items live.items },
 }
 
 impl Store {
-    ghost use Rattle.ftl_one.specs.Store.{geometry_of, sectors_of, entries_of, erases_of, retired_of, counts_of, IsNew, KeepsBlocks, HasRoom, HasRoomFor, live_at, sector_of, Forgets, Puts, Relocates, Clears, Erases};
+    ghost use Rattle.ftl_one.specs.Store.{geometry_of, array_of, entries_of, erases_of, retired_of, counts_of, IsNew, KeepsBlocks, HasRoom, HasRoomFor, live_at, sector_of, Forgets, Puts, Relocates, Clears, Erases};
     ghost use Rattle.ftl_one.specs.Entries.{live_count};
 
     /// A store with every sector empty and no page programmed.
@@ -66,9 +66,9 @@ impl Store {
     }
 
     pub fn read(&self, sector: u32, out: &mut [u8]) -> Got
-        requires sector { sector < sector_count_of (geometry_of self.now) }
+        requires sector { sector < sectors_of (geometry_of self.now) }
         requires page { length out.old ≡ page_bytes_of (geometry_of self.now) }
-        ensures { Answers (sector_at (sectors_of self.now) sector) result out.old out.new }
+        ensures { Answers (sector_at (array_of self.now) sector) result out.old out.new }
     {
         match self.current[sector as usize].page() {
             None => Got::Empty,
@@ -81,17 +81,17 @@ impl Store {
 
     /// What a sector is.
     pub fn was(&self, sector: u32) -> Was
-        requires { sector < sector_count_of (geometry_of self.now) }
-        ensures { result ≡ was_of (sector_at (sectors_of self.now) sector) }
+        requires { sector < sectors_of (geometry_of self.now) }
+        ensures { result ≡ was_of (sector_at (array_of self.now) sector) }
     {
         answer_of(self.current[sector as usize].page())
     }
 
     /// Empties a sector, and answers what it was.
     pub fn forget(&mut self, sector: u32) -> Was
-        requires { sector < sector_count_of (geometry_of self.old) }
-        ensures answer { result ≡ was_of (sector_at (sectors_of self.old) sector) }
-        ensures sectors { sectors_of self.new ≡ slice_set (sectors_of self.old) sector None }
+        requires { sector < sectors_of (geometry_of self.old) }
+        ensures answer { result ≡ was_of (sector_at (array_of self.old) sector) }
+        ensures sectors { array_of self.new ≡ slice_set (array_of self.old) sector None }
         ensures entries { (b : ℕ) → b < blocks_of (geometry_of self.old) → Forgets self.old self.new sector b }
         ensures keeps { KeepsBlocks self.old self.new }
     {
@@ -104,10 +104,10 @@ impl Store {
     /// Programs the next page of a block for a sector, and answers what the sector was.
     pub fn put(&mut self, block: u32, sector: u32, bytes: &[u8]) -> Was
         requires room { HasRoom self.old block }
-        requires sector { sector < sector_count_of (geometry_of self.old) }
+        requires sector { sector < sectors_of (geometry_of self.old) }
         requires page { length bytes.now ≡ page_bytes_of (geometry_of self.old) }
-        ensures answer { result ≡ was_of (sector_at (sectors_of self.old) sector) }
-        ensures sectors { sectors_of self.new ≡ slice_set (sectors_of self.old) sector (Some bytes.now) }
+        ensures answer { result ≡ was_of (sector_at (array_of self.old) sector) }
+        ensures sectors { array_of self.new ≡ slice_set (array_of self.old) sector (Some bytes.now) }
         ensures puts { Puts self.old self.new block sector }
     {
         let at = self.next_page(block);

@@ -2,7 +2,7 @@ ghost use Rattle.std.specs.Prelude.{◌≡◌, ◌≢◌, ◌+◌, ◌*◌, ◌<
 ghost use Rattle.std.specs.List.{fold};
 ghost use Rattle.geometry.specs.Geometry.{blocks_of, page_bytes_of};
 ghost use Rattle.geometry.specs.History.{step};
-ghost use Rattle.ftl_one.specs.OneFtl.{geometry_of, sectors_of, stock_of};
+ghost use Rattle.ftl_one.specs.OneFtl.{geometry_of, array_of, stock_of};
 ghost use Rattle.trace.specs.Watched.{failures_of};
 ghost use Rattle.answers.specs.Answers.{calls_of, wear_names};
 ghost use Rattle.answers.specs.Lines.{page_digits_of, waiting_of};
@@ -47,7 +47,7 @@ impl Desk {
         ensures page { vec_len self.new.page ≡ vec_len self.old.page }
         ensures lines { waiting_of self.new.lines ≡ waiting_of self.old.lines ++ line_by ftl.old line command.now }
         ensures geometry { geometry_of ftl.new ≡ geometry_of ftl.old }
-        ensures array { sectors_of ftl.new ≡ fold step (sectors_of ftl.old) (calls_of (is_refused (geometry_of ftl.old) (stock_of ftl.old) command.now) command.now) }
+        ensures array { array_of ftl.new ≡ fold step (array_of ftl.old) (calls_of (is_refused (geometry_of ftl.old) (stock_of ftl.old) command.now) command.now) }
         ensures stock { stock_of ftl.new ≡ stock_after (geometry_of ftl.old) (stock_of ftl.old) command.now }
     {
         let reply = perform(ftl, command, &mut self.page);

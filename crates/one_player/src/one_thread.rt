@@ -1,8 +1,8 @@
 ghost use Rattle.std.specs.Prelude.{◌≡◌, ◌≢◌, [], length, vec_len, All, IfErr, IfOk, IfSome, OnOk, OnErr, Err};
 ghost use Rattle.std.specs.Io.KnownBytes.{IsAtEnd};
-ghost use Rattle.geometry.specs.Geometry.{hosts_of, page_bytes_of, sectors_of as sector_count_of};
+ghost use Rattle.geometry.specs.Geometry.{hosts_of, page_bytes_of, sectors_of};
 ghost use Rattle.geometry.specs.History.{after};
-ghost use Rattle.ftl_one.specs.OneFtl.{geometry_of, sectors_of, stock_of};
+ghost use Rattle.ftl_one.specs.OneFtl.{geometry_of, array_of, stock_of};
 ghost use Rattle.ftl_one.specs.Stock.{opening};
 ghost use Rattle.trace.specs.Watched.{failures_of, inner_of};
 ghost use Rattle.answers.specs.Lines.{waiting_of};
@@ -121,7 +121,7 @@ fn play<W: Write>(
     desk: &mut Desk,
     writer: &mut Watched<W>,
 ) -> Result<(), OutputFailed>
-    requires array { sectors_of ftl.old ≡ after (sector_count_of (geometry_of ftl.old)) [] }
+    requires array { array_of ftl.old ≡ after (sectors_of (geometry_of ftl.old)) [] }
     requires stock { stock_of ftl.old ≡ opening (geometry_of ftl.old) }
     requires playable { All (IsPlayable (geometry_of ftl.old)) commands.now }
     requires page { vec_len desk.old.page ≡ page_bytes_of (geometry_of ftl.old) }

@@ -1,8 +1,8 @@
 ghost use Rattle.std.specs.Prelude.{◌≡◌, length};
 ghost use Rattle.std.specs.List.{fold};
-ghost use Rattle.geometry.specs.Geometry.{sectors_of as sector_count_of, page_bytes_of};
+ghost use Rattle.geometry.specs.Geometry.{sectors_of, page_bytes_of};
 ghost use Rattle.geometry.specs.History.{step};
-ghost use Rattle.ftl_one.specs.OneFtl.{geometry_of, sectors_of, stock_of};
+ghost use Rattle.ftl_one.specs.OneFtl.{geometry_of, array_of, stock_of};
 ghost use Rattle.hex.specs.Hex.{encode_lower};
 ghost use Rattle.answers.specs.Answers.{calls_of};
 ghost use Rattle.answers.specs.Playable.{IsPlayable};
@@ -20,7 +20,7 @@ pub fn perform(ftl: &mut OneFtl, command: &Command<'_>, page: &mut [u8]) -> Repl
     requires buffer { length page.old ≡ page_bytes_of (geometry_of ftl.old) }
     ensures geometry { geometry_of ftl.new ≡ geometry_of ftl.old }
     ensures answer { reply_text result (encode_lower page.new) ≡ answer_by ftl.old command.now }
-    ensures array { sectors_of ftl.new ≡ fold step (sectors_of ftl.old) (calls_of (is_refused (geometry_of ftl.old) (stock_of ftl.old) command.now) command.now) }
+    ensures array { array_of ftl.new ≡ fold step (array_of ftl.old) (calls_of (is_refused (geometry_of ftl.old) (stock_of ftl.old) command.now) command.now) }
     ensures stock { stock_of ftl.new ≡ stock_after (geometry_of ftl.old) (stock_of ftl.old) command.now }
 {
     match command.op {

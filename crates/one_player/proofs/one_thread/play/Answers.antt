@@ -1,6 +1,6 @@
 use Rattle.std.proofs.Common.{◌≡◌, length, arith, subst, sym, ◌∙◌}
 use Rattle.geometry.proofs.Histories.{Begins-refl}
-use Rattle.ftl_one.specs.OneFtl.{geometry_of, sectors_of, stock_of}
+use Rattle.ftl_one.specs.OneFtl.{geometry_of, array_of, stock_of}
 use Rattle.trace.specs.Watched.{inner_of}
 use Rattle.answers.specs.Lines.{waiting_of}
 use Rattle.answers.specs.Playable.{IsPlayable}
@@ -41,8 +41,8 @@ returns-clause-sent g c =
     let commands = c.args.commands.now in
     let old = g.W.Write.contents (inner_of c.args.writer.now) in
     let all : c.loop-i.i ≡ length commands = omega arith in
-    let played : ArePlayed geo commands (length commands) (sectors_of c.loop-i.ftl) (stock_of c.loop-i.ftl) old (g.W.Write.contents (inner_of c.loop-i.writer)) (waiting_of c.loop-i.desk.lines) =
-    subst (λ n. ArePlayed geo commands n (sectors_of c.loop-i.ftl) (stock_of c.loop-i.ftl) old (g.W.Write.contents (inner_of c.loop-i.writer)) (waiting_of c.loop-i.desk.lines)) all c.loop-i.invariant.3 in
+    let played : ArePlayed geo commands (length commands) (array_of c.loop-i.ftl) (stock_of c.loop-i.ftl) old (g.W.Write.contents (inner_of c.loop-i.writer)) (waiting_of c.loop-i.desk.lines) =
+    subst (λ n. ArePlayed geo commands n (array_of c.loop-i.ftl) (stock_of c.loop-i.ftl) old (g.W.Write.contents (inner_of c.loop-i.writer)) (waiting_of c.loop-i.desk.lines)) all c.loop-i.invariant.3 in
     let whole = text_whole geo commands _ _ old _ _ _ _ _ played c.in_ok-make_room-2.ensures.moved c.end.ensures.lines in
     OnOk-map _ _ c.hand_on.result
     (λ sent. Appends-whole old (g.W.Write.contents (inner_of c.hand_on.new.writer)) (text_of_commands geo commands)
@@ -54,8 +54,8 @@ returns-clause-part g c =
     let commands = c.args.commands.now in
     let old = g.W.Write.contents (inner_of c.args.writer.now) in
     let all : c.loop-i.i ≡ length commands = omega arith in
-    let played : ArePlayed geo commands (length commands) (sectors_of c.loop-i.ftl) (stock_of c.loop-i.ftl) old (g.W.Write.contents (inner_of c.loop-i.writer)) (waiting_of c.loop-i.desk.lines) =
-    subst (λ n. ArePlayed geo commands n (sectors_of c.loop-i.ftl) (stock_of c.loop-i.ftl) old (g.W.Write.contents (inner_of c.loop-i.writer)) (waiting_of c.loop-i.desk.lines)) all c.loop-i.invariant.3 in
+    let played : ArePlayed geo commands (length commands) (array_of c.loop-i.ftl) (stock_of c.loop-i.ftl) old (g.W.Write.contents (inner_of c.loop-i.writer)) (waiting_of c.loop-i.desk.lines) =
+    subst (λ n. ArePlayed geo commands n (array_of c.loop-i.ftl) (stock_of c.loop-i.ftl) old (g.W.Write.contents (inner_of c.loop-i.writer)) (waiting_of c.loop-i.desk.lines)) all c.loop-i.invariant.3 in
     let whole = text_whole geo commands _ _ old _ _ _ _ _ played c.in_ok-make_room-2.ensures.moved c.end.ensures.lines in
     OnErr-map _ _ c.hand_on.result
     (λ part. AppendsBeginning-part old _ _ _ (text_of_commands geo commands) (text_of_commands geo commands) whole part (Begins-refl (text_of_commands geo commands))) c.hand_on.ensures.part

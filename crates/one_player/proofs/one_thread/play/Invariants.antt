@@ -1,6 +1,6 @@
 use Rattle.std.proofs.Common.{◌≡◌, vec_len}
 use Rattle.geometry.specs.Geometry.{page_bytes_of}
-use Rattle.ftl_one.specs.OneFtl.{geometry_of, sectors_of, stock_of}
+use Rattle.ftl_one.specs.OneFtl.{geometry_of, array_of, stock_of}
 use Rattle.trace.specs.Watched.{failures_of, inner_of}
 use Rattle.answers.specs.Lines.{waiting_of}
 use Rattle.one_player.specs.Steps.{ArePlayed}
@@ -11,4 +11,4 @@ invariant-loop-i g l =
     (geometry_of l.ftl ≡ geometry_of l.initial.ftl)
     × (vec_len l.desk.page ≡ page_bytes_of (geometry_of l.initial.ftl))
     × (failures_of l.writer ≡ failures_of l.initial.writer)
-    × ArePlayed (geometry_of l.initial.ftl) l.commands l.i (sectors_of l.ftl) (stock_of l.ftl) (g.W.Write.contents (inner_of l.initial.writer)) (g.W.Write.contents (inner_of l.writer)) (waiting_of l.desk.lines)
+    × ArePlayed (geometry_of l.initial.ftl) l.commands l.i (array_of l.ftl) (stock_of l.ftl) (g.W.Write.contents (inner_of l.initial.writer)) (g.W.Write.contents (inner_of l.writer)) (waiting_of l.desk.lines)

@@ -9,7 +9,7 @@ use Rattle.ftl_one.specs.Stock.{Stock, Block, is_free, is_closed, is_retired, vi
 use Rattle.ftl_one.specs.Store as pages
 use Rattle.ftl_one.specs.Lawful.{IsLawful, KnowsSpare, role_in}
 use Rattle.ftl_one.specs.Blocks.{blocks_in, weight}
-use Rattle.ftl_one.specs.OneFtl.{geometry_of, sectors_of, stock_of}
+use Rattle.ftl_one.specs.OneFtl.{geometry_of, array_of, stock_of}
 use Rattle.ftl_one.proofs.FtlLemmas.{open_of-stock, blocks-collect, weight-collect}
 use Rattle.geometry.specs.Greedy.{IsGreedy, IsClosed}
 use Rattle.ftl_one.specs.Stock.{live_of, filled, emptied}
@@ -197,7 +197,7 @@ unfolding geometry_of
 returns-clause-geometry c = the_geometry (goal.at.returns-clause-geometry c).After-hand_over
 
 pub returns-clause-sectors : goal.returns-clause-sectors
-unfolding sectors_of
+unfolding array_of
 returns-clause-sectors c = c.erase-failed.ensures.erases.sectors ∙ c.clear-copies.ensures.clears.sectors
 
 pub returns-clause-stock : goal.returns-clause-stock

@@ -8,7 +8,7 @@ use Rattle.ftl_one.specs.Stock.{Stock, Block, is_free, change_at}
 use Rattle.ftl_one.specs.Store as pages
 use Rattle.ftl_one.specs.Lawful.{role_in}
 use Rattle.ftl_one.specs.Blocks.{blocks_in, weight}
-use Rattle.ftl_one.specs.OneFtl.{geometry_of, sectors_of, stock_of}
+use Rattle.ftl_one.specs.OneFtl.{geometry_of, array_of, stock_of}
 use Rattle.ftl_one.proofs.LawfulLemmas.{lawful-open}
 use Rattle.ftl_one.proofs.FtlLemmas.{open_of-stock, blocks-role, weight-role}
 use Rattle.ftl_one.proofs.one_ftl.OneFtl.open.Goals as goal
@@ -60,7 +60,7 @@ unfolding geometry_of
 returns-clause-geometry c = refl
 
 pub returns-clause-sectors : goal.returns-clause-sectors
-unfolding sectors_of
+unfolding array_of
 returns-clause-sectors c = refl
 
 pub returns-clause-stock : goal.returns-clause-stock

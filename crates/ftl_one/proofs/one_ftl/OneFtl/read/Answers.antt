@@ -1,4 +1,4 @@
-use Rattle.ftl_one.specs.OneFtl.{geometry_of, sectors_of}
+use Rattle.ftl_one.specs.OneFtl.{geometry_of, array_of}
 use Rattle.ftl_one.proofs.one_ftl.OneFtl.read.Goals as goal
 
 pub read-requires-clause-sector : goal.read-requires-clause-sector
@@ -10,5 +10,5 @@ unfolding geometry_of
 read-requires-clause-page c = c.requires.page
 
 pub returns : goal.returns
-unfolding sectors_of
+unfolding array_of
 returns c = c.read.ensures

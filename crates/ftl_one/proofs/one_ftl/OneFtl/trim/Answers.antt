@@ -6,7 +6,7 @@ use Rattle.ftl_one.specs.Stock.{Stock, Block, next}
 use Rattle.ftl_one.specs.Store as pages
 use Rattle.ftl_one.specs.Lawful.{IsLawful, role_in}
 use Rattle.ftl_one.specs.Blocks.{blocks_in, weight}
-use Rattle.ftl_one.specs.OneFtl.{geometry_of, sectors_of, stock_of}
+use Rattle.ftl_one.specs.OneFtl.{geometry_of, array_of, stock_of}
 use Rattle.ftl_one.proofs.LawfulLemmas.{lawful-same}
 use Rattle.ftl_one.proofs.FtlLemmas.{blocks-forget, weight-forget}
 use Rattle.ftl_one.specs.Stock.{Entry, forgotten}
@@ -43,11 +43,11 @@ unfolding geometry_of
 returns-clause-geometry c = c.forget.ensures.keeps.geometry
 
 pub returns-clause-answer : goal.returns-clause-answer
-unfolding sectors_of
+unfolding array_of
 returns-clause-answer c = c.forget.ensures.answer
 
 pub returns-clause-array : goal.returns-clause-array
-unfolding sectors_of
+unfolding array_of
 returns-clause-array c = c.forget.ensures.sectors
 
 pub returns-clause-stock : goal.returns-clause-stock

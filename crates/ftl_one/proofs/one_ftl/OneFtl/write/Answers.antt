@@ -3,7 +3,7 @@ use Rattle.geometry.specs.declared.geometry.Geometry.{Geometry}
 use Rattle.geometry.specs.Geometry.{pages_of, endurance_of}
 use Rattle.geometry.specs.History.{Write}
 use Rattle.ftl_one.specs.Stock.{Stock, next, ready, write_of}
-use Rattle.ftl_one.specs.OneFtl.{geometry_of, sectors_of, stock_of}
+use Rattle.ftl_one.specs.OneFtl.{geometry_of, array_of, stock_of}
 use Rattle.std.specs.Option.{option_and_then}
 use Rattle.ftl_one.proofs.one_ftl.OneFtl.write.Goals as goal
 use Rattle.ftl_one.proofs.one_ftl.OneFtl.write.Goals.{After-write_into}
@@ -43,7 +43,7 @@ returns-in_default-clause-after_failure c =
 
 pub returns-clause-others : goal.returns-clause-others
 returns-clause-others c = λ s apart.
-    let mid = sectors_of c.make_ready.new.self in
+    let mid = array_of c.make_ready.new.self in
     ap (λ (xs : List Sector). get_or xs s None) c.write_into.ensures.array
     ∙ (get_or-set_other mid c.args.sector s (Some c.args.bytes.now) None apart
     ∙ ap (λ (xs : List Sector). get_or xs s None) c.in-Some.ensures.sectors)

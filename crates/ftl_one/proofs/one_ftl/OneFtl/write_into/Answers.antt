@@ -8,7 +8,7 @@ use Rattle.ftl_one.specs.Stock.{Stock, Block, write_of, write_into, forget, chan
 use Rattle.ftl_one.specs.Store as pages
 use Rattle.ftl_one.specs.Lawful.{IsLawful, role_in}
 use Rattle.ftl_one.specs.Blocks.{blocks_in, weight}
-use Rattle.ftl_one.specs.OneFtl.{geometry_of, sectors_of, stock_of}
+use Rattle.ftl_one.specs.OneFtl.{geometry_of, array_of, stock_of}
 use Rattle.ftl_one.proofs.LawfulLemmas.{lawful-put, lawful-close}
 use Rattle.ftl_one.proofs.FtlLemmas.{blocks-put, weight-put}
 use Rattle.std.proofs.lemmas.List.{length_push}
@@ -132,11 +132,11 @@ unfolding geometry_of
 returns-then-is_full-clause-geometry c = c.put-was.ensures.puts.keeps.geometry
 
 pub returns-then-is_full-clause-answer : goal.returns-then-is_full-clause-answer
-unfolding sectors_of
+unfolding array_of
 returns-then-is_full-clause-answer c = c.put-was.ensures.answer
 
 pub returns-then-is_full-clause-array : goal.returns-then-is_full-clause-array
-unfolding sectors_of
+unfolding array_of
 returns-then-is_full-clause-array c = c.put-was.ensures.sectors
 
 -- the stock with these blocks and one more program
@@ -166,11 +166,11 @@ unfolding geometry_of
 returns-else-is_full-clause-geometry c = c.put-was.ensures.puts.keeps.geometry
 
 pub returns-else-is_full-clause-answer : goal.returns-else-is_full-clause-answer
-unfolding sectors_of
+unfolding array_of
 returns-else-is_full-clause-answer c = c.put-was.ensures.answer
 
 pub returns-else-is_full-clause-array : goal.returns-else-is_full-clause-array
-unfolding sectors_of
+unfolding array_of
 returns-else-is_full-clause-array c = c.put-was.ensures.sectors
 
 pub returns-else-is_full-clause-stock : goal.returns-else-is_full-clause-stock

@@ -1,7 +1,7 @@
 use Rattle.std.proofs.Common.{◌≡◌, ◌∙◌, ℕ, List, None, Some, is_some, sym, ap}
 use Rattle.geometry.specs.History.{Write, WriteNew, put_new}
 use Rattle.geometry.specs.Sectors.{Sector, sector_at}
-use Rattle.ftl_one.specs.OneFtl.{geometry_of, sectors_of, stock_of}
+use Rattle.ftl_one.specs.OneFtl.{geometry_of, array_of, stock_of}
 use Rattle.ftl_one.specs.Stock.{next}
 use Rattle.ftl_one.proofs.Current.{has_page-stock, none_of, some_of, next_empty, next_written}
 use Rattle.ftl_one.proofs.one_ftl.OneFtl.write_new.Goals as goal
@@ -11,13 +11,13 @@ pub was-requires : goal.was-requires
 unfolding geometry_of
 was-requires c = c.requires.sector
 
-the_sector : (c : In-Empty) → sector_at (sectors_of c.args.self.now) c.args.sector ≡ None
-unfolding sectors_of
-the_sector c = none_of (sector_at (sectors_of c.args.self.now) c.args.sector) (sym c.was.ensures ∙ c.in-Empty.is)
+the_sector : (c : In-Empty) → sector_at (array_of c.args.self.now) c.args.sector ≡ None
+unfolding array_of
+the_sector c = none_of (sector_at (array_of c.args.self.now) c.args.sector) (sym c.was.ensures ∙ c.in-Empty.is)
 
-its_value : (c : In-Written) → (v : List ℕ) × (sector_at (sectors_of c.args.self.now) c.args.sector ≡ Some v)
-unfolding sectors_of
-its_value c = some_of (sector_at (sectors_of c.args.self.now) c.args.sector) (sym c.was.ensures ∙ c.in-Written.is)
+its_value : (c : In-Written) → (v : List ℕ) × (sector_at (array_of c.args.self.now) c.args.sector ≡ Some v)
+unfolding array_of
+its_value c = some_of (sector_at (array_of c.args.self.now) c.args.sector) (sym c.was.ensures ∙ c.in-Written.is)
 
 -- the call is a write where the sector is empty
 by_write : (c : In-Empty) → next (geometry_of c.args.self.now) (stock_of c.args.self.now) (WriteNew 0 c.args.sector c.args.bytes.now) ≡ next (geometry_of c.args.self.now) (stock_of c.args.self.now) (Write 0 c.args.sector c.args.bytes.now)
@@ -27,7 +27,7 @@ by_write c =
 
 -- and nothing where it is written
 pub returns-in-Written-clause-answer : goal.returns-in-Written-clause-answer
-unfolding sectors_of
+unfolding array_of
 returns-in-Written-clause-answer c = sym c.in-Written.is ∙ c.was.ensures
 
 pub returns-in-Written-clause-written : goal.returns-in-Written-clause-written
@@ -39,22 +39,22 @@ returns-in-Written-clause-written c = λ _.
 pub returns-in-Written-clause-unchanged : goal.returns-in-Written-clause-unchanged
 returns-in-Written-clause-unchanged c = λ _.
     let value = its_value (goal.at.returns-in-Written-clause-unchanged c).In-Written in
-    ap (λ (x : Sector). put_new (sectors_of c.args.self.now) c.args.sector x c.args.bytes.now) value.1
+    ap (λ (x : Sector). put_new (array_of c.args.self.now) c.args.sector x c.args.bytes.now) value.1
 
 pub returns-in-Ok-clause-answer : goal.returns-in-Ok-clause-answer
-unfolding sectors_of
+unfolding array_of
 returns-in-Ok-clause-answer c = sym c.in-Empty.is ∙ c.was.ensures
 
 pub returns-in-Ok-clause-array : goal.returns-in-Ok-clause-array
 returns-in-Ok-clause-array c =
     let empty = the_sector (goal.at.returns-in-Ok-clause-array c).In-Empty in
-    c.in-Ok.ensures.array ∙ sym (ap (λ (x : Sector). put_new (sectors_of c.args.self.now) c.args.sector x c.args.bytes.now) empty)
+    c.in-Ok.ensures.array ∙ sym (ap (λ (x : Sector). put_new (array_of c.args.self.now) c.args.sector x c.args.bytes.now) empty)
 
 pub returns-in-Ok-clause-stock : goal.returns-in-Ok-clause-stock
 returns-in-Ok-clause-stock c = by_write (goal.at.returns-in-Ok-clause-stock c).In-Empty ∙ c.in-Ok.ensures.stock
 
 pub returns-in-Err-clause-answer : goal.returns-in-Err-clause-answer
-unfolding sectors_of
+unfolding array_of
 returns-in-Err-clause-answer c = sym c.in-Empty.is ∙ c.was.ensures
 
 pub returns-in-Err-clause-worn : goal.returns-in-Err-clause-worn

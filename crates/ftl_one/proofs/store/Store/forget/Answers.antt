@@ -3,10 +3,10 @@ use Rattle.std.specs.Option.{IfSome}
 use Rattle.std.specs.Vec.{with_items}
 use Rattle.std.proofs.lemmas.List.{get_or_read}
 use Rattle.geometry.specs.declared.page_addr.PageAddr.{PageAddr}
-use Rattle.geometry.specs.Geometry.{blocks_of, page_bytes_of, sectors_of as sector_count_of}
+use Rattle.geometry.specs.Geometry.{blocks_of, page_bytes_of, sectors_of}
 use Rattle.die.specs.Die.{geometry_of as die_geometry_of, block_of}
 use Rattle.ftl_one.specs.Entries.{Recounts, IsMapped, sectors_in, entries_in}
-use Rattle.ftl_one.specs.Store.{sectors_of, entries_of, erases_of, retired_of}
+use Rattle.ftl_one.specs.Store.{array_of, entries_of, erases_of, retired_of}
 use Rattle.ftl_one.proofs.MapLemmas.{mapped-forget, entries-forget, sectors-set}
 use Rattle.ftl_one.proofs.StoreLemmas.{named_within, named_counted, was-named, recounted}
 use Rattle.ftl_one.proofs.store.Store.forget.Goals as goal
@@ -40,8 +40,8 @@ invariant_of-self c =
     let g = die_geometry_of s.die in
     let was = the_was (goal.at.invariant_of-self c).After-page-was in
     let counts = the_counts (goal.at.invariant_of-self c).After-recount was in
-    let mapped = mapped-forget (page_bytes_of g) (blocks_of g) (sector_count_of g) (block_of s.die) s.current.items s.live.items s.mapped c.args.sector c.recount.new.counts c.requires counts in
-    let P : Option PageAddr → List ℕ → Type 0 = λ o xs. IsMapped (page_bytes_of g) (blocks_of g) (sector_count_of g) (block_of s.die) (set s.current.items c.args.sector o) xs in
+    let mapped = mapped-forget (page_bytes_of g) (blocks_of g) (sectors_of g) (block_of s.die) s.current.items s.live.items s.mapped c.args.sector c.recount.new.counts c.requires counts in
+    let P : Option PageAddr → List ℕ → Type 0 = λ o xs. IsMapped (page_bytes_of g) (blocks_of g) (sectors_of g) (block_of s.die) (set s.current.items c.args.sector o) xs in
     record {
       page_sized = s.page_sized;
       mapped = subst (λ (o : Option PageAddr). P o (with_items s.live c.recount.new.counts).items) (sym (c.replace-entry.ensures.after ∙ c.none.ensures))
@@ -54,7 +54,7 @@ returns-clause-answer c =
     c.answer_of.ensures ∙ was-named c.args.self.now c.args.sector c.page-was.result c.requires (sym was)
 
 pub returns-clause-sectors : goal.returns-clause-sectors
-unfolding sectors_of
+unfolding array_of
 returns-clause-sectors c =
     let s = c.args.self.now in
     let n = page_bytes_of (die_geometry_of s.die) in
@@ -68,7 +68,7 @@ returns-clause-entries c =
     let s = c.args.self.now in
     let g = die_geometry_of s.die in
     ap (λ (o : Option PageAddr). entries_in (page_bytes_of g) (set s.current.items c.args.sector o) b (block_of s.die b)) (c.replace-entry.ensures.after ∙ c.none.ensures)
-    ∙ entries-forget (page_bytes_of g) (blocks_of g) (sector_count_of g) (block_of s.die) s.current.items s.live.items s.mapped c.args.sector b c.requires
+    ∙ entries-forget (page_bytes_of g) (blocks_of g) (sectors_of g) (block_of s.die) s.current.items s.live.items s.mapped c.args.sector b c.requires
 
 pub returns-clause-keeps : goal.returns-clause-keeps
 unfolding erases_of retired_of

@@ -5,12 +5,12 @@ use Rattle.std.proofs.lemmas.List.Sums.{sum_by-cons}
 use Rattle.std.proofs.lemmas.Bool.{cases_lt}
 use Rattle.geometry.specs.declared.geometry.Geometry.{Geometry}
 use Rattle.geometry.specs.declared.page_addr.PageAddr.{PageAddr}
-use Rattle.geometry.specs.Geometry.{blocks_of, page_bytes_of, sectors_of as sector_count_of}
+use Rattle.geometry.specs.Geometry.{blocks_of, page_bytes_of, sectors_of}
 use Rattle.geometry.specs.Sectors.{Sector}
 use Rattle.die.specs.Die.{geometry_of as die_geometry_of, block_of}
 use Rattle.die.specs.Pages.{Block, new_block}
 use Rattle.ftl_one.specs.Entries.{IsMapped, entries_in, sectors_in, value_in, live_count}
-use Rattle.ftl_one.specs.Store.{sectors_of, entries_of, erases_of, retired_of}
+use Rattle.ftl_one.specs.Store.{array_of, entries_of, erases_of, retired_of}
 use Rattle.ftl_one.proofs.EntryLemmas.{length-entries}
 use Rattle.ftl_one.proofs.store.Store.new.Goals as goal
 use Rattle.ftl_one.proofs.store.Store.new.Goals.{In_ok-vec-3}
@@ -59,27 +59,27 @@ invariant_of-result c =
     let g = c.args.geometry.now in
     let die = c.in_ok-new.field-0 in
     let same : die_geometry_of die ≡ g = c.in_ok-new.ensures.geometry in
-    let current : c.in_ok-vec.field-0.items ≡ replicate (sector_count_of g) None = the_current c ∙ ap (λ (k : ℕ). replicate k None) c.sectors.ensures.value in
+    let current : c.in_ok-vec.field-0.items ≡ replicate (sectors_of g) None = the_current c ∙ ap (λ (k : ℕ). replicate k None) c.sectors.ensures.value in
     let live : c.in_ok-vec-2.field-0.items ≡ replicate (blocks_of g) 0 = the_live c ∙ ap (λ (k : ℕ). replicate k 0) c.blocks-2.ensures.value in
-    let P : Geometry → List (Option PageAddr) → List ℕ → Type 0 = λ h o xs. IsMapped (page_bytes_of h) (blocks_of h) (sector_count_of h) (block_of die) o xs in
+    let P : Geometry → List (Option PageAddr) → List ℕ → Type 0 = λ h o xs. IsMapped (page_bytes_of h) (blocks_of h) (sectors_of h) (block_of die) o xs in
     record {
       page_sized = omega (arith, c.in_ok-vec-3.ensures.len, c.in_ok-vec-3.field-0.ok.0, c.page_bytes.ensures, ap page_bytes_of same);
       mapped = subst (λ (h : Geometry). P h c.in_ok-vec.field-0.items c.in_ok-vec-2.field-0.items) (sym same)
           (subst (λ (o : List (Option PageAddr)). P g o c.in_ok-vec-2.field-0.items) (sym current)
-          (subst (λ (xs : List ℕ). P g (replicate (sector_count_of g) None) xs) (sym live)
-          (mapped_new (page_bytes_of g) (blocks_of g) (sector_count_of g) (block_of die) c.in_ok-new.ensures.blocks)));
+          (subst (λ (xs : List ℕ). P g (replicate (sectors_of g) None) xs) (sym live)
+          (mapped_new (page_bytes_of g) (blocks_of g) (sectors_of g) (block_of die) c.in_ok-new.ensures.blocks)));
     }
 
 pub returns : goal.returns
-unfolding sectors_of entries_of erases_of retired_of sectors_in
+unfolding array_of entries_of erases_of retired_of sectors_in
 returns c =
     let g = c.args.geometry.now in
     let die = c.in_ok-new.field-0 in
-    let current : c.in_ok-vec.field-0.items ≡ replicate (sector_count_of g) None = the_current (goal.at.returns c).In_ok-vec-3 ∙ ap (λ (k : ℕ). replicate k None) c.sectors.ensures.value in
+    let current : c.in_ok-vec.field-0.items ≡ replicate (sectors_of g) None = the_current (goal.at.returns c).In_ok-vec-3 ∙ ap (λ (k : ℕ). replicate k None) c.sectors.ensures.value in
     let f : Option PageAddr → Sector = option_map (value_in (page_bytes_of (die_geometry_of die)) (block_of die)) in
     record {
       geometry = c.in_ok-new.ensures.geometry;
-      sectors = ap (map f) current ∙ map-replicate f (sector_count_of g) None;
+      sectors = ap (map f) current ∙ map-replicate f (sectors_of g) None;
       entries = λ b low. no_entries (page_bytes_of (die_geometry_of die)) c.in_ok-vec.field-0.items b (block_of die b) (c.in_ok-new.ensures.blocks b low);
       erases = λ b low. ap (λ (k : Block). k.erases) (c.in_ok-new.ensures.blocks b low);
       retired = λ b low. ap (λ (k : Block). k.retired) (c.in_ok-new.ensures.blocks b low);

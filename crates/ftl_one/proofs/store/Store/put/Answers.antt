@@ -3,12 +3,12 @@ use Rattle.std.specs.Option.{IfSome}
 use Rattle.std.specs.Vec.{with_items}
 use Rattle.std.proofs.lemmas.List.{get_or_read}
 use Rattle.geometry.specs.declared.page_addr.PageAddr.{PageAddr}
-use Rattle.geometry.specs.Geometry.{blocks_of, page_bytes_of, sectors_of as sector_count_of}
+use Rattle.geometry.specs.Geometry.{blocks_of, page_bytes_of, sectors_of}
 use Rattle.die.specs.Die.{geometry_of as die_geometry_of, block_of, IsNext}
 use Rattle.die.specs.Pages.{Page}
 use Rattle.ftl_one.specs.Stock.{Entry}
 use Rattle.ftl_one.specs.Entries.{Recounts, IsMapped, sectors_in, entries_in}
-use Rattle.ftl_one.specs.Store.{sectors_of, entries_of, erases_of, retired_of}
+use Rattle.ftl_one.specs.Store.{array_of, entries_of, erases_of, retired_of}
 use Rattle.ftl_one.proofs.StoreLemmas.{next_of_block, count_small, named_within, named_counted, was-named, recounted, put-mapped, put-sectors, put-changed, put-others, put-erases, put-retired}
 use Rattle.ftl_one.proofs.store.Store.put.Goals as goal
 use Rattle.ftl_one.proofs.store.Store.put.Goals.{After-next_page-at, After-page-was, After-recount}
@@ -72,7 +72,7 @@ invariant_of-self c =
     let g = die_geometry_of c.program.new.self in
     let at = c.next_page-at.result in
     let mapped = put-mapped s c.program.new.self at (the_page at_end) c.recount.new.counts c.requires.sector next c.program.ensures.changes counts in
-    let P : Option PageAddr → List ℕ → Type 0 = λ o xs. IsMapped (page_bytes_of g) (blocks_of g) (sector_count_of g) (block_of c.program.new.self) (set s.current.items c.args.sector o) xs in
+    let P : Option PageAddr → List ℕ → Type 0 = λ o xs. IsMapped (page_bytes_of g) (blocks_of g) (sectors_of g) (block_of c.program.new.self) (set s.current.items c.args.sector o) xs in
     record {
       page_sized = s.page_sized ∙ ap page_bytes_of (sym c.program.ensures.changes.geometry);
       mapped = subst (λ (o : Option PageAddr). P o (with_items s.live c.recount.new.counts).items) (sym (c.replace-entry.ensures.after ∙ c.of.ensures))
@@ -85,7 +85,7 @@ returns-clause-answer c =
     c.answer_of.ensures ∙ was-named c.args.self.now c.args.sector c.page-was.result c.requires.sector (sym was)
 
 pub returns-clause-sectors : goal.returns-clause-sectors
-unfolding sectors_of
+unfolding array_of
 returns-clause-sectors c =
     let s = c.args.self.now in
     let at_end = (goal.at.returns-clause-sectors c).After-recount in

@@ -4,7 +4,7 @@ use Rattle.std.specs.Option.{option_map}
 use Rattle.geometry.specs.declared.page_addr.PageAddr.{PageAddr}
 use Rattle.die.specs.Die.{block_of}
 use Rattle.ftl_one.specs.Entries.{value_in}
-use Rattle.ftl_one.specs.Store.{sectors_of}
+use Rattle.ftl_one.specs.Store.{array_of}
 use Rattle.ftl_one.proofs.MapLemmas.{sector-at}
 use Rattle.ftl_one.proofs.StoreLemmas.{size_of}
 use Rattle.ftl_one.proofs.store.Store.read.Goals as goal
@@ -17,8 +17,8 @@ the_page c =
     get_or_read s.current.items c.args.sector c.index.result.now (omega (arith, c.requires.sector, s.mapped.current_size)) c.index.ensures None
 
 -- what the sector holds
-the_sector : (c : After-index) → (o : Option PageAddr) → c.index.result.now ≡ o → get_or (sectors_of c.args.self.now) c.args.sector None ≡ option_map (value_in (size_of c.args.self.now) (block_of c.args.self.now.die)) o
-unfolding sectors_of
+the_sector : (c : After-index) → (o : Option PageAddr) → c.index.result.now ≡ o → get_or (array_of c.args.self.now) c.args.sector None ≡ option_map (value_in (size_of c.args.self.now) (block_of c.args.self.now.die)) o
+unfolding array_of
 the_sector c o e =
     let s = c.args.self.now in
     sector-at (size_of s) (block_of s.die) s.current.items c.args.sector o (omega (arith, c.requires.sector, s.mapped.current_size)) (sym (the_page c) ∙ e)

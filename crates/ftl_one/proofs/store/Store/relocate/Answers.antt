@@ -2,11 +2,11 @@ use Rattle.std.proofs.Common.{◌≡◌, ◌≢◌, ◌∙◌, ℕ, List, length
 use Rattle.std.specs.Vec.{with_items}
 use Rattle.std.proofs.lemmas.List.{with_items_is}
 use Rattle.geometry.specs.declared.page_addr.PageAddr.{PageAddr}
-use Rattle.geometry.specs.Geometry.{blocks_of, page_bytes_of, sectors_of as sector_count_of}
+use Rattle.geometry.specs.Geometry.{blocks_of, page_bytes_of, sectors_of}
 use Rattle.die.specs.Die.{geometry_of as die_geometry_of, block_of, IsNext}
 use Rattle.ftl_one.specs.Stock.{Entry}
 use Rattle.ftl_one.specs.Entries.{Recounts, IsMapped, sectors_in, entries_in}
-use Rattle.ftl_one.specs.Store.{sectors_of, entries_of, erases_of, retired_of}
+use Rattle.ftl_one.specs.Store.{array_of, entries_of, erases_of, retired_of}
 use Rattle.ftl_one.proofs.StoreLemmas.{programmed_page, next_of_block, count_small, named_counted, recounted, put-mapped, put-erases, put-retired}
 use Rattle.ftl_one.proofs.RelocateLemmas.{page_of, sector_of-page, names_live, stamp_below, relocate-copied, relocate-dead, relocate-others, relocate-sectors}
 use Rattle.ftl_one.proofs.store.Store.relocate.Goals as goal
@@ -83,7 +83,7 @@ invariant_of-self c =
     let g = die_geometry_of die in
     let at = c.next_page-to.result in
     let mapped = put-mapped s die at page c.recount.new.counts (stamp_below s c.args.source c.requires.source_block c.requires.source_page) next c.copy_page.ensures.changes counts in
-    let P : ℕ → Option PageAddr → List ℕ → Type 0 = λ k o xs. IsMapped (page_bytes_of g) (blocks_of g) (sector_count_of g) (block_of die) (set s.current.items k o) xs in
+    let P : ℕ → Option PageAddr → List ℕ → Type 0 = λ k o xs. IsMapped (page_bytes_of g) (blocks_of g) (sectors_of g) (block_of die) (set s.current.items k o) xs in
     let buffer : (with_items s.page c.copy_page.new.page).items ≡ c.copy_page.new.page =
     with_items_is s.page c.copy_page.new.page (omega (arith, c.copy_page.auto.page, c.deref_mut.ensures.len)) in
     record {
@@ -94,7 +94,7 @@ invariant_of-self c =
     }
 
 pub returns : goal.returns
-unfolding entries_of erases_of retired_of sectors_of
+unfolding entries_of erases_of retired_of array_of
 returns c =
     let s = c.args.self.now in
     let at_end = (goal.at.returns c).After-recount in
