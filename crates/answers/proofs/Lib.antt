@@ -1,4 +1,6 @@
 pub mod Deliveries
 pub mod Encodings
+pub mod Numbers
+pub mod Places
 pub mod Playable
 pub mod Texts

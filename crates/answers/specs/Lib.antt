@@ -9,3 +9,4 @@ pub mod Lines
 pub mod Playable
 -- Internal.
 pub mod Encoding
+pub mod Placed

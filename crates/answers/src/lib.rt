@@ -9,6 +9,8 @@ mod lines;
 mod printing;
 mod reading;
 mod reply;
+mod text;
+mod words;
 
 pub use delivery::{OutputFailed, send};
 pub use fault::RunFault;

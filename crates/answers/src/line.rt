@@ -1,91 +1,100 @@
-ghost use Rattle.std.specs.Prelude.{◌≡◌, ◌+◌, ◌≤◌, [], ◌∷◌, ◌++◌, codes, length, vec_len, vec_capacity, decimal};
+//! The lines of a run's output, put into a buffer; each says where it ends.
+ghost use Rattle.std.specs.Prelude.{◌≡◌, ◌+◌, ◌*◌, ◌≤◌, ◌++◌, codes, length};
+ghost use Rattle.hex.specs.Hex.{encode_lower};
 ghost use Rattle.answers.specs.Answers.{end_text, line_text, totals_text, wear_line, wear_names};
+ghost use Rattle.answers.specs.Placed.{Placed};
+ghost use Rattle.answers.specs.Replies.{reply_text};
+ghost use Rattle.answers.specs.declared.reply.Reply.TheVariants as replies;
 
+use crate::reply::Reply;
+use crate::text::{SHORT_BYTES, put_number, put_page, put_short};
+use crate::words::{BLOCK_ERASES, END, END_COMMA, LIVE_RETIRED, op_word, reply_word};
 use trace::Op;
 
-/// The most bytes of a line beside those of its answer, and of the last line.
+/// The most bytes of a line beside those of its page, with what is stored behind them.
 pub const LINE_BYTES: usize = 96;
 
 /// How many bytes of output are handed on at once.
 pub const PIECE_BYTES: usize = 65_536;
 
-// The most digits of a number.
-const NUMBER_BYTES: usize = 20;
-
-// Adds bytes for which there is room.
-fn put(lines: &mut Vec<u8>, bytes: &[u8])
-    requires room { vec_len lines.old + length bytes.now ≤ vec_capacity lines.old }
-    ensures items { lines.new.items ≡ lines.old.items ++ bytes.now }
-    ensures len { vec_len lines.new ≡ vec_len lines.old + length bytes.now }
-    ensures capacity { vec_capacity lines.old ≤ vec_capacity lines.new }
+/// Puts an answer line. A reply of a page tells these bytes.
+#[inline(always)]
+pub fn put_line(
+    buffer: &mut [u8],
+    at: usize,
+    line: u64,
+    op: Op,
+    sector: u32,
+    reply: Reply,
+    page: &[u8],
+) -> usize
+    requires room { at + LINE_BYTES ≤ length buffer.old }
+    requires page { reply ≡ replies.Page → at + LINE_BYTES + 2 * length page.now ≤ length buffer.old }
+    ensures { Placed buffer.old buffer.new at (line_text line op sector (reply_text reply (encode_lower page.now))) result }
 {
-    lines.extend_from_slice(bytes).unwrap();
+    let name = put_number(buffer, at, line, b',');
+    let place = put_short(buffer, name, op_word(op));
+    let answer = put_number(buffer, place, u64::from(sector), b',');
+    put_reply(buffer, answer, reply, page)
 }
 
-// Adds a number in decimal digits, and a byte behind it.
-fn put_number(lines: &mut Vec<u8>, number: u64, end: u8)
-    requires room { vec_len lines.old + NUMBER_BYTES + 1 ≤ vec_capacity lines.old }
-    ensures items { lines.new.items ≡ lines.old.items ++ (decimal number ++ end ∷ []) }
-    ensures len { vec_len lines.new ≤ vec_len lines.old + NUMBER_BYTES + 1 }
-    ensures capacity { vec_capacity lines.old ≤ vec_capacity lines.new }
+// Puts a reply and the end of its line.
+#[inline(always)]
+fn put_reply(buffer: &mut [u8], at: usize, reply: Reply, page: &[u8]) -> usize
+    requires room { at + SHORT_BYTES ≤ length buffer.old }
+    requires page { reply ≡ replies.Page → at + SHORT_BYTES + 2 * length page.now ≤ length buffer.old }
+    ensures { Placed buffer.old buffer.new at (reply_text reply (encode_lower page.now) ++ codes "\n") result }
 {
-    let mut digits = itoa::Buffer::new();
-    put(lines, digits.format(number).as_bytes());
-    lines.push_reserved(end);
+    let end = if let Reply::Page = reply {
+        put_page(buffer, at, page)
+    } else {
+        at
+    };
+    put_short(buffer, end, reply_word(reply))
 }
 
-/// Adds an answer line.
-pub fn put_line(lines: &mut Vec<u8>, line: u64, op: Op, sector: u32, answer: &[u8])
-    requires room { vec_len lines.old + length answer.now + LINE_BYTES ≤ vec_capacity lines.old }
-    ensures items { lines.new.items ≡ lines.old.items ++ line_text line op sector answer.now }
-    ensures capacity { vec_capacity lines.old ≤ vec_capacity lines.new }
+/// Puts the last line.
+pub fn put_end(buffer: &mut [u8], at: usize) -> usize
+    requires { at + LINE_BYTES ≤ length buffer.old }
+    ensures { Placed buffer.old buffer.new at end_text result }
 {
-    put_number(lines, line, b',');
-    put(lines, op.name().as_bytes());
-    lines.push_reserved(b',');
-    put_number(lines, u64::from(sector), b',');
-    put(lines, answer);
-    lines.push_reserved(b'\n');
+    put_short(buffer, at, &END)
 }
 
-/// Adds the last line.
-pub fn put_end(lines: &mut Vec<u8>)
-    requires room { vec_len lines.old + LINE_BYTES ≤ vec_capacity lines.old }
-    ensures items { lines.new.items ≡ lines.old.items ++ end_text }
-    ensures capacity { vec_capacity lines.old ≤ vec_capacity lines.new }
+/// Puts the last line, with the totals of a run.
+pub fn put_totals(buffer: &mut [u8], at: usize, programs: u64, copies: u64, erases: u64) -> usize
+    requires { at + LINE_BYTES ≤ length buffer.old }
+    ensures { Placed buffer.old buffer.new at (totals_text programs copies erases) result }
 {
-    put(lines, b"end\n");
+    let first = put_short(buffer, at, &END_COMMA);
+    let second = put_number(buffer, first, programs, b',');
+    let third = put_number(buffer, second, copies, b',');
+    put_number(buffer, third, erases, b'\n')
 }
 
-/// Adds the last line, with the totals of a run.
-pub fn put_totals(lines: &mut Vec<u8>, programs: u64, copies: u64, erases: u64)
-    requires room { vec_len lines.old + LINE_BYTES ≤ vec_capacity lines.old }
-    ensures items { lines.new.items ≡ lines.old.items ++ totals_text programs copies erases }
-    ensures capacity { vec_capacity lines.old ≤ vec_capacity lines.new }
+/// Puts the names of what is told of each block.
+pub fn put_wear_names(buffer: &mut [u8], at: usize) -> usize
+    requires { at + LINE_BYTES ≤ length buffer.old }
+    ensures { Placed buffer.old buffer.new at wear_names result }
 {
-    put(lines, b"end,");
-    put_number(lines, programs, b',');
-    put_number(lines, copies, b',');
-    put_number(lines, erases, b'\n');
+    let middle = put_short(buffer, at, &BLOCK_ERASES);
+    put_short(buffer, middle, &LIVE_RETIRED)
 }
 
-/// Adds the names of what is told of each block.
-pub fn put_wear_names(lines: &mut Vec<u8>)
-    requires room { vec_len lines.old + LINE_BYTES ≤ vec_capacity lines.old }
-    ensures items { lines.new.items ≡ lines.old.items ++ wear_names }
-    ensures capacity { vec_capacity lines.old ≤ vec_capacity lines.new }
+/// Puts the line of a block.
+pub fn put_wear(
+    buffer: &mut [u8],
+    at: usize,
+    block: u32,
+    erases: u32,
+    live: u32,
+    retired: bool,
+) -> usize
+    requires { at + LINE_BYTES ≤ length buffer.old }
+    ensures { Placed buffer.old buffer.new at (wear_line block erases live retired) result }
 {
-    put(lines, b"block,erases,live,retired\n");
-}
-
-/// Adds the line of a block.
-pub fn put_wear(lines: &mut Vec<u8>, block: u32, erases: u32, live: u32, retired: bool)
-    requires room { vec_len lines.old + LINE_BYTES ≤ vec_capacity lines.old }
-    ensures items { lines.new.items ≡ lines.old.items ++ wear_line block erases live retired }
-    ensures capacity { vec_capacity lines.old ≤ vec_capacity lines.new }
-{
-    put_number(lines, u64::from(block), b',');
-    put_number(lines, u64::from(erases), b',');
-    put_number(lines, u64::from(live), b',');
-    put_number(lines, u64::from(retired), b'\n');
+    let first = put_number(buffer, at, u64::from(block), b',');
+    let second = put_number(buffer, first, u64::from(erases), b',');
+    let third = put_number(buffer, second, u64::from(live), b',');
+    put_number(buffer, third, u64::from(retired), b'\n')
 }

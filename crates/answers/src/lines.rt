@@ -1,10 +1,13 @@
-ghost use Rattle.std.specs.Prelude.{◌+◌, ◌≤◌, vec_len, vec_capacity};
+ghost use Rattle.std.specs.Prelude.{◌+◌, ◌≤◌, vec_len};
 ghost use Rattle.answers.specs.declared.line.TheConstants.{LINE_BYTES, PIECE_BYTES};
 
-/// The lines that wait to be written. All their room is taken at the start.
+/// The lines that wait to be written: the first bytes of a buffer. All their room is taken at the start.
 #[derive(Drop)]
 pub struct Lines {
-    pub(crate) digits: Vec<u8>,
-    pub(crate) waiting: Vec<u8>,
-    pub ghost room: { PIECE_BYTES + LINE_BYTES + vec_len digits + 7 ≤ vec_capacity waiting },
+    pub(crate) buffer: Vec<u8>,
+    pub(crate) used: usize,
+    // How many digits a page has.
+    pub(crate) digits: usize,
+    pub ghost within: { used ≤ vec_len buffer },
+    pub ghost room: { PIECE_BYTES + LINE_BYTES + digits ≤ vec_len buffer },
 }

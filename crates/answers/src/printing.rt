@@ -29,8 +29,9 @@ impl Lines {
     {
         let digits = 2 * geometry.page_bytes();
         Ok(Lines {
-            digits: vec![in alloc; 0; digits]?,
-            waiting: Vec::with_capacity(alloc, PIECE_BYTES + LINE_BYTES + digits + 7)?,
+            buffer: vec![in alloc; 0; PIECE_BYTES + LINE_BYTES + digits]?,
+            used: 0,
+            digits,
         })
     }
 
@@ -41,14 +42,7 @@ impl Lines {
         ensures waiting { waiting_of self.new ≡ waiting_of self.old ++ line_text line op sector (reply_text reply (encode_lower page.now)) }
         ensures page { page_digits_of self.new ≡ page_digits_of self.old }
     {
-        reply.encode(page, &mut self.digits);
-        put_line(
-            &mut self.waiting,
-            line,
-            op,
-            sector,
-            reply.text(&self.digits),
-        );
+        self.used = put_line(&mut self.buffer, self.used, line, op, sector, reply, page);
     }
 
     /// Adds the last line of a run of several threads.
@@ -57,7 +51,7 @@ impl Lines {
         ensures waiting { waiting_of self.new ≡ waiting_of self.old ++ end_text }
         ensures page { page_digits_of self.new ≡ page_digits_of self.old }
     {
-        put_end(&mut self.waiting);
+        self.used = put_end(&mut self.buffer, self.used);
     }
 
     /// Adds the last line of a run of one thread, with its totals.
@@ -66,7 +60,7 @@ impl Lines {
         ensures waiting { waiting_of self.new ≡ waiting_of self.old ++ totals_text programs copies erases }
         ensures page { page_digits_of self.new ≡ page_digits_of self.old }
     {
-        put_totals(&mut self.waiting, programs, copies, erases);
+        self.used = put_totals(&mut self.buffer, self.used, programs, copies, erases);
     }
 
     /// Adds the names of what is told of each block.
@@ -75,7 +69,7 @@ impl Lines {
         ensures waiting { waiting_of self.new ≡ waiting_of self.old ++ wear_names }
         ensures page { page_digits_of self.new ≡ page_digits_of self.old }
     {
-        put_wear_names(&mut self.waiting);
+        self.used = put_wear_names(&mut self.buffer, self.used);
     }
 
     /// Adds the line of a block: its erases, its live pages, and whether it is retired.
@@ -84,7 +78,7 @@ impl Lines {
         ensures waiting { waiting_of self.new ≡ waiting_of self.old ++ wear_line block erases live retired }
         ensures page { page_digits_of self.new ≡ page_digits_of self.old }
     {
-        put_wear(&mut self.waiting, block, erases, live, retired);
+        self.used = put_wear(&mut self.buffer, self.used, block, erases, live, retired);
     }
 
     /// Hands on the lines that wait.
@@ -96,8 +90,8 @@ impl Lines {
         ensures part { OnErr result (AppendsBeginning (W.contents (inner_of writer.old)) (W.contents (inner_of writer.new)) (waiting_of self.old)) }
         ensures failed { OnErr result (failures_of writer.new ≢ failures_of writer.old) }
     {
-        send(writer, &self.waiting)?;
-        self.waiting.clear();
+        send(writer, &self.buffer[..self.used])?;
+        self.used = 0;
         Ok(())
     }
 
@@ -110,7 +104,7 @@ impl Lines {
         ensures part { OnErr result (AppendsBeginning (W.contents (inner_of writer.old)) (W.contents (inner_of writer.new)) (waiting_of self.old)) }
         ensures failed { OnErr result (failures_of writer.new ≢ failures_of writer.old) }
     {
-        if self.waiting.len() < PIECE_BYTES {
+        if self.used < PIECE_BYTES {
             return Ok(());
         }
         self.hand_on(writer)

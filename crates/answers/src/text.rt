@@ -1,0 +1,154 @@
+//! Texts put at a place in a buffer. What stands behind a text may change, as far as its room goes.
+ghost use Rattle.std.specs.Prelude.{◌≡◌, ◌+◌, ◌*◌, ◌<◌, ◌≤◌, [], ◌∷◌, ◌++◌, length, take, decimal};
+ghost use Rattle.hex.specs.Hex.{encode_lower};
+ghost use Rattle.answers.specs.Placed.{Placed, four_digits, short_of, two_digits};
+
+use crate::encoding::encode;
+use std::simd::prelude::*;
+
+/// A short text is stored in so many bytes at once.
+pub(crate) const SHORT_BYTES: usize = 16;
+
+/// The most digits of a number.
+pub(crate) const NUMBER_BYTES: usize = 20;
+
+// The digits of the numbers below 100.
+static PAIRS: [u8; 200] =
+    *b"00010203040506070809101112131415161718192021222324252627282930313233343536373839404142434445464748495051525354555657585960616263646566676869707172737475767778798081828384858687888990919293949596979899";
+
+/// A short text and its length. The bytes behind it don't count.
+pub(crate) struct Short {
+    pub(crate) bytes: [u8; SHORT_BYTES],
+    pub(crate) len: usize,
+}
+
+// Digits of which the first ones count.
+#[derive(Clone, Copy)]
+struct Filled {
+    digits: u32,
+    count: usize,
+}
+
+/// Puts a short text; where it ends.
+#[inline(always)]
+pub(crate) fn put_short(buffer: &mut [u8], at: usize, text: &Short) -> usize
+    requires room { at + SHORT_BYTES ≤ length buffer.old }
+    requires short { text.now.len ≤ SHORT_BYTES }
+    ensures placed { Placed buffer.old buffer.new at (short_of text.now) result }
+    ensures end { result ≤ at + SHORT_BYTES }
+{
+    u8x16::from_array(text.bytes).copy_to_slice(&mut buffer[at..]);
+    at + text.len
+}
+
+/// Puts the digits of a page; where they end.
+#[inline(always)]
+pub(crate) fn put_page(buffer: &mut [u8], at: usize, page: &[u8]) -> usize
+    requires { at + 2 * length page.now ≤ length buffer.old }
+    ensures placed { Placed buffer.old buffer.new at (encode_lower page.now) result }
+    ensures end { result ≡ at + 2 * length page.now }
+{
+    let end = at + 2 * page.len();
+    encode(page, &mut buffer[at..end]);
+    end
+}
+
+/// Puts a number in decimal digits, and a byte behind it; where they end.
+#[inline(always)]
+pub(crate) fn put_number(buffer: &mut [u8], at: usize, number: u64, end: u8) -> usize
+    requires { at + NUMBER_BYTES + 1 ≤ length buffer.old }
+    ensures placed { Placed buffer.old buffer.new at (decimal number ++ end ∷ []) result }
+    ensures end { result ≤ at + NUMBER_BYTES + 1 }
+{
+    let last = put_digits(buffer, at, number);
+    buffer[last] = end;
+    last + 1
+}
+
+// Puts a number in decimal digits; where they end.
+#[inline(always)]
+fn put_digits(buffer: &mut [u8], at: usize, number: u64) -> usize
+    requires { at + NUMBER_BYTES ≤ length buffer.old }
+    ensures placed { Placed buffer.old buffer.new at (decimal number) result }
+    ensures end { result ≤ at + NUMBER_BYTES }
+{
+    if number < 10_000 {
+        return put_first(buffer, at, number as u32);
+    }
+    if number < 100_000_000 {
+        let middle = put_first(buffer, at, (number / 10_000) as u32);
+        put_four(buffer, middle, (number % 10_000) as u32);
+        return middle + 4;
+    }
+    put_long(buffer, at, number)
+}
+
+// Puts the digits of a number that has at most four; where they end.
+#[inline(always)]
+fn put_first(buffer: &mut [u8], at: usize, number: u32) -> usize
+    requires { (number < 10000) × (at + 4 ≤ length buffer.old) }
+    ensures placed { Placed buffer.old buffer.new at (decimal number) result }
+    ensures end { result ≤ at + 4 }
+{
+    let filled = fill(number);
+    put_four(buffer, at, filled.digits);
+    at + filled.count
+}
+
+// A number with zeros behind it, so that it has four digits.
+#[inline(always)]
+fn fill(number: u32) -> Filled
+    requires { number < 10000 }
+    ensures digits { take result.count (four_digits result.digits) ≡ decimal number }
+    ensures four { (result.digits < 10000) × (result.count ≤ 4) }
+{
+    let (factor, count) = if number < 10 {
+        (1000, 1)
+    } else if number < 100 {
+        (100, 2)
+    } else if number < 1000 {
+        (10, 3)
+    } else {
+        (1, 4)
+    };
+    Filled {
+        digits: factor * number,
+        count,
+    }
+}
+
+// Puts four digits.
+#[inline(always)]
+fn put_four(buffer: &mut [u8], at: usize, digits: u32)
+    requires { (digits < 10000) × (at + 4 ≤ length buffer.old) }
+    ensures { Placed buffer.old buffer.new at (four_digits digits) (at + 4) }
+{
+    put_two(buffer, at, digits / 100);
+    put_two(buffer, at + 2, digits % 100);
+}
+
+// Puts two digits.
+#[inline(always)]
+fn put_two(buffer: &mut [u8], at: usize, digits: u32)
+    requires { (digits < 100) × (at + 2 ≤ length buffer.old) }
+    ensures { Placed buffer.old buffer.new at (two_digits digits) (at + 2) }
+{
+    let from = 2 * digits as usize;
+    let (tens, ones) = (PAIRS[from], PAIRS[from + 1]);
+    buffer[at] = tens;
+    buffer[at + 1] = ones;
+}
+
+// Puts the digits of a number that has more than eight; where they end.
+#[cold]
+fn put_long(buffer: &mut [u8], at: usize, number: u64) -> usize
+    requires { at + NUMBER_BYTES ≤ length buffer.old }
+    ensures placed { Placed buffer.old buffer.new at (decimal number) result }
+    ensures end { result ≤ at + NUMBER_BYTES }
+{
+    let mut digits = itoa::Buffer::new();
+    let text = digits.format(number).as_bytes();
+    let end = at + text.len();
+    buffer[at..end].copy_from_slice(text);
+    end
+}
