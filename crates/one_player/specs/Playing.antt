@@ -6,7 +6,7 @@ use Rattle.geometry.specs.Geometry.{sectors_of}
 use Rattle.geometry.specs.History.{Call}
 use Rattle.geometry.specs.Sectors.{sector_at}
 use Rattle.geometry.specs.declared.geometry.Geometry.{Geometry}
-use Rattle.ftl_one.specs.OneFtl.{geometry_of, stock_of, sectors_of as array_of}
+use Rattle.ftl_one.specs.OneFtl.{geometry_of, stock_of, array_of}
 use Rattle.ftl_one.specs.Stock.{Stock, opening, next}
 use Rattle.ftl_one.specs.declared.one_ftl.OneFtl.{OneFtl}
 use Rattle.trace.specs.Trace.{commands_of}
