@@ -91,7 +91,12 @@ impl Hand<'_> {
         self.volume.write(&mut self.pass, sector, &page(byte)).ok()
     }
 
-    pub(crate) fn write_gated<G: Gate>(&mut self, sector: u32, byte: u8, gate: &mut G) -> Option<Was>
+    pub(crate) fn write_gated<G: Gate>(
+        &mut self,
+        sector: u32,
+        byte: u8,
+        gate: &mut G,
+    ) -> Option<Was>
         requires { sector < 2 }
         ensures { self.new.volume ≡ self.old.volume }
     {

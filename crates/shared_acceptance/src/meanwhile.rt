@@ -68,7 +68,12 @@ impl Gate for BroomAt<'_> {
 
 impl<'a> BroomAt<'a> {
     /// The gate at this point.
-    pub(crate) fn new(point: Point, broom: Sweeper<'a>, sweeps: &'a [Sweep], each: usize) -> BroomAt<'a> {
+    pub(crate) fn new(
+        point: Point,
+        broom: Sweeper<'a>,
+        sweeps: &'a [Sweep],
+        each: usize,
+    ) -> BroomAt<'a> {
         BroomAt {
             point,
             broom,

@@ -86,7 +86,10 @@ pub(crate) fn open_swept(rt: &impl AllocGlobal) -> Result<(TwoHosts, Broom), Fai
 }
 
 /// The same, with blocks that may be erased so often.
-pub(crate) fn open_swept_often(rt: &impl AllocGlobal, endurance: u32) -> Result<(TwoHosts, Broom), Fail>
+pub(crate) fn open_swept_often(
+    rt: &impl AllocGlobal,
+    endurance: u32,
+) -> Result<(TwoHosts, Broom), Fail>
     ensures { IfOk result (λ r. IsBroomReady r.0.volume r.1) }
 {
     let (hosts, mut brooms) = open_with(rt, 5, endurance, 1)?;
