@@ -1,5 +1,6 @@
 -- What a pass that plays lines does: it answers each at a history, one after another.
-use Rattle.std.specs.Prelude.{◌≡◌, ℕ, ◌+◌, ◌*◌, ◌<◌, ◌≤◌, ◌==◌, Bool, if◌then◌else◌, List, [], ◌∷◌, ◌++◌, length, count_by}
+use Rattle.std.specs.Prelude.{◌≡◌, ℕ, zero, suc, ◌+◌, ◌<◌, ◌≤◌, Bool, true, false, if◌then◌else◌, List, [], ◌∷◌, ◌++◌, length}
+use Rattle.std.specs.List.{range_with_len}
 use Rattle.geometry.specs.History.{Call, held, Begins}
 use Rattle.geometry.specs.declared.map_word.MapWord.{MapWord}
 use Rattle.flash_rule.specs.declared.view.View.{View}
@@ -39,17 +40,43 @@ writes_done [] answers = 0
 writes_done (c ∷ lines) [] = 0
 writes_done (c ∷ lines) (a ∷ answers) = one_done c.op (is_full a.kind) + writes_done lines answers
 
--- how many answers turn a write away
-abbrev pub fulls : List Answer → ℕ
-fulls answers = count_by (λ a. is_full a.kind) answers
+-- the blocks that were found taken in so many tries that found none free: all blocks, in order, in each
+abbrev pub all_taken : ℕ → ℕ → List ℕ
+all_taken blocks zero = []
+all_taken blocks (suc tries) = all_taken blocks tries ++ range_with_len 0 blocks
 
--- how often a block was found taken
-abbrev pub times : ℕ → List ℕ → ℕ
-times b denied = count_by (λ c. c == b) denied
+-- how many tries of a write found no block, and how many blocks were found taken in the one that did: a write that was turned away was tried as often
+-- as there are tries, and one that was done no more often
+abbrev pub IsTried : ℕ → ℕ → Bool → ℕ → ℕ → Type 0
+IsTried patience blocks true refused below = (refused ≡ patience) × (below ≡ 0)
+IsTried patience blocks false refused below = (refused < patience) × (below < blocks)
+
+-- the blocks that a write has found taken: all of them in each try that found no block, and in the one that was done those below the block that it took
+pub record WriteFound (patience blocks : ℕ) (full : Bool) (found : List ℕ) : Type 0 where
+  pub refused : ℕ
+  pub below : ℕ
+  pub tried : IsTried patience blocks full refused below
+  pub whole : found ≡ all_taken blocks refused ++ range_with_len 0 below
+
+-- the blocks that a line has found taken: none if it is no write
+abbrev pub LineFound : ℕ → ℕ → Op → Bool → List ℕ → Type 0
+LineFound patience blocks op.Read full found = found ≡ []
+LineFound patience blocks op.Write full found = WriteFound patience blocks full found
+LineFound patience blocks op.New full found = WriteFound patience blocks full found
+LineFound patience blocks op.Trim full found = found ≡ []
+LineFound patience blocks op.Meet full found = found ≡ []
+
+-- the blocks that lines have found taken, one line after another
+abbrev pub LinesFound : ℕ → ℕ → List Command → List Answer → List ℕ → Type 0
+LinesFound patience blocks [] [] found = found ≡ []
+LinesFound patience blocks [] (a ∷ answers) found = ⊥
+LinesFound patience blocks (c ∷ lines) [] found = ⊥
+LinesFound patience blocks (c ∷ lines) (a ∷ answers) found =
+    (first : List ℕ) × (rest : List ℕ) × (found ≡ first ++ rest) × LineFound patience blocks c.op (is_full a.kind) first × LinesFound patience blocks lines answers rest
 
 -- A pass has played lines, with so many tries of each write. Its own calls have grown by just those of the lines that were done, in order; one page
--- was programmed for each write that was done, and at most one block taken; and for each line that was turned away every block was found taken as
--- often as it was tried. Nothing else has changed of what the pass knows
+-- was programmed for each write that was done, and at most one block taken; and the blocks that it has found taken are those of the tries of each
+-- line, in order. Nothing else has changed of what the pass knows
 pub record Played (t patience : ℕ) (v : View) (lines : List Command) (answers : List Answer) (w : View) : Type 0 where
   pub changed : w ≡ record v {
     seen = w.seen;
@@ -71,4 +98,6 @@ pub record Played (t patience : ℕ) (v : View) (lines : List Command) (answers 
   pub programmed : length more ≡ writes_done lines answers
   pub kept : v.taken ≤ w.taken
   pub taken : w.taken ≤ v.taken + writes_done lines answers
-  pub denied : (b : ℕ) → b < v.numbers.blocks → times b v.denied + patience * fulls answers ≤ times b w.denied
+  pub found : List ℕ
+  pub denied : w.denied ≡ v.denied ++ found
+  pub tried : LinesFound patience v.numbers.blocks lines answers found

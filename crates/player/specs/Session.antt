@@ -61,21 +61,21 @@ pub record DescribesNone (words : List Text) (found : GeometryFault) : Type 0 wh
   pub told : AreOptionsOf (rows_given words) given
   pub first : first_fault (numbers_given given) ≡ Some found
 
--- the text of a run by so many workers: without any it is that of one thread
-abbrev pub IsTextBy : ℕ → Geometry → List ℕ → List ℕ → Type 0
-IsTextBy zero geo bytes text = IsTextOf geo bytes text
-IsTextBy (suc others) geo bytes text = IsSharedTextOf geo bytes text
+-- the text of a run by so many workers, with so many tries of each write: without any it is that of one thread
+abbrev pub IsTextBy : ℕ → ℕ → Geometry → List ℕ → List ℕ → Type 0
+IsTextBy zero patience geo bytes text = IsTextOf geo bytes text
+IsTextBy (suc others) patience geo bytes text = IsSharedTextOf patience geo bytes text
 
--- the text of a run on this device, by a worker for each of its hosts
-abbrev pub IsTextFor : Geometry → List ℕ → List ℕ → Type 0
-IsTextFor geo bytes text = IsTextBy (hosts_of geo) geo bytes text
+-- the text of a run on this device, by a worker for each of its hosts, with so many tries of each write
+abbrev pub IsTextFor : ℕ → Geometry → List ℕ → List ℕ → Type 0
+IsTextFor patience geo bytes text = IsTextBy (hosts_of geo) patience geo bytes text
 
 -- the trace was played: the input was read to its end, the text of all its bytes was written, and no call failed
 pub record Answered (words : List Text) (input output : Passage) : Type 0 where
   pub geo : Geometry
   pub device : IsDescribed words geo
   pub end : IsAtEnd input.after.bytes
-  pub text : Tells (IsTextFor geo) input.before output
+  pub text : Tells (IsTextFor device.given.patience geo) input.before output
   pub input_unfailed : input.after.failures ≡ input.before.failures
   pub output_unfailed : output.after.failures ≡ output.before.failures
 
@@ -109,7 +109,7 @@ pub record Helped (words : List Text) (input output : Passage) : Type 0 where
 pub record Stopped (words : List Text) (found : RunFault) (input output : Passage) : Type 0 where
   pub geo : Geometry
   pub device : IsDescribed words geo
-  pub why : ExplainsRun IsTextFor geo input output found
+  pub why : ExplainsRun (IsTextFor device.given.patience) geo input output found
 
 -- the words describe a device with workers, and name a file for the wear, which one thread alone tells
 pub record WantsSharedWear (words : List Text) : Type 0 where

@@ -108,10 +108,10 @@ fn play<T: Threads + Wait + Sync, R: Read, W: Write>(
     patience: u32,
 ) -> Result<(), RunFault>
     ensures end { OnOk result (IsAtEnd (R.remaining (inner_of reader.new))) }
-    ensures text { OnOk result (Tells (IsTextFor geometry.now) (stream_of R.remaining reader.old) (over W.contents writer.old writer.new)) }
+    ensures text { OnOk result (Tells (IsTextFor patience geometry.now) (stream_of R.remaining reader.old) (over W.contents writer.old writer.new)) }
     ensures reader_unfailed { OnOk result (failures_of reader.new ≡ failures_of reader.old) }
     ensures writer_unfailed { OnOk result (failures_of writer.new ≡ failures_of writer.old) }
-    ensures why { IfErr result (ExplainsRun IsTextFor geometry.now (over R.remaining reader.old reader.new) (over W.contents writer.old writer.new)) }
+    ensures why { IfErr result (ExplainsRun (IsTextFor patience) geometry.now (over R.remaining reader.old reader.new) (over W.contents writer.old writer.new)) }
 {
     if geometry.hosts() == 0 {
         return run(alloc, reader, writer, geometry);

@@ -1,10 +1,8 @@
 -- One line: what a read, a trim, a write that was done and one that was turned away tell, as one record.
-use Rattle.std.proofs.Common.{◌≡◌, ℕ, zero, suc, ◌+◌, ◌<◌, ◌≤◌, ◌⊎◌, Bool, true, false, List, [], ◌∷◌, ◌++◌, Option, None, Some, sym, refl, ap, ◌∙◌, subst, arith, append-nil, eq-eqb, cond}
-use Rattle.std.specs.Prelude.{◌==◌, if◌then◌else◌}
+use Rattle.std.proofs.Common.{◌≡◌, ℕ, suc, ◌+◌, ◌<◌, ◌≤◌, ◌⊎◌, Bool, true, false, List, [], ◌∷◌, ◌++◌, Option, None, Some, sym, refl, ap, ◌∙◌, subst, arith, append_assoc, append-nil}
+use Rattle.std.specs.Prelude.{if◌then◌else◌}
 use Rattle.std.specs.List.{range_with_len}
-use Rattle.std.proofs.lemmas.List.Sums.{sum_by-append, sum_by-cons}
-use mathlib.Core.Logic.{dite, inl, inr}
-use native.Mathlib.Decide.{ℕ_discrete}
+use mathlib.Core.Logic.{inl, inr}
 use Rattle.geometry.specs.History.{Call, Write, WriteNew, Trim, held, was, Begins}
 use Rattle.geometry.specs.Sectors.{Sector, Answers, was_of}
 use Rattle.geometry.specs.declared.answer.Got.{Got}
@@ -22,7 +20,7 @@ use Rattle.trace.specs.declared.commands.Op.TheVariants as op
 use Rattle.lines.specs.declared.answer.Kind.{Kind}
 use Rattle.lines.specs.declared.answer.Kind.TheVariants as kind
 use Rattle.lines.specs.Lines.{kind_of, is_full, calls_by, IsFound, IsRight}
-use Rattle.lines.specs.Playing.{one_done, times}
+use Rattle.lines.specs.Playing.{one_done, all_taken, WriteFound, LineFound}
 use Rattle.playing.specs.Line.{PlayedLine, kind_found, merge}
 
 -- a change of no more than the eleven fields
@@ -44,18 +42,11 @@ was_not_full : (a : Was) → is_full (kind_of a) ≡ false
 was_not_full was.Empty = refl
 was_not_full was.Written = refl
 
--- more blocks were found taken
-times-append : (b : ℕ) (xs ys : List ℕ) → times b (xs ++ ys) ≡ times b xs + times b ys
-times-append b xs ys = sum_by-append _ xs ys
-
--- each block of a row stands in it
-times_in_row : (b a n : ℕ) → a ≤ b → b < a + n → 1 ≤ times b (range_with_len a n)
-times_in_row b a zero low high = absurd (omega arith)
-times_in_row b a (suc n) low high =
-    let more = sum_by-cons (λ c. cond (c == b) 1 0) a (range_with_len (a + 1) n) in
-    dite (ℕ_discrete a b)
-    (λ same. let here : cond (a == b) 1 0 ≡ cond true 1 0 = ap {B = ℕ} (λ q. cond q 1 0) (eq-eqb a b same) in omega (arith, more, here))
-    (λ other. let rest = times_in_row b (a + 1) n (omega arith) (omega arith) in omega (arith, more, rest))
+-- one try more that finds no block
+taken_more : (blocks tries : ℕ) → all_taken blocks (tries + 1) ≡ all_taken blocks tries ++ range_with_len 0 blocks
+taken_more blocks tries =
+    let next : suc tries ≡ tries + 1 = omega arith in
+    subst (λ k. all_taken blocks k ≡ all_taken blocks tries ++ range_with_len 0 blocks) next refl
 
 -- a look that is done is one line
 pub read_line : (t patience : ℕ) (v : View) (s tries : ℕ) (value old page : List ℕ) (g : Got) (k : Kind) (w : View) → Searched v tries w → Answers (held v.numbers.sectors w.seen s) g old page → k ≡ kind_found g
@@ -75,7 +66,9 @@ read_line t patience v s tries value old page g k w told answer is =
         programmed = refl;
         kept = (let e = ap (λ (x : View). x.taken) told.changed in omega arith);
         taken = (let e = ap (λ (x : View). x.taken) told.changed in omega arith);
-        denied = λ b low. let e = ap (λ (x : View). times b x.denied) told.changed in omega arith;
+        found = [];
+        denied = ap (λ (x : View). x.denied) told.changed ∙ sym (append-nil v.denied);
+        tried = refl;
       }
 
 -- and so is a trim
@@ -95,26 +88,29 @@ trim_line t patience v s value page a k w told is =
         programmed = refl;
         kept = (let e = ap (λ (x : View). x.taken) told.changed in omega arith);
         taken = (let e = ap (λ (x : View). x.taken) told.changed in omega arith);
-        denied = λ b low. let e = ap (λ (x : View). times b x.denied) told.changed in omega arith;
+        found = [];
+        denied = ap (λ (x : View). x.denied) told.changed ∙ sym (append-nil v.denied);
+        tried = refl;
       }
 
--- A write was tried so often, and turned away each time: each block was found taken as often, and nothing else has changed
+-- A write was tried so often, and turned away each time: all blocks were found taken as often, and nothing else has changed
 pub record Waited (tries : ℕ) (v u : View) : Type 0 where
   pub changed : u ≡ record v { denied = u.denied }
-  pub denied : (b : ℕ) → b < v.numbers.blocks → times b v.denied + tries ≤ times b u.denied
+  pub denied : u.denied ≡ v.denied ++ all_taken v.numbers.blocks tries
 
 pub waited_none : (v : View) → Waited 0 v v
-waited_none v = record { changed = refl; denied = λ b low. omega arith }
+waited_none v = record { changed = refl; denied = sym (append-nil v.denied) }
 
 pub waited_more : (tries : ℕ) (v u w : View) → Waited tries v u → Refused u w → Waited (tries + 1) v w
 waited_more tries v u w waited refused =
     record {
       changed = refused.changed ∙ ap (λ (x : View). record x { denied = w.denied }) waited.changed;
-      denied = λ b low.
-          let blocks : u.numbers.blocks ≡ v.numbers.blocks = ap (λ (x : View). x.numbers.blocks) waited.changed in
-          let more = ap (times b) refused.grown ∙ times-append b u.denied (range_with_len 0 u.numbers.blocks) in
-          let one = times_in_row b 0 u.numbers.blocks (omega arith) (omega arith) in
-          let before = waited.denied b low in omega (arith, more, one, before);
+      denied =
+          let n = v.numbers.blocks in
+          let row : range_with_len 0 u.numbers.blocks ≡ range_with_len 0 n = ap (λ (x : View). range_with_len 0 x.numbers.blocks) waited.changed in
+          refused.grown
+          ∙ (ap (λ l. u.denied ++ l) row
+          ∙ (ap (λ l. l ++ range_with_len 0 n) waited.denied ∙ (append_assoc v.denied (all_taken n tries) (range_with_len 0 n) ∙ ap (λ l. v.denied ++ l) (sym (taken_more n tries)))));
     }
 
 -- An op that makes this kind of call, by a page that it programs, and may be turned away
@@ -122,15 +118,16 @@ pub record IsWrite (o : Op) (call : ℕ → ℕ → List ℕ → Call) : Type 0 
   pub right : (x : Sector) (k : Kind) (page : List ℕ) → (k ≡ kind.Full) ⊎ (k ≡ kind_of (was_of x)) → IsRight o x k page
   pub calls : (t s : ℕ) (value : List ℕ) → calls_by t o s value ≡ call t s value ∷ []
   pub done : (full : Bool) → one_done o full ≡ (if full then 0 else 1)
+  pub found : (patience blocks : ℕ) (full : Bool) (l : List ℕ) → WriteFound patience blocks full l → LineFound patience blocks o full l
 
 pub a_write : IsWrite op.Write Write
-a_write = record { right = λ x k page r. r; calls = λ t s value. refl; done = λ full. refl }
+a_write = record { right = λ x k page r. r; calls = λ t s value. refl; done = λ full. refl; found = λ patience blocks full l found. found }
 
 pub a_new_write : IsWrite op.New WriteNew
-a_new_write = record { right = λ x k page r. r; calls = λ t s value. refl; done = λ full. refl }
+a_new_write = record { right = λ x k page r. r; calls = λ t s value. refl; done = λ full. refl; found = λ patience blocks full l found. found }
 
 -- turned away to the end
-pub full_line : (o : Op) (call : ℕ → ℕ → List ℕ → Call) → IsWrite o call → (t patience tries : ℕ) (v : View) (s : ℕ) (value page : List ℕ) (w : View) → patience ≤ tries → Waited tries v w → PlayedLine t patience v o s value kind.Full page true w
+pub full_line : (o : Op) (call : ℕ → ℕ → List ℕ → Call) → IsWrite o call → (t patience tries : ℕ) (v : View) (s : ℕ) (value page : List ℕ) (w : View) → tries ≡ patience → Waited tries v w → PlayedLine t patience v o s value kind.Full page true w
 full_line o call is t patience tries v s value page w all waited =
     let none = is.done true in
     let seen = ap (λ (x : View). x.seen) waited.changed in
@@ -147,29 +144,48 @@ full_line o call is t patience tries v s value page w all waited =
       programmed = sym none;
       kept = omega arith;
       taken = omega arith;
-      denied = λ b low. let before = waited.denied b low in omega arith;
+      found = all_taken v.numbers.blocks tries;
+      denied = waited.denied;
+      tried = is.found patience v.numbers.blocks true (all_taken v.numbers.blocks tries) (record { refused = tries; below = 0; tried = (all, refl); whole = sym (append-nil (all_taken v.numbers.blocks tries)) });
     }
 
--- what a write takes and finds taken
-wrote_taken : (v w : View) (c : Call) (s : ℕ) (a : Was) (o : Option OpenBlock) → v.owns ≡ owned_list o → Programmed v c s a w
-    → (v.taken ≤ w.taken) × (w.taken ≤ v.taken + 1) × ((b : ℕ) → times b v.denied ≤ times b w.denied)
+-- what a write takes, and the blocks that it finds taken below that
+record Took (v w : View) : Type 0 where
+  pub kept : v.taken ≤ w.taken
+  pub taken : w.taken ≤ v.taken + 1
+  pub below : ℕ
+  pub within : below < v.numbers.blocks
+  pub denied : w.denied ≡ v.denied ++ range_with_len 0 below
+
+wrote_taken : (v w : View) (c : Call) (s : ℕ) (a : Was) (o : Option OpenBlock) → v.owns ≡ owned_list o → Programmed v c s a w → Took v w
 wrote_taken v w c s a None owns told =
-    let begun = told.begun owns in (
-      omega (arith, begun.1),
-      omega (arith, begun.1),
-      λ b. let more = ap (times b) begun.2 ∙ times-append b v.denied (range_with_len 0 told.page.block) in omega (arith, more),
-    )
+    let begun = told.begun owns in record { kept = omega (arith, begun.1); taken = omega (arith, begun.1); below = told.page.block; within = told.within.0; denied = begun.2 }
 wrote_taken v w c s a (Some o) owns told =
-    let continued = told.continued (owned_of o) owns in (omega (arith, continued.1), omega (arith, continued.1), λ b. let same = ap (times b) continued.2 in omega (arith, same))
+    let continued = told.continued (owned_of o) owns in record {
+      kept = omega (arith, continued.1);
+      taken = omega (arith, continued.1);
+      below = 0;
+      within = (let low = told.within.0 in omega arith);
+      denied = continued.2 ∙ sym (append-nil v.denied);
+    }
 
 -- a write that was done, after so many that were turned away
 module _ (which : Op) (call : ℕ → ℕ → List ℕ → Call) (its : IsWrite which call) where
-  pub write_line : (t patience tries : ℕ) (v u w : View) (s : ℕ) (value page : List ℕ) (a : Was) (k : Kind) (o : Option OpenBlock) → u.owns ≡ owned_list o → Waited tries v u → Programmed u (call t s value) s a w → k ≡ kind_of a
+  pub write_line : (t patience tries : ℕ) (v u w : View) (s : ℕ) (value page : List ℕ) (a : Was) (k : Kind) (o : Option OpenBlock) → u.owns ≡ owned_list o → tries < patience → Waited tries v u → Programmed u (call t s value) s a w → k ≡ kind_of a
       → PlayedLine t patience v which s value k page (is_full k) w
-  write_line t patience tries v u w s value page a k o owns waited told is =
+  write_line t patience tries v u w s value page a k o owns few waited told is =
       subst (λ (x : Kind × Bool). PlayedLine t patience v which s value x.0 page x.1 w) (λ i. (sym is i, (sym (was_not_full a) ∙ ap is_full (sym is)) i)) line where
-        takes : (u.taken ≤ w.taken) × (w.taken ≤ u.taken + 1) × ((b : ℕ) → times b u.denied ≤ times b w.denied)
+        n : ℕ
+        n = v.numbers.blocks
+
+        takes : Took u w
         takes = wrote_taken u w (call t s value) s a o owns told
+
+        below : ℕ
+        below = takes.below
+
+        within : below < n
+        within = let blocks = ap (λ (x : View). x.numbers.blocks) waited.changed in let low = takes.within in omega arith
 
         right : kind_of a ≡ kind_of (was v.numbers.sectors told.before s)
         right = ap kind_of told.answered ∙ ap (λ n. kind_of (was n told.before s)) (ap (λ (x : View). x.numbers.sectors) waited.changed)
@@ -191,7 +207,9 @@ module _ (which : Op) (call : ℕ → ℕ → List ℕ → Call) (its : IsWrite 
           more = told.page ∷ [];
           programs = told.programmed ∙ ap (λ (x : View). x.programs ++ told.page ∷ []) waited.changed;
           programmed = sym one;
-          kept = (let e = ap (λ (x : View). x.taken) waited.changed in omega (arith, takes.0));
-          taken = (let e = ap (λ (x : View). x.taken) waited.changed in omega (arith, takes.1, one));
-          denied = λ b low. let before = waited.denied b low in omega (arith, before, takes.2 b);
+          kept = (let e = ap (λ (x : View). x.taken) waited.changed in let t = takes.kept in omega arith);
+          taken = (let e = ap (λ (x : View). x.taken) waited.changed in let t = takes.taken in omega (arith, one));
+          found = all_taken n tries ++ range_with_len 0 below;
+          denied = takes.denied ∙ (ap (λ l. l ++ range_with_len 0 below) waited.denied ∙ append_assoc v.denied (all_taken n tries) (range_with_len 0 below));
+          tried = its.found patience n false (all_taken n tries ++ range_with_len 0 below) (record { refused = tries; below = below; tried = (few, within); whole = refl });
         }

@@ -1,5 +1,5 @@
 -- One line more: the histories, the calls, the programs and the counts grow by its own part.
-use Rattle.std.proofs.Common.{◌≡◌, ℕ, ◌+◌, ◌*◌, ◌<◌, ◌≤◌, Bool, true, false, List, [], ◌∷◌, ◌++◌, length, take, get_or, set, sym, refl, ap, ◌∙◌, subst, arith, append_assoc, append-nil, length-append, cond}
+use Rattle.std.proofs.Common.{◌≡◌, ℕ, ◌+◌, ◌<◌, ◌≤◌, Bool, List, [], ◌∷◌, ◌++◌, length, take, get_or, set, sym, refl, ap, ◌∙◌, subst, arith, append_assoc, append-nil, length-append}
 use Rattle.std.proofs.lemmas.List.{take_all, take_more, take_more_set, length-set, length-map, get_or-map, get_or-set_same, get_or-set_other, with_items_is}
 use Rattle.std.proofs.lemmas.Option.{slice_get_within, slice_get-get_or, get_or_from_slice_get}
 use Rattle.std.specs.Prelude.{Some, slice_get}
@@ -8,7 +8,6 @@ use native.Mathlib.Decide.{ℕ_discrete}
 use Rattle.geometry.specs.Sectors.{Sector}
 use Rattle.trace.specs.declared.commands.Op.{Op}
 use Rattle.trace.specs.declared.commands.Op.TheVariants as op
-use Rattle.std.proofs.lemmas.List.Sums.{sum_by_push}
 use Rattle.std.specs.Vec.{with_items}
 use Rattle.geometry.specs.Geometry.{page_bytes_of}
 use Rattle.geometry.specs.History.{Call, held, Begins}
@@ -16,7 +15,6 @@ use Rattle.geometry.proofs.Histories.{Begins-refl, Begins-trans}
 use Rattle.flash_rule.specs.declared.facts.Name.TheVariants.{Pass as APass}
 use Rattle.flash_rule.specs.declared.facts.Role.TheVariants.{Player}
 use Rattle.flash_rule.specs.declared.view.View.{View}
-use Rattle.flash_rule.specs.Views.{one_if}
 use Rattle.flash_table.specs.declared.pass.Pass.{Pass}
 use Rattle.flash_table.specs.Flash.{view_of, geometry_of}
 use Rattle.host.specs.Ready.{IsReady}
@@ -26,7 +24,7 @@ use Rattle.volume.specs.Volume.{flash_of}
 use Rattle.lines.specs.declared.answer.Answer.{Answer}
 use Rattle.lines.specs.declared.answer.Kind.{Kind}
 use Rattle.lines.specs.Lines.{calls_made, is_full, IsRight}
-use Rattle.lines.specs.Playing.{Plays, Played, calls_done, writes_done, one_done, fulls}
+use Rattle.lines.specs.Playing.{Plays, Played, LineFound, LinesFound, calls_done, writes_done, one_done}
 use Rattle.playing.specs.Line.{PlayedLine}
 use Rattle.playing.specs.Playable.{HasPage, HasRoom, HaveRoom, lines_at, no_line}
 use Rattle.playing.proofs.Line.{merged-trans}
@@ -53,9 +51,14 @@ module _ (n t : ℕ) (c : Command) (a : Answer) where
   writes_more seen last (d ∷ lines) [] plays = absurd plays
   writes_more seen last (d ∷ lines) (b ∷ answers) plays = let rest = writes_more (plays.0 ++ calls_made t d b) last lines answers plays.3 in omega (arith, rest)
 
-one_of : (b : Bool) → one_if b ≡ cond b 1 0
-one_of true = refl
-one_of false = refl
+-- the blocks that more lines have found taken
+module _ (patience n : ℕ) (more : List Command) (others : List Answer) (last : List ℕ) (found : LinesFound patience n more others last) where
+  pub found-append : (lines : List Command) (answers : List Answer) (first : List ℕ) → LinesFound patience n lines answers first → LinesFound patience n (lines ++ more) (answers ++ others) (first ++ last)
+  found-append [] [] first none = subst (λ l. LinesFound patience n more others (l ++ last)) (sym none) found
+  found-append [] (b ∷ answers) first before = absurd before
+  found-append (d ∷ lines) [] first before = absurd before
+  found-append (d ∷ lines) (b ∷ answers) first (one, rest, whole, line, behind) =
+      (one, rest ++ last, ap (λ l. l ++ last) whole ∙ append_assoc one rest last, line, found-append lines answers rest behind)
 
 -- one line more is played
 pub played_more : (t patience : ℕ) (v u w : View) (lines : List Command) (answers : List Answer) (c : Command) (a : Answer) → Played t patience v lines answers u
@@ -66,7 +69,8 @@ played_more t patience v u w lines answers c a all line =
     let same : u.numbers.sectors ≡ n = ap (λ (x : View). x.numbers.sectors) all.changed in
     let done = done_more n t c a v.seen u.seen lines answers all.plays in
     let writes = writes_more n t c a v.seen u.seen lines answers all.plays in
-    let turned : fulls (answers ++ a ∷ []) ≡ fulls answers + one_if full = sum_by_push _ answers a ∙ ap (λ k. fulls answers + k) (sym (one_of full)) in
+    let blocks : u.numbers.blocks ≡ v.numbers.blocks = ap (λ (x : View). x.numbers.blocks) all.changed in
+    let tried : LineFound patience v.numbers.blocks c.op full line.found = subst (λ k. LineFound patience k c.op full line.found) blocks line.tried in
     record {
       changed = merged-trans v u w all.changed line.changed;
       plays = plays_more n t c a v.seen u.seen w.seen line.history lines answers all.plays line.later (subst (λ k. IsRight c.op (held k line.history c.sector) a.kind a.page.items) same line.right) line.last;
@@ -76,11 +80,9 @@ played_more t patience v u w lines answers c a all line =
       programmed = length-append all.more line.more ∙ (ap (λ k. k + length line.more) all.programmed ∙ (ap (λ k. writes_done lines answers + k) line.programmed ∙ sym writes));
       kept = (let x = all.kept in let y = line.kept in omega arith);
       taken = (let x = all.taken in let y = line.taken in omega (arith, writes));
-      denied = λ b low.
-          let blocks : u.numbers.blocks ≡ v.numbers.blocks = ap (λ (x : View). x.numbers.blocks) all.changed in
-          let x = all.denied b low in
-          let y = line.denied b (omega arith) in
-          let z : patience * fulls (answers ++ a ∷ []) ≡ patience * fulls answers + patience * one_if full = ap (λ k. patience * k) turned ∙ omega arith in omega (arith, x, y, z);
+      found = all.found ++ line.found;
+      denied = line.denied ∙ (ap (λ k. k ++ line.found) all.denied ∙ append_assoc v.denied all.found line.found);
+      tried = found-append patience v.numbers.blocks (c ∷ []) (a ∷ []) line.found (line.found, [], sym (append-nil line.found), tried, refl) lines answers all.found all.tried;
     }
 
 -- the first so many lines are played
@@ -100,7 +102,9 @@ played_none t patience v =
       programmed = refl;
       kept = omega arith;
       taken = omega arith;
-      denied = λ b low. omega arith;
+      found = [];
+      denied = sym (append-nil v.denied);
+      tried = refl;
     }
 
 pub playing_none : (volume : Volume) (patience : ℕ) (first : Pass) (lines : List Command) (answers : List Answer) → IsReady (flash_of volume) first → length answers ≡ length lines → Playing volume patience first lines 0 first answers
@@ -163,7 +167,9 @@ other_page t patience v o s value k page other full w apart p =
       programmed = p.programmed;
       kept = p.kept;
       taken = p.taken;
+      found = p.found;
       denied = p.denied;
+      tried = p.tried;
     } where
       moved : (o : Op) (x : Sector) → ¬ (o ≡ op.Read) → IsRight o x k page → IsRight o x k other
       moved op.Read x apart right = absurd (apart refl)

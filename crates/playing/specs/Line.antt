@@ -1,16 +1,15 @@
 -- What a pass does that plays one line.
-use Rattle.std.specs.Prelude.{◌≡◌, ℕ, ◌+◌, ◌*◌, ◌<◌, ◌≤◌, Bool, if◌then◌else◌, List, [], ◌++◌, length}
+use Rattle.std.specs.Prelude.{◌≡◌, ℕ, ◌+◌, ◌≤◌, Bool, if◌then◌else◌, List, [], ◌++◌, length}
 use Rattle.geometry.specs.History.{Call, held, Begins}
 use Rattle.geometry.specs.declared.answer.Got.{Got}
 use Rattle.geometry.specs.declared.answer.Got.TheVariants as got
 use Rattle.geometry.specs.declared.map_word.MapWord.{MapWord}
 use Rattle.flash_rule.specs.declared.view.View.{View}
-use Rattle.flash_rule.specs.Views.{one_if}
 use Rattle.trace.specs.declared.commands.Op.{Op}
 use Rattle.lines.specs.declared.answer.Kind.{Kind}
 use Rattle.lines.specs.declared.answer.Kind.TheVariants as kind
 use Rattle.lines.specs.Lines.{calls_by, IsRight, is_full}
-use Rattle.lines.specs.Playing.{one_done, times}
+use Rattle.lines.specs.Playing.{one_done, LineFound}
 use Rattle.flash_table.specs.declared.pass.Pass.{Pass}
 use Rattle.flash_table.specs.Flash.{view_of}
 use Rattle.flash_table.specs.Steps.{HasNumber}
@@ -37,8 +36,8 @@ merge v w = record v {
 }
 
 -- A pass has played one line, with so many tries of a write: the line has its right answer at a history, not before what the pass had seen, and the
--- pass has seen that history with the line's call. Where it was not turned away its call is the pass's own, and a write has programmed a page; else
--- each block was found taken as often as it was tried
+-- pass has seen that history with the line's call. Where it was not turned away its call is the pass's own, and a write has programmed a page. The
+-- blocks that the pass has found taken are those of the tries of a write
 pub record PlayedLine (t patience : ℕ) (v : View) (o : Op) (s : ℕ) (value : List ℕ) (k : Kind) (page : List ℕ) (full : Bool) (w : View) : Type 0 where
   pub changed : w ≡ merge v w
   pub history : List Call
@@ -51,7 +50,9 @@ pub record PlayedLine (t patience : ℕ) (v : View) (o : Op) (s : ℕ) (value : 
   pub programmed : length more ≡ one_done o full
   pub kept : v.taken ≤ w.taken
   pub taken : w.taken ≤ v.taken + one_done o full
-  pub denied : (b : ℕ) → b < v.numbers.blocks → times b v.denied + patience * one_if full ≤ times b w.denied
+  pub found : List ℕ
+  pub denied : w.denied ≡ v.denied ++ found
+  pub tried : LineFound patience v.numbers.blocks o full found
 
 -- the pass has played one line, answered so; it was turned away where the answer says full
 abbrev pub HasPlayedLine : ℕ → Pass → Op → ℕ → List ℕ → Kind → List ℕ → Pass → Type 0

@@ -1,5 +1,5 @@
 -- What a run over all commands has made of the workers' rows.
-use Rattle.std.proofs.Common.{◌≡◌, ℕ, ◌<◌, List, [], get_or, map, length, sym, ap, ◌∙◌, subst, arith}
+use Rattle.std.proofs.Common.{◌≡◌, ℕ, ◌+◌, ◌<◌, Bool, true, false, List, [], ◌∷◌, refl, get_or, map, length, sym, ap, ◌∙◌, subst, arith}
 use Rattle.std.specs.Prelude.{Vec}
 use Rattle.std.specs.Arc.{arc_value}
 use Rattle.std.specs.Global.{Global}
@@ -8,6 +8,10 @@ use Rattle.geometry.specs.declared.geometry.Geometry.{Geometry}
 use Rattle.flash_table.specs.Flash.{geometry_of}
 use Rattle.trace.specs.declared.commands.Command.{Command}
 use Rattle.lines.specs.declared.answer.Answer.{Answer}
+use Rattle.lines.specs.Lines.{is_full}
+use Rattle.lines.specs.Playing.{LineFound, LinesFound, one_done, writes_done}
+use Rattle.trace.specs.declared.commands.Op.{Op}
+use Rattle.trace.specs.declared.commands.Op.TheVariants as op
 use Rattle.playing.specs.Playable.{HaveRoom, lines_at}
 use Rattle.volume.specs.declared.volume.Volume.{Volume}
 use Rattle.volume.specs.Volume.{flash_of}
@@ -15,21 +19,46 @@ use Rattle.rounds.specs.Merging.{lines_for, merge}
 use Rattle.rounds.specs.Rows.{answers_by, answers_in, AreAtOneHistory}
 use Rattle.rounds.specs.Texts.{lines_text, IsTextOfSome}
 use Rattle.shared_player.specs.declared.post.Post.{Post}
+use Rattle.shared_player.specs.Meetings.{passes_of, views_of}
 use Rattle.shared_player.specs.Commands.{ArePlayed}
 use Rattle.shared_player.specs.Runs.{AreManned, HasEnded, answers_of, rows_of}
 use Rattle.shared_player.proofs.Looping.{row_at, some_post}
 use Rattle.shared_player.proofs.Openings.{lines_all}
 
+-- a write that was turned away at once
+not_done : (patience blocks : ℕ) (o : Op) (full : Bool) (found : List ℕ) → patience ≡ 0 → LineFound patience blocks o full found → one_done o full ≡ 0
+not_done patience blocks op.Read full found none line = refl
+not_done patience blocks op.Write true found none line = refl
+not_done patience blocks op.Write false found none line = absurd (let few = line.tried.0 in omega arith)
+not_done patience blocks op.New true found none line = refl
+not_done patience blocks op.New false found none line = absurd (let few = line.tried.0 in omega arith)
+not_done patience blocks op.Trim full found none line = refl
+not_done patience blocks op.Meet full found none line = refl
+
+-- without a try no write is done
+no_write : (patience blocks : ℕ) (lines : List Command) (answers : List Answer) (found : List ℕ) → patience ≡ 0 → LinesFound patience blocks lines answers found → writes_done lines answers ≡ 0
+no_write patience blocks [] answers found none lines = refl
+no_write patience blocks (c ∷ lines) [] found none tried = refl
+no_write patience blocks (c ∷ lines) (a ∷ answers) found none (first, rest, whole, line, behind) =
+    let one = not_done patience blocks c.op (is_full a.kind) first none line in
+    let more = no_write patience blocks lines answers rest none behind in omega (arith, one, more)
+
 -- so have the rows that are handed out
-pub all_played : (volume : Volume) (geo : Geometry) (patience : ℕ) (cs : List Command) (back : List Post) (rows : List (Vec Answer Global)) → geometry_of (flash_of volume) ≡ geo → AreManned volume back → HasEnded volume patience cs back
-    → map answers_in rows ≡ map answers_of back → ArePlayed geo cs (answers_by rows)
-all_played volume geo patience cs back rows geometry manned ended are =
+pub all_played : (volume : Volume) (geo : Geometry) (patience : ℕ) (cs : List Command) (begun back : List Post) (rows : List (Vec Answer Global)) → geometry_of (flash_of volume) ≡ geo → AreManned volume back → HasEnded volume patience cs begun back
+    → map answers_in rows ≡ map answers_of back → ArePlayed geo patience cs (answers_by rows)
+all_played volume geo patience cs begun back rows geometry manned ended are =
     let by : List (List Answer) → ℕ → List Answer = λ l t. get_or l t [] in
     let same : rows_of back ≡ answers_by rows = ap by (sym are) in
     let hosts : length back ≡ hosts_of geo = manned.all ∙ ap hosts_of geometry in
     let sectors : sectors_of (geometry_of (flash_of volume)) ≡ sectors_of geo = ap sectors_of geometry in
     record {
       told = subst (λ (x : ℕ × ℕ × (ℕ → List Answer)). AreAtOneHistory x.0 x.1 cs x.2) (λ i. (sectors i, hosts i, same i)) ended.told;
+      untried = λ none t low.
+          let there : t < length back = omega arith in
+          let run = ended.each t there in
+          let row : rows_of back t ≡ answers_by rows t = ap (λ (f : ℕ → List Answer). f t) same in
+          no_write patience (views_of volume (passes_of back) t).numbers.blocks (lines_for t cs) (answers_by rows t) run.found none
+          (subst (λ l. LinesFound patience (views_of volume (passes_of back) t).numbers.blocks (lines_for t cs) l run.found) row run.tried);
       room = λ t low.
           let there : t < length back = omega arith in
           let p = some_post back manned.some in

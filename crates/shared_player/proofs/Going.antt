@@ -1,9 +1,8 @@
 -- A round of a run: what each worker did in it, and what stands answered behind it.
-use Rattle.std.proofs.Common.{◌≡◌, ℕ, zero, suc, ◌+◌, ◌-◌, ◌*◌, ◌<◌, ◌≤◌, All, Bool, true, false, List, [], ◌∷◌, ◌++◌, length, take, drop, refl, sym, ap, ◌∙◌, subst, arith, append_assoc, append-nil, length-append, ne_eqb}
+use Rattle.std.proofs.Common.{◌≡◌, ℕ, zero, suc, ◌+◌, ◌-◌, ◌<◌, ◌≤◌, All, Bool, true, false, List, [], ◌∷◌, ◌++◌, length, take, drop, refl, sym, ap, ◌∙◌, subst, arith, append_assoc, append-nil, length-append, ne_eqb}
 use Rattle.std.specs.Prelude.{if◌then◌else◌, not, ◌&&◌, ◌==◌}
 use Rattle.std.specs.List.{slice_range}
 use Rattle.std.proofs.lemmas.List.{length-drop}
-use Rattle.std.proofs.lemmas.List.Sums.{sum_by-append}
 use Rattle.std.proofs.lemmas.List.Elements.{All-nil, All-cons}
 use mathlib.Core.Logic.{dite}
 use native.Mathlib.Decide.{ℕ_discrete}
@@ -13,7 +12,8 @@ use Rattle.flash_rule.specs.declared.view.View.{View}
 use Rattle.trace.specs.declared.commands.Command.{Command}
 use Rattle.lines.specs.declared.answer.Answer.{Answer}
 use Rattle.lines.specs.Lines.{calls_made, is_full}
-use Rattle.lines.specs.Playing.{Plays, Played, calls_done, writes_done, one_done, fulls, times}
+use Rattle.lines.specs.Playing.{Plays, Played, LinesFound, calls_done, writes_done, one_done}
+use Rattle.playing.proofs.Lines.{found-append}
 use Rattle.volume.specs.Closing.{HasLooked}
 use Rattle.rounds.specs.Lines.{made, lines_of}
 use Rattle.rounds.specs.Lines as worked
@@ -66,22 +66,22 @@ module _ (n t : ℕ) (more : List Command) (others : List Answer) where
   writes-append s m (c ∷ lines) (a ∷ answers) p = let rest = writes-append (p.0 ++ calls_made t c a) m lines answers p.3 in omega (arith, rest)
 
 -- a worker that plays more lines: they are played up to each history that begins with what it has seen
-pub plays_to : (t patience : ℕ) (lines more : List Command) (answers others : List Answer) (v u : View) (h : List Call) → HasRun t patience lines answers v → Played t patience v more others u → Begins u.seen h
+pub plays_to : (t patience : ℕ) (earlier : List ℕ) (lines more : List Command) (answers others : List Answer) (v u : View) (h : List Call) → HasRun t patience earlier lines answers v → Played t patience v more others u → Begins u.seen h
     → Plays v.numbers.sectors t [] (lines ++ more) (answers ++ others) h
-plays_to t patience lines more answers others v u h run played on =
+plays_to t patience earlier lines more answers others v u h run played on =
     let n = v.numbers.sectors in
     plays_on n t [] u.seen h (lines ++ more) (answers ++ others) (plays-append n t more others [] v.seen u.seen lines answers run.plays played.plays) on
 
 -- a worker that plays more lines, and then looks
-pub run_more : (t patience : ℕ) (lines more : List Command) (answers others : List Answer) (v u w : View) → HasRun t patience lines answers v → Played t patience v more others u → HasLooked u w
-    → HasRun t patience (lines ++ more) (answers ++ others) w
-run_more t patience lines more answers others v u w run played looked =
+pub run_more : (t patience : ℕ) (earlier : List ℕ) (lines more : List Command) (answers others : List Answer) (v u w : View) → HasRun t patience earlier lines answers v → Played t patience v more others u → HasLooked u w
+    → HasRun t patience earlier (lines ++ more) (answers ++ others) w
+run_more t patience earlier lines more answers others v u w run played looked =
     let n = v.numbers.sectors in
     let same : w.numbers ≡ v.numbers = ap (λ (x : View). x.numbers) looked.changed ∙ ap (λ (x : View). x.numbers) played.changed in
-    let plays = plays_to t patience lines more answers others v u w.seen run played looked.later in
+    let plays = plays_to t patience earlier lines more answers others v u w.seen run played looked.later in
     let calls = calls-append n t more others [] v.seen lines answers run.plays in
     let writes = writes-append n t more others [] v.seen lines answers run.plays in
-    let turned : fulls (answers ++ others) ≡ fulls answers + fulls others = sum_by-append _ answers others in
+    let blocks : v.numbers.blocks ≡ w.numbers.blocks = ap (λ z. z.blocks) (sym same) in
     record {
       plays = subst (λ k. Plays k t [] (lines ++ more) (answers ++ others) w.seen) (ap (λ z. z.sectors) (sym same)) plays;
       mine = ap (λ (x : View). x.mine) looked.changed ∙ (played.mine ∙ (ap (λ k. k ++ calls_done t more others) run.mine ∙ sym calls));
@@ -91,21 +91,22 @@ run_more t patience lines more answers others v u w run played looked =
           let three = length-append v.programs played.more in
           let four = played.programmed in
           let five = run.programmed in omega (arith, one, two, three, four, five, writes));
-      denied = λ b low.
-          let blocks : w.numbers.blocks ≡ v.numbers.blocks = ap (λ z. z.blocks) same in
-          let x = run.denied b (omega arith) in
-          let y = played.denied b (omega arith) in
-          let now = ap (λ (x : View). times b x.denied) looked.changed in
-          let z : patience * fulls (answers ++ others) ≡ patience * fulls answers + patience * fulls others = ap (λ k. patience * k) turned ∙ omega arith in omega (arith, x, y, z, now);
+      found = run.found ++ played.found;
+      denied = ap (λ (x : View). x.denied) looked.changed ∙ (played.denied ∙ (ap (λ l. l ++ played.found) run.denied ∙ append_assoc earlier run.found played.found));
+      tried =
+          subst (λ k. LinesFound patience k (lines ++ more) (answers ++ others) (run.found ++ played.found)) blocks
+          (found-append patience v.numbers.blocks more others played.found played.tried lines answers run.found run.tried);
     }
 
 -- a worker that only looks
-pub run_begins : (t patience : ℕ) (v : View) → v.seen ≡ [] → v.mine ≡ [] → v.programs ≡ [] → HasRun t patience [] [] v
+pub run_begins : (t patience : ℕ) (v : View) → v.seen ≡ [] → v.mine ≡ [] → v.programs ≡ [] → HasRun t patience v.denied [] [] v
 run_begins t patience v seen mine programs = record {
   plays = subst (λ h. Begins [] h) (sym seen) (Begins-refl []);
   mine = mine;
   programmed = ap (λ l. length l) programs;
-  denied = λ b low. omega arith;
+  found = [];
+  denied = sym (append-nil v.denied);
+  tried = refl;
 }
 
 -- lines with fewer answers, or with more than they need

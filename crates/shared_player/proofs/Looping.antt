@@ -38,7 +38,7 @@ use Rattle.shared_player.specs.declared.post.Post.{Post}
 use Rattle.shared_player.specs.Meetings.{IsAt, passes_of, rest_of, views_of}
 use Rattle.shared_player.specs.Posts.{HasPlayed, round_lines, round_answers}
 use Rattle.shared_player.specs.Turns.{HavePlayed}
-use Rattle.shared_player.specs.Runs.{IsTurned, AreTurned, RoundPlayed, AreManned, IsDealt, HasBegun, HasEnded, HasRun, answers_of, rows_of}
+use Rattle.shared_player.specs.Runs.{IsTurned, AreTurned, RoundPlayed, AreManned, IsDealt, HasBegun, HasEnded, HasRun, answers_of, denied_by, rows_of}
 use Rattle.shared_player.proofs.Sweeping.{ready_at}
 use Rattle.shared_player.proofs.Turning.{played_long, played_at, manned_turned, manned_played, rests_long, rest_at, role_turned}
 use Rattle.shared_player.proofs.Walking.{count_places, lines_for-append, line_count-append, places_low, places_high, lines_there, past_is, ends_from, FirstRound, first_round}
@@ -144,7 +144,7 @@ some_post [] some = absurd (omega arith)
 some_post (p ∷ posts) some = p
 
 -- a run of a trace between two rounds, with these ends of rounds left
-pub record RunState (volume : Volume) (patience : ℕ) (trace : List Command) (ends : List ℕ) (posts : List Post) : Type 0 where
+pub record RunState (volume : Volume) (patience : ℕ) (trace : List Command) (before : List Post) (ends : List ℕ) (posts : List Post) : Type 0 where
   pub done : List Command
   pub rest : List Command
   pub whole : trace ≡ done ++ rest
@@ -153,14 +153,14 @@ pub record RunState (volume : Volume) (patience : ℕ) (trace : List Command) (e
   pub sectors : All (λ c. c.sector < sectors_of (geometry_of (flash_of volume))) trace
   pub dealt : (t : ℕ) (p : Post) → t < length posts → IsDealt trace t (get_or posts t p)
   pub cursor : (t : ℕ) (p : Post) → t < length posts → (get_or posts t p).to ≡ line_count t done
-  pub each : (t : ℕ) → t < length posts → HasRun t patience (lines_for t done) (take (line_count t done) (rows_of posts t)) (views_of volume (passes_of posts) t)
+  pub each : (t : ℕ) → t < length posts → HasRun t patience (denied_by volume before t) (lines_for t done) (take (line_count t done) (rows_of posts t)) (views_of volume (passes_of posts) t)
   pub told : AreAtOneHistory (sectors_of (geometry_of (flash_of volume))) (length posts) done (λ t. take (line_count t done) (rows_of posts t))
   pub order : IsDisjointTrace trace
       → All AreDisjointCommands (rounds_of rest)
       × ((h : List Call) × AreTied (length posts) h (views_of volume (passes_of posts)) × AreAnswered (sectors_of (geometry_of (flash_of volume))) h (merge done (rows_of posts)))
 
 -- the run begins
-pub state_begins : (volume : Volume) (patience : ℕ) (trace : List Command) (ends : List ℕ) (posts : List Post) → HasBegun volume trace ends posts → RunState volume patience trace ends posts
+pub state_begins : (volume : Volume) (patience : ℕ) (trace : List Command) (ends : List ℕ) (posts : List Post) → HasBegun volume trace ends posts → RunState volume patience trace posts ends posts
 state_begins volume patience trace ends posts b = record {
   done = [];
   rest = trace;
@@ -187,8 +187,8 @@ state_begins volume patience trace ends posts b = record {
 }
 
 -- one round more
-module _ (volume : Volume) (patience : ℕ) (trace : List Command) (end : ℕ) (ends : List ℕ) (posts back : List Post) (manned : AreManned volume posts) (round : RoundPlayed volume patience end posts back)
-    (state : RunState volume patience trace (end ∷ ends) posts) where
+module _ (volume : Volume) (patience : ℕ) (trace : List Command) (begun : List Post) (end : ℕ) (ends : List ℕ) (posts back : List Post) (manned : AreManned volume posts) (round : RoundPlayed volume patience end posts back)
+    (state : RunState volume patience trace begun (end ∷ ends) posts) where
   abbrev n : ℕ
   n = sectors_of (geometry_of (flash_of volume))
 
@@ -284,14 +284,14 @@ module _ (volume : Volume) (patience : ℕ) (trace : List Command) (end : ℕ) (
       ap (λ l. l ++ slice_range (rows_of back t) a b) (worker_here t x low).kept ∙ (sym (take_split a b (rows_of back t) (omega arith)) ∙ ap (λ k. take k (rows_of back t)) (sym (count_more t)))
 
   run_here : (t : ℕ) → t < length posts
-      → HasRun t patience (lines_for t (state.done ++ (cs ++ next.meeting))) (take (line_count t (state.done ++ (cs ++ next.meeting))) (rows_of back t)) (after t)
+      → HasRun t patience (denied_by volume begun t) (lines_for t (state.done ++ (cs ++ next.meeting))) (take (line_count t (state.done ++ (cs ++ next.meeting))) (rows_of back t)) (after t)
   run_here t low =
       let w = worker_here t x low in
       let a = line_count t state.done in
       let b = line_count t state.done + line_count t cs in
       let looked : HasLooked (played t) (after t) = round.met.looked t (omega (arith, count_met)) in
-      let more = run_more t patience (lines_for t state.done) (lines_for t cs) (take a (rows_of posts t)) (slice_range (rows_of back t) a b) (before t) (played t) (after t) (state.each t low) w.played looked in
-      subst (λ (y : List Command × List Answer). HasRun t patience y.0 y.1 (after t)) (λ i. (sym (lines_more t) i, answers_more t low i)) more
+      let more = run_more t patience (denied_by volume begun t) (lines_for t state.done) (lines_for t cs) (take a (rows_of posts t)) (slice_range (rows_of back t) a b) (before t) (played t) (after t) (state.each t low) w.played looked in
+      subst (λ (y : List Command × List Answer). HasRun t patience (denied_by volume begun t) y.0 y.1 (after t)) (λ i. (sym (lines_more t) i, answers_more t low i)) more
 
   plays_here : (t : ℕ) → t < length posts
       → Plays n t [] (lines_for t (state.done ++ (cs ++ next.meeting))) (take (line_count t (state.done ++ (cs ++ next.meeting))) (rows_of back t)) round.met.history
@@ -299,7 +299,7 @@ module _ (volume : Volume) (patience : ℕ) (trace : List Command) (end : ℕ) (
       let a = line_count t state.done in
       let b = line_count t state.done + line_count t cs in
       let plays =
-      plays_to t patience (lines_for t state.done) (lines_for t cs) (take a (rows_of posts t)) (slice_range (rows_of back t) a b) (before t) (played t) round.met.history (state.each t low) (worker_here t x low).played (swept.brought t low) in
+      plays_to t patience (denied_by volume begun t) (lines_for t state.done) (lines_for t cs) (take a (rows_of posts t)) (slice_range (rows_of back t) a b) (before t) (played t) round.met.history (state.each t low) (worker_here t x low).played (swept.brought t low) in
       subst (λ (y : ℕ × List Command × List Answer). Plays y.0 t [] y.1 y.2 round.met.history) (λ i. (sectors_here t x low i, sym (lines_more t) i, answers_more t low i)) plays
 
   told_here : AreAtOneHistory n (length back) (state.done ++ (cs ++ next.meeting)) (λ t. take (line_count t (state.done ++ (cs ++ next.meeting))) (rows_of back t))
@@ -339,7 +339,7 @@ module _ (volume : Volume) (patience : ℕ) (trace : List Command) (end : ℕ) (
       let go = run_goes_on (length posts) n o.1.0 round.met.history before played after state.done cs (rows_of posts) (rows_of back) r o.1.2 in
       (two.1, (round.met.history, subst (λ k. AreTied k round.met.history after) (sym long_back) go.0, next.answered n round.met.history (rows_of back) go.1))
 
-  pub state_next : RunState volume patience trace ends back
+  pub state_next : RunState volume patience trace begun ends back
   state_next = record {
     done = state.done ++ (cs ++ next.meeting);
     rest = next.rest;
@@ -373,8 +373,8 @@ answers_end trace posts t p low dealt =
     take_all (line_count t trace) (rows_of posts t) (omega arith)
 
 -- the run's end, once no end of a round is left
-pub state_ends : (volume : Volume) (patience : ℕ) (trace : List Command) (posts : List Post) → AreManned volume posts → RunState volume patience trace [] posts → HasEnded volume patience trace posts
-state_ends volume patience trace posts manned state =
+pub state_ends : (volume : Volume) (patience : ℕ) (trace : List Command) (begun posts : List Post) → AreManned volume posts → RunState volume patience trace begun [] posts → HasEnded volume patience trace begun posts
+state_ends volume patience trace begun posts manned state =
     let all : state.done ≡ trace = sym (append-nil state.done) ∙ (ap (λ l. state.done ++ l) (sym state.left) ∙ sym state.whole) in
     let row_end : (t : ℕ) → t < length posts → take (line_count t trace) (rows_of posts t) ≡ rows_of posts t =
     λ t low. answers_end trace posts t (some_post posts manned.some) low (state.dealt t (some_post posts manned.some) low) in
@@ -398,8 +398,8 @@ state_ends volume patience trace posts manned state =
             plays = λ t low. subst (λ l. Plays (sectors_of (geometry_of (flash_of volume))) t [] (lines_for t trace) l now.history) (row_end t low) (now.plays t low);
           };
       each = λ t low.
-          let run = subst (λ l. HasRun t patience (lines_for t l) (take (line_count t l) (rows_of posts t)) (views_of volume (passes_of posts) t)) all (state.each t low) in
-          subst (λ l. HasRun t patience (lines_for t trace) l (views_of volume (passes_of posts) t)) (row_end t low) run;
+          let run = subst (λ l. HasRun t patience (denied_by volume begun t) (lines_for t l) (take (line_count t l) (rows_of posts t)) (views_of volume (passes_of posts) t)) all (state.each t low) in
+          subst (λ l. HasRun t patience (denied_by volume begun t) (lines_for t trace) l (views_of volume (passes_of posts) t)) (row_end t low) run;
       text = λ apart.
           let o = (state.order apart).1 in
           run_is_text (sectors_of (geometry_of (flash_of volume))) o.0 trace (rows_of posts) (subst (λ l. AreAnswered (sectors_of (geometry_of (flash_of volume))) o.0 (merge l (rows_of posts))) all o.2);

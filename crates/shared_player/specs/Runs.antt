@@ -1,12 +1,12 @@
 -- A run over the rounds of a trace: what the posts hold, and what was answered so far.
-use Rattle.std.specs.Prelude.{◌≡◌, ℕ, ◌*◌, ◌<◌, ◌≤◌, All, List, [], ◌∷◌, map, length, slice_index, slice_index_or}
+use Rattle.std.specs.Prelude.{◌≡◌, ℕ, ◌<◌, ◌≤◌, All, List, [], ◌++◌, map, length, slice_index, slice_index_or}
 use Rattle.std.specs.Arc.{arc_value}
 use Rattle.geometry.specs.Geometry.{hosts_of, sectors_of}
 use Rattle.flash_rule.specs.declared.view.View.{View}
 use Rattle.flash_table.specs.Flash.{geometry_of}
 use Rattle.trace.specs.declared.commands.Command.{Command}
 use Rattle.lines.specs.declared.answer.Answer.{Answer}
-use Rattle.lines.specs.Playing.{Plays, calls_done, writes_done, fulls, times}
+use Rattle.lines.specs.Playing.{Plays, LinesFound, calls_done, writes_done}
 use Rattle.volume.specs.declared.volume.Volume.{Volume}
 use Rattle.volume.specs.Volume.{flash_of}
 use Rattle.rounds.specs.Merging.{lines_for, merge, HaveAnswers, IsDisjointTrace}
@@ -75,23 +75,29 @@ pub record HasBegun (volume : Volume) (trace : List Command) (ends : List ℕ) (
   pub none : (t : ℕ) (p : Post) → t < length posts → (slice_index_or posts t p).to ≡ 0
   pub new : (t : ℕ) → t < length posts → ((views_of volume (passes_of posts) t).seen ≡ []) × ((views_of volume (passes_of posts) t).mine ≡ []) × ((views_of volume (passes_of posts) t).programs ≡ [])
 
+-- the blocks that a post's pass has found taken
+abbrev pub denied_by : Volume → List Post → ℕ → List ℕ
+denied_by volume posts t = (views_of volume (passes_of posts) t).denied
+
 -- What a worker has done in a run, by what its pass knows: it has answered its lines one after another, each rightly at a history, has made just their calls, has
--- programmed a page for each write that was done, and has found each block taken as often as it is to be tried for each line that was turned away
-pub record HasRun (t patience : ℕ) (lines : List Command) (answers : List Answer) (v : View) : Type 0 where
+-- programmed a page for each write that was done, and has found taken, behind what it had found so before, the blocks of the tries of each line, in order
+pub record HasRun (t patience : ℕ) (earlier : List ℕ) (lines : List Command) (answers : List Answer) (v : View) : Type 0 where
   pub plays : Plays v.numbers.sectors t [] lines answers v.seen
   pub mine : v.mine ≡ calls_done t lines answers
   pub programmed : length v.programs ≡ writes_done lines answers
-  pub denied : (b : ℕ) → b < v.numbers.blocks → patience * fulls answers ≤ times b v.denied
+  pub found : List ℕ
+  pub denied : v.denied ≡ earlier ++ found
+  pub tried : LinesFound patience v.numbers.blocks lines answers found
 
 -- A run of this trace has ended: each worker has answered all its lines, all at one history, and where the trace is disjoint, the answers are as text those of the
 -- trace, with the writes turned away at some set of lines
-pub record HasEnded (volume : Volume) (patience : ℕ) (trace : List Command) (posts : List Post) : Type 0 where
+pub record HasEnded (volume : Volume) (patience : ℕ) (trace : List Command) (before posts : List Post) : Type 0 where
   pub count : HaveAnswers (rows_of posts) trace
   pub dealt : (t : ℕ) (p : Post) → t < length posts → IsDealt trace t (slice_index_or posts t p)
   pub told : AreAtOneHistory (sectors_of (geometry_of (flash_of volume))) (length posts) trace (rows_of posts)
-  pub each : (t : ℕ) → t < length posts → HasRun t patience (lines_for t trace) (rows_of posts t) (views_of volume (passes_of posts) t)
+  pub each : (t : ℕ) → t < length posts → HasRun t patience (denied_by volume before t) (lines_for t trace) (rows_of posts t) (views_of volume (passes_of posts) t)
   pub text : IsDisjointTrace trace → IsTextOfSome (sectors_of (geometry_of (flash_of volume))) trace (lines_text 0 (merge trace (rows_of posts)))
 
 -- a run of whatever trace these posts were to begin with has ended with those
 abbrev pub EndsRun : Volume → ℕ → List ℕ → List Post → List Post → Type 0
-EndsRun volume patience ends before after = (trace : List Command) → HasBegun volume trace ends before → HasEnded volume patience trace after
+EndsRun volume patience ends before after = (trace : List Command) → HasBegun volume trace ends before → HasEnded volume patience trace before after

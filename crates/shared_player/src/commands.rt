@@ -35,7 +35,7 @@ pub fn play_commands<R: Threads + Wait + Sync, S: Starts + Copy + Drop, G: Gate 
     requires playable { All (IsPlayable geometry.now) (arc_value commands.now) }
     requires gates { length gates.old ≡ hosts_of geometry.now + brooms_of geometry.now }
     ensures rows { IfOk result (λ rows. length rows.items ≡ hosts_of geometry.now) }
-    ensures played { IfOk result (λ rows. ArePlayed geometry.now (arc_value commands.now) (answers_by rows.items)) }
+    ensures played { IfOk result (λ rows. ArePlayed geometry.now patience (arc_value commands.now) (answers_by rows.items)) }
 {
     let Plan { rows: places, ends } = Plan::new(alloc, commands, geometry.hosts())?;
     let mut rows = Vec::with_capacity(alloc, geometry.hosts() as usize)?;

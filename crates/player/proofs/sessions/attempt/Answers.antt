@@ -22,15 +22,15 @@ some_told : (geo : Geometry) (given : Options) (input : Stream) (wear : Passage)
 some_told geo given input wear name is unfailed text = rw is (unfailed, text)
 
 -- without hosts the text is that of one thread
-one_text : (geo : Geometry) (input old new : Option (List ℕ)) → hosts_of geo ≡ 0 → IfSome input (λ bytes. AppendsText (IsTextOf geo) bytes old new) → IfSome input (λ bytes. AppendsText (IsTextFor geo) bytes old new)
-one_text geo input old new none text = subst (λ h. IfSome input (λ bytes. AppendsText (IsTextBy h geo) bytes old new)) (sym none) text
+one_text : (patience : ℕ) (geo : Geometry) (input old new : Option (List ℕ)) → hosts_of geo ≡ 0 → IfSome input (λ bytes. AppendsText (IsTextOf geo) bytes old new) → IfSome input (λ bytes. AppendsText (IsTextFor patience geo) bytes old new)
+one_text patience geo input old new none text = subst (λ h. IfSome input (λ bytes. AppendsText (IsTextBy h patience geo) bytes old new)) (sym none) text
 
-one_why : (geo : Geometry) (fault : RunFault) (input output : Passage) → hosts_of geo ≡ 0 → ExplainsRun IsTextOf geo input output fault → ExplainsRun IsTextFor geo input output fault
-one_why geo (run.Trace found) input output none why = why
-one_why geo run.Memory input output none why = why
-one_why geo run.Threads input output none why = why
-one_why geo run.Output input output none (reads, failed, part) =
-    (reads, failed, subst (λ h. TellsPart (IsTextBy h geo) input.before output) (sym none) part)
+one_why : (patience : ℕ) (geo : Geometry) (fault : RunFault) (input output : Passage) → hosts_of geo ≡ 0 → ExplainsRun IsTextOf geo input output fault → ExplainsRun (IsTextFor patience) geo input output fault
+one_why patience geo (run.Trace found) input output none why = why
+one_why patience geo run.Memory input output none why = why
+one_why patience geo run.Threads input output none why = why
+one_why patience geo run.Output input output none (reads, failed, part) =
+    (reads, failed, subst (λ h. TellsPart (IsTextBy h patience geo) input.before output) (sym none) part)
 
 ok_of : {T E : Type 0} (P : Type 0) (r : Result T E) (x : T) → r ≡ Ok x → OnOk r P → P
 ok_of P r x is holds = subst (λ s. OnOk s P) is holds
@@ -51,6 +51,16 @@ returns-in-Ok-play g c = inl (record {
   told = none_told c.in-Ok-device.geometry c.in-Ok.given (stream_of g.R.Read.remaining c.args.reader.now) _ c.in-None.is;
 })
 
+pub returns-in-Err-play : goal.returns-in-Err-play
+returns-in-Err-play g c = (
+  record {
+    geo = c.in-Ok-device.geometry;
+    device = record { accepted = c.in-Ok.ensures.outcome; given = c.in-Ok.given; told = c.in-Ok.ensures.numbers; numbers = c.in-Ok-device.ensures.numbers };
+    why = c.in-Err-play.ensures.why;
+  },
+  refl,
+)
+
 pub returns-in-Ok-Ok : goal.returns-in-Ok-Ok
 returns-in-Ok-Ok g c =
     let told = c.in-Ok-Ok in
@@ -60,7 +70,7 @@ returns-in-Ok-Ok g c =
         geo = c.in-Ok-device.geometry;
         device = record { accepted = c.in-Ok.ensures.outcome; given = c.in-Ok.given; told = c.in-Ok.ensures.numbers; numbers = c.in-Ok-device.ensures.numbers };
         end = told.ensures.end;
-        text = one_text c.in-Ok-device.geometry _ _ _ none told.ensures.text;
+        text = one_text c.in-Ok.given.patience c.in-Ok-device.geometry _ _ _ none told.ensures.text;
         input_unfailed = told.ensures.reader_unfailed;
         output_unfailed = told.ensures.writer_unfailed;
       };
@@ -78,7 +88,7 @@ returns-in-Ok-Err g c =
         geo = c.in-Ok-device.geometry;
         device = record { accepted = c.in-Ok.ensures.outcome; given = c.in-Ok.given; told = c.in-Ok.ensures.numbers; numbers = c.in-Ok-device.ensures.numbers };
         end = told.ensures.end;
-        text = one_text c.in-Ok-device.geometry _ _ _ none told.ensures.text;
+        text = one_text c.in-Ok.given.patience c.in-Ok-device.geometry _ _ _ none told.ensures.text;
         input_unfailed = told.ensures.reader_unfailed;
         output_unfailed = told.ensures.writer_unfailed;
       };
@@ -94,7 +104,7 @@ returns-in-Err-run_with_wear g c =
       record {
         geo = geo;
         device = record { accepted = c.in-Ok.ensures.outcome; given = c.in-Ok.given; told = c.in-Ok.ensures.numbers; numbers = c.in-Ok-device.ensures.numbers };
-        why = one_why geo _ _ _ none c.in-Err-run_with_wear.ensures.why;
+        why = one_why c.in-Ok.given.patience geo _ _ _ none c.in-Err-run_with_wear.ensures.why;
       },
       c.in-Err-run_with_wear.ensures.no_wear,
     )

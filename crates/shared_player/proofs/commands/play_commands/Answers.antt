@@ -28,5 +28,5 @@ returns-clause-played g c =
     ap ends_of (sym c.deref.ensures) ∙ (sym c.in_ok-places.ensures.ends ∙ sym c.deref-3.ensures.value) in
     let begun : HasBegun volume cs c.deref-3.result.now c.in_ok-volume.crew.posts.items =
     subst (λ (x : Volume × List ℕ). HasBegun x.0 cs x.1 c.in_ok-volume.crew.posts.items) (λ i. (sym c.deref-2.ensures i, ends i)) c.in_ok-volume.ensures.begun in
-    all_played volume c.args.geometry.now c.args.patience cs c.in_ok-crew.crew.posts.items c.hand_out.new.rows.items
+    all_played volume c.args.geometry.now c.args.patience cs c.in_ok-volume.crew.posts.items c.in_ok-crew.crew.posts.items c.hand_out.new.rows.items
     (ap (λ (v : Volume). geometry_of (flash_of v)) c.deref-2.ensures ∙ c.in_ok-volume.ensures.geometry) c.in_ok-crew.ensures.manned (c.in_ok-crew.ensures.run cs begun) c.hand_out.ensures

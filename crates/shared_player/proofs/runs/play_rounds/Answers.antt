@@ -27,13 +27,13 @@ loop-i-preserved g c =
           let sweepers = c.in_ok-crew.ensures.sweepers in
           let gates = c.loop-i.invariant.gates in omega arith);
       run = λ trace begun.
-          state_next volume c.args.patience trace (get_or ends i 0) (drop (i + 1) ends) here back c.loop-i.invariant.manned c.in_ok-crew.ensures.played
-          (subst (λ l. RunState volume c.args.patience trace l here) split (c.loop-i.invariant.run trace begun));
+          state_next volume c.args.patience trace c.args.crew.posts.items (get_or ends i 0) (drop (i + 1) ends) here back c.loop-i.invariant.manned c.in_ok-crew.ensures.played
+          (subst (λ l. RunState volume c.args.patience trace c.args.crew.posts.items l here) split (c.loop-i.invariant.run trace begun));
     }
 
 pub returns-clause-run : goal.returns-clause-run
 returns-clause-run g c trace begun =
     let ends = c.args.ends.now in
     let past = c.loop-i-test.false in
-    state_ends c.args.volume.now c.args.patience trace c.loop-i.crew.posts.items c.loop-i.invariant.manned
-    (subst (λ l. RunState c.args.volume.now c.args.patience trace l c.loop-i.crew.posts.items) (drop_all c.loop-i.i ends past) (c.loop-i.invariant.run trace begun))
+    state_ends c.args.volume.now c.args.patience trace c.args.crew.posts.items c.loop-i.crew.posts.items c.loop-i.invariant.manned
+    (subst (λ l. RunState c.args.volume.now c.args.patience trace c.args.crew.posts.items l c.loop-i.crew.posts.items) (drop_all c.loop-i.i ends past) (c.loop-i.invariant.run trace begun))
