@@ -45,7 +45,7 @@ joins-quoted : (c : ℕ) → (c == 34) ≡ false → step default_config st.InQu
 joins-quoted c h = rw h refl
 
 -- a part of a text, one byte longer
-part-more : (text : List ℕ) (start at : ℕ) → start ≤ at → at < length text → take (at + 1 - start) (drop start text) ≡ take (at - start) (drop start text) ++ get_or text at 0 ∷ []
+pub part-more : (text : List ℕ) (start at : ℕ) → start ≤ at → at < length text → take (at + 1 - start) (drop start text) ≡ take (at - start) (drop start text) ++ get_or text at 0 ∷ []
 part-more text start at low high =
     let one : at + 1 - start ≡ (at - start) + 1 = omega arith in
     let there : start + (at - start) ≡ at = omega arith in

@@ -1,11 +1,12 @@
 -- Digits, from their values.
-use Rattle.std.proofs.Common.{◌≡◌, ℕ, ◌+◌, ◌*◌, ◌/◌, ◌%◌, ◌<◌, ◌≤◌, true, false, List, [], ◌∷◌, length, get_or, Option, Some, None, unwrap_or, Result, Ok, Err, is_some, refl, sym, ap, ◌∙◌, arith}
+use Rattle.std.proofs.Common.{◌≡◌, ℕ, ◌+◌, ◌*◌, ◌/◌, ◌%◌, ◌<◌, ◌≤◌, true, false, List, [], ◌∷◌, length, get_or, Option, Some, None, unwrap_or, Result, Ok, Err, is_some, refl, sym, ap, ◌∙◌, arith, eqb-true}
+use Rattle.std.proofs.lemmas.Bool.{eqb-false}
 use Rattle.std.proofs.lemmas.List.Elements.{All-from_get_or, All-get_or}
-use Rattle.std.specs.Prelude.{IsErr}
+use Rattle.std.specs.Prelude.{◌==◌, Bool, IsErr, MatchBool}
 use Rattle.std.specs.Result.{result_unwrap_or}
 use Rattle.hex.specs.Hex.{decode_of, hex_digit_value, is_hex_digit, pair_value}
 use Rattle.hex.proofs.HexLemmas.{decode_of-digits, decode_of-odd, decode_of-ok}
-use Rattle.trace.specs.Digits.{IsData, bytes_of}
+use Rattle.trace.specs.Digits.{EndsDigits, IsData, bytes_of}
 use Rattle.trace.specs.Parsing.{page_len}
 use Rattle.trace.specs.declared.commands.Op.{Op}
 use Rattle.trace.specs.declared.commands.Op.TheVariants as op
@@ -71,6 +72,14 @@ refused_at digits k below h = by (decode_of digits) refl
 
 pub refused_odd : (digits : List ℕ) → length digits % 2 ≡ 1 → IsErr (decode_of digits)
 refused_odd digits odd = rw (decode_of-odd digits odd) refl
+
+-- an even number of bytes is digits just where digits go to their end
+pub pairs_told : (digits : List ℕ) (end : ℕ) → length digits % 2 ≡ 0 → EndsDigits digits 0 end → MatchBool (end == length digits) (decode_of digits ≡ Ok (bytes_of digits)) (IsErr (decode_of digits))
+pairs_told digits end even h = by (end == length digits) refl
+  where
+    by : (b : Bool) → (end == length digits) ≡ b → MatchBool b (decode_of digits ≡ Ok (bytes_of digits)) (IsErr (decode_of digits))
+    by true e = let whole = eqb-true end (length digits) e in pairs_are digits even (λ k below. h.digits k (omega arith) (omega (arith, whole)))
+    by false e = let before = eqb-false end (length digits) e in refused_at digits end (omega (arith, h.high, before)) (h.stops before)
 
 -- digits that write no more than this
 pub data_is : (most : ℕ) (digits : List ℕ) → decode_of digits ≡ Ok (bytes_of digits) → length digits ≤ 2 * most → IsData most digits

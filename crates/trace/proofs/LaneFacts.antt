@@ -1,6 +1,6 @@
 -- Sixteen bytes of a text at once.
 use Rattle.std.proofs.Common.{◌≡◌, ℕ, zero, suc, ◌+◌, ◌*◌, ◌%◌, ◌^◌, ◌<◌, ◌≤◌, Bool, true, false, not, ◌&&◌, ◌||◌, cond, eqb, ltb, List, [], ◌∷◌, ◌++◌, map, length, get_or, take, drop, replicate, bit_and, unwrap_or, Ok, inl, inr, refl, sym, ap, ap₂, ◌∙◌, subst, arith, eqb-true, ltb-true, take-add, w8, Fits}
-use Rattle.std.proofs.lemmas.Bool.{agree_below, agree_below_at, and_parts, cases_lt, not-false}
+use Rattle.std.proofs.lemmas.Bool.{agree_below, agree_below_at, and_parts, cases_lt, not-false, not-true}
 use Rattle.std.proofs.lemmas.List.{drop-drop, get_or-map, length-map, map-append, set-get_or, take-append-le, take-take, length-take-le}
 use Rattle.std.proofs.lemmas.Simd.{map-map, mask_l-mod, length-chunk, get_or-chunk, get_or-zip2, first_set_mask_l, none_from_empty_mask, run_in_chunk_le, run_in_chunk_fails, run_in_chunk_stops, length-put_chunk, take_more_put_chunk, get_or-put_chunk_at, get_or-replicate}
 use Rattle.std.specs.List.{prefix_len}
@@ -8,7 +8,7 @@ use lib.Lanes.{chunk, put_chunk, zip2, sel_l, mask_l, pick_l, top}
 use Rattle.hex.specs.Hex.{decode_pairs, hex_digit_value, is_hex_digit, pair_value}
 use Rattle.hex.proofs.Pairs.{decode_step, prepend}
 use Rattle.trace.specs.Cutting.{is_field_end}
-use Rattle.trace.specs.Lanes.{AreDigits, Decodes, IsRun, digit_lane, first_set}
+use Rattle.trace.specs.Lanes.{AreDigits, Decodes, IsDigitRun, IsRun, digit_lane, first_set}
 use Rattle.trace.proofs.DigitFacts.{pair_read}
 
 -- ---- where fields end
@@ -33,19 +33,15 @@ module _ (text : List ℕ) (at r : ℕ) (z : List ℕ) (room : at + 16 ≤ lengt
     stops = λ short. sym (agree_below_at stops is_field_end 256 (get_or text (at + r) 0) all (fits (at + r)).fits) ∙ run_in_chunk_stops stops text at 16 r 0 room counted short;
   }
 
--- ---- digits
+  -- and just where no digit stands
+  pub digit_run_is : agree_below stops (λ x. not (is_hex_digit x)) 256 ≡ true → IsDigitRun text at r
+  digit_run_is all = record {
+    within = run_in_chunk_le stops text at 16 r 0 room counted;
+    digits = λ k from to. not-false _ (sym (agree_below_at stops (λ x. not (is_hex_digit x)) 256 (get_or text k 0) all (fits k).fits) ∙ run_in_chunk_fails stops text at 16 r 0 room counted k from to);
+    stops = λ short. not-true _ (sym (agree_below_at stops (λ x. not (is_hex_digit x)) 256 (get_or text (at + r) 0) all (fits (at + r)).fits) ∙ run_in_chunk_stops stops text at 16 r 0 room counted short);
+  }
 
--- no lane stops, and one would where a byte is no digit
-pub digits_are : (text : List ℕ) (at : ℕ) (z : List ℕ) → at + 16 ≤ length text → ((k : ℕ) → Fits w8 (get_or text k 0))
-    → mask_l (map (top 7) z) % 2 ^ 64 ≡ 0 → (f : ℕ → ℕ) → z ≡ map f (chunk at 16 text)
-    → agree_below (λ x. top 7 (f x)) (λ x. not (is_hex_digit x)) 256 ≡ true → AreDigits text at
-digits_are text at z room fits none f lanes all k from to =
-    let v = chunk at 16 text in
-    let stops : ℕ → Bool = λ x. top 7 (f x) in
-    let long = length-chunk at 16 text room in
-    let mask = ap (λ l. mask_l l % 2 ^ 64) (ap (map (top 7)) lanes ∙ map-map (top 7) f v) ∙ mask_l-mod (map stops v) 64 (omega (arith, length-map v stops, long)) in
-    let passes = none_from_empty_mask stops text at 16 0 room (sym mask ∙ none) k from to in
-    not-false _ (sym (agree_below_at stops (λ x. not (is_hex_digit x)) 256 (get_or text k 0) all (fits k).fits) ∙ passes)
+-- ---- digits
 
 abbrev pub plus : ℕ → ℕ → ℕ
 plus a b = (a + b) % 2 ^ 8

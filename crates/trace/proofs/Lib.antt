@@ -7,3 +7,4 @@ pub mod NumberFacts
 pub mod PageFacts
 pub mod RecordFacts
 pub mod RowFacts
+pub mod UsualFacts

@@ -2,6 +2,6 @@
 use Rattle.std.proofs.Common.{ℕ, ◌^◌, ◌≤◌, lit<}
 use Rattle.std.proofs.Math.Nat.{pow-le-pow_right}
 
--- six digits write less than a million
-pub ten_to : (i : ℕ) → i ≤ 6 → 10 ^ i ≤ 10 ^ 6
+-- seven digits write less than ten millions
+pub ten_to : (i : ℕ) → i ≤ 7 → 10 ^ i ≤ 10 ^ 7
 ten_to i h = pow-le-pow_right (lit< tt) h

@@ -50,14 +50,14 @@ lines-cr : (xs : List ℕ) → records_after st.AfterCr xs ≡ lines_of xs
 lines-cr xs = same_after st.AfterCr st.StartRecord xs xs _ refl refl (skips-cr xs) refl
 
 -- what is no first byte of a mark stays
-stays : (c : ℕ) (xs : List ℕ) → (c == 239) ≡ false → strip_bom (c ∷ xs) ≡ c ∷ xs
+pub stays : (c : ℕ) (xs : List ℕ) → (c == 239) ≡ false → strip_bom (c ∷ xs) ≡ c ∷ xs
 unfolding strip_bom
 stays c [] h = refl
 stays c (x ∷ []) h = refl
 stays c (x ∷ y ∷ xs) h = rw h refl
 
 -- the records of a text that begins with a line end are those behind it
-lf_records : (xs : List ℕ) → lines_of xs ≡ records_of (10 ∷ xs)
+pub lf_records : (xs : List ℕ) → lines_of xs ≡ records_of (10 ∷ xs)
 lf_records xs = sym (ap lines_of (stays 10 xs refl) ∙ lines-skip 10 xs refl)
 
 cr_records : (xs : List ℕ) → records_after st.AfterCr xs ≡ records_of (13 ∷ xs)
@@ -129,7 +129,7 @@ not_true : (b : Bool) → not b ≡ true → b ≡ false
 not_true true h = cc h
 not_true false h = refl
 
-record-begins : (xs : List ℕ) → 0 < length xs → ends_no_line xs ≡ true → read_on st.StartRecord [] [] xs ≡ read_on st.StartField [] [] xs
+pub record-begins : (xs : List ℕ) → 0 < length xs → ends_no_line xs ≡ true → read_on st.StartRecord [] [] xs ≡ read_on st.StartField [] [] xs
 record-begins [] n h = absurd (omega arith)
 record-begins (x ∷ xs) n h =
     let p = or_false (x == 13) (x == 10) (not_true (is_line_end x) h) in

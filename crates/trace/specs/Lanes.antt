@@ -15,6 +15,12 @@ pub record IsRun (text : List ℕ) (at run : ℕ) : Type 0 where
   pub joins : (k : ℕ) → at ≤ k → k < at + run → is_field_end (slice_index text k) ≡ false
   pub stops : run < 16 → is_field_end (slice_index text (at + run)) ≡ true
 
+-- so many of the sixteen bytes from a place on are digits, and the next one is none
+pub record IsDigitRun (text : List ℕ) (at run : ℕ) : Type 0 where
+  pub within : run ≤ 16
+  pub digits : (k : ℕ) → at ≤ k → k < at + run → is_hex_digit (slice_index text k) ≡ true
+  pub stops : run < 16 → is_hex_digit (slice_index text (at + run)) ≡ false
+
 -- the sixteen bytes from a place on are digits
 abbrev pub AreDigits : List ℕ → ℕ → Type 0
 AreDigits text at = (k : ℕ) → at ≤ k → k < at + 16 → is_hex_digit (slice_index text k) ≡ true

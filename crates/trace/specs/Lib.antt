@@ -13,3 +13,4 @@ pub mod Lanes
 pub mod Parsing
 pub mod Rows
 pub mod Stored
+pub mod Usual

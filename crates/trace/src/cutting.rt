@@ -123,7 +123,8 @@ fn is_field_end(byte: u8) -> bool
 }
 
 // Whether this byte stands at a place.
-fn has(text: &[u8], at: usize, byte: u8) -> bool
+#[inline(always)]
+pub(crate) fn has(text: &[u8], at: usize, byte: u8) -> bool
     ensures { result ≡ begins_with byte (drop at text.now) }
 {
     if at < text.len() {

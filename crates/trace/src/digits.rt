@@ -1,11 +1,11 @@
 // Hexadecimal digits, sixteen or sixteen pairs at a time. A table reads the rest, since a branch on each digit's
 // kind would often be mispredicted.
 
-ghost use Rattle.std.specs.Prelude.{◌≡◌, ◌*◌, length, unwrap_or, Ok, IsErr, MatchBool};
+ghost use Rattle.std.specs.Prelude.{◌≡◌, ◌*◌, ◌≤◌, length, unwrap_or, Ok, IsErr, MatchBool};
 ghost use Rattle.hex.specs.Hex.{decode_of, hex_digit_value};
-ghost use Rattle.trace.specs.Digits.{bytes_of};
+ghost use Rattle.trace.specs.Digits.{EndsDigits, bytes_of};
 
-use crate::lanes::{LANES, are_digits, decode_block};
+use crate::lanes::{LANES, decode_block, digit_run};
 
 // The value of each byte as a digit, and 16 where it is none.
 #[rattlefmt::skip]
@@ -36,26 +36,33 @@ fn value(digit: u8) -> u8
     VALUES[digit as usize]
 }
 
+/// How far digits go from a place on.
+#[inline(always)]
+pub(crate) fn digits_end(text: &[u8], start: usize) -> usize
+    requires { start ≤ length text.now }
+    ensures { EndsDigits text.now start result }
+{
+    let mut at = start;
+    'blocks: while text.len() - at >= LANES {
+        let run = digit_run(text, at);
+        if run < LANES {
+            return at + run;
+        }
+        at += LANES;
+    }
+    'bytes: for end in at..text.len() {
+        if value(text[end]) > 15 {
+            return end;
+        }
+    }
+    text.len()
+}
+
 /// Whether these are digits, and an even number of them.
 pub(crate) fn are_pairs(digits: &[u8]) -> bool
     ensures { MatchBool result (decode_of digits.now ≡ Ok (bytes_of digits.now)) (IsErr (decode_of digits.now)) }
 {
-    if digits.len() % 2 != 0 {
-        return false;
-    }
-    let mut at = 0;
-    'blocks: while digits.len() - at >= LANES {
-        if !are_digits(digits, at) {
-            break;
-        }
-        at += LANES;
-    }
-    'bytes: for i in at..digits.len() {
-        if value(digits[i]) > 15 {
-            return false;
-        }
-    }
-    true
+    digits.len() % 2 == 0 && digits_end(digits, 0) == digits.len()
 }
 
 /// Fills a slice with the bytes that these digits write.

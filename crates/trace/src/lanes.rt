@@ -1,7 +1,7 @@
 // Sixteen bytes of a text at once.
 
-ghost use Rattle.std.specs.Prelude.{◌≡◌, ◌+◌, ◌*◌, ◌≤◌, length, map, IsTrue};
-ghost use Rattle.trace.specs.Lanes.{AreDigits, Decodes, IsBlock, IsRun, digit_lane, first_set};
+ghost use Rattle.std.specs.Prelude.{◌≡◌, ◌+◌, ◌*◌, ◌≤◌, length, map};
+ghost use Rattle.trace.specs.Lanes.{Decodes, IsBlock, IsDigitRun, IsRun, digit_lane, first_set};
 
 use std::simd::prelude::*;
 
@@ -32,16 +32,16 @@ pub(crate) fn field_run(text: &[u8], at: usize) -> usize
     first_set(ends.to_bitmask())
 }
 
-/// Whether sixteen digits stand from a place on.
+/// How many of the bytes from a place on come before one that is no digit.
 #[inline(always)]
-pub(crate) fn are_digits(text: &[u8], at: usize) -> bool
+pub(crate) fn digit_run(text: &[u8], at: usize) -> usize
     requires { at + LANES ≤ length text.now }
-    ensures { IsTrue result → AreDigits text.now at }
+    ensures { IsDigitRun text.now at result }
 {
     let bytes = u8x16::from_slice(&text[at..]);
     let not_decimal = (bytes - u8x16::splat(b'0')).simd_ge(u8x16::splat(10));
     let no_letter = ((bytes | u8x16::splat(0x20)) - u8x16::splat(b'a')).simd_ge(u8x16::splat(6));
-    (not_decimal & no_letter).to_bitmask() == 0
+    first_set((not_decimal & no_letter).to_bitmask())
 }
 
 // The values of digits.

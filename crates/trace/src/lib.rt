@@ -13,6 +13,7 @@ mod loading;
 mod page;
 mod parsing;
 mod rows;
+mod usual;
 mod watched;
 
 pub use commands::{Command, CommandIter, Commands, Op};

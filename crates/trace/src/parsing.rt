@@ -15,9 +15,10 @@ use crate::draft::{Draft, Head};
 use crate::fault::{TraceFault, TraceFaultKind};
 use crate::limits::MAX_DIGITS;
 use crate::rows::{next_record, records, row_of};
+use crate::usual::usual_line;
 use csv::ByteRecord;
 use geometry::{Geometry, LONE_WORKERS, WORD_BYTES};
-use std::alloc::Global;
+use std::alloc::{AllocError, Global};
 
 /// The commands of a trace for this device, or its first fault. They keep a copy of the text.
 pub fn parse(alloc: Global, text: &[u8], geometry: &Geometry) -> Result<Commands, TraceFault>
@@ -69,11 +70,14 @@ fn parse_lines(alloc: Global, text: &[u8], geometry: &Geometry) -> Result<Draft,
     let mut draft = Draft::new(alloc, page_bytes(geometry));
     let mut at = 0;
     'records: loop {
+        let Ok(start) = add_usual_lines(text, at, geometry, &mut draft) else {
+            return Err(TraceFault::whole(TraceFaultKind::Memory));
+        };
         let line = next_line(&draft);
-        match next_cut(text, at) {
+        match next_cut(text, start) {
             Cut::End => return Ok(draft),
             Cut::Fields => return Err(fault(line, TraceFaultKind::Fields)),
-            Cut::Record(_, None) => return parse_rest(alloc, text, at, geometry, draft),
+            Cut::Record(_, None) => return parse_rest(alloc, text, start, geometry, draft),
             Cut::Record(end, Some(row)) => {
                 if let Err(kind) = add_cut(text, end, &row, geometry, &mut draft) {
                     return Err(fault(line, kind));
@@ -82,6 +86,29 @@ fn parse_lines(alloc: Global, text: &[u8], geometry: &Geometry) -> Result<Draft,
             }
         }
     }
+}
+
+// Adds the commands of lines of the usual form from a place on, and gives the place where the last one ends.
+fn add_usual_lines(
+    text: &[u8],
+    from: usize,
+    geometry: &Geometry,
+    draft: &mut Draft,
+) -> Result<usize, AllocError>
+    requires place { from ≤ length text.now }
+    requires draft { IsDraft geometry.now text.now draft.old }
+    requires so_far { AreSoFar geometry.now text.now from (drafted text.now draft.old) }
+    ensures place { IfOk result (λ end. from ≤ end) }
+    ensures within { IfOk result (λ end. end ≤ length text.now) }
+    ensures draft { OnOk result (IsDraft geometry.now text.now draft.new) }
+    ensures so_far { IfOk result (λ end. AreSoFar geometry.now text.now end (drafted text.now draft.new)) }
+{
+    let mut at = from;
+    'lines: while let Some(line) = usual_line(text, at, geometry) {
+        draft.push(text, line.head, line.start, (line.end - line.start) as u16)?;
+        at = line.end;
+    }
+    Ok(at)
 }
 
 // The same from a record on that has a quote: `csv` reads it and those behind it. The fields of each
@@ -202,7 +229,8 @@ fn check(row: &Row, geometry: &Geometry) -> Result<Head, TraceFaultKind>
 }
 
 // How many bytes a page has.
-fn page_bytes(geometry: &Geometry) -> u16
+#[inline(always)]
+pub(crate) fn page_bytes(geometry: &Geometry) -> u16
     ensures value { result ≡ page_bytes_of geometry.now }
     ensures small { result ≤ 4096 }
 {
@@ -210,7 +238,8 @@ fn page_bytes(geometry: &Geometry) -> u16
 }
 
 // How many workers a trace may name.
-fn workers(geometry: &Geometry) -> u32
+#[inline(always)]
+pub(crate) fn workers(geometry: &Geometry) -> u32
     ensures value { result ≡ workers_of geometry.now }
     ensures few { result < 2 ^ 16 }
 {

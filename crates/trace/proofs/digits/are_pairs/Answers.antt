@@ -1,9 +1,6 @@
-use Rattle.std.proofs.Common.{arith, slice_index}
-use Rattle.trace.proofs.DigitFacts.{digit_above, pairs_are, refused_at}
+use Rattle.std.proofs.Common.{arith}
+use Rattle.trace.proofs.DigitFacts.{pairs_told}
 use Rattle.trace.proofs.digits.are_pairs.Goals as goal
 
-pub returns-then-value-gt15 : goal.returns-then-value-gt15
-returns-then-value-gt15 c = refused_at c.args.digits.now c.bytes.i (omega arith) (digit_above (slice_index c.args.digits.now c.bytes.i) _ c.value.ensures c.if-value-gt15.true)
-
-pub returns : goal.returns
-returns c = pairs_are c.args.digits.now (omega arith) (λ k below. c.bytes.invariant k (omega arith))
+pub returns-then-digits-eq0 : goal.returns-then-digits-eq0
+returns-then-digits-eq0 c = pairs_told c.args.digits.now c.digits_end.result c.if-digits-eq0.true c.digits_end.ensures

@@ -6,27 +6,27 @@ use Rattle.trace.proofs.CheckFacts.{commands_of-commands, first_other, one_more_
 use Rattle.trace.proofs.parsing.parse_lines.Goals as goal
 
 pub returns-in-End-clause-commands : goal.returns-in-End-clause-commands
-returns-in-End-clause-commands c = commands_of-commands _ _ (drafted c.args.text.now c.records.draft) (rw c.in-End.ensures at c.records.invariant.so_far ∙ append-nil _)
+returns-in-End-clause-commands c = commands_of-commands _ _ (drafted c.args.text.now c.add_usual_lines.new.draft) (rw c.in-End.ensures at c.in-Ok.ensures.so_far ∙ append-nil _)
 
 pub returns-in-Fields-clause-fault : goal.returns-in-Fields-clause-fault
 returns-in-Fields-clause-fault c =
     let other = c.in-Fields.ensures in
     let refused = refuses_fields c.args.geometry.now other.fields other.count in
-    rw (c.fault.ensures, c.next_line-line.ensures, line_is c.args.text.now c.records.draft)
-    (states_fault c.args.text.now c.args.geometry.now (drafted c.args.text.now c.records.draft) other.fields _ _ Fields c.records.invariant.so_far other.first (inr refused))
+    rw (c.fault.ensures, c.next_line-line.ensures, line_is c.args.text.now c.add_usual_lines.new.draft)
+    (states_fault c.args.text.now c.args.geometry.now (drafted c.args.text.now c.add_usual_lines.new.draft) other.fields _ _ Fields c.in-Ok.ensures.so_far other.first (inr refused))
 
 pub returns-in-Fields-clause-first : goal.returns-in-Fields-clause-first
 returns-in-Fields-clause-first c =
     let other = c.in-Fields.ensures in
-    rw (c.fault.ensures, c.next_line-line.ensures, line_is c.args.text.now c.records.draft)
-    (first_other c.args.text.now c.args.geometry.now (drafted c.args.text.now c.records.draft) other.fields _ _ c.records.invariant.so_far other.first other.count)
+    rw (c.fault.ensures, c.next_line-line.ensures, line_is c.args.text.now c.add_usual_lines.new.draft)
+    (first_other c.args.text.now c.args.geometry.now (drafted c.args.text.now c.add_usual_lines.new.draft) other.fields _ _ c.in-Ok.ensures.so_far other.first other.count)
 
 pub returns-in-Err-clause-fault : goal.returns-in-Err-clause-fault
 returns-in-Err-clause-fault c =
     let next = c.in-Record-default-Some.ensures in
     let told = rw c.in-Record-default-Some.field-1-is at next.told in
-    rw (c.fault-in-Err.ensures, c.next_line-line.ensures, line_is c.args.text.now c.records.draft)
-    (states_fault c.args.text.now c.args.geometry.now (drafted c.args.text.now c.records.draft) next.fields _ _ _ c.records.invariant.so_far next.first (rw told c.in-Err.ensures.refused))
+    rw (c.fault-in-Err.ensures, c.next_line-line.ensures, line_is c.args.text.now c.add_usual_lines.new.draft)
+    (states_fault c.args.text.now c.args.geometry.now (drafted c.args.text.now c.add_usual_lines.new.draft) next.fields _ _ _ c.in-Ok.ensures.so_far next.first (rw told c.in-Err.ensures.refused))
 
 pub records-preserved : goal.records-preserved
 records-preserved c =
@@ -34,6 +34,6 @@ records-preserved c =
     let told = rw c.in-Record-default-Some.field-1-is at next.told in
     record {
       place = next.high;
-      draft = c.in_default.ensures.draft;
-      so_far = one_more_command c.args.text.now c.args.geometry.now (drafted c.args.text.now c.records.draft) (drafted c.args.text.now c.add_cut.new.draft) next.fields _ _ c.records.invariant.so_far next.first (rw told c.in_default.ensures.added);
+      draft = c.in_default-add_cut.ensures.draft;
+      so_far = one_more_command c.args.text.now c.args.geometry.now (drafted c.args.text.now c.add_usual_lines.new.draft) (drafted c.args.text.now c.add_cut.new.draft) next.fields _ _ c.in-Ok.ensures.so_far next.first (rw told c.in_default-add_cut.ensures.added);
     }
