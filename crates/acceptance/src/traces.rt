@@ -3,7 +3,7 @@ use std::alloc::Global;
 use std::io;
 use std::io::{Read, Write};
 use std::test::Fail;
-use trace::{Commands, Op, TraceFault, TraceFaultKind, Watched, load, parse};
+use trace::{Command, Commands, Op, TraceFault, TraceFaultKind, Watched, load, parse};
 
 // 3 blocks of 2 pages of 8 bytes, 3 sectors, one thread.
 fn small() -> Result<Geometry, Fail> {
@@ -22,200 +22,260 @@ fn at(line: u64, kind: TraceFaultKind) -> Option<TraceFault> {
     Some(TraceFault { line, kind })
 }
 
+// A record, and why it is none.
+const FAULTY: [(&str, &str, TraceFaultKind); 23] = [
+    ("three fields", "0,read,2", TraceFaultKind::Fields),
+    ("five fields", "0,read,2,,", TraceFaultKind::Fields),
+    (
+        "an open quote in the fifth field",
+        "0,read,2,,\"",
+        TraceFaultKind::Fields,
+    ),
+    ("a quoted comma", "\"0,read\",0,", TraceFaultKind::Fields),
+    (
+        "a quoted line end",
+        "\"0,read,0,\n0,read,0,\n",
+        TraceFaultKind::Fields,
+    ),
+    (
+        "commas behind two quotes",
+        "\"\",,,,,,",
+        TraceFaultKind::Fields,
+    ),
+    ("a worker too large", "500,read,0,", TraceFaultKind::Worker),
+    (
+        "a worker that is no number",
+        "x,read,0,",
+        TraceFaultKind::Worker,
+    ),
+    (
+        "a space before the worker",
+        " 0,read,0,",
+        TraceFaultKind::Worker,
+    ),
+    ("eight digits", "00000000,read,0,", TraceFaultKind::Worker),
+    ("an op in upper case", "0,READ,0,", TraceFaultKind::Op),
+    ("a quote within an op", "0,re\"ad,0,", TraceFaultKind::Op),
+    ("a sector with a sign", "0,read,-1,", TraceFaultKind::Sector),
+    ("a sector too large", "0,read,3,", TraceFaultKind::Sector),
+    (
+        "an odd number of digits",
+        "0,write,0,4",
+        TraceFaultKind::Hex,
+    ),
+    ("no hexadecimal digit", "0,write,0,4g", TraceFaultKind::Hex),
+    (
+        "18 digits",
+        "0,write,0,010203040506070809",
+        TraceFaultKind::TooLong,
+    ),
+    (
+        "15 digits",
+        "0,write,0,010203040506070",
+        TraceFaultKind::Hex,
+    ),
+    ("data of a read", "0,read,0,41", TraceFaultKind::Unused),
+    ("data of a trim", "0,trim,0,41", TraceFaultKind::Unused),
+    ("the worker of a meet", "1,meet,0,", TraceFaultKind::Unused),
+    ("the sector of a meet", "0,meet,1,", TraceFaultKind::Unused),
+    (
+        "a quote that isn't closed",
+        "\"0,read,0,",
+        TraceFaultKind::Fields,
+    ),
+];
+
 #[test]
 fn each_faulty_record_has_its_fault(rt: HostRuntime) -> Result<(), Fail> {
-    use TraceFaultKind as kind;
-    for (name, text, fault) in [
-        ("three fields", "0,read,2", kind::Fields),
-        ("five fields", "0,read,2,,", kind::Fields),
-        (
-            "an open quote in the fifth field",
-            "0,read,2,,\"",
-            kind::Fields,
-        ),
-        ("a quoted comma", "\"0,read\",0,", kind::Fields),
-        (
-            "a quoted line end",
-            "\"0,read,0,\n0,read,0,\n",
-            kind::Fields,
-        ),
-        ("commas behind two quotes", "\"\",,,,,,", kind::Fields),
-        ("a worker too large", "500,read,0,", kind::Worker),
-        ("a worker that is no number", "x,read,0,", kind::Worker),
-        ("a space before the worker", " 0,read,0,", kind::Worker),
-        ("eight digits", "00000000,read,0,", kind::Worker),
-        ("an op in upper case", "0,READ,0,", kind::Op),
-        ("a quote within an op", "0,re\"ad,0,", kind::Op),
-        ("a sector with a sign", "0,read,-1,", kind::Sector),
-        ("a sector too large", "0,read,3,", kind::Sector),
-        ("an odd number of digits", "0,write,0,4", kind::Hex),
-        ("no hexadecimal digit", "0,write,0,4g", kind::Hex),
-        ("18 digits", "0,write,0,010203040506070809", kind::TooLong),
-        ("15 digits", "0,write,0,010203040506070", kind::Hex),
-        ("data of a read", "0,read,0,41", kind::Unused),
-        ("data of a trim", "0,trim,0,41", kind::Unused),
-        ("the worker of a meet", "1,meet,0,", kind::Unused),
-        ("the sector of a meet", "0,meet,1,", kind::Unused),
-        ("a quote that isn't closed", "\"0,read,0,", kind::Fields),
-    ] {
-        assert!(rt;
-            first_fault(rt.alloc(), text.as_bytes())? == at(1, fault),
-            "{name}"
-        );
+    for (name, text, fault) in FAULTY {
+        let found = first_fault(rt.alloc(), text.as_bytes())?;
+        assert!(rt; found == at(1, fault), "{name}");
     }
     Ok(())
+}
+
+// A record of worker 7, and its op, sector and page.
+const ACCEPTED: [(&str, &str, Op, u32, Option<[u8; 8]>); 9] = [
+    (
+        "leading zeros and a quoted op",
+        "007,\"read\",002,",
+        Op::Read,
+        2,
+        None,
+    ),
+    (
+        "both cases of digits",
+        "7,write,0,aBcD",
+        Op::Write,
+        0,
+        Some([0xab, 0xcd, 0, 0, 0, 0, 0, 0]),
+    ),
+    (
+        "a write of nothing",
+        "7,write,1,",
+        Op::Write,
+        1,
+        Some([0; 8]),
+    ),
+    (
+        "16 digits",
+        "7,write,1,0102030405060708",
+        Op::Write,
+        1,
+        Some([1, 2, 3, 4, 5, 6, 7, 8]),
+    ),
+    (
+        "a write of an empty sector",
+        "7,new,2,41",
+        Op::New,
+        2,
+        Some([0x41, 0, 0, 0, 0, 0, 0, 0]),
+    ),
+    ("a trim", "7,trim,0,", Op::Trim, 0, None),
+    (
+        "numbers of seven digits",
+        "0000007,trim,0000002,",
+        Op::Trim,
+        2,
+        None,
+    ),
+    (
+        "digits behind their quotes",
+        "\"7\",\"write\",\"0\",\"41\"42",
+        Op::Write,
+        0,
+        Some([0x41, 0x42, 0, 0, 0, 0, 0, 0]),
+    ),
+    (
+        "a quote that the text's end closes",
+        "7,write,0,\"41",
+        Op::Write,
+        0,
+        Some([0x41, 0, 0, 0, 0, 0, 0, 0]),
+    ),
+];
+
+// Whether a command has this page of eight bytes, or none.
+fn has_page(command: &Command<'_>, page: Option<[u8; 8]>) -> bool {
+    match page {
+        None => command.page.is_empty() && command.page.len() == 0,
+        Some(bytes) => !command.page.is_empty() && page_of(command) == Some(bytes),
+    }
+}
+
+// A command's page, if it has eight bytes.
+fn page_of(command: &Command<'_>) -> Option<[u8; 8]> {
+    if command.page.len() != 8 {
+        return None;
+    }
+    let mut bytes = [0xff; 8];
+    command.page.copy_into(&mut bytes);
+    Some(bytes)
 }
 
 #[test]
 fn accepted_records_are_commands(rt: HostRuntime) -> Result<(), Fail> {
-    for (name, text, op, sector, page) in [
-        (
-            "leading zeros and a quoted op",
-            "007,\"read\",002,",
-            Op::Read,
-            2,
-            b"".as_slice(),
-        ),
-        (
-            "both cases of digits",
-            "7,write,0,aBcD",
-            Op::Write,
-            0,
-            b"\xab\xcd\0\0\0\0\0\0".as_slice(),
-        ),
-        (
-            "a write of nothing",
-            "7,write,1,",
-            Op::Write,
-            1,
-            b"\0\0\0\0\0\0\0\0".as_slice(),
-        ),
-        (
-            "16 digits",
-            "7,write,1,0102030405060708",
-            Op::Write,
-            1,
-            b"\x01\x02\x03\x04\x05\x06\x07\x08".as_slice(),
-        ),
-        (
-            "a write of an empty sector",
-            "7,new,2,41",
-            Op::New,
-            2,
-            b"A\0\0\0\0\0\0\0".as_slice(),
-        ),
-        ("a trim", "7,trim,0,", Op::Trim, 0, b"".as_slice()),
-        (
-            "numbers of seven digits",
-            "0000007,trim,0000002,",
-            Op::Trim,
-            2,
-            b"".as_slice(),
-        ),
-        (
-            "digits behind their quotes",
-            "\"7\",\"write\",\"0\",\"41\"42",
-            Op::Write,
-            0,
-            b"AB\0\0\0\0\0\0".as_slice(),
-        ),
-        (
-            "a quote that the text's end closes",
-            "7,write,0,\"41",
-            Op::Write,
-            0,
-            b"A\0\0\0\0\0\0\0".as_slice(),
-        ),
-    ] {
+    for (name, text, op, sector, page) in ACCEPTED {
         let commands = commands(rt.alloc(), text.as_bytes())?;
         assert!(rt; commands.len() == 1, "{name}");
         let command = commands.command(0);
-        assert!(rt; command.worker == 7, "{name}");
-        assert!(rt; command.op == op, "{name}");
-        assert!(rt; command.sector == sector, "{name}");
-        let mut bytes = [0xffu8; 8];
-        let len = command.page.len();
-        assert!(rt; len == page.len(), "{name}");
-        assert!(rt; command.page.is_empty() == page.is_empty(), "{name}");
-        if len == 8 {
-            command.page.copy_into(&mut bytes);
-            assert!(rt; bytes.as_slice() == page, "{name}");
-        }
+        let found = (command.worker, command.op, command.sector);
+        assert!(rt;
+            found == (7, op, sector) && has_page(&command, page),
+            "{name}"
+        );
     }
     Ok(())
 }
+
+// A text, and how many records it has.
+const TEXTS: [(&str, &str, usize); 10] = [
+    ("no byte", "", 0),
+    ("empty lines alone", "\n\r\n\n", 0),
+    ("no line end", "0,read,0,", 1),
+    ("LF", "0,read,0,\n0,read,1,\n", 2),
+    ("CRLF", "0,read,0,\r\n0,read,1,\r\n", 2),
+    ("CR alone", "0,read,0,\r0,read,1,\r", 2),
+    ("empty lines between", "\n0,read,0,\n\n\n0,read,1,", 2),
+    ("a byte order mark", "\u{feff}0,read,0,\n", 1),
+    (
+        "a mark before a quote",
+        "\u{feff}\"0\",read,0,\n0,read,1,\n",
+        2,
+    ),
+    (
+        "a quoted line end is none",
+        "0,write,0,\"\"\n0,trim,0,\"\"\n",
+        2,
+    ),
+];
 
 #[test]
 fn records_end_as_csv_says(rt: HostRuntime) -> Result<(), Fail> {
-    for (name, text, count) in [
-        ("no byte", "", 0),
-        ("empty lines alone", "\n\r\n\n", 0),
-        ("no line end", "0,read,0,", 1),
-        ("LF", "0,read,0,\n0,read,1,\n", 2),
-        ("CRLF", "0,read,0,\r\n0,read,1,\r\n", 2),
-        ("CR alone", "0,read,0,\r0,read,1,\r", 2),
-        ("empty lines between", "\n0,read,0,\n\n\n0,read,1,", 2),
-        ("a byte order mark", "\u{feff}0,read,0,\n", 1),
-        (
-            "a mark before a quote",
-            "\u{feff}\"0\",read,0,\n0,read,1,\n",
-            2,
-        ),
-        (
-            "a quoted line end is none",
-            "0,write,0,\"\"\n0,trim,0,\"\"\n",
-            2,
-        ),
-    ] {
-        assert!(rt;
-            commands(rt.alloc(), text.as_bytes())?.len() == count,
-            "{name}"
-        );
+    for (name, text, count) in TEXTS {
+        let found = commands(rt.alloc(), text.as_bytes())?.len();
+        assert!(rt; found == count, "{name}");
     }
     Ok(())
 }
 
+// A text, and the number of its first faulty record, with its fault.
+const FIRST_FAULTS: [(&str, &str, u64, TraceFaultKind); 8] = [
+    (
+        "an empty line is no record",
+        "0,read,0,\n\n0,read,9,\n",
+        2,
+        TraceFaultKind::Sector,
+    ),
+    (
+        "two faulty records",
+        "0,read,0,\n0,read,1\n0,READ,0,\n",
+        2,
+        TraceFaultKind::Fields,
+    ),
+    (
+        "two faults of a record",
+        "0,READ,9,4",
+        1,
+        TraceFaultKind::Op,
+    ),
+    (
+        "a mark on the second line",
+        "0,read,0,\n\u{feff}0,read,0,\n",
+        2,
+        TraceFaultKind::Worker,
+    ),
+    (
+        "a mark behind a quoted record",
+        "0,\"read\",0,\n\u{feff}0,read,0,\n",
+        2,
+        TraceFaultKind::Worker,
+    ),
+    (
+        "five fields behind a quoted record",
+        "0,\"read\",0,\n0,read,0,,\n",
+        2,
+        TraceFaultKind::Fields,
+    ),
+    (
+        "a quoted record behind a plain one",
+        "0,read,0,\n0,\"read\",3,\n",
+        2,
+        TraceFaultKind::Sector,
+    ),
+    (
+        "a doubled quote",
+        "0,\"re\"\"ad\",0,\n",
+        1,
+        TraceFaultKind::Op,
+    ),
+];
+
 #[test]
 fn the_first_faulty_record_is_answered_by_its_number(rt: HostRuntime) -> Result<(), Fail> {
-    use TraceFaultKind as kind;
-    for (name, text, fault) in [
-        (
-            "an empty line is no record",
-            "0,read,0,\n\n0,read,9,\n",
-            at(2, kind::Sector),
-        ),
-        (
-            "two faulty records",
-            "0,read,0,\n0,read,1\n0,READ,0,\n",
-            at(2, kind::Fields),
-        ),
-        ("two faults of a record", "0,READ,9,4", at(1, kind::Op)),
-        (
-            "a mark on the second line",
-            "0,read,0,\n\u{feff}0,read,0,\n",
-            at(2, kind::Worker),
-        ),
-        (
-            "a mark behind a quoted record",
-            "0,\"read\",0,\n\u{feff}0,read,0,\n",
-            at(2, kind::Worker),
-        ),
-        (
-            "five fields behind a quoted record",
-            "0,\"read\",0,\n0,read,0,,\n",
-            at(2, kind::Fields),
-        ),
-        (
-            "a quoted record behind a plain one",
-            "0,read,0,\n0,\"read\",3,\n",
-            at(2, kind::Sector),
-        ),
-        ("a doubled quote", "0,\"re\"\"ad\",0,\n", at(1, kind::Op)),
-    ] {
-        assert!(rt;
-            first_fault(rt.alloc(), text.as_bytes())? == fault,
-            "{name}"
-        );
+    for (name, text, line, fault) in FIRST_FAULTS {
+        let found = first_fault(rt.alloc(), text.as_bytes())?;
+        assert!(rt; found == at(line, fault), "{name}");
     }
     Ok(())
 }
@@ -262,21 +322,27 @@ fn long_data_is_too_long_or_no_digits(rt: HostRuntime) -> Result<(), Fail> {
     Ok(())
 }
 
+// A record, and its fault, if it has one.
+const LIMITS: [(&str, Option<TraceFaultKind>); 7] = [
+    ("499,read,0,", None),
+    ("500,read,0,", Some(TraceFaultKind::Worker)),
+    ("0000499,read,0,", None),
+    ("00000499,read,0,", Some(TraceFaultKind::Worker)),
+    ("0,read,1048575,", None),
+    ("0,read,1048576,", Some(TraceFaultKind::Sector)),
+    ("0,read,01048575,", Some(TraceFaultKind::Sector)),
+];
+
 #[test]
 fn numbers_end_at_their_limits(rt: HostRuntime) -> Result<(), Fail> {
-    use TraceFaultKind as kind;
     let largest = Geometry::new(1, 4096, 1024, 1, 1_048_576, 10, 0, 0)?;
-    for (text, fault) in [
-        ("499,read,0,", None),
-        ("500,read,0,", at(1, kind::Worker)),
-        ("0000499,read,0,", None),
-        ("00000499,read,0,", at(1, kind::Worker)),
-        ("0,read,1048575,", None),
-        ("0,read,1048576,", at(1, kind::Sector)),
-        ("0,read,01048575,", at(1, kind::Sector)),
-    ] {
+    for (text, fault) in LIMITS {
         let found = parse(rt.alloc(), text.as_bytes(), &largest).err();
-        assert!(rt; found == fault, "{text}");
+        let wanted = match fault {
+            Some(kind) => at(1, kind),
+            None => None,
+        };
+        assert!(rt; found == wanted, "{text}");
     }
     Ok(())
 }
@@ -379,17 +445,19 @@ fn a_trace_of_100000_lines_is_loaded_and_parsed(rt: HostRuntime) -> Result<(), F
             fails_at: None,
         });
         let loaded = load(rt.alloc(), &mut reader)?;
-        assert!(rt; loaded.as_slice() == text.as_slice());
-        assert!(rt; reader.failures() == 0);
+        assert!(rt; loaded.as_slice() == text.as_slice() && reader.failures() == 0);
         let commands = commands(rt.alloc(), loaded.as_slice())?;
         assert!(rt; commands.len() == 100_000);
-        for (i, byte) in [(99_998, 1), (99_999, 9)] {
-            let page = commands.command(i).page;
-            let mut bytes = [0u8; 8];
-            assert!(rt; page.len() == 8);
-            page.copy_into(&mut bytes);
-            assert!(rt; bytes[0] == byte);
-        }
+        let ends = (
+            page_of(&commands.command(99_998)),
+            page_of(&commands.command(99_999)),
+        );
+        assert!(rt;
+            ends == (
+                Some([1, 2, 3, 4, 5, 6, 7, 8]),
+                Some([9, 0, 0, 0, 0, 0, 0, 0])
+            )
+        );
     }
     Ok(())
 }
@@ -454,13 +522,14 @@ impl Write for Full {
 #[test]
 fn a_write_that_takes_nothing_is_a_failure(rt: HostRuntime) -> Result<(), Fail> {
     let mut writer = Watched::new(Full { room: 3 });
-    assert!(rt; writer.write(b"")? == 0);
-    assert!(rt; writer.write(b"four")? == 3);
-    assert!(rt; writer.failures() == 0);
-    assert!(rt; writer.write(b"r")? == 0);
-    assert!(rt; writer.failures() == 1);
-    assert!(rt; writer.flush().is_err());
-    assert!(rt; writer.failures() == 2);
+    let taken = (
+        writer.write(b"")?,
+        writer.write(b"four")?,
+        writer.failures(),
+    );
+    let full = (writer.write(b"r")?, writer.failures());
+    let flushed = (writer.flush().is_err(), writer.failures());
+    assert!(rt; taken == (0, 3, 0) && full == (0, 1) && flushed == (true, 2));
     Ok(())
 }
 
@@ -494,9 +563,11 @@ fn what_never_fails_has_no_failure(rt: HostRuntime) -> Result<(), Fail> {
     let mut bytes = Vec::new(rt.alloc());
     for size in [1, 2, 511, 4_096, 65_536, 80_000] {
         bytes.resize(size, 0)?;
-        assert!(rt; watched.read(bytes.as_mut_slice())? == size);
-        assert!(rt; bytes.as_slice().first() == Some(&7));
-        assert!(rt; watched.write(bytes.as_slice())? == size);
+        let counts = (
+            watched.read(bytes.as_mut_slice())?,
+            watched.write(bytes.as_slice())?,
+        );
+        assert!(rt; counts == (size, size) && bytes.as_slice().first() == Some(&7));
         watched.flush()?;
     }
     assert!(rt; watched.failures() == 0);

@@ -3,7 +3,7 @@ ghost use Rattle.std.specs.Prelude.{◌≡◌, ◌<◌, All, length};
 ghost use Rattle.host.specs.Ready.{IsReady};
 ghost use Rattle.volume.specs.Volume.{flash_of};
 
-use crate::hands::page;
+use crate::calls::page;
 use flash_table::Pass;
 use std::process::Abort;
 use volume::Volume;
@@ -62,4 +62,12 @@ fn close_by(
 /// Whether the two sectors have pages of these bytes.
 pub(crate) fn have(sectors: &[Option<Vec<u8>>], first: u8, second: u8) -> bool {
     has(sectors, 0, &page(first)) && has(sectors, 1, &page(second))
+}
+
+/// Whether the sector has the page of this byte, or nothing.
+pub(crate) fn holds(sectors: &[Option<Vec<u8>>], sector: usize, byte: Option<u8>) -> bool {
+    match byte {
+        Some(byte) => has(sectors, sector, &page(byte)),
+        None => matches!(sectors.get(sector), Some(None)),
+    }
 }

@@ -3,11 +3,13 @@ ghost use Rattle.std.specs.Prelude.{◌≡◌, ◌<◌, IfOk};
 ghost use Rattle.host.specs.Ready.{IsReady};
 ghost use Rattle.volume.specs.Volume.{flash_of};
 
+use crate::calls::Seen;
 use crate::closing::{close, have};
-use crate::hands::{Call, Hand, first_look};
+use crate::hands::Hand;
 use crate::opening::{TwoHosts, last_pass};
 use flash_table::Pass;
 use geometry::{Geometry, Got, Was};
+use host::NewFault;
 use std::test::Fail;
 use std::thread::join_mut;
 use volume::Volume;
@@ -44,7 +46,7 @@ fn two_threads_write_a_hundred_values_each(rt: HostRuntime) -> Result<(), Fail> 
     );
     assert!(rt; first && second);
     a.meet(&mut b);
-    assert!(rt; a.answers(&[Call::Read(1, Some(100))]));
+    assert!(rt; a.read(1) == Seen::of(Some(100), 1));
     let Hand { volume: _, pass: a } = a;
     let Hand { volume: _, pass: b } = b;
     assert!(rt; have(&close(&rt, volume, a, b), 100, 100));
@@ -79,7 +81,7 @@ fn read_thousand(hand: &mut Hand) -> bool
         } else {
             0
         };
-        right = right && seen == first_look(if byte == 0 { None } else { Some(byte) });
+        right = right && seen == Seen::of(if byte == 0 { None } else { Some(byte) }, 1);
         right = right && last <= byte && byte <= 100;
         last = byte;
     }
@@ -111,9 +113,41 @@ fn two_threads_read_a_sector_while_a_third_overwrites_it(rt: HostRuntime) -> Res
         ),
     );
     assert!(rt; wrote && first && second);
-    assert!(rt; c.answers(&[Call::Read(0, Some(100))]));
+    assert!(rt; c.read(0) == Seen::of(Some(100), 1));
     a.leave();
     b.leave();
     c.leave();
+    Ok(())
+}
+
+// Which of two threads wrote, if just one of them did.
+fn winner(first: Result<(), NewFault>, second: Result<(), NewFault>) -> Option<u8> {
+    match (first, second) {
+        (Ok(()), Err(NewFault::Written)) => Some(1),
+        (Err(NewFault::Written), Ok(())) => Some(2),
+        _ => None,
+    }
+}
+
+#[test]
+fn of_two_threads_just_one_writes_an_empty_sector(rt: HostRuntime) -> Result<(), Fail> {
+    let TwoHosts { volume, a, b } = TwoHosts::open(&rt, 1000)?;
+    let mut a = Hand {
+        volume: &volume,
+        pass: a,
+    };
+    let mut b = Hand {
+        volume: &volume,
+        pass: b,
+    };
+    for round in 0..1000 {
+        let (first, second) = join_mut(&rt, &mut || a.write_new(0, 1), &mut || b.write_new(0, 2));
+        let winner = winner(first, second);
+        assert!(rt; winner.is_some(), "round {round}");
+        assert!(rt; a.read(0) == Seen::of(winner, 1), "round {round}");
+        assert!(rt; b.trim(0) == Was::Written, "round {round}");
+    }
+    a.leave();
+    b.leave();
     Ok(())
 }

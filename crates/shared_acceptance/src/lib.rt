@@ -1,27 +1,31 @@
-//! Tests of the shared device's public calls: rows, schedules, and crowds in real threads. They stand in a crate of
-//! their own, since a crate with tests is proved twice.
+//! Tests of the shared device's public calls: rows of calls with their answers, and crowds in real threads. They stand
+//! in a crate of their own, since a crate with tests is proved twice.
 #![tactic(auto)]
 
 #[cfg(test)]
+mod actors;
+#[cfg(test)]
+mod broom_rows;
+#[cfg(test)]
 mod caller;
+#[cfg(test)]
+mod calls;
+#[cfg(test)]
+mod cast;
 #[cfg(test)]
 mod closing;
 #[cfg(test)]
 mod crowds;
 #[cfg(test)]
-mod drains;
-#[cfg(test)]
-mod erases;
-#[cfg(test)]
-mod gates;
+mod entries;
 #[cfg(test)]
 mod hands;
 #[cfg(test)]
-mod meanwhile;
-#[cfg(test)]
-mod new_writes;
+mod host_rows;
 #[cfg(test)]
 mod opening;
+#[cfg(test)]
+mod playing_rows;
 #[cfg(test)]
 mod plays;
 #[cfg(test)]
@@ -31,12 +35,8 @@ mod queue_hands;
 #[cfg(test)]
 mod queue_rows;
 #[cfg(test)]
-mod rows;
-#[cfg(test)]
 mod sizes;
 #[cfg(test)]
-mod sweepers;
+mod stage;
 #[cfg(test)]
-mod swept_crowd;
-#[cfg(test)]
-mod turns;
+mod turn_rows;

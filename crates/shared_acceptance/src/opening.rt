@@ -1,5 +1,5 @@
 //! A small device for tests: two sectors, blocks of two pages, and pages of one word.
-ghost use Rattle.std.specs.Prelude.{◌≡◌, ◌+◌, ◌<◌, All, IfOk, length};
+ghost use Rattle.std.specs.Prelude.{◌≡◌, ◌+◌, ◌<◌, All, length};
 ghost use Rattle.geometry.specs.Geometry.{sectors_of, page_bytes_of};
 ghost use Rattle.flash_table.specs.Flash.{geometry_of};
 ghost use Rattle.host.specs.Ready.{IsReady};
@@ -26,9 +26,13 @@ pub struct TwoHosts {
 impl TwoHosts {
     /// A device of so many blocks and no broom, with nothing written.
     pub(crate) fn open(rt: &impl AllocGlobal, blocks: u32) -> Result<TwoHosts, Fail> {
-        let (hosts, brooms) = open_with(rt, blocks, 10, 0)?;
+        let geometry = Geometry::new(1, blocks, 2, 1, 2, 10, 2, 0)?;
+        let (volume, mut passes, brooms) = Volume::open(rt.alloc(), &geometry)?;
         brooms.destroy_empty();
-        Ok(hosts)
+        let b = last_pass(&volume, &mut passes);
+        let a = last_pass(&volume, &mut passes);
+        passes.destroy_empty();
+        Ok(TwoHosts { volume, a, b })
     }
 }
 
@@ -58,53 +62,4 @@ pub(crate) fn last_broom(volume: &Volume, brooms: &mut Vec<Broom>) -> Broom
         unreachable!()
     };
     broom
-}
-
-// A device of so many blocks, which may be erased so often, and brooms.
-fn open_with(
-    rt: &impl AllocGlobal,
-    blocks: u32,
-    endurance: u32,
-    brooms: u32,
-) -> Result<(TwoHosts, Vec<Broom>), Fail>
-    ensures count { IfOk result (λ r. length r.1.items ≡ brooms) }
-    ensures ready { IfOk result (λ r. All (IsBroomReady r.0.volume) r.1.items) }
-{
-    let geometry = Geometry::new(1, blocks, 2, 1, 2, endurance, 2, brooms)?;
-    let (volume, mut passes, brooms) = Volume::open(rt.alloc(), &geometry)?;
-    let b = last_pass(&volume, &mut passes);
-    let a = last_pass(&volume, &mut passes);
-    passes.destroy_empty();
-    Ok((TwoHosts { volume, a, b }, brooms))
-}
-
-/// A device of five blocks, with a broom whose spare is block 4.
-pub(crate) fn open_swept(rt: &impl AllocGlobal) -> Result<(TwoHosts, Broom), Fail>
-    ensures { IfOk result (λ r. IsBroomReady r.0.volume r.1) }
-{
-    open_swept_often(rt, 10)
-}
-
-/// The same, with blocks that may be erased so often.
-pub(crate) fn open_swept_often(
-    rt: &impl AllocGlobal,
-    endurance: u32,
-) -> Result<(TwoHosts, Broom), Fail>
-    ensures { IfOk result (λ r. IsBroomReady r.0.volume r.1) }
-{
-    let (hosts, mut brooms) = open_with(rt, 5, endurance, 1)?;
-    let broom = last_broom(&hosts.volume, &mut brooms);
-    brooms.destroy_empty();
-    Ok((hosts, broom))
-}
-
-/// A device of seven blocks, with two brooms.
-pub(crate) fn open_swept_by_two(rt: &impl AllocGlobal) -> Result<(TwoHosts, Broom, Broom), Fail>
-    ensures { IfOk result (λ r. IsBroomReady r.0.volume r.1 × IsBroomReady r.0.volume r.2) }
-{
-    let (hosts, mut brooms) = open_with(rt, 7, 10, 2)?;
-    let second = last_broom(&hosts.volume, &mut brooms);
-    let first = last_broom(&hosts.volume, &mut brooms);
-    brooms.destroy_empty();
-    Ok((hosts, first, second))
 }

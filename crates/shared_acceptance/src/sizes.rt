@@ -1,6 +1,6 @@
 //! A device of as many blocks and sectors as there can be.
+use crate::calls::page;
 use crate::closing::{close_alone, has};
-use crate::hands::page;
 use crate::opening::{last_broom, last_pass};
 use broom::Drain;
 use flash_table::NoGate;

@@ -1,5 +1,0 @@
-use Rattle.std.proofs.Common.{◌≡◌}
-use Rattle.shared_acceptance.proofs.sweepers.Sweeper.takes_turns.Given as goal
-
-abbrev pub invariant-loop-sweep : goal.invariant-loop-sweep
-invariant-loop-sweep g l = l.self.volume ≡ l.fn.self.volume

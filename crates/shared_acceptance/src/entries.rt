@@ -1,0 +1,85 @@
+//! Actors come from the passes and brooms of a device, and go back into them.
+ghost use Rattle.std.specs.Prelude.{◌≡◌, ◌+◌, ◌-◌, ◌<◌, ◌≤◌, All, length, vec_capacity};
+ghost use Rattle.host.specs.Ready.{IsReady};
+ghost use Rattle.volume.specs.Brooms.{IsBroomReady};
+ghost use Rattle.volume.specs.Volume.{flash_of};
+ghost use Rattle.shared_acceptance.specs.Kept.{IsHome};
+
+use crate::actors::{Actor, Home, Host, Sweeper};
+use broom::Broom;
+use flash_table::Pass;
+use std::marker::PhantomData;
+use std::sync::Wait;
+use volume::Volume;
+
+/// The host of the last pass, if there is one.
+pub(crate) fn next_host<'a, H: Home>(
+    volume: &'a Volume,
+    passes: &mut Vec<Pass>,
+) -> Option<Actor<'a, H>>
+    requires home { IsHome H.home volume.now }
+    requires ready { All (IsReady (flash_of volume.now)) passes.old.items }
+    ensures count { length passes.new.items ≡ length passes.old.items - 1 }
+    ensures room { vec_capacity passes.new ≡ vec_capacity passes.old }
+    ensures ready { All (IsReady (flash_of volume.now)) passes.new.items }
+{
+    let pass = passes.pop()?;
+    Some(Actor::Host(Host {
+        volume,
+        pass,
+        of: PhantomData,
+    }))
+}
+
+/// The last broom, if there is one.
+pub(crate) fn next_broom<'a, H: Home>(
+    volume: &'a Volume,
+    brooms: &mut Vec<Broom>,
+) -> Option<Actor<'a, H>>
+    requires home { IsHome H.home volume.now }
+    requires ready { All (IsBroomReady volume.now) brooms.old.items }
+    ensures count { length brooms.new.items ≡ length brooms.old.items - 1 }
+    ensures ready { All (IsBroomReady volume.now) brooms.new.items }
+{
+    let broom = brooms.pop()?;
+    Some(Actor::Sweeper(Sweeper {
+        volume,
+        broom,
+        of: PhantomData,
+    }))
+}
+
+/// A host gives its pass back.
+pub(crate) fn give_back<H: Home>(
+    volume: &Volume,
+    actor: Option<Actor<'_, H>>,
+    passes: &mut Vec<Pass>,
+)
+    requires home { IsHome H.home volume.now }
+    requires room { length passes.old.items < vec_capacity passes.old }
+    requires ready { All (IsReady (flash_of volume.now)) passes.old.items }
+    ensures room { vec_capacity passes.new ≡ vec_capacity passes.old }
+    ensures one { length passes.new.items ≤ length passes.old.items + 1 }
+    ensures ready { All (IsReady (flash_of volume.now)) passes.new.items }
+{
+    let Some(actor) = actor else {
+        return;
+    };
+    let host = match actor {
+        Actor::Host(host) => host,
+        Actor::Holder(holder) => holder.release(),
+        Actor::Sweeper(_) => return,
+    };
+    passes.push_reserved(host.into_pass(volume));
+}
+
+/// A broom is given up.
+pub(crate) fn fold<H: Home>(rt: &impl Wait, actor: Option<Actor<'_, H>>) {
+    let Some(actor) = actor else {
+        return;
+    };
+    match actor {
+        Actor::Sweeper(sweeper) => sweeper.fold(rt),
+        Actor::Host(_) | Actor::Holder(_) => (),
+    }
+}

@@ -1,0 +1,116 @@
+//! A row is played on a device of its own, which is closed at its end.
+ghost use Rattle.std.specs.Prelude.{◌≡◌, ◌≤◌, All, length};
+ghost use Rattle.host.specs.Ready.{IsReady};
+ghost use Rattle.volume.specs.Brooms.{IsBroomReady};
+ghost use Rattle.volume.specs.Volume.{flash_of};
+ghost use Rattle.shared_acceptance.specs.Kept.{IsHome};
+
+use crate::actors::Home;
+use crate::cast::Cast;
+use crate::closing::holds;
+use crate::entries::{fold, give_back, next_broom, next_host};
+use crate::stage::{Stage, Step};
+use broom::Broom;
+use flash_table::{Pass, Point};
+use geometry::Geometry;
+use std::marker::Brand;
+use std::process::Abort;
+use std::sync::Wait;
+use std::test::Fail;
+use volume::Volume;
+
+/// The blocks of a device with two sectors, two hosts, and blocks of two pages of one word, how often a block may be erased, and the
+/// brooms; what is done there; and what the sectors hold at the end.
+#[derive(Clone, Copy)]
+pub(crate) struct Row<'a> {
+    pub name: &'a str,
+    pub blocks: u32,
+    pub endurance: u32,
+    pub brooms: u32,
+    pub steps: &'a [Step<'a>],
+    pub sectors: [Option<u8>; 2],
+}
+
+// Makes the steps up to the first whose call answers otherwise, and says how many were right.
+fn play<'x, 's, R: Wait, H: Home>(
+    rt: &'x R,
+    volume: &'x Volume,
+    passes: Vec<Pass>,
+    brooms: Vec<Broom>,
+    steps: &[Step<'s>],
+) -> (Vec<Pass>, usize)
+    requires home { IsHome H.home volume.now }
+    requires ready { All (IsReady (flash_of volume.now)) passes.items }
+    requires brooms { All (IsBroomReady volume.now) brooms.items }
+    requires hosts { length passes.items ≡ 2 }
+    requires two { length brooms.items ≤ 2 }
+    ensures { All (IsReady (flash_of volume.now)) result.0.items }
+{
+    let (mut passes, mut brooms) = (passes, brooms);
+    let b = next_host(volume, &mut passes);
+    let a = next_host(volume, &mut passes);
+    let first: Option<_> = next_broom(volume, &mut brooms);
+    let second = next_broom(volume, &mut brooms);
+    brooms.destroy_empty();
+    let cast: Cast<'x, H> = Cast {
+        a,
+        b,
+        first,
+        second,
+    };
+    let mut stage = Stage {
+        rt,
+        cast,
+        point: Point::Answered,
+        calls: &[],
+        each: 1,
+        right: true,
+    };
+    let mut done = 0usize;
+    for step in steps {
+        stage.step(*step);
+        if !stage.right {
+            break;
+        }
+        done = done.wrapping_add(1);
+    }
+    let Cast {
+        a,
+        b,
+        first,
+        second,
+    } = stage.cast;
+    fold(rt, first);
+    fold(rt, second);
+    give_back(volume, a, &mut passes);
+    give_back(volume, b, &mut passes);
+    (passes, done)
+}
+
+/// Plays a row. Each call answers what it has to, and the sectors hold what they have to.
+pub(crate) fn check_row<R: Wait + Abort + AllocGlobal>(rt: &R, row: Row<'_>) -> Result<(), Fail> {
+    let Row {
+        name,
+        blocks,
+        endurance,
+        brooms,
+        steps,
+        sectors,
+    } = row;
+    assert!(rt; brooms <= 2);
+    let geometry = Geometry::new(1, blocks, 2, 1, 2, endurance, 2, brooms)?;
+    let (volume, passes, brooms) = Volume::open(rt.alloc(), &geometry)?;
+    let (passes, done) = play::<R, Brand>(rt, &volume, passes, brooms, steps);
+    assert!(rt; done == steps.len(), "{name}, step {done}");
+    assert!(rt; !passes.is_empty(), "{name}");
+    let closed = match volume.close(rt.alloc(), passes) {
+        Ok(closed) => closed,
+        Err((_volume, _passes)) => panic!(rt; "memory"),
+    };
+    let [first, second] = sectors;
+    assert!(rt;
+        holds(&closed.sectors, 0, first) && holds(&closed.sectors, 1, second),
+        "{name}"
+    );
+    Ok(())
+}

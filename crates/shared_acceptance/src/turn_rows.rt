@@ -1,0 +1,243 @@
+//! Brooms that take turns over the queue of drained blocks, beside two hosts.
+use crate::calls::{Call, EMPTY, WRITTEN};
+use crate::cast::Who;
+use crate::playing_rows::{Row, check_row};
+use crate::stage::Step;
+use broom::{Drain, Erase};
+use std::test::Fail;
+
+const DRAINS_ZERO: Call = Call::DrainOne(Drain::Drained {
+    block: 0,
+    copied: 0,
+});
+
+const DRAINS_ONE: Call = Call::DrainOne(Drain::Drained {
+    block: 1,
+    copied: 0,
+});
+
+const DRAINS_TWO: Call = Call::DrainOne(Drain::Drained {
+    block: 2,
+    copied: 0,
+});
+
+const ERASES_ZERO: Call = Call::EraseOne(Erase::Erased {
+    block: 0,
+    kept: false,
+});
+
+const ERASES_ONE: Call = Call::EraseOne(Erase::Erased {
+    block: 1,
+    kept: false,
+});
+
+const ERASES_TWO: Call = Call::EraseOne(Erase::Erased {
+    block: 2,
+    kept: false,
+});
+
+const RETIRES_ZERO: Call = Call::EraseOne(Erase::Retired { block: 0 });
+
+const RETIRES_ONE: Call = Call::EraseOne(Erase::Retired { block: 1 });
+
+const RETIRES_TWO: Call = Call::EraseOne(Erase::Retired { block: 2 });
+
+const NOTHING: Call = Call::DrainOne(Drain::NothingToGain);
+
+const PINNED: Call = Call::EraseOne(Erase::Pinned);
+
+const STALE: Call = Call::EraseOne(Erase::Stale);
+
+// The broom stands by the page that is held.
+const PUTS_A_HELD_BLOCK_BACK: [Step<'static>; 14] = [
+    Step::By(Who::A, Call::Write(0, 1, EMPTY)),
+    Step::By(Who::A, Call::Write(1, 2, EMPTY)),
+    Step::By(Who::B, Call::Hold(0, Some((0, 0)))),
+    Step::By(Who::A, Call::Write(0, 3, WRITTEN)),
+    Step::By(Who::A, Call::Write(1, 4, WRITTEN)),
+    Step::By(Who::First, DRAINS_ZERO),
+    Step::By(Who::First, PINNED),
+    Step::Meet(Who::B, Who::First),
+    Step::By(Who::B, Call::Held(1)),
+    Step::By(Who::B, Call::Release),
+    Step::By(Who::First, ERASES_ZERO),
+    Step::By(Who::First, Call::EraseOne(Erase::QueueEmpty)),
+    Step::By(Who::A, Call::Write(0, 5, WRITTEN)),
+    Step::By(Who::A, Call::Hold(0, Some((0, 1)))),
+];
+
+const RETIRES_A_HELD_BLOCK: [Step<'static>; 14] = [
+    Step::By(Who::A, Call::Write(0, 1, EMPTY)),
+    Step::By(Who::A, Call::Write(1, 2, EMPTY)),
+    Step::By(Who::B, Call::Hold(0, Some((0, 0)))),
+    Step::By(Who::A, Call::Write(0, 3, WRITTEN)),
+    Step::By(Who::A, Call::Write(1, 4, WRITTEN)),
+    Step::By(Who::First, DRAINS_ZERO),
+    Step::By(Who::First, PINNED),
+    Step::Meet(Who::B, Who::First),
+    Step::By(Who::B, Call::Held(1)),
+    Step::By(Who::B, Call::Release),
+    Step::By(Who::First, RETIRES_ZERO),
+    Step::By(Who::First, Call::EraseOne(Erase::QueueEmpty)),
+    Step::By(Who::A, Call::Write(0, 5, WRITTEN)),
+    Step::By(Who::A, Call::Hold(0, Some((2, 0)))),
+];
+
+// Block 0 stays, and the others wear out.
+const HOLDS_WHILE_OTHERS_WEAR_OUT: [Step<'static>; 46] = [
+    Step::By(Who::A, Call::Write(0, 1, EMPTY)),
+    Step::By(Who::A, Call::Write(1, 2, EMPTY)),
+    Step::By(Who::B, Call::Hold(0, Some((0, 0)))),
+    Step::By(Who::A, Call::Write(0, 3, WRITTEN)),
+    Step::By(Who::A, Call::Write(1, 4, WRITTEN)),
+    Step::By(Who::First, DRAINS_ZERO),
+    Step::By(Who::First, PINNED),
+    Step::By(Who::First, PINNED),
+    Step::Meet(Who::B, Who::First),
+    Step::By(Who::B, Call::Held(1)),
+    Step::By(Who::A, Call::Write(0, 5, WRITTEN)),
+    Step::By(Who::A, Call::Write(1, 6, WRITTEN)),
+    Step::By(Who::First, DRAINS_ONE),
+    Step::By(Who::First, PINNED),
+    Step::By(Who::First, ERASES_ONE),
+    Step::Meet(Who::B, Who::First),
+    Step::By(Who::B, Call::Held(1)),
+    Step::By(Who::A, Call::Write(0, 7, WRITTEN)),
+    Step::By(Who::A, Call::Write(1, 8, WRITTEN)),
+    Step::By(Who::First, DRAINS_TWO),
+    Step::By(Who::First, PINNED),
+    Step::By(Who::First, ERASES_TWO),
+    Step::Meet(Who::B, Who::First),
+    Step::By(Who::B, Call::Held(1)),
+    Step::By(Who::A, Call::Write(0, 9, WRITTEN)),
+    Step::By(Who::A, Call::Write(1, 10, WRITTEN)),
+    Step::By(Who::First, DRAINS_ONE),
+    Step::By(Who::First, PINNED),
+    Step::By(Who::First, RETIRES_ONE),
+    Step::Meet(Who::B, Who::First),
+    Step::By(Who::B, Call::Held(1)),
+    Step::By(Who::A, Call::Write(0, 11, WRITTEN)),
+    Step::By(Who::A, Call::Write(1, 12, WRITTEN)),
+    Step::By(Who::First, DRAINS_TWO),
+    Step::By(Who::First, PINNED),
+    Step::By(Who::First, RETIRES_TWO),
+    Step::Meet(Who::B, Who::First),
+    Step::By(Who::B, Call::Held(1)),
+    Step::By(Who::A, Call::Write(0, 13, None)),
+    Step::By(Who::First, NOTHING),
+    Step::By(Who::A, Call::Read(0, Some(11), 1)),
+    Step::By(Who::A, Call::Read(1, Some(12), 1)),
+    Step::By(Who::B, Call::Held(1)),
+    Step::By(Who::B, Call::Release),
+    Step::By(Who::First, ERASES_ZERO),
+    Step::By(Who::A, Call::Write(0, 13, WRITTEN)),
+];
+
+const FREES_ZERO: Call = Call::Erase(
+    0,
+    Erase::Erased {
+        block: 0,
+        kept: false,
+    },
+);
+
+const FREES_ONE: Call = Call::Erase(
+    1,
+    Erase::Erased {
+        block: 1,
+        kept: false,
+    },
+);
+
+// The second broom fills the queue, and erases the blocks beside it.
+const SETS_A_BLOCK_ASIDE: [Step<'static>; 38] = [
+    Step::By(Who::A, Call::Write(0, 1, EMPTY)),
+    Step::By(Who::A, Call::Write(1, 2, EMPTY)),
+    Step::By(Who::A, Call::Write(0, 3, WRITTEN)),
+    Step::By(Who::A, Call::Write(1, 4, WRITTEN)),
+    Step::By(Who::Second, DRAINS_ZERO),
+    Step::By(Who::Second, FREES_ZERO),
+    Step::By(Who::A, Call::Write(0, 3, WRITTEN)),
+    Step::By(Who::A, Call::Write(1, 4, WRITTEN)),
+    Step::By(Who::Second, DRAINS_ONE),
+    Step::By(Who::Second, FREES_ONE),
+    Step::By(Who::A, Call::Write(0, 3, WRITTEN)),
+    Step::By(Who::A, Call::Write(1, 4, WRITTEN)),
+    Step::By(Who::Second, DRAINS_ZERO),
+    Step::By(Who::Second, FREES_ZERO),
+    Step::By(Who::A, Call::Write(0, 3, WRITTEN)),
+    Step::By(Who::A, Call::Write(1, 4, WRITTEN)),
+    Step::By(Who::Second, DRAINS_ONE),
+    Step::By(Who::Second, FREES_ONE),
+    Step::By(Who::A, Call::Write(0, 3, WRITTEN)),
+    Step::By(Who::A, Call::Write(1, 4, WRITTEN)),
+    Step::By(Who::Second, DRAINS_ZERO),
+    Step::By(Who::Second, FREES_ZERO),
+    Step::By(Who::A, Call::Write(0, 3, WRITTEN)),
+    Step::By(Who::A, Call::Write(1, 4, WRITTEN)),
+    Step::By(Who::Second, DRAINS_ONE),
+    Step::By(Who::Second, FREES_ONE),
+    Step::By(Who::A, Call::Write(0, 3, WRITTEN)),
+    Step::By(Who::A, Call::Write(1, 4, WRITTEN)),
+    Step::By(Who::Second, DRAINS_ZERO),
+    Step::By(Who::Second, FREES_ZERO),
+    Step::By(Who::A, Call::Write(0, 5, WRITTEN)),
+    Step::By(Who::A, Call::Write(1, 6, WRITTEN)),
+    Step::By(Who::First, DRAINS_ONE),
+    Step::By(Who::First, Call::DrainOne(Drain::QueueFull)),
+    Step::By(Who::First, ERASES_ONE),
+    Step::By(Who::First, NOTHING),
+    Step::By(Who::First, STALE),
+    Step::By(Who::First, STALE),
+];
+
+fn of<'a>(
+    name: &'a str,
+    endurance: u32,
+    steps: &'a [Step<'a>],
+    sectors: [Option<u8>; 2],
+) -> Row<'a> {
+    Row {
+        name,
+        blocks: 5,
+        endurance,
+        brooms: 1,
+        steps,
+        sectors,
+    }
+}
+
+#[test]
+fn turns_over_the_queue_answer_as_the_rows_say(rt: HostRuntime) -> Result<(), Fail> {
+    for row in [
+        of(
+            "a held block is put back until it is released",
+            10,
+            &PUTS_A_HELD_BLOCK_BACK,
+            [Some(5), Some(4)],
+        ),
+        of(
+            "a held block is retired once it is released",
+            1,
+            &RETIRES_A_HELD_BLOCK,
+            [Some(5), Some(4)],
+        ),
+        of(
+            "a hold that is not released keeps its block while others wear out",
+            2,
+            &HOLDS_WHILE_OTHERS_WEAR_OUT,
+            [Some(13), Some(12)],
+        ),
+        Row {
+            name: "a block for which the queue has no room is set aside",
+            blocks: 7,
+            endurance: 10,
+            brooms: 2,
+            steps: &SETS_A_BLOCK_ASIDE,
+            sectors: [Some(5), Some(6)],
+        },
+    ] {
+        check_row(&rt, row)?;
+    }
+    Ok(())
+}
