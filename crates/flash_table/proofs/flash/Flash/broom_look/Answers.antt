@@ -6,6 +6,7 @@ use Rattle.flash_table.specs.Flash.{broom_view, device}
 use Rattle.flash_table.proofs.Rows.{just_now}
 use Rattle.flash_table.proofs.HereBrooms.{broom_look_here}
 use Rattle.flash_table.proofs.ToldBrooms.{broom_player, stays_broom, unpacked}
+use Rattle.std.proofs.lemmas.Grind.{common_steps}
 use Rattle.flash_table.proofs.flash.Flash.broom_look.Goals as goal
 
 pub load-found-requires : goal.load-found-requires
@@ -30,3 +31,6 @@ pub returns-clause-broom : goal.returns-clause-broom
 returns-clause-broom c =
     let changed = c.load-found.ensures.2.1.changed in
     stays_broom c.args.self.now c.args.broom.now _ c.requires.broom c.load-found.ensures.0 (ap (λ (w : View). w.role) changed) (ap (λ (w : View). w.numbers) changed)
+
+pub returns-clause-fits : goal.returns-clause-fits
+returns-clause-fits c = grind (arith, common_steps)

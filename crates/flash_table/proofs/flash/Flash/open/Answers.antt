@@ -9,7 +9,8 @@ use Rattle.flash_rule.proofs.Owning.{none_some}
 use Rattle.flash_table.specs.declared.pass.Pass.{Pass}
 use Rattle.flash_table.specs.Flash.{spare_of}
 use Rattle.flash_table.specs.declared.broom_seat.Reclaiming.TheVariants.{Nothing}
-use Rattle.flash_table.proofs.Dealing.{deal_here, deals_next, next_owned, deal_broom_here, deals_next_broom}
+use Rattle.flash_table.proofs.Dealing.{deal_here, deals_next, no_broom_yet, next_owned, deal_broom_here, deals_next_broom}
+use Rattle.std.proofs.lemmas.Grind.{common_steps}
 use Rattle.flash_table.proofs.flash.Flash.open.Goals as goal
 
 pub of_words-requires : goal.of_words-requires
@@ -100,3 +101,9 @@ loop-i-preserved c =
     let given = c.blocks_with_spare.ensures ∙ (λ i. record { destination = None; spare = Some (record { block = place i; generation = 0; written = 0 }); reclaiming = Nothing }) in
     let next = deals_next_broom _ c.loop-i.dealer c.split_seat-seat-in-loop-i.new.seat c.loop-i.brooms.items _ c.loop-i.i c.loop-i.invariant.0 more s.0 (ap (λ x. x.0) s.2) s.3 (ap (λ x. x.0) s.4) given in
     (rw c.push_reserved-in-loop-i.ensures.items next, (let e = c.push_reserved-in-loop-i.ensures.capacity in let r = c.loop-i.invariant.1 in omega arith))
+
+pub invariant_of-flash : goal.invariant_of-flash
+invariant_of-flash c = grind (arith, common_steps)
+
+pub loop-i-init : goal.loop-i-init
+loop-i-init c = (no_broom_yet _ _ _ _ _ c.loop.invariant.0 c.in-Ok.ensures.items, c.in-Ok.ensures.capacity)
