@@ -32,6 +32,7 @@ use Rattle.broom.specs.declared.answer.Erase.TheVariants as erase
 use Rattle.broom.specs.Ready.{IsRested, HasRoom, view_of_broom, blocks_of_broom}
 use Rattle.broom.specs.Erasing.{DidErase, DidKeep, DidFree, DidRetire, EraseTold, renewed}
 use Rattle.broom.specs.Renewing.{Kept, Freed}
+use Rattle.broom.proofs.Choosing.{rested_again}
 
 -- ---- what the broom owns
 -- the last block of a row isn't among the others
@@ -95,6 +96,23 @@ loaded_unread v w b p fits drained unread h =
 -- a block that isn't drained was loaded
 pub loaded_stale : (v w : View) (b : ℕ) (p : PinWord) → FitsPin p → ¬ (p.phase ≡ Drained) → Loaded v b (pin_word p) w → w ≡ record v { loaded = v.loaded ++ (b, pin_word p) ∷ []; stale = v.stale ++ b ∷ [] }
 loaded_stale v w b p fits other h = let same : h.state ≡ p = pin_same h.state p h.fits fits (sym h.found) in h.stale (λ is. other (ap (λ (x : PinWord). x.phase) (sym same) ∙ is))
+
+-- a drained block with readers was loaded
+pub loaded_busy : (v w : View) (b : ℕ) (p : PinWord) → FitsPin p → p.phase ≡ Drained → 0 < p.readers → Loaded v b (pin_word p) w → w ≡ record v { loaded = v.loaded ++ (b, pin_word p) ∷ []; busy = v.busy ++ b ∷ [] }
+loaded_busy v w b p fits drained read h =
+    let same : h.state ≡ p = pin_same h.state p h.fits fits (sym h.found) in h.busy (ap (λ (x : PinWord). x.phase) same ∙ drained) (subst (λ (x : PinWord). 0 < x.readers) (sym same) read)
+
+-- one without readers was loaded, and its word had changed before it could be condemned
+pub loaded_changed : (v m w : View) (b : ℕ) (p : PinWord) → FitsPin p → p.phase ≡ Drained → p.readers ≡ 0 → Loaded v b (pin_word p) m → w ≡ record m { busy = m.busy ++ b ∷ [] }
+    → w ≡ record v { loaded = v.loaded ++ (b, pin_word p) ∷ []; busy = v.busy ++ b ∷ [] }
+loaded_changed v m w b p fits drained unread load is = let first = loaded_unread v m b p fits drained unread load in is ∙ (λ i. record (first i) { busy = (first i).busy ++ b ∷ [] })
+
+-- a broom that has only loaded a state rests as before
+pub rested_loaded : (f : Flash) (s t : BroomSeat) → IsRested f s → IsBroomOf f t → own_blocks t ≡ own_blocks s → (loaded : List (ℕ × ℕ)) (busy stale : List ℕ) → broom_view t ≡ record (broom_view s) { loaded = loaded; busy = busy; stale = stale } → IsRested f t
+rested_loaded f s t h seat blocks loaded busy stale is =
+    let v : View = broom_view s in
+    let kept = is ∙ (λ i. record v { seen = (sym is i).seen; loaded = (sym is i).loaded; named = (sym is i).named; busy = (sym is i).busy; stale = (sym is i).stale; lost = (sym is i).lost }) in
+    rested_again f s t h seat blocks kept (subst (λ (x : View). AreOfHosts x.numbers x.seen) (sym is) h.callers)
 
 -- a load, a condemn and the wiping of all words, one after the other
 pub was_wiped : (f : Flash) (s l m t : BroomSeat) (b : ℕ) (p : PinWord) → IsRested f s → FitsPin p → p.phase ≡ Drained → p.readers ≡ 0 → Loaded (broom_view s) b (pin_word p) (broom_view l) → own_blocks l ≡ own_blocks s

@@ -7,7 +7,7 @@ use Rattle.broom.specs.declared.answer.Erase.{Erase}
 use Rattle.broom.specs.declared.answer.Erase.TheVariants as erase
 use Rattle.broom.specs.Told.{DrainTold}
 use Rattle.broom.specs.Erasing.{EraseTold}
-use Rattle.broom.specs.Handing.{HandsNothing, HandedOn, Relieved, Fetched, FetchedAndHandedOn, DrainOneTold, EraseOneTold}
+use Rattle.broom.specs.Handing.{HandsNothing, HandedOn, Relieved, Fetched, FetchedAndHandedOn, DrainedAndHandedOn, DrainOneTold, EraseOneTold}
 
 -- no block was drained
 pub drained_none : (limit : ℕ) (before relieved after : Broom) (answer : Drain) → ((block copied : ℕ) → answer ≡ drain.Drained block copied → ⊥) → Relieved before relieved → DrainTold relieved answer after → HandsNothing relieved after
@@ -17,6 +17,13 @@ drained_none limit before relieved after drain.NothingToGain none first told apa
 drained_none limit before relieved after drain.NoSpare none first told apart = record { relieved = relieved; first = first; drain = told; apart = apart }
 drained_none limit before relieved after drain.Lost none first told apart = record { relieved = relieved; first = first; drain = told; apart = apart }
 drained_none limit before relieved after drain.QueueFull none first told apart = absurd told
+
+-- a block was drained, and was handed on
+pub drained_one : (limit : ℕ) (before relieved drained after : Broom) (block copied : ℕ) (answer : Drain) → answer ≡ drain.Drained block copied → Relieved before relieved → DrainTold relieved answer drained → HandsNothing relieved drained
+    → HandedOn limit drained block after → DrainedAndHandedOn limit before block copied after
+drained_one limit before relieved drained after block copied answer is first told apart handed =
+    let did = subst (λ (a : Drain). DrainTold relieved a drained) is told in
+    record { drained = drained; drain = record { relieved = relieved; first = first; drain = did; apart = apart }; handed = handed }
 
 -- the block that was fetched had no readers
 pub erased_one : (limit : ℕ) (before fetched after : Broom) (block : ℕ) (answer : Erase) → (answer ≡ erase.Pinned → ⊥) → Fetched before block fetched → EraseTold fetched block answer after → HandsNothing fetched after

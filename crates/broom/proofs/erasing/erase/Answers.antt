@@ -1,14 +1,11 @@
-use Rattle.std.proofs.Common.{rules, ◌≡◌, ℕ, MatchBool, refl, sym, ap, ◌∙◌, subst, arith}
+use Rattle.std.proofs.Common.{rules, ◌≡◌, ℕ, MatchBool, refl, sym, ap, ◌∙◌, arith}
 use Rattle.geometry.specs.Geometry.{endurance_of}
 use Rattle.geometry.specs.Limits.{Numbers}
 use Rattle.geometry.specs.declared.pin_word.Phase.TheVariants.{Drained}
-use Rattle.flash_rule.specs.declared.view.View.{View}
-use Rattle.flash_rule.specs.Views.{AreOfHosts}
 use Rattle.flash_table.specs.declared.broom_seat.Reclaiming.TheVariants.{Nothing}
 use Rattle.flash_table.specs.Flash.{broom_view, own_blocks, geometry_of}
 use Rattle.broom.specs.Erasing.{DidKeep, DidFree}
-use Rattle.broom.proofs.Choosing.{rested_again}
-use Rattle.broom.proofs.Renewing.{loaded_stale, WasWiped, was_wiped, its, did_retire, did_renew, told_erased, rested_retired, rested_renewed}
+use Rattle.broom.proofs.Renewing.{loaded_stale, loaded_busy, loaded_changed, rested_loaded, WasWiped, was_wiped, its, did_retire, did_renew, told_erased, rested_retired, rested_renewed}
 use Rattle.broom.proofs.erasing.erase.Given.{Over}
 use Rattle.broom.proofs.erasing.erase.Goals as goal
 use Rattle.broom.proofs.erasing.erase.Goals.{After-wipe_all}
@@ -26,22 +23,70 @@ wiped g c =
 endures : (g : Over) (c : After-wipe_all g) (n : ℕ) → n ≡ endurance_of (geometry_of c.args.flash.now) → n ≡ (broom_view c.args.broom.now.seat).numbers.endurance
 endures g c n is = is ∙ ap (λ (z : Numbers). z.endurance) (sym c.requires.broom.rested.seat.numbers)
 
-pub returns-then-ne-clause-ready : goal.returns-then-ne-clause-ready
-returns-then-ne-clause-ready g c =
-    let v : View = broom_view c.args.broom.now.seat in
-    let h = c.requires.broom in
+-- the block isn't drained
+pub returns-then-ne-clause-told : goal.returns-then-ne-clause-told
+returns-then-ne-clause-told g c =
+    let s = c.args.broom.now.seat in
     let p = c.load_state-state.result in
     let load = c.load_state-state.ensures in
     let other : ¬ (p.phase ≡ Drained) = search rules in
-    let is = loaded_stale v (broom_view c.load_state-state.new.broom) c.args.block p load.fits other load.told in
-    let callers = subst (λ (x : View). AreOfHosts x.numbers x.seen) (sym is) h.rested.callers in
-    let kept = is ∙ (λ i. record v { seen = (sym is i).seen; loaded = (sym is i).loaded; named = (sym is i).named; busy = (sym is i).busy; stale = (sym is i).stale; lost = (sym is i).lost }) in
-    record {
-      rested = rested_again c.args.flash.now c.args.broom.now.seat c.load_state-state.new.broom h.rested load.broom load.blocks kept callers;
-      states = h.states;
-      counts = h.counts;
-      closed = h.closed;
-    }
+    let is = loaded_stale (broom_view s) (broom_view c.load_state-state.new.broom) c.args.block p load.fits other load.told in
+    (record { state = p; fits = load.fits; undrained = other; changed = is }, load.blocks)
+
+pub returns-then-ne-clause-ready : goal.returns-then-ne-clause-ready
+returns-then-ne-clause-ready g c =
+    let s = c.args.broom.now.seat in
+    let p = c.load_state-state.result in
+    let load = c.load_state-state.ensures in
+    let h = c.requires.broom in
+    let other : ¬ (p.phase ≡ Drained) = search rules in
+    let is = loaded_stale (broom_view s) (broom_view c.load_state-state.new.broom) c.args.block p load.fits other load.told in
+    record { rested = rested_loaded c.args.flash.now c.args.broom.now.seat c.load_state-state.new.broom h.rested load.broom load.blocks _ _ _ is; states = h.states; counts = h.counts; closed = h.closed }
+
+-- it has readers
+pub returns-then-state-gt0-clause-told : goal.returns-then-state-gt0-clause-told
+returns-then-state-gt0-clause-told g c =
+    let s = c.args.broom.now.seat in
+    let p = c.load_state-state.result in
+    let load = c.load_state-state.ensures in
+    let drained : p.phase ≡ Drained = search rules in
+    let is = loaded_busy (broom_view s) (broom_view c.load_state-state.new.broom) c.args.block p load.fits drained (omega arith) load.told in
+    (record { state = p; fits = load.fits; drained = drained; changed = is }, load.blocks)
+
+pub returns-then-state-gt0-clause-ready : goal.returns-then-state-gt0-clause-ready
+returns-then-state-gt0-clause-ready g c =
+    let s = c.args.broom.now.seat in
+    let p = c.load_state-state.result in
+    let load = c.load_state-state.ensures in
+    let h = c.requires.broom in
+    let drained : p.phase ≡ Drained = search rules in
+    let is = loaded_busy (broom_view s) (broom_view c.load_state-state.new.broom) c.args.block p load.fits drained (omega arith) load.told in
+    record { rested = rested_loaded c.args.flash.now c.args.broom.now.seat c.load_state-state.new.broom h.rested load.broom load.blocks _ _ _ is; states = h.states; counts = h.counts; closed = h.closed }
+
+-- its word has changed
+pub returns-then-not-condemn-clause-told : goal.returns-then-not-condemn-clause-told
+returns-then-not-condemn-clause-told g c =
+    let s = c.args.broom.now.seat in
+    let p = c.load_state-state.result in
+    let load = c.load_state-state.ensures in
+    let drained : p.phase ≡ Drained = search rules in
+    let busy = c.if-not-condemn.ensures.told in
+    let is = loaded_changed (broom_view s) (broom_view c.load_state-state.new.broom) (broom_view c.condemn.new.broom) c.args.block p load.fits drained (omega arith) load.told busy.changed in
+    (record { state = p; fits = load.fits; drained = drained; changed = is }, (busy.blocks ∙ load.blocks))
+
+pub returns-then-not-condemn-clause-ready : goal.returns-then-not-condemn-clause-ready
+returns-then-not-condemn-clause-ready g c =
+    let s = c.args.broom.now.seat in
+    let p = c.load_state-state.result in
+    let load = c.load_state-state.ensures in
+    let h = c.requires.broom in
+    let drained : p.phase ≡ Drained = search rules in
+    let busy = c.if-not-condemn.ensures.told in
+    let is = loaded_changed (broom_view s) (broom_view c.load_state-state.new.broom) (broom_view c.condemn.new.broom) c.args.block p load.fits drained (omega arith) load.told busy.changed in
+    record { rested = rested_loaded c.args.flash.now c.args.broom.now.seat c.condemn.new.broom h.rested c.condemn.ensures.broom (busy.blocks ∙ load.blocks) _ _ _ is; states = h.states; counts = h.counts; closed = h.closed }
+
+pub condemn-requires-clause-expected : goal.condemn-requires-clause-expected
+condemn-requires-clause-expected g c = search rules
 
 pub returns-then-state-endurance-clause-told : goal.returns-then-state-endurance-clause-told
 returns-then-state-endurance-clause-told g c =

@@ -1,6 +1,12 @@
-use Rattle.std.proofs.Common.{arith}
+use Rattle.std.proofs.Common.{arith, rules}
 use Rattle.std.proofs.lemmas.Grind.{common_steps}
 use Rattle.host.proofs.reading.read_gated.Goals as goal
 
 pub returns-clause-pass : goal.returns-clause-pass
 returns-clause-pass g c = grind (arith, common_steps)
+
+pub returns-in_default-clause-told : goal.returns-in_default-clause-told
+returns-in_default-clause-told g c = search rules
+
+pub returns-in_default-clause-answer : goal.returns-in_default-clause-answer
+returns-in_default-clause-answer g c = search rules
