@@ -1,4 +1,5 @@
 pub mod FreshBrooms
+pub mod Sparing
 pub mod Still
 pub mod Answered
 pub mod Looks

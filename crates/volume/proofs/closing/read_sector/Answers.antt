@@ -1,4 +1,4 @@
-use Rattle.std.proofs.Common.{arith}
+use Rattle.std.proofs.Common.{arith, rules}
 use Rattle.std.proofs.lemmas.Grind.{common_steps}
 use Rattle.flash_table.specs.Flash.{view_of}
 use Rattle.volume.proofs.Looks.{looked-refl}
@@ -9,3 +9,6 @@ returns-in_err-page-clause-looked c = looked-refl (view_of c.args.pass.now)
 
 pub returns-in-Data-clause-value : goal.returns-in-Data-clause-value
 returns-in-Data-clause-value c = grind (arith, common_steps)
+
+pub returns-in-Empty-clause-value : goal.returns-in-Empty-clause-value
+returns-in-Empty-clause-value c = search rules
