@@ -2,7 +2,7 @@
 use Rattle.std.proofs.Common.{◌≡◌, ℕ, zero, suc, ◌+◌, ◌*◌, ◌%◌, ◌^◌, ◌<◌, ◌≤◌, Bool, true, false, not, ◌&&◌, ◌||◌, cond, eqb, ltb, List, [], ◌∷◌, ◌++◌, map, length, get_or, take, drop, replicate, bit_and, unwrap_or, Ok, inl, inr, refl, sym, ap, ap₂, ◌∙◌, subst, arith, eqb-true, ltb-true, take-add, w8, Fits}
 use Rattle.std.proofs.lemmas.Bool.{agree_below, agree_below_at, and_parts, cases_lt, not-false, not-true}
 use Rattle.std.proofs.lemmas.List.{drop-drop, get_or-map, length-map, map-append, set-get_or, take-append-le, take-take, length-take-le}
-use Rattle.std.proofs.lemmas.Simd.{map-map, mask_l-mod, length-chunk, get_or-chunk, get_or-zip2, first_set_mask_l, none_from_empty_mask, run_in_chunk_le, run_in_chunk_fails, run_in_chunk_stops, length-put_chunk, take_more_put_chunk, get_or-put_chunk_at, get_or-replicate}
+use Rattle.std.proofs.lemmas.Simd.{map-map, mask_l-mod, length-chunk, get_or-chunk, get_or-zip2, first_set_mask_l, run_in_chunk_le, run_in_chunk_fails, run_in_chunk_stops, length-put_chunk, take_more_put_chunk, get_or-put_chunk_at, get_or-replicate}
 use Rattle.std.specs.List.{prefix_len}
 use lib.Lanes.{chunk, put_chunk, zip2, sel_l, mask_l, pick_l, top}
 use Rattle.hex.specs.Hex.{decode_pairs, hex_digit_value, is_hex_digit, pair_value}

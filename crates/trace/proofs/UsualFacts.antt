@@ -1,6 +1,6 @@
 -- Lines of the usual form, field by field.
-use Rattle.std.proofs.Common.{◌≡◌, ◌≢◌, ℕ, zero, suc, ◌+◌, ◌-◌, ◌*◌, ◌/◌, ◌%◌, ◌<◌, ◌≤◌, ◌^◌, ◌⊎◌, inl, inr, Bool, true, false, List, [], ◌∷◌, ◌++◌, length, take, drop, get_or, Ok, refl, ap, sym, ◌∙◌, subst, arith, length-drop, get_or-drop}
-use Rattle.std.specs.Prelude.{◌==◌, ◌||◌, MatchBool, codes}
+use Rattle.std.proofs.Common.{◌≡◌, ℕ, zero, suc, ◌+◌, ◌-◌, ◌*◌, ◌/◌, ◌%◌, ◌<◌, ◌≤◌, ◌^◌, ◌⊎◌, inl, inr, Bool, true, false, List, [], ◌∷◌, ◌++◌, length, take, drop, get_or, Ok, refl, ap, sym, ◌∙◌, subst, arith, length-drop, get_or-drop}
+use Rattle.std.specs.Prelude.{◌==◌, MatchBool, codes}
 use Rattle.std.specs.Char.{digit_value, is_ascii_digit}
 use Rattle.std.specs.Str.{all_ascii_digits}
 use Rattle.std.specs.Str.Parse.{digits_value}
@@ -16,7 +16,7 @@ use Rattle.hex.specs.Hex.{is_hex_digit}
 use Rattle.trace.specs.Cutting.{EndsPlain, Joins, begins_with, ends_field, ends_no_line, is_field_end, lines_of}
 use Rattle.trace.specs.Digits.{EndsDigits}
 use Rattle.trace.specs.Trace.{number_below, op_of, records_of, workers_of}
-use Rattle.trace.specs.Usual.{EndsAtComma, IsLineStart, IsNumber, IsOpName, IsUsual, IsUsualData, part}
+use Rattle.trace.specs.Usual.{IsLineStart, IsNumber, IsOpName, IsUsual, IsUsualData, part}
 use Rattle.trace.specs.declared.commands.Op.{Op}
 use Rattle.trace.specs.declared.commands.Op.TheVariants as op
 use Rattle.trace.specs.declared.fault.TraceFaultKind.{TraceFaultKind}
@@ -174,7 +174,7 @@ pub data_there : (text : List ℕ) (start end size : ℕ) (o : Op) → (o ≡ op
 data_there text start end size o writes d feed even few =
     let there : start + (end - start) ≡ end = omega (arith, d.low) in
     let joins : Joins st.InField text start end = subst (λ k. Joins st.InField text start k) there
-        (plain-run text start start (end - start) (joins-none st.InField text start (omega (arith, d.low, d.high))) (omega (arith, d.low, d.high)) (λ k from to. hex_joins (get_or text k 0) (d.digits k from (omega (arith, d.low))))) in
+    (plain-run text start start (end - start) (joins-none st.InField text start (omega (arith, d.low, d.high))) (omega (arith, d.low, d.high)) (λ k from to. hex_joins (get_or text k 0) (d.digits k from (omega (arith, d.low))))) in
     let ends : EndsPlain text start end = record { joins = joins; stops = ap ends_field (begins 10 (drop end text) feed) } in
     let long : length (part text start end) ≡ end - start = length-take-le (end - start) (drop start text) (omega (arith, length-drop start text, d.high)) in
     let pairs = pairs_are (part text start end) (ap (λ n. n % 2) long ∙ even) (λ k below. ap is_hex_digit (get_or-part text start end k (omega (arith, long))) ∙ d.digits (start + k) (omega arith) (omega (arith, long, d.low))) in
@@ -204,7 +204,7 @@ line_lines text at start h below digit s = by (begins_with 10 (drop at text)) re
     by false e is =
         let first = drop_more text start 0 below in
         let strips : strip_bom (drop start text) ≡ drop start text =
-            ap strip_bom first ∙ stays (get_or text start 0) (drop (start + 1) text) (digit_is_none (get_or text start 0) 239 digit refl) ∙ sym first in
+        ap strip_bom first ∙ stays (get_or text start 0) (drop (start + 1) text) (digit_is_none (get_or text start 0) 239 digit refl) ∙ sym first in
         ap (λ k. records_of (drop k text)) (sym is) ∙ ap lines_of strips
 
 -- a digit begins no line end

@@ -93,16 +93,28 @@ fn usual_op(text: &[u8], start: usize) -> Option<OpName>
     ensures { IfSome result (IsOpName text.now start) }
 {
     if has_all(text, start, b"read,") {
-        return Some(OpName { op: Op::Read, end: start + 4 });
+        return Some(OpName {
+            op: Op::Read,
+            end: start + 4,
+        });
     }
     if has_all(text, start, b"write,") {
-        return Some(OpName { op: Op::Write, end: start + 5 });
+        return Some(OpName {
+            op: Op::Write,
+            end: start + 5,
+        });
     }
     if has_all(text, start, b"trim,") {
-        return Some(OpName { op: Op::Trim, end: start + 4 });
+        return Some(OpName {
+            op: Op::Trim,
+            end: start + 4,
+        });
     }
     if has_all(text, start, b"new,") {
-        return Some(OpName { op: Op::New, end: start + 3 });
+        return Some(OpName {
+            op: Op::New,
+            end: start + 3,
+        });
     }
     None
 }
@@ -133,7 +145,10 @@ fn usual_data(text: &[u8], start: usize, op: Op, size: u16) -> Option<usize>
     match op {
         Op::Write | Op::New => {
             let end = digits_end(text, start);
-            if !has(text, end, b'\n') || (end - start) % 2 != 0 || (end - start) / 2 > size as usize {
+            if !has(text, end, b'\n')
+                || (end - start) % 2 != 0
+                || (end - start) / 2 > size as usize
+            {
                 return None;
             }
             Some(end)

@@ -1,4 +1,3 @@
-use Rattle.std.proofs.Common.{arith}
 use Rattle.trace.proofs.DigitFacts.{pairs_told}
 use Rattle.trace.proofs.digits.are_pairs.Goals as goal
 

@@ -1,4 +1,4 @@
-use Rattle.std.proofs.Common.{sym, arith}
+use Rattle.std.proofs.Common.{arith}
 use Rattle.trace.proofs.UsualFacts.{usual_is}
 use Rattle.trace.proofs.usual.usual_line.Goals as goal
 
