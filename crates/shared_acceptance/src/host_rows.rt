@@ -1,19 +1,31 @@
 //! Two hosts at a device, without a broom or beside one that does nothing.
 use crate::calls::{Call, EMPTY, WRITTEN};
 use crate::cast::Who;
-use crate::playing_rows::{Row, check_row};
+use crate::playing_rows::{Device, Row, check_row};
 use crate::stage::Step;
 use flash_table::Point;
 use geometry::Was;
 use host::NewFault;
 use std::test::Fail;
 
-const READS_THE_OTHERS: [Step<'static>; 2] = [
+const NO_BROOM: Device = Device {
+    blocks: 5,
+    endurance: 10,
+    brooms: 0,
+};
+
+const ONE_BROOM: Device = Device {
+    blocks: 5,
+    endurance: 10,
+    brooms: 1,
+};
+
+const READS_THE_OTHERS: [Step; 2] = [
     Step::By(Who::A, Call::Write(0, 1, EMPTY)),
     Step::By(Who::B, Call::Read(0, Some(1), 1)),
 ];
 
-const FILLS_ALL: [Step<'static>; 15] = [
+const FILLS_ALL: [Step; 15] = [
     Step::By(Who::A, Call::Write(1, 1, EMPTY)),
     Step::By(Who::A, Call::Write(0, 2, EMPTY)),
     Step::By(Who::A, Call::Write(1, 3, WRITTEN)),
@@ -31,7 +43,7 @@ const FILLS_ALL: [Step<'static>; 15] = [
     Step::By(Who::A, Call::Read(0, None, 1)),
 ];
 
-const LEAVES_THE_SPARE: [Step<'static>; 12] = [
+const LEAVES_THE_SPARE: [Step; 12] = [
     Step::By(Who::A, Call::Write(1, 1, EMPTY)),
     Step::By(Who::A, Call::Write(0, 2, EMPTY)),
     Step::By(Who::A, Call::Write(1, 3, WRITTEN)),
@@ -46,26 +58,22 @@ const LEAVES_THE_SPARE: [Step<'static>; 12] = [
     Step::By(Who::A, Call::Trim(0, Was::Written)),
 ];
 
-const MEET: [Step<'static>; 4] = [
+const MEET: [Step; 4] = [
     Step::By(Who::A, Call::Write(0, 1, EMPTY)),
     Step::By(Who::B, Call::Write(1, 2, EMPTY)),
     Step::Meet(Who::A, Who::B),
     Step::By(Who::A, Call::Read(1, Some(2), 1)),
 ];
 
-const TRIMS_BEFORE_A_SWAP: [Step<'static>; 3] = [
+const TRIMS_BEFORE_A_SWAP: [Step; 3] = [
     Step::By(Who::A, Call::Write(0, 1, EMPTY)),
-    Step::During(
-        Who::A,
-        Call::Write(0, 2, EMPTY),
-        Point::BeforePlace,
-        1,
-        &[(Who::B, Call::Trim(0, Was::Written))],
-    ),
+    Step::During(Who::A, Call::Write(0, 2, EMPTY), Point::BeforePlace, 1),
     Step::By(Who::A, Call::Read(0, Some(2), 1)),
 ];
 
-const HOLDS: [Step<'static>; 11] = [
+const TRIMS_BEFORE_A_SWAP_BESIDE: [(Who, Call); 1] = [(Who::B, Call::Trim(0, Was::Written))];
+
+const HOLDS: [Step; 11] = [
     Step::By(Who::B, Call::Hold(0, None)),
     Step::By(Who::A, Call::Write(0, 1, EMPTY)),
     Step::By(Who::B, Call::Hold(0, Some((0, 0)))),
@@ -80,7 +88,7 @@ const HOLDS: [Step<'static>; 11] = [
 ];
 
 // A host that is given up keeps no block.
-const LEAVES: [Step<'static>; 12] = [
+const LEAVES: [Step; 12] = [
     Step::By(Who::A, Call::Write(0, 1, EMPTY)),
     Step::Leave(Who::A),
     Step::By(Who::B, Call::Write(0, 2, WRITTEN)),
@@ -95,7 +103,7 @@ const LEAVES: [Step<'static>; 12] = [
     Step::By(Who::B, Call::Read(0, Some(9), 1)),
 ];
 
-const WRITES_ANEW: [Step<'static>; 6] = [
+const WRITES_ANEW: [Step; 6] = [
     Step::By(Who::A, Call::New(0, 1, Ok(()))),
     Step::By(Who::B, Call::New(0, 2, Err(NewFault::Written))),
     Step::By(Who::B, Call::Read(0, Some(1), 1)),
@@ -104,85 +112,84 @@ const WRITES_ANEW: [Step<'static>; 6] = [
     Step::By(Who::A, Call::Read(0, Some(3), 1)),
 ];
 
-const WINS_BY_THE_FIRST_EXCHANGE: [Step<'static>; 2] = [
+const WINS_BY_THE_FIRST_EXCHANGE: [Step; 2] = [
     Step::During(
         Who::A,
         Call::New(0, 1, Err(NewFault::Written)),
         Point::BeforePlace,
         1,
-        &[(Who::B, Call::New(0, 2, Ok(())))],
     ),
     Step::By(Who::A, Call::Read(0, Some(2), 1)),
 ];
 
-fn of<'a>(name: &'a str, brooms: u32, steps: &'a [Step<'a>], sectors: [Option<u8>; 2]) -> Row<'a> {
-    Row {
-        name,
-        blocks: 5,
-        endurance: 10,
-        brooms,
-        steps,
-        sectors,
-    }
-}
+const WINS_BY_THE_FIRST_EXCHANGE_BESIDE: [(Who, Call); 1] = [(Who::B, Call::New(0, 2, Ok(())))];
 
 #[test]
 fn hosts_answer_as_the_rows_say(rt: HostRuntime) -> Result<(), Fail> {
     for row in [
-        of(
-            "what one host writes another reads without a meeting",
-            1,
-            &READS_THE_OTHERS,
-            [Some(1), None],
-        ),
-        of(
-            "ten writes fill five blocks, and nothing is lost",
-            0,
-            &FILLS_ALL,
-            [None, Some(9)],
-        ),
-        of(
-            "hosts leave a broom's spare alone",
-            1,
-            &LEAVES_THE_SPARE,
-            [None, Some(7)],
-        ),
-        of(
-            "hosts that met close with what both wrote",
-            0,
-            &MEET,
-            [Some(1), Some(2)],
-        ),
-        of(
-            "a trim before the swap is the earlier call",
-            0,
-            &TRIMS_BEFORE_A_SWAP,
-            [Some(2), None],
-        ),
-        of(
-            "a hold keeps its value until it is released",
-            0,
-            &HOLDS,
-            [Some(3), None],
-        ),
-        of(
-            "a host that is given up keeps no block",
-            0,
-            &LEAVES,
-            [Some(9), None],
-        ),
-        of(
-            "a written sector is not written anew until it is trimmed",
-            0,
-            &WRITES_ANEW,
-            [Some(3), None],
-        ),
-        of(
-            "the first exchange wins, and not the first call",
-            0,
-            &WINS_BY_THE_FIRST_EXCHANGE,
-            [Some(2), None],
-        ),
+        Row {
+            name: "what one host writes another reads without a meeting",
+            device: ONE_BROOM,
+            steps: &READS_THE_OTHERS,
+            meanwhile: &[],
+            sectors: [Some(1), None],
+        },
+        Row {
+            name: "ten writes fill five blocks, and nothing is lost",
+            device: NO_BROOM,
+            steps: &FILLS_ALL,
+            meanwhile: &[],
+            sectors: [None, Some(9)],
+        },
+        Row {
+            name: "hosts leave a broom's spare alone",
+            device: ONE_BROOM,
+            steps: &LEAVES_THE_SPARE,
+            meanwhile: &[],
+            sectors: [None, Some(7)],
+        },
+        Row {
+            name: "hosts that met close with what both wrote",
+            device: NO_BROOM,
+            steps: &MEET,
+            meanwhile: &[],
+            sectors: [Some(1), Some(2)],
+        },
+        Row {
+            name: "a trim before the swap is the earlier call",
+            device: NO_BROOM,
+            steps: &TRIMS_BEFORE_A_SWAP,
+            meanwhile: &TRIMS_BEFORE_A_SWAP_BESIDE,
+            sectors: [Some(2), None],
+        },
+        Row {
+            name: "a hold keeps its value until it is released",
+            device: NO_BROOM,
+            steps: &HOLDS,
+            meanwhile: &[],
+            sectors: [Some(3), None],
+        },
+        Row {
+            name: "a host that is given up keeps no block",
+            device: NO_BROOM,
+            steps: &LEAVES,
+            meanwhile: &[],
+            sectors: [Some(9), None],
+        },
+        Row {
+            name: "a written sector is not written anew until it is trimmed",
+            device: NO_BROOM,
+            steps: &WRITES_ANEW,
+            meanwhile: &[],
+            sectors: [Some(3), None],
+        },
+        Row {
+            name: "the first exchange wins, and not the first call",
+            device: NO_BROOM,
+            steps: &WINS_BY_THE_FIRST_EXCHANGE,
+            meanwhile: &WINS_BY_THE_FIRST_EXCHANGE_BESIDE,
+            sectors: [Some(2), None],
+        },
     ] {
         check_row(&rt, row)?;
     }

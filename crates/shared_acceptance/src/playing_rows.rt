@@ -6,7 +6,8 @@ ghost use Rattle.volume.specs.Volume.{flash_of};
 ghost use Rattle.shared_acceptance.specs.Kept.{IsHome};
 
 use crate::actors::Home;
-use crate::cast::Cast;
+use crate::calls::Call;
+use crate::cast::{Cast, Who};
 use crate::closing::holds;
 use crate::entries::{fold, give_back, next_broom, next_host};
 use crate::stage::{Stage, Step};
@@ -19,15 +20,23 @@ use std::sync::Wait;
 use std::test::Fail;
 use volume::Volume;
 
-/// The blocks of a device with two sectors, two hosts, and blocks of two pages of one word, how often a block may be erased, and the
-/// brooms; what is done there; and what the sectors hold at the end.
+/// A device with two sectors, two hosts, and blocks of two pages of one word: how many blocks it has, how often each may be erased, and how
+/// many brooms it has, two at most.
 #[derive(Clone, Copy)]
-pub(crate) struct Row<'a> {
-    pub name: &'a str,
+pub(crate) struct Device {
     pub blocks: u32,
     pub endurance: u32,
     pub brooms: u32,
-    pub steps: &'a [Step<'a>],
+}
+
+/// What is done on a device of its own, and what the sectors hold at the end.
+#[derive(Clone, Copy)]
+pub(crate) struct Row<'a> {
+    pub name: &'a str,
+    pub device: Device,
+    pub steps: &'a [Step],
+    /// What others do at the gate of a call.
+    pub meanwhile: &'a [(Who, Call)],
     pub sectors: [Option<u8>; 2],
 }
 
@@ -37,7 +46,8 @@ fn play<'x, 's, R: Wait, H: Home>(
     volume: &'x Volume,
     passes: Vec<Pass>,
     brooms: Vec<Broom>,
-    steps: &[Step<'s>],
+    steps: &[Step],
+    meanwhile: &'s [(Who, Call)],
 ) -> (Vec<Pass>, usize)
     requires home { IsHome H.home volume.now }
     requires ready { All (IsReady (flash_of volume.now)) passes.items }
@@ -62,7 +72,7 @@ fn play<'x, 's, R: Wait, H: Home>(
         rt,
         cast,
         point: Point::Answered,
-        calls: &[],
+        calls: meanwhile,
         each: 1,
         right: true,
     };
@@ -91,16 +101,20 @@ fn play<'x, 's, R: Wait, H: Home>(
 pub(crate) fn check_row<R: Wait + Abort + AllocGlobal>(rt: &R, row: Row<'_>) -> Result<(), Fail> {
     let Row {
         name,
+        device,
+        steps,
+        meanwhile,
+        sectors,
+    } = row;
+    let Device {
         blocks,
         endurance,
         brooms,
-        steps,
-        sectors,
-    } = row;
+    } = device;
     assert!(rt; brooms <= 2);
     let geometry = Geometry::new(1, blocks, 2, 1, 2, endurance, 2, brooms)?;
     let (volume, passes, brooms) = Volume::open(rt.alloc(), &geometry)?;
-    let (passes, done) = play::<R, Brand>(rt, &volume, passes, brooms, steps);
+    let (passes, done) = play::<R, Brand>(rt, &volume, passes, brooms, steps, meanwhile);
     assert!(rt; done == steps.len(), "{name}, step {done}");
     assert!(rt; !passes.is_empty(), "{name}");
     let closed = match volume.close(rt.alloc(), passes) {

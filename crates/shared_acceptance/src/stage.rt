@@ -7,11 +7,11 @@ use std::sync::Wait;
 
 /// A step of a row.
 #[derive(Clone, Copy)]
-pub(crate) enum Step<'a> {
+pub(crate) enum Step {
     /// A call, beside which nobody acts.
     By(Who, Call),
-    /// A call, and calls of others at a point of its gate: so many at each visit.
-    During(Who, Call, Point, usize, &'a [(Who, Call)]),
+    /// A call, and the row's calls of others at a point of its gate: so many at each visit.
+    During(Who, Call, Point, usize),
     /// Two hosts, two brooms, or one that holds a page and a broom.
     Meet(Who, Who),
     /// One that makes no more calls.
@@ -67,13 +67,12 @@ impl<'s, R: Wait, H: Home> Stage<'_, 's, R, H> {
     }
 
     /// One step.
-    pub(crate) fn step(&mut self, step: Step<'s>) {
+    pub(crate) fn step(&mut self, step: Step) {
         match step {
             Step::By(who, call) => self.call(who, call),
-            Step::During(who, call, point, each, calls) => {
+            Step::During(who, call, point, each) => {
                 self.point = point;
                 self.each = each;
-                self.calls = calls;
                 self.call_gated(who, call);
             }
             Step::Meet(first, second) => self.meet(first, second),

@@ -1,10 +1,36 @@
 //! Brooms that take turns over the queue of drained blocks, beside two hosts.
 use crate::calls::{Call, EMPTY, WRITTEN};
 use crate::cast::Who;
-use crate::playing_rows::{Row, check_row};
+use crate::playing_rows::{Device, Row, check_row};
 use crate::stage::Step;
 use broom::{Drain, Erase};
 use std::test::Fail;
+
+const ONE_BROOM: Device = Device {
+    blocks: 5,
+    endurance: 10,
+    brooms: 1,
+};
+
+const TWO_BROOMS: Device = Device {
+    blocks: 7,
+    endurance: 10,
+    brooms: 2,
+};
+
+// Each block may be erased once.
+const ONCE: Device = Device {
+    blocks: 5,
+    endurance: 1,
+    brooms: 1,
+};
+
+// Each block may be erased twice.
+const TWICE: Device = Device {
+    blocks: 5,
+    endurance: 2,
+    brooms: 1,
+};
 
 const DRAINS_ZERO: Call = Call::DrainOne(Drain::Drained {
     block: 0,
@@ -49,7 +75,7 @@ const PINNED: Call = Call::EraseOne(Erase::Pinned);
 const STALE: Call = Call::EraseOne(Erase::Stale);
 
 // The broom stands by the page that is held.
-const PUTS_A_HELD_BLOCK_BACK: [Step<'static>; 14] = [
+const PUTS_A_HELD_BLOCK_BACK: [Step; 14] = [
     Step::By(Who::A, Call::Write(0, 1, EMPTY)),
     Step::By(Who::A, Call::Write(1, 2, EMPTY)),
     Step::By(Who::B, Call::Hold(0, Some((0, 0)))),
@@ -66,7 +92,7 @@ const PUTS_A_HELD_BLOCK_BACK: [Step<'static>; 14] = [
     Step::By(Who::A, Call::Hold(0, Some((0, 1)))),
 ];
 
-const RETIRES_A_HELD_BLOCK: [Step<'static>; 14] = [
+const RETIRES_A_HELD_BLOCK: [Step; 14] = [
     Step::By(Who::A, Call::Write(0, 1, EMPTY)),
     Step::By(Who::A, Call::Write(1, 2, EMPTY)),
     Step::By(Who::B, Call::Hold(0, Some((0, 0)))),
@@ -84,7 +110,7 @@ const RETIRES_A_HELD_BLOCK: [Step<'static>; 14] = [
 ];
 
 // Block 0 stays, and the others wear out.
-const HOLDS_WHILE_OTHERS_WEAR_OUT: [Step<'static>; 46] = [
+const HOLDS_WHILE_OTHERS_WEAR_OUT: [Step; 46] = [
     Step::By(Who::A, Call::Write(0, 1, EMPTY)),
     Step::By(Who::A, Call::Write(1, 2, EMPTY)),
     Step::By(Who::B, Call::Hold(0, Some((0, 0)))),
@@ -150,7 +176,7 @@ const FREES_ONE: Call = Call::Erase(
 );
 
 // The second broom fills the queue, and erases the blocks beside it.
-const SETS_A_BLOCK_ASIDE: [Step<'static>; 38] = [
+const SETS_A_BLOCK_ASIDE: [Step; 38] = [
     Step::By(Who::A, Call::Write(0, 1, EMPTY)),
     Step::By(Who::A, Call::Write(1, 2, EMPTY)),
     Step::By(Who::A, Call::Write(0, 3, WRITTEN)),
@@ -191,49 +217,35 @@ const SETS_A_BLOCK_ASIDE: [Step<'static>; 38] = [
     Step::By(Who::First, STALE),
 ];
 
-fn of<'a>(
-    name: &'a str,
-    endurance: u32,
-    steps: &'a [Step<'a>],
-    sectors: [Option<u8>; 2],
-) -> Row<'a> {
-    Row {
-        name,
-        blocks: 5,
-        endurance,
-        brooms: 1,
-        steps,
-        sectors,
-    }
-}
-
 #[test]
 fn turns_over_the_queue_answer_as_the_rows_say(rt: HostRuntime) -> Result<(), Fail> {
     for row in [
-        of(
-            "a held block is put back until it is released",
-            10,
-            &PUTS_A_HELD_BLOCK_BACK,
-            [Some(5), Some(4)],
-        ),
-        of(
-            "a held block is retired once it is released",
-            1,
-            &RETIRES_A_HELD_BLOCK,
-            [Some(5), Some(4)],
-        ),
-        of(
-            "a hold that is not released keeps its block while others wear out",
-            2,
-            &HOLDS_WHILE_OTHERS_WEAR_OUT,
-            [Some(13), Some(12)],
-        ),
+        Row {
+            name: "a held block is put back until it is released",
+            device: ONE_BROOM,
+            steps: &PUTS_A_HELD_BLOCK_BACK,
+            meanwhile: &[],
+            sectors: [Some(5), Some(4)],
+        },
+        Row {
+            name: "a held block is retired once it is released",
+            device: ONCE,
+            steps: &RETIRES_A_HELD_BLOCK,
+            meanwhile: &[],
+            sectors: [Some(5), Some(4)],
+        },
+        Row {
+            name: "a hold that is not released keeps its block while others wear out",
+            device: TWICE,
+            steps: &HOLDS_WHILE_OTHERS_WEAR_OUT,
+            meanwhile: &[],
+            sectors: [Some(13), Some(12)],
+        },
         Row {
             name: "a block for which the queue has no room is set aside",
-            blocks: 7,
-            endurance: 10,
-            brooms: 2,
+            device: TWO_BROOMS,
             steps: &SETS_A_BLOCK_ASIDE,
+            meanwhile: &[],
             sectors: [Some(5), Some(6)],
         },
     ] {
