@@ -17,7 +17,7 @@ use std::sync::Wait;
 use volume::Volume;
 
 /// Which device it is.
-pub trait Home {
+pub(crate) trait Home {
     ghost home: { Option Volume };
 }
 
@@ -26,7 +26,7 @@ impl Home for Brand {
 }
 
 /// A host between two calls.
-pub struct Host<'a, H: Home> {
+pub(crate) struct Host<'a, H: Home> {
     pub volume: &'a Volume,
     pub pass: Pass,
     pub of: PhantomData<H>,
@@ -35,7 +35,7 @@ pub struct Host<'a, H: Home> {
 }
 
 impl<'a, H: Home> Host<'a, H> {
-    pub fn write<G: Gate>(&mut self, sector: u32, number: u64, gate: &mut G) -> Option<Was>
+    pub(crate) fn write<G: Gate>(&mut self, sector: u32, number: u64, gate: &mut G) -> Option<Was>
         requires { sector < 3 }
     {
         self.volume
@@ -44,7 +44,12 @@ impl<'a, H: Home> Host<'a, H> {
     }
 
     /// What the sector was, or nothing where no block is left.
-    pub fn write_new<G: Gate>(&mut self, sector: u32, number: u64, gate: &mut G) -> Option<Was>
+    pub(crate) fn write_new<G: Gate>(
+        &mut self,
+        sector: u32,
+        number: u64,
+        gate: &mut G,
+    ) -> Option<Was>
         requires { sector < 3 }
     {
         match self
@@ -57,13 +62,13 @@ impl<'a, H: Home> Host<'a, H> {
         }
     }
 
-    pub fn trim(&mut self, sector: u32) -> Was
+    pub(crate) fn trim(&mut self, sector: u32) -> Was
         requires { sector < 3 }
     {
         self.volume.trim(&mut self.pass, sector)
     }
 
-    pub fn read<G: Gate>(&mut self, sector: u32, gate: &mut G) -> Seen
+    pub(crate) fn read<G: Gate>(&mut self, sector: u32, gate: &mut G) -> Seen
         requires { sector < 3 }
     {
         let mut out = [99; BYTES];
@@ -78,7 +83,7 @@ impl<'a, H: Home> Host<'a, H> {
     }
 
     /// Holds the page of a sector, which has this number.
-    pub fn hold(self, sector: u32, number: u64) -> Actor<'a, H>
+    pub(crate) fn hold(self, sector: u32, number: u64) -> Actor<'a, H>
         requires { sector < 3 }
     {
         let Host { volume, pass, of } = self;
@@ -94,7 +99,7 @@ impl<'a, H: Home> Host<'a, H> {
     }
 
     /// The block of a sector's page, or nothing for an empty sector. The page is held only for a moment.
-    pub fn find(self, sector: u32) -> (Host<'a, H>, Option<u32>)
+    pub(crate) fn find(self, sector: u32) -> (Host<'a, H>, Option<u32>)
         requires { sector < 3 }
     {
         let Host { volume, pass, of } = self;
@@ -109,7 +114,7 @@ impl<'a, H: Home> Host<'a, H> {
     }
 
     /// How many sectors have their page in each block.
-    pub fn count_live(self) -> (Host<'a, H>, [u32; 10]) {
+    pub(crate) fn count_live(self) -> (Host<'a, H>, [u32; 10]) {
         let mut host = self;
         let mut counts = [0u32; 10];
         for sector in 0..SECTORS {
@@ -143,7 +148,7 @@ impl<'a, H: Home> Host<'a, H> {
 }
 
 /// A host that holds the page of a number.
-pub struct Holder<'a, H: Home> {
+pub(crate) struct Holder<'a, H: Home> {
     pub volume: &'a Volume,
     pub held: Held,
     pub number: u64,
@@ -154,13 +159,13 @@ pub struct Holder<'a, H: Home> {
 
 impl<'a, H: Home> Holder<'a, H> {
     /// Whether the page that is held is that of the number.
-    pub fn is_kept(&mut self) -> bool {
+    pub(crate) fn is_kept(&mut self) -> bool {
         let mut out = [99; BYTES];
         self.volume.copy_into(&mut self.held, &mut out);
         out == page(self.number)
     }
 
-    pub fn release(self) -> Host<'a, H> {
+    pub(crate) fn release(self) -> Host<'a, H> {
         let Holder {
             volume,
             held,
@@ -202,7 +207,7 @@ impl<'a, H: Home> Holder<'a, H> {
 }
 
 /// A broom between two calls.
-pub struct Sweeper<'a, H: Home> {
+pub(crate) struct Sweeper<'a, H: Home> {
     pub volume: &'a Volume,
     pub broom: Broom,
     pub of: PhantomData<H>,
@@ -211,21 +216,21 @@ pub struct Sweeper<'a, H: Home> {
 }
 
 impl<'a, H: Home> Sweeper<'a, H> {
-    pub fn drain<G: Gate>(&mut self, gate: &mut G) -> Drain {
+    pub(crate) fn drain<G: Gate>(&mut self, gate: &mut G) -> Drain {
         self.volume.drain(&mut self.broom, gate)
     }
 
-    pub fn drain_one<G: Gate>(&mut self, rt: &impl Wait, gate: &mut G) -> Drain {
+    pub(crate) fn drain_one<G: Gate>(&mut self, rt: &impl Wait, gate: &mut G) -> Drain {
         self.volume.drain_one(rt, &mut self.broom, gate)
     }
 
-    pub fn erase<G: Gate>(&mut self, block: u32, gate: &mut G) -> Erase
+    pub(crate) fn erase<G: Gate>(&mut self, block: u32, gate: &mut G) -> Erase
         requires { block < 10 }
     {
         self.volume.erase(&mut self.broom, block, gate)
     }
 
-    pub fn erase_one<G: Gate>(&mut self, rt: &impl Wait, gate: &mut G) -> Erase {
+    pub(crate) fn erase_one<G: Gate>(&mut self, rt: &impl Wait, gate: &mut G) -> Erase {
         self.volume.erase_one(rt, &mut self.broom, gate)
     }
 
@@ -248,7 +253,7 @@ impl<'a, H: Home> Sweeper<'a, H> {
 }
 
 /// Who takes part in a schedule.
-pub enum Actor<'a, H: Home> {
+pub(crate) enum Actor<'a, H: Home> {
     Host(Host<'a, H>),
     Holder(Holder<'a, H>),
     Sweeper(Sweeper<'a, H>),
@@ -256,7 +261,7 @@ pub enum Actor<'a, H: Home> {
 
 impl<'a, H: Home> Actor<'a, H> {
     /// Two hosts, two brooms, or a page that is held and a broom; others don't meet.
-    pub fn meet(self, other: Actor<'a, H>) -> (Actor<'a, H>, Actor<'a, H>) {
+    pub(crate) fn meet(self, other: Actor<'a, H>) -> (Actor<'a, H>, Actor<'a, H>) {
         match self {
             Actor::Host(host) => host.meet_one(other),
             Actor::Holder(holder) => holder.meet_one(other),
@@ -265,7 +270,7 @@ impl<'a, H: Home> Actor<'a, H> {
     }
 
     /// The actor makes no more steps.
-    pub fn leave(self) {
+    pub(crate) fn leave(self) {
         match self {
             Actor::Host(host) => {
                 let Host {

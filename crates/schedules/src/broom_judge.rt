@@ -17,7 +17,7 @@ struct Kit {
 
 /// What a call of a broom begins with.
 #[derive(Clone, Copy)]
-pub struct Start {
+pub(crate) struct Start {
     /// The block that is to be erased, if it is an erase and there is one.
     pub block: Option<u32>,
     was_drained: bool,
@@ -27,7 +27,7 @@ pub struct Start {
 
 impl Start {
     /// Of a call that erases nothing.
-    pub fn none() -> Start {
+    pub(crate) fn none() -> Start {
         Start {
             block: None,
             was_drained: false,
@@ -38,7 +38,7 @@ impl Start {
 
 /// What is known of a broom's call beside its answer.
 #[derive(Clone, Copy)]
-pub struct Course {
+pub(crate) struct Course {
     pub start: Start,
     /// How many pages it tried to move.
     pub moves: u32,
@@ -48,7 +48,7 @@ pub struct Course {
 
 /// The brooms, as far as their answers show them, and which blocks are drained.
 #[derive(Drop)]
-pub struct BroomJudge {
+pub(crate) struct BroomJudge {
     kits: [Kit; 2],
     queue: ArrayVec<u32, 10>,
     drained: [bool; 10],
@@ -59,7 +59,7 @@ pub struct BroomJudge {
 
 impl BroomJudge {
     /// Two brooms of a device that is not used yet, with blocks of so many pages.
-    pub fn new(pages: u32) -> BroomJudge {
+    pub(crate) fn new(pages: u32) -> BroomJudge {
         let kit = Kit {
             has_spare: true,
             room: 0,
@@ -79,7 +79,7 @@ impl BroomJudge {
     }
 
     /// The first block that is drained, or else this one.
-    pub fn drained_or(&self, block: u32) -> u32
+    pub(crate) fn drained_or(&self, block: u32) -> u32
         requires { block < 10 }
         ensures { result < 10 }
     {
@@ -141,7 +141,7 @@ impl BroomJudge {
     }
 
     /// A call begins.
-    pub fn begin(&mut self, broom: usize, call: Call) -> Start
+    pub(crate) fn begin(&mut self, broom: usize, call: Call) -> Start
         requires { broom < 2 }
     {
         let block = match call.kind {
@@ -183,7 +183,7 @@ impl BroomJudge {
     }
 
     /// A drain has answered.
-    pub fn drain(&mut self, broom: usize, call: Call, course: Course, drain: Drain)
+    pub(crate) fn drain(&mut self, broom: usize, call: Call, course: Course, drain: Drain)
         requires { broom < 2 }
     {
         let is_stuck = course.start.is_stuck;
@@ -203,7 +203,7 @@ impl BroomJudge {
     }
 
     /// An erase has answered.
-    pub fn erase(&mut self, broom: usize, call: Call, course: Course, erase: Erase)
+    pub(crate) fn erase(&mut self, broom: usize, call: Call, course: Course, erase: Erase)
         requires { broom < 2 }
     {
         let start = course.start;

@@ -10,7 +10,7 @@ use std::sync::Wait;
 
 /// What is drawn for a call: which one it is of twenty, its sector or block, and the number that a write writes.
 #[derive(Clone, Copy)]
-pub struct Call {
+pub(crate) struct Call {
     pub kind: u32,
     pub sector: u32,
     pub block: u32,
@@ -21,7 +21,7 @@ pub struct Call {
 
 /// What a call answered.
 #[derive(Clone, Copy)]
-pub enum Done {
+pub(crate) enum Done {
     Wrote(Option<Was>),
     WroteNew(Option<Was>),
     Trimmed(Was),
@@ -94,7 +94,7 @@ fn broom_call<H: Home, G: Gate>(
 }
 
 /// One call of an actor.
-pub fn act<'a, H: Home, G: Gate>(
+pub(crate) fn act<'a, H: Home, G: Gate>(
     actor: Actor<'a, H>,
     rt: &impl Wait,
     call: Call,

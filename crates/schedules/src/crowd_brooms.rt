@@ -11,10 +11,10 @@ use std::marker::PhantomData;
 use std::sync::Wait;
 use volume::Volume;
 
-pub const BLOCKS: u32 = 128;
+pub(crate) const BLOCKS: u32 = 128;
 
 /// A broom of a crowd, and what it has answered. It hands its blocks on by the queue, or names the blocks that it erases.
-pub struct CrowdBroom<'a, H: Home> {
+pub(crate) struct CrowdBroom<'a, H: Home> {
     pub volume: &'a Volume,
     pub broom: Broom,
     pub has_queue: bool,
@@ -39,7 +39,7 @@ impl<H: Home> Drop for CrowdBroom<'_, H> {
 
 impl<H: Home> CrowdBroom<'_, H> {
     /// Drains and erases so often.
-    pub fn work(&mut self, rt: &impl Wait, turns: u32) {
+    pub(crate) fn work(&mut self, rt: &impl Wait, turns: u32) {
         for turn in 0..turns {
             if self.has_queue {
                 self.take_turn(rt);
@@ -66,7 +66,7 @@ impl<H: Home> CrowdBroom<'_, H> {
     }
 
     /// The broom is given up, and tells what it did.
-    pub fn end(self, rt: &impl Wait) -> BroomCalls {
+    pub(crate) fn end(self, rt: &impl Wait) -> BroomCalls {
         let CrowdBroom {
             volume,
             broom,

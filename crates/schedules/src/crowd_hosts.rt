@@ -15,7 +15,7 @@ use std::marker::PhantomData;
 use volume::Volume;
 
 /// A host between two calls.
-pub struct Free<'a, H: Home> {
+pub(crate) struct Free<'a, H: Home> {
     pub volume: &'a Volume,
     pub pass: Pass,
     pub of: PhantomData<H>,
@@ -35,7 +35,7 @@ impl<H: Home> Drop for Free<'_, H> {
 }
 
 /// A host that holds a page, with the bytes that it found there first.
-pub struct Holder<'a, H: Home> {
+pub(crate) struct Holder<'a, H: Home> {
     pub volume: &'a Volume,
     pub held: Held,
     pub bytes: [u8; BYTES],
@@ -52,14 +52,14 @@ impl<H: Home> Drop for Holder<'_, H> {
 
 /// What a host does between two calls.
 #[derive(Drop)]
-pub enum Place<'a, H: Home> {
+pub(crate) enum Place<'a, H: Home> {
     Free(Free<'a, H>),
     Holder(Holder<'a, H>),
 }
 
 impl<'a, H: Home> Free<'a, H> {
     /// The pass of a host that makes no more calls.
-    pub fn into_pass(self, volume: &Volume) -> Pass
+    pub(crate) fn into_pass(self, volume: &Volume) -> Pass
         requires { IsCrowded H.home volume.now }
         ensures { IsReady (flash_of volume.now) result }
     {
@@ -185,7 +185,7 @@ impl<'a, H: Home> Place<'a, H> {
     }
 
     /// A host that holds nothing.
-    pub fn freed(self) -> Free<'a, H> {
+    pub(crate) fn freed(self) -> Free<'a, H> {
         match self {
             Place::Free(host) => host,
             Place::Holder(holder) => holder.release(),
@@ -195,14 +195,14 @@ impl<'a, H: Home> Place<'a, H> {
 
 /// A host of a crowd. Its place is empty only while it is inside a call.
 #[derive(Drop)]
-pub struct CrowdHost<'a, H: Home> {
+pub(crate) struct CrowdHost<'a, H: Home> {
     pub place: Option<Place<'a, H>>,
     pub notes: Notes,
 }
 
 impl<'a, H: Home> CrowdHost<'a, H> {
     /// So many calls.
-    pub fn work(&mut self, calls: u32) {
+    pub(crate) fn work(&mut self, calls: u32) {
         for _ in 0..calls {
             let Some(place) = self.place.take() else {
                 return self.notes.expect(false);
@@ -212,7 +212,7 @@ impl<'a, H: Home> CrowdHost<'a, H> {
     }
 
     /// The host makes no more calls: who holds nothing, and what it knows.
-    pub fn end(self) -> (Option<Free<'a, H>>, Notes) {
+    pub(crate) fn end(self) -> (Option<Free<'a, H>>, Notes) {
         let CrowdHost { place, notes } = self;
         match place {
             Some(place) => (Some(place.freed()), notes),

@@ -8,7 +8,7 @@ use geometry::Was;
 /// A host's number, what it knows of each sector, and how often it tried to write and was not refused. Sector 0 is written by host 0
 /// alone, 1 by host 1, 2 by host 2, and the others by all.
 #[derive(Drop)]
-pub struct Notes {
+pub(crate) struct Notes {
     pub host: u32,
     pub known: [Known; 6],
     pub draws: Draws,
@@ -21,7 +21,7 @@ pub struct Notes {
 }
 
 impl Notes {
-    pub fn new(host: u32) -> Notes
+    pub(crate) fn new(host: u32) -> Notes
         requires { host < 3 }
     {
         Notes {
@@ -36,12 +36,12 @@ impl Notes {
     }
 
     /// Something that was to hold of an answer.
-    pub fn expect(&mut self, holds: bool) {
+    pub(crate) fn expect(&mut self, holds: bool) {
         self.right = self.right && holds;
     }
 
     /// A sector that the host writes: its own, or one that all write.
-    pub fn draw_target(&mut self) -> u32
+    pub(crate) fn draw_target(&mut self) -> u32
         ensures { result < 6 }
     {
         let sector = self.draws.below(SECTORS);
@@ -49,7 +49,7 @@ impl Notes {
     }
 
     /// What the host writes to a sector next.
-    pub fn next(&mut self, sector: u32) -> Value
+    pub(crate) fn next(&mut self, sector: u32) -> Value
         requires { sector < 6 }
     {
         self.tried = self.tried.wrapping_add(1);
@@ -66,7 +66,7 @@ impl Notes {
     }
 
     /// The sector was found with this value, or empty. One that nobody else writes has just what was written last.
-    pub fn find(&mut self, sector: u32, found: Option<Value>)
+    pub(crate) fn find(&mut self, sector: u32, found: Option<Value>)
         requires { sector < 6 }
     {
         let known = &mut self.known[sector as usize];
@@ -79,7 +79,7 @@ impl Notes {
     }
 
     /// The same, of a page.
-    pub fn find_page(&mut self, sector: u32, page: &[u8])
+    pub(crate) fn find_page(&mut self, sector: u32, page: &[u8])
         requires { sector < 6 }
     {
         let found = value_of(sector, page);
@@ -88,7 +88,7 @@ impl Notes {
     }
 
     /// A call found whether the sector is written.
-    pub fn find_was(&mut self, sector: u32, was: Was)
+    pub(crate) fn find_was(&mut self, sector: u32, was: Was)
         requires { sector < 6 }
     {
         let is_written = self.known[sector as usize].last.is_some();
@@ -97,7 +97,7 @@ impl Notes {
     }
 
     /// The host has changed the sector, which was so before.
-    pub fn change(&mut self, sector: u32, was: Was, value: Option<Value>)
+    pub(crate) fn change(&mut self, sector: u32, was: Was, value: Option<Value>)
         requires { sector < 6 }
     {
         self.find_was(sector, was);
@@ -106,7 +106,7 @@ impl Notes {
     }
 
     /// Whether this host has found no value that the other one didn't write.
-    pub fn agrees_with(&self, other: &Notes) -> bool {
+    pub(crate) fn agrees_with(&self, other: &Notes) -> bool {
         let writer = other.host as usize;
         for sector in 0..6 {
             if self.known[sector].newest[writer] > other.known[sector].newest[writer] {

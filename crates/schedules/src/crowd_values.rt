@@ -3,23 +3,23 @@ ghost use Rattle.std.specs.Prelude.{◌<◌};
 
 use geometry::{put_word, word_at};
 
-pub const HOSTS: u32 = 3;
+pub(crate) const HOSTS: u32 = 3;
 
-pub const SECTORS: u32 = 6;
+pub(crate) const SECTORS: u32 = 6;
 
-pub const BYTES: usize = 32;
+pub(crate) const BYTES: usize = 32;
 
 const WORDS: usize = 4;
 
 /// A host's write to a sector: the host, and the number of the write among those that it made to that sector.
 #[derive(Clone, Copy, Debug, PartialEq, Eq)]
-pub struct Value {
+pub(crate) struct Value {
     pub writer: u32,
     pub number: u32,
 }
 
 /// The page of a value. Each of its words has the writer, the sector and the number, so that a torn page shows.
-pub fn page(sector: u32, value: Value) -> [u8; BYTES] {
+pub(crate) fn page(sector: u32, value: Value) -> [u8; BYTES] {
     let word = u64::from(value.writer) << 40 | u64::from(sector) << 32 | u64::from(value.number);
     let mut page = [0; BYTES];
     for i in 0..WORDS {
@@ -29,7 +29,7 @@ pub fn page(sector: u32, value: Value) -> [u8; BYTES] {
 }
 
 /// The value of a page that was found in a sector, if a host writes such a page there.
-pub fn value_of(sector: u32, found: &[u8]) -> Option<Value> {
+pub(crate) fn value_of(sector: u32, found: &[u8]) -> Option<Value> {
     if found.len() != BYTES {
         return None;
     }
@@ -49,14 +49,14 @@ pub fn value_of(sector: u32, found: &[u8]) -> Option<Value> {
 
 /// What a host has found or written in a sector last, and of each writer the highest number that it has found or written there.
 #[derive(Clone, Copy, Debug)]
-pub struct Known {
+pub(crate) struct Known {
     pub last: Option<Value>,
     pub newest: [u32; 3],
 }
 
 impl Known {
     /// Of a sector that is empty and was never read.
-    pub fn new() -> Known {
+    pub(crate) fn new() -> Known {
         Known {
             last: None,
             newest: [0; 3],
@@ -64,7 +64,7 @@ impl Known {
     }
 
     /// Takes in what was found, and says whether that can be: it is what was known last, or newer than all that is known of its writer.
-    pub fn find(&mut self, found: Option<Value>) -> bool {
+    pub(crate) fn find(&mut self, found: Option<Value>) -> bool {
         let can_be = match found {
             Some(value) if self.last != found => self.raise(value),
             _ => true,

@@ -3,16 +3,16 @@ ghost use Rattle.std.specs.Prelude.{◌<◌};
 
 /// A linear congruential generator with the factor and the increment of Knuth's MMIX; the upper bits are drawn.
 #[derive(Clone, Copy)]
-pub struct Draws {
+pub(crate) struct Draws {
     state: u64,
 }
 
 impl Draws {
-    pub fn new(seed: u64) -> Draws {
+    pub(crate) fn new(seed: u64) -> Draws {
         Draws { state: seed }
     }
 
-    pub fn below(&mut self, limit: u32) -> u32
+    pub(crate) fn below(&mut self, limit: u32) -> u32
         requires { 0 < limit }
         ensures { result < limit }
     {
@@ -24,7 +24,7 @@ impl Draws {
     }
 
     /// How many calls are made at a gate: mostly few, and now and then so many that blocks are drained and erased.
-    pub fn burst(&mut self) -> u32 {
+    pub(crate) fn burst(&mut self) -> u32 {
         match self.below(8) {
             0 => 10,
             1 | 2 => 2,

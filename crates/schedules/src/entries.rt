@@ -13,7 +13,10 @@ use std::sync::Wait;
 use volume::Volume;
 
 /// The host of the last pass, if there is one.
-pub fn next_host<'a, H: Home>(volume: &'a Volume, passes: &mut Vec<Pass>) -> Option<Actor<'a, H>>
+pub(crate) fn next_host<'a, H: Home>(
+    volume: &'a Volume,
+    passes: &mut Vec<Pass>,
+) -> Option<Actor<'a, H>>
     requires home { IsHome H.home volume.now }
     requires ready { All (IsReady (flash_of volume.now)) passes.old.items }
     ensures count { length passes.new.items ≡ length passes.old.items - 1 }
@@ -29,7 +32,10 @@ pub fn next_host<'a, H: Home>(volume: &'a Volume, passes: &mut Vec<Pass>) -> Opt
 }
 
 /// The last broom, if there is one.
-pub fn next_broom<'a, H: Home>(volume: &'a Volume, brooms: &mut Vec<Broom>) -> Option<Actor<'a, H>>
+pub(crate) fn next_broom<'a, H: Home>(
+    volume: &'a Volume,
+    brooms: &mut Vec<Broom>,
+) -> Option<Actor<'a, H>>
     requires home { IsHome H.home volume.now }
     requires ready { All (IsBroomReady volume.now) brooms.old.items }
     ensures count { length brooms.new.items ≡ length brooms.old.items - 1 }
@@ -44,7 +50,11 @@ pub fn next_broom<'a, H: Home>(volume: &'a Volume, brooms: &mut Vec<Broom>) -> O
 }
 
 /// A host gives its pass back.
-pub fn give_back<H: Home>(volume: &Volume, actor: Option<Actor<'_, H>>, passes: &mut Vec<Pass>)
+pub(crate) fn give_back<H: Home>(
+    volume: &Volume,
+    actor: Option<Actor<'_, H>>,
+    passes: &mut Vec<Pass>,
+)
     requires home { IsHome H.home volume.now }
     requires room { length passes.old.items < vec_capacity passes.old }
     requires ready { All (IsReady (flash_of volume.now)) passes.old.items }
@@ -72,7 +82,7 @@ pub fn give_back<H: Home>(volume: &Volume, actor: Option<Actor<'_, H>>, passes: 
 }
 
 /// A broom is given up.
-pub fn fold<H: Home>(rt: &impl Wait, actor: Option<Actor<'_, H>>) {
+pub(crate) fn fold<H: Home>(rt: &impl Wait, actor: Option<Actor<'_, H>>) {
     match actor {
         Some(Actor::Sweeper(sweeper)) => {
             let Sweeper {

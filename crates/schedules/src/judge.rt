@@ -4,14 +4,14 @@ ghost use Rattle.std.specs.Prelude.{◌<◌};
 use broom::{Drain, Erase};
 use geometry::{Got, Was, put_word};
 
-pub const SECTORS: u32 = 3;
+pub(crate) const SECTORS: u32 = 3;
 
-pub const BLOCKS: u32 = 10;
+pub(crate) const BLOCKS: u32 = 10;
 
-pub const BYTES: usize = 16;
+pub(crate) const BYTES: usize = 16;
 
 /// The page of a number: no two pages that are written have a word in common.
-pub fn page(number: u64) -> [u8; BYTES] {
+pub(crate) fn page(number: u64) -> [u8; BYTES] {
     let mut page = [0; BYTES];
     put_word(&mut page, 0, number);
     put_word(&mut page, 1, !number);
@@ -20,14 +20,14 @@ pub fn page(number: u64) -> [u8; BYTES] {
 
 /// What a read answers, with its buffer, in which all bytes were 99.
 #[derive(Clone, Copy, Debug, PartialEq, Eq)]
-pub struct Seen {
+pub(crate) struct Seen {
     pub got: Got,
     pub out: [u8; BYTES],
     pub tries: u64,
 }
 
 /// The numbers that the sectors hold, 0 for an empty one.
-pub type Numbers = [u64; 3];
+pub(crate) type Numbers = [u64; 3];
 
 /// What is to be read of a sector after so many looks, where the last one came upon these numbers.
 fn wanted(numbers: &Numbers, sector: u32, tries: u64) -> Seen
@@ -41,10 +41,26 @@ fn wanted(numbers: &Numbers, sector: u32, tries: u64) -> Seen
     Seen { got, out, tries }
 }
 
+/// Whether the sectors of a closed device hold these numbers.
+pub(crate) fn hold(sectors: &[Option<Vec<u8>>], numbers: &Numbers) -> bool {
+    for sector in 0..3 {
+        let number = numbers[sector];
+        let is_held = match sectors.get(sector) {
+            Some(Some(bytes)) => number != 0 && bytes.as_slice() == page(number).as_slice(),
+            Some(None) => number == 0,
+            None => false,
+        };
+        if !is_held {
+            return false;
+        }
+    }
+    true
+}
+
 /// The array as it is to be, and the number that was written last. Of each block, how often it was erased, and whether it is retired; of
 /// each actor, the block that it holds.
 #[derive(Clone, Copy)]
-pub struct Judge {
+pub(crate) struct Judge {
     pub numbers: Numbers,
     last: u64,
     endurance: u32,
@@ -59,7 +75,7 @@ pub struct Judge {
 }
 
 impl Judge {
-    pub fn new(endurance: u32) -> Judge {
+    pub(crate) fn new(endurance: u32) -> Judge {
         Judge {
             numbers: [0; 3],
             last: 0,
@@ -74,13 +90,13 @@ impl Judge {
     }
 
     /// A number that was never written.
-    pub fn fresh(&mut self) -> u64 {
+    pub(crate) fn fresh(&mut self) -> u64 {
         self.last = self.last.wrapping_add(1);
         self.last
     }
 
     /// Something that was to hold of an answer.
-    pub fn expect(&mut self, holds: bool) {
+    pub(crate) fn expect(&mut self, holds: bool) {
         self.right = self.right && holds;
     }
 
@@ -94,7 +110,7 @@ impl Judge {
     }
 
     /// A write or a trim, which writes 0, has answered what the sector was.
-    pub fn put(&mut self, sector: u32, number: u64, was: Was)
+    pub(crate) fn put(&mut self, sector: u32, number: u64, was: Was)
         requires { sector < 3 }
     {
         self.expect(was == self.was(sector));
@@ -102,7 +118,7 @@ impl Judge {
     }
 
     /// A write of an empty sector has answered what the sector was.
-    pub fn put_new(&mut self, sector: u32, number: u64, was: Was)
+    pub(crate) fn put_new(&mut self, sector: u32, number: u64, was: Was)
         requires { sector < 3 }
     {
         self.expect(was == self.was(sector));
@@ -112,14 +128,14 @@ impl Judge {
     }
 
     /// A read has answered, after so many looks, of which the last came upon these numbers.
-    pub fn read(&mut self, sector: u32, seen: Seen, looks: u64, numbers: &Numbers)
+    pub(crate) fn read(&mut self, sector: u32, seen: Seen, looks: u64, numbers: &Numbers)
         requires { sector < 3 }
     {
         self.expect(seen == wanted(numbers, sector, looks));
     }
 
     /// A hold found a page in this generation of a block, and it is the one of the sector's number or not.
-    pub fn hold(&mut self, sector: u32, block: u32, generation: u32, is_kept: bool)
+    pub(crate) fn hold(&mut self, sector: u32, block: u32, generation: u32, is_kept: bool)
         requires { sector < 3 }
     {
         self.expect(is_kept && self.was(sector) == Was::Written);
@@ -127,14 +143,14 @@ impl Judge {
     }
 
     /// A hold found the sector empty.
-    pub fn hold_empty(&mut self, sector: u32)
+    pub(crate) fn hold_empty(&mut self, sector: u32)
         requires { sector < 3 }
     {
         self.expect(self.was(sector) == Was::Empty);
     }
 
     /// A host has programmed a page. The answer is whether its block is full by that.
-    pub fn program(&mut self, host: usize, pages: u32) -> bool
+    pub(crate) fn program(&mut self, host: usize, pages: u32) -> bool
         requires { host < 3 }
     {
         let programmed = self.programmed[host].wrapping_add(1);
@@ -143,7 +159,7 @@ impl Judge {
     }
 
     /// The page that a host has written last was found in this block, which is full by it, and so it is closed.
-    pub fn fill(&mut self, found: Option<u32>) {
+    pub(crate) fn fill(&mut self, found: Option<u32>) {
         let Some(block) = found else {
             self.right = false;
             return;
@@ -153,13 +169,13 @@ impl Judge {
     }
 
     /// Whether a page of this block is held.
-    pub fn is_held(&self, block: Option<u32>) -> bool {
+    pub(crate) fn is_held(&self, block: Option<u32>) -> bool {
         let [a, b, c] = self.held;
         block.is_some() && (a == block || b == block || c == block)
     }
 
     /// A drain has answered. A block that is retired is never drained.
-    pub fn drain(&mut self, drain: Drain, pages: u32) {
+    pub(crate) fn drain(&mut self, drain: Drain, pages: u32) {
         if let Drain::Drained { block, copied } = drain {
             self.expect(block < BLOCKS && !self.retired[(block % BLOCKS) as usize]);
             self.expect(copied < pages);
@@ -168,14 +184,14 @@ impl Judge {
     }
 
     /// A drain found nothing to gain, where each block has so many live pages: no closed block has a dead one.
-    pub fn gain_nothing(&mut self, live: &[u32; 10], pages: u32) {
+    pub(crate) fn gain_nothing(&mut self, live: &[u32; 10], pages: u32) {
         for block in 0..10 {
             self.expect(!self.full[block] || live[block] == pages);
         }
     }
 
     /// An erase has answered. A block that is held is not erased, and the last of its erases retires it.
-    pub fn erase(&mut self, erase: Erase) {
+    pub(crate) fn erase(&mut self, erase: Erase) {
         let (block, retires) = match erase {
             Erase::Erased { block, kept: _ } => (block, false),
             Erase::Retired { block } => (block, true),

@@ -16,7 +16,7 @@ use std::sync::Wait;
 
 /// How often a call has looked, and the numbers that the sectors held when it looked last.
 #[derive(Clone, Copy)]
-pub struct Looks {
+pub(crate) struct Looks {
     pub count: u64,
     pub numbers: Numbers,
     /// How often it stood before a move of a page.
@@ -24,7 +24,7 @@ pub struct Looks {
 }
 
 impl Looks {
-    pub fn none() -> Looks {
+    pub(crate) fn none() -> Looks {
         Looks {
             count: 0,
             numbers: [0; 3],
@@ -64,7 +64,7 @@ fn broom_of(k: u32) -> usize
 }
 
 /// The actors that are inside no call, the judge, and what the innermost gated call has looked at.
-pub struct Stage<'a, R: Wait, H: Home> {
+pub(crate) struct Stage<'a, R: Wait, H: Home> {
     pub rt: &'a R,
     pub cast: Cast<'a, H>,
     pub draws: Draws,
@@ -324,7 +324,7 @@ impl<R: Wait, H: Home> Gate for Stage<'_, R, H> {
 }
 
 /// The stage, while an actor is inside a call, with what this call has looked at.
-pub struct Nested<'a, R: Wait, H: Home> {
+pub(crate) struct Nested<'a, R: Wait, H: Home> {
     pub stage: Stage<'a, R, H>,
     pub looks: Looks,
 }
@@ -344,7 +344,7 @@ impl<'a, R: Wait, H: Home> Nested<'a, R, H> {
     }
 
     /// One call that is gated by all of this.
-    pub fn step(&mut self) {
+    pub(crate) fn step(&mut self) {
         let Some((actor, begun)) = self.stage.begin() else {
             return;
         };

@@ -4,7 +4,7 @@ use flash_table::Point;
 
 /// How often a call stopped at each point of its gate.
 #[derive(Clone, Copy, Debug, Default)]
-pub struct Stops {
+pub(crate) struct Stops {
     pub after_look: u64,
     pub after_pin: u64,
     pub before_place: u64,
@@ -14,7 +14,7 @@ pub struct Stops {
 }
 
 impl Stops {
-    pub fn note(&mut self, point: Point) {
+    pub(crate) fn note(&mut self, point: Point) {
         match point {
             Point::AfterLook => self.after_look = self.after_look.wrapping_add(1),
             Point::AfterPin => self.after_pin = self.after_pin.wrapping_add(1),
@@ -27,7 +27,7 @@ impl Stops {
     }
 
     /// Whether each point was reached.
-    pub fn are_all_reached(&self) -> bool {
+    pub(crate) fn are_all_reached(&self) -> bool {
         self.after_look > 0
             && self.after_pin > 0
             && self.before_place > 0
@@ -39,7 +39,7 @@ impl Stops {
 
 /// What the hosts did.
 #[derive(Clone, Copy, Debug, Default)]
-pub struct HostCalls {
+pub(crate) struct HostCalls {
     pub writes: u64,
     pub full: u64,
     pub reads: u64,
@@ -51,7 +51,7 @@ pub struct HostCalls {
 
 impl HostCalls {
     /// Whether a host wrote, was refused, read at a second look, held, looked at what it held, and met another one.
-    pub fn did_all(&self) -> bool {
+    pub(crate) fn did_all(&self) -> bool {
         self.writes > self.full
             && self.full > 0
             && self.late_reads > 0
@@ -63,7 +63,7 @@ impl HostCalls {
 
 /// What the brooms answered.
 #[derive(Clone, Copy, Debug, Default)]
-pub struct BroomCalls {
+pub(crate) struct BroomCalls {
     pub drained: u64,
     pub copied: u64,
     pub nothing_to_gain: u64,
@@ -81,7 +81,7 @@ pub struct BroomCalls {
 
 impl BroomCalls {
     /// Whether each answer was given, and nothing to gain was judged by the live pages.
-    pub fn gave_all(&self) -> bool {
+    pub(crate) fn gave_all(&self) -> bool {
         self.has_drained() && self.has_erased()
     }
 
@@ -104,7 +104,7 @@ impl BroomCalls {
             && self.queue_empty > 0
     }
 
-    pub fn note_drain(&mut self, drain: Drain) {
+    pub(crate) fn note_drain(&mut self, drain: Drain) {
         match drain {
             Drain::Drained { block: _, copied } => {
                 self.drained = self.drained.wrapping_add(1);
@@ -117,7 +117,7 @@ impl BroomCalls {
         }
     }
 
-    pub fn note_erase(&mut self, erase: Erase) {
+    pub(crate) fn note_erase(&mut self, erase: Erase) {
         match erase {
             Erase::Erased { block: _, kept } => {
                 self.erased = self.erased.wrapping_add(1);
@@ -133,7 +133,7 @@ impl BroomCalls {
 
 /// All that happened.
 #[derive(Clone, Copy, Debug, Default)]
-pub struct Tally {
+pub(crate) struct Tally {
     pub calls: u64,
     pub stops: Stops,
     pub hosts: HostCalls,

@@ -1,4 +1,4 @@
--- The one device of a row, and what is held there.
+-- The one device of a row, and what is held there; a seat of a broom at rest.
 use Rattle.std.specs.Prelude.{◌≡◌, ℕ, Option, List, [], Some}
 use Rattle.std.proofs.Props.{props}
 use Rattle.geometry.specs.Geometry.{sectors_of, page_bytes_of, words_of}
@@ -6,6 +6,9 @@ use Rattle.flash_rule.specs.declared.facts.Pin.{Pin}
 use Rattle.flash_rule.specs.declared.facts.Pin.TheVariants as pin
 use Rattle.flash_table.specs.declared.flash.Flash.{Flash}
 use Rattle.flash_table.specs.Flash.{view_of, geometry_of}
+use Rattle.flash_table.specs.declared.broom_seat.BroomSeat.{BroomSeat}
+use Rattle.broom.specs.Once.{number-prop, filed-prop}
+use Rattle.broom.specs.Ready.{IsRested}
 use Rattle.host.specs.declared.holding.Held.{Held}
 use Rattle.host.specs.Holding.{Holds, pass_of}
 use Rattle.volume.specs.declared.volume.Volume.{Volume}
@@ -30,3 +33,7 @@ IsHome home v =
 -- that this value is held is a fact that has one proof at most, so that a struct can keep it beside its hold
 pub Holds-prop : (f : Flash) (h : Held) (value : List ℕ) → IsProp (Holds f h value)
 Holds-prop f h value = hlevel props
+
+-- that a broom's seat rests is a fact that has one proof at most, so that a struct can keep it beside its seat
+pub IsRested-prop : (f : Flash) (s : BroomSeat) → IsProp (IsRested f s)
+IsRested-prop f s = hlevel (props, number-prop, filed-prop)

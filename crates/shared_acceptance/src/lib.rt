@@ -1,5 +1,5 @@
-//! Tests of the shared device's public calls: rows of calls with their answers, and crowds in real threads. They stand
-//! in a crate of their own, since a crate with tests is proved twice.
+//! Tests of the shared device's public calls: rows of calls with their answers, the words of its table after each call, and
+//! crowds in real threads. They stand in a crate of their own, since a crate with tests is proved twice.
 #![tactic(auto)]
 
 #[cfg(test)]
@@ -40,3 +40,5 @@ mod sizes;
 mod stage;
 #[cfg(test)]
 mod turn_rows;
+#[cfg(test)]
+mod words;

@@ -1,6 +1,6 @@
 use Rattle.flash_rule.specs.World.{sector_word}
-use Rattle.table_words.proofs.Rested.{rested_looked}
-use Rattle.table_words.proofs.words.map_word.Goals as goal
+use Rattle.shared_acceptance.proofs.Rested.{rested_looked}
+use Rattle.shared_acceptance.proofs.words.map_word.Goals as goal
 
 pub returns-in-Some : goal.returns-in-Some
 returns-in-Some c = rested_looked c.args.flash.now c.args.seat.now c.broom_look.new.broom c.requires.seat c.broom_look.ensures.broom c.broom_look.ensures.blocks c.args.sector (sector_word c.broom_look.result) c.broom_look.ensures.told

@@ -4,7 +4,7 @@ use Rattle.flash_rule.specs.declared.view.View.{View}
 use Rattle.flash_table.specs.Erasing.{words_in_block}
 use Rattle.flash_table.specs.Flash.{broom_view, own_blocks, geometry_of, device}
 use Rattle.broom.proofs.Wiping.{wiped_none, wiped_more, still_erases}
-use Rattle.table_words.proofs.words.wipe_all.Goals as goal
+use Rattle.shared_acceptance.proofs.words.wipe_all.Goals as goal
 
 pub loop-i-init : goal.loop-i-init
 loop-i-init c = wiped_none c.args.flash.now c.args.seat.now c.requires.seat c.requires.none

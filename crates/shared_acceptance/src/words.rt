@@ -7,7 +7,7 @@ ghost use Rattle.flash_table.specs.Flash.{IsBroomOf, broom_view, device, geometr
 ghost use Rattle.broom.specs.Once.{IsReady-prop};
 ghost use Rattle.broom.specs.Ready.{IsRested, IsReady as IsBroomReady};
 ghost use Rattle.host.specs.Ready.{IsReady};
-ghost use Rattle.table_words.specs.Kept.{IsRested-prop};
+ghost use Rattle.shared_acceptance.specs.Kept.{IsRested-prop};
 
 use broom::{Broom, Drain, Erase, fold_seat};
 use erase_queue::EraseQueue;

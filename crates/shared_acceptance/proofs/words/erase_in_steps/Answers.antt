@@ -6,8 +6,8 @@ use Rattle.geometry.specs.declared.pin_word.Phase.TheVariants.{Drained}
 use Rattle.flash_table.specs.declared.broom_seat.Reclaiming.TheVariants.{Nothing}
 use Rattle.flash_table.specs.Flash.{broom_view, own_blocks, geometry_of}
 use Rattle.broom.proofs.Renewing.{was_wiped, its, did_retire, rested_retired}
-use Rattle.table_words.proofs.Rested.{rested_loaded}
-use Rattle.table_words.proofs.words.erase_in_steps.Goals as goal
+use Rattle.shared_acceptance.proofs.Rested.{rested_loaded}
+use Rattle.shared_acceptance.proofs.words.erase_in_steps.Goals as goal
 
 pub returns-then-ne-clause-seat : goal.returns-then-ne-clause-seat
 returns-then-ne-clause-seat c =

@@ -8,7 +8,7 @@ use Rattle.broom.specs.Ready.{IsRested}
 use Rattle.host.specs.Ready.{IsReady}
 use Rattle.volume.proofs.Answered.{all_fresh}
 use Rattle.volume.proofs.FreshBrooms.{all_rested}
-use Rattle.table_words.proofs.words.open.Goals as goal
+use Rattle.shared_acceptance.proofs.words.open.Goals as goal
 
 pub invariant_of-result : goal.invariant_of-result
 invariant_of-result g c =

@@ -1,2 +1,0 @@
--- What a struct of the tests keeps.
-pub mod Kept
