@@ -121,3 +121,11 @@ returns-then-hosts-gt0 g c = (
   refl,
   refl,
 )
+
+pub returns-in-Err-device : goal.returns-in-Err-device
+returns-in-Err-device g c = (
+  record { accepted = c.in-Ok.ensures.outcome; given = c.in-Ok.given; told = c.in-Ok.ensures.numbers; first = c.in-Err-device.ensures.first },
+  refl,
+  refl,
+  refl,
+)

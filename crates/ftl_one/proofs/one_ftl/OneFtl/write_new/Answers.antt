@@ -1,4 +1,4 @@
-use Rattle.std.proofs.Common.{◌≡◌, ◌∙◌, ℕ, List, None, Some, is_some, sym, ap}
+use Rattle.std.proofs.Common.{◌≡◌, ◌∙◌, ℕ, List, None, Some, is_some, refl, sym, ap}
 use Rattle.geometry.specs.History.{Write, WriteNew, put_new}
 use Rattle.geometry.specs.Sectors.{Sector, sector_at}
 use Rattle.ftl_one.specs.OneFtl.{geometry_of, array_of, stock_of}
@@ -59,3 +59,9 @@ returns-in-Err-clause-answer c = sym c.in-Empty.is ∙ c.was.ensures
 
 pub returns-in-Err-clause-worn : goal.returns-in-Err-clause-worn
 returns-in-Err-clause-worn c = λ _. by_write (goal.at.returns-in-Err-clause-worn c).In-Empty ∙ c.in-Err.ensures.worn
+
+pub returns-in-Written-clause-same_array : goal.returns-in-Written-clause-same_array
+returns-in-Written-clause-same_array c = refl
+
+pub returns-in-Written-clause-same_stock : goal.returns-in-Written-clause-same_stock
+returns-in-Written-clause-same_stock c = refl

@@ -1,0 +1,6 @@
+use Rattle.std.proofs.Common.{arith}
+use Rattle.std.proofs.lemmas.Grind.{common_steps}
+use Rattle.geometry.proofs.pin_word.Phase.bits.Goals as goal
+
+pub returns-in-Retired-clause-bits : goal.returns-in-Retired-clause-bits
+returns-in-Retired-clause-bits c = grind (arith, common_steps)
