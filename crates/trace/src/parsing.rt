@@ -21,7 +21,6 @@ use geometry::{Geometry, LONE_WORKERS, WORD_BYTES};
 use std::alloc::{AllocError, Global};
 
 /// The commands of a trace for this device, or its first fault. They keep a copy of the text.
-/// Where the data of a record would be kept at a place beyond 4 GiB, the answer is out of memory.
 pub fn parse(alloc: Global, text: &[u8], geometry: &Geometry) -> Result<Commands, TraceFault>
     // Each record is a command.
     ensures commands { IfOk result (λ commands. commands_of text.now geometry.now ≡ Ok commands) }
