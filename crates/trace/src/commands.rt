@@ -45,7 +45,7 @@ pub struct Command<'a> {
     pub page: Page<'a>,
 }
 
-/// The commands of a trace, in order. They keep its text, and a command takes 12 bytes beside it: the
+/// The commands of a trace, in order. They keep its text, and a command takes 16 bytes beside it: the
 /// digits of a write stay in the text, and are decoded where its page is copied.
 #[derive(Drop)]
 pub struct Commands {
@@ -134,7 +134,7 @@ fn digits_at<'a>(text: &'a [u8], odd: &'a [u8], stored: &Stored) -> &'a [u8]
     requires whole { (stored.now.start + stored.now.digits ≤ length text.now) ⊎ (length text.now ≤ stored.now.start) }
     ensures { result.now ≡ digits_at text.now odd.now stored.now }
 {
-    let start = stored.start as usize;
+    let start = stored.start;
     let count = usize::from(stored.digits);
     if count <= text.len() && start <= text.len() - count {
         &text[start..start + count]

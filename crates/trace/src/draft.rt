@@ -17,10 +17,10 @@ pub(crate) struct Head {
 }
 
 /// A command, and where its digits stand: in the text, or behind its end among the odd ones. The
-/// sector is kept in two parts, so that no byte is lost. A place beyond 4 GiB isn't kept.
+/// sector is kept in two parts, so that no byte is lost.
 #[derive(Clone, Copy)]
 pub(crate) struct Stored {
-    pub(crate) start: u32,
+    pub(crate) start: usize,
     pub(crate) digits: u16,
     pub(crate) worker: u16,
     sector_low: u16,
@@ -28,11 +28,11 @@ pub(crate) struct Stored {
     pub(crate) op: Op,
 }
 
-const _: () = prove!(size_of::<Stored>() == 12);
+const _: () = prove!(size_of::<Stored>() == 16);
 
 impl Stored {
     // A line whose digits stand at a place.
-    fn new(head: Head, start: u32, digits: u16) -> Stored
+    fn new(head: Head, start: usize, digits: u16) -> Stored
         requires { head.sector < 2 ^ 24 }
         ensures head { head_of result ≡ head }
         ensures start { result.start ≡ start }
@@ -106,9 +106,6 @@ impl Draft {
         ensures draft { OnOk result (AreKept text.now self.new) }
         ensures pushed { OnOk result (Pushes text.now self.old self.new head (take digits (drop start text.now))) }
     {
-        let Ok(start) = u32::try_from(start) else {
-            return Err(AllocError);
-        };
         self.stored.push(Stored::new(head, start, digits))?;
         Ok(())
     }
@@ -128,9 +125,7 @@ impl Draft {
         ensures draft { OnOk result (AreKept text.now self.new) }
         ensures pushed { OnOk result (Pushes text.now self.old self.new head digits.now) }
     {
-        let Ok(start) = u32::try_from(text.len() + self.odd.len()) else {
-            return Err(AllocError);
-        };
+        let start = text.len() + self.odd.len();
         self.odd.extend_from_slice(digits)?;
         self.stored
             .push(Stored::new(head, start, digits.len() as u16))?;

@@ -1,10 +1,9 @@
-use Rattle.std.proofs.Common.{◌≡◌, arith}
+use Rattle.std.proofs.Common.{arith}
 use Rattle.trace.proofs.CommandFacts.{push-kept}
 use Rattle.trace.proofs.draft.Draft.push.Goals as goal
 
 pub returns-clause-draft : goal.returns-clause-draft
 returns-clause-draft c =
     let self = c.args.self.now in
-    let same : c.in-Ok.start ≡ c.args.start = omega (arith, c.in-Ok.ensures) in
     rw c.in_ok-push.ensures.items
-    (push-kept c.args.text.now self.odd.items self.page_bytes self.stored.items c.new.result c.args.head c.new.ensures.head (omega arith) c.requires.draft (rw (c.new.ensures.start, c.new.ensures.digits, same) c.requires.fits))
+    (push-kept c.args.text.now self.odd.items self.page_bytes self.stored.items c.new.result c.args.head c.new.ensures.head (omega arith) c.requires.draft (rw (c.new.ensures.start, c.new.ensures.digits) c.requires.fits))
