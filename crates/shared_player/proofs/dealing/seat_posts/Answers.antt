@@ -1,4 +1,5 @@
 use Rattle.std.proofs.Common.{◌≡◌, All, length, sym, ap, ◌∙◌, subst, arith}
+use Rattle.std.proofs.lemmas.Grind.{common_steps}
 use Rattle.std.specs.Arc.{arc_value}
 use Rattle.std.proofs.lemmas.List.{length_push}
 use Rattle.flash_table.specs.declared.pass.Pass.{Pass}
@@ -62,3 +63,9 @@ loop-pass-preserved c =
       owners_count = omega arith;
       room = omega arith;
     }
+
+pub loop-pass-init : goal.loop-pass-init
+loop-pass-init c = grind (arith, common_steps)
+
+pub returns-clause-work : goal.returns-clause-work
+returns-clause-work c = grind (arith, common_steps)

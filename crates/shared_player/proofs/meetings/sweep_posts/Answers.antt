@@ -1,4 +1,5 @@
-use Rattle.std.proofs.Common.{All, subst}
+use Rattle.std.proofs.Common.{All, subst, arith}
+use Rattle.std.proofs.lemmas.Grind.{common_steps}
 use Rattle.std.proofs.lemmas.List.Elements.{All-tail}
 use Rattle.shared_player.specs.Meetings.{IsAt}
 use Rattle.shared_player.proofs.Sweeping.{all_same_at, posts_met, posts_seated}
@@ -20,3 +21,9 @@ pub returns-clause-seated : goal.returns-clause-seated
 returns-clause-seated c =
     posts_seated c.args.volume.now c.args.posts.now c.in-Some.first.now c.meet_others.new.first c.meet_others-2.new.first c.in-Some.others.now c.meet_others.new.others c.meet_others-2.new.others
     c.in-Some.ensures.cases.0 c.requires.at c.requires.seated c.meet_others.ensures.told c.meet_others-2.ensures.told
+
+pub meet_others-requires-2-clause-first : goal.meet_others-requires-2-clause-first
+meet_others-requires-2-clause-first c = grind (arith, common_steps)
+
+pub meet_others-requires-clause-first : goal.meet_others-requires-clause-first
+meet_others-requires-clause-first c = grind (arith, common_steps)

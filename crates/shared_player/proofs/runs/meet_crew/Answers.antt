@@ -1,4 +1,5 @@
-use Rattle.std.proofs.Common.{◌≡◌, ◌<◌, All, List, length, map, sym, ap, ◌∙◌, subst}
+use Rattle.std.proofs.Common.{◌≡◌, ◌<◌, All, List, length, map, sym, ap, ◌∙◌, subst, arith}
+use Rattle.std.proofs.lemmas.Grind.{common_steps}
 use Rattle.geometry.specs.Geometry.{hosts_of}
 use Rattle.flash_table.specs.Flash.{geometry_of}
 use Rattle.volume.specs.Volume.{flash_of}
@@ -37,3 +38,6 @@ returns-clause-seated c =
     let is = c.deref_mut.ensures.value in
     let items = lent_all c.args.crew.posts c.deref_mut.result.now c.sweep_posts.new.posts is c.sweep_posts.auto.posts in
     subst (λ l. AreSeated (passes_of l)) (sym items) c.sweep_posts.ensures.seated
+
+pub invariant_of-result : goal.invariant_of-result
+invariant_of-result c = grind (arith, common_steps)

@@ -1,4 +1,5 @@
-use Rattle.std.proofs.Common.{ℕ, ◌-◌, All, List, length, take, drop, refl, sym, ap, ◌∙◌, subst}
+use Rattle.std.proofs.Common.{ℕ, ◌-◌, All, List, length, take, drop, refl, sym, ap, ◌∙◌, subst, arith}
+use Rattle.std.proofs.lemmas.Grind.{common_steps}
 use Rattle.std.specs.List.{slice_range}
 use Rattle.flash_table.specs.Flash.{view_of, geometry_of}
 use Rattle.trace.specs.declared.commands.Command.{Command}
@@ -77,3 +78,6 @@ returns g c =
           let there = back_new post.answers.items new post.from post.to post.order within long in
           subst P (λ i. (c.deref-2.ensures i, c.deref-3.ensures.value i, sym (ap (λ l. slice_range l post.from post.to) items ∙ there) i)) (c.play_at.ensures.told t role);
     }
+
+pub play_at-requires-clause-there : goal.play_at-requires-clause-there
+play_at-requires-clause-there g c = grind (arith, common_steps)
