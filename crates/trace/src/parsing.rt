@@ -89,7 +89,6 @@ fn parse_lines(alloc: Global, text: &[u8], geometry: &Geometry) -> Result<Draft,
 }
 
 // Adds the commands of lines of the usual form from a place on, and gives the place where the last one ends.
-#[inline(never)]
 fn add_usual_lines(
     text: &[u8],
     from: usize,
