@@ -1,4 +1,5 @@
 use Rattle.std.proofs.Common.{◌+◌, get_or, length, ap, arith, sym, ◌∙◌}
+use Rattle.std.proofs.lemmas.Grind.{common_steps}
 use Rattle.std.specs.Prelude.{if◌then◌else◌, slice_get, slice_set, None}
 use Rattle.rounds.proofs.Planning.{is_line}
 use Rattle.rounds.specs.Rows.{answers_by}
@@ -21,3 +22,12 @@ returns c =
           ∙ sym (ap (λ b. if b then None else slice_get (answers_by rows w) p) plain);
       next = sym (ap (λ b. if b then next else slice_set next w (p + 1)) plain);
     }
+
+pub bounds-next-worker : goal.bounds-next-worker
+bounds-next-worker c = grind (arith, common_steps)
+
+pub bounds-rows-worker : goal.bounds-rows-worker
+bounds-rows-worker c = grind (arith, common_steps)
+
+pub index-answer-requires : goal.index-answer-requires
+index-answer-requires c = grind (arith, common_steps)

@@ -1,4 +1,5 @@
-use Rattle.std.proofs.Common.{◌≡◌, ◌∙◌, ap, length, subst, sym}
+use Rattle.std.proofs.Common.{◌≡◌, ◌∙◌, ap, length, subst, sym, arith}
+use Rattle.std.proofs.lemmas.Grind.{common_steps}
 use Rattle.std.specs.List.{All}
 use Rattle.trace.specs.Watched.{inner_of}
 use Rattle.answers.specs.Playable.{IsPlayable}
@@ -42,3 +43,6 @@ returns-clause-why g c =
       c.in-Err-deliver.ensures.failed,
       part_sent geo c.args.patience commands (answers_by c.deref-2.result.now) played input _ _ meaning c.in-Err-deliver.ensures.part,
     )
+
+pub play_commands-requires-clause-playable : goal.play_commands-requires-clause-playable
+play_commands-requires-clause-playable g c = grind (arith, common_steps)

@@ -1,4 +1,5 @@
 use Rattle.std.proofs.Common.{ℕ, ◌+◌, length, get_or, drop, sym, ap, ◌∙◌, arith, subst}
+use Rattle.std.proofs.lemmas.Grind.{common_steps}
 use Rattle.geometry.proofs.Histories.{Begins-refl}
 use Rattle.trace.specs.Watched.{inner_of}
 use Rattle.answers.proofs.Deliveries.{AppendsBeginning-part, OnErr-any, OnErr-map}
@@ -60,3 +61,9 @@ returns-clause-part g c =
     let whole = delivery_whole c.loop-i.i commands rows old _ _ _ _ _ (omega arith) c.loop-i.invariant.text c.in_ok-make_room-2.ensures.moved c.end.ensures.waiting in
     OnErr-map _ _ c.hand_on.result
     (λ part. AppendsBeginning-part old _ _ _ (text_of commands rows) (text_of commands rows) whole part (Begins-refl (text_of commands rows))) c.hand_on.ensures.part
+
+pub loop-i-init : goal.loop-i-init
+loop-i-init g c = grind (arith, common_steps)
+
+pub returns-clause-sent : goal.returns-clause-sent
+returns-clause-sent g c = grind (arith, common_steps)
