@@ -1,5 +1,6 @@
 pub mod Rows
 pub mod Blocks
+pub mod AtPlace
 pub mod Here
 pub mod HereBrooms
 pub mod Told
