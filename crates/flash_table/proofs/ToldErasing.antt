@@ -79,6 +79,12 @@ module _ (f : Flash) (s : BroomSeat) (h : IsBroomOf f s) where
   pub of_erased : (P : ReclaimedBlock → Type 0) (o : ReclaimedBlock) → (own_blocks s).reclaiming ≡ reclaiming.Erasing o → (x : ReclaimedBlock) → (own_blocks s).reclaiming ≡ reclaiming.Erasing x → P x → P o
   of_erased P o is x its can = subst P (same_erased (own_blocks s).reclaiming x o its is) can
 
+  pub live_on : (o : ReclaimedBlock) → (own_blocks s).reclaiming ≡ reclaiming.Erasing o → (x : ReclaimedBlock) × CanLiveOn f s x → CanLiveOn f s o
+  live_on o is some = of_erased (λ x. CanLiveOn f s x) o is some.0 some.1.erases.its some.1
+
+  pub last_erase : (o : ReclaimedBlock) → (own_blocks s).reclaiming ≡ reclaiming.Erasing o → (x : ReclaimedBlock) × IsLastErase f s x → IsLastErase f s o
+  last_erase o is some = of_erased (λ x. IsLastErase f s x) o is some.0 some.1.erases.its some.1
+
 module _ (f : Flash) (s : BroomSeat) (h : IsBroomOf f s) (slots n : ℕ) (after : Sitter) where
   -- ---- what a step's play makes of the seat
   pub condemned : (word b old : ℕ) (p : PinWord) → word ≡ pin_index (device f) b → old ≡ pin_word p → CanCondemn (broom_view s) b p → condemn_told (step slots word old (old + NEXT_PHASE) none) s.seat.me n after → Condemned (broom_view s) b p n after.0
@@ -89,15 +95,15 @@ module _ (f : Flash) (s : BroomSeat) (h : IsBroomOf f s) (slots n : ℕ) (after 
   wipe_view word i o can next at told =
       told.1 (reclaimed_as Erasing o) can (at ∙ λ j. page_index (sym h.numbers j) o.block 0 + next j) refl ∙ ap (λ k. record (broom_view s) { wiped = k + 1 }) (sym next)
 
-  pub freed_view : (word added : ℕ) (o : ReclaimedBlock) → CanRenew (broom_view s) (reclaimed_as Erasing o) → word ≡ pin_index (device f) o.block
+  pub freed_view : (word added : ℕ) (o : ReclaimedBlock) → CanLiveOn f s o → word ≡ pin_index (device f) o.block
       → freed_told (step slots word added 0 none) s.seat.me n after → after.0 ≡ left_free (broom_view s) o
-  freed_view word added o can at told = told.1 (reclaimed_as Erasing o) can (at ∙ ap (λ y. pin_index y o.block) (sym h.numbers))
+  freed_view word added o lives at told = told.1 (reclaimed_as Erasing o) (can_renew f s h o lives) (at ∙ ap (λ y. pin_index y o.block) (sym h.numbers))
 
-  pub kept_view : (word added : ℕ) (o : ReclaimedBlock) → CanRenew (broom_view s) (reclaimed_as Erasing o) → word ≡ pin_index (device f) o.block
+  pub kept_view : (word added : ℕ) (o : ReclaimedBlock) → CanLiveOn f s o → word ≡ pin_index (device f) o.block
       → kept_told (step slots word added 0 none) s.seat.me n after
       → after.0 ≡ record (broom_view s) { owns = with_owned (owned_of (record { block = o.block; generation = o.generation + 1; written = 0 })) (broom_view s).owns }
-  kept_view word added o can at told = told.1 (reclaimed_as Erasing o) can (at ∙ ap (λ y. pin_index y o.block) (sym h.numbers))
+  kept_view word added o lives at told = told.1 (reclaimed_as Erasing o) (can_renew f s h o lives) (at ∙ ap (λ y. pin_index y o.block) (sym h.numbers))
 
-  pub retired_view : (word : ℕ) (o : ReclaimedBlock) → CanRetire (broom_view s) (reclaimed_as Erasing o) → word ≡ pin_index (device f) o.block
+  pub retired_view : (word : ℕ) (o : ReclaimedBlock) → IsLastErase f s o → word ≡ pin_index (device f) o.block
       → retired_told (step slots word NEXT_PHASE 0 none) s.seat.me n after → after.0 ≡ left_retired (broom_view s) o
-  retired_view word o can at told = told.1 (reclaimed_as Erasing o) can (at ∙ ap (λ y. pin_index y o.block) (sym h.numbers))
+  retired_view word o last at told = told.1 (reclaimed_as Erasing o) (can_retire f s h o last) (at ∙ ap (λ y. pin_index y o.block) (sym h.numbers))

@@ -3,13 +3,12 @@ use Rattle.geometry.specs.Geometry.{numbers_of}
 use Rattle.flash_rule.specs.declared.view.View.{View}
 use Rattle.flash_rule.proofs.Places.{pin_within}
 use Rattle.flash_table.specs.Flash.{device, broom_view, own_blocks}
-use Rattle.flash_table.specs.Erasing.{CanLiveOn}
 use Rattle.flash_table.specs.GivingUp.{left_free}
 use Rattle.flash_table.proofs.HereErasing.{freed_here}
 use Rattle.flash_table.proofs.Blocks.{erased_just}
 use Rattle.flash_table.proofs.Rows.{just_now}
 use Rattle.flash_table.proofs.ToldBrooms.{stays_broom}
-use Rattle.flash_table.proofs.ToldErasing.{same_erased, of_erased, can_renew, freed_view}
+use Rattle.flash_table.proofs.ToldErasing.{same_erased, live_on, can_renew, freed_view}
 use Rattle.flash_table.proofs.flash.Flash.free_block.Goals as goal
 
 pub fetch_add-requires : goal.fetch_add-requires
@@ -17,7 +16,7 @@ fetch_add-requires c =
     let f = c.args.self.now in
     let s = c.args.broom.now in
     let o = c.in-Erasing.erased in
-    let t = of_erased f s c.requires.broom (λ x. CanLiveOn f s x) o c.in-Erasing.is c.requires.wiped.0 c.requires.wiped.1.erases.its c.requires.wiped.1 in
+    let t = live_on f s c.requires.broom o c.in-Erasing.is c.requires.wiped in
     let low = pin_within (device f) o.block t.erases.low in
     let at = c.pin_at-word.ensures in
     let size = f.size in (
@@ -31,8 +30,8 @@ invariant_of-broom c =
     let f = c.args.self.now in
     let s = c.args.broom.now in
     let o = c.in-Erasing.erased in
-    let t = of_erased f s c.requires.broom (λ x. CanLiveOn f s x) o c.in-Erasing.is c.requires.wiped.0 c.requires.wiped.1.erases.its c.requires.wiped.1 in
-    let changed = freed_view f s c.requires.broom f.table.shared.table_id.slots c.fetch_add.result c.fetch_add.new.seat.me c.pin_at-word.result c.freed.result o (can_renew f s c.requires.broom o t) c.pin_at-word.ensures c.fetch_add.ensures.2 in
+    let t = live_on f s c.requires.broom o c.in-Erasing.is c.requires.wiped in
+    let changed = freed_view f s c.requires.broom f.table.shared.table_id.slots c.fetch_add.result c.fetch_add.new.seat.me c.pin_at-word.result c.freed.result o t c.pin_at-word.ensures c.fetch_add.ensures.2 in
     record {
       bare = c.fetch_add.ensures.2.0 ∙ s.bare;
       owns = just_now _ _ _ (ap (λ (w : View). w.owns) changed) (erased_just (own_blocks s) (broom_view s).owns s.owns o c.in-Erasing.is);
@@ -43,9 +42,9 @@ returns-clause-told c x is =
     let f = c.args.self.now in
     let s = c.args.broom.now in
     let o = c.in-Erasing.erased in
-    let t = of_erased f s c.requires.broom (λ x. CanLiveOn f s x) o c.in-Erasing.is c.requires.wiped.0 c.requires.wiped.1.erases.its c.requires.wiped.1 in
+    let t = live_on f s c.requires.broom o c.in-Erasing.is c.requires.wiped in
     let same = same_erased (own_blocks s).reclaiming o x c.in-Erasing.is is in
-    let changed = freed_view f s c.requires.broom f.table.shared.table_id.slots c.fetch_add.result c.fetch_add.new.seat.me c.pin_at-word.result c.freed.result o (can_renew f s c.requires.broom o t) c.pin_at-word.ensures c.fetch_add.ensures.2 in
+    let changed = freed_view f s c.requires.broom f.table.shared.table_id.slots c.fetch_add.result c.fetch_add.new.seat.me c.pin_at-word.result c.freed.result o t c.pin_at-word.ensures c.fetch_add.ensures.2 in
     changed ∙ ap (left_free (broom_view s)) same
 
 pub returns-clause-broom : goal.returns-clause-broom
@@ -53,6 +52,6 @@ returns-clause-broom c =
     let f = c.args.self.now in
     let s = c.args.broom.now in
     let o = c.in-Erasing.erased in
-    let t = of_erased f s c.requires.broom (λ x. CanLiveOn f s x) o c.in-Erasing.is c.requires.wiped.0 c.requires.wiped.1.erases.its c.requires.wiped.1 in
-    let changed = freed_view f s c.requires.broom f.table.shared.table_id.slots c.fetch_add.result c.fetch_add.new.seat.me c.pin_at-word.result c.freed.result o (can_renew f s c.requires.broom o t) c.pin_at-word.ensures c.fetch_add.ensures.2 in
+    let t = live_on f s c.requires.broom o c.in-Erasing.is c.requires.wiped in
+    let changed = freed_view f s c.requires.broom f.table.shared.table_id.slots c.fetch_add.result c.fetch_add.new.seat.me c.pin_at-word.result c.freed.result o t c.pin_at-word.ensures c.fetch_add.ensures.2 in
     stays_broom f s _ c.requires.broom c.fetch_add.ensures.0 (ap (λ (w : View). w.role) changed) (ap (λ (w : View). w.numbers) changed)
