@@ -16,12 +16,14 @@ use Rattle.flash_rule.specs.declared.view.View.{View}
 use Rattle.flash_rule.specs.Views.{AreOfHosts, owned_at, calls_of}
 use Rattle.flash_rule.specs.Plays.{Called, CanPlace, IsSettled, next_page, is_unpinned}
 use Rattle.flash_rule.proofs.Owning.{some_same, none_some}
+use Rattle.flash_rule.proofs.Still.{pass_of}
 use Rattle.flash_table.specs.declared.flash.Flash.{Flash}
 use Rattle.flash_table.specs.declared.pass.Pass.{Pass}
 use Rattle.flash_table.specs.declared.pass.OpenBlock.{OpenBlock}
 use Rattle.flash_table.specs.Owning.{owned_of, owned_list}
 use Rattle.flash_table.specs.Flash.{IsPassOf, view_of, opened_of, geometry_of, device}
-use Rattle.host.specs.Filling.{TookLowest, Filled, ClosedIfFull}
+use Rattle.host.specs.Filling.{TookLowest, Filled, ClosedIfFull, IsClosedIfFull, IsProgrammed, Starts}
+use Rattle.flash_table.specs.Steps.{HasNumber, PlaceTold}
 use Rattle.host.specs.Ready.{IsReady}
 use Rattle.host.specs.Told.{Programmed}
 use Rattle.host.proofs.WritingSteps.{owns_one}
@@ -48,18 +50,6 @@ ready_called f p q c s answer h pass opened told =
     }
 
 -- ---- a write begins
--- The pass has this block open, with a page left: it had it before, or it has just taken it
-pub record Starts (f : Flash) (v : View) (p : Pass) (o : OpenBlock) : Type 0 where
-  pub pass : IsPassOf f p
-  pub opened : opened_of p ≡ Some o
-  pub low : o.block < blocks_of (geometry_of f)
-  pub left : o.written < pages_of (geometry_of f)
-  pub young : o.generation < endurance_of (geometry_of f)
-  pub settled : IsSettled (view_of p)
-  pub changed : view_of p ≡ record v { taken = (view_of p).taken; denied = (view_of p).denied; owns = (view_of p).owns }
-  pub continued : (x : Owned) → v.owns ≡ x ∷ [] → (owned_of o ≡ x) × ((view_of p).taken ≡ v.taken) × ((view_of p).denied ≡ v.denied)
-  pub begun : v.owns ≡ [] → (o.written ≡ 0) × ((view_of p).taken ≡ v.taken + 1) × ((view_of p).denied ≡ v.denied ++ range_with_len 0 o.block)
-
 pub not_some : (x : Option OpenBlock) → is_some x ≡ false → x ≡ None
 not_some None not = refl
 not_some (Some o) not = absurd (cc)
@@ -258,3 +248,24 @@ module _ (f : Flash) (v : View) (p q : Pass) (o : OpenBlock) (h : Starts f v p o
             };
             unpinned = ap (λ (y : View). is_unpinned y.pin) all ∙ unpinned;
           }
+
+-- ---- a write of either kind, once its page is programmed and the sector's map word was exchanged
+module _ (f : Flash) (p q r : Pass) (s : ℕ) (value : List ℕ) (page : MapWord) (h : IsReady f p) (x : IsProgrammed f (view_of p) s value page q) (call : ℕ → List ℕ → Call) (answer : Was) (told : PlaceTold call q s page answer r) where
+  called : (n : ℕ) → HasNumber n p → Called (view_of q) (call n value) s answer (view_of r)
+  called n is = told n value (ap (λ (y : View). y.role) x.filled.changed ∙ (ap (λ (y : View). y.role) x.starts.changed ∙ is)) x.filled.placeable
+
+  number : (n : ℕ) × HasNumber n p
+  number = pass_of (view_of p).role h.rested.pass.role
+
+  pub exchanged_settled : IsSettled (view_of r)
+  exchanged_settled = placed_settled f (view_of p) x.start q x.block x.starts s value page x.filled r (call number.0 value) answer (called number.0 number.1)
+
+  module _ (w : Pass) (same : opened_of r ≡ opened_of q) (closed : (o : OpenBlock) → opened_of r ≡ Some o → IsClosedIfFull (geometry_of f) r o w) where
+    ended : ClosedIfFull (pages_of (geometry_of f)) (view_of r) (record x.block { written = x.block.written + 1 }) (view_of w) (opened_of w)
+    ended = closed (record x.block { written = x.block.written + 1 }) (same ∙ x.opened)
+
+    pub write_done : (n : ℕ) → HasNumber n p → Programmed (view_of p) (call n value) s answer (view_of w)
+    write_done n is = wrote f (view_of p) x.start q x.block x.starts s value page x.filled r (call n value) answer (called n is) w ended
+
+    pub write_ready : IsPassOf f w → IsReady f w
+    write_ready pass = ready_written f (view_of p) x.start q x.block x.starts s value page x.filled r (call number.0 value) answer (called number.0 number.1) w ended pass h.unpinned h.rested.whole h.rested.alone

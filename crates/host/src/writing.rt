@@ -1,5 +1,5 @@
 //! Writes and trims: a page is filled and counted, and then the sector's map word is swapped.
-ghost use Rattle.std.specs.Prelude.{◌≡◌, ℕ, ◌+◌, ◌<◌, length, None, Some, OnErr, IfOk, MatchBool};
+ghost use Rattle.std.specs.Prelude.{◌≡◌, ℕ, ◌+◌, ◌<◌, length, None, Some, OnErr, IfNone, IfOk, IfSome, MatchBool};
 ghost use Rattle.geometry.specs.Geometry.{blocks_of, sectors_of, page_bytes_of};
 ghost use Rattle.geometry.specs.History.{Trim};
 ghost use Rattle.flash_rule.specs.Plays.{IsSettled};
@@ -7,7 +7,7 @@ ghost use Rattle.flash_table.specs.Flash.{IsPassOf, view_of, opened_of, geometry
 ghost use Rattle.flash_table.specs.declared.pass.OpenBlock.{OpenBlock};
 ghost use Rattle.host.specs.Ready.{IsReady};
 ghost use Rattle.host.specs.Told.{Wrote, Refused};
-ghost use Rattle.host.specs.Filling.{TookLowest, Filled, HasRoom, IsClosedIfFull, TookNone};
+ghost use Rattle.host.specs.Filling.{TookLowest, Filled, HasRoom, IsClosedIfFull, IsProgrammed, TookNone};
 ghost use Rattle.flash_table.specs.Steps.{HasCalled, HasNumber};
 
 use flash_table::{Flash, Gate, NoGate, Pass, Point};
@@ -46,10 +46,9 @@ pub fn write_gated<G: Gate>(
     ensures refused { OnErr result (Refused (view_of pass.old) (view_of pass.new)) }
     ensures pass { IsReady flash.now pass.new }
 {
-    if pass.opened().is_none() && !take_lowest(flash, pass) {
+    let Some(page) = program(flash, pass, sector, bytes) else {
         return Err(NoBlock);
-    }
-    let page = fill(flash, pass, sector, bytes);
+    };
     gate.at(Point::BeforePlace);
     let was = flash.place_write(pass, sector, page);
     close_if_full(flash, pass);
@@ -106,6 +105,25 @@ pub(crate) fn fill(flash: &Flash, pass: &mut Pass, sector: u32, bytes: &[u8]) ->
         block: opened.block,
         page: opened.written,
     }
+}
+
+// Fills and counts a page of the open block, or of the lowest block that is free; without one there is no page.
+pub(crate) fn program(
+    flash: &Flash,
+    pass: &mut Pass,
+    sector: u32,
+    bytes: &[u8],
+) -> Option<MapWord>
+    requires pass { IsReady flash.now pass.old }
+    requires page { length bytes.now ≡ page_bytes_of (geometry_of flash.now) }
+    ensures filled { IfSome result (λ page. IsProgrammed flash.now (view_of pass.old) sector bytes.now page pass.new) }
+    ensures refused { IfNone result (Refused (view_of pass.old) (view_of pass.new)) }
+    ensures ready { IfNone result (IsReady flash.now pass.new) }
+{
+    if pass.opened().is_none() && !take_lowest(flash, pass) {
+        return None;
+    }
+    Some(fill(flash, pass, sector, bytes))
 }
 
 // Closes the open block if no page is left in it.

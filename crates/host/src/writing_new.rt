@@ -7,7 +7,7 @@ ghost use Rattle.host.specs.declared.writing_new.NewFault.TheVariants as fault;
 ghost use Rattle.host.specs.Told.{WroteNew, Refused, was_found};
 ghost use Rattle.flash_table.specs.Steps.{HasNumber};
 
-use crate::writing::{close_if_full, fill, take_lowest};
+use crate::writing::{close_if_full, program};
 use flash_table::{Flash, Gate, NoGate, Pass, Point};
 use geometry::Was;
 use thiserror::Error;
@@ -51,10 +51,9 @@ pub fn write_new_gated<G: Gate>(
     ensures refused { result ≡ Err fault.NoBlock → Refused (view_of pass.old) (view_of pass.new) }
     ensures pass { IsReady flash.now pass.new }
 {
-    if pass.opened().is_none() && !take_lowest(flash, pass) {
+    let Some(page) = program(flash, pass, sector, bytes) else {
         return Err(NewFault::NoBlock);
-    }
-    let page = fill(flash, pass, sector, bytes);
+    };
     gate.at(Point::BeforePlace);
     let was = flash.place_new(pass, sector, page);
     close_if_full(flash, pass);
