@@ -56,3 +56,6 @@ returns-clause-filled c o is =
     let same = same_block c.in-Some.opened o (opened_of c.args.pass.now) (sym c.opened.ensures ∙ c.in-Some.is) is in
     let page : OpenBlock → MapWord = λ x. next_page (owned_of x) in
     let P : OpenBlock → Type 0 = λ x. Filled (view_of c.args.pass.now) x c.args.sector c.args.bytes.now (page c.in-Some.opened) (view_of c.count.new.pass) in subst P same done
+
+pub returns-clause-opened : goal.returns-clause-opened
+returns-clause-opened c o is = c.count.ensures.opened o (c.put_word-2.ensures.opened ∙ (c.loop-i.invariant.opened ∙ (sym c.in-Some.is ∙ (c.opened.ensures ∙ is))))
