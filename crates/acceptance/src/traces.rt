@@ -22,74 +22,50 @@ fn at(line: u64, kind: TraceFaultKind) -> Option<TraceFault> {
     Some(TraceFault { line, kind })
 }
 
-// A record, and why it is none.
-const FAULTY: [(&str, &str, TraceFaultKind); 23] = [
-    ("three fields", "0,read,2", TraceFaultKind::Fields),
-    ("five fields", "0,read,2,,", TraceFaultKind::Fields),
-    (
-        "an open quote in the fifth field",
-        "0,read,2,,\"",
-        TraceFaultKind::Fields,
-    ),
-    ("a quoted comma", "\"0,read\",0,", TraceFaultKind::Fields),
-    (
-        "a quoted line end",
-        "\"0,read,0,\n0,read,0,\n",
-        TraceFaultKind::Fields,
-    ),
-    (
-        "commas behind two quotes",
-        "\"\",,,,,,",
-        TraceFaultKind::Fields,
-    ),
-    ("a worker too large", "500,read,0,", TraceFaultKind::Worker),
-    (
-        "a worker that is no number",
-        "x,read,0,",
-        TraceFaultKind::Worker,
-    ),
-    (
-        "a space before the worker",
-        " 0,read,0,",
-        TraceFaultKind::Worker,
-    ),
-    ("eight digits", "00000000,read,0,", TraceFaultKind::Worker),
-    ("an op in upper case", "0,READ,0,", TraceFaultKind::Op),
-    ("a quote within an op", "0,re\"ad,0,", TraceFaultKind::Op),
-    ("a sector with a sign", "0,read,-1,", TraceFaultKind::Sector),
-    ("a sector too large", "0,read,3,", TraceFaultKind::Sector),
-    (
-        "an odd number of digits",
-        "0,write,0,4",
-        TraceFaultKind::Hex,
-    ),
-    ("no hexadecimal digit", "0,write,0,4g", TraceFaultKind::Hex),
-    (
-        "18 digits",
-        "0,write,0,010203040506070809",
-        TraceFaultKind::TooLong,
-    ),
-    (
-        "15 digits",
-        "0,write,0,010203040506070",
-        TraceFaultKind::Hex,
-    ),
-    ("data of a read", "0,read,0,41", TraceFaultKind::Unused),
-    ("data of a trim", "0,trim,0,41", TraceFaultKind::Unused),
-    ("the worker of a meet", "1,meet,0,", TraceFaultKind::Unused),
-    ("the sector of a meet", "0,meet,1,", TraceFaultKind::Unused),
-    (
-        "a quote that isn't closed",
-        "\"0,read,0,",
-        TraceFaultKind::Fields,
-    ),
-];
+// Whether each of some texts, which stand between bars, has this first fault, or none.
+fn all_have(alloc: Global, geometry: &Geometry, texts: &str, fault: Option<TraceFault>) -> bool {
+    for text in texts.split('|') {
+        if parse(alloc, text.as_bytes(), geometry).err() != fault {
+            return false;
+        }
+    }
+    true
+}
+
+// Records that are none. Fields: three, five, an open quote in the fifth field, a quoted comma, a quoted line end, commas behind two
+// quotes, and a quote that isn't closed.
+const FIELDS: &str =
+    "0,read,2|0,read,2,,|0,read,2,,\"|\"0,read\",0,|\"0,read,0,\n0,read,0,\n|\"\",,,,,,|\"0,read,0,";
+// Workers: too large, no number, behind a space, of eight digits.
+const WORKER: &str = "500,read,0,|x,read,0,| 0,read,0,|00000000,read,0,";
+// Ops: in upper case, with a quote within.
+const OP: &str = "0,READ,0,|0,re\"ad,0,";
+// Sectors: with a sign, too large.
+const SECTOR: &str = "0,read,-1,|0,read,3,";
+// Data: an odd number of digits, no hexadecimal digit, 15 digits.
+const HEX: &str = "0,write,0,4|0,write,0,4g|0,write,0,010203040506070";
+// 18 digits.
+const TOO_LONG: &str = "0,write,0,010203040506070809";
+// The data of a read and of a trim, the worker and the sector of a meet.
+const UNUSED: &str = "0,read,0,41|0,trim,0,41|1,meet,0,|0,meet,1,";
 
 #[test]
 fn each_faulty_record_has_its_fault(rt: HostRuntime) -> Result<(), Fail> {
-    for (name, text, fault) in FAULTY {
-        let found = first_fault(rt.alloc(), text.as_bytes())?;
-        assert!(rt; found == at(1, fault), "{name}");
+    use TraceFaultKind as kind;
+    let geometry = small()?;
+    for (records, fault) in [
+        (FIELDS, kind::Fields),
+        (WORKER, kind::Worker),
+        (OP, kind::Op),
+        (SECTOR, kind::Sector),
+        (HEX, kind::Hex),
+        (TOO_LONG, kind::TooLong),
+        (UNUSED, kind::Unused),
+    ] {
+        assert!(rt;
+            all_have(rt.alloc(), &geometry, records, at(1, fault)),
+            "{fault}"
+        );
     }
     Ok(())
 }
@@ -188,94 +164,52 @@ fn accepted_records_are_commands(rt: HostRuntime) -> Result<(), Fail> {
     Ok(())
 }
 
-// A text, and how many records it has.
-const TEXTS: [(&str, &str, usize); 10] = [
-    ("no byte", "", 0),
-    ("empty lines alone", "\n\r\n\n", 0),
-    ("no line end", "0,read,0,", 1),
-    ("LF", "0,read,0,\n0,read,1,\n", 2),
-    ("CRLF", "0,read,0,\r\n0,read,1,\r\n", 2),
-    ("CR alone", "0,read,0,\r0,read,1,\r", 2),
-    ("empty lines between", "\n0,read,0,\n\n\n0,read,1,", 2),
-    ("a byte order mark", "\u{feff}0,read,0,\n", 1),
-    (
-        "a mark before a quote",
-        "\u{feff}\"0\",read,0,\n0,read,1,\n",
-        2,
-    ),
-    (
-        "a quoted line end is none",
-        "0,write,0,\"\"\n0,trim,0,\"\"\n",
-        2,
-    ),
-];
+// Texts of no record: no byte, and empty lines alone.
+const NONE: &str = "|\n\r\n\n";
+// Texts of one: no line end, and a byte order mark.
+const ONE: &str = "0,read,0,|\u{feff}0,read,0,\n";
+// Texts of two: LF, CRLF, CR alone, empty lines between, a mark before a quote, and a quoted line end that is none.
+const TWO: &str =
+    "0,read,0,\n0,read,1,\n|0,read,0,\r\n0,read,1,\r\n|0,read,0,\r0,read,1,\r|\n0,read,0,\n\n\n0,read,1,\
+    |\u{feff}\"0\",read,0,\n0,read,1,\n|0,write,0,\"\"\n0,trim,0,\"\"\n";
 
 #[test]
 fn records_end_as_csv_says(rt: HostRuntime) -> Result<(), Fail> {
-    for (name, text, count) in TEXTS {
-        let found = commands(rt.alloc(), text.as_bytes())?.len();
-        assert!(rt; found == count, "{name}");
+    for (texts, count) in [(NONE, 0), (ONE, 1), (TWO, 2)] {
+        for text in texts.split('|') {
+            assert!(rt;
+                commands(rt.alloc(), text.as_bytes())?.len() == count,
+                "{text}"
+            );
+        }
     }
     Ok(())
 }
 
-// A text, and the number of its first faulty record, with its fault.
-const FIRST_FAULTS: [(&str, &str, u64, TraceFaultKind); 8] = [
-    (
-        "an empty line is no record",
-        "0,read,0,\n\n0,read,9,\n",
-        2,
-        TraceFaultKind::Sector,
-    ),
-    (
-        "two faulty records",
-        "0,read,0,\n0,read,1\n0,READ,0,\n",
-        2,
-        TraceFaultKind::Fields,
-    ),
-    (
-        "two faults of a record",
-        "0,READ,9,4",
-        1,
-        TraceFaultKind::Op,
-    ),
-    (
-        "a mark on the second line",
-        "0,read,0,\n\u{feff}0,read,0,\n",
-        2,
-        TraceFaultKind::Worker,
-    ),
-    (
-        "a mark behind a quoted record",
-        "0,\"read\",0,\n\u{feff}0,read,0,\n",
-        2,
-        TraceFaultKind::Worker,
-    ),
-    (
-        "five fields behind a quoted record",
-        "0,\"read\",0,\n0,read,0,,\n",
-        2,
-        TraceFaultKind::Fields,
-    ),
-    (
-        "a quoted record behind a plain one",
-        "0,read,0,\n0,\"read\",3,\n",
-        2,
-        TraceFaultKind::Sector,
-    ),
-    (
-        "a doubled quote",
-        "0,\"re\"\"ad\",0,\n",
-        1,
-        TraceFaultKind::Op,
-    ),
-];
+// Texts by the fault of their second record: behind an empty line, which is no record, and behind a plain one, a sector; before another
+// fault and behind a quoted record, fields; a mark behind a plain record and behind a quoted one, a worker.
+const SECOND_SECTOR: &str = "0,read,0,\n\n0,read,9,\n|0,read,0,\n0,\"read\",3,\n";
+
+const SECOND_FIELDS: &str = "0,read,0,\n0,read,1\n0,READ,0,\n|0,\"read\",0,\n0,read,0,,\n";
+
+const SECOND_WORKER: &str = "0,read,0,\n\u{feff}0,read,0,\n|0,\"read\",0,\n\u{feff}0,read,0,\n";
+// The first of two faults of a record, and a doubled quote.
+const FIRST_OP: &str = "0,READ,9,4|0,\"re\"\"ad\",0,\n";
 
 #[test]
 fn the_first_faulty_record_is_answered_by_its_number(rt: HostRuntime) -> Result<(), Fail> {
-    for (name, text, line, fault) in FIRST_FAULTS {
-        let found = first_fault(rt.alloc(), text.as_bytes())?;
-        assert!(rt; found == at(line, fault), "{name}");
+    use TraceFaultKind as kind;
+    let geometry = small()?;
+    for (texts, line, fault) in [
+        (SECOND_SECTOR, 2, kind::Sector),
+        (SECOND_FIELDS, 2, kind::Fields),
+        (SECOND_WORKER, 2, kind::Worker),
+        (FIRST_OP, 1, kind::Op),
+    ] {
+        assert!(rt;
+            all_have(rt.alloc(), &geometry, texts, at(line, fault)),
+            "{fault}"
+        );
     }
     Ok(())
 }
@@ -310,40 +244,37 @@ fn bytes_that_are_no_text_fail_their_check(rt: HostRuntime) -> Result<(), Fail> 
     Ok(())
 }
 
+// A text, and so many bytes more.
+fn padded(alloc: Global, front: &str, byte: u8, count: u32) -> Result<Vec<u8>, Fail> {
+    let mut text = Vec::from_slice(alloc, front.as_bytes())?;
+    text.resize(front.len() + count as usize, byte)?;
+    Ok(text)
+}
+
 #[test]
 fn long_data_is_too_long_or_no_digits(rt: HostRuntime) -> Result<(), Fail> {
-    let mut text = Vec::from_slice(rt.alloc(), b"0,write,0,")?;
-    for _ in 0..100_000 {
-        text.push(b'0')?;
+    use TraceFaultKind as kind;
+    for (digits, fault) in [(100_000, kind::TooLong), (100_001, kind::Hex)] {
+        let text = padded(rt.alloc(), "0,write,0,", b'0', digits)?;
+        assert!(rt; first_fault(rt.alloc(), text.as_slice())? == at(1, fault));
     }
-    assert!(rt; first_fault(rt.alloc(), text.as_slice())? == at(1, TraceFaultKind::TooLong));
-    text.push(b'0')?;
-    assert!(rt; first_fault(rt.alloc(), text.as_slice())? == at(1, TraceFaultKind::Hex));
     Ok(())
 }
 
-// A record, and its fault, if it has one.
-const LIMITS: [(&str, Option<TraceFaultKind>); 7] = [
-    ("499,read,0,", None),
-    ("500,read,0,", Some(TraceFaultKind::Worker)),
-    ("0000499,read,0,", None),
-    ("00000499,read,0,", Some(TraceFaultKind::Worker)),
-    ("0,read,1048575,", None),
-    ("0,read,1048576,", Some(TraceFaultKind::Sector)),
-    ("0,read,01048575,", Some(TraceFaultKind::Sector)),
-];
+// On the largest device: numbers that are accepted, and workers and sectors that aren't.
+const WITHIN: &str = "499,read,0,|0000499,read,0,|0,read,1048575,";
+
+const NO_WORKER: &str = "500,read,0,|00000499,read,0,";
+
+const NO_SECTOR: &str = "0,read,1048576,|0,read,01048575,";
 
 #[test]
 fn numbers_end_at_their_limits(rt: HostRuntime) -> Result<(), Fail> {
+    use TraceFaultKind as kind;
     let largest = Geometry::new(1, 4096, 1024, 1, 1_048_576, 10, 0, 0)?;
-    for (text, fault) in LIMITS {
-        let found = parse(rt.alloc(), text.as_bytes(), &largest).err();
-        let wanted = match fault {
-            Some(kind) => at(1, kind),
-            None => None,
-        };
-        assert!(rt; found == wanted, "{text}");
-    }
+    assert!(rt; all_have(rt.alloc(), &largest, WITHIN, None));
+    assert!(rt; all_have(rt.alloc(), &largest, NO_WORKER, at(1, kind::Worker)));
+    assert!(rt; all_have(rt.alloc(), &largest, NO_SECTOR, at(1, kind::Sector)));
     Ok(())
 }
 
@@ -472,11 +403,8 @@ fn the_fault_of_line_100001_is_told(rt: HostRuntime) -> Result<(), Fail> {
 
 #[test]
 fn ten_million_commas_are_a_record_of_too_many_fields(rt: HostRuntime) -> Result<(), Fail> {
-    for front in ["", "\"\"", "0,\"read\",0,\n"] {
-        let mut text = Vec::from_slice(rt.alloc(), front.as_bytes())?;
-        let start = text.len();
-        text.resize(start + 10_000_000, b',')?;
-        let line = if front.len() > 2 { 2 } else { 1 };
+    for (front, line) in [("", 1), ("\"\"", 1), ("0,\"read\",0,\n", 2)] {
+        let text = padded(rt.alloc(), front, b',', 10_000_000)?;
         assert!(rt; first_fault(rt.alloc(), text.as_slice())? == at(line, TraceFaultKind::Fields));
     }
     Ok(())
