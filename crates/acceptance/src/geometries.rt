@@ -1,42 +1,19 @@
 use geometry::{Geometry, GeometryFault, put_word, word_at};
 use std::test::Fail;
 
-// The table of geometries, row by row: luns, blocks, pages, words, sectors, endurance, hosts, brooms.
-const FAULTS: [([u32; 8], GeometryFault); 12] = [
-    ([0, 2, 2, 1, 3, 10, 0, 0], GeometryFault::Luns),
-    ([2, 3, 2, 1, 3, 10, 0, 0], GeometryFault::Blocks),
-    ([1, 3, 16385, 1, 3, 10, 0, 0], GeometryFault::Pages),
-    ([1, 3, 2, 513, 3, 10, 0, 0], GeometryFault::Words),
-    ([1, 3, 2, 1, 0, 10, 0, 0], GeometryFault::Sectors),
-    ([1, 3, 2, 1, 3, 0, 0, 0], GeometryFault::Endurance),
-    ([1, 3, 2, 1, 3, 10, 0, 1], GeometryFault::Passes),
-    ([1, 3, 2, 1, 3, 10, 501, 0], GeometryFault::Passes),
-    ([1, 4096, 1024, 3, 1, 10, 0, 0], GeometryFault::TooManyWords),
-    ([1, 3, 2, 1, 4, 10, 0, 0], GeometryFault::TooFewBlocks),
-    ([1, 5, 2, 1, 3, 10, 2, 1], GeometryFault::TooFewBlocks),
-    ([1, 4, 2, 1, 1, 10, 2, 1], GeometryFault::TooFewBlocks),
-];
-
+// Geometries are rows of eight numbers: luns, blocks, pages, words, sectors, endurance, hosts, brooms.
 fn geometry_of(n: [u32; 8]) -> Result<Geometry, GeometryFault> {
     Geometry::new(n[0], n[1], n[2], n[3], n[4], n[5], n[6], n[7])
 }
 
 #[test]
-fn the_small_geometries_are_accepted(rt: HostRuntime) -> Result<(), Fail> {
+fn a_geometry_has_its_numbers(rt: HostRuntime) -> Result<(), Fail> {
     let one_thread = geometry_of([1, 3, 2, 1, 3, 10, 0, 0])?;
-    assert!(rt; one_thread.blocks() == 3);
-    assert!(rt; one_thread.page_bytes() == 8);
+    assert!(rt; (one_thread.blocks(), one_thread.page_bytes()) == (3, 8));
     let shared = geometry_of([1, 5, 2, 1, 2, 10, 2, 1])?;
-    assert!(rt; shared.hosts() == 2);
-    assert!(rt; shared.brooms() == 1);
-    Ok(())
-}
-
-#[test]
-fn each_faulty_row_has_its_fault(rt: HostRuntime) -> Result<(), Fail> {
-    for (numbers, fault) in FAULTS {
-        assert!(rt; geometry_of(numbers) == Err(fault), "{numbers:?}");
-    }
+    assert!(rt; (shared.hosts(), shared.brooms()) == (2, 1));
+    let two_luns = geometry_of([2, 4, 2, 1, 3, 10, 0, 0])?;
+    assert!(rt; (two_luns.blocks(), two_luns.lun_of(1), two_luns.lun_of(2)) == (4, 0, 1));
     Ok(())
 }
 
@@ -56,8 +33,20 @@ const ENDS: [[u32; 8]; 12] = [
     [1, 66, 2, 1, 2, 10, 1, 32],
 ];
 
-// And the first that are refused.
-const BEYOND: [([u32; 8], GeometryFault); 12] = [
+// And the first that are refused, and further ones.
+const BEYOND: [([u32; 8], GeometryFault); 24] = [
+    ([0, 2, 2, 1, 3, 10, 0, 0], GeometryFault::Luns),
+    ([2, 3, 2, 1, 3, 10, 0, 0], GeometryFault::Blocks),
+    ([1, 3, 16385, 1, 3, 10, 0, 0], GeometryFault::Pages),
+    ([1, 3, 2, 513, 3, 10, 0, 0], GeometryFault::Words),
+    ([1, 3, 2, 1, 0, 10, 0, 0], GeometryFault::Sectors),
+    ([1, 3, 2, 1, 3, 0, 0, 0], GeometryFault::Endurance),
+    ([1, 3, 2, 1, 3, 10, 0, 1], GeometryFault::Passes),
+    ([1, 3, 2, 1, 3, 10, 501, 0], GeometryFault::Passes),
+    ([1, 4096, 1024, 3, 1, 10, 0, 0], GeometryFault::TooManyWords),
+    ([1, 3, 2, 1, 4, 10, 0, 0], GeometryFault::TooFewBlocks),
+    ([1, 5, 2, 1, 3, 10, 2, 1], GeometryFault::TooFewBlocks),
+    ([1, 4, 2, 1, 1, 10, 2, 1], GeometryFault::TooFewBlocks),
     ([9, 9, 2, 1, 3, 10, 0, 0], GeometryFault::Luns),
     ([1, 2, 2, 1, 1, 10, 0, 0], GeometryFault::Blocks),
     ([1, 4097, 2, 1, 3, 10, 0, 0], GeometryFault::Blocks),
@@ -95,15 +84,6 @@ fn each_limit_is_where_it_is_said_to_be(rt: HostRuntime) -> Result<(), Fail> {
 fn a_fault_is_printed_by_its_name(rt: HostRuntime) -> Result<(), Fail> {
     let text = format!(in rt.alloc(); "{}", GeometryFault::TooFewBlocks)?;
     assert!(rt; text.as_str() == "TooFewBlocks");
-    Ok(())
-}
-
-#[test]
-fn blocks_are_dealt_to_luns_in_runs(rt: HostRuntime) -> Result<(), Fail> {
-    let two = geometry_of([2, 4, 2, 1, 3, 10, 0, 0])?;
-    assert!(rt; two.blocks() == 4);
-    assert!(rt; two.lun_of(1) == 0);
-    assert!(rt; two.lun_of(2) == 1);
     Ok(())
 }
 

@@ -252,11 +252,21 @@ fn padded(alloc: Global, front: &str, byte: u8, count: u32) -> Result<Vec<u8>, F
 }
 
 #[test]
-fn long_data_is_too_long_or_no_digits(rt: HostRuntime) -> Result<(), Fail> {
+fn long_texts_have_their_faults(rt: HostRuntime) -> Result<(), Fail> {
     use TraceFaultKind as kind;
-    for (digits, fault) in [(100_000, kind::TooLong), (100_001, kind::Hex)] {
-        let text = padded(rt.alloc(), "0,write,0,", b'0', digits)?;
-        assert!(rt; first_fault(rt.alloc(), text.as_slice())? == at(1, fault));
+    let wanted = [
+        ("0,write,0,", b'0', 100_000, at(1, kind::TooLong)),
+        ("0,write,0,", b'0', 100_001, at(1, kind::Hex)),
+        ("", b',', 10_000_000, at(1, kind::Fields)),
+        ("\"\"", b',', 10_000_000, at(1, kind::Fields)),
+        ("0,\"read\",0,\n", b',', 10_000_000, at(2, kind::Fields)),
+    ];
+    for (front, byte, count, fault) in wanted {
+        let text = padded(rt.alloc(), front, byte, count)?;
+        assert!(rt;
+            first_fault(rt.alloc(), text.as_slice())? == fault,
+            "{front}"
+        );
     }
     Ok(())
 }
@@ -275,14 +285,9 @@ fn numbers_end_at_their_limits(rt: HostRuntime) -> Result<(), Fail> {
     assert!(rt; all_have(rt.alloc(), &largest, WITHIN, None));
     assert!(rt; all_have(rt.alloc(), &largest, NO_WORKER, at(1, kind::Worker)));
     assert!(rt; all_have(rt.alloc(), &largest, NO_SECTOR, at(1, kind::Sector)));
-    Ok(())
-}
-
-#[test]
-fn a_worker_is_below_the_number_of_hosts(rt: HostRuntime) -> Result<(), Fail> {
-    let shared = Geometry::new(1, 5, 2, 1, 2, 10, 2, 1)?;
-    assert!(rt; parse(rt.alloc(), b"1,read,0,", &shared)?.len() == 1);
-    assert!(rt; parse(rt.alloc(), b"2,read,0,", &shared).err() == at(1, TraceFaultKind::Worker));
+    let two_hosts = Geometry::new(1, 5, 2, 1, 2, 10, 2, 1)?;
+    assert!(rt; all_have(rt.alloc(), &two_hosts, "1,read,0,", None));
+    assert!(rt; all_have(rt.alloc(), &two_hosts, "2,read,0,", at(1, kind::Worker)));
     Ok(())
 }
 
@@ -402,31 +407,19 @@ fn the_fault_of_line_100001_is_told(rt: HostRuntime) -> Result<(), Fail> {
 }
 
 #[test]
-fn ten_million_commas_are_a_record_of_too_many_fields(rt: HostRuntime) -> Result<(), Fail> {
-    for (front, line) in [("", 1), ("\"\"", 1), ("0,\"read\",0,\n", 2)] {
-        let text = padded(rt.alloc(), front, b',', 10_000_000)?;
-        assert!(rt; first_fault(rt.alloc(), text.as_slice())? == at(line, TraceFaultKind::Fields));
-    }
-    Ok(())
-}
-
-#[test]
-fn a_reader_that_fails_ends_the_load(rt: HostRuntime) -> Result<(), Fail> {
-    let mut reader = Watched::new(Pieces {
+fn a_load_ends_where_its_reader_fails_or_has_no_end(rt: HostRuntime) {
+    let mut failing = Watched::new(Pieces {
         rest: b"0,write,0,41\n",
         size: 3,
         fails_at: Some(4),
     });
-    assert!(rt; load(rt.alloc(), &mut reader).err() == at(0, TraceFaultKind::Read));
-    assert!(rt; reader.failures() == 1);
-    Ok(())
-}
-
-#[test]
-fn a_trace_without_end_is_big(rt: HostRuntime) {
-    let mut reader = Watched::new(Endless);
-    assert!(rt; load(rt.alloc(), &mut reader).err() == at(0, TraceFaultKind::Big));
-    assert!(rt; reader.failures() == 0);
+    let mut endless = Watched::new(Endless);
+    let found = (
+        load(rt.alloc(), &mut failing).err(),
+        load(rt.alloc(), &mut endless).err(),
+    );
+    assert!(rt; found == (at(0, TraceFaultKind::Read), at(0, TraceFaultKind::Big)));
+    assert!(rt; (failing.failures(), endless.failures()) == (1, 0));
 }
 
 // Takes so many bytes, and then nothing; its flush fails.

@@ -21,21 +21,8 @@ fn a_map_word_names_generation_block_and_page(rt: HostRuntime) -> Result<(), Fai
     Ok(())
 }
 
-#[test]
-fn a_pin_word_has_readers_phase_pages_and_generation(rt: HostRuntime) -> Result<(), Fail> {
-    let pin = PinWord {
-        readers: 2,
-        phase: Phase::Closed,
-        written: 2,
-        generation: 5,
-    };
-    assert!(rt; pin.pack() == 0x0000_0005_0002_3002);
-    assert!(rt; PinWord::unpack(0x0000_0005_0002_3002) == Some(pin));
-    Ok(())
-}
-
-// The words of block 0 in a volume of two pages a block, from its first write until it is free again.
-const BLOCK_ZERO: [(u64, PinWord); 8] = [
+// The words of block 0 in a volume of two pages a block, from its first write until it is free again; and that of a block that two read.
+const PIN_WORDS: [(u64, PinWord); 9] = [
     (
         0x0,
         PinWord {
@@ -108,12 +95,30 @@ const BLOCK_ZERO: [(u64, PinWord); 8] = [
             generation: 1,
         },
     ),
+    (
+        0x5_0002_3002,
+        PinWord {
+            readers: 2,
+            phase: Phase::Closed,
+            written: 2,
+            generation: 5,
+        },
+    ),
 ];
 
+// Words that are no block's: of a phase that stands open and of one that there isn't, and of a free block with a page.
+const NO_PIN_WORDS: [u64; 3] = [0x2000, 0xd000, 0x1_0000];
+
 #[test]
-fn a_block_goes_round_by_its_words(rt: HostRuntime) -> Result<(), Fail> {
-    for (word, pin) in BLOCK_ZERO {
-        assert!(rt; PinWord::unpack(word) == Some(pin), "{pin}");
+fn pin_words_have_readers_phase_pages_and_generation(rt: HostRuntime) -> Result<(), Fail> {
+    for (word, pin) in PIN_WORDS {
+        assert!(rt;
+            PinWord::unpack(word) == Some(pin) && pin.pack() == word,
+            "{pin}"
+        );
+    }
+    for word in NO_PIN_WORDS {
+        assert!(rt; PinWord::unpack(word) == None, "{word}");
     }
     Ok(())
 }
@@ -125,14 +130,6 @@ fn owners_add_these_numbers(rt: HostRuntime) -> Result<(), Fail> {
     assert!(rt; PAGE_WRITTEN == 0x1_0000);
     assert!(rt; freed(2) == 0xfffd_7000);
     assert!(rt; kept(2) == 0xfffd_8000);
-    Ok(())
-}
-
-#[test]
-fn a_word_of_no_state_is_refused(rt: HostRuntime) -> Result<(), Fail> {
-    for word in [0x2000u64, 0xd000, 0x1_0000] {
-        assert!(rt; PinWord::unpack(word) == None, "{word}");
-    }
     Ok(())
 }
 
