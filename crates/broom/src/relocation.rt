@@ -62,18 +62,21 @@ fn copy_page(flash: &Flash, seat: &mut BroomSeat, page: MapWord, sector: u32) ->
     let Some(destination) = seat.blocks().destination else {
         unreachable!()
     };
-    let words = flash.geometry().words();
-    for i in 0..words {
-        let word = flash.get_source_word(seat, page, i);
-        flash.put_copy_word(seat, i, word);
-    }
-    flash.put_copy_word(seat, words, u64::from(sector));
-    flash.count_copy(seat);
-    MapWord {
+    let copy = MapWord {
         generation: destination.generation,
         block: destination.block,
         page: destination.written,
+    };
+    let source = flash.page_start(page);
+    let start = flash.page_start(copy);
+    let words = flash.geometry().words();
+    for i in 0..words {
+        let word = flash.get_source_word(seat, page, source, i);
+        flash.put_copy_word(seat, start, i, word);
     }
+    flash.put_copy_word(seat, start, words, u64::from(sector));
+    flash.count_copy(seat);
+    copy
 }
 
 // Closes the destination if no page is left in it.

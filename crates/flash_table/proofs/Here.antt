@@ -1,10 +1,10 @@
 -- The steps as `atomic_table` asks for them, at the place that the code computes and at the table's own numbers.
-use Rattle.std.proofs.Common.{◌≡◌, ℕ, ◌+◌, ◌%◌, ◌^◌, ◌-◌, ◌<◌, ◌==◌, true, List, length, Some, None, sym, refl, subst}
+use Rattle.std.proofs.Common.{◌≡◌, ℕ, ◌+◌, ◌%◌, ◌^◌, ◌-◌, ◌<◌, ◌==◌, true, List, length, Some, None, ap, arith, sym, refl, subst}
 use Rattle.std.specs.Int.Bits.{bit_or}
 use mathlib.Core.Option.{none}
 use prog.Atomic.{either}
 use Rattle.atomic_table.specs.Table.{step, Allows, Splits, Joins}
-use Rattle.geometry.specs.Limits.{Numbers}
+use Rattle.geometry.specs.Limits.{Numbers, table_words_of}
 use Rattle.geometry.specs.MapWords.{FitsMap, map_word}
 use Rattle.geometry.specs.TableOrder.{pin_index, page_index}
 use Rattle.geometry.specs.declared.map_word.MapWord.{MapWord}
@@ -22,10 +22,20 @@ use Rattle.flash_rule.specs.declared.carried.Carried.{Carried}
 use Rattle.flash_rule.specs.declared.view.View.{View}
 use Rattle.flash_rule.specs.Seats.{lender, lent_note, host_of, giver, given_note, home, gone}
 use Rattle.flash_rule.proofs.OwnSteps.{player_of}
+use Rattle.flash_rule.proofs.Places.{page_within}
 use Rattle.flash_rule.proofs.Notes.{lends, gives, takes_in, comes_home}
 use Rattle.flash_rule.proofs.Steps.{look_allowed, trim_allowed, write_allowed, new_allowed, take_allowed, put_allowed, count_allowed, close_allowed, get_allowed}
 use Rattle.flash_rule.proofs.ReaderSteps.{pin_allowed, unpin_allowed}
 use Rattle.flash_table.proofs.AtPlace.{at_place, at_numbers}
+
+-- the next word of a page that is being filled is one of the table's
+pub put_within : (z : Numbers) (v : View) (o : Owned) (i : ℕ) → v.numbers ≡ z → CanPut v o → i ≡ length (words_in v.work o) → o.block < z.blocks
+    → page_index z o.block o.written + i < table_words_of z.blocks z.pages z.words z.sectors
+put_within z v o i same can here low =
+    let pages : v.numbers.pages ≡ z.pages = ap (λ (y : Numbers). y.pages) same in
+    let words : v.numbers.words ≡ z.words = ap (λ (y : Numbers). y.words) same in
+    let room = can.room in
+    let short = can.short in page_within z o.block o.written i low (omega arith) (omega arith)
 
 module _ (z k : Numbers) (same : k ≡ z) (slots id : ℕ) (me : Sitter) where
   pub look_here : (s : ℕ) → is_pass me.0.role ≡ true → is_unpinned me.0.pin ≡ true → s < z.sectors → Allows (Ruled k) slots id me s (λ n. n) (look_told (step slots s 0 0 none) me)

@@ -73,6 +73,10 @@ by_outcome false P Q R S f g h = g h
 pub same_block : (a b : OpenBlock) (x : Option OpenBlock) → x ≡ Some a → x ≡ Some b → a ≡ b
 same_block a b x p q = some_same a b (sym p ∙ q)
 
+-- a place at which one block's next page begins, where another name of that block is asked for
+pub starts_same : (z : Numbers) (start : ℕ) (a b : OpenBlock) (x : Option OpenBlock) → start ≡ page_index z a.block a.written → x ≡ Some a → x ≡ Some b → start ≡ page_index z b.block b.written
+starts_same z start a b x at p q = at ∙ ap (λ (o : OpenBlock). page_index z o.block o.written) (same_block a b x p q)
+
 module _ (f : Flash) (p : Pass) (h : IsPassOf f p) (slots n : ℕ) (after : Sitter) where
   -- ---- close
   pub close_can : (o : OpenBlock) → p.opened ≡ Some o → (x : OpenBlock) × (p.opened ≡ Some x) × CanClose (view_of p) (owned_of x) × (x.block < (device f).blocks) → CanClose (view_of p) (owned_of o) × (o.block < (device f).blocks)

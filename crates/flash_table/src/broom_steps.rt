@@ -1,5 +1,7 @@
 //! The steps by which a broom fills and closes the block that it copies live pages to, one atomic operation each.
 ghost use Rattle.std.specs.Prelude.{◌≡◌, ◌+◌, ◌<◌, [], ◌∷◌, ◌++◌, Some, None};
+ghost use Rattle.geometry.specs.Geometry.{numbers_of};
+ghost use Rattle.geometry.specs.TableOrder.{page_index};
 ghost use Rattle.flash_rule.specs.declared.facts.Work.{Work};
 ghost use Rattle.flash_rule.specs.Views.{with_owned};
 ghost use Rattle.flash_rule.specs.Plays.{CanCount};
@@ -13,25 +15,19 @@ use crate::broom_seat::BroomSeat;
 use crate::flash::Flash;
 use crate::pass::OpenBlock;
 use flash_rule::{Close, Count, PutWord};
-use geometry::{NEXT_PHASE, PAGE_WRITTEN, PageAddr, page_word_at, pin_at};
+use geometry::{NEXT_PHASE, PAGE_WRITTEN, pin_at};
 
 impl Flash {
-    /// Puts word `i` of the first page not written of the destination; after the data words comes the stamp.
-    pub fn put_copy_word(&self, broom: &mut BroomSeat, i: u32, word: u64)
+    /// Puts word `i` of the first page not written of the destination, whose words begin at `start`; after the data words comes the stamp.
+    pub fn put_copy_word(&self, broom: &mut BroomSeat, start: usize, i: u32, word: u64)
         requires broom { IsBroomOf self.now broom.old }
         requires next { IsNextWord (geometry_of self.now) (broom_view broom.old) (own_blocks broom.old).destination i }
+        requires start { (o : OpenBlock) → (own_blocks broom.old).destination ≡ Some o → start ≡ page_index (numbers_of (geometry_of self.now)) o.block o.written }
         ensures told { HasPut (broom_view broom.old) (own_blocks broom.old).destination word (broom_view broom.new) }
         ensures broom { IsBroomOf self.now broom.new }
         ensures blocks { own_blocks broom.new ≡ own_blocks broom.old }
     {
-        let Some(opened) = broom.blocks.destination else {
-            unreachable!()
-        };
-        let addr = PageAddr {
-            block: opened.block,
-            page: opened.written,
-        };
-        let place = page_word_at(&self.geometry, addr, i);
+        let place = start + i as usize;
         self.table
             .shared
             .store::<PutWord>(&mut broom.seat, place, word);

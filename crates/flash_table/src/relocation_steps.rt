@@ -1,6 +1,7 @@
 //! The steps by which a broom looks at sectors and copies live pages out of its victim, one atomic operation each.
 ghost use Rattle.std.specs.Prelude.{◌≡◌, ℕ, ◌<◌, List, IfSome, Some};
-ghost use Rattle.geometry.specs.Geometry.{blocks_of, pages_of, words_of, sectors_of};
+ghost use Rattle.geometry.specs.Geometry.{numbers_of, blocks_of, pages_of, words_of, sectors_of};
+ghost use Rattle.geometry.specs.TableOrder.{page_index};
 ghost use Rattle.geometry.specs.MapWords.{FitsMap};
 ghost use Rattle.flash_rule.specs.declared.facts.Source.{Source};
 ghost use Rattle.flash_rule.specs.World.{sector_word, data_word};
@@ -51,23 +52,20 @@ impl Flash {
         self.table.shared.load::<GetStamp>(&mut broom.seat, place)
     }
 
-    /// Word `i` of the page that is copied.
-    pub fn get_source_word(&self, broom: &mut BroomSeat, page: MapWord, i: u32) -> u64
+    /// Word `i` of the page that is copied, whose words begin at `start`.
+    pub fn get_source_word(&self, broom: &mut BroomSeat, page: MapWord, start: usize, i: u32) -> u64
         requires broom { IsBroomOf self.now broom.old }
         requires source { (x : Source) × ((broom_view broom.old).source ≡ Some x) × (x.page ≡ page) }
         requires block { page.block < blocks_of (geometry_of self.now) }
         requires page { page.page < pages_of (geometry_of self.now) }
+        requires start { start ≡ page_index (numbers_of (geometry_of self.now)) page.block page.page }
         requires word { i < words_of (geometry_of self.now) }
         ensures told { (x : Source) (value : List ℕ) → (broom_view broom.old).source ≡ Some x → x.value ≡ Some value → result ≡ data_word value i }
         ensures same { broom_view broom.new ≡ broom_view broom.old }
         ensures broom { IsBroomOf self.now broom.new }
         ensures blocks { own_blocks broom.new ≡ own_blocks broom.old }
     {
-        let addr = PageAddr {
-            block: page.block,
-            page: page.page,
-        };
-        let place = page_word_at(&self.geometry, addr, i);
+        let place = start + i as usize;
         self.table.shared.load::<GetSource>(&mut broom.seat, place)
     }
 

@@ -3,7 +3,8 @@ ghost use Rattle.std.specs.Prelude.{◌≡◌, ℕ, ◌+◌, ◌<◌, List, [], 
 ghost use Rattle.geometry.specs.PinWords.{FitsPin, pin_word};
 ghost use Rattle.geometry.specs.declared.pin_word.PinWord.{PinWord};
 ghost use Rattle.geometry.specs.declared.pin_word.Phase.TheVariants as phase;
-ghost use Rattle.geometry.specs.Geometry.{sectors_of, blocks_of};
+ghost use Rattle.geometry.specs.Geometry.{numbers_of, sectors_of, blocks_of};
+ghost use Rattle.geometry.specs.TableOrder.{page_index};
 ghost use Rattle.geometry.specs.MapWords.{FitsMap};
 ghost use Rattle.geometry.specs.History.{Write, WriteNew, Trim};
 ghost use Rattle.flash_rule.specs.declared.facts.Work.{Work};
@@ -18,10 +19,7 @@ ghost use Rattle.flash_table.specs.Steps.{CanGiveUp, HasCalled, HasNumber, HasPu
 use crate::flash::Flash;
 use crate::pass::{OpenBlock, Pass};
 use flash_rule::{Close, Count, Look, PlaceNew, PlaceTrim, PlaceWrite, PutWord, Take};
-use geometry::{
-    MapWord, NEXT_PHASE, PAGE_WRITTEN, PageAddr, Phase, PinWord, TAKEN, UNMAPPED, Was,
-    page_word_at, pin_at,
-};
+use geometry::{MapWord, NEXT_PHASE, PAGE_WRITTEN, Phase, PinWord, TAKEN, UNMAPPED, Was, pin_at};
 
 // What a sector was, by the word that was found there.
 fn was_by(found: u64) -> Was
@@ -143,22 +141,16 @@ impl Flash {
         }
     }
 
-    /// Puts word `i` of the first page not written of the open block; after the data words comes the stamp.
-    pub fn put_word(&self, pass: &mut Pass, i: u32, word: u64)
+    /// Puts word `i` of the first page not written of the open block, whose words begin at `start`; after the data words comes the stamp.
+    pub fn put_word(&self, pass: &mut Pass, start: usize, i: u32, word: u64)
         requires pass { IsPassOf self.now pass.old }
         requires next { IsNextWord (geometry_of self.now) (view_of pass.old) (opened_of pass.old) i }
+        requires start { (o : OpenBlock) → opened_of pass.old ≡ Some o → start ≡ page_index (numbers_of (geometry_of self.now)) o.block o.written }
         ensures told { HasPut (view_of pass.old) (opened_of pass.old) word (view_of pass.new) }
         ensures pass { IsPassOf self.now pass.new }
         ensures opened { opened_of pass.new ≡ opened_of pass.old }
     {
-        let Some(opened) = pass.opened else {
-            unreachable!()
-        };
-        let addr = PageAddr {
-            block: opened.block,
-            page: opened.written,
-        };
-        let place = page_word_at(&self.geometry, addr, i);
+        let place = start + i as usize;
         self.table
             .shared
             .store::<PutWord>(&mut pass.seat, place, word);

@@ -94,17 +94,19 @@ pub(crate) fn fill(flash: &Flash, pass: &mut Pass, sector: u32, bytes: &[u8]) ->
     let Some(opened) = pass.opened() else {
         unreachable!()
     };
-    let words = flash.geometry().words();
-    for i in 0..words {
-        flash.put_word(pass, i, word_at(bytes, i as usize));
-    }
-    flash.put_word(pass, words, sector as u64);
-    flash.count(pass);
-    MapWord {
+    let page = MapWord {
         generation: opened.generation,
         block: opened.block,
         page: opened.written,
+    };
+    let start = flash.page_start(page);
+    let words = flash.geometry().words();
+    for i in 0..words {
+        flash.put_word(pass, start, i, word_at(bytes, i as usize));
     }
+    flash.put_word(pass, start, words, sector as u64);
+    flash.count(pass);
+    page
 }
 
 // Fills and counts a page of the open block, or of the lowest block that is free; without one there is no page.

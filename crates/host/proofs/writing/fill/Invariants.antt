@@ -1,6 +1,9 @@
-use Rattle.flash_table.specs.Flash.{view_of}
+use Rattle.std.proofs.Common.{◌≡◌, Some}
+use Rattle.flash_table.specs.Flash.{view_of, opened_of}
+use Rattle.flash_table.specs.declared.pass.OpenBlock.{OpenBlock}
 use Rattle.host.proofs.WritingSteps.{Filling}
 use Rattle.host.proofs.writing.fill.Given as goal
 
+-- the words so far stand in the open block's next page
 abbrev pub invariant-loop-i : goal.invariant-loop-i
-invariant-loop-i l = Filling l.flash (view_of l.fn.pass) l.opened l.bytes l.i l.pass
+invariant-loop-i l = (o : OpenBlock) → opened_of l.fn.pass ≡ Some o → Filling l.flash (view_of l.fn.pass) o l.bytes l.i l.pass
