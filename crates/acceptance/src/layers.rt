@@ -48,18 +48,19 @@ impl Bench {
         self.ftl.trim(sector)
     }
 
-    // The sector's byte, if it is written.
+    // The sector's byte, if it is written: the page that is lent, and the one that is read.
     fn read(&self, rt: &impl Abort, sector: u32) -> Option<u8> {
         assert!(rt; sector < self.ftl.geometry().sectors());
         let mut page = [99; 8];
-        match self.ftl.read(sector, &mut page) {
-            Got::Empty => {
-                assert!(rt; page == [99; 8]);
+        let got = self.ftl.read(sector, &mut page);
+        match self.ftl.page(sector) {
+            None => {
+                assert!(rt; (got, page) == (Got::Empty, [99; 8]));
                 None
             }
-            Got::Data => {
-                let byte = page[0];
-                assert!(rt; page == [byte, 0, 0, 0, 0, 0, 0, 0]);
+            Some(lent) => {
+                let byte = lent[0];
+                assert!(rt; (got, page) == (Got::Data, [byte, 0, 0, 0, 0, 0, 0, 0]));
                 Some(byte)
             }
         }

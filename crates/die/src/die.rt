@@ -3,7 +3,7 @@ ghost use Rattle.geometry.specs.Geometry.{blocks_of, pages_of, page_bytes_of, en
 ghost use Rattle.die.specs.Sound.{IsSound, unused};
 
 use crate::block_state::BlockState;
-use crate::slots::{get_page, move_page, put_page};
+use crate::slots::{get_page, lend_page, move_page, put_page};
 use geometry::{Geometry, PageAddr};
 use std::alloc::{AllocError, Global};
 
@@ -86,6 +86,15 @@ impl Die {
         let place = self.place_of(at);
         get_page(&self.bytes, place, out);
         u64::from(self.stamps[place])
+    }
+
+    /// The main bytes of a programmed page, where they stand.
+    pub fn page(&self, at: PageAddr) -> &[u8]
+        requires { IsProgrammed self.now at }
+        ensures value { result.now ≡ (page_at (page_bytes_of (geometry_of self.now)) (block_of self.now at.block) at.page).value }
+        ensures size { length result.now ≡ page_bytes_of (geometry_of self.now) }
+    {
+        lend_page(&self.bytes, self.geometry.page_bytes(), self.place_of(at))
     }
 
     /// ONFI 4.0, Read with a column address in the spare bytes: the stamp of a programmed page alone.

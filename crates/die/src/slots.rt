@@ -10,6 +10,16 @@ pub fn get_page(bytes: &[u8], place: usize, out: &mut [u8])
     out.copy_from_slice(&bytes[start..start + out.len()]);
 }
 
+/// The page at a place among the bytes of all pages.
+pub fn lend_page(bytes: &[u8], page_bytes: usize, place: usize) -> &[u8]
+    requires { (place + 1) * page_bytes ≤ length bytes.now }
+    ensures value { result.now ≡ slot page_bytes bytes.now place }
+    ensures size { length result.now ≡ page_bytes }
+{
+    let start = place * page_bytes;
+    &bytes[start..start + page_bytes]
+}
+
 /// Copies a page into its place among the bytes of all pages.
 pub fn put_page(bytes: &mut [u8], place: usize, page: &[u8])
     requires { (place + 1) * length page.now ≤ length bytes.old }

@@ -108,6 +108,16 @@ impl OneFtl {
         self.store.read(sector, out)
     }
 
+    /// The page of a sector where it stands, or none for an empty sector.
+    pub fn page(&self, sector: u32) -> Option<&[u8]>
+        requires { sector < sectors_of (geometry_of self.now) }
+        ensures some { IfSome result (λ page. sector_at (array_of self.now) sector ≡ Some page.now) }
+        ensures none { IfNone result (sector_at (array_of self.now) sector ≡ None) }
+        ensures size { IfSome result (λ page. length page.now ≡ page_bytes_of (geometry_of self.now)) }
+    {
+        self.store.page(sector)
+    }
+
     /// Writes a sector, and answers what it was.
     pub fn write(&mut self, sector: u32, bytes: &[u8]) -> Result<Was, WornOut>
         requires sector { sector < sectors_of (geometry_of self.old) }

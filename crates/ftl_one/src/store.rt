@@ -1,4 +1,4 @@
-ghost use Rattle.std.specs.Prelude.{◌≡◌, ℕ, ◌≢◌, ◌+◌, ◌<◌, ◌==◌, Bool, true, false, IfOk, length, slice_set, slice_index_or, None, Some};
+ghost use Rattle.std.specs.Prelude.{◌≡◌, ℕ, ◌≢◌, ◌+◌, ◌<◌, ◌==◌, Bool, true, false, IfOk, length, slice_set, slice_index_or, None, Some, IfNone, IfSome};
 ghost use Rattle.std.specs.List.{range_with_len};
 ghost use Rattle.geometry.specs.Geometry.{blocks_of, pages_of, page_bytes_of, endurance_of, sectors_of};
 ghost use Rattle.geometry.specs.Sectors.{sector_at, was_of, Answers};
@@ -77,6 +77,16 @@ impl Store {
                 Got::Data
             }
         }
+    }
+
+    pub fn page(&self, sector: u32) -> Option<&[u8]>
+        requires { sector < sectors_of (geometry_of self.now) }
+        ensures some { IfSome result (λ page. sector_at (array_of self.now) sector ≡ Some page.now) }
+        ensures none { IfNone result (sector_at (array_of self.now) sector ≡ None) }
+        ensures size { IfSome result (λ page. length page.now ≡ page_bytes_of (geometry_of self.now)) }
+    {
+        let at = self.current[sector as usize].page()?;
+        Some(self.die.page(at))
     }
 
     /// What a sector is.

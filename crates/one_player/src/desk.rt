@@ -1,10 +1,12 @@
 ghost use Rattle.std.specs.Prelude.{◌≡◌, ◌≢◌, ◌+◌, ◌*◌, ◌<◌, ◌≤◌, [], ◌++◌, length, vec_len, IfOk, OnOk, OnErr};
 ghost use Rattle.std.specs.List.{fold};
-ghost use Rattle.geometry.specs.Geometry.{blocks_of, page_bytes_of};
+ghost use Rattle.geometry.specs.Geometry.{blocks_of, page_bytes_of, sectors_of};
 ghost use Rattle.geometry.specs.History.{step};
+ghost use Rattle.geometry.specs.Sectors.{sector_at};
 ghost use Rattle.ftl_one.specs.OneFtl.{geometry_of, array_of, stock_of};
 ghost use Rattle.trace.specs.Watched.{failures_of};
-ghost use Rattle.answers.specs.Answers.{calls_of, wear_names};
+ghost use Rattle.trace.specs.declared.commands.Op.TheVariants as ops;
+ghost use Rattle.answers.specs.Answers.{calls_of, found_text, line_text, wear_names};
 ghost use Rattle.answers.specs.Lines.{page_digits_of, waiting_of};
 ghost use Rattle.answers.specs.Playable.{IsPlayable};
 ghost use Rattle.answers.specs.declared.line.TheConstants.{PIECE_BYTES};
@@ -13,12 +15,12 @@ ghost use Rattle.one_player.specs.Playing.{end_text, is_refused, line_by, stock_
 ghost use Rattle.one_player.specs.Wear.{block_line};
 
 use crate::perform::perform;
-use answers::{Lines, OutputFailed};
+use answers::{Lines, OutputFailed, Reply};
 use ftl_one::OneFtl;
 use geometry::Geometry;
 use std::alloc::{AllocError, Global};
 use std::io::Write;
-use trace::{Command, Watched};
+use trace::{Command, Op, Watched};
 
 /// The room for a run: a page, and the lines that wait to be written.
 #[derive(Drop)]
@@ -50,9 +52,27 @@ impl Desk {
         ensures array { array_of ftl.new ≡ fold step (array_of ftl.old) (calls_of (is_refused (geometry_of ftl.old) (stock_of ftl.old) command.now) command.now) }
         ensures stock { stock_of ftl.new ≡ stock_after (geometry_of ftl.old) (stock_of ftl.old) command.now }
     {
+        if let Op::Read = command.op {
+            self.answer_read(ftl, command.sector, line);
+            return;
+        }
         let reply = perform(ftl, command, &mut self.page);
         self.lines
             .answer(line, command.op, command.sector, reply, &self.page);
+    }
+
+    // Adds the answer line of a read. A page is told from where it stands.
+    fn answer_read(&mut self, ftl: &OneFtl, sector: u32, line: u64)
+        requires sector { sector < sectors_of (geometry_of ftl.now) }
+        requires page { vec_len self.old.page ≡ page_bytes_of (geometry_of ftl.now) }
+        requires room { length (waiting_of self.old.lines) ≤ PIECE_BYTES }
+        ensures page { vec_len self.new.page ≡ vec_len self.old.page }
+        ensures lines { waiting_of self.new.lines ≡ waiting_of self.old.lines ++ line_text line ops.Read sector (found_text (sector_at (array_of ftl.now) sector)) }
+    {
+        match ftl.page(sector) {
+            Some(page) => self.lines.answer(line, Op::Read, sector, Reply::Page, page),
+            None => self.lines.answer(line, Op::Read, sector, Reply::Empty, &[]),
+        }
     }
 
     /// Adds the last line.
