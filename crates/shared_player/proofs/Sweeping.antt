@@ -1,16 +1,12 @@
 -- What two rounds of meetings make of the passes.
-use Rattle.std.proofs.Common.{◌≡◌, ℕ, zero, suc, ◌+◌, ◌<◌, ◌≤◌, All, List, [], ◌∷◌, map, length, get_or, refl, sym, ap, ◌∙◌, subst, arith}
+use Rattle.std.proofs.Common.{◌≡◌, ℕ, zero, suc, ◌+◌, ◌<◌, All, List, ◌∷◌, map, length, get_or, sym, ap, ◌∙◌, subst, arith}
 use Rattle.std.specs.Prelude.{slice_set}
-use Rattle.std.specs.Arc.{arc_value}
 use Rattle.std.proofs.lemmas.List.{get_or-map, get_or_default, map-set, length-map, set-get_or}
 use Rattle.std.proofs.lemmas.List.Elements.{All-cons, All-head, All-tail, All-map, All-weaker}
 use Rattle.geometry.specs.Geometry.{hosts_of}
-use Rattle.geometry.specs.History.{Call, Begins}
-use Rattle.flash_rule.specs.declared.facts.Name.TheVariants.{Pass as APass}
-use Rattle.flash_rule.specs.declared.facts.Role.TheVariants.{Player}
+use Rattle.geometry.specs.History.{Begins}
 use Rattle.flash_rule.specs.declared.view.View.{View}
 use Rattle.flash_rule.specs.Views.{caller, calls_of}
-use Rattle.flash_table.specs.declared.flash.Flash.{Flash}
 use Rattle.flash_table.specs.declared.pass.Pass.{Pass}
 use Rattle.flash_table.specs.Flash.{view_of, device, geometry_of, first_view}
 use Rattle.host.specs.Ready.{IsReady}
@@ -22,7 +18,6 @@ use Rattle.volume.specs.Closing.{HasLooked}
 use Rattle.volume.specs.Gathering.{MetEach}
 use Rattle.volume.specs.Volume.{flash_of}
 use Rattle.volume.proofs.Looks.{Meets, meets_next, looked-trans}
-use Rattle.rounds.specs.Meetings.{WereSwept}
 use Rattle.shared_player.specs.declared.post.Post.{Post}
 use Rattle.shared_player.specs.Meetings.{AreSeated, IsAt, PassesMet, passes_of, rest_of, views_of}
 
@@ -162,3 +157,7 @@ module _ (volume : Volume) (posts : List Post) (first now last : Post) (others q
       subst (λ l. PassesMet volume (passes_of l) (passes_of (last ∷ rs))) (sym row)
       (swept volume first.pass now.pass last.pass (passes_of others) (passes_of qs) (passes_of rs) one two (all_ready volume (first ∷ others) here) (ready_at volume now at_now)
       (all_ready volume (last ∷ rs) (All-cons (IsAt volume) last rs at_last at_rs)) (subst (λ l. AreSeated (passes_of l)) row seated) count)
+
+  pub rests_met : rest_of now ≡ rest_of first → rest_of last ≡ rest_of now → map rest_of qs ≡ map rest_of others → map rest_of rs ≡ map rest_of qs → map rest_of (last ∷ rs) ≡ map rest_of posts
+  rests_met same_now same_last same_qs same_rs =
+      ap (λ r. r ∷ map rest_of rs) (same_last ∙ same_now) ∙ (ap (λ l. rest_of first ∷ l) (same_rs ∙ same_qs) ∙ sym (ap (map rest_of) row))

@@ -1,0 +1,5 @@
+use Rattle.std.proofs.Common.{rules}
+use Rattle.shared_player.proofs.crew.dismiss.Goals as goal
+
+pub returns-clause-posts : goal.returns-clause-posts
+returns-clause-posts c = search rules
