@@ -1,4 +1,4 @@
-use Rattle.std.proofs.Common.{◌≡◌, ◌∙◌, ap, length, subst, sym, arith}
+use Rattle.std.proofs.Common.{◌≡◌, ◌∙◌, ap, length, refl, subst, sym, arith}
 use Rattle.std.proofs.lemmas.Grind.{common_steps}
 use Rattle.std.specs.List.{All}
 use Rattle.trace.specs.Watched.{inner_of}
@@ -46,3 +46,11 @@ returns-clause-why g c =
 
 pub play_commands-requires-clause-playable : goal.play_commands-requires-clause-playable
 play_commands-requires-clause-playable g c = grind (arith, common_steps)
+
+pub returns-in-Err-Threads-clause-why : goal.returns-in-Err-Threads-clause-why
+returns-in-Err-Threads-clause-why g c =
+    let input = g.R.Read.remaining (inner_of c.args.reader.now) in (
+      λ none. omega (arith, none),
+      record { end = c.in-Ok.ensures.end; unfailed = c.in-Ok.ensures.unfailed; meaning = some_meaning c.args.geometry.now c.in-Ok.commands input c.in-Ok.ensures.commands },
+      refl,
+    )
