@@ -3,7 +3,7 @@ use Rattle.std.proofs.Common.{◌≡◌, ℕ, zero, suc, ◌+◌, ◌-◌, ◌<�
 use Rattle.std.proofs.lemmas.List.{length-map, map-append, take-append-le, take_all}
 use Rattle.std.proofs.lemmas.List.Elements.{All-append, All-cons, All-nil}
 use Rattle.std.proofs.Math.Seq.{drop-append-add, drop-append_seam}
-use Rattle.std.specs.Prelude.{All, slice_index_or}
+use Rattle.std.specs.Prelude.{All, Some, slice_get, slice_index_or}
 use Rattle.trace.specs.Digits.{IsData}
 use Rattle.trace.specs.Parsing.{page_len}
 use Rattle.trace.specs.Stored.{IsKept, command_at, digits_at, drafted, head_of, with_digits}
@@ -17,6 +17,11 @@ pub drop-map_at : {A B : Type 0} (f : A → B) (xs : List A) (i : ℕ) (x : A) �
 drop-map_at f [] i x h e = absurd (omega arith)
 drop-map_at f (y ∷ xs) zero x h e = ap (λ v. f v ∷ map f xs) (sym e)
 drop-map_at f (y ∷ xs) (suc i) x h e = drop-map_at f xs i x (omega arith) e
+
+pub slice_get-map_at : {A B : Type 0} (f : A → B) (xs : List A) (i : ℕ) (x : A) → i < length xs → x ≡ slice_index_or xs i x → slice_get (map f xs) i ≡ Some (f x)
+slice_get-map_at f [] i x h e = absurd (omega arith)
+slice_get-map_at f (y ∷ xs) zero x h e = ap (λ v. Some (f v)) (sym e)
+slice_get-map_at f (y ∷ xs) (suc i) x h e = slice_get-map_at f xs i x (omega arith) e
 
 -- a part of a list is the same where the list grows
 part-append : (start count : ℕ) (xs ys : List ℕ) → start + count ≤ length xs → take count (drop start (xs ++ ys)) ≡ take count (drop start xs)

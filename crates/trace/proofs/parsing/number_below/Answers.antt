@@ -1,4 +1,6 @@
 use Rattle.std.proofs.Common.{arith}
+use Rattle.std.proofs.lemmas.Grind.{common_steps}
+use Rattle.trace.specs.Trace.{number_below}
 use Rattle.trace.proofs.NumberFacts.{ten_to}
 use Rattle.trace.proofs.parsing.number_below.Goals as goal
 
@@ -7,3 +9,7 @@ overflow_mul-number c = let few = ten_to c.loop-digit.digit-index (omega arith) 
 
 pub overflow_add-number : goal.overflow_add-number
 overflow_add-number c = let few = ten_to c.loop-digit.digit-index (omega arith) in omega arith
+
+pub returns-then-is_empty-clause-value : goal.returns-then-is_empty-clause-value
+unfolding number_below
+returns-then-is_empty-clause-value c = grind (arith, common_steps)

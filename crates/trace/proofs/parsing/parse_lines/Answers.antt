@@ -37,3 +37,12 @@ records-preserved c =
       draft = c.in_default-add_cut.ensures.draft;
       so_far = one_more_command c.args.text.now c.args.geometry.now (drafted c.args.text.now c.add_usual_lines.new.draft) (drafted c.args.text.now c.add_cut.new.draft) next.fields _ _ c.in-Ok.ensures.so_far next.first (rw told c.in_default-add_cut.ensures.added);
     }
+
+pub returns-in-Err-clause-kept : goal.returns-in-Err-clause-kept
+returns-in-Err-clause-kept c = tt
+
+pub returns-in-Err-clause-commands : goal.returns-in-Err-clause-commands
+returns-in-Err-clause-commands c = tt
+
+pub returns-in-Err-clause-each : goal.returns-in-Err-clause-each
+returns-in-Err-clause-each c = tt
