@@ -3,4 +3,5 @@ pub mod Encodings
 pub mod Numbers
 pub mod Places
 pub mod Playable
+pub mod Readings
 pub mod Texts

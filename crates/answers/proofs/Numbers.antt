@@ -1,9 +1,9 @@
 -- Numbers two and four digits at a time.
-use Rattle.std.proofs.Common.{◌≡◌, ℕ, zero, suc, ◌+◌, ◌-◌, ◌*◌, ◌/◌, ◌%◌, ◌^◌, ◌<◌, ◌≤◌, true, Bool, List, [], ◌∷◌, ◌++◌, length, get_or, set, take, refl, ap, sym, ◌∙◌, arith, eqb, eqb-true, subst, length-set}
+use Rattle.std.proofs.Common.{◌≡◌, ℕ, ◌+◌, ◌*◌, ◌/◌, ◌%◌, ◌^◌, ◌<◌, ◌≤◌, true, List, [], ◌∷◌, ◌++◌, length, get_or, set, take, refl, ap, sym, ◌∙◌, arith, eqb, eqb-true, subst, length-set}
 use Rattle.std.proofs.lemmas.Bool.{agree_below_at}
 use Rattle.std.proofs.lemmas.Fmt.{decimal_digit}
 use Rattle.std.specs.Fmt.{decimal}
-use Rattle.itoa.proofs.Decimal.{decimal_two, decimal_pair, decimal_four, length_four}
+use Rattle.itoa.proofs.Decimal.{decimal_two, decimal_pair, decimal_four}
 use Rattle.answers.specs.Placed.{Placed, two_digits, four_digits}
 use Rattle.answers.proofs.Places.{Placed-byte, Placed-then}
 use Rattle.answers.specs.declared.text.TheConstants.{PAIRS}
