@@ -19,18 +19,25 @@ pub fn options<'a>(alloc: Global, words: &'a [&'a str]) -> Result<Options<'a>, E
         Ok(matches) => matches,
         Err(error) => return Err(error),
     };
-    Ok(Options {
-        luns: number(&matches, "luns", LUNS),
-        blocks: number(&matches, "blocks", BLOCKS),
-        pages: number(&matches, "pages", PAGES),
-        words: number(&matches, "words", WORDS),
-        sectors: number(&matches, "sectors", SECTORS),
-        endurance: number(&matches, "endurance", ENDURANCE),
-        workers: number(&matches, "workers", WORKERS),
-        brooms: number(&matches, "brooms", BROOMS),
-        patience: number(&matches, "patience", PATIENCE),
+    Ok(options_in(&matches))
+}
+
+// The options that the matches give.
+fn options_in<'a>(matches: &ArgMatches<'a>) -> Options<'a>
+    ensures { AreOptionsOf (rows_of (found_of matches.now)) result }
+{
+    Options {
+        luns: number(matches, "luns", LUNS),
+        blocks: number(matches, "blocks", BLOCKS),
+        pages: number(matches, "pages", PAGES),
+        words: number(matches, "words", WORDS),
+        sectors: number(matches, "sectors", SECTORS),
+        endurance: number(matches, "endurance", ENDURANCE),
+        workers: number(matches, "workers", WORKERS),
+        brooms: number(matches, "brooms", BROOMS),
+        patience: number(matches, "patience", PATIENCE),
         wear: matches.get_str("wear"),
-    })
+    }
 }
 
 /// The file that the words name for the wear, where they are accepted.
@@ -64,6 +71,18 @@ fn with_numbers<'a>(alloc: Global) -> Result<Command<'a>, AllocError>
     let command = Command::new(alloc, "flashplay").about(
         "Plays a trace on a page-mapped flash layer: the trace comes from standard input, its answers go to standard output.",
     );
+    let command = with_array(alloc, command)?;
+    with_pages(alloc, command)
+}
+
+// The command with the numbers of the array.
+fn with_array<'a>(alloc: Global, command: Command<'a>) -> Result<Command<'a>, AllocError>
+    ensures { IfOk result (λ more. app_of more ≡
+        with_rule (with_rule (with_rule (app_of command.entry)
+        (option_rule (codes "luns") (codes "1")))
+        (option_rule (codes "blocks") (codes "64")))
+        (option_rule (codes "pages") (codes "64"))) }
+{
     let command = with(alloc, command, "luns", "1", "LUNs, from 1 to 8")?;
     let command = with(
         alloc,
@@ -72,13 +91,23 @@ fn with_numbers<'a>(alloc: Global) -> Result<Command<'a>, AllocError>
         "64",
         "Blocks over all LUNs, from 3 to 4096, a multiple of the LUNs",
     )?;
-    let command = with(
+    with(
         alloc,
         command,
         "pages",
         "64",
         "Pages of a block, from 1 to 16384",
-    )?;
+    )
+}
+
+// The command with the numbers of a page, of the sectors and of a block's erases.
+fn with_pages<'a>(alloc: Global, command: Command<'a>) -> Result<Command<'a>, AllocError>
+    ensures { IfOk result (λ more. app_of more ≡
+        with_rule (with_rule (with_rule (app_of command.entry)
+        (option_rule (codes "words") (codes "64")))
+        (option_rule (codes "sectors") (codes "3072")))
+        (option_rule (codes "endurance") (codes "1000"))) }
+{
     let command = with(
         alloc,
         command,

@@ -113,10 +113,10 @@ fn play<T: Threads + Wait + Sync, R: Read, W: Write>(
     ensures writer_unfailed { OnOk result (failures_of writer.new ≡ failures_of writer.old) }
     ensures why { IfErr result (ExplainsRun (IsTextFor patience) geometry.now (over R.remaining reader.old reader.new) (over W.contents writer.old writer.new)) }
 {
-    if geometry.hosts() == 0 {
-        return run(alloc, reader, writer, geometry);
+    match geometry.hosts() {
+        0 => run(alloc, reader, writer, geometry),
+        _ => run_by_workers(rt, alloc, reader, writer, geometry, patience),
     }
-    run_by_workers(rt, alloc, reader, writer, geometry, patience)
 }
 
 // The device of these numbers, with a host for each worker.

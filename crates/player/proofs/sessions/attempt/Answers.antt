@@ -1,16 +1,12 @@
-use Rattle.std.proofs.Common.{◌≡◌, ℕ, List, Option, None, Some, Bor, refl, sym, inl, ap, subst, arith}
-use Rattle.std.specs.Prelude.{IfSome, Result, Ok, Err, OnOk, OnErr, is_some}
+use Rattle.std.proofs.Common.{◌≡◌, ℕ, List, None, Some, Bor, refl, inl, ap, subst, arith}
+use Rattle.std.specs.Prelude.{Result, Ok, Err, OnOk, OnErr, is_some}
 use Rattle.geometry.specs.Geometry.{hosts_of}
 use Rattle.geometry.specs.declared.geometry.Geometry.{Geometry}
-use Rattle.answers.specs.Delivery.{AppendsText}
-use Rattle.answers.specs.Outcome.{ExplainsRun}
-use Rattle.answers.specs.Streams.{Passage, Stream, Tells, TellsPart, stream_of}
-use Rattle.answers.specs.declared.fault.RunFault.{RunFault}
-use Rattle.answers.specs.declared.fault.RunFault.TheVariants as run
-use Rattle.one_player.specs.Playing.{IsTextOf}
+use Rattle.answers.specs.Streams.{Passage, Stream, Tells, stream_of}
 use Rattle.one_player.specs.Wear.{IsWearOf}
 use Rattle.player.specs.declared.command_line.Options.{Options}
-use Rattle.player.specs.Session.{IsTextBy, IsTextFor, TellsWear}
+use Rattle.player.specs.Session.{TellsWear}
+use Rattle.player.proofs.RunTexts.{one_text, one_why}
 use Rattle.player.proofs.sessions.attempt.Goals as goal
 
 -- where no file is named, nothing is told
@@ -20,17 +16,6 @@ none_told geo given input wear is = rw is refl
 -- where a file is named, the wear is told
 some_told : (geo : Geometry) (given : Options) (input : Stream) (wear : Passage) (name : Bor (List ℕ)) → given.wear ≡ Some name → wear.after.failures ≡ wear.before.failures → Tells (IsWearOf geo) input wear → TellsWear geo given input wear
 some_told geo given input wear name is unfailed text = rw is (unfailed, text)
-
--- without hosts the text is that of one thread
-one_text : (patience : ℕ) (geo : Geometry) (input old new : Option (List ℕ)) → hosts_of geo ≡ 0 → IfSome input (λ bytes. AppendsText (IsTextOf geo) bytes old new) → IfSome input (λ bytes. AppendsText (IsTextFor patience geo) bytes old new)
-one_text patience geo input old new none text = subst (λ h. IfSome input (λ bytes. AppendsText (IsTextBy h patience geo) bytes old new)) (sym none) text
-
-one_why : (patience : ℕ) (geo : Geometry) (fault : RunFault) (input output : Passage) → hosts_of geo ≡ 0 → ExplainsRun IsTextOf geo input output fault → ExplainsRun (IsTextFor patience) geo input output fault
-one_why patience geo (run.Trace found) input output none why = why
-one_why patience geo run.Memory input output none why = why
-one_why patience geo run.Threads input output none why = why
-one_why patience geo run.Output input output none (reads, failed, part) =
-    (reads, failed, subst (λ h. TellsPart (IsTextBy h patience geo) input.before output) (sym none) part)
 
 ok_of : {T E : Type 0} (P : Type 0) (r : Result T E) (x : T) → r ≡ Ok x → OnOk r P → P
 ok_of P r x is holds = subst (λ s. OnOk s P) is holds

@@ -1,0 +1,33 @@
+-- What a run tells, by whether its device has hosts.
+use Rattle.std.proofs.Common.{◌≡◌, ℕ, List, Option, sym, subst}
+use Rattle.std.specs.Prelude.{IfErr, IfSome, OnOk, Result, Ok, Err}
+use Rattle.geometry.specs.Geometry.{hosts_of}
+use Rattle.geometry.specs.declared.geometry.Geometry.{Geometry}
+use Rattle.answers.specs.Delivery.{AppendsText}
+use Rattle.answers.specs.Outcome.{ExplainsRun}
+use Rattle.answers.specs.Streams.{Passage, Stream, Tells, TellsPart}
+use Rattle.answers.specs.declared.fault.RunFault.{RunFault}
+use Rattle.answers.specs.declared.fault.RunFault.TheVariants as run
+use Rattle.one_player.specs.Playing.{IsTextOf}
+use Rattle.player.specs.Session.{IsTextBy, IsTextFor}
+
+-- without hosts the text is that of one thread
+pub one_text : (patience : ℕ) (geo : Geometry) (input old new : Option (List ℕ)) → hosts_of geo ≡ 0 → IfSome input (λ bytes. AppendsText (IsTextOf geo) bytes old new) → IfSome input (λ bytes. AppendsText (IsTextFor patience geo) bytes old new)
+one_text patience geo input old new none text = subst (λ h. IfSome input (λ bytes. AppendsText (IsTextBy h patience geo) bytes old new)) (sym none) text
+
+pub one_why : (patience : ℕ) (geo : Geometry) (fault : RunFault) (input output : Passage) → hosts_of geo ≡ 0 → ExplainsRun IsTextOf geo input output fault → ExplainsRun (IsTextFor patience) geo input output fault
+one_why patience geo (run.Trace found) input output none why = why
+one_why patience geo run.Memory input output none why = why
+one_why patience geo run.Threads input output none why = why
+one_why patience geo run.Output input output none (reads, failed, part) =
+    (reads, failed, subst (λ h. TellsPart (IsTextBy h patience geo) input.before output) (sym none) part)
+
+-- the same of a run's result
+pub text_if_ok : {T E : Type 0} (result : Result T E) (patience : ℕ) (geo : Geometry) (input : Stream) (output : Passage)
+    → hosts_of geo ≡ 0 → OnOk result (Tells (IsTextOf geo) input output) → OnOk result (Tells (IsTextFor patience geo) input output)
+text_if_ok result patience geo input output none text = subst (λ h. OnOk result (Tells (IsTextBy h patience geo) input output)) (sym none) text
+
+pub why_if_err : {T : Type 0} (result : Result T RunFault) (patience : ℕ) (geo : Geometry) (input output : Passage)
+    → hosts_of geo ≡ 0 → IfErr result (ExplainsRun IsTextOf geo input output) → IfErr result (ExplainsRun (IsTextFor patience) geo input output)
+why_if_err (Ok x) patience geo input output none why = tt
+why_if_err (Err fault) patience geo input output none why = one_why patience geo fault input output none why
