@@ -1,5 +1,4 @@
-use Rattle.std.proofs.Common.{arith}
-use Rattle.std.proofs.lemmas.Grind.{common_steps}
+use Rattle.std.proofs.Common.{arith, rules}
 use Rattle.trace.specs.Trace.{number_below}
 use Rattle.trace.proofs.NumberFacts.{ten_to}
 use Rattle.trace.proofs.parsing.number_below.Goals as goal
@@ -12,4 +11,4 @@ overflow_add-number c = let few = ten_to c.loop-digit.digit-index (omega arith) 
 
 pub returns-then-is_empty-clause-value : goal.returns-then-is_empty-clause-value
 unfolding number_below
-returns-then-is_empty-clause-value c = grind (arith, common_steps)
+returns-then-is_empty-clause-value c = search rules
