@@ -1,5 +1,5 @@
 -- What a run tells, by whether its device has hosts.
-use Rattle.std.proofs.Common.{◌≡◌, ℕ, List, Option, sym, subst}
+use Rattle.std.proofs.Common.{◌≡◌, ◌≢◌, ℕ, zero, suc, List, Option, refl, sym, subst}
 use Rattle.std.specs.Prelude.{IfErr, IfSome, OnOk, Result, Ok, Err}
 use Rattle.geometry.specs.Geometry.{hosts_of}
 use Rattle.geometry.specs.declared.geometry.Geometry.{Geometry}
@@ -9,6 +9,7 @@ use Rattle.answers.specs.Streams.{Passage, Stream, Tells, TellsPart}
 use Rattle.answers.specs.declared.fault.RunFault.{RunFault}
 use Rattle.answers.specs.declared.fault.RunFault.TheVariants as run
 use Rattle.one_player.specs.Playing.{IsTextOf}
+use Rattle.shared_run.specs.Texts.{IsTextOf as IsSharedTextOf}
 use Rattle.player.specs.Session.{IsTextBy, IsTextFor}
 
 -- without hosts the text is that of one thread
@@ -31,3 +32,9 @@ pub why_if_err : {T : Type 0} (result : Result T RunFault) (patience : ℕ) (geo
     → hosts_of geo ≡ 0 → IfErr result (ExplainsRun IsTextOf geo input output) → IfErr result (ExplainsRun (IsTextFor patience) geo input output)
 why_if_err (Ok x) patience geo input output none why = tt
 why_if_err (Err fault) patience geo input output none why = one_why patience geo fault input output none why
+
+-- with hosts it is that of their workers
+pub shared_if_ok : {T E : Type 0} (result : Result T E) (hosts patience : ℕ) (geo : Geometry) (input : Stream) (output : Passage)
+    → hosts ≢ 0 → OnOk result (Tells (IsSharedTextOf patience geo) input output) → OnOk result (Tells (IsTextBy hosts patience geo) input output)
+shared_if_ok result zero patience geo input output some text = absurd (some refl)
+shared_if_ok result (suc others) patience geo input output some text = text
