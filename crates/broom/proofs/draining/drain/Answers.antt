@@ -1,4 +1,4 @@
-use Rattle.std.proofs.Common.{◌≡◌, true, ap, sym, ◌∙◌, is_some, arith}
+use Rattle.std.proofs.Common.{◌≡◌, true, ap, sym, ◌∙◌, is_some, arith, rules}
 use Rattle.flash_rule.specs.Views.{without, with_owned}
 use Rattle.flash_rule.specs.BroomPlays.{owned_as}
 use Rattle.geometry.specs.declared.pin_word.Phase.TheVariants.{Victim}
@@ -102,3 +102,9 @@ returns-clause-ready g c =
 
 pub returns-clause-block : goal.returns-clause-block
 returns-clause-block g c = low_block c.args.flash.now (view_of_broom c.args.broom.now) c.in-Some.block c.choose.new.broom c.in-Some.ensures.told c.choose.ensures.ready
+
+pub returns-then-is_none-clause-told : goal.returns-then-is_none-clause-told
+returns-then-is_none-clause-told g c = search rules
+
+pub returns-then-is_none-clause-block : goal.returns-then-is_none-clause-block
+returns-then-is_none-clause-block g c = tt

@@ -1,4 +1,4 @@
-use Rattle.std.proofs.Common.{sym, ap, ◌∙◌}
+use Rattle.std.proofs.Common.{sym, ap, ◌∙◌, rules}
 use Rattle.flash_table.specs.Flash.{broom_view, own_blocks}
 use Rattle.flash_table.specs.declared.broom_seat.BroomBlocks.{BroomBlocks}
 use Rattle.broom.proofs.Leaving.{can_close, stays_idle, closes_one, the_block, no_block}
@@ -23,3 +23,6 @@ returns-else-is_some-clause-told c =
     let s = c.args.seat.now in
     let here = ap (λ (x : BroomBlocks). x.destination) c.blocks-2.ensures in
     let none = no_block c.blocks-2.result.destination (sym c.is_some.ensures ∙ c.if-is_some.false) in stays_idle (broom_view s) (own_blocks s) c.requires.filed (sym here ∙ none)
+
+pub returns-else-is_some-clause-blocks : goal.returns-else-is_some-clause-blocks
+returns-else-is_some-clause-blocks c = search rules
