@@ -1,5 +1,4 @@
-use Rattle.std.proofs.Common.{◌≡◌, List, ◌∷◌, ◌++◌, Some, length, take, drop, sym, ap, ◌∙◌, subst, slice_get, arith}
-use Rattle.std.proofs.lemmas.Grind.{common_steps}
+use Rattle.std.proofs.Common.{◌≡◌, ℕ, All, List, ◌∷◌, ◌++◌, Some, length, take, drop, sym, ap, ◌∙◌, subst, slice_get, arith}
 use Rattle.std.proofs.Math.Seq.{take-append_seam}
 use Rattle.std.specs.Vec.Iter.{into_iter_items}
 use Rattle.geometry.specs.Geometry.{hosts_of}
@@ -9,12 +8,12 @@ use Rattle.flash_table.specs.declared.pass.Pass.{Pass}
 use Rattle.flash_table.specs.Flash.{geometry_of, device, view_of}
 use Rattle.flash_table.specs.Leaving.{retired_view}
 use Rattle.host.specs.Ready.{IsReady}
-use Rattle.volume.specs.Closing.{array_of, AreAll, AreRead, AreFinal}
+use Rattle.volume.specs.Closing.{array_of, AreAll, AreRead, AreFinal, HaveLooked}
 use Rattle.volume.specs.Volume.{flash_of}
 use Rattle.volume.proofs.Ends.{has_left}
 use Rattle.volume.proofs.FreshBrooms.{taken}
 use Rattle.volume.proofs.volume.Volume.close.Goals as goal
-use Rattle.volume.proofs.volume.Volume.close.Goals.{In-Some, After-retire-first}
+use Rattle.volume.proofs.volume.Volume.close.Goals.{After-gather, In-Some, After-retire-first}
 
 -- the first of the passes as gathered
 row : (c : In-Some) → c.gather.new.passes ≡ c.in-Some.first ∷ into_iter_items c.next.new.self
@@ -26,8 +25,31 @@ row c =
     sym (ap (λ n. take n (c.gather.new.passes ++ drop (length c.gather.new.passes) c.args.passes.items)) whole ∙ take-append_seam c.gather.new.passes (drop (length c.gather.new.passes) c.args.passes.items))
     ∙ (sym c.into_iter-passes.ensures.rest ∙ c.in-Some.ensures.cases.0)
 
+pub gather-requires-clause-some : goal.gather-requires-clause-some
+gather-requires-clause-some c = rw c.deref_mut.ensures.value c.requires.some
+
+pub gather-requires-clause-passes : goal.gather-requires-clause-passes
+gather-requires-clause-passes c = rw c.deref_mut.ensures.value c.requires.passes
+
+-- what a write of all of a list leaves of it
+back_is : (l back : List Pass) (n : ℕ) → n ≡ length back → take n (back ++ drop (length back) l) ≡ back
+back_is l back n whole = ap (λ k. take k (back ++ drop (length back) l)) whole ∙ take-append_seam back (drop (length back) l)
+
+-- the passes that are handed back
+handed : (c : After-gather) → take c.args.passes.len (c.gather.new.passes ++ drop (length c.gather.new.passes) c.args.passes.items) ≡ c.gather.new.passes
+handed c =
+    let same = ap (length {A = Pass}) c.deref_mut.ensures.value in
+    back_is c.args.passes.items c.gather.new.passes c.args.passes.len (c.args.passes.ok.0 ∙ (sym same ∙ sym c.gather.ensures.looked.long))
+
 pub returns-in_default-clause-looked : goal.returns-in_default-clause-looked
-returns-in_default-clause-looked c = grind (arith, common_steps)
+returns-in_default-clause-looked c =
+    let back = handed (goal.at.returns-in_default-clause-looked c).After-gather in
+    subst (λ (x : List Pass × List Pass). HaveLooked x.0 x.1) (λ i. (c.deref_mut.ensures.value i, sym back i)) c.gather.ensures.looked
+
+pub returns-in_default-clause-ready : goal.returns-in_default-clause-ready
+returns-in_default-clause-ready c =
+    let back = handed (goal.at.returns-in_default-clause-ready c).After-gather in
+    subst (All (IsReady (flash_of c.args.self))) (sym back) c.gather.ensures.passes
 
 pub retire-first-requires : goal.retire-first-requires
 retire-first-requires c = (taken (IsReady (flash_of c.args.self)) c.in-Some.first (into_iter_items c.next.new.self) c.gather.new.passes (row (goal.at.retire-first-requires c).In-Some) c.gather.ensures.passes).0
