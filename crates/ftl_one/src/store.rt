@@ -1,6 +1,6 @@
 ghost use Rattle.std.specs.Prelude.{◌≡◌, ℕ, ◌≢◌, ◌+◌, ◌<◌, ◌==◌, Bool, true, false, IfOk, length, slice_set, slice_index_or, None, Some, IfNone, IfSome};
 ghost use Rattle.std.specs.List.{range_with_len};
-ghost use Rattle.geometry.specs.Geometry.{blocks_of, pages_of, page_bytes_of, endurance_of, sectors_of};
+ghost use Rattle.geometry.specs.Geometry.{blocks_of, pages_of, page_bytes_of, endurance_of, sectors_of, lun_of};
 ghost use Rattle.geometry.specs.Sectors.{sector_at, was_of, Answers};
 ghost use Rattle.die.specs.Die.{geometry_of as die_geometry_of, block_of};
 ghost use Rattle.ftl_one.specs.Entries.{IsMapped, was_by};
@@ -150,19 +150,30 @@ impl Store {
         self.current[self.die.stamp(at) as usize].page() == Some(at)
     }
 
+    // Whether two blocks are on one LUN.
+    fn is_one_lun(&self, first: u32, second: u32) -> bool
+        requires first { first < blocks_of (geometry_of self.now) }
+        requires second { second < blocks_of (geometry_of self.now) }
+        ensures { result ≡ (lun_of (geometry_of self.now) first == lun_of (geometry_of self.now) second) }
+    {
+        let geometry = self.die.geometry();
+        geometry.lun_of(first) == geometry.lun_of(second)
+    }
+
     // Copies a live page behind the others of another block, which has the sector's current page then.
-    fn relocate(&mut self, source: PageAddr, block: u32)
+    fn relocate(&mut self, source: PageAddr, block: u32, one_lun: bool)
         requires source_block { source.block < blocks_of (geometry_of self.old) }
         requires source_usable { retired_of self.old source.block ≡ false }
         requires source_page { source.page < length (entries_of self.old source.block) }
         requires live { live_at self.old source ≡ true }
         requires room { HasRoom self.old block }
         requires apart { source.block ≢ block }
+        requires one_lun { one_lun ≡ (lun_of (geometry_of self.old) source.block == lun_of (geometry_of self.old) block) }
         ensures { Relocates self.old self.new source block (sector_of self.old source) }
     {
         let to = self.next_page(block);
         let sector = self.die.stamp(source) as u32;
-        copy_page(&mut self.die, &mut self.page, sector, source, to);
+        copy_page(&mut self.die, &mut self.page, sector, source, to, one_lun);
         self.current[sector as usize] = MapEntry::of(to);
         recount(&mut self.live, Some(source), Some(to));
     }
@@ -176,6 +187,7 @@ impl Store {
         ensures copies { result ≡ live_count (entries_of self.old victim) }
         ensures clears { Clears self.old self.new victim spare }
     {
+        let one_lun = self.is_one_lun(victim, spare);
         let mut copies = 0;
         for page in 0..self.die.next(victim) {
             let source = PageAddr {
@@ -183,7 +195,7 @@ impl Store {
                 page,
             };
             if self.is_live(source) {
-                self.relocate(source, spare);
+                self.relocate(source, spare, one_lun);
                 copies += 1;
             }
         }

@@ -5,5 +5,5 @@ use Rattle.ftl_one.proofs.copy.copy_page.Goals as goal
 pub copyback-requires-clause-same_lun : goal.copyback-requires-clause-same_lun
 copyback-requires-clause-same_lun c = grind (arith, common_steps)
 
-pub returns-then-lun_of-clause-copybacks : goal.returns-then-lun_of-clause-copybacks
-returns-then-lun_of-clause-copybacks c = grind (arith, common_steps)
+pub returns-then-one_lun-clause-copybacks : goal.returns-then-one_lun-clause-copybacks
+returns-then-one_lun-clause-copybacks c = grind (arith, common_steps)

@@ -1,5 +1,6 @@
-use Rattle.std.proofs.Common.{◌∙◌, ◌<◌, length, ap, sym, arith}
-use Rattle.geometry.specs.Geometry.{blocks_of}
+use Rattle.std.proofs.Common.{◌∙◌, ◌==◌, ◌<◌, length, ap, sym, arith}
+use Rattle.geometry.specs.Geometry.{blocks_of, lun_of}
+use Rattle.geometry.specs.declared.geometry.Geometry.{Geometry}
 use Rattle.ftl_one.specs.Store.{entries_of}
 use Rattle.ftl_one.proofs.StoreLemmas.{length-entries_of}
 use Rattle.ftl_one.proofs.ClearLemmas.{ClearedTo-none, ClearedTo-dead, ClearedTo-live, ClearedTo-room, ClearedTo-all, copies_below}
@@ -29,6 +30,10 @@ relocate-requires-clause-room c =
     ClearedTo-room c.args.self.now c.loop-page.self c.args.victim c.args.spare c.loop-page.page c.loop-page.copies c.loop-page.invariant
     (omega (arith, c.next-page-end.ensures.value, length-entries_of c.args.self.now c.args.victim))
     (sym c.is_live.ensures ∙ c.if-is_live.true) c.requires.room
+
+pub relocate-requires-clause-one_lun : goal.relocate-requires-clause-one_lun
+relocate-requires-clause-one_lun c =
+    c.is_one_lun-one_lun.ensures ∙ ap (λ (g : Geometry). lun_of g c.args.victim == lun_of g c.args.spare) (sym c.loop-page.invariant.keeps.geometry)
 
 pub overflow_add-copies : goal.overflow_add-copies
 overflow_add-copies c =

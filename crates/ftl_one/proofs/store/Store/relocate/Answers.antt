@@ -1,8 +1,8 @@
-use Rattle.std.proofs.Common.{◌≡◌, ◌≢◌, ◌∙◌, ℕ, List, length, get_or, set, Option, None, Some, sym, ap, subst, arith}
+use Rattle.std.proofs.Common.{◌≡◌, ◌≢◌, ◌∙◌, ◌==◌, ℕ, List, length, get_or, set, Option, None, Some, sym, ap, subst, arith}
 use Rattle.std.specs.Vec.{with_items}
 use Rattle.std.proofs.lemmas.List.{with_items_is}
 use Rattle.geometry.specs.declared.page_addr.PageAddr.{PageAddr}
-use Rattle.geometry.specs.Geometry.{blocks_of, page_bytes_of, sectors_of}
+use Rattle.geometry.specs.Geometry.{blocks_of, page_bytes_of, sectors_of, lun_of}
 use Rattle.die.specs.Die.{geometry_of as die_geometry_of, block_of, IsNext}
 use Rattle.ftl_one.specs.Stock.{Entry}
 use Rattle.ftl_one.specs.Entries.{Recounts, IsMapped, sectors_in, entries_in}
@@ -25,6 +25,11 @@ copy_page-requires-clause-source c = programmed_page c.args.self.now c.args.sour
 
 pub copy_page-requires-clause-next : goal.copy_page-requires-clause-next
 copy_page-requires-clause-next c = next_of_block c.args.self.now c.next_page-to.result c.args.block c.requires.room c.next_page-to.ensures.block c.next_page-to.ensures.page
+
+pub copy_page-requires-clause-one_lun : goal.copy_page-requires-clause-one_lun
+copy_page-requires-clause-one_lun c =
+    let geo = die_geometry_of c.args.self.now.die in
+    c.requires.one_lun ∙ ap (λ (b : ℕ). lun_of geo c.args.source.block == lun_of geo b) (sym c.next_page-to.ensures.block)
 
 -- the page that is programmed is the block's next
 the_next : (c : After-next_page-to) → IsNext c.args.self.now.die c.next_page-to.result
