@@ -1,7 +1,7 @@
--- The one device of a row, and what is held there; a seat of a broom at rest.
+-- The one device of a row or a schedule, and what is held there; a seat of a broom at rest.
 use Rattle.std.specs.Prelude.{◌≡◌, ℕ, Option, List, [], Some}
 use Rattle.std.proofs.Props.{props}
-use Rattle.geometry.specs.Geometry.{sectors_of, page_bytes_of, words_of}
+use Rattle.geometry.specs.Geometry.{page_bytes_of, words_of}
 use Rattle.flash_rule.specs.declared.facts.Pin.{Pin}
 use Rattle.flash_rule.specs.declared.facts.Pin.TheVariants as pin
 use Rattle.flash_table.specs.declared.flash.Flash.{Flash}
@@ -25,10 +25,10 @@ value_in (pin.Stray block) = []
 abbrev pub held_value : Held → List ℕ
 held_value h = value_in (view_of (pass_of h)).pin
 
--- This is the device of a row, with two sectors of one word
+-- This is the device, with pages of four words
 abbrev pub IsHome : Option Volume → Volume → Type 0
 IsHome home v =
-    (home ≡ Some v) × (sectors_of (geometry_of (flash_of v)) ≡ 2) × (page_bytes_of (geometry_of (flash_of v)) ≡ 8) × (words_of (geometry_of (flash_of v)) ≡ 1)
+    (home ≡ Some v) × (page_bytes_of (geometry_of (flash_of v)) ≡ 32) × (words_of (geometry_of (flash_of v)) ≡ 4)
 
 -- that this value is held is a fact that has one proof at most, so that a struct can keep it beside its hold
 pub Holds-prop : (f : Flash) (h : Held) (value : List ℕ) → IsProp (Holds f h value)

@@ -1,5 +1,7 @@
-//! Hosts, holders of pages and brooms at one small device: two sectors, and pages of one word.
+//! Hosts, holders of pages and brooms at one small device, whose calls return their answers.
 ghost use Rattle.std.specs.Prelude.{◌<◌, Option, None};
+ghost use Rattle.geometry.specs.Geometry.{sectors_of};
+ghost use Rattle.flash_table.specs.Flash.{geometry_of};
 ghost use Rattle.volume.specs.declared.volume.Volume.{Volume};
 ghost use Rattle.volume.specs.Volume.{flash_of};
 ghost use Rattle.volume.specs.Brooms.{IsBroomReady, IsBroomReady-prop};
@@ -7,8 +9,8 @@ ghost use Rattle.host.specs.Ready.{IsReady};
 ghost use Rattle.host.specs.Holding.{Holds};
 ghost use Rattle.shared_acceptance.specs.Kept.{IsHome, held_value, Holds-prop};
 
-use crate::calls::{Call, Seen, page};
-use broom::{Broom, Drain, Erase};
+use crate::calls::{BYTES, Call, Done, number_of, page, read_done};
+use broom::{Broom, Erase};
 use flash_table::{Gate, NoGate, Pass};
 use geometry::Was;
 use host::{Held, Holding, NewFault};
@@ -59,79 +61,80 @@ impl<'a, H: Home> Host<'a, H> {
         pass
     }
 
-    // What the sector was, or nothing where no block is left.
-    fn write<G: Gate>(&mut self, sector: u32, byte: u8, gate: &mut G) -> Option<Was>
-        requires { sector < 2 }
+    fn write<G: Gate>(&mut self, sector: u32, number: u64, gate: &mut G) -> Done
+        requires { sector < sectors_of (geometry_of (flash_of self.old.volume.now)) }
     {
-        self.volume
-            .write_gated(&mut self.pass, sector, &page(byte), gate)
-            .ok()
-    }
-
-    fn write_new<G: Gate>(&mut self, sector: u32, byte: u8, gate: &mut G) -> Result<(), NewFault>
-        requires { sector < 2 }
-    {
-        self.volume
-            .write_new_gated(&mut self.pass, sector, &page(byte), gate)
-    }
-
-    fn trim(&mut self, sector: u32) -> Was
-        requires { sector < 2 }
-    {
-        self.volume.trim(&mut self.pass, sector)
-    }
-
-    fn read<G: Gate>(&mut self, sector: u32, gate: &mut G) -> Seen
-        requires { sector < 2 }
-    {
-        let mut out = [99; 8];
-        let done = self
+        let answer = self
             .volume
-            .read_gated(&mut self.pass, sector, &mut out, gate);
-        Seen {
-            got: done.got,
-            out,
-            tries: done.tries,
+            .write_gated(&mut self.pass, sector, &page(number), gate);
+        Done::Wrote(answer.ok())
+    }
+
+    fn write_new<G: Gate>(&mut self, sector: u32, number: u64, gate: &mut G) -> Done
+        requires { sector < sectors_of (geometry_of (flash_of self.old.volume.now)) }
+    {
+        match self
+            .volume
+            .write_new_gated(&mut self.pass, sector, &page(number), gate)
+        {
+            Ok(()) => Done::Wrote(Some(Was::Empty)),
+            Err(NewFault::Written) => Done::Wrote(Some(Was::Written)),
+            Err(NewFault::NoBlock) => Done::Wrote(None),
         }
     }
 
-    // Holds the page of a sector, which is to be in this block and generation; nothing is to be held of an empty sector.
-    fn hold(self, sector: u32, place: Option<(u32, u32)>) -> (Actor<'a, H>, bool)
-        requires { sector < 2 }
+    fn trim(&mut self, sector: u32) -> Done
+        requires { sector < sectors_of (geometry_of (flash_of self.old.volume.now)) }
+    {
+        Done::Trimmed(self.volume.trim(&mut self.pass, sector))
+    }
+
+    fn read<G: Gate>(&mut self, sector: u32, gate: &mut G) -> Done
+        requires { sector < sectors_of (geometry_of (flash_of self.old.volume.now)) }
+    {
+        let mut out = [99; BYTES];
+        let done = self
+            .volume
+            .read_gated(&mut self.pass, sector, &mut out, gate);
+        read_done(done.got, &out, done.tries)
+    }
+
+    // Holds the page of a sector.
+    fn hold(self, sector: u32) -> (Actor<'a, H>, Done)
+        requires { sector < sectors_of (geometry_of (flash_of self.volume.now)) }
     {
         let Host { volume, pass, of } = self;
         match volume.hold(pass, sector) {
             Holding::Held(held) => {
-                let found = Some((held.block(), held.generation()));
+                let place = (held.block(), held.generation());
                 let holder = Holder { volume, held, of };
-                (Actor::Holder(holder), found == place)
+                (Actor::Holder(holder), Done::Holds(Some(place)))
             }
-            Holding::Empty(pass) => (Actor::Host(Host { volume, pass, of }), place.is_none()),
+            Holding::Empty(pass) => (Actor::Host(Host { volume, pass, of }), Done::Holds(None)),
         }
     }
 
-    // Whether a call that holds nothing answers what it has to.
-    fn answers<G: Gate>(&mut self, call: Call, gate: &mut G) -> bool {
+    // The answer of a call that holds nothing.
+    fn answer<G: Gate>(&mut self, call: Call, gate: &mut G) -> Done {
+        let sectors = self.volume.geometry().sectors();
         match call {
-            Call::Write(sector, byte, was) => sector < 2 && self.write(sector, byte, gate) == was,
-            Call::New(sector, byte, wrote) => {
-                sector < 2 && self.write_new(sector, byte, gate) == wrote
-            }
-            Call::Trim(sector, was) => sector < 2 && self.trim(sector) == was,
-            Call::Read(sector, byte, tries) => {
-                sector < 2 && self.read(sector, gate) == Seen::of(byte, tries)
-            }
-            _ => false,
+            Call::Write(sector, number) if sector < sectors => self.write(sector, number, gate),
+            Call::New(sector, number) if sector < sectors => self.write_new(sector, number, gate),
+            Call::Trim(sector) if sector < sectors => self.trim(sector),
+            Call::Read(sector) if sector < sectors => self.read(sector, gate),
+            _ => Done::Nothing,
         }
     }
 
-    fn does<G: Gate>(self, call: Call, gate: &mut G) -> (Actor<'a, H>, bool) {
+    fn does<G: Gate>(self, call: Call, gate: &mut G) -> (Actor<'a, H>, Done) {
         let mut host = self;
-        let right = match call {
-            Call::Hold(sector, place) if sector < 2 => return host.hold(sector, place),
-            _ => host.answers(call, gate),
+        let done = match call {
+            Call::Hold(sector) if sector < host.volume.geometry().sectors() => {
+                return host.hold(sector);
+            }
+            _ => host.answer(call, gate),
         };
-        (Actor::Host(host), right)
+        (Actor::Host(host), done)
     }
 
     fn meet(&mut self, other: &mut Host<'a, H>) {
@@ -168,15 +171,26 @@ impl<H: Home> Drop for Holder<'_, H> {
 }
 
 impl<'a, H: Home> Holder<'a, H> {
-    // Whether the page that is held has this byte.
-    fn has(&mut self, byte: u8) -> bool {
-        let mut out = [99; 8];
+    // The number of the page that is held.
+    fn number(&mut self) -> Option<u64> {
+        let mut out = [99; BYTES];
         self.volume.copy_into(&mut self.held, &mut out);
-        out == page(byte)
+        number_of(&out)
     }
 
     fn word(&mut self) -> u64 {
         self.volume.word(&mut self.held, 0)
+    }
+
+    // Looks at the page by its bytes, and by its first word.
+    fn look(&mut self) -> Done {
+        let number = self.number();
+        let word = self.word();
+        if number == Some(word) {
+            Done::Looked(word)
+        } else {
+            Done::Torn
+        }
     }
 
     pub(crate) fn release(self) -> Host<'a, H> {
@@ -185,15 +199,15 @@ impl<'a, H: Home> Holder<'a, H> {
         Host { volume, pass, of }
     }
 
-    fn does(self, call: Call) -> (Actor<'a, H>, bool) {
+    fn does(self, call: Call) -> (Actor<'a, H>, Done) {
         let mut holder = self;
-        let right = match call {
-            Call::Held(byte) => holder.has(byte) && holder.word() == u64::from(byte),
-            Call::OpensNothing => holder.held.pass().opened().is_none(),
-            Call::Release => return (Actor::Host(holder.release()), true),
-            _ => false,
+        let done = match call {
+            Call::Look => holder.look(),
+            Call::Opened => Done::Opened(holder.held.pass().opened().is_some()),
+            Call::Release => return (Actor::Host(holder.release()), Done::Released),
+            _ => Done::Nothing,
         };
-        (Actor::Holder(holder), right)
+        (Actor::Holder(holder), done)
     }
 
     // A broom stands by the page.
@@ -247,14 +261,6 @@ impl<'a, H: Home> Sweeper<'a, H> {
         volume.fold(rt, broom);
     }
 
-    fn drain<G: Gate>(&mut self, gate: &mut G) -> Drain {
-        self.volume.drain(&mut self.broom, gate)
-    }
-
-    fn drain_one(&mut self, rt: &impl Wait) -> Drain {
-        self.volume.drain_one(rt, &mut self.broom, &mut NoGate)
-    }
-
     // What comes of a block of the device; any other number is that of no drained block.
     fn erase<G: Gate>(&mut self, block: u32, gate: &mut G) -> Erase {
         if block >= self.volume.geometry().blocks() {
@@ -263,17 +269,13 @@ impl<'a, H: Home> Sweeper<'a, H> {
         self.volume.erase(&mut self.broom, block, gate)
     }
 
-    fn erase_one(&mut self, rt: &impl Wait) -> Erase {
-        self.volume.erase_one(rt, &mut self.broom, &mut NoGate)
-    }
-
-    fn answers<G: Gate>(&mut self, rt: &impl Wait, call: Call, gate: &mut G) -> bool {
+    fn answer<G: Gate>(&mut self, rt: &impl Wait, call: Call, gate: &mut G) -> Done {
         match call {
-            Call::Drain(answer) => self.drain(gate) == answer,
-            Call::Erase(block, answer) => self.erase(block, gate) == answer,
-            Call::DrainOne(answer) => self.drain_one(rt) == answer,
-            Call::EraseOne(answer) => self.erase_one(rt) == answer,
-            _ => false,
+            Call::Drain => Done::Drained(self.volume.drain(&mut self.broom, gate)),
+            Call::Erase(block) => Done::Erased(self.erase(block, gate)),
+            Call::DrainOne => Done::Drained(self.volume.drain_one(rt, &mut self.broom, gate)),
+            Call::EraseOne => Done::Erased(self.volume.erase_one(rt, &mut self.broom, gate)),
+            _ => Done::Nothing,
         }
     }
 
@@ -295,7 +297,15 @@ impl<'a, H: Home> Sweeper<'a, H> {
     }
 }
 
-/// Who takes part in a row.
+/// What an actor is between two calls.
+#[derive(Clone, Copy, PartialEq, Eq)]
+pub(crate) enum Role {
+    Host,
+    Holder,
+    Broom,
+}
+
+/// Who takes part.
 #[derive(Drop)]
 pub(crate) enum Actor<'a, H: Home> {
     Host(Host<'a, H>),
@@ -304,20 +314,20 @@ pub(crate) enum Actor<'a, H: Home> {
 }
 
 impl<'a, H: Home> Actor<'a, H> {
-    /// A call, and whether it answers what it has to.
+    /// A call, with its answer.
     pub(crate) fn does<G: Gate>(
         self,
         rt: &impl Wait,
         call: Call,
         gate: &mut G,
-    ) -> (Actor<'a, H>, bool) {
+    ) -> (Actor<'a, H>, Done) {
         match self {
             Actor::Host(host) => host.does(call, gate),
             Actor::Holder(holder) => holder.does(call),
             Actor::Sweeper(sweeper) => {
                 let mut sweeper = sweeper;
-                let right = sweeper.answers(rt, call, gate);
-                (Actor::Sweeper(sweeper), right)
+                let done = sweeper.answer(rt, call, gate);
+                (Actor::Sweeper(sweeper), done)
             }
         }
     }
@@ -330,4 +340,52 @@ impl<'a, H: Home> Actor<'a, H> {
             Actor::Sweeper(sweeper) => sweeper.meet_one(other),
         }
     }
+
+    pub(crate) fn role(&self) -> Role {
+        match self {
+            Actor::Host(_) => Role::Host,
+            Actor::Holder(_) => Role::Holder,
+            Actor::Sweeper(_) => Role::Broom,
+        }
+    }
+
+    /// The block of a sector's page, or nothing for an empty sector. A host holds the page only for a moment.
+    pub(crate) fn find(self, rt: &impl Wait, sector: u32) -> (Actor<'a, H>, Option<u32>) {
+        let (actor, done) = self.does(rt, Call::Hold(sector), &mut NoGate);
+        let Done::Holds(Some((block, _))) = done else {
+            return (actor, None);
+        };
+        let (actor, _) = actor.does(rt, Call::Release, &mut NoGate);
+        (actor, Some(block))
+    }
+
+    /// How many sectors have their page in each block, as a host finds them.
+    pub(crate) fn count_live(self, rt: &impl Wait) -> (Actor<'a, H>, [u32; 10]) {
+        let mut actor = self;
+        let mut counts = [0u32; 10];
+        for sector in 0..3 {
+            let (same, found) = actor.find(rt, sector);
+            actor = same;
+            if let Some(block) = found
+                && let Some(count) = counts.get_mut(block as usize)
+            {
+                *count = count.wrapping_add(1);
+            }
+        }
+        (actor, counts)
+    }
+}
+
+/// A call of the actor at a place, which is empty only meanwhile.
+pub(crate) fn call_at<H: Home>(
+    place: &mut Option<Actor<'_, H>>,
+    rt: &impl Wait,
+    call: Call,
+) -> Done {
+    let Some(actor) = place.take() else {
+        return Done::Nothing;
+    };
+    let (actor, done) = actor.does(rt, call, &mut NoGate);
+    *place = Some(actor);
+    done
 }

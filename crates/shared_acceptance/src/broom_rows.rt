@@ -1,8 +1,8 @@
 //! Brooms that drain and erase blocks beside two hosts.
-use crate::calls::{Call, EMPTY, WRITTEN};
+use crate::calls::{Call, Done, EMPTY, WRITTEN};
 use crate::cast::Who;
 use crate::playing_rows::{Device, Row, check_row};
-use crate::stage::Step;
+use crate::stage::{Step, Told};
 use broom::{Drain, Erase};
 use flash_table::Point;
 use std::test::Fail;
@@ -20,170 +20,205 @@ const TWO_BROOMS: Device = Device {
 };
 
 // A drain of the first block that moved no page.
-const DRAINED: Call = Call::Drain(Drain::Drained {
-    block: 0,
-    copied: 0,
-});
+const DRAINED: Told = (
+    Call::Drain,
+    Done::Drained(Drain::Drained {
+        block: 0,
+        copied: 0,
+    }),
+);
 
 // One that moved a page.
-const MOVED: Call = Call::Drain(Drain::Drained {
-    block: 0,
-    copied: 1,
-});
+const MOVED: Told = (
+    Call::Drain,
+    Done::Drained(Drain::Drained {
+        block: 0,
+        copied: 1,
+    }),
+);
 
-const ERASED: Call = Call::Erase(
-    0,
-    Erase::Erased {
+const ERASED: Told = (
+    Call::Erase(0),
+    Done::Erased(Erase::Erased {
         block: 0,
         kept: false,
-    },
+    }),
 );
 
 // The first block is erased by a broom that has copied into its spare, and is the next spare.
-const KEPT: Call = Call::Erase(
-    0,
-    Erase::Erased {
+const KEPT: Told = (
+    Call::Erase(0),
+    Done::Erased(Erase::Erased {
         block: 0,
         kept: true,
-    },
+    }),
 );
 
-const PINNED: Call = Call::Erase(0, Erase::Pinned);
+const PINNED: Told = (Call::Erase(0), Done::Erased(Erase::Pinned));
 
-const NOTHING: Call = Call::Drain(Drain::NothingToGain);
+const NOTHING: Told = (Call::Drain, Done::Drained(Drain::NothingToGain));
 
 const WRITES_BEFORE_A_MOVE: [Step; 7] = [
-    Step::By(Who::A, Call::Write(0, 1, EMPTY)),
-    Step::By(Who::A, Call::Write(1, 2, EMPTY)),
-    Step::By(Who::A, Call::Write(0, 3, WRITTEN)),
+    Step::By(Who::A, (Call::Write(0, 1), EMPTY)),
+    Step::By(Who::A, (Call::Write(1, 2), EMPTY)),
+    Step::By(Who::A, (Call::Write(0, 3), WRITTEN)),
     Step::During(Who::First, DRAINED, Point::BeforeMove, 1),
-    Step::By(Who::A, Call::Read(1, Some(5), 1)),
-    Step::By(Who::First, Call::Drain(Drain::NoSpare)),
+    Step::By(Who::A, (Call::Read(1), Done::Read(Some(5), 1))),
+    Step::By(Who::First, (Call::Drain, Done::Drained(Drain::NoSpare))),
     Step::By(Who::First, KEPT),
 ];
 
-const WRITES_BEFORE_A_MOVE_BESIDE: [(Who, Call); 1] = [(Who::A, Call::Write(1, 5, WRITTEN))];
+const WRITES_BEFORE_A_MOVE_BESIDE: [(Who, Told); 1] = [(Who::A, (Call::Write(1, 5), WRITTEN))];
 
 const GAINS_NOTHING: [Step; 4] = [
     Step::By(Who::First, NOTHING),
-    Step::By(Who::A, Call::Write(0, 1, EMPTY)),
-    Step::By(Who::A, Call::Write(1, 2, EMPTY)),
+    Step::By(Who::A, (Call::Write(0, 1), EMPTY)),
+    Step::By(Who::A, (Call::Write(1, 2), EMPTY)),
     Step::By(Who::First, NOTHING),
 ];
 
 const DRAINS_A_LEFT_BLOCK: [Step; 5] = [
-    Step::By(Who::A, Call::Write(0, 1, EMPTY)),
+    Step::By(Who::A, (Call::Write(0, 1), EMPTY)),
     Step::Leave(Who::A),
     Step::By(Who::First, MOVED),
-    Step::By(Who::B, Call::Read(0, Some(1), 1)),
+    Step::By(Who::B, (Call::Read(0), Done::Read(Some(1), 1))),
     Step::By(Who::First, KEPT),
 ];
 
 const LOSES_A_BLOCK_THAT_IS_READ: [Step; 10] = [
-    Step::By(Who::A, Call::Write(0, 1, EMPTY)),
-    Step::By(Who::A, Call::Write(1, 2, EMPTY)),
-    Step::By(Who::A, Call::Write(0, 3, WRITTEN)),
-    Step::During(Who::First, Call::Drain(Drain::Lost), Point::BeforeClaim, 1),
+    Step::By(Who::A, (Call::Write(0, 1), EMPTY)),
+    Step::By(Who::A, (Call::Write(1, 2), EMPTY)),
+    Step::By(Who::A, (Call::Write(0, 3), WRITTEN)),
+    Step::During(
+        Who::First,
+        (Call::Drain, Done::Drained(Drain::Lost)),
+        Point::BeforeClaim,
+        1,
+    ),
     Step::By(Who::First, MOVED),
-    Step::By(Who::A, Call::Read(1, Some(2), 1)),
-    Step::By(Who::B, Call::Held(2)),
+    Step::By(Who::A, (Call::Read(1), Done::Read(Some(2), 1))),
+    Step::By(Who::B, (Call::Look, Done::Looked(2))),
     Step::By(Who::First, PINNED),
-    Step::By(Who::B, Call::Release),
+    Step::By(Who::B, (Call::Release, Done::Released)),
     Step::By(Who::First, KEPT),
 ];
 
-const LOSES_A_BLOCK_THAT_IS_READ_BESIDE: [(Who, Call); 1] = [(Who::B, Call::Hold(1, Some((0, 0))))];
+const LOSES_A_BLOCK_THAT_IS_READ_BESIDE: [(Who, Told); 1] = [(
+    Who::B,
+    (Call::Hold(1), Done::Holds(Some((0, 0)))),
+)];
 
 const DRAINS_A_PINNED_BLOCK: [Step; 4] = [
-    Step::By(Who::A, Call::Write(0, 1, EMPTY)),
-    Step::By(Who::A, Call::Write(1, 2, EMPTY)),
-    Step::During(Who::B, Call::Read(0, Some(1), 1), Point::AfterPin, 4),
-    Step::By(Who::B, Call::Read(0, Some(3), 1)),
+    Step::By(Who::A, (Call::Write(0, 1), EMPTY)),
+    Step::By(Who::A, (Call::Write(1, 2), EMPTY)),
+    Step::During(
+        Who::B,
+        (Call::Read(0), Done::Read(Some(1), 1)),
+        Point::AfterPin,
+        4,
+    ),
+    Step::By(Who::B, (Call::Read(0), Done::Read(Some(3), 1))),
 ];
 
-const DRAINS_A_PINNED_BLOCK_BESIDE: [(Who, Call); 4] = [
-    (Who::A, Call::Write(0, 3, WRITTEN)),
-    (Who::A, Call::Write(1, 4, WRITTEN)),
+const DRAINS_A_PINNED_BLOCK_BESIDE: [(Who, Told); 4] = [
+    (Who::A, (Call::Write(0, 3), WRITTEN)),
+    (Who::A, (Call::Write(1, 4), WRITTEN)),
     (Who::First, DRAINED),
     (Who::First, PINNED),
 ];
 
 // At the first look both sectors are written, and the block that they were in is drained and erased.
 const LOOKS_TWICE: [Step; 3] = [
-    Step::By(Who::A, Call::Write(0, 1, EMPTY)),
-    Step::By(Who::A, Call::Write(1, 2, EMPTY)),
-    Step::During(Who::B, Call::Read(0, Some(3), 2), Point::AfterLook, 4),
+    Step::By(Who::A, (Call::Write(0, 1), EMPTY)),
+    Step::By(Who::A, (Call::Write(1, 2), EMPTY)),
+    Step::During(
+        Who::B,
+        (Call::Read(0), Done::Read(Some(3), 2)),
+        Point::AfterLook,
+        4,
+    ),
 ];
 
-const LOOKS_TWICE_BESIDE: [(Who, Call); 4] = [
-    (Who::A, Call::Write(0, 3, WRITTEN)),
-    (Who::A, Call::Write(1, 4, WRITTEN)),
+const LOOKS_TWICE_BESIDE: [(Who, Told); 4] = [
+    (Who::A, (Call::Write(0, 3), WRITTEN)),
+    (Who::A, (Call::Write(1, 4), WRITTEN)),
     (Who::First, DRAINED),
     (Who::First, ERASED),
 ];
 
 // The same at the second look.
 const LOOKS_THREE_TIMES: [Step; 3] = [
-    Step::By(Who::A, Call::Write(0, 1, EMPTY)),
-    Step::By(Who::A, Call::Write(1, 2, EMPTY)),
-    Step::During(Who::B, Call::Read(0, Some(5), 3), Point::AfterLook, 4),
+    Step::By(Who::A, (Call::Write(0, 1), EMPTY)),
+    Step::By(Who::A, (Call::Write(1, 2), EMPTY)),
+    Step::During(
+        Who::B,
+        (Call::Read(0), Done::Read(Some(5), 3)),
+        Point::AfterLook,
+        4,
+    ),
 ];
 
-const LOOKS_THREE_TIMES_BESIDE: [(Who, Call); 8] = [
-    (Who::A, Call::Write(0, 3, WRITTEN)),
-    (Who::A, Call::Write(1, 4, WRITTEN)),
+const LOOKS_THREE_TIMES_BESIDE: [(Who, Told); 8] = [
+    (Who::A, (Call::Write(0, 3), WRITTEN)),
+    (Who::A, (Call::Write(1, 4), WRITTEN)),
     (Who::First, DRAINED),
     (Who::First, ERASED),
-    (Who::A, Call::Write(0, 5, WRITTEN)),
-    (Who::A, Call::Write(1, 6, WRITTEN)),
+    (Who::A, (Call::Write(0, 5), WRITTEN)),
+    (Who::A, (Call::Write(1, 6), WRITTEN)),
     (
         Who::First,
-        Call::Drain(Drain::Drained {
-            block: 1,
-            copied: 0,
-        }),
+        (
+            Call::Drain,
+            Done::Drained(Drain::Drained {
+                block: 1,
+                copied: 0,
+            }),
+        ),
     ),
     (
         Who::First,
-        Call::Erase(
-            1,
-            Erase::Erased {
+        (
+            Call::Erase(1),
+            Done::Erased(Erase::Erased {
                 block: 1,
                 kept: false,
-            },
+            }),
         ),
     ),
 ];
 
 const DRAINS_BY_TWO: [Step; 6] = [
-    Step::By(Who::A, Call::Write(0, 1, EMPTY)),
-    Step::By(Who::A, Call::Write(1, 2, EMPTY)),
-    Step::By(Who::A, Call::Write(0, 3, WRITTEN)),
-    Step::By(Who::A, Call::Write(0, 4, WRITTEN)),
+    Step::By(Who::A, (Call::Write(0, 1), EMPTY)),
+    Step::By(Who::A, (Call::Write(1, 2), EMPTY)),
+    Step::By(Who::A, (Call::Write(0, 3), WRITTEN)),
+    Step::By(Who::A, (Call::Write(0, 4), WRITTEN)),
     Step::During(Who::First, MOVED, Point::BeforeMove, 1),
     Step::Meet(Who::First, Who::Second),
 ];
 
-const DRAINS_BY_TWO_BESIDE: [(Who, Call); 1] = [(
+const DRAINS_BY_TWO_BESIDE: [(Who, Told); 1] = [(
     Who::Second,
-    Call::Drain(Drain::Drained {
-        block: 1,
-        copied: 1,
-    }),
+    (
+        Call::Drain,
+        Done::Drained(Drain::Drained {
+            block: 1,
+            copied: 1,
+        }),
+    ),
 )];
 
 const ERASES_BY_TWO: [Step; 8] = [
-    Step::By(Who::A, Call::Write(1, 1, EMPTY)),
-    Step::By(Who::A, Call::Write(0, 2, EMPTY)),
-    Step::By(Who::A, Call::Write(1, 3, WRITTEN)),
-    Step::By(Who::A, Call::Write(0, 4, WRITTEN)),
+    Step::By(Who::A, (Call::Write(1, 1), EMPTY)),
+    Step::By(Who::A, (Call::Write(0, 2), EMPTY)),
+    Step::By(Who::A, (Call::Write(1, 3), WRITTEN)),
+    Step::By(Who::A, (Call::Write(0, 4), WRITTEN)),
     Step::By(Who::First, DRAINED),
     Step::During(Who::First, PINNED, Point::BeforeErase, 1),
-    Step::By(Who::First, Call::Erase(0, Erase::Stale)),
-    Step::By(Who::A, Call::Read(0, Some(4), 1)),
+    Step::By(Who::First, (Call::Erase(0), Done::Erased(Erase::Stale))),
+    Step::By(Who::A, (Call::Read(0), Done::Read(Some(4), 1))),
 ];
 
-const ERASES_BY_TWO_BESIDE: [(Who, Call); 1] = [(Who::Second, ERASED)];
+const ERASES_BY_TWO_BESIDE: [(Who, Told); 1] = [(Who::Second, ERASED)];
 
 #[test]
 fn brooms_answer_as_the_rows_say(rt: HostRuntime) -> Result<(), Fail> {
@@ -193,63 +228,63 @@ fn brooms_answer_as_the_rows_say(rt: HostRuntime) -> Result<(), Fail> {
             device: ONE_BROOM,
             steps: &WRITES_BEFORE_A_MOVE,
             meanwhile: &WRITES_BEFORE_A_MOVE_BESIDE,
-            sectors: [Some(3), Some(5)],
+            sectors: [3, 5],
         },
         Row {
             name: "nothing is gained while each closed block is all live",
             device: ONE_BROOM,
             steps: &GAINS_NOTHING,
             meanwhile: &[],
-            sectors: [Some(1), Some(2)],
+            sectors: [1, 2],
         },
         Row {
             name: "a block whose host is gone is drained",
             device: ONE_BROOM,
             steps: &DRAINS_A_LEFT_BLOCK,
             meanwhile: &[],
-            sectors: [Some(1), None],
+            sectors: [1, 0],
         },
         Row {
             name: "a block that is read is lost, and then drained under its reader",
             device: ONE_BROOM,
             steps: &LOSES_A_BLOCK_THAT_IS_READ,
             meanwhile: &LOSES_A_BLOCK_THAT_IS_READ_BESIDE,
-            sectors: [Some(3), Some(2)],
+            sectors: [3, 2],
         },
         Row {
             name: "a pinned block is drained and not erased",
             device: ONE_BROOM,
             steps: &DRAINS_A_PINNED_BLOCK,
             meanwhile: &DRAINS_A_PINNED_BLOCK_BESIDE,
-            sectors: [Some(3), Some(4)],
+            sectors: [3, 4],
         },
         Row {
             name: "a read looks again where its block was erased",
             device: ONE_BROOM,
             steps: &LOOKS_TWICE,
             meanwhile: &LOOKS_TWICE_BESIDE,
-            sectors: [Some(3), Some(4)],
+            sectors: [3, 4],
         },
         Row {
             name: "a read looks three times where its block was erased twice",
             device: ONE_BROOM,
             steps: &LOOKS_THREE_TIMES,
             meanwhile: &LOOKS_THREE_TIMES_BESIDE,
-            sectors: [Some(5), Some(6)],
+            sectors: [5, 6],
         },
         Row {
             name: "two brooms drain a block each, and no sector changes",
             device: TWO_BROOMS,
             steps: &DRAINS_BY_TWO,
             meanwhile: &DRAINS_BY_TWO_BESIDE,
-            sectors: [Some(4), Some(2)],
+            sectors: [4, 2],
         },
         Row {
             name: "a block that another broom erased is not erased again",
             device: TWO_BROOMS,
             steps: &ERASES_BY_TWO,
             meanwhile: &ERASES_BY_TWO_BESIDE,
-            sectors: [Some(4), Some(3)],
+            sectors: [4, 3],
         },
     ] {
         check_row(&rt, row)?;

@@ -1,57 +1,112 @@
-//! Calls on a small device, with the answers that they have to give.
+//! Calls on a small device, with what they answer.
 use broom::{Drain, Erase};
-use geometry::{Got, Was};
-use host::NewFault;
+use geometry::{Got, Was, put_word, word_at};
 
-/// The eight bytes of a page that is told by its first one.
-pub(crate) fn page(byte: u8) -> [u8; 8] {
-    [byte, 0, 0, 0, 0, 0, 0, 0]
+/// How many words a page has.
+pub(crate) const WORDS: u32 = 4;
+
+pub(crate) const BYTES: usize = 32;
+
+/// The page of a number: no two pages that are written have a word in common.
+pub(crate) fn page(number: u64) -> [u8; BYTES] {
+    let mut page = [0; BYTES];
+    put_word(&mut page, 0, number);
+    put_word(&mut page, 1, !number);
+    put_word(&mut page, 2, number);
+    put_word(&mut page, 3, !number);
+    page
 }
 
-/// What a read answers, with its buffer, in which all bytes were 99.
-#[derive(Clone, Copy, Debug, PartialEq, Eq)]
-pub(crate) struct Seen {
-    pub got: Got,
-    pub out: [u8; 8],
-    pub tries: u64,
-}
-
-impl Seen {
-    /// What a read answers that finds this byte, or nothing, after so many looks.
-    pub(crate) fn of(sector: Option<u8>, tries: u64) -> Seen {
-        let (got, out) = match sector {
-            Some(byte) => (Got::Data, page(byte)),
-            None => (Got::Empty, [99; 8]),
-        };
-        Seen { got, out, tries }
+/// The number of a page, or nothing for a torn one.
+pub(crate) fn number_of(bytes: &[u8]) -> Option<u64> {
+    if bytes.len() != BYTES {
+        return None;
+    }
+    let number = word_at(bytes, 0);
+    if bytes == page(number).as_slice() {
+        Some(number)
+    } else {
+        None
     }
 }
 
-/// A call, with the answer that it has to give.
+/// Whether the sectors of a closed device hold these numbers, where 0 is an empty one.
+pub(crate) fn hold(sectors: &[Option<Vec<u8>>], numbers: &[u64]) -> bool {
+    for (sector, number) in sectors.iter().zip(numbers) {
+        let is_held = match sector {
+            Some(bytes) => *number != 0 && number_of(bytes) == Some(*number),
+            None => *number == 0,
+        };
+        if !is_held {
+            return false;
+        }
+    }
+    sectors.len() == numbers.len()
+}
+
+/// A call of a host, of one that holds a page, or of a broom.
 #[derive(Clone, Copy)]
 pub(crate) enum Call {
-    /// A write of this byte. The answer is nothing where no block is left.
-    Write(u32, u8, Option<Was>),
-    /// A write of this byte if the sector is empty.
-    New(u32, u8, Result<(), NewFault>),
-    Trim(u32, Was),
-    /// A read that finds this byte, or nothing, after so many looks.
-    Read(u32, Option<u8>, u64),
-    /// A hold that finds a page in this block and generation, or nothing.
-    Hold(u32, Option<(u32, u32)>),
-    /// The page that is held has this byte.
-    Held(u8),
-    /// The pass that holds a page has no open block.
-    OpensNothing,
+    /// A write of the page of this number.
+    Write(u32, u64),
+    /// A write if the sector is empty.
+    New(u32, u64),
+    Trim(u32),
+    Read(u32),
+    Hold(u32),
+    /// A look at the page that is held.
+    Look,
+    /// Whether the pass that holds a page has an open block.
+    Opened,
     Release,
-    Drain(Drain),
-    Erase(u32, Erase),
-    DrainOne(Drain),
-    EraseOne(Erase),
+    Drain,
+    Erase(u32),
+    DrainOne,
+    EraseOne,
+}
+
+/// What a call answers.
+#[derive(Clone, Copy, PartialEq, Eq)]
+pub(crate) enum Done {
+    /// Nobody makes this call who is as its caller is.
+    Nothing,
+    /// What the sector was, or nothing where no block is left. A write of an empty sector changes no other.
+    Wrote(Option<Was>),
+    Trimmed(Was),
+    /// The number of the sector's page, or nothing for an empty sector, after so many looks.
+    Read(Option<u64>, u64),
+    /// The block and the generation of the page that is held, or nothing for an empty sector.
+    Holds(Option<(u32, u32)>),
+    /// The number of the page that is held.
+    Looked(u64),
+    /// What was found is no page of a number.
+    Torn,
+    Opened(bool),
+    Released,
+    Drained(Drain),
+    Erased(Erase),
+}
+
+/// What a read answers by its buffer, in which all bytes were 99.
+pub(crate) fn read_done(got: Got, out: &[u8; BYTES], tries: u64) -> Done {
+    match got {
+        Got::Data => match number_of(out) {
+            Some(number) => Done::Read(Some(number), tries),
+            None => Done::Torn,
+        },
+        Got::Empty if *out == [99; BYTES] => Done::Read(None, tries),
+        Got::Empty => Done::Torn,
+    }
 }
 
 /// The sector was empty.
-pub(crate) const EMPTY: Option<Was> = Some(Was::Empty);
+pub(crate) const EMPTY: Done = Done::Wrote(Some(Was::Empty));
 
 /// The sector was written.
-pub(crate) const WRITTEN: Option<Was> = Some(Was::Written);
+pub(crate) const WRITTEN: Done = Done::Wrote(Some(Was::Written));
+
+/// No block is left.
+pub(crate) const FULL: Done = Done::Wrote(None);
+
+/// The sector that is trimmed was written.
+pub(crate) const TRIMMED: Done = Done::Trimmed(Was::Written);

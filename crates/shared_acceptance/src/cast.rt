@@ -1,11 +1,12 @@
-//! The actors of a row that are inside no call.
+//! The actors that are inside no call.
 use crate::actors::{Actor, Home};
 
-/// Two hosts and two brooms.
-#[derive(Clone, Copy)]
+/// Three hosts and two brooms.
+#[derive(Clone, Copy, PartialEq, Eq)]
 pub(crate) enum Who {
     A,
     B,
+    C,
     First,
     Second,
 }
@@ -15,28 +16,57 @@ pub(crate) enum Who {
 pub(crate) struct Cast<'a, H: Home> {
     pub a: Option<Actor<'a, H>>,
     pub b: Option<Actor<'a, H>>,
+    pub c: Option<Actor<'a, H>>,
     pub first: Option<Actor<'a, H>>,
     pub second: Option<Actor<'a, H>>,
 }
 
 impl<'a, H: Home> Cast<'a, H> {
-    /// An actor goes into a call, or leaves.
-    pub(crate) fn take(&mut self, who: Who) -> Option<Actor<'a, H>> {
+    fn place(&mut self, who: Who) -> &mut Option<Actor<'a, H>> {
         match who {
-            Who::A => self.a.take(),
-            Who::B => self.b.take(),
-            Who::First => self.first.take(),
-            Who::Second => self.second.take(),
+            Who::A => &mut self.a,
+            Who::B => &mut self.b,
+            Who::C => &mut self.c,
+            Who::First => &mut self.first,
+            Who::Second => &mut self.second,
         }
     }
 
-    /// An actor comes back.
-    pub(crate) fn put(&mut self, who: Who, actor: Actor<'a, H>) {
-        match who {
-            Who::A => self.a = Some(actor),
-            Who::B => self.b = Some(actor),
-            Who::First => self.first = Some(actor),
-            Who::Second => self.second = Some(actor),
+    /// An actor goes into a call, or leaves.
+    pub(crate) fn take(&mut self, who: Who) -> Option<Actor<'a, H>> {
+        self.place(who).take()
+    }
+
+    /// An actor comes back. The answer is whether its place was empty.
+    pub(crate) fn put(&mut self, who: Who, actor: Actor<'a, H>) -> bool {
+        self.place(who).replace(actor).is_none()
+    }
+
+    /// Whether no host is inside a call.
+    pub(crate) fn has_hosts(&self) -> bool {
+        self.a.is_some() && self.b.is_some() && self.c.is_some()
+    }
+
+    /// Whether no broom but this one is inside a call.
+    pub(crate) fn has_other_broom(&self, broom: Who) -> bool {
+        if broom == Who::First {
+            self.second.is_some()
+        } else {
+            self.first.is_some()
         }
+    }
+
+    /// Two hosts, two brooms, or one that holds a page and a broom meet, and come back. The answer is nothing where one of them isn't there,
+    /// and false where others don't meet.
+    pub(crate) fn meet(&mut self, first: Who, second: Who) -> Option<bool> {
+        let a = self.take(first)?;
+        let Some(b) = self.take(second) else {
+            self.put(first, a);
+            return None;
+        };
+        let (a, b, have_met) = a.meet(b);
+        self.put(first, a);
+        self.put(second, b);
+        Some(have_met)
     }
 }

@@ -1,153 +1,230 @@
-//! Threads with a pass each.
-ghost use Rattle.std.specs.Prelude.{◌≡◌, ◌<◌, IfOk};
+//! Hosts that race, each in a thread of its own, where no broom is.
+ghost use Rattle.std.specs.Prelude.{◌≡◌, All, length};
 ghost use Rattle.host.specs.Ready.{IsReady};
 ghost use Rattle.volume.specs.Volume.{flash_of};
+ghost use Rattle.shared_acceptance.specs.Kept.{IsHome};
 
-use crate::calls::Seen;
-use crate::closing::{close, have};
-use crate::hands::Hand;
-use crate::opening::{TwoHosts, last_pass};
+use crate::actors::{Actor, Home, call_at};
+use crate::calls::{Call, Done, EMPTY, TRIMMED, WORDS, WRITTEN, hold};
+use crate::cast::{Cast, Who};
+use crate::closing::close;
+use crate::entries::{give_back, next_host};
 use flash_table::Pass;
-use geometry::{Geometry, Got, Was};
-use host::NewFault;
+use geometry::Geometry;
+use std::marker::Brand;
+use std::sync::Wait;
 use std::test::Fail;
-use std::thread::join_mut;
+use std::thread::{Threads, for_each_mut};
 use volume::Volume;
 
-// Writes 1 to 100 to an empty sector that nobody else writes, and says whether each answer was right.
-fn write_hundred(hand: &mut Hand, sector: u32) -> bool
-    requires { sector < 2 }
-    ensures { hand.new.volume ≡ hand.old.volume }
-{
-    let mut right = true;
-    for byte in 1..=100u8 {
-        let was = if byte == 1 { Was::Empty } else { Was::Written };
-        let answer = hand.write(sector, byte);
-        right = right && answer == Some(was);
-    }
-    right
+// What a host does in a round.
+#[derive(Clone, Copy)]
+enum Job {
+    /// Writes 1 to 100 to this sector, which is empty, and which nobody else writes.
+    WriteHundred(u32),
+    /// Reads sector 0 a thousand times, while at most one other writes 1 to 100 to it. Each read finds a value that was written, at its first
+    /// look, and none finds an earlier one than the read before.
+    ReadThousand,
+    /// Writes this number to sector 0 if it is empty.
+    WriteNew(u64),
+    Rest,
 }
+
+// A host at its place, and whether it was answered what it has to be; of a write of an empty sector, whether it has written.
+#[derive(Drop)]
+struct Racer<'a, H: Home> {
+    place: Option<Actor<'a, H>>,
+    job: Job,
+    right: bool,
+    has_written: bool,
+}
+
+impl<'a, H: Home> Racer<'a, H> {
+    fn new(place: Option<Actor<'a, H>>, job: Job) -> Racer<'a, H> {
+        Racer {
+            place,
+            job,
+            right: true,
+            has_written: false,
+        }
+    }
+
+    fn answers(&mut self, rt: &impl Wait, call: Call, answer: Done) {
+        let done = call_at(&mut self.place, rt, call);
+        self.right = self.right && done == answer;
+    }
+
+    fn write_hundred(&mut self, rt: &impl Wait, sector: u32) {
+        for number in 1..=100u64 {
+            let answer = if number == 1 { EMPTY } else { WRITTEN };
+            self.answers(rt, Call::Write(sector, number), answer);
+        }
+    }
+
+    fn read_thousand(&mut self, rt: &impl Wait) {
+        let mut last = 0;
+        for _ in 0..1000 {
+            let number = match call_at(&mut self.place, rt, Call::Read(0)) {
+                Done::Read(found, 1) => found.unwrap_or(0),
+                _ => 101,
+            };
+            self.right = self.right && last <= number && number <= 100;
+            last = number;
+        }
+    }
+
+    // Writes to an empty sector, and says whether it was found empty or written.
+    fn write_new(&mut self, rt: &impl Wait, number: u64) {
+        let done = call_at(&mut self.place, rt, Call::New(0, number));
+        self.has_written = done == EMPTY;
+        self.right = self.right && (done == EMPTY || done == WRITTEN);
+    }
+
+    fn run(&mut self, rt: &impl Wait) {
+        match self.job {
+            Job::WriteHundred(sector) => self.write_hundred(rt, sector),
+            Job::ReadThousand => self.read_thousand(rt),
+            Job::WriteNew(number) => self.write_new(rt, number),
+            Job::Rest => (),
+        }
+    }
+}
+
+// After a round of writes of an empty sector just one of two has written. One of them reads what the winner wrote, and the other trims it.
+fn settle<H: Home>(rt: &impl Wait, racers: &mut [Racer<'_, H>; 3]) {
+    if let (Job::WriteNew(first), Job::WriteNew(second)) = (racers[0].job, racers[1].job) {
+        let first_won = racers[0].has_written;
+        racers[0].right = racers[0].right && first_won != racers[1].has_written;
+        let winner = if first_won { first } else { second };
+        racers[0].answers(rt, Call::Read(0), Done::Read(Some(winner), 1));
+        racers[1].answers(rt, Call::Trim(0), TRIMMED);
+    }
+}
+
+// The jobs of three hosts over a device of so many blocks, in so many rounds; and what the sectors hold at the end, 0 for an empty one.
+#[derive(Clone, Copy)]
+struct Race {
+    blocks: u32,
+    jobs: [Job; 3],
+    rounds: u32,
+    sectors: [u64; 2],
+}
+
+// Whether two hosts meet at the end, and the first and the third then find what the sectors hold.
+fn find_last<H: Home>(rt: &impl Wait, cast: &mut Cast<'_, H>, sectors: [u64; 2]) -> bool {
+    let [zero, one] = sectors;
+    let have_met = cast.meet(Who::A, Who::B);
+    let first = call_at(&mut cast.a, rt, Call::Read(1));
+    let third = call_at(&mut cast.c, rt, Call::Read(0));
+    have_met == Some(true) && first == found(one) && third == found(zero)
+}
+
+// What a read answers at its first look that finds this number, or an empty sector.
+fn found(number: u64) -> Done {
+    match number {
+        0 => Done::Read(None, 1),
+        _ => Done::Read(Some(number), 1),
+    }
+}
+
+// A racer's place, and whether it was right.
+fn end<H: Home>(racer: Option<Racer<'_, H>>) -> (Option<Actor<'_, H>>, bool) {
+    match racer {
+        Some(racer) => (racer.place, racer.right),
+        None => (None, false),
+    }
+}
+
+// Runs a race, and gives the passes back. Was each answer right?
+fn run_race<'x, R: Threads + Wait + Sync, H: Home + Send + Sync>(
+    rt: &R,
+    volume: &'x Volume,
+    passes: Vec<Pass>,
+    race: Race,
+) -> (Vec<Pass>, bool)
+    requires home { IsHome H.home volume.now }
+    requires ready { All (IsReady (flash_of volume.now)) passes.items }
+    requires hosts { length passes.items ≡ 3 }
+    ensures { All (IsReady (flash_of volume.now)) result.0.items }
+{
+    let mut passes = passes;
+    let [a, b, c] = race.jobs;
+    let mut racers: [Racer<'x, H>; 3] = [
+        Racer::new(next_host(volume, &mut passes), a),
+        Racer::new(next_host(volume, &mut passes), b),
+        Racer::new(next_host(volume, &mut passes), c),
+    ];
+    for _ in 0..race.rounds {
+        for_each_mut(rt, &mut racers, 3, &|_, racer| racer.run(rt));
+        settle(rt, &mut racers);
+    }
+    let mut racers = racers.into_iter();
+    let (a, a_right) = end(racers.next());
+    let (b, b_right) = end(racers.next());
+    let (c, c_right) = end(racers.next());
+    let right = a_right && b_right && c_right;
+    let mut cast = Cast {
+        a,
+        b,
+        c,
+        first: None,
+        second: None,
+    };
+    let right = find_last(rt, &mut cast, race.sectors) && right;
+    let Cast {
+        a,
+        b,
+        c,
+        first: _,
+        second: _,
+    } = cast;
+    give_back(volume, a, &mut passes);
+    give_back(volume, b, &mut passes);
+    give_back(volume, c, &mut passes);
+    (passes, right)
+}
+
+const RACES: [(&str, Race); 3] = [
+    (
+        "two write a hundred values each",
+        Race {
+            blocks: 101,
+            jobs: [Job::WriteHundred(0), Job::WriteHundred(1), Job::Rest],
+            rounds: 1,
+            sectors: [100, 100],
+        },
+    ),
+    (
+        "two read a sector while a third overwrites it",
+        Race {
+            blocks: 101,
+            jobs: [Job::WriteHundred(0), Job::ReadThousand, Job::ReadThousand],
+            rounds: 1,
+            sectors: [100, 0],
+        },
+    ),
+    (
+        "of two just one writes an empty sector",
+        Race {
+            blocks: 1003,
+            jobs: [Job::WriteNew(1), Job::WriteNew(2), Job::Rest],
+            rounds: 1000,
+            sectors: [0, 0],
+        },
+    ),
+];
 
 #[test]
-fn two_threads_write_a_hundred_values_each(rt: HostRuntime) -> Result<(), Fail> {
-    let TwoHosts { volume, a, b } = TwoHosts::open(&rt, 101)?;
-    let mut a = Hand {
-        volume: &volume,
-        pass: a,
-    };
-    let mut b = Hand {
-        volume: &volume,
-        pass: b,
-    };
-    let (first, second) = join_mut(
-        &rt,
-        &mut || write_hundred(&mut a, 0),
-        &mut || write_hundred(&mut b, 1),
-    );
-    assert!(rt; first && second);
-    a.meet(&mut b);
-    assert!(rt; a.read(1) == Seen::of(Some(100), 1));
-    let Hand { volume: _, pass: a } = a;
-    let Hand { volume: _, pass: b } = b;
-    assert!(rt; have(&close(&rt, volume, a, b), 100, 100));
-    Ok(())
-}
-
-// A device with the passes of three hosts.
-fn open_three(rt: &impl AllocGlobal, blocks: u32) -> Result<(TwoHosts, Pass), Fail>
-    ensures { IfOk result (λ r. IsReady (flash_of r.0.volume) r.1) }
-{
-    let geometry = Geometry::new(1, blocks, 2, 1, 2, 10, 3, 0)?;
-    let (volume, mut passes, brooms) = Volume::open(rt.alloc(), &geometry)?;
-    brooms.destroy_empty();
-    let c = last_pass(&volume, &mut passes);
-    let b = last_pass(&volume, &mut passes);
-    let a = last_pass(&volume, &mut passes);
-    passes.destroy_empty();
-    Ok((TwoHosts { volume, a, b }, c))
-}
-
-// Reads sector 0 a thousand times while another one writes 1 to 100 to it. Each read finds a value that was written, at its first look, and
-// none finds an earlier one than the read before.
-fn read_thousand(hand: &mut Hand) -> bool
-    ensures { hand.new.volume ≡ hand.old.volume }
-{
-    let mut last = 0;
-    let mut right = true;
-    for _ in 0..1000 {
-        let seen = hand.read(0);
-        let byte = if seen.got == Got::Data {
-            seen.out[0]
-        } else {
-            0
-        };
-        right = right && seen == Seen::of(if byte == 0 { None } else { Some(byte) }, 1);
-        right = right && last <= byte && byte <= 100;
-        last = byte;
+fn hosts_that_race_are_answered_what_they_have_to_be(rt: HostRuntime) -> Result<(), Fail> {
+    for (name, race) in RACES {
+        let geometry = Geometry::new(1, race.blocks, 2, WORDS, 2, 10, 3, 0)?;
+        let (volume, passes, brooms) = Volume::open(rt.alloc(), &geometry)?;
+        brooms.destroy_empty();
+        let (passes, right) = run_race::<HostRuntime, Brand>(&rt, &volume, passes, race);
+        assert!(rt; right, "{name}");
+        assert!(rt; !passes.is_empty(), "{name}");
+        let sectors = close(&rt, volume, passes);
+        assert!(rt; hold(sectors.as_slice(), &race.sectors), "{name}");
     }
-    right
-}
-
-#[test]
-fn two_threads_read_a_sector_while_a_third_overwrites_it(rt: HostRuntime) -> Result<(), Fail> {
-    let (TwoHosts { volume, a, b }, c) = open_three(&rt, 101)?;
-    let mut a = Hand {
-        volume: &volume,
-        pass: a,
-    };
-    let mut b = Hand {
-        volume: &volume,
-        pass: b,
-    };
-    let mut c = Hand {
-        volume: &volume,
-        pass: c,
-    };
-    let (wrote, (first, second)) = join_mut(
-        &rt,
-        &mut || write_hundred(&mut a, 0),
-        &mut || join_mut(
-            &rt,
-            &mut || read_thousand(&mut b),
-            &mut || read_thousand(&mut c),
-        ),
-    );
-    assert!(rt; wrote && first && second);
-    assert!(rt; c.read(0) == Seen::of(Some(100), 1));
-    a.leave();
-    b.leave();
-    c.leave();
-    Ok(())
-}
-
-// Which of two threads wrote, if just one of them did.
-fn winner(first: Result<(), NewFault>, second: Result<(), NewFault>) -> Option<u8> {
-    match (first, second) {
-        (Ok(()), Err(NewFault::Written)) => Some(1),
-        (Err(NewFault::Written), Ok(())) => Some(2),
-        _ => None,
-    }
-}
-
-#[test]
-fn of_two_threads_just_one_writes_an_empty_sector(rt: HostRuntime) -> Result<(), Fail> {
-    let TwoHosts { volume, a, b } = TwoHosts::open(&rt, 1000)?;
-    let mut a = Hand {
-        volume: &volume,
-        pass: a,
-    };
-    let mut b = Hand {
-        volume: &volume,
-        pass: b,
-    };
-    for round in 0..1000 {
-        let (first, second) = join_mut(&rt, &mut || a.write_new(0, 1), &mut || b.write_new(0, 2));
-        let winner = winner(first, second);
-        assert!(rt; winner.is_some(), "round {round}");
-        assert!(rt; a.read(0) == Seen::of(winner, 1), "round {round}");
-        assert!(rt; b.trim(0) == Was::Written, "round {round}");
-    }
-    a.leave();
-    b.leave();
     Ok(())
 }

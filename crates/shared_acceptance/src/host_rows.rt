@@ -1,11 +1,9 @@
 //! Two hosts at a device, without a broom or beside one that does nothing.
-use crate::calls::{Call, EMPTY, WRITTEN};
+use crate::calls::{Call, Done, EMPTY, FULL, TRIMMED, WRITTEN};
 use crate::cast::Who;
 use crate::playing_rows::{Device, Row, check_row};
-use crate::stage::Step;
+use crate::stage::{Step, Told};
 use flash_table::Point;
-use geometry::Was;
-use host::NewFault;
 use std::test::Fail;
 
 const NO_BROOM: Device = Device {
@@ -21,108 +19,103 @@ const ONE_BROOM: Device = Device {
 };
 
 const READS_THE_OTHERS: [Step; 2] = [
-    Step::By(Who::A, Call::Write(0, 1, EMPTY)),
-    Step::By(Who::B, Call::Read(0, Some(1), 1)),
+    Step::By(Who::A, (Call::Write(0, 1), EMPTY)),
+    Step::By(Who::B, (Call::Read(0), Done::Read(Some(1), 1))),
 ];
 
 const FILLS_ALL: [Step; 15] = [
-    Step::By(Who::A, Call::Write(1, 1, EMPTY)),
-    Step::By(Who::A, Call::Write(0, 2, EMPTY)),
-    Step::By(Who::A, Call::Write(1, 3, WRITTEN)),
-    Step::By(Who::A, Call::Write(0, 4, WRITTEN)),
-    Step::By(Who::A, Call::Write(1, 5, WRITTEN)),
-    Step::By(Who::A, Call::Write(0, 6, WRITTEN)),
-    Step::By(Who::A, Call::Write(1, 7, WRITTEN)),
-    Step::By(Who::A, Call::Write(0, 8, WRITTEN)),
-    Step::By(Who::A, Call::Write(1, 9, WRITTEN)),
-    Step::By(Who::A, Call::Write(0, 10, WRITTEN)),
-    Step::By(Who::A, Call::Write(0, 11, None)),
-    Step::By(Who::A, Call::Read(0, Some(10), 1)),
-    Step::By(Who::A, Call::Read(1, Some(9), 1)),
-    Step::By(Who::A, Call::Trim(0, Was::Written)),
-    Step::By(Who::A, Call::Read(0, None, 1)),
+    Step::By(Who::A, (Call::Write(1, 1), EMPTY)),
+    Step::By(Who::A, (Call::Write(0, 2), EMPTY)),
+    Step::By(Who::A, (Call::Write(1, 3), WRITTEN)),
+    Step::By(Who::A, (Call::Write(0, 4), WRITTEN)),
+    Step::By(Who::A, (Call::Write(1, 5), WRITTEN)),
+    Step::By(Who::A, (Call::Write(0, 6), WRITTEN)),
+    Step::By(Who::A, (Call::Write(1, 7), WRITTEN)),
+    Step::By(Who::A, (Call::Write(0, 8), WRITTEN)),
+    Step::By(Who::A, (Call::Write(1, 9), WRITTEN)),
+    Step::By(Who::A, (Call::Write(0, 10), WRITTEN)),
+    Step::By(Who::A, (Call::Write(0, 11), FULL)),
+    Step::By(Who::A, (Call::Read(0), Done::Read(Some(10), 1))),
+    Step::By(Who::A, (Call::Read(1), Done::Read(Some(9), 1))),
+    Step::By(Who::A, (Call::Trim(0), TRIMMED)),
+    Step::By(Who::A, (Call::Read(0), Done::Read(None, 1))),
 ];
 
 const LEAVES_THE_SPARE: [Step; 12] = [
-    Step::By(Who::A, Call::Write(1, 1, EMPTY)),
-    Step::By(Who::A, Call::Write(0, 2, EMPTY)),
-    Step::By(Who::A, Call::Write(1, 3, WRITTEN)),
-    Step::By(Who::A, Call::Write(0, 4, WRITTEN)),
-    Step::By(Who::A, Call::Write(1, 5, WRITTEN)),
-    Step::By(Who::A, Call::Write(0, 6, WRITTEN)),
-    Step::By(Who::A, Call::Write(1, 7, WRITTEN)),
-    Step::By(Who::A, Call::Write(0, 8, WRITTEN)),
-    Step::By(Who::A, Call::Write(0, 9, None)),
-    Step::By(Who::A, Call::Read(0, Some(8), 1)),
-    Step::By(Who::A, Call::Read(1, Some(7), 1)),
-    Step::By(Who::A, Call::Trim(0, Was::Written)),
+    Step::By(Who::A, (Call::Write(1, 1), EMPTY)),
+    Step::By(Who::A, (Call::Write(0, 2), EMPTY)),
+    Step::By(Who::A, (Call::Write(1, 3), WRITTEN)),
+    Step::By(Who::A, (Call::Write(0, 4), WRITTEN)),
+    Step::By(Who::A, (Call::Write(1, 5), WRITTEN)),
+    Step::By(Who::A, (Call::Write(0, 6), WRITTEN)),
+    Step::By(Who::A, (Call::Write(1, 7), WRITTEN)),
+    Step::By(Who::A, (Call::Write(0, 8), WRITTEN)),
+    Step::By(Who::A, (Call::Write(0, 9), FULL)),
+    Step::By(Who::A, (Call::Read(0), Done::Read(Some(8), 1))),
+    Step::By(Who::A, (Call::Read(1), Done::Read(Some(7), 1))),
+    Step::By(Who::A, (Call::Trim(0), TRIMMED)),
 ];
 
 const MEET: [Step; 4] = [
-    Step::By(Who::A, Call::Write(0, 1, EMPTY)),
-    Step::By(Who::B, Call::Write(1, 2, EMPTY)),
+    Step::By(Who::A, (Call::Write(0, 1), EMPTY)),
+    Step::By(Who::B, (Call::Write(1, 2), EMPTY)),
     Step::Meet(Who::A, Who::B),
-    Step::By(Who::A, Call::Read(1, Some(2), 1)),
+    Step::By(Who::A, (Call::Read(1), Done::Read(Some(2), 1))),
 ];
 
 const TRIMS_BEFORE_A_SWAP: [Step; 3] = [
-    Step::By(Who::A, Call::Write(0, 1, EMPTY)),
-    Step::During(Who::A, Call::Write(0, 2, EMPTY), Point::BeforePlace, 1),
-    Step::By(Who::A, Call::Read(0, Some(2), 1)),
+    Step::By(Who::A, (Call::Write(0, 1), EMPTY)),
+    Step::During(Who::A, (Call::Write(0, 2), EMPTY), Point::BeforePlace, 1),
+    Step::By(Who::A, (Call::Read(0), Done::Read(Some(2), 1))),
 ];
 
-const TRIMS_BEFORE_A_SWAP_BESIDE: [(Who, Call); 1] = [(Who::B, Call::Trim(0, Was::Written))];
+const TRIMS_BEFORE_A_SWAP_BESIDE: [(Who, Told); 1] = [(Who::B, (Call::Trim(0), TRIMMED))];
 
 const HOLDS: [Step; 11] = [
-    Step::By(Who::B, Call::Hold(0, None)),
-    Step::By(Who::A, Call::Write(0, 1, EMPTY)),
-    Step::By(Who::B, Call::Hold(0, Some((0, 0)))),
-    Step::By(Who::B, Call::OpensNothing),
-    Step::By(Who::B, Call::Held(1)),
-    Step::By(Who::A, Call::Write(0, 3, WRITTEN)),
-    Step::By(Who::B, Call::Held(1)),
-    Step::By(Who::A, Call::Trim(0, Was::Written)),
-    Step::By(Who::A, Call::Write(0, 3, EMPTY)),
-    Step::By(Who::B, Call::Release),
-    Step::By(Who::B, Call::Read(0, Some(3), 1)),
+    Step::By(Who::B, (Call::Hold(0), Done::Holds(None))),
+    Step::By(Who::A, (Call::Write(0, 1), EMPTY)),
+    Step::By(Who::B, (Call::Hold(0), Done::Holds(Some((0, 0))))),
+    Step::By(Who::B, (Call::Opened, Done::Opened(false))),
+    Step::By(Who::B, (Call::Look, Done::Looked(1))),
+    Step::By(Who::A, (Call::Write(0, 3), WRITTEN)),
+    Step::By(Who::B, (Call::Look, Done::Looked(1))),
+    Step::By(Who::A, (Call::Trim(0), TRIMMED)),
+    Step::By(Who::A, (Call::Write(0, 3), EMPTY)),
+    Step::By(Who::B, (Call::Release, Done::Released)),
+    Step::By(Who::B, (Call::Read(0), Done::Read(Some(3), 1))),
 ];
 
 // A host that is given up keeps no block.
 const LEAVES: [Step; 12] = [
-    Step::By(Who::A, Call::Write(0, 1, EMPTY)),
+    Step::By(Who::A, (Call::Write(0, 1), EMPTY)),
     Step::Leave(Who::A),
-    Step::By(Who::B, Call::Write(0, 2, WRITTEN)),
-    Step::By(Who::B, Call::Write(0, 3, WRITTEN)),
-    Step::By(Who::B, Call::Write(0, 4, WRITTEN)),
-    Step::By(Who::B, Call::Write(0, 5, WRITTEN)),
-    Step::By(Who::B, Call::Write(0, 6, WRITTEN)),
-    Step::By(Who::B, Call::Write(0, 7, WRITTEN)),
-    Step::By(Who::B, Call::Write(0, 8, WRITTEN)),
-    Step::By(Who::B, Call::Write(0, 9, WRITTEN)),
-    Step::By(Who::B, Call::Write(1, 10, None)),
-    Step::By(Who::B, Call::Read(0, Some(9), 1)),
+    Step::By(Who::B, (Call::Write(0, 2), WRITTEN)),
+    Step::By(Who::B, (Call::Write(0, 3), WRITTEN)),
+    Step::By(Who::B, (Call::Write(0, 4), WRITTEN)),
+    Step::By(Who::B, (Call::Write(0, 5), WRITTEN)),
+    Step::By(Who::B, (Call::Write(0, 6), WRITTEN)),
+    Step::By(Who::B, (Call::Write(0, 7), WRITTEN)),
+    Step::By(Who::B, (Call::Write(0, 8), WRITTEN)),
+    Step::By(Who::B, (Call::Write(0, 9), WRITTEN)),
+    Step::By(Who::B, (Call::Write(1, 10), FULL)),
+    Step::By(Who::B, (Call::Read(0), Done::Read(Some(9), 1))),
 ];
 
 const WRITES_ANEW: [Step; 6] = [
-    Step::By(Who::A, Call::New(0, 1, Ok(()))),
-    Step::By(Who::B, Call::New(0, 2, Err(NewFault::Written))),
-    Step::By(Who::B, Call::Read(0, Some(1), 1)),
-    Step::By(Who::A, Call::Trim(0, Was::Written)),
-    Step::By(Who::B, Call::New(0, 3, Ok(()))),
-    Step::By(Who::A, Call::Read(0, Some(3), 1)),
+    Step::By(Who::A, (Call::New(0, 1), EMPTY)),
+    Step::By(Who::B, (Call::New(0, 2), WRITTEN)),
+    Step::By(Who::B, (Call::Read(0), Done::Read(Some(1), 1))),
+    Step::By(Who::A, (Call::Trim(0), TRIMMED)),
+    Step::By(Who::B, (Call::New(0, 3), EMPTY)),
+    Step::By(Who::A, (Call::Read(0), Done::Read(Some(3), 1))),
 ];
 
 const WINS_BY_THE_FIRST_EXCHANGE: [Step; 2] = [
-    Step::During(
-        Who::A,
-        Call::New(0, 1, Err(NewFault::Written)),
-        Point::BeforePlace,
-        1,
-    ),
-    Step::By(Who::A, Call::Read(0, Some(2), 1)),
+    Step::During(Who::A, (Call::New(0, 1), WRITTEN), Point::BeforePlace, 1),
+    Step::By(Who::A, (Call::Read(0), Done::Read(Some(2), 1))),
 ];
 
-const WINS_BY_THE_FIRST_EXCHANGE_BESIDE: [(Who, Call); 1] = [(Who::B, Call::New(0, 2, Ok(())))];
+const WINS_BY_THE_FIRST_EXCHANGE_BESIDE: [(Who, Told); 1] = [(Who::B, (Call::New(0, 2), EMPTY))];
 
 #[test]
 fn hosts_answer_as_the_rows_say(rt: HostRuntime) -> Result<(), Fail> {
@@ -132,63 +125,63 @@ fn hosts_answer_as_the_rows_say(rt: HostRuntime) -> Result<(), Fail> {
             device: ONE_BROOM,
             steps: &READS_THE_OTHERS,
             meanwhile: &[],
-            sectors: [Some(1), None],
+            sectors: [1, 0],
         },
         Row {
             name: "ten writes fill five blocks, and nothing is lost",
             device: NO_BROOM,
             steps: &FILLS_ALL,
             meanwhile: &[],
-            sectors: [None, Some(9)],
+            sectors: [0, 9],
         },
         Row {
             name: "hosts leave a broom's spare alone",
             device: ONE_BROOM,
             steps: &LEAVES_THE_SPARE,
             meanwhile: &[],
-            sectors: [None, Some(7)],
+            sectors: [0, 7],
         },
         Row {
             name: "hosts that met close with what both wrote",
             device: NO_BROOM,
             steps: &MEET,
             meanwhile: &[],
-            sectors: [Some(1), Some(2)],
+            sectors: [1, 2],
         },
         Row {
             name: "a trim before the swap is the earlier call",
             device: NO_BROOM,
             steps: &TRIMS_BEFORE_A_SWAP,
             meanwhile: &TRIMS_BEFORE_A_SWAP_BESIDE,
-            sectors: [Some(2), None],
+            sectors: [2, 0],
         },
         Row {
             name: "a hold keeps its value until it is released",
             device: NO_BROOM,
             steps: &HOLDS,
             meanwhile: &[],
-            sectors: [Some(3), None],
+            sectors: [3, 0],
         },
         Row {
             name: "a host that is given up keeps no block",
             device: NO_BROOM,
             steps: &LEAVES,
             meanwhile: &[],
-            sectors: [Some(9), None],
+            sectors: [9, 0],
         },
         Row {
             name: "a written sector is not written anew until it is trimmed",
             device: NO_BROOM,
             steps: &WRITES_ANEW,
             meanwhile: &[],
-            sectors: [Some(3), None],
+            sectors: [3, 0],
         },
         Row {
             name: "the first exchange wins, and not the first call",
             device: NO_BROOM,
             steps: &WINS_BY_THE_FIRST_EXCHANGE,
             meanwhile: &WINS_BY_THE_FIRST_EXCHANGE_BESIDE,
-            sectors: [Some(2), None],
+            sectors: [2, 0],
         },
     ] {
         check_row(&rt, row)?;

@@ -1,9 +1,12 @@
-//! Tests of the shared device's public calls: rows of calls with their answers, the words of its table after each call, and
-//! crowds in real threads. They stand in a crate of their own, since a crate with tests is proved twice.
+//! Tests of the shared device's public calls: rows of calls with their answers, calls of hosts and brooms that interleave at every point of
+//! a gate as seeds draw them, judged by a plain array, the words of its table after each call, and crowds in real threads. They stand in a
+//! crate of their own, since a crate with tests is proved twice.
 #![tactic(auto)]
 
 #[cfg(test)]
 mod actors;
+#[cfg(test)]
+mod broom_judge;
 #[cfg(test)]
 mod broom_rows;
 #[cfg(test)]
@@ -15,13 +18,27 @@ mod cast;
 #[cfg(test)]
 mod closing;
 #[cfg(test)]
+mod crowd;
+#[cfg(test)]
+mod crowd_notes;
+#[cfg(test)]
+mod crowd_values;
+#[cfg(test)]
 mod crowds;
+#[cfg(test)]
+mod drawn;
+#[cfg(test)]
+mod draws;
 #[cfg(test)]
 mod entries;
 #[cfg(test)]
-mod hands;
-#[cfg(test)]
 mod host_rows;
+#[cfg(test)]
+mod judge;
+#[cfg(test)]
+mod jury;
+#[cfg(test)]
+mod nesting;
 #[cfg(test)]
 mod opening;
 #[cfg(test)]
@@ -35,9 +52,15 @@ mod queue_hands;
 #[cfg(test)]
 mod queue_rows;
 #[cfg(test)]
+mod random;
+#[cfg(test)]
+mod refusals;
+#[cfg(test)]
 mod sizes;
 #[cfg(test)]
 mod stage;
+#[cfg(test)]
+mod tally;
 #[cfg(test)]
 mod turn_rows;
 #[cfg(test)]

@@ -6,11 +6,11 @@ ghost use Rattle.volume.specs.Volume.{flash_of};
 ghost use Rattle.shared_acceptance.specs.Kept.{IsHome};
 
 use crate::actors::Home;
-use crate::calls::Call;
+use crate::calls::{WORDS, hold};
 use crate::cast::{Cast, Who};
-use crate::closing::holds;
+use crate::closing::close;
 use crate::entries::{fold, give_back, next_broom, next_host};
-use crate::stage::{Stage, Step};
+use crate::stage::{Stage, Step, Told};
 use broom::Broom;
 use flash_table::{Pass, Point};
 use geometry::Geometry;
@@ -20,7 +20,7 @@ use std::sync::Wait;
 use std::test::Fail;
 use volume::Volume;
 
-/// A device with two sectors, two hosts, and blocks of two pages of one word: how many blocks it has, how often each may be erased, and how
+/// A device with two sectors, two hosts, and blocks of two pages: how many blocks it has, how often each may be erased, and how
 /// many brooms it has, two at most.
 #[derive(Clone, Copy)]
 pub(crate) struct Device {
@@ -36,8 +36,9 @@ pub(crate) struct Row<'a> {
     pub device: Device,
     pub steps: &'a [Step],
     /// What others do at the gate of a call.
-    pub meanwhile: &'a [(Who, Call)],
-    pub sectors: [Option<u8>; 2],
+    pub meanwhile: &'a [(Who, Told)],
+    /// Their numbers, 0 for an empty one.
+    pub sectors: [u64; 2],
 }
 
 // Makes the steps up to the first whose call answers otherwise, and says how many were right.
@@ -47,7 +48,7 @@ fn play<'x, 's, R: Wait, H: Home>(
     passes: Vec<Pass>,
     brooms: Vec<Broom>,
     steps: &[Step],
-    meanwhile: &'s [(Who, Call)],
+    meanwhile: &'s [(Who, Told)],
 ) -> (Vec<Pass>, usize)
     requires home { IsHome H.home volume.now }
     requires ready { All (IsReady (flash_of volume.now)) passes.items }
@@ -65,6 +66,7 @@ fn play<'x, 's, R: Wait, H: Home>(
     let cast: Cast<'x, H> = Cast {
         a,
         b,
+        c: None,
         first,
         second,
     };
@@ -87,6 +89,7 @@ fn play<'x, 's, R: Wait, H: Home>(
     let Cast {
         a,
         b,
+        c: _,
         first,
         second,
     } = stage.cast;
@@ -112,19 +115,12 @@ pub(crate) fn check_row<R: Wait + Abort + AllocGlobal>(rt: &R, row: Row<'_>) -> 
         brooms,
     } = device;
     assert!(rt; brooms <= 2);
-    let geometry = Geometry::new(1, blocks, 2, 1, 2, endurance, 2, brooms)?;
+    let geometry = Geometry::new(1, blocks, 2, WORDS, 2, endurance, 2, brooms)?;
     let (volume, passes, brooms) = Volume::open(rt.alloc(), &geometry)?;
     let (passes, done) = play::<R, Brand>(rt, &volume, passes, brooms, steps, meanwhile);
     assert!(rt; done == steps.len(), "{name}, step {done}");
     assert!(rt; !passes.is_empty(), "{name}");
-    let closed = match volume.close(rt.alloc(), passes) {
-        Ok(closed) => closed,
-        Err((_volume, _passes)) => panic!(rt; "memory"),
-    };
-    let [first, second] = sectors;
-    assert!(rt;
-        holds(&closed.sectors, 0, first) && holds(&closed.sectors, 1, second),
-        "{name}"
-    );
+    let closed = close(rt, volume, passes);
+    assert!(rt; hold(closed.as_slice(), &sectors), "{name}");
     Ok(())
 }

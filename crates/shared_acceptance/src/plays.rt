@@ -1,16 +1,20 @@
 //! A player stops at its gate when it has kept an answer.
 ghost use Rattle.std.specs.Bool.{OnTrue};
 ghost use Rattle.std.specs.Prelude.{◌≡◌, ◌<◌, Some, length, slice_get};
+ghost use Rattle.geometry.specs.Geometry.{sectors_of, page_bytes_of};
+ghost use Rattle.flash_table.specs.Flash.{geometry_of};
+ghost use Rattle.host.specs.Ready.{IsReady};
+ghost use Rattle.volume.specs.Volume.{flash_of};
 ghost use Rattle.trace.specs.declared.commands.Op.TheVariants as op;
 
-use crate::hands::Hand;
-use crate::opening::TwoHosts;
-use flash_table::{Gate, Point};
+use crate::opening::last_pass;
+use flash_table::{Gate, Pass, Point};
 use geometry::Geometry;
 use lines::{Answer, Kind};
 use playing::{play, play_at};
 use std::test::Fail;
 use trace::{Command, Commands, Op, parse};
+use volume::Volume;
 
 // How many answers were kept.
 #[derive(Drop)]
@@ -34,13 +38,22 @@ fn is_trim(line: &Command<'_>) -> bool
 }
 
 // Plays the line, and then the first of the commands, which is the same. The answer is how many answers were kept.
-fn play_twice(hand: Hand, commands: &Commands, line: Command<'_>, answer: Answer) -> u32
+fn play_twice(
+    volume: &Volume,
+    pass: Pass,
+    commands: &Commands,
+    line: Command<'_>,
+    answer: Answer,
+) -> u32
+    requires sectors { sectors_of (geometry_of (flash_of volume.now)) ≡ 2 }
+    requires bytes { page_bytes_of (geometry_of (flash_of volume.now)) ≡ 8 }
+    requires ready { IsReady (flash_of volume.now) pass }
     requires first { slice_get commands.now 0 ≡ Some line }
     requires op { line.op ≡ op.Trim }
     requires sector { line.sector < 2 }
     requires page { length answer.page.items ≡ 8 }
 {
-    let Hand { volume, mut pass } = hand;
+    let mut pass = pass;
     let mut gate = Counts { answered: 0 };
     let mut answers = [answer];
     play(volume, &mut pass, &[line], 1, &mut gate, &mut answers);
@@ -60,7 +73,7 @@ fn play_twice(hand: Hand, commands: &Commands, line: Command<'_>, answer: Answer
 
 #[test]
 fn a_player_stops_at_its_gate_for_each_answer(rt: HostRuntime) -> Result<(), Fail> {
-    let geometry = Geometry::new(1, 5, 2, 1, 2, 10, 2, 0)?;
+    let geometry = Geometry::new(1, 5, 2, 1, 2, 10, 1, 0)?;
     let commands = parse(rt.alloc(), b"0,trim,1,\n".as_slice(), &geometry)?;
     let answer = Answer {
         kind: Kind::Full,
@@ -69,12 +82,10 @@ fn a_player_stops_at_its_gate_for_each_answer(rt: HostRuntime) -> Result<(), Fai
     assert!(rt; commands.len() == 1);
     let line = commands.command(0);
     assert!(rt; is_trim(&line));
-    let TwoHosts { volume, a, b } = TwoHosts::open(&rt, 5)?;
-    let a = Hand {
-        volume: &volume,
-        pass: a,
-    };
-    assert!(rt; play_twice(a, &commands, line, answer) == 2);
-    volume.retire(b);
+    let (volume, mut passes, brooms) = Volume::open(rt.alloc(), &geometry)?;
+    brooms.destroy_empty();
+    let pass = last_pass(&volume, &mut passes);
+    passes.destroy_empty();
+    assert!(rt; play_twice(&volume, pass, &commands, line, answer) == 2);
     Ok(())
 }

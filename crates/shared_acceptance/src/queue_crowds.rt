@@ -1,109 +1,188 @@
 //! Threads with a pass each.
-ghost use Rattle.std.specs.Prelude.{◌<◌};
+ghost use Rattle.std.specs.Prelude.{◌≡◌, ◌+◌, ◌<◌, All, length};
+ghost use Rattle.erase_queue.specs.Queue.{IsNewPass};
 
 use crate::queue_hands::{Hand, QueueCall, next_hand};
-use erase_queue::EraseQueue;
+use erase_queue::{EraseQueue, QueuePass};
 use std::sync::Wait;
 use std::test::Fail;
-use std::thread::join_mut;
+use std::thread::{Threads, for_each_mut};
 
-// Puts five hundred numbers, from this one on.
-fn put_many(rt: &impl Wait, hand: &mut Hand, first: usize)
-    requires { first < 1000 }
-{
-    for block in first..first + 500 {
-        hand.put(rt, block);
-    }
+// What a thread does so often: it puts numbers from the first one on, each by this step above the one before, or it takes numbers.
+#[derive(Clone, Copy)]
+enum Job {
+    Put {
+        first: usize,
+        step: usize,
+        times: u32,
+    },
+    Take {
+        times: u32,
+    },
 }
 
-// Takes five hundred numbers, and says how often each came.
-fn take_many(rt: &impl Wait, hand: &mut Hand) -> [u16; 1000] {
-    let mut times = [0u16; 1000];
-    for _ in 0..500 {
-        if let Some(count) = times.get_mut(hand.take(rt)) {
+// Who works in a thread: its pass, and how often it has taken each number.
+#[derive(Drop)]
+struct Worker<'a> {
+    hand: Hand<'a>,
+    job: Job,
+    taken: [u32; 1000],
+}
+
+impl Worker<'_> {
+    fn take_one(&mut self, rt: &impl Wait) {
+        let block = self.hand.take(rt);
+        if let Some(count) = self.taken.get_mut(block) {
             *count = count.wrapping_add(1);
         }
     }
-    times
+
+    fn work(&mut self, rt: &impl Wait) {
+        match self.job {
+            Job::Put { first, step, times } => {
+                let mut block = first;
+                for _ in 0..times {
+                    self.hand.put(rt, block);
+                    block = block.wrapping_add(step);
+                }
+            }
+            Job::Take { times } => {
+                for _ in 0..times {
+                    self.take_one(rt);
+                }
+            }
+        }
+    }
 }
 
-// Whether each number came once, here or there.
-fn each_once(first: &[u16; 1000], second: &[u16; 1000]) -> bool {
+// Four threads share a queue with so many places. Each number below that is taken so often in all, and no other one.
+#[derive(Clone, Copy)]
+struct Crowd {
+    places: usize,
+    jobs: [Job; 4],
+    times: u32,
+}
+
+const CROWDS: [(&str, Crowd); 2] = [
+    (
+        "each number that two threads put is taken once by two others",
+        Crowd {
+            places: 1000,
+            jobs: [
+                Job::Put {
+                    first: 0,
+                    step: 1,
+                    times: 500,
+                },
+                Job::Put {
+                    first: 500,
+                    step: 1,
+                    times: 500,
+                },
+                Job::Take { times: 500 },
+                Job::Take { times: 500 },
+            ],
+            times: 1,
+        },
+    ),
+    (
+        "four threads share a queue with one place",
+        Crowd {
+            places: 1,
+            jobs: [
+                Job::Put {
+                    first: 0,
+                    step: 0,
+                    times: 500,
+                },
+                Job::Put {
+                    first: 0,
+                    step: 0,
+                    times: 300,
+                },
+                Job::Take { times: 400 },
+                Job::Take { times: 400 },
+            ],
+            times: 800,
+        },
+    ),
+];
+
+// Whether each number was taken as often as it had to be.
+fn are_taken(workers: &[Worker<'_>; 4], crowd: Crowd) -> bool {
     for block in 0..1000 {
-        if first[block].wrapping_add(second[block]) != 1 {
+        let mut count = 0u32;
+        for worker in workers {
+            count = count.wrapping_add(worker.taken[block]);
+        }
+        let wanted = if block < crowd.places { crowd.times } else { 0 };
+        if count != wanted {
             return false;
         }
     }
     true
 }
 
-#[test]
-fn each_number_that_two_threads_put_is_taken_once_by_two_others(
-    rt: HostRuntime,
-) -> Result<(), Fail> {
-    let (queue, mut passes) = EraseQueue::new(rt.alloc(), 1000, 4)?;
-    let mut a = next_hand(&queue, &mut passes);
-    let mut b = next_hand(&queue, &mut passes);
-    let mut c = next_hand(&queue, &mut passes);
-    let mut d = next_hand(&queue, &mut passes);
-    let (_, (first, second)) = join_mut(
-        &rt,
-        &mut || join_mut(
-            &rt,
-            &mut || put_many(&rt, &mut a, 0),
-            &mut || put_many(&rt, &mut b, 500),
-        ),
-        &mut || join_mut(
-            &rt,
-            &mut || take_many(&rt, &mut c),
-            &mut || take_many(&rt, &mut d),
-        ),
-    );
-    assert!(rt; each_once(&first, &second));
-    assert!(rt; c.answers(&rt, &[QueueCall::Take(None)]));
-    Ok(())
-}
-
-// Puts the number 0, so often.
-fn put_often(rt: &impl Wait, hand: &mut Hand, times: u32) {
-    for _ in 0..times {
-        hand.put(rt, 0);
+fn new_worker<'a>(queue: &'a EraseQueue, passes: &mut Vec<QueuePass>, job: Job) -> Worker<'a>
+    requires some { 0 < length passes.old.items }
+    requires passes { All (IsNewPass queue.now) passes.old.items }
+    ensures long { length passes.new.items + 1 ≡ length passes.old.items }
+    ensures passes { All (IsNewPass queue.entry.now) passes.new.items }
+{
+    Worker {
+        hand: next_hand(queue, passes),
+        job,
+        taken: [0; 1000],
     }
 }
 
-// Takes so many numbers. Was each of them 0?
-fn take_often(rt: &impl Wait, hand: &mut Hand, times: u32) -> bool {
-    let mut all = true;
-    for _ in 0..times {
-        all = hand.take(rt) == 0 && all;
-    }
-    all
+// Whether all that was put was taken, as often as it had to be, and nothing is left.
+fn is_right<R: Threads + Wait + Sync>(
+    rt: &R,
+    queue: &EraseQueue,
+    passes: Vec<QueuePass>,
+    crowd: Crowd,
+) -> bool
+    requires passes { All (IsNewPass queue.now) passes.items }
+    requires four { length passes.items ≡ 4 }
+{
+    let mut passes = passes;
+    let [a, b, c, d] = crowd.jobs;
+    let mut workers = [
+        new_worker(queue, &mut passes, a),
+        new_worker(queue, &mut passes, b),
+        new_worker(queue, &mut passes, c),
+        new_worker(queue, &mut passes, d),
+    ];
+    for_each_mut(rt, &mut workers, 4, &|_, worker| worker.work(rt));
+    are_taken(&workers, crowd) && workers[2].hand.answers(rt, &[QueueCall::Take(None)])
 }
 
 #[test]
-fn four_threads_share_a_queue_with_one_place(rt: HostRuntime) -> Result<(), Fail> {
-    let (queue, mut passes) = EraseQueue::new(rt.alloc(), 1, 4)?;
-    let mut a = next_hand(&queue, &mut passes);
-    let mut b = next_hand(&queue, &mut passes);
-    let mut c = next_hand(&queue, &mut passes);
-    let mut d = next_hand(&queue, &mut passes);
-    let (_, zeros) = join_mut(
-        &rt,
-        &mut || join_mut(
-            &rt,
-            &mut || put_often(&rt, &mut a, 500),
-            &mut || put_often(&rt, &mut b, 300),
-        ),
-        &mut || join_mut(
-            &rt,
-            &mut || take_often(&rt, &mut c, 400),
-            &mut || take_often(&rt, &mut d, 400),
-        ),
-    );
-    assert!(rt; zeros.0 && zeros.1);
-    assert!(rt; c.answers(&rt, &[QueueCall::Take(None)]));
+fn four_threads_share_a_queue(rt: HostRuntime) -> Result<(), Fail> {
+    for (name, crowd) in CROWDS {
+        assert!(rt; crowd.places > 0);
+        let (queue, passes) = EraseQueue::new(rt.alloc(), crowd.places, 4)?;
+        assert!(rt; is_right(&rt, &queue, passes, crowd), "{name}");
+    }
     Ok(())
 }
+
+const PUTS: [QueueCall; 3] = [
+    QueueCall::Put(0, true),
+    QueueCall::Put(1, true),
+    QueueCall::Put(2, true),
+];
+
+const TAKES_THE_FIRST: [QueueCall; 1] = [QueueCall::Take(Some(0))];
+
+const THEN: [QueueCall; 5] = [
+    QueueCall::Put(4, true),
+    QueueCall::Take(Some(1)),
+    QueueCall::Take(Some(2)),
+    QueueCall::Take(Some(4)),
+    QueueCall::Take(None),
+];
 
 #[test]
 fn what_a_dropped_pass_has_put_is_taken_by_the_others(rt: HostRuntime) -> Result<(), Fail> {
@@ -111,22 +190,10 @@ fn what_a_dropped_pass_has_put_is_taken_by_the_others(rt: HostRuntime) -> Result
     let mut a = next_hand(&queue, &mut passes);
     let mut b = next_hand(&queue, &mut passes);
     let mut c = next_hand(&queue, &mut passes);
-    let puts = [
-        QueueCall::Put(0, true),
-        QueueCall::Put(1, true),
-        QueueCall::Put(2, true),
-    ];
-    assert!(rt; a.answers(&rt, &puts));
+    assert!(rt; a.answers(&rt, &PUTS));
     drop(a);
-    assert!(rt; b.answers(&rt, &[QueueCall::Take(Some(0))]));
+    assert!(rt; b.answers(&rt, &TAKES_THE_FIRST));
     drop(b);
-    let then = [
-        QueueCall::Put(4, true),
-        QueueCall::Take(Some(1)),
-        QueueCall::Take(Some(2)),
-        QueueCall::Take(Some(4)),
-        QueueCall::Take(None),
-    ];
-    assert!(rt; c.answers(&rt, &then));
+    assert!(rt; c.answers(&rt, &THEN));
     Ok(())
 }

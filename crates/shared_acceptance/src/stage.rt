@@ -1,17 +1,20 @@
 //! The steps of a row are made one after another, and at the points of a gate.
 use crate::actors::Home;
-use crate::calls::Call;
+use crate::calls::{Call, Done};
 use crate::cast::{Cast, Who};
 use flash_table::{Gate, NoGate, Point};
 use std::sync::Wait;
+
+/// A call, with the answer that it has to give.
+pub(crate) type Told = (Call, Done);
 
 /// A step of a row.
 #[derive(Clone, Copy)]
 pub(crate) enum Step {
     /// A call, beside which nobody acts.
-    By(Who, Call),
+    By(Who, Told),
     /// A call, and the row's calls of others at a point of its gate: so many at each visit.
-    During(Who, Call, Point, usize),
+    During(Who, Told, Point, usize),
     /// Two hosts, two brooms, or one that holds a page and a broom.
     Meet(Who, Who),
     /// One that makes no more calls.
@@ -24,7 +27,7 @@ pub(crate) struct Stage<'a, 's, R: Wait, H: Home> {
     pub rt: &'a R,
     pub cast: Cast<'a, H>,
     pub point: Point,
-    pub calls: &'s [(Who, Call)],
+    pub calls: &'s [(Who, Told)],
     pub each: usize,
     pub right: bool,
 }
@@ -34,48 +37,40 @@ impl<'s, R: Wait, H: Home> Stage<'_, 's, R, H> {
         self.right = self.right && holds;
     }
 
-    fn call(&mut self, who: Who, call: Call) {
+    fn call(&mut self, who: Who, told: Told) {
         let Some(actor) = self.cast.take(who) else {
             return self.expect(false);
         };
-        let (actor, right) = actor.does(self.rt, call, &mut NoGate);
-        self.expect(right);
-        self.cast.put(who, actor);
+        let (actor, done) = actor.does(self.rt, told.0, &mut NoGate);
+        let is_back = self.cast.put(who, actor);
+        self.expect(is_back && done == told.1);
     }
 
     // A call that is gated by the stage. All that was to be done at its gate is done then.
-    fn call_gated(&mut self, who: Who, call: Call) {
+    fn call_gated(&mut self, who: Who, told: Told) {
         let Some(actor) = self.cast.take(who) else {
             return self.expect(false);
         };
         let rt = self.rt;
-        let (actor, right) = actor.does(rt, call, self);
+        let (actor, done) = actor.does(rt, told.0, self);
         let all = self.calls.is_empty();
-        self.expect(right && all);
-        self.cast.put(who, actor);
-    }
-
-    fn meet(&mut self, first: Who, second: Who) {
-        if let (Some(a), Some(b)) = (self.cast.take(first), self.cast.take(second)) {
-            let (a, b, right) = a.meet(b);
-            self.expect(right);
-            self.cast.put(first, a);
-            self.cast.put(second, b);
-        } else {
-            self.expect(false)
-        }
+        let is_back = self.cast.put(who, actor);
+        self.expect(is_back && all && done == told.1);
     }
 
     /// One step.
     pub(crate) fn step(&mut self, step: Step) {
         match step {
-            Step::By(who, call) => self.call(who, call),
-            Step::During(who, call, point, each) => {
+            Step::By(who, told) => self.call(who, told),
+            Step::During(who, told, point, each) => {
                 self.point = point;
                 self.each = each;
-                self.call_gated(who, call);
+                self.call_gated(who, told);
             }
-            Step::Meet(first, second) => self.meet(first, second),
+            Step::Meet(first, second) => {
+                let have_met = self.cast.meet(first, second) == Some(true);
+                self.expect(have_met);
+            }
             Step::Leave(who) => {
                 let _ = self.cast.take(who);
             }
@@ -90,8 +85,8 @@ impl<R: Wait, H: Home> Gate for Stage<'_, '_, R, H> {
         }
         let (now, later) = self.calls.split_at(self.each);
         self.calls = later;
-        for (who, call) in now {
-            self.call(*who, *call);
+        for (who, told) in now {
+            self.call(*who, *told);
         }
     }
 }

@@ -1,8 +1,8 @@
 //! Brooms that take turns over the queue of drained blocks, beside two hosts.
-use crate::calls::{Call, EMPTY, WRITTEN};
+use crate::calls::{Call, Done, EMPTY, FULL, WRITTEN};
 use crate::cast::Who;
 use crate::playing_rows::{Device, Row, check_row};
-use crate::stage::Step;
+use crate::stage::{Step, Told};
 use broom::{Drain, Erase};
 use std::test::Fail;
 
@@ -32,185 +32,212 @@ const TWICE: Device = Device {
     brooms: 1,
 };
 
-const DRAINS_ZERO: Call = Call::DrainOne(Drain::Drained {
-    block: 0,
-    copied: 0,
-});
+const DRAINS_ZERO: Told = (
+    Call::DrainOne,
+    Done::Drained(Drain::Drained {
+        block: 0,
+        copied: 0,
+    }),
+);
 
-const DRAINS_ONE: Call = Call::DrainOne(Drain::Drained {
-    block: 1,
-    copied: 0,
-});
+const DRAINS_ONE: Told = (
+    Call::DrainOne,
+    Done::Drained(Drain::Drained {
+        block: 1,
+        copied: 0,
+    }),
+);
 
-const DRAINS_TWO: Call = Call::DrainOne(Drain::Drained {
-    block: 2,
-    copied: 0,
-});
+const DRAINS_TWO: Told = (
+    Call::DrainOne,
+    Done::Drained(Drain::Drained {
+        block: 2,
+        copied: 0,
+    }),
+);
 
-const ERASES_ZERO: Call = Call::EraseOne(Erase::Erased {
-    block: 0,
-    kept: false,
-});
+const ERASES_ZERO: Told = (
+    Call::EraseOne,
+    Done::Erased(Erase::Erased {
+        block: 0,
+        kept: false,
+    }),
+);
 
-const ERASES_ONE: Call = Call::EraseOne(Erase::Erased {
-    block: 1,
-    kept: false,
-});
+const ERASES_ONE: Told = (
+    Call::EraseOne,
+    Done::Erased(Erase::Erased {
+        block: 1,
+        kept: false,
+    }),
+);
 
-const ERASES_TWO: Call = Call::EraseOne(Erase::Erased {
-    block: 2,
-    kept: false,
-});
+const ERASES_TWO: Told = (
+    Call::EraseOne,
+    Done::Erased(Erase::Erased {
+        block: 2,
+        kept: false,
+    }),
+);
 
-const RETIRES_ZERO: Call = Call::EraseOne(Erase::Retired { block: 0 });
+const RETIRES_ZERO: Told = (Call::EraseOne, Done::Erased(Erase::Retired { block: 0 }));
 
-const RETIRES_ONE: Call = Call::EraseOne(Erase::Retired { block: 1 });
+const RETIRES_ONE: Told = (Call::EraseOne, Done::Erased(Erase::Retired { block: 1 }));
 
-const RETIRES_TWO: Call = Call::EraseOne(Erase::Retired { block: 2 });
+const RETIRES_TWO: Told = (Call::EraseOne, Done::Erased(Erase::Retired { block: 2 }));
 
-const NOTHING: Call = Call::DrainOne(Drain::NothingToGain);
+const NOTHING: Told = (Call::DrainOne, Done::Drained(Drain::NothingToGain));
 
-const PINNED: Call = Call::EraseOne(Erase::Pinned);
+const PINNED: Told = (Call::EraseOne, Done::Erased(Erase::Pinned));
 
-const STALE: Call = Call::EraseOne(Erase::Stale);
+const STALE: Told = (Call::EraseOne, Done::Erased(Erase::Stale));
 
 // The broom stands by the page that is held.
 const PUTS_A_HELD_BLOCK_BACK: [Step; 14] = [
-    Step::By(Who::A, Call::Write(0, 1, EMPTY)),
-    Step::By(Who::A, Call::Write(1, 2, EMPTY)),
-    Step::By(Who::B, Call::Hold(0, Some((0, 0)))),
-    Step::By(Who::A, Call::Write(0, 3, WRITTEN)),
-    Step::By(Who::A, Call::Write(1, 4, WRITTEN)),
+    Step::By(Who::A, (Call::Write(0, 1), EMPTY)),
+    Step::By(Who::A, (Call::Write(1, 2), EMPTY)),
+    Step::By(Who::B, (Call::Hold(0), Done::Holds(Some((0, 0))))),
+    Step::By(Who::A, (Call::Write(0, 3), WRITTEN)),
+    Step::By(Who::A, (Call::Write(1, 4), WRITTEN)),
     Step::By(Who::First, DRAINS_ZERO),
     Step::By(Who::First, PINNED),
     Step::Meet(Who::B, Who::First),
-    Step::By(Who::B, Call::Held(1)),
-    Step::By(Who::B, Call::Release),
+    Step::By(Who::B, (Call::Look, Done::Looked(1))),
+    Step::By(Who::B, (Call::Release, Done::Released)),
     Step::By(Who::First, ERASES_ZERO),
-    Step::By(Who::First, Call::EraseOne(Erase::QueueEmpty)),
-    Step::By(Who::A, Call::Write(0, 5, WRITTEN)),
-    Step::By(Who::A, Call::Hold(0, Some((0, 1)))),
+    Step::By(
+        Who::First,
+        (Call::EraseOne, Done::Erased(Erase::QueueEmpty)),
+    ),
+    Step::By(Who::A, (Call::Write(0, 5), WRITTEN)),
+    Step::By(Who::A, (Call::Hold(0), Done::Holds(Some((0, 1))))),
 ];
 
 const RETIRES_A_HELD_BLOCK: [Step; 14] = [
-    Step::By(Who::A, Call::Write(0, 1, EMPTY)),
-    Step::By(Who::A, Call::Write(1, 2, EMPTY)),
-    Step::By(Who::B, Call::Hold(0, Some((0, 0)))),
-    Step::By(Who::A, Call::Write(0, 3, WRITTEN)),
-    Step::By(Who::A, Call::Write(1, 4, WRITTEN)),
+    Step::By(Who::A, (Call::Write(0, 1), EMPTY)),
+    Step::By(Who::A, (Call::Write(1, 2), EMPTY)),
+    Step::By(Who::B, (Call::Hold(0), Done::Holds(Some((0, 0))))),
+    Step::By(Who::A, (Call::Write(0, 3), WRITTEN)),
+    Step::By(Who::A, (Call::Write(1, 4), WRITTEN)),
     Step::By(Who::First, DRAINS_ZERO),
     Step::By(Who::First, PINNED),
     Step::Meet(Who::B, Who::First),
-    Step::By(Who::B, Call::Held(1)),
-    Step::By(Who::B, Call::Release),
+    Step::By(Who::B, (Call::Look, Done::Looked(1))),
+    Step::By(Who::B, (Call::Release, Done::Released)),
     Step::By(Who::First, RETIRES_ZERO),
-    Step::By(Who::First, Call::EraseOne(Erase::QueueEmpty)),
-    Step::By(Who::A, Call::Write(0, 5, WRITTEN)),
-    Step::By(Who::A, Call::Hold(0, Some((2, 0)))),
+    Step::By(
+        Who::First,
+        (Call::EraseOne, Done::Erased(Erase::QueueEmpty)),
+    ),
+    Step::By(Who::A, (Call::Write(0, 5), WRITTEN)),
+    Step::By(Who::A, (Call::Hold(0), Done::Holds(Some((2, 0))))),
 ];
 
 // Block 0 stays, and the others wear out.
 const HOLDS_WHILE_OTHERS_WEAR_OUT: [Step; 46] = [
-    Step::By(Who::A, Call::Write(0, 1, EMPTY)),
-    Step::By(Who::A, Call::Write(1, 2, EMPTY)),
-    Step::By(Who::B, Call::Hold(0, Some((0, 0)))),
-    Step::By(Who::A, Call::Write(0, 3, WRITTEN)),
-    Step::By(Who::A, Call::Write(1, 4, WRITTEN)),
+    Step::By(Who::A, (Call::Write(0, 1), EMPTY)),
+    Step::By(Who::A, (Call::Write(1, 2), EMPTY)),
+    Step::By(Who::B, (Call::Hold(0), Done::Holds(Some((0, 0))))),
+    Step::By(Who::A, (Call::Write(0, 3), WRITTEN)),
+    Step::By(Who::A, (Call::Write(1, 4), WRITTEN)),
     Step::By(Who::First, DRAINS_ZERO),
     Step::By(Who::First, PINNED),
     Step::By(Who::First, PINNED),
     Step::Meet(Who::B, Who::First),
-    Step::By(Who::B, Call::Held(1)),
-    Step::By(Who::A, Call::Write(0, 5, WRITTEN)),
-    Step::By(Who::A, Call::Write(1, 6, WRITTEN)),
+    Step::By(Who::B, (Call::Look, Done::Looked(1))),
+    Step::By(Who::A, (Call::Write(0, 5), WRITTEN)),
+    Step::By(Who::A, (Call::Write(1, 6), WRITTEN)),
     Step::By(Who::First, DRAINS_ONE),
     Step::By(Who::First, PINNED),
     Step::By(Who::First, ERASES_ONE),
     Step::Meet(Who::B, Who::First),
-    Step::By(Who::B, Call::Held(1)),
-    Step::By(Who::A, Call::Write(0, 7, WRITTEN)),
-    Step::By(Who::A, Call::Write(1, 8, WRITTEN)),
+    Step::By(Who::B, (Call::Look, Done::Looked(1))),
+    Step::By(Who::A, (Call::Write(0, 7), WRITTEN)),
+    Step::By(Who::A, (Call::Write(1, 8), WRITTEN)),
     Step::By(Who::First, DRAINS_TWO),
     Step::By(Who::First, PINNED),
     Step::By(Who::First, ERASES_TWO),
     Step::Meet(Who::B, Who::First),
-    Step::By(Who::B, Call::Held(1)),
-    Step::By(Who::A, Call::Write(0, 9, WRITTEN)),
-    Step::By(Who::A, Call::Write(1, 10, WRITTEN)),
+    Step::By(Who::B, (Call::Look, Done::Looked(1))),
+    Step::By(Who::A, (Call::Write(0, 9), WRITTEN)),
+    Step::By(Who::A, (Call::Write(1, 10), WRITTEN)),
     Step::By(Who::First, DRAINS_ONE),
     Step::By(Who::First, PINNED),
     Step::By(Who::First, RETIRES_ONE),
     Step::Meet(Who::B, Who::First),
-    Step::By(Who::B, Call::Held(1)),
-    Step::By(Who::A, Call::Write(0, 11, WRITTEN)),
-    Step::By(Who::A, Call::Write(1, 12, WRITTEN)),
+    Step::By(Who::B, (Call::Look, Done::Looked(1))),
+    Step::By(Who::A, (Call::Write(0, 11), WRITTEN)),
+    Step::By(Who::A, (Call::Write(1, 12), WRITTEN)),
     Step::By(Who::First, DRAINS_TWO),
     Step::By(Who::First, PINNED),
     Step::By(Who::First, RETIRES_TWO),
     Step::Meet(Who::B, Who::First),
-    Step::By(Who::B, Call::Held(1)),
-    Step::By(Who::A, Call::Write(0, 13, None)),
+    Step::By(Who::B, (Call::Look, Done::Looked(1))),
+    Step::By(Who::A, (Call::Write(0, 13), FULL)),
     Step::By(Who::First, NOTHING),
-    Step::By(Who::A, Call::Read(0, Some(11), 1)),
-    Step::By(Who::A, Call::Read(1, Some(12), 1)),
-    Step::By(Who::B, Call::Held(1)),
-    Step::By(Who::B, Call::Release),
+    Step::By(Who::A, (Call::Read(0), Done::Read(Some(11), 1))),
+    Step::By(Who::A, (Call::Read(1), Done::Read(Some(12), 1))),
+    Step::By(Who::B, (Call::Look, Done::Looked(1))),
+    Step::By(Who::B, (Call::Release, Done::Released)),
     Step::By(Who::First, ERASES_ZERO),
-    Step::By(Who::A, Call::Write(0, 13, WRITTEN)),
+    Step::By(Who::A, (Call::Write(0, 13), WRITTEN)),
 ];
 
-const FREES_ZERO: Call = Call::Erase(
-    0,
-    Erase::Erased {
+const FREES_ZERO: Told = (
+    Call::Erase(0),
+    Done::Erased(Erase::Erased {
         block: 0,
         kept: false,
-    },
+    }),
 );
 
-const FREES_ONE: Call = Call::Erase(
-    1,
-    Erase::Erased {
+const FREES_ONE: Told = (
+    Call::Erase(1),
+    Done::Erased(Erase::Erased {
         block: 1,
         kept: false,
-    },
+    }),
 );
 
 // The second broom fills the queue, and erases the blocks beside it.
 const SETS_A_BLOCK_ASIDE: [Step; 38] = [
-    Step::By(Who::A, Call::Write(0, 1, EMPTY)),
-    Step::By(Who::A, Call::Write(1, 2, EMPTY)),
-    Step::By(Who::A, Call::Write(0, 3, WRITTEN)),
-    Step::By(Who::A, Call::Write(1, 4, WRITTEN)),
+    Step::By(Who::A, (Call::Write(0, 1), EMPTY)),
+    Step::By(Who::A, (Call::Write(1, 2), EMPTY)),
+    Step::By(Who::A, (Call::Write(0, 3), WRITTEN)),
+    Step::By(Who::A, (Call::Write(1, 4), WRITTEN)),
     Step::By(Who::Second, DRAINS_ZERO),
     Step::By(Who::Second, FREES_ZERO),
-    Step::By(Who::A, Call::Write(0, 3, WRITTEN)),
-    Step::By(Who::A, Call::Write(1, 4, WRITTEN)),
+    Step::By(Who::A, (Call::Write(0, 3), WRITTEN)),
+    Step::By(Who::A, (Call::Write(1, 4), WRITTEN)),
     Step::By(Who::Second, DRAINS_ONE),
     Step::By(Who::Second, FREES_ONE),
-    Step::By(Who::A, Call::Write(0, 3, WRITTEN)),
-    Step::By(Who::A, Call::Write(1, 4, WRITTEN)),
+    Step::By(Who::A, (Call::Write(0, 3), WRITTEN)),
+    Step::By(Who::A, (Call::Write(1, 4), WRITTEN)),
     Step::By(Who::Second, DRAINS_ZERO),
     Step::By(Who::Second, FREES_ZERO),
-    Step::By(Who::A, Call::Write(0, 3, WRITTEN)),
-    Step::By(Who::A, Call::Write(1, 4, WRITTEN)),
+    Step::By(Who::A, (Call::Write(0, 3), WRITTEN)),
+    Step::By(Who::A, (Call::Write(1, 4), WRITTEN)),
     Step::By(Who::Second, DRAINS_ONE),
     Step::By(Who::Second, FREES_ONE),
-    Step::By(Who::A, Call::Write(0, 3, WRITTEN)),
-    Step::By(Who::A, Call::Write(1, 4, WRITTEN)),
+    Step::By(Who::A, (Call::Write(0, 3), WRITTEN)),
+    Step::By(Who::A, (Call::Write(1, 4), WRITTEN)),
     Step::By(Who::Second, DRAINS_ZERO),
     Step::By(Who::Second, FREES_ZERO),
-    Step::By(Who::A, Call::Write(0, 3, WRITTEN)),
-    Step::By(Who::A, Call::Write(1, 4, WRITTEN)),
+    Step::By(Who::A, (Call::Write(0, 3), WRITTEN)),
+    Step::By(Who::A, (Call::Write(1, 4), WRITTEN)),
     Step::By(Who::Second, DRAINS_ONE),
     Step::By(Who::Second, FREES_ONE),
-    Step::By(Who::A, Call::Write(0, 3, WRITTEN)),
-    Step::By(Who::A, Call::Write(1, 4, WRITTEN)),
+    Step::By(Who::A, (Call::Write(0, 3), WRITTEN)),
+    Step::By(Who::A, (Call::Write(1, 4), WRITTEN)),
     Step::By(Who::Second, DRAINS_ZERO),
     Step::By(Who::Second, FREES_ZERO),
-    Step::By(Who::A, Call::Write(0, 5, WRITTEN)),
-    Step::By(Who::A, Call::Write(1, 6, WRITTEN)),
+    Step::By(Who::A, (Call::Write(0, 5), WRITTEN)),
+    Step::By(Who::A, (Call::Write(1, 6), WRITTEN)),
     Step::By(Who::First, DRAINS_ONE),
-    Step::By(Who::First, Call::DrainOne(Drain::QueueFull)),
+    Step::By(
+        Who::First,
+        (Call::DrainOne, Done::Drained(Drain::QueueFull)),
+    ),
     Step::By(Who::First, ERASES_ONE),
     Step::By(Who::First, NOTHING),
     Step::By(Who::First, STALE),
@@ -225,28 +252,28 @@ fn turns_over_the_queue_answer_as_the_rows_say(rt: HostRuntime) -> Result<(), Fa
             device: ONE_BROOM,
             steps: &PUTS_A_HELD_BLOCK_BACK,
             meanwhile: &[],
-            sectors: [Some(5), Some(4)],
+            sectors: [5, 4],
         },
         Row {
             name: "a held block is retired once it is released",
             device: ONCE,
             steps: &RETIRES_A_HELD_BLOCK,
             meanwhile: &[],
-            sectors: [Some(5), Some(4)],
+            sectors: [5, 4],
         },
         Row {
             name: "a hold that is not released keeps its block while others wear out",
             device: TWICE,
             steps: &HOLDS_WHILE_OTHERS_WEAR_OUT,
             meanwhile: &[],
-            sectors: [Some(13), Some(12)],
+            sectors: [13, 12],
         },
         Row {
             name: "a block for which the queue has no room is set aside",
             device: TWO_BROOMS,
             steps: &SETS_A_BLOCK_ASIDE,
             meanwhile: &[],
-            sectors: [Some(5), Some(6)],
+            sectors: [5, 6],
         },
     ] {
         check_row(&rt, row)?;

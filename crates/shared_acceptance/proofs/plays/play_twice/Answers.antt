@@ -35,14 +35,14 @@ the_first (x ∷ xs) line is = cc
 
 pub play-requires-clause-lines : goal.play-requires-clause-lines
 play-requires-clause-lines c =
-    let geo = geometry_of (flash_of c.args.hand.volume.now) in one_line geo c.args.line (is_line geo c.args.line c.requires.op (omega (arith, c.args.hand.sectors, c.requires.sector)))
+    let geo = geometry_of (flash_of c.args.volume.now) in one_line geo c.args.line (is_line geo c.args.line c.requires.op (omega (arith, c.requires.sectors, c.requires.sector)))
 
 pub play-requires-clause-pages : goal.play-requires-clause-pages
 play-requires-clause-pages c =
-    let geo = geometry_of (flash_of c.args.hand.volume.now) in All-cons (HasPage geo) c.args.answer [] (c.requires.page ∙ sym c.args.hand.bytes) (All-nil (HasPage geo))
+    let geo = geometry_of (flash_of c.args.volume.now) in All-cons (HasPage geo) c.args.answer [] (c.requires.page ∙ sym c.requires.bytes) (All-nil (HasPage geo))
 
 pub play_at-requires-clause-lines : goal.play_at-requires-clause-lines
 play_at-requires-clause-lines c =
-    let geo = geometry_of (flash_of c.args.hand.volume.now) in
-    let line = is_line geo c.args.line c.requires.op (omega (arith, c.args.hand.sectors, c.requires.sector)) in
+    let geo = geometry_of (flash_of c.args.volume.now) in
+    let line = is_line geo c.args.line c.requires.op (omega (arith, c.requires.sectors, c.requires.sector)) in
     subst (λ (x : Command). All (IsLine geo) (x ∷ [])) (sym (the_first c.args.commands.now c.args.line c.requires.first)) (one_line geo c.args.line line)

@@ -1,2 +1,0 @@
--- What the actors of a schedule keep.
-pub mod Home

@@ -1,0 +1,229 @@
+//! A plain model of the brooms, which judges their answers: the queue of drained blocks, and what each broom has.
+ghost use Rattle.std.specs.Prelude.{◌<◌};
+
+use crate::drawn::Drawn;
+use crate::judge::BLOCKS;
+use arrayvec::ArrayVec;
+use broom::{Drain, Erase};
+
+// What a broom has between two calls: whether it has a spare, how many pages are left in the block that it copies to, 0 where there is
+// none, and the block that it has set aside.
+#[derive(Clone, Copy)]
+struct Kit {
+    has_spare: bool,
+    room: u32,
+    aside: Option<u32>,
+}
+
+/// What a call of a broom begins with.
+#[derive(Clone, Copy)]
+pub(crate) struct Start {
+    /// The block that is to be erased, if it is an erase and there is one.
+    pub block: Option<u32>,
+    was_drained: bool,
+    // Whether a block is set aside that the queue has no room for.
+    is_stuck: bool,
+}
+
+impl Start {
+    /// Of a call that erases nothing.
+    pub(crate) fn none() -> Start {
+        Start {
+            block: None,
+            was_drained: false,
+            is_stuck: false,
+        }
+    }
+}
+
+/// What is known of a broom's call beside its answer.
+#[derive(Clone, Copy)]
+pub(crate) struct Course {
+    pub start: Start,
+    /// How many pages it tried to move.
+    pub moves: u32,
+    /// Whether nobody else made a call meanwhile.
+    pub alone: bool,
+}
+
+/// The brooms, as far as their answers show them, and which blocks are drained.
+#[derive(Drop)]
+pub(crate) struct BroomJudge {
+    kits: [Kit; 2],
+    queue: ArrayVec<u32, 10>,
+    drained: [bool; 10],
+    pages: u32,
+    /// Whether each answer so far was one that can be.
+    pub right: bool,
+}
+
+impl BroomJudge {
+    /// Two brooms of a device that is not used yet, with blocks of so many pages.
+    pub(crate) fn new(pages: u32) -> BroomJudge {
+        let kit = Kit {
+            has_spare: true,
+            room: 0,
+            aside: None,
+        };
+        BroomJudge {
+            kits: [kit; 2],
+            queue: ArrayVec::new(),
+            drained: [false; 10],
+            pages,
+            right: true,
+        }
+    }
+
+    fn expect(&mut self, holds: bool) {
+        self.right = self.right && holds;
+    }
+
+    /// The first block that is drained, or else this one.
+    pub(crate) fn drained_or(&self, block: u32) -> u32
+        requires { block < 10 }
+        ensures { result < 10 }
+    {
+        for drained in 0..BLOCKS {
+            if self.drained[drained as usize] {
+                return drained;
+            }
+        }
+        block
+    }
+
+    fn set_drained(&mut self, block: u32, drained: bool) {
+        match self.drained.get_mut(block as usize) {
+            Some(mark) => *mark = drained,
+            None => self.expect(false),
+        }
+    }
+
+    // Puts a block into the queue. The answer is false where it is full.
+    fn put(&mut self, block: u32) -> bool {
+        self.queue.try_push(block).is_ok()
+    }
+
+    // Puts what is set aside. The answer is false where the queue is full.
+    fn relieve(&mut self, broom: usize) -> bool
+        requires { broom < 2 }
+    {
+        let Some(block) = self.kits[broom].aside else {
+            return true;
+        };
+        if !self.put(block) {
+            return false;
+        }
+        self.kits[broom].aside = None;
+        true
+    }
+
+    // Takes what is set aside, or else the queue's first block.
+    fn fetch(&mut self, broom: usize) -> Option<u32>
+        requires { broom < 2 }
+    {
+        if let Some(block) = self.kits[broom].aside {
+            self.kits[broom].aside = None;
+            return Some(block);
+        }
+        if self.queue.is_empty() {
+            None
+        } else {
+            Some(self.queue.remove(0))
+        }
+    }
+
+    fn hand_on(&mut self, broom: usize, block: u32)
+        requires { broom < 2 }
+    {
+        if !self.put(block) {
+            self.kits[broom].aside = Some(block);
+        }
+    }
+
+    /// A call begins.
+    pub(crate) fn begin(&mut self, broom: usize, drawn: Drawn) -> Start
+        requires { broom < 2 }
+    {
+        let block = match drawn.kind {
+            0..8 => {
+                let is_stuck = !self.relieve(broom);
+                return Start {
+                    is_stuck,
+                    ..Start::none()
+                };
+            }
+            8..10 => return Start::none(),
+            10..17 => self.fetch(broom),
+            _ => Some(drawn.block),
+        };
+        let was_drained = match block {
+            Some(block) => self.drained.get(block as usize) == Some(&true),
+            None => false,
+        };
+        Start {
+            block,
+            was_drained,
+            is_stuck: false,
+        }
+    }
+
+    // The broom has copied so many pages: the spare becomes the block that it copies to where there is none.
+    fn copy(&mut self, broom: usize, pages: u32)
+        requires { broom < 2 }
+    {
+        for _ in 0..pages {
+            let kit = self.kits[broom];
+            if kit.room == 0 {
+                self.expect(kit.has_spare);
+                self.kits[broom].has_spare = false;
+                self.kits[broom].room = self.pages;
+            }
+            self.kits[broom].room = self.kits[broom].room.saturating_sub(1);
+        }
+    }
+
+    /// A drain has answered.
+    pub(crate) fn drain(&mut self, broom: usize, drawn: Drawn, course: Course, drain: Drain)
+        requires { broom < 2 }
+    {
+        let is_stuck = course.start.is_stuck;
+        let has_spare = self.kits[broom].has_spare;
+        self.expect(is_stuck == (drain == Drain::QueueFull));
+        self.expect(is_stuck || has_spare == (drain != Drain::NoSpare));
+        self.expect(drain != Drain::Lost || !course.alone);
+        let Drain::Drained { block, copied } = drain else {
+            return;
+        };
+        self.expect(copied == course.moves || !course.alone);
+        self.copy(broom, course.moves);
+        self.set_drained(block, true);
+        if drawn.kind < 8 {
+            self.hand_on(broom, block);
+        }
+    }
+
+    /// An erase has answered.
+    pub(crate) fn erase(&mut self, broom: usize, drawn: Drawn, course: Course, erase: Erase)
+        requires { broom < 2 }
+    {
+        let start = course.start;
+        self.expect(start.block.is_none() == (erase == Erase::QueueEmpty));
+        let Some(wanted) = start.block else {
+            return;
+        };
+        self.expect(start.was_drained == (erase != Erase::Stale));
+        match erase {
+            Erase::Erased { block, kept } => {
+                self.expect(block == wanted && kept != self.kits[broom].has_spare);
+                self.kits[broom].has_spare = true;
+                self.set_drained(block, false);
+            }
+            Erase::Retired { block } => {
+                self.expect(block == wanted);
+                self.set_drained(block, false);
+            }
+            Erase::Pinned if drawn.kind < 17 => self.hand_on(broom, wanted),
+            Erase::Pinned | Erase::Stale | Erase::QueueEmpty => (),
+        }
+    }
+}

@@ -1,0 +1,270 @@
+//! Three hosts and two brooms at once, each in a thread of its own.
+ghost use Rattle.std.specs.Prelude.{◌≡◌, ◌+◌, ◌-◌, ◌<◌, ◌≤◌, All, length, vec_capacity};
+ghost use Rattle.host.specs.Ready.{IsReady};
+ghost use Rattle.volume.specs.Brooms.{IsBroomReady};
+ghost use Rattle.volume.specs.Volume.{flash_of};
+ghost use Rattle.shared_acceptance.specs.Kept.{IsHome};
+
+use crate::actors::{Actor, Home, call_at};
+use crate::calls::{Call, WORDS, number_of};
+use crate::closing::close;
+use crate::crowd_notes::Notes;
+use crate::crowd_values::SECTORS;
+use crate::entries::{fold, give_back, next_broom, next_host};
+use crate::jury::Next;
+use crate::tally::BroomCalls;
+use broom::Broom;
+use flash_table::Pass;
+use geometry::Geometry;
+use std::env;
+use std::marker::Brand;
+use std::rt::Env;
+use std::sync::Wait;
+use std::test::Fail;
+use std::thread::{Threads, for_each_mut};
+use volume::Volume;
+
+// How many rounds are played where the environment names no number by ROUNDS. In each a host makes a hundred calls and a broom three
+// hundred turns. All writes of a round have room in the device, but those of six rounds don't: so the writes go on only where blocks are
+// drained and erased, in whatever order the threads run.
+const ROUNDS: u64 = 100;
+
+const BLOCKS: u32 = 128;
+
+const CALLS: u32 = 100;
+
+const TURNS: u32 = 300;
+
+// Who takes part: an actor at its place, what it knows as a host, and what it did as a broom. A broom hands its blocks on by the queue, or
+// names the blocks that it erases.
+#[derive(Drop)]
+struct Player<'a, H: Home> {
+    place: Option<Actor<'a, H>>,
+    notes: Notes,
+    brooms: BroomCalls,
+    has_queue: bool,
+}
+
+impl<'a, H: Home> Player<'a, H> {
+    fn new(place: Option<Actor<'a, H>>, host: u32, has_queue: bool) -> Player<'a, H>
+        requires { host < 3 }
+    {
+        Player {
+            place,
+            notes: Notes::new(host),
+            brooms: BroomCalls::default(),
+            has_queue,
+        }
+    }
+
+    // A call of a host.
+    fn take_turn(&mut self, rt: &impl Wait) {
+        let call = self.notes.draw();
+        let done = call_at(&mut self.place, rt, call);
+        match self.notes.judge(call, done) {
+            Next::Look => {
+                let done = call_at(&mut self.place, rt, Call::Look);
+                self.notes.hold(call, done);
+            }
+            Next::Release => {
+                let done = call_at(&mut self.place, rt, Call::Release);
+                self.notes.release(done);
+            }
+            Next::Nothing | Next::Find | Next::Count => (),
+        }
+    }
+
+    // A broom drains and erases.
+    fn sweep(&mut self, rt: &impl Wait, block: u32) {
+        let (drain, erase) = if self.has_queue {
+            (Call::DrainOne, Call::EraseOne)
+        } else {
+            (Call::Drain, Call::Erase(block))
+        };
+        let drained = call_at(&mut self.place, rt, drain);
+        let erased = call_at(&mut self.place, rt, erase);
+        self.brooms.note(drained);
+        self.brooms.note(erased);
+    }
+
+    // A player's part of a round.
+    fn play(&mut self, rt: &impl Wait) {
+        if let Some(Actor::Sweeper(_)) = &self.place {
+            for turn in 0..TURNS {
+                self.sweep(rt, turn % BLOCKS);
+            }
+        } else {
+            for _ in 0..CALLS {
+                self.take_turn(rt);
+            }
+        }
+    }
+}
+
+// A host gives its pass back, and tells what it knows.
+fn end_host<H: Home>(
+    volume: &Volume,
+    player: Option<Player<'_, H>>,
+    passes: &mut Vec<Pass>,
+) -> Option<Notes>
+    requires home { IsHome H.home volume.now }
+    requires room { length passes.old.items < vec_capacity passes.old }
+    requires ready { All (IsReady (flash_of volume.now)) passes.old.items }
+    ensures room { vec_capacity passes.new ≡ vec_capacity passes.old }
+    ensures one { length passes.new.items ≤ length passes.old.items + 1 }
+    ensures ready { All (IsReady (flash_of volume.now)) passes.new.items }
+{
+    let Player {
+        place,
+        notes,
+        brooms: _,
+        has_queue: _,
+    } = player?;
+    give_back(volume, place, passes);
+    Some(notes)
+}
+
+// A broom is given up, and tells what it did.
+fn end_broom<H: Home>(rt: &impl Wait, player: Option<Player<'_, H>>) -> Option<BroomCalls> {
+    let Player {
+        place,
+        notes: _,
+        brooms,
+        has_queue: _,
+    } = player?;
+    fold(rt, place);
+    Some(brooms)
+}
+
+// Whether no host, of which there are three before the brooms, has found a value that its writer didn't write.
+fn agree<H: Home>(players: &[Player<'_, H>]) -> bool {
+    for reader in 0..3 {
+        for writer in 0..3 {
+            if let (Some(reader), Some(writer)) = (players.get(reader), players.get(writer))
+                && !reader.notes.agrees_with(&writer.notes)
+            {
+                return false;
+            }
+        }
+    }
+    true
+}
+
+// A round: each player has a thread of its own. The answer is whether the hosts agree after it.
+fn play_round<R: Threads + Wait + Sync, H: Home + Send + Sync>(
+    rt: &R,
+    players: &mut [Player<'_, H>],
+) -> bool {
+    for_each_mut(rt, players, 5, &|_, player| player.play(rt));
+    agree(players)
+}
+
+// What the hosts know at the end, with what the brooms did, and whether the hosts agreed after each round.
+#[derive(Drop)]
+struct Ended {
+    hosts: [Option<Notes>; 3],
+    brooms: [Option<BroomCalls>; 2],
+    agreed: bool,
+}
+
+// Plays so many rounds, and gives the passes back.
+fn play<'x, R: Threads + Wait + Sync, H: Home + Send + Sync>(
+    rt: &R,
+    volume: &'x Volume,
+    passes: Vec<Pass>,
+    brooms: Vec<Broom>,
+    rounds: u64,
+) -> (Vec<Pass>, Ended)
+    requires home { IsHome H.home volume.now }
+    requires ready { All (IsReady (flash_of volume.now)) passes.items }
+    requires brooms { All (IsBroomReady volume.now) brooms.items }
+    requires hosts { length passes.items ≡ 3 }
+    requires two { length brooms.items ≡ 2 }
+    ensures { All (IsReady (flash_of volume.now)) result.0.items }
+{
+    let (mut passes, mut brooms) = (passes, brooms);
+    let mut players: [Player<'x, H>; 5] = [
+        Player::new(next_host(volume, &mut passes), 0, false),
+        Player::new(next_host(volume, &mut passes), 1, false),
+        Player::new(next_host(volume, &mut passes), 2, false),
+        Player::new(next_broom(volume, &mut brooms), 0, true),
+        Player::new(next_broom(volume, &mut brooms), 0, false),
+    ];
+    brooms.destroy_empty();
+    let mut agreed = true;
+    for _ in 0..rounds {
+        agreed = play_round(rt, &mut players) && agreed;
+    }
+    let mut players = players.into_iter();
+    let hosts = [
+        end_host(volume, players.next(), &mut passes),
+        end_host(volume, players.next(), &mut passes),
+        end_host(volume, players.next(), &mut passes),
+    ];
+    let ended = Ended {
+        hosts,
+        brooms: [end_broom(rt, players.next()), end_broom(rt, players.next())],
+        agreed,
+    };
+    (passes, ended)
+}
+
+// A host finds what the device holds at its end. Was it right in all?
+fn finds_last(host: &mut Option<Notes>, sectors: &[Option<Vec<u8>>]) -> bool {
+    let Some(notes) = host else {
+        return false;
+    };
+    notes.expect(sectors.len() == 6);
+    for sector in 0..SECTORS {
+        let found = match sectors.get(sector as usize) {
+            Some(Some(page)) => {
+                let number = number_of(page);
+                notes.expect(number.is_some());
+                number
+            }
+            _ => None,
+        };
+        notes.find_page(sector, found);
+    }
+    notes.is_right()
+}
+
+// How many rounds are to be played.
+fn rounds(rt: &(impl Env + AllocGlobal)) -> u64 {
+    match env::var(rt, "ROUNDS") {
+        Ok(number) => number.as_str().parse::<u64>().unwrap_or(ROUNDS),
+        Err(_) => ROUNDS,
+    }
+}
+
+// Whether the brooms, taken together, drained, moved pages, erased blocks, and found some that were read.
+fn did_all(a: BroomCalls, b: BroomCalls) -> bool {
+    (a.drained > 0 || b.drained > 0)
+        && (a.copied > 0 || b.copied > 0)
+        && (a.erased > 0 || b.erased > 0)
+        && (a.pinned > 0 || b.pinned > 0)
+}
+
+#[test]
+fn hosts_find_what_was_written_beside_brooms(rt: HostRuntime) -> Result<(), Fail> {
+    let geometry = Geometry::new(1, BLOCKS, 4, WORDS, SECTORS, 1000000, 3, 2)?;
+    let (volume, passes, brooms) = Volume::open(rt.alloc(), &geometry)?;
+    let rounds = rounds(&rt);
+    let (passes, ended) = play::<HostRuntime, Brand>(&rt, &volume, passes, brooms, rounds);
+    assert!(rt; passes.len() == 3);
+    let sectors = close(&rt, volume, passes);
+    let Ended {
+        mut hosts,
+        brooms,
+        agreed,
+    } = ended;
+    for host in &mut hosts {
+        assert!(rt; finds_last(host, sectors.as_slice()));
+    }
+    let [Some(first), Some(second)] = brooms else {
+        panic!(rt; "a broom is gone")
+    };
+    assert!(rt; did_all(first, second));
+    assert!(rt; agreed);
+    Ok(())
+}

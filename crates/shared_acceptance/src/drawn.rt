@@ -1,0 +1,65 @@
+//! The calls of a schedule, as they are drawn.
+ghost use Rattle.std.specs.Prelude.{◌<◌};
+
+use crate::broom_judge::Start;
+use crate::calls::Call;
+use crate::cast::Who;
+
+/// Who takes part, as a number.
+pub(crate) const ACTORS: u32 = 5;
+
+/// The actor with this number: three hosts have the numbers 0 to 2, and two brooms 3 and 4.
+pub(crate) fn actor_of(k: u32) -> Who {
+    match k {
+        0 => Who::A,
+        1 => Who::B,
+        2 => Who::C,
+        3 => Who::First,
+        _ => Who::Second,
+    }
+}
+
+/// What is drawn for a call: which one it is of twenty, its sector or block, and the number that a write writes.
+#[derive(Clone, Copy)]
+pub(crate) struct Drawn {
+    pub kind: u32,
+    pub sector: u32,
+    pub block: u32,
+    pub number: u64,
+    ghost sector_below: { sector < 3 },
+    ghost block_below: { block < 10 },
+}
+
+impl Drawn {
+    /// As a host makes it.
+    pub(crate) fn of_host(self) -> Call {
+        match self.kind {
+            0..8 => Call::Write(self.sector, self.number),
+            8..10 => Call::New(self.sector, self.number),
+            10..12 => Call::Trim(self.sector),
+            12..17 => Call::Read(self.sector),
+            _ => Call::Hold(self.sector),
+        }
+    }
+
+    /// As a broom makes it.
+    pub(crate) fn of_broom(self) -> Call {
+        match self.kind {
+            0..8 => Call::DrainOne,
+            8..10 => Call::Drain,
+            10..17 => Call::EraseOne,
+            _ => Call::Erase(self.block),
+        }
+    }
+}
+
+/// A call on its way: who makes it, what was drawn for it, what it begins with, and which one it is of all.
+#[derive(Clone, Copy)]
+pub(crate) struct Begun {
+    pub k: u32,
+    pub drawn: Drawn,
+    pub call: Call,
+    pub start: Start,
+    pub calls: u64,
+    ghost below: { k < 5 },
+}

@@ -1,0 +1,309 @@
+//! What draws the calls of a schedule, and judges their answers: the plain array, the model of the brooms, and what happened so far.
+ghost use Rattle.std.specs.Prelude.{◌<◌};
+
+use crate::actors::Role;
+use crate::broom_judge::{BroomJudge, Course, Start};
+use crate::calls::{Call, Done};
+use crate::drawn::{ACTORS, Begun, Drawn};
+use crate::draws::Draws;
+use crate::judge::{BLOCKS, Judge, Numbers, SECTORS};
+use crate::tally::Tally;
+use broom::{Drain, Erase};
+use flash_table::Point;
+use geometry::Was;
+
+/// How often a call has looked, and the numbers that the sectors held when it looked last.
+#[derive(Clone, Copy)]
+pub(crate) struct Looks {
+    pub count: u64,
+    pub numbers: Numbers,
+    /// How often it stood before a move of a page.
+    pub moves: u32,
+}
+
+impl Looks {
+    pub(crate) fn none() -> Looks {
+        Looks {
+            count: 0,
+            numbers: [0; 3],
+            moves: 0,
+        }
+    }
+
+    /// Those of a call that is not gated: it looks once, and no move of a page fails.
+    pub(crate) fn alone(numbers: Numbers, done: Done) -> Looks {
+        let moves = match done {
+            Done::Drained(Drain::Drained { block: _, copied }) => copied,
+            _ => 0,
+        };
+        Looks {
+            count: 1,
+            numbers,
+            moves,
+        }
+    }
+
+    pub(crate) fn note(&mut self, point: Point, numbers: &Numbers) {
+        if point == Point::AfterLook {
+            self.count = self.count.wrapping_add(1);
+            self.numbers = *numbers;
+        }
+        if point == Point::BeforeMove {
+            self.moves = self.moves.wrapping_add(1);
+        }
+    }
+}
+
+/// What is still to be done once a call has answered.
+#[derive(Clone, Copy)]
+pub(crate) enum Next {
+    Nothing,
+    /// The page that was written is to be found, since its block is full by it.
+    Find,
+    /// The page that is held now is to be looked at.
+    Look,
+    Release,
+    /// The live pages are to be counted.
+    Count,
+}
+
+// Which of the two brooms an actor is.
+fn broom_of(k: u32) -> usize
+    ensures { result < 2 }
+{
+    (k % 2) as usize
+}
+
+// Which of the three hosts an actor is.
+fn host_of(k: u32) -> usize
+    ensures { result < 3 }
+{
+    (k % 3) as usize
+}
+
+#[derive(Drop)]
+pub(crate) struct Jury {
+    draws: Draws,
+    pub judge: Judge,
+    brooms: BroomJudge,
+    pub tally: Tally,
+    pages: u32,
+    // Whether brooms name most of the blocks that they erase, so that their numbers stay in the queue.
+    names_blocks: bool,
+}
+
+impl Jury {
+    pub(crate) fn new(seed: u64, endurance: u32, pages: u32, tally: Tally) -> Jury {
+        Jury {
+            draws: Draws::new(seed),
+            judge: Judge::new(endurance),
+            brooms: BroomJudge::new(pages),
+            tally,
+            pages,
+            names_blocks: seed % 4 == 3,
+        }
+    }
+
+    /// Whether each answer so far was one that can be.
+    pub(crate) fn is_right(&self) -> bool {
+        self.judge.right && self.brooms.right
+    }
+
+    pub(crate) fn draw_actor(&mut self) -> u32
+        ensures { result < 5 }
+    {
+        self.draws.below(ACTORS)
+    }
+
+    /// How many calls are made at a point of a gate.
+    pub(crate) fn draw_burst(&mut self, point: Point) -> u32 {
+        self.tally.stops.note(point);
+        self.draws.burst()
+    }
+
+    /// Whether two actors are to meet.
+    pub(crate) fn draw_meeting(&mut self) -> bool {
+        self.draws.below(4) == 0
+    }
+
+    // What is drawn for a call.
+    fn draw(&mut self) -> Drawn {
+        Drawn {
+            kind: self.draws.below(20),
+            sector: self.draws.below(SECTORS),
+            block: self.draws.below(BLOCKS),
+            number: self.judge.fresh(),
+        }
+    }
+
+    // The same, for a broom.
+    fn draw_broom(&mut self) -> Drawn {
+        let drawn = self.draw();
+        if !self.names_blocks || drawn.kind < 11 {
+            return drawn;
+        }
+        Drawn {
+            kind: 17,
+            sector: drawn.sector,
+            block: self.brooms.drained_or(drawn.block),
+            number: drawn.number,
+        }
+    }
+
+    /// An actor goes into a call.
+    pub(crate) fn begin(&mut self, k: u32, role: Role) -> Begun
+        requires { k < 5 }
+    {
+        self.tally.calls = self.tally.calls.wrapping_add(1);
+        let calls = self.tally.calls;
+        let (drawn, call, start) = match role {
+            Role::Host => {
+                let drawn = self.draw();
+                (drawn, drawn.of_host(), Start::none())
+            }
+            Role::Holder => (self.draw(), Call::Look, Start::none()),
+            Role::Broom => {
+                let drawn = self.draw_broom();
+                let start = self.brooms.begin(broom_of(k), drawn);
+                (drawn, drawn.of_broom(), start)
+            }
+        };
+        Begun {
+            k,
+            drawn,
+            call,
+            start,
+            calls,
+        }
+    }
+
+    fn course(&self, begun: Begun, looks: &Looks) -> Course {
+        Course {
+            start: begun.start,
+            moves: looks.moves,
+            alone: self.tally.calls == begun.calls,
+        }
+    }
+
+    // What a write answered. Where it has filled its block, the block is asked for.
+    fn judge_write(&mut self, begun: Begun, was: Option<Was>) -> Next {
+        let drawn = begun.drawn;
+        self.tally.hosts.writes = self.tally.hosts.writes.wrapping_add(1);
+        let Some(was) = was else {
+            self.tally.hosts.full = self.tally.hosts.full.wrapping_add(1);
+            return Next::Nothing;
+        };
+        let is_written = match begun.call {
+            Call::New(_, _) => self.judge.put_new(drawn.sector, drawn.number, was),
+            _ => self.judge.put(drawn.sector, drawn.number, was),
+        };
+        if self.judge.program(host_of(begun.k), self.pages) && is_written {
+            Next::Find
+        } else {
+            Next::Nothing
+        }
+    }
+
+    // What a read answered, whose looks were these.
+    fn judge_read(&mut self, drawn: Drawn, found: Option<u64>, tries: u64, looks: &Looks) {
+        self.tally.hosts.reads = self.tally.hosts.reads.wrapping_add(1);
+        if looks.count > 1 {
+            self.tally.hosts.late_reads = self.tally.hosts.late_reads.wrapping_add(1);
+        }
+        self.judge.expect(tries == looks.count);
+        self.judge.read(drawn.sector, found, &looks.numbers);
+    }
+
+    // What a hold found.
+    fn judge_hold(&mut self, begun: Begun, place: Option<(u32, u32)>) -> Next {
+        let sector = begun.drawn.sector;
+        self.tally.hosts.holds = self.tally.hosts.holds.wrapping_add(1);
+        let Some((block, generation)) = place else {
+            self.judge.hold_empty(sector);
+            return Next::Nothing;
+        };
+        self.judge.hold(host_of(begun.k), sector, block, generation);
+        Next::Look
+    }
+
+    // What a look at a page that is held found. The page is now and then released then.
+    fn judge_look(&mut self, begun: Begun, number: u64) -> Next {
+        self.tally.hosts.looks_at_held = self.tally.hosts.looks_at_held.wrapping_add(1);
+        self.judge.look(host_of(begun.k), number);
+        if begun.drawn.kind < 8 {
+            Next::Release
+        } else {
+            Next::Nothing
+        }
+    }
+
+    /// What the look right behind a hold found.
+    pub(crate) fn judge_held(&mut self, begun: Begun, done: Done) {
+        match done {
+            Done::Looked(number) => self.judge.look(host_of(begun.k), number),
+            _ => self.judge.expect(false),
+        }
+    }
+
+    /// A host has released its page.
+    pub(crate) fn release(&mut self, begun: Begun) {
+        self.judge.release(host_of(begun.k))
+    }
+
+    fn judge_drain(&mut self, begun: Begun, drain: Drain, looks: &Looks) -> Next {
+        self.tally.brooms.note_drain(drain);
+        self.judge.drain(drain, self.pages);
+        let course = self.course(begun, looks);
+        self.brooms
+            .drain(broom_of(begun.k), begun.drawn, course, drain);
+        if drain == Drain::NothingToGain {
+            Next::Count
+        } else {
+            Next::Nothing
+        }
+    }
+
+    /// Each block has so many live pages where a drain found nothing to gain.
+    pub(crate) fn judge_no_gain(&mut self, live: &[u32; 10]) {
+        self.tally.brooms.surveyed = self.tally.brooms.surveyed.wrapping_add(1);
+        self.judge.gain_nothing(live, self.pages);
+    }
+
+    // An erase that nobody else has disturbed finds readers only where a page of the block is held.
+    fn judge_erase(&mut self, begun: Begun, erase: Erase, looks: &Looks, are_idle: bool) {
+        self.tally.brooms.note_erase(erase);
+        self.judge.erase(erase);
+        let course = self.course(begun, looks);
+        self.brooms
+            .erase(broom_of(begun.k), begun.drawn, course, erase);
+        if erase == Erase::Pinned && course.alone && are_idle {
+            let is_held = self.judge.is_held(begun.start.block);
+            self.judge.expect(is_held);
+        }
+    }
+
+    /// A call has answered, whose looks were these, while all hosts were idle or not.
+    pub(crate) fn judge(
+        &mut self,
+        begun: Begun,
+        done: Done,
+        looks: &Looks,
+        are_idle: bool,
+    ) -> Next {
+        match done {
+            Done::Wrote(was) => return self.judge_write(begun, was),
+            Done::Trimmed(was) => {
+                self.judge.put(begun.drawn.sector, 0, was);
+            }
+            Done::Read(found, tries) => self.judge_read(begun.drawn, found, tries, looks),
+            Done::Holds(place) => return self.judge_hold(begun, place),
+            Done::Looked(number) => return self.judge_look(begun, number),
+            Done::Drained(drain) => return self.judge_drain(begun, drain, looks),
+            Done::Erased(erase) => self.judge_erase(begun, erase, looks, are_idle),
+            Done::Nothing | Done::Torn | Done::Opened(_) | Done::Released => {
+                self.judge.expect(false);
+            }
+        }
+        Next::Nothing
+    }
+}

@@ -1,0 +1,135 @@
+//! Schedules that seeds draw.
+ghost use Rattle.std.specs.Prelude.{◌≡◌, All, length};
+ghost use Rattle.host.specs.Ready.{IsReady};
+ghost use Rattle.volume.specs.Brooms.{IsBroomReady};
+ghost use Rattle.volume.specs.Volume.{flash_of};
+ghost use Rattle.shared_acceptance.specs.Kept.{IsHome};
+
+use crate::actors::Home;
+use crate::calls::{WORDS, hold};
+use crate::cast::Cast;
+use crate::closing::close;
+use crate::entries::{fold, give_back, next_broom, next_host};
+use crate::judge::{BLOCKS, SECTORS};
+use crate::jury::{Jury, Looks};
+use crate::nesting::{Crew, Nested};
+use crate::tally::Tally;
+use broom::Broom;
+use flash_table::Pass;
+use geometry::Geometry;
+use std::env;
+use std::marker::Brand;
+use std::process::Abort;
+use std::rt::Env;
+use std::sync::Wait;
+use std::test::Fail;
+use volume::Volume;
+
+// How many schedules are played where the environment names no number by SCHEDULES, and the calls of each that are inside no other one.
+const SCHEDULES: u64 = 2000;
+
+const CALLS: u32 = 250;
+
+// Plays a schedule, and gives the passes back, with the jury.
+fn play<'x, R: Wait + Abort + AllocGlobal, H: Home>(
+    rt: &'x R,
+    volume: &'x Volume,
+    passes: Vec<Pass>,
+    brooms: Vec<Broom>,
+    jury: Jury,
+) -> (Vec<Pass>, Jury)
+    requires home { IsHome H.home volume.now }
+    requires ready { All (IsReady (flash_of volume.now)) passes.items }
+    requires brooms { All (IsBroomReady volume.now) brooms.items }
+    requires hosts { length passes.items ≡ 3 }
+    requires two { length brooms.items ≡ 2 }
+    ensures { All (IsReady (flash_of volume.now)) result.0.items }
+{
+    let (mut passes, mut brooms) = (passes, brooms);
+    let cast: Cast<'x, H> = Cast {
+        a: next_host(volume, &mut passes),
+        b: next_host(volume, &mut passes),
+        c: next_host(volume, &mut passes),
+        first: next_broom(volume, &mut brooms),
+        second: next_broom(volume, &mut brooms),
+    };
+    brooms.destroy_empty();
+    let mut nested = Nested {
+        crew: Crew {
+            rt,
+            cast,
+            jury,
+            looks: Looks::none(),
+        },
+        looks: Looks::none(),
+    };
+    for _ in 0..CALLS {
+        nested.step();
+    }
+    let Nested { crew, looks: _ } = nested;
+    let Crew {
+        rt,
+        cast,
+        jury,
+        looks: _,
+    } = crew;
+    let Cast {
+        a,
+        b,
+        c,
+        first,
+        second,
+    } = cast;
+    fold(rt, first);
+    fold(rt, second);
+    give_back(volume, a, &mut passes);
+    give_back(volume, b, &mut passes);
+    give_back(volume, c, &mut passes);
+    (passes, jury)
+}
+
+// Plays the schedule of a seed over a device of its own, and says what has happened so far.
+fn play_seed<R: Wait + Abort + AllocGlobal>(
+    rt: &R,
+    seed: u64,
+    tally: Tally,
+) -> Result<Tally, Fail> {
+    let pages = 1 + (seed % 3) as u32;
+    let endurance = 2 + (seed % 7) as u32;
+    let geometry = Geometry::new(1, BLOCKS, pages, WORDS, SECTORS, endurance, 3, 2)?;
+    let (volume, passes, brooms) = Volume::open(rt.alloc(), &geometry)?;
+    let jury = Jury::new(seed, endurance, pages, tally);
+    let (passes, jury) = play::<R, Brand>(rt, &volume, passes, brooms, jury);
+    assert!(rt; passes.len() == 3);
+    let closed = close(rt, volume, passes);
+    let is_right = jury.is_right() && hold(closed.as_slice(), &jury.judge.numbers);
+    assert!(rt; is_right, "seed {seed}");
+    Ok(jury.tally)
+}
+
+// How many schedules are to be played.
+fn schedules(rt: &(impl Env + AllocGlobal)) -> u64 {
+    match env::var(rt, "SCHEDULES") {
+        Ok(number) => number.as_str().parse::<u64>().unwrap_or(SCHEDULES),
+        Err(_) => SCHEDULES,
+    }
+}
+
+#[test]
+fn each_answer_is_the_arrays_in_every_schedule(rt: HostRuntime) -> Result<(), Fail> {
+    let mut tally = Tally::default();
+    for seed in 0..schedules(&rt) {
+        tally = play_seed(&rt, seed, tally)?;
+    }
+    println!(rt; "{tally:?}")?;
+    let Tally {
+        calls: _,
+        stops,
+        hosts,
+        brooms,
+    } = tally;
+    assert!(rt; stops.are_all_reached(), "{stops:?}");
+    assert!(rt; hosts.did_all(), "{hosts:?}");
+    assert!(rt; brooms.gave_all(), "{brooms:?}");
+    Ok(())
+}
