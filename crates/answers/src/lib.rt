@@ -6,6 +6,7 @@ mod encoding;
 mod fault;
 mod line;
 mod lines;
+mod numbering;
 mod printing;
 mod reading;
 mod reply;

@@ -6,6 +6,7 @@ ghost use Rattle.answers.specs.Placed.{Placed};
 ghost use Rattle.answers.specs.Replies.{reply_text};
 ghost use Rattle.answers.specs.declared.reply.Reply.TheVariants as replies;
 
+use crate::numbering::Numbering;
 use crate::reply::Reply;
 use crate::text::{SHORT_BYTES, put_number, put_page, put_short};
 use crate::words::{BLOCK_ERASES, END, END_COMMA, LIVE_RETIRED, op_word, reply_word};
@@ -20,6 +21,7 @@ pub const PIECE_BYTES: usize = 65_536;
 /// Puts an answer line. A reply of a page tells these bytes.
 #[inline(always)]
 pub fn put_line(
+    numbering: &mut Numbering,
     buffer: &mut [u8],
     at: usize,
     line: u64,
@@ -32,7 +34,7 @@ pub fn put_line(
     requires page { reply ≡ replies.Page → at + LINE_BYTES + 2 * length page.now ≤ length buffer.old }
     ensures { Placed buffer.old buffer.new at (line_text line op sector (reply_text reply (encode_lower page.now))) result }
 {
-    let name = put_number(buffer, at, line, b',');
+    let name = numbering.put(buffer, at, line);
     let place = put_short(buffer, name, op_word(op));
     let answer = put_number(buffer, place, u64::from(sector), b',');
     put_reply(buffer, answer, reply, page)

@@ -1,11 +1,14 @@
 ghost use Rattle.std.specs.Prelude.{◌+◌, ◌≤◌, vec_len};
 ghost use Rattle.answers.specs.declared.line.TheConstants.{LINE_BYTES, PIECE_BYTES};
 
+use crate::numbering::Numbering;
+
 /// The lines that wait to be written: the first bytes of a buffer. All their room is taken at the start.
 #[derive(Drop)]
 pub struct Lines {
     pub(crate) buffer: Vec<u8>,
     pub(crate) used: usize,
+    pub(crate) numbering: Numbering,
     // How many digits a page has.
     pub(crate) digits: usize,
     pub ghost within: { used ≤ vec_len buffer },

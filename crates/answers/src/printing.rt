@@ -15,6 +15,7 @@ use crate::line::{
     LINE_BYTES, PIECE_BYTES, put_end, put_line, put_totals, put_wear, put_wear_names,
 };
 use crate::lines::Lines;
+use crate::numbering::Numbering;
 use crate::reply::Reply;
 use geometry::Geometry;
 use std::alloc::{AllocError, Global};
@@ -31,6 +32,7 @@ impl Lines {
         Ok(Lines {
             buffer: vec![in alloc; 0; PIECE_BYTES + LINE_BYTES + digits]?,
             used: 0,
+            numbering: Numbering::new(),
             digits,
         })
     }
@@ -42,7 +44,16 @@ impl Lines {
         ensures waiting { waiting_of self.new ≡ waiting_of self.old ++ line_text line op sector (reply_text reply (encode_lower page.now)) }
         ensures page { page_digits_of self.new ≡ page_digits_of self.old }
     {
-        self.used = put_line(&mut self.buffer, self.used, line, op, sector, reply, page);
+        self.used = put_line(
+            &mut self.numbering,
+            &mut self.buffer,
+            self.used,
+            line,
+            op,
+            sector,
+            reply,
+            page,
+        );
     }
 
     /// Adds the last line of a run of several threads.

@@ -17,6 +17,7 @@ static PAIRS: [u8; 200] =
     *b"00010203040506070809101112131415161718192021222324252627282930313233343536373839404142434445464748495051525354555657585960616263646566676869707172737475767778798081828384858687888990919293949596979899";
 
 /// A short text and its length. The bytes behind it don't count.
+#[derive(Drop)]
 pub(crate) struct Short {
     pub(crate) bytes: [u8; SHORT_BYTES],
     pub(crate) len: usize,
@@ -83,9 +84,9 @@ fn put_digits(buffer: &mut [u8], at: usize, number: u64) -> usize
     put_long(buffer, at, number)
 }
 
-// Puts the digits of a number that has at most four; where they end.
+/// Puts the digits of a number that has at most four; where they end.
 #[inline(always)]
-fn put_first(buffer: &mut [u8], at: usize, number: u32) -> usize
+pub(crate) fn put_first(buffer: &mut [u8], at: usize, number: u32) -> usize
     requires { (number < 10000) × (at + 4 ≤ length buffer.old) }
     ensures placed { Placed buffer.old buffer.new at (decimal number) result }
     ensures end { result ≤ at + 4 }
@@ -117,9 +118,9 @@ fn fill(number: u32) -> Filled
     }
 }
 
-// Puts four digits.
+/// Puts four digits.
 #[inline(always)]
-fn put_four(buffer: &mut [u8], at: usize, digits: u32)
+pub(crate) fn put_four(buffer: &mut [u8], at: usize, digits: u32)
     requires { (digits < 10000) × (at + 4 ≤ length buffer.old) }
     ensures { Placed buffer.old buffer.new at (four_digits digits) (at + 4) }
 {

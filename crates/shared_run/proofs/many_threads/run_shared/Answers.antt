@@ -1,5 +1,4 @@
 use Rattle.std.proofs.Common.{◌≡◌, ◌∙◌, ap, length, refl, subst, sym, arith}
-use Rattle.std.proofs.lemmas.Grind.{common_steps}
 use Rattle.std.specs.List.{All}
 use Rattle.trace.specs.Watched.{inner_of}
 use Rattle.answers.specs.Playable.{IsPlayable}
@@ -45,7 +44,7 @@ returns-clause-why g c =
     )
 
 pub play_commands-requires-clause-playable : goal.play_commands-requires-clause-playable
-play_commands-requires-clause-playable g c = grind (arith, common_steps)
+play_commands-requires-clause-playable g c _ _ = rw c.in-Ok-new-2.ensures.ok c.in-Ok.ensures.playable
 
 pub returns-in-Err-Threads-clause-why : goal.returns-in-Err-Threads-clause-why
 returns-in-Err-Threads-clause-why g c =
