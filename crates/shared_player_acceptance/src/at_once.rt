@@ -51,6 +51,6 @@ fn two_workers_wait_for_each_other(rt: HostRuntime) -> Result<(), Fail> {
     let rows = play(&rt, AllStart, &small(5, 2, 0)?, trace, 9, &mut gates)??;
     assert!(rt; gates.iter().all(|gate| gate.seen));
     let text = told(rt.alloc(), &rows)?;
-    assert_eq!(rt; text.as_str(), "empty A | empty B | ");
+    assert!(rt; text.as_str() == "empty A | empty B | ");
     Ok(())
 }

@@ -1,5 +1,5 @@
 //! Rows whose answers are the same in every schedule, and a trace whose answers are not.
-use crate::hands::{play_freely, small, told};
+use crate::hands::{answers_of, play_freely, small};
 use lines::{Answer, Kind};
 use std::test::Fail;
 
@@ -76,9 +76,8 @@ const ROWS: [(u32, u32, u32, u32, &str, &str); 9] = [
 fn workers_answer_as_one_thread_would(rt: HostRuntime) -> Result<(), Fail> {
     for (hosts, brooms, blocks, patience, trace, answers) in ROWS {
         let geometry = small(blocks, hosts, brooms)?;
-        let rows = play_freely(&rt, &geometry, trace.as_bytes(), patience)?;
-        let text = told(rt.alloc(), &rows)?;
-        assert_eq!(rt; text.as_str(), answers, "for {trace}");
+        let text = answers_of(&rt, &geometry, trace.as_bytes(), patience)?;
+        assert!(rt; text.as_str() == answers, "for {trace}");
     }
     Ok(())
 }
@@ -92,35 +91,41 @@ fn is_written(answer: &Answer) -> bool {
     }
 }
 
+// So many times this text.
+fn repeated(rt: &impl AllocGlobal, lines: &str, times: u32) -> Result<String, Fail> {
+    let mut trace = String::new(rt.alloc());
+    for _ in 0..times {
+        trace.push_str(lines)?;
+    }
+    Ok(trace)
+}
+
 // Both workers write and read the same sector in one round.
 #[test]
 fn each_read_finds_a_value_that_was_written(rt: HostRuntime) -> Result<(), Fail> {
-    let mut trace = String::new(rt.alloc());
-    for _ in 0..40 {
-        trace.push_str("0,write,0,41\n1,write,0,42\n0,read,0,\n1,read,0,\n")?;
-    }
+    let lines = "0,write,0,41\n1,write,0,42\n0,read,0,\n1,read,0,\n";
+    let trace = repeated(&rt, lines, 40)?;
     let rows = play_freely(&rt, &small(8, 2, 1)?, trace.as_bytes(), 1000000)?;
     for row in &rows {
-        assert_eq!(rt; row.len(), 80);
-        assert!(rt; row.iter().all(is_written));
+        assert!(rt; row.len() == 80 && row.iter().all(is_written));
     }
     Ok(())
+}
+
+// How many lines were done.
+fn count_done(row: &[Answer]) -> usize {
+    row.iter()
+        .filter(|answer| answer.kind != Kind::Full)
+        .count()
 }
 
 // There are ten pages, so a block was erased and used again.
 #[test]
 fn a_broom_wins_room_for_a_worker(rt: HostRuntime) -> Result<(), Fail> {
-    let mut trace = String::new(rt.alloc());
-    for _ in 0..100 {
-        trace.push_str("0,write,0,41\n")?;
-    }
+    let trace = repeated(&rt, "0,write,0,41\n", 100)?;
     let rows = play_freely(&rt, &small(5, 1, 1)?, trace.as_bytes(), 10000000)?;
     for row in &rows {
-        let done = row
-            .iter()
-            .filter(|answer| answer.kind != Kind::Full)
-            .count();
-        assert!(rt; done >= 11);
+        assert!(rt; count_done(row) >= 11);
     }
     Ok(())
 }
