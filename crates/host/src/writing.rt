@@ -110,12 +110,7 @@ pub(crate) fn fill(flash: &Flash, pass: &mut Pass, sector: u32, bytes: &[u8]) ->
 }
 
 // Fills and counts a page of the open block, or of the lowest block that is free; without one there is no page.
-pub(crate) fn program(
-    flash: &Flash,
-    pass: &mut Pass,
-    sector: u32,
-    bytes: &[u8],
-) -> Option<MapWord>
+pub(crate) fn program(flash: &Flash, pass: &mut Pass, sector: u32, bytes: &[u8]) -> Option<MapWord>
     requires pass { IsReady flash.now pass.old }
     requires page { length bytes.now ≡ page_bytes_of (geometry_of flash.now) }
     ensures filled { IfSome result (λ page. IsProgrammed flash.now (view_of pass.old) sector bytes.now page pass.new) }
