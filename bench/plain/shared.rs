@@ -1,5 +1,5 @@
 //! Shared devices in plain Rust, without a trace: the same algorithm as the proved one over Rust's atomics, and plain arrays
-//! behind a `Mutex` and behind an `RwLock`. Its words are the kind (`atomics`, `mutex`, `rwlock`), the work (`fill`, `write`, `read`),
+//! behind a `Mutex` and behind an `RwLock`. Its words are the kind (`atomics`, `mutex`, `rwlock`), the work (`fill`, `write`, `read`, `same`),
 //! how many threads, and how many calls each of them makes; it prints the sum of the sectors' first words.
 
 use std::sync::atomic::{AtomicU64, Ordering::SeqCst};
@@ -143,7 +143,7 @@ impl Device for RwLock<Plain> {
     }
 }
 
-/// Fills the sectors from `from` on, and then reads or overwrites them in order, over and over.
+/// Fills the sectors from `from` on, and then reads or overwrites them in order, over and over, or reads the first sector of all.
 fn work<D: Device>(device: &D, kind: &str, from: usize, sectors: usize, count: usize) -> u64 {
     let mut state = D::State::default();
     let mut page = [0u8; PAGE_BYTES];
@@ -151,6 +151,14 @@ fn work<D: Device>(device: &D, kind: &str, from: usize, sectors: usize, count: u
     for i in 0..sectors + if kind == "write" { count } else { 0 } {
         page[..8].copy_from_slice(&(i as u64).to_le_bytes());
         device.write(&mut state, from + i % sectors, &page);
+    }
+    if kind == "same" {
+        page[..8].fill(0);
+        device.write(&mut state, 0, &page);
+        for _ in 0..count {
+            device.read(0, &mut page);
+            std::hint::black_box(&page);
+        }
     }
     for i in 0..if kind == "read" { count } else { 0 } {
         device.read(from + i % sectors, &mut page);
