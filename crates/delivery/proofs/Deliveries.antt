@@ -7,7 +7,7 @@ use Rattle.trace.specs.declared.commands.Command.{Command}
 use Rattle.answers.specs.Answers.{end_text, line_text}
 use Rattle.answers.specs.Delivery.{IsUnderWay}
 use Rattle.answers.proofs.Deliveries.{IsUnderWay-more, IsUnderWay-trans}
-use Rattle.lines.specs.declared.answer.Answer.{Answer}
+use Rattle.lines.specs.Lines.{Said}
 use Rattle.rounds.specs.Told.{Line}
 use Rattle.rounds.specs.Texts.{answer_text, lines_text}
 use Rattle.rounds.specs.Merging.{answer_for, merge, next_of, rows_after}
@@ -24,15 +24,15 @@ lines_text-append k (x ∷ xs) ys =
     ap (λ l. first ++ l) (lines_text-append (k + 1) xs ys ∙ ap (λ j. lines_text (k + 1) xs ++ lines_text j ys) on)
     ∙ sym (append_assoc first (lines_text (k + 1) xs) (lines_text (k + suc (length xs)) ys))
 
-pub length-merge : (cs : List Command) (rows : ℕ → List Answer) → length (merge cs rows) ≡ length cs
+pub length-merge : (cs : List Command) (rows : ℕ → List Said) → length (merge cs rows) ≡ length cs
 length-merge cs rows = sym (length-map (merge cs rows) (λ (x : Line). x.command)) ∙ ap (length {A = Command}) (commands_in-merge cs rows)
 
 -- the text of the first lines
-abbrev pub text_before : ℕ → List Command → (ℕ → List Answer) → List ℕ
+abbrev pub text_before : ℕ → List Command → (ℕ → List Said) → List ℕ
 text_before i cs rows = lines_text 0 (merge (take i cs) rows)
 
 -- one line more
-pub text_more : (i : ℕ) (cs : List Command) (c : Command) (rows : ℕ → List Answer) (o : Option Answer) → slice_get cs i ≡ Some c → o ≡ next_of c (rows_after (take i cs) rows)
+pub text_more : (i : ℕ) (cs : List Command) (c : Command) (rows : ℕ → List Said) (o : Option Said) → slice_get cs i ≡ Some c → o ≡ next_of c (rows_after (take i cs) rows)
     → text_before (i + 1) cs rows ≡ text_before i cs rows ++ line_text (i + 1) c.op c.sector (answer_text (answer_for c o).kind (answer_for c o).page)
 text_more i cs c rows o at is =
     let more = commands_more cs i c at in
@@ -45,12 +45,12 @@ text_more i cs c rows o at is =
     ∙ (ap (λ k. lines_text 0 done ++ lines_text k (answer_for c o ∷ [])) long
     ∙ ap (λ l. lines_text 0 done ++ l) (one o)))))
   where
-    one : (p : Option Answer) → lines_text i (answer_for c p ∷ []) ≡ line_text (i + 1) c.op c.sector (answer_text (answer_for c p).kind (answer_for c p).page)
+    one : (p : Option Said) → lines_text i (answer_for c p ∷ []) ≡ line_text (i + 1) c.op c.sector (answer_text (answer_for c p).kind (answer_for c p).page)
     one None = append-nil _
     one (Some a) = append-nil _
 
 -- it begins the whole text
-pub text_begins : (i : ℕ) (cs : List Command) (rows : ℕ → List Answer) → Begins (text_before i cs rows) (text_of cs rows)
+pub text_begins : (i : ℕ) (cs : List Command) (rows : ℕ → List Said) → Begins (text_before i cs rows) (text_of cs rows)
 text_begins i cs rows =
     let done = merge (take i cs) rows in
     let rest = merge (drop i cs) (rows_after (take i cs) rows) in
@@ -61,7 +61,7 @@ text_begins i cs rows =
     )
 
 -- a turn of the loop: there is room for a line, and then it waits
-pub delivery_turn : (i : ℕ) (cs : List Command) (c : Command) (rows : ℕ → List Answer) (o : Option Answer) (old new newer : Option (List ℕ)) (waiting later last : List ℕ) → IsUnderWay old new waiting (text_before i cs rows) → IsUnderWay new newer later waiting
+pub delivery_turn : (i : ℕ) (cs : List Command) (c : Command) (rows : ℕ → List Said) (o : Option Said) (old new newer : Option (List ℕ)) (waiting later last : List ℕ) → IsUnderWay old new waiting (text_before i cs rows) → IsUnderWay new newer later waiting
     → slice_get cs i ≡ Some c → o ≡ next_of c (rows_after (take i cs) rows) → last ≡ later ++ line_text (i + 1) c.op c.sector (answer_text (answer_for c o).kind (answer_for c o).page) → IsUnderWay old newer last (text_before (i + 1) cs rows)
 delivery_turn i cs c rows o old new newer waiting later last under moved at is adds =
     let line = line_text (i + 1) c.op c.sector (answer_text (answer_for c o).kind (answer_for c o).page) in
@@ -70,7 +70,7 @@ delivery_turn i cs c rows o old new newer waiting later last under moved at is a
     (IsUnderWay-more old newer later (text_before i cs rows) line (IsUnderWay-trans old new newer later waiting (text_before i cs rows) under moved)))
 
 -- the whole text, behind the last line
-pub delivery_whole : (i : ℕ) (cs : List Command) (rows : ℕ → List Answer) (old new newer : Option (List ℕ)) (waiting later last : List ℕ) → length cs ≤ i → IsUnderWay old new waiting (text_before i cs rows) → IsUnderWay new newer later waiting → last ≡ later ++ end_text
+pub delivery_whole : (i : ℕ) (cs : List Command) (rows : ℕ → List Said) (old new newer : Option (List ℕ)) (waiting later last : List ℕ) → length cs ≤ i → IsUnderWay old new waiting (text_before i cs rows) → IsUnderWay new newer later waiting → last ≡ later ++ end_text
     → IsUnderWay old newer last (text_of cs rows)
 delivery_whole i cs rows old new newer waiting later last all under moved ends =
     subst (λ l. IsUnderWay old newer l (text_of cs rows)) (sym ends)

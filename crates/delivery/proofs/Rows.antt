@@ -9,7 +9,7 @@ use Rattle.std.proofs.lemmas.Option.{slice_get_read, slice_get_within}
 use mathlib.Core.Logic.{dite}
 use native.Mathlib.Decide.{ℕ_discrete}
 use Rattle.trace.specs.declared.commands.Command.{Command}
-use Rattle.lines.specs.declared.answer.Answer.{Answer}
+use Rattle.lines.specs.Lines.{Said}
 use Rattle.rounds.specs.Merging.{is_meet, is_line_of, line_count, lines_for, next_of, rows_after, HaveAnswers}
 use Rattle.rounds.proofs.Merging.{own_line}
 use Rattle.rounds.proofs.Planning.{at_place, commands_more}
@@ -20,7 +20,7 @@ pub row_is : (rows : List (Vec Answer Global)) (w : ℕ) (row : Vec Answer Globa
 row_is rows w row is low = get_or-map answers_in rows w row [] low ∙ ap answers_in (sym is)
 
 -- the answer at a place of it
-pub answer_is : (rows : List (Vec Answer Global)) (w p : ℕ) (row : Vec Answer Global) (a : Answer) → row ≡ get_or rows w row → w < length rows → p < length row.items → a ≡ get_or row.items p a → Some a ≡ slice_get (answers_by rows w) p
+pub answer_is : (rows : List (Vec Answer Global)) (w p : ℕ) (row : Vec Answer Global) (a : Said) → row ≡ get_or rows w row → w < length rows → p < length row.items → a ≡ get_or row.items p a → Some a ≡ slice_get (answers_by rows w) p
 answer_is rows w p row a is low below at = sym (ap (λ l. slice_get l p) (row_is rows w row is low) ∙ slice_get_read row.items (length row.items) p a refl below at)
 
 -- what was lent whole and came back
@@ -36,7 +36,7 @@ row_there (r ∷ rows) (suc w) p below =
     omega arith
 
 -- what holds of all answers of all rows holds of one
-pub answer_holds : (P : Answer → Type 0) (rows : List (Vec Answer Global)) (w p : ℕ) (a : Answer) → All (λ row. All P (answers_in row)) rows → slice_get (answers_by rows w) p ≡ Some a → P a
+pub answer_holds : (P : Said → Type 0) (rows : List (Vec Answer Global)) (w p : ℕ) (a : Said) → All (λ row. All P (answers_in row)) rows → slice_get (answers_by rows w) p ≡ Some a → P a
 answer_holds P rows w p a all is =
     let low = row_there rows w p (slice_get_within (answers_by rows w) p a is) in
     go rows low all is
@@ -48,7 +48,7 @@ answer_holds P rows w p a all is =
         at_place P (answers_by (r ∷ rs) w) p a own is
 
 -- and so of the answer of a command
-pub answer_found : (P : Answer → Type 0) (rows : List (Vec Answer Global)) (c : Command) (p : ℕ) (a : Answer) → All (λ row. All P (answers_in row)) rows → (if is_meet c.op then None else slice_get (answers_by rows c.worker) p) ≡ Some a → P a
+pub answer_found : (P : Said → Type 0) (rows : List (Vec Answer Global)) (c : Command) (p : ℕ) (a : Said) → All (λ row. All P (answers_in row)) rows → (if is_meet c.op then None else slice_get (answers_by rows c.worker) p) ≡ Some a → P a
 answer_found P rows c p a all is = go (is_meet c.op) is
   where
     go : (b : Bool) → (if b then None else slice_get (answers_by rows c.worker) p) ≡ Some a → P a
@@ -94,7 +94,7 @@ module _ (rows : List (Vec Answer Global)) (next : List ℕ) (i : ℕ) (cs : Lis
       omega arith
 
   -- and that answer is the command's next one
-  pub next_is : (o : Option Answer) → (is_meet c.op ≡ false → get_or next c.worker 0 < length (answers_by rows c.worker)) → o ≡ (if is_meet c.op then None else slice_get (answers_by rows c.worker) (get_or next c.worker 0)) → o ≡ next_of c (rows_after (take i cs) (answers_by rows))
+  pub next_is : (o : Option Said) → (is_meet c.op ≡ false → get_or next c.worker 0 < length (answers_by rows c.worker)) → o ≡ (if is_meet c.op then None else slice_get (answers_by rows c.worker) (get_or next c.worker 0)) → o ≡ next_of c (rows_after (take i cs) (answers_by rows))
   next_is o there is = is ∙ go (is_meet c.op) refl
     where
       go : (b : Bool) → is_meet c.op ≡ b → (if b then None else slice_get (answers_by rows c.worker) (get_or next c.worker 0)) ≡ (if b then None else slice_get (drop (line_count c.worker (take i cs)) (answers_by rows c.worker)) 0)

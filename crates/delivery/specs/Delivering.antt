@@ -3,14 +3,14 @@ use Rattle.std.specs.Prelude.{◌≡◌, ℕ, ◌+◌, ◌*◌, List, ◌++◌, 
 use Rattle.trace.specs.declared.commands.Command.{Command}
 use Rattle.answers.specs.Answers.{end_text, line_text}
 use Rattle.answers.specs.Lines.{page_digits_of}
-use Rattle.lines.specs.declared.answer.Answer.{Answer}
+use Rattle.lines.specs.Lines.{Said}
 use Rattle.lines.specs.declared.answer.Kind.TheVariants as kind
 use Rattle.rounds.specs.Merging.{answer_for, is_meet, merge}
 use Rattle.rounds.specs.Texts.{answer_text, lines_text}
 use Rattle.delivery.specs.declared.delivery.Delivery.{Delivery}
 
 -- the whole text: the lines of all commands, each with its answer, and the last line
-abbrev pub text_of : List Command → (ℕ → List Answer) → List ℕ
+abbrev pub text_of : List Command → (ℕ → List Said) → List ℕ
 text_of commands rows = lines_text 0 (merge commands rows) ++ end_text
 
 -- for how many workers there is room
@@ -22,11 +22,11 @@ abbrev pub digits_in : Delivery → ℕ
 digits_in delivery = page_digits_of delivery.lines
 
 -- a page that an answer tells has so many digits
-abbrev pub HasDigits : ℕ → Answer → Type 0
-HasDigits n answer = answer.kind ≡ kind.Page → n ≡ 2 * length answer.page.items
+abbrev pub HasDigits : ℕ → Said → Type 0
+HasDigits n answer = answer.kind ≡ kind.Page → n ≡ 2 * length answer.page
 
 -- the next answer of a command's worker, from each worker's row and how far each row was passed; a meeting has none of its own
-abbrev pub next_of : (ℕ → List Answer) → List ℕ → Command → Option Answer
+abbrev pub next_of : (ℕ → List Said) → List ℕ → Command → Option Said
 next_of rows next command =
     if is_meet command.op then None else slice_get (rows command.worker) (slice_index_or next command.worker 0)
 
@@ -35,6 +35,6 @@ abbrev pub passed : List ℕ → Command → List ℕ
 passed next command = if is_meet command.op then next else slice_set next command.worker (slice_index_or next command.worker 0 + 1)
 
 -- the line of a command that was answered so
-abbrev pub line_of : ℕ → Command → Option Answer → List ℕ
+abbrev pub line_of : ℕ → Command → Option Said → List ℕ
 line_of line command answer =
     let x = answer_for command answer in line_text line command.op command.sector (answer_text x.kind x.page)

@@ -11,17 +11,14 @@ use Rattle.lines.specs.declared.answer.Answer.{Answer}
 use Rattle.lines.specs.declared.answer.Kind.{Kind}
 use Rattle.lines.specs.declared.answer.Kind.TheVariants as kind
 
--- a line with what it was answered
-abbrev pub Answered : Type 0
-Answered = Command × Answer
+-- what a line was told: the kind of its answer, and the bytes of its page
+pub record Said : Type 0 where
+  pub kind : Kind
+  pub page : List ℕ
 
--- the worker that does the line
-abbrev pub worker_of : Answered → ℕ
-worker_of x = x.0.worker
-
--- the sector that it names
-abbrev pub sector_of : Answered → ℕ
-sector_of x = x.0.sector
+-- what an answer tells
+abbrev pub said : Answer → Said
+said a = record { kind = a.kind; page = a.page.items }
 
 -- what a sector was, as an answer
 abbrev pub kind_of : Was → Kind
@@ -45,12 +42,8 @@ calls_by t op.Trim s value = Trim t s ∷ []
 calls_by t op.Meet s value = []
 
 -- the calls that a line has added, done by this pass: none where it was turned away
-abbrev pub calls_made : ℕ → Command → Answer → List Call
+abbrev pub calls_made : ℕ → Command → Said → List Call
 calls_made t c a = if is_full a.kind then [] else calls_by t c.op c.sector c.page
-
--- the calls that a line has added, done by the pass of its worker
-abbrev pub calls_in : Answered → List Call
-calls_in x = calls_made x.0.worker x.0 x.1
 
 -- a read tells what its sector holds
 abbrev pub IsFound : Sector → Kind → List ℕ → Type 0
@@ -64,7 +57,3 @@ IsRight op.Write x k page = (k ≡ kind.Full) ⊎ (k ≡ kind_of (was_of x))
 IsRight op.New x k page = (k ≡ kind.Full) ⊎ (k ≡ kind_of (was_of x))
 IsRight op.Trim x k page = k ≡ kind_of (was_of x)
 IsRight op.Meet x k page = k ≡ kind.Met
-
--- a line's answer is right where its sector holds this
-abbrev pub is_right : Answered → Sector → Type 0
-is_right x sector = IsRight x.0.op sector x.1.kind x.1.page.items

@@ -7,21 +7,20 @@ use Rattle.flash_rule.specs.declared.view.View.{View}
 use Rattle.trace.specs.declared.commands.Command.{Command}
 use Rattle.trace.specs.declared.commands.Op.{Op}
 use Rattle.trace.specs.declared.commands.Op.TheVariants as op
-use Rattle.lines.specs.declared.answer.Answer.{Answer}
-use Rattle.lines.specs.Lines.{calls_made, is_full, IsRight}
+use Rattle.lines.specs.Lines.{Said, calls_made, is_full, IsRight}
 
 -- Pass t, which had seen this, has played the lines and has seen that at the end: each line has its right answer at a history of its own. The
 -- first history isn't before what the pass had seen, each next one not before the one before with its call, and the end not before the last one
 -- with its call
-abbrev pub Plays : ℕ → ℕ → List Call → List Command → List Answer → List Call → Type 0
+abbrev pub Plays : ℕ → ℕ → List Call → List Command → List Said → List Call → Type 0
 Plays n t seen [] [] last = Begins seen last
 Plays n t seen [] (a ∷ answers) last = ⊥
 Plays n t seen (c ∷ lines) [] last = ⊥
 Plays n t seen (c ∷ lines) (a ∷ answers) last =
-    (h : List Call) × Begins seen h × IsRight c.op (held n h c.sector) a.kind a.page.items × Plays n t (h ++ calls_made t c a) lines answers last
+    (h : List Call) × Begins seen h × IsRight c.op (held n h c.sector) a.kind a.page × Plays n t (h ++ calls_made t c a) lines answers last
 
 -- the calls that lines have added, done by one pass
-abbrev pub calls_done : ℕ → List Command → List Answer → List Call
+abbrev pub calls_done : ℕ → List Command → List Said → List Call
 calls_done t [] answers = []
 calls_done t (c ∷ lines) [] = []
 calls_done t (c ∷ lines) (a ∷ answers) = calls_made t c a ++ calls_done t lines answers
@@ -35,7 +34,7 @@ one_done op.Trim full = 0
 one_done op.Meet full = 0
 
 -- how many of the lines are writes that were done
-abbrev pub writes_done : List Command → List Answer → ℕ
+abbrev pub writes_done : List Command → List Said → ℕ
 writes_done [] answers = 0
 writes_done (c ∷ lines) [] = 0
 writes_done (c ∷ lines) (a ∷ answers) = one_done c.op (is_full a.kind) + writes_done lines answers
@@ -67,7 +66,7 @@ LineFound patience blocks op.Trim full found = found ≡ []
 LineFound patience blocks op.Meet full found = found ≡ []
 
 -- the blocks that lines have found taken, one line after another
-abbrev pub LinesFound : ℕ → ℕ → List Command → List Answer → List ℕ → Type 0
+abbrev pub LinesFound : ℕ → ℕ → List Command → List Said → List ℕ → Type 0
 LinesFound patience blocks [] [] found = found ≡ []
 LinesFound patience blocks [] (a ∷ answers) found = ⊥
 LinesFound patience blocks (c ∷ lines) [] found = ⊥
@@ -77,7 +76,7 @@ LinesFound patience blocks (c ∷ lines) (a ∷ answers) found =
 -- A pass has played lines, with so many tries of each write. Its own calls have grown by just those of the lines that were done, in order; one page
 -- was programmed for each write that was done, and at most one block taken; and the blocks that it has found taken are those of the tries of each
 -- line, in order. Nothing else has changed of what the pass knows
-pub record Played (t patience : ℕ) (v : View) (lines : List Command) (answers : List Answer) (w : View) : Type 0 where
+pub record Played (t patience : ℕ) (v : View) (lines : List Command) (answers : List Said) (w : View) : Type 0 where
   pub changed : w ≡ record v {
     seen = w.seen;
     mine = w.mine;

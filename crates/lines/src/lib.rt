@@ -2,5 +2,8 @@
 #![tactic(auto)]
 
 mod answer;
+mod answering;
+mod answers;
 
 pub use answer::{Answer, Kind};
+pub use answers::{Answers, Cursor};

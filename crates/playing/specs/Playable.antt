@@ -1,10 +1,13 @@
 -- What can be played, and where its answers go.
-use Rattle.std.specs.Prelude.{◌≡◌, ◌<◌, ℕ, List, [], Some, length, map, slice_get, slice_index_or}
+use Rattle.std.specs.Prelude.{◌≡◌, ◌+◌, ◌<◌, ◌++◌, ℕ, List, [], length, drop, map, slice_index_or}
 use Rattle.geometry.specs.Geometry.{sectors_of, page_bytes_of}
 use Rattle.geometry.specs.declared.geometry.Geometry.{Geometry}
 use Rattle.trace.specs.declared.commands.Command.{Command}
 use Rattle.trace.specs.declared.commands.Op.TheVariants as op
+use Rattle.lines.specs.Lines.{Said}
+use Rattle.lines.specs.Answers.{page_size_of, said_in, HasSpaceFor}
 use Rattle.lines.specs.declared.answer.Answer.{Answer}
+use Rattle.lines.specs.declared.answers.Answers.{Answers}
 
 -- A line that a worker can do on a device of this geometry: its sector is there, a write of either kind has a page, and it asks for no meeting
 pub record IsLine (geo : Geometry) (line : Command) : Type 0 where
@@ -17,14 +20,6 @@ pub record IsLine (geo : Geometry) (line : Command) : Type 0 where
 abbrev pub HasPage : Geometry → Answer → Type 0
 HasPage geo answer = length answer.page.items ≡ page_bytes_of geo
 
--- there is room for what the line finds, if it is a read
-abbrev pub HasRoom : Geometry → Command → Answer → Type 0
-HasRoom geo line answer = line.op ≡ op.Read → HasPage geo answer
-
--- there is room for what each line finds
-abbrev pub HaveRoom : Geometry → List Command → List Answer → Type 0
-HaveRoom geo lines answers = (k : ℕ) (c : Command) (a : Answer) → slice_get lines k ≡ Some c → slice_get answers k ≡ Some a → HasRoom geo c a
-
 -- a line that isn't there
 abbrev pub no_line : Command
 no_line = record { worker = 0; op = op.Meet; sector = 0; page = [] }
@@ -32,3 +27,15 @@ no_line = record { worker = 0; op = op.Meet; sector = 0; page = [] }
 -- the lines at these places
 abbrev pub lines_at : List Command → List ℕ → List Command
 lines_at lines places = map (λ p. slice_index_or lines p no_line) places
+
+-- the answers that were added behind others
+abbrev pub added : Answers → Answers → List Said
+added old new = drop (length (said_in old)) (said_in new)
+
+-- Lines were answered: so many answers were added behind the others, of pages of the same size, and there is still room for the answers of all lines behind those
+-- for which there was room
+pub record HasAnswered (lines : List Command) (old new : Answers) : Type 0 where
+  pub kept : said_in new ≡ said_in old ++ added old new
+  pub count : length (said_in new) ≡ length (said_in old) + length lines
+  pub page : page_size_of new ≡ page_size_of old
+  pub space : (rest : List Command) → HasSpaceFor old (lines ++ rest) → HasSpaceFor new rest

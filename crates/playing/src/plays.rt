@@ -1,18 +1,20 @@
-ghost use Rattle.std.specs.Prelude.{◌≡◌, ◌<◌, ℕ, All, length};
+ghost use Rattle.std.specs.Prelude.{◌≡◌, ◌<◌, ℕ, All, length, map};
 ghost use Rattle.geometry.specs.Geometry.{sectors_of, page_bytes_of};
 ghost use Rattle.flash_table.specs.Flash.{view_of, geometry_of};
 ghost use Rattle.host.specs.Ready.{IsReady};
 ghost use Rattle.trace.specs.declared.commands.Op.TheVariants as op;
 ghost use Rattle.volume.specs.Volume.{flash_of};
+ghost use Rattle.lines.specs.Lines.{said};
+ghost use Rattle.lines.specs.Answers.{page_size_of, HasSpaceFor};
 ghost use Rattle.lines.specs.Playing.{Played};
-ghost use Rattle.playing.specs.Playable.{IsLine, HasPage, HasRoom, HaveRoom, lines_at};
+ghost use Rattle.playing.specs.Playable.{IsLine, HasPage, HasAnswered, added, lines_at};
 ghost use Rattle.playing.specs.Line.{kind_found, HasPlayedLine};
 ghost use Rattle.flash_table.specs.Steps.{HasNumber};
 
 use flash_table::{Gate, Pass, Point};
 use geometry::Got;
 use host::NewFault;
-use lines::{Answer, Kind};
+use lines::{Answer, Answers, Kind};
 use trace::{Command, Commands, Op};
 use volume::Volume;
 
@@ -118,7 +120,7 @@ pub fn play<G: Gate>(
     requires lines { All (IsLine (geometry_of (flash_of volume.now))) lines.now }
     requires count { length answers.old ≡ length lines.now }
     requires pages { All (HasPage (geometry_of (flash_of volume.now))) answers.old }
-    ensures told { (t : ℕ) → HasNumber t pass.old → Played t patience (view_of pass.old) lines.now answers.new (view_of pass.new) }
+    ensures told { (t : ℕ) → HasNumber t pass.old → Played t patience (view_of pass.old) lines.now (map said answers.new) (view_of pass.new) }
     ensures pages { All (HasPage (geometry_of (flash_of volume.now))) answers.new }
     ensures pass { IsReady (flash_of volume.now) pass.new }
 {
@@ -129,35 +131,7 @@ pub fn play<G: Gate>(
     }
 }
 
-// Does a line with its answer's own page if it is a read, and else with a buffer of a page.
-fn answer_line<G: Gate>(
-    volume: &Volume,
-    pass: &mut Pass,
-    line: &Command<'_>,
-    patience: u32,
-    gate: &mut G,
-    buffer: &mut [u8],
-    answer: &mut Answer,
-)
-    requires pass { IsReady (flash_of volume.now) pass.old }
-    requires line { IsLine (geometry_of (flash_of volume.now)) line.now }
-    requires buffer { length buffer.old ≡ page_bytes_of (geometry_of (flash_of volume.now)) }
-    requires page { HasRoom (geometry_of (flash_of volume.now)) line.now answer.old }
-    ensures told { HasPlayedLine patience pass.old line.now.op line.now.sector line.now.page answer.new.kind answer.new.page.items pass.new }
-    ensures page { HasRoom (geometry_of (flash_of volume.now)) line.now answer.new }
-    ensures pass { IsReady (flash_of volume.now) pass.new }
-{
-    match line.op {
-        Op::Read => {
-            answer.kind = play_line(volume, pass, line, patience, gate, &mut answer.page);
-        }
-        _ => {
-            answer.kind = play_line(volume, pass, line, patience, gate, buffer);
-        }
-    }
-}
-
-/// Plays the lines at these places of a trace, as `play` does, with a buffer of a page for what is written. Only a read's answer needs a page.
+/// Plays the lines at these places of a trace, as `play` does, with a buffer of a page, and adds their answers to others.
 pub fn play_at<G: Gate>(
     volume: &Volume,
     pass: &mut Pass,
@@ -166,21 +140,22 @@ pub fn play_at<G: Gate>(
     patience: u32,
     gate: &mut G,
     buffer: &mut [u8],
-    answers: &mut [Answer],
+    answers: &mut Answers,
 )
     requires pass { IsReady (flash_of volume.now) pass.old }
     requires there { All (λ p. p < length commands.now) places.now }
     requires lines { All (IsLine (geometry_of (flash_of volume.now))) (lines_at commands.now places.now) }
-    requires count { length answers.old ≡ length places.now }
-    requires pages { HaveRoom (geometry_of (flash_of volume.now)) (lines_at commands.now places.now) answers.old }
     requires buffer { length buffer.old ≡ page_bytes_of (geometry_of (flash_of volume.now)) }
-    ensures told { (t : ℕ) → HasNumber t pass.old → Played t patience (view_of pass.old) (lines_at commands.now places.now) answers.new (view_of pass.new) }
-    ensures pages { HaveRoom (geometry_of (flash_of volume.now)) (lines_at commands.now places.now) answers.new }
+    requires page { page_size_of answers.old ≡ page_bytes_of (geometry_of (flash_of volume.now)) }
+    requires space { HasSpaceFor answers.old (lines_at commands.now places.now) }
+    ensures told { (t : ℕ) → HasNumber t pass.old → Played t patience (view_of pass.old) (lines_at commands.now places.now) (added answers.old answers.new) (view_of pass.new) }
+    ensures answered { HasAnswered (lines_at commands.now places.now) answers.old answers.new }
     ensures pass { IsReady (flash_of volume.now) pass.new }
 {
     for i in 0..places.len() {
         let line = commands.command(places[i]);
-        answer_line(volume, pass, &line, patience, gate, buffer, &mut answers[i]);
+        let kind = play_line(volume, pass, &line, patience, gate, buffer);
+        answers.push(kind, buffer);
         gate.at(Point::Answered);
     }
 }

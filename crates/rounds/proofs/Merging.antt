@@ -8,20 +8,19 @@ use native.Mathlib.Decide.{ℕ_discrete}
 use Rattle.trace.specs.declared.commands.Command.{Command}
 use Rattle.trace.specs.declared.commands.Op.{Op}
 use Rattle.trace.specs.declared.commands.Op.TheVariants as op
-use Rattle.lines.specs.declared.answer.Answer.{Answer}
-use Rattle.lines.specs.Lines.{calls_by, is_full}
+use Rattle.lines.specs.Lines.{Said, calls_by, is_full}
 use Rattle.rounds.specs.Lines.{lines_of}
 use Rattle.rounds.specs.Rounds.{AreDisjoint, AreInRange}
 use Rattle.rounds.specs.Told.{Line, worker_of, sector_of, calls_in, line, told}
 use Rattle.rounds.specs.Texts.{commands_in}
 use Rattle.rounds.specs.Merging.{is_meet, changes, is_line_of, lines_for, line_count, answer_for, next_of, after_line, merge, rows_after, AreSameFor, HaveNoMeeting, AreDisjointCommands, in_first_round, rounds_of}
 
-command_of_answer : (c : Command) (o : Option Answer) → (answer_for c o).command ≡ c
+command_of_answer : (c : Command) (o : Option Said) → (answer_for c o).command ≡ c
 command_of_answer c None = refl
 command_of_answer c (Some a) = refl
 
 -- the commands of the merged lines
-pub commands_in-merge : (cs : List Command) (rows : ℕ → List Answer) → commands_in (merge cs rows) ≡ cs
+pub commands_in-merge : (cs : List Command) (rows : ℕ → List Said) → commands_in (merge cs rows) ≡ cs
 commands_in-merge [] rows = refl
 commands_in-merge (c ∷ cs) rows =
     let first = command_of_answer c (next_of c rows) in
@@ -35,7 +34,7 @@ drop_one (suc n) [] = refl
 drop_one n (x ∷ xs) = refl
 
 -- one command more stands before what is left of the rows
-after_more : (c : Command) (cs : List Command) (rows : ℕ → List Answer) (t : ℕ) → rows_after cs (after_line c rows) t ≡ rows_after (c ∷ cs) rows t
+after_more : (c : Command) (cs : List Command) (rows : ℕ → List Said) (t : ℕ) → rows_after cs (after_line c rows) t ≡ rows_after (c ∷ cs) rows t
 after_more c cs rows t = go (is_line_of t c)
   where
     go : (b : Bool) → drop (length (lines_for t cs)) (if b then drop 1 (rows t) else rows t) ≡ drop (length (if b then c ∷ lines_for t cs else lines_for t cs)) (rows t)
@@ -43,7 +42,7 @@ after_more c cs rows t = go (is_line_of t c)
     go false = refl
 
 -- commands in two parts
-pub merge-append : (cs ds : List Command) (rows : ℕ → List Answer) → merge (cs ++ ds) rows ≡ merge cs rows ++ merge ds (rows_after cs rows)
+pub merge-append : (cs ds : List Command) (rows : ℕ → List Said) → merge (cs ++ ds) rows ≡ merge cs rows ++ merge ds (rows_after cs rows)
 merge-append [] ds rows = refl
 merge-append (c ∷ cs) ds rows =
     let more = after_more c cs rows in
@@ -68,7 +67,7 @@ pub own_line : (c : Command) → is_meet c.op ≡ false → is_line_of c.worker 
 own_line c plain = ap (λ b. not b && (c.worker == c.worker)) plain ∙ eq-eqb c.worker c.worker refl
 
 -- rows that are the same up to the commands merge to the same lines
-pub merge_same : (cs : List Command) (rows others : ℕ → List Answer) → AreSameFor cs rows others → merge cs rows ≡ merge cs others
+pub merge_same : (cs : List Command) (rows others : ℕ → List Said) → AreSameFor cs rows others → merge cs rows ≡ merge cs others
 merge_same [] rows others same = refl
 merge_same (c ∷ cs) rows others same =
     let first : next_of c rows ≡ next_of c others = next (is_meet c.op) refl in
@@ -90,16 +89,16 @@ merge_same (c ∷ cs) rows others same =
     left t false e = e
 
 -- one line more of a worker, and one of another
-module _ (t : ℕ) (c : Command) (cs : List Command) (rows : ℕ → List Answer) (plain : is_meet c.op ≡ false)
+module _ (t : ℕ) (c : Command) (cs : List Command) (rows : ℕ → List Said) (plain : is_meet c.op ≡ false)
     (rest : line_count t cs ≤ length (after_line c rows t) → lines_of worker_of t (merge cs (after_line c rows)) ≡ told (lines_for t cs) (after_line c rows t)) where
-  own_merged : c.worker ≡ t → (row : List Answer) → rows t ≡ row → line_count t (c ∷ cs) ≤ length row → lines_of worker_of t (merge (c ∷ cs) rows) ≡ told (lines_for t (c ∷ cs)) (rows t)
+  own_merged : c.worker ≡ t → (row : List Said) → rows t ≡ row → line_count t (c ∷ cs) ≤ length row → lines_of worker_of t (merge (c ∷ cs) rows) ≡ told (lines_for t (c ∷ cs)) (rows t)
   own_merged same row is enough =
       let others = lines_for t cs in
       let mine : is_line_of t c ≡ true = ap (λ b. not b && (c.worker == t)) plain ∙ eq-eqb c.worker t same in
       let count : suc (length others) ≤ length row = subst (λ b. length (if b then c ∷ others else others) ≤ length row) mine enough in
       go row is count mine
     where
-      go : (r : List Answer) → rows t ≡ r → suc (line_count t cs) ≤ length r → is_line_of t c ≡ true → lines_of worker_of t (merge (c ∷ cs) rows) ≡ told (lines_for t (c ∷ cs)) (rows t)
+      go : (r : List Said) → rows t ≡ r → suc (line_count t cs) ≤ length r → is_line_of t c ≡ true → lines_of worker_of t (merge (c ∷ cs) rows) ≡ told (lines_for t (c ∷ cs)) (rows t)
       go [] is count mine = absurd (omega arith)
       go (a ∷ behind) is count mine =
           let others = lines_for t cs in
@@ -127,7 +126,7 @@ module _ (t : ℕ) (c : Command) (cs : List Command) (rows : ℕ → List Answer
       ∙ (rest (omega (arith, long)) ∙ (ap (told others) left ∙ sym (ap (λ b. told (if b then c ∷ others else others) (rows t)) not_mine)))
 
 -- the merged lines of one worker are its own, with its row
-pub lines_of-merge : (t : ℕ) (cs : List Command) (rows : ℕ → List Answer) → HaveNoMeeting cs → line_count t cs ≤ length (rows t) → lines_of worker_of t (merge cs rows) ≡ told (lines_for t cs) (rows t)
+pub lines_of-merge : (t : ℕ) (cs : List Command) (rows : ℕ → List Said) → HaveNoMeeting cs → line_count t cs ≤ length (rows t) → lines_of worker_of t (merge cs rows) ≡ told (lines_for t cs) (rows t)
 lines_of-merge t [] rows plain enough = refl
 lines_of-merge t (c ∷ cs) rows plain enough =
     let no_meet = All-head (λ c. is_meet c.op ≡ false) c cs plain in

@@ -8,8 +8,7 @@ use Rattle.flash_rule.specs.Views.{caller}
 use Rattle.trace.specs.declared.commands.Command.{Command}
 use Rattle.trace.specs.declared.commands.Op.{Op}
 use Rattle.trace.specs.declared.commands.Op.TheVariants as op
-use Rattle.lines.specs.declared.answer.Answer.{Answer}
-use Rattle.lines.specs.Lines.{calls_by, is_full}
+use Rattle.lines.specs.Lines.{Said, calls_by, is_full}
 use Rattle.lines.specs.Playing as playing
 use Rattle.rounds.specs.Lines.{made, Plays, InOrder, LeaveSame}
 use Rattle.rounds.specs.Rounds.{PlayedRound}
@@ -67,7 +66,7 @@ rounds_are_in_order hosts n first last before played after xs all r answered =
     )
 
 -- a worker's play of commands, as a play of lines with what they were told
-pub plays_told : (n t : ℕ) (seen : List Call) (lines : List Command) (answers : List Answer) (last : List Call) → All (λ c. c.worker ≡ t) lines
+pub plays_told : (n t : ℕ) (seen : List Call) (lines : List Command) (answers : List Said) (last : List Call) → All (λ c. c.worker ≡ t) lines
     → playing.Plays n t seen lines answers last → Plays sector_of calls_in is_right n seen (told lines answers) last
 plays_told n t seen [] [] last mine p = p
 plays_told n t seen [] (a ∷ answers) last mine p = absurd p
@@ -81,7 +80,7 @@ plays_told n t seen (c ∷ lines) (a ∷ answers) last mine (h, from, fits, rest
 )
 
 -- and the calls that it has made
-pub calls_told : (t : ℕ) (lines : List Command) (answers : List Answer) → All (λ c. c.worker ≡ t) lines → playing.calls_done t lines answers ≡ made calls_in (told lines answers)
+pub calls_told : (t : ℕ) (lines : List Command) (answers : List Said) → All (λ c. c.worker ≡ t) lines → playing.calls_done t lines answers ≡ made calls_in (told lines answers)
 calls_told t [] answers mine = refl
 calls_told t (c ∷ lines) [] mine = refl
 calls_told t (c ∷ lines) (a ∷ answers) mine =

@@ -4,7 +4,7 @@ use Rattle.std.specs.List.{filter}
 use Rattle.trace.specs.declared.commands.Command.{Command}
 use Rattle.trace.specs.declared.commands.Op.{Op}
 use Rattle.trace.specs.declared.commands.Op.TheVariants as op
-use Rattle.lines.specs.declared.answer.Answer.{Answer}
+use Rattle.lines.specs.Lines.{Said}
 use Rattle.lines.specs.declared.answer.Kind.TheVariants as kind
 use Rattle.rounds.specs.Told.{Line, line}
 
@@ -37,33 +37,33 @@ abbrev pub line_count : ℕ → List Command → ℕ
 line_count t cs = length (lines_for t cs)
 
 -- a command with its answer; a meeting has none of its own
-abbrev pub answer_for : Command → Option Answer → Line
+abbrev pub answer_for : Command → Option Said → Line
 answer_for c None = record { command = c; kind = kind.Met; page = [] }
 answer_for c (Some a) = line c a
 
 -- the answer of the next command is the first of its worker's row
-abbrev pub next_of : Command → (ℕ → List Answer) → Option Answer
+abbrev pub next_of : Command → (ℕ → List Said) → Option Said
 next_of c rows = if is_meet c.op then None else slice_get (rows c.worker) 0
 
 -- what is left of the rows behind a command
-abbrev pub after_line : Command → (ℕ → List Answer) → ℕ → List Answer
+abbrev pub after_line : Command → (ℕ → List Said) → ℕ → List Said
 after_line c rows t = if is_line_of t c then drop 1 (rows t) else rows t
 
 -- the commands in their order, each with its answer
-abbrev pub merge : List Command → (ℕ → List Answer) → List Line
+abbrev pub merge : List Command → (ℕ → List Said) → List Line
 merge [] rows = []
 merge (c ∷ cs) rows = answer_for c (next_of c rows) ∷ merge cs (after_line c rows)
 
 -- what is left of the rows behind commands
-abbrev pub rows_after : List Command → (ℕ → List Answer) → ℕ → List Answer
+abbrev pub rows_after : List Command → (ℕ → List Said) → ℕ → List Said
 rows_after cs rows t = drop (line_count t cs) (rows t)
 
 -- the rows have an answer for each line
-abbrev pub HaveAnswers : (ℕ → List Answer) → List Command → Type 0
+abbrev pub HaveAnswers : (ℕ → List Said) → List Command → Type 0
 HaveAnswers rows cs = (t : ℕ) → line_count t cs ≤ length (rows t)
 
 -- up to these commands the rows are the same
-abbrev pub AreSameFor : List Command → (ℕ → List Answer) → (ℕ → List Answer) → Type 0
+abbrev pub AreSameFor : List Command → (ℕ → List Said) → (ℕ → List Said) → Type 0
 AreSameFor cs rows others = (t : ℕ) → take (line_count t cs) (rows t) ≡ take (line_count t cs) (others t)
 
 -- none of the commands is a meeting

@@ -3,14 +3,14 @@ use Rattle.std.specs.Prelude.{◌≡◌, ℕ, ◌<◌, All, true, List, [], ◌�
 use Rattle.geometry.specs.History.{Call}
 use Rattle.flash_rule.specs.declared.view.View.{View}
 use Rattle.trace.specs.declared.commands.Command.{Command}
-use Rattle.lines.specs.declared.answer.Answer.{Answer}
+use Rattle.lines.specs.Lines.{Said}
 use Rattle.rounds.specs.Meetings.{AreTied, HavePlayed, WereSwept}
 use Rattle.rounds.specs.Told.{worker_of, sector_of, calls_in, is_right, AreAnswered}
 use Rattle.rounds.specs.Texts.{lines_text, IsTextOfSome}
 use Rattle.rounds.specs.Merging.{is_meet, merge, rows_after, AreSameFor, AreDisjointCommands}
 
 -- A round of commands at disjoint sectors was played behind others: the answers before it stay, each pass has played its worker's commands, and the passes have met
-pub record RoundOfRun (hosts n : ℕ) (first last : List Call) (before played after : ℕ → View) (done cs : List Command) (rows others : ℕ → List Answer) : Type 0 where
+pub record RoundOfRun (hosts n : ℕ) (first last : List Call) (before played after : ℕ → View) (done cs : List Command) (rows others : ℕ → List Said) : Type 0 where
   pub some : 0 < hosts
   pub workers : All (λ c. c.worker < hosts) cs
   pub sectors : All (λ c. c.sector < n) cs
@@ -22,19 +22,19 @@ pub record RoundOfRun (hosts n : ℕ) (first last : List Call) (before played af
 
 -- A run begins with no line, at no history
 abbrev pub RunBegins : Type 0
-RunBegins = (n : ℕ) (rows : ℕ → List Answer) → AreAnswered n [] (merge [] rows)
+RunBegins = (n : ℕ) (rows : ℕ → List Said) → AreAnswered n [] (merge [] rows)
 
 -- A round more keeps the passes tied, and all lines so far answered in order
 abbrev pub RunGoesOn : Type 0
 RunGoesOn =
-    (hosts n : ℕ) (first last : List Call) (before played after : ℕ → View) (done cs : List Command) (rows others : ℕ → List Answer)
+    (hosts n : ℕ) (first last : List Call) (before played after : ℕ → View) (done cs : List Command) (rows others : ℕ → List Said)
     → RoundOfRun hosts n first last before played after done cs rows others → AreAnswered n first (merge done rows)
     → AreTied hosts last after × AreAnswered n last (merge (done ++ cs) others)
 
 -- A meeting adds a line and no call
 abbrev pub MeetingGoesOn : Type 0
-MeetingGoesOn = (n : ℕ) (h : List Call) (done : List Command) (c : Command) (rows : ℕ → List Answer) → is_meet c.op ≡ true → AreAnswered n h (merge done rows) → AreAnswered n h (merge (done ++ c ∷ []) rows)
+MeetingGoesOn = (n : ℕ) (h : List Call) (done : List Command) (c : Command) (rows : ℕ → List Said) → is_meet c.op ≡ true → AreAnswered n h (merge done rows) → AreAnswered n h (merge (done ++ c ∷ []) rows)
 
 -- Once all commands are answered so, their lines are as text the answers of the trace, with the writes turned away at some set of lines
 abbrev pub RunIsText : Type 0
-RunIsText = (n : ℕ) (h : List Call) (commands : List Command) (rows : ℕ → List Answer) → AreAnswered n h (merge commands rows) → IsTextOfSome n commands (lines_text 0 (merge commands rows))
+RunIsText = (n : ℕ) (h : List Call) (commands : List Command) (rows : ℕ → List Said) → AreAnswered n h (merge commands rows) → IsTextOfSome n commands (lines_text 0 (merge commands rows))

@@ -4,9 +4,8 @@ use Rattle.geometry.specs.Sectors.{Sector}
 use Rattle.geometry.specs.History.{Call}
 use Rattle.flash_rule.specs.declared.view.View.{View}
 use Rattle.trace.specs.declared.commands.Command.{Command}
-use Rattle.lines.specs.declared.answer.Answer.{Answer}
 use Rattle.lines.specs.declared.answer.Kind.{Kind}
-use Rattle.lines.specs.Lines.{calls_by, is_full, IsRight}
+use Rattle.lines.specs.Lines.{Said, calls_by, is_full, IsRight}
 use Rattle.rounds.specs.Lines.{made, InOrder, LeaveSame}
 use Rattle.rounds.specs.Rounds.{AreDisjoint, AreInRange}
 use Rattle.rounds.specs.Meetings.{AreTied, HavePlayed, WereSwept}
@@ -34,11 +33,11 @@ abbrev pub is_right : Line → Sector → Type 0
 is_right x sector = IsRight x.command.op sector x.kind x.page
 
 -- a command with its answer
-abbrev pub line : Command → Answer → Line
-line c a = record { command = c; kind = a.kind; page = a.page.items }
+abbrev pub line : Command → Said → Line
+line c a = record { command = c; kind = a.kind; page = a.page }
 
 -- commands with their answers, one each
-abbrev pub told : List Command → List Answer → List Line
+abbrev pub told : List Command → List Said → List Line
 told [] answers = []
 told (c ∷ lines) [] = []
 told (c ∷ lines) (a ∷ answers) = line c a ∷ told lines answers

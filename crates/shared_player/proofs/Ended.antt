@@ -7,8 +7,7 @@ use Rattle.geometry.specs.Geometry.{hosts_of, sectors_of}
 use Rattle.geometry.specs.declared.geometry.Geometry.{Geometry}
 use Rattle.flash_table.specs.Flash.{geometry_of}
 use Rattle.trace.specs.declared.commands.Command.{Command}
-use Rattle.lines.specs.declared.answer.Answer.{Answer}
-use Rattle.lines.specs.Lines.{is_full}
+use Rattle.lines.specs.Lines.{Said, is_full}
 use Rattle.lines.specs.Playing.{LineFound, LinesFound, one_done, writes_done}
 use Rattle.trace.specs.declared.commands.Op.{Op}
 use Rattle.trace.specs.declared.commands.Op.TheVariants as op
@@ -36,7 +35,7 @@ not_done patience blocks op.Trim full found none line = refl
 not_done patience blocks op.Meet full found none line = refl
 
 -- without a try no write is done
-no_write : (patience blocks : ℕ) (lines : List Command) (answers : List Answer) (found : List ℕ) → patience ≡ 0 → LinesFound patience blocks lines answers found → writes_done lines answers ≡ 0
+no_write : (patience blocks : ℕ) (lines : List Command) (answers : List Said) (found : List ℕ) → patience ≡ 0 → LinesFound patience blocks lines answers found → writes_done lines answers ≡ 0
 no_write patience blocks [] answers found none lines = refl
 no_write patience blocks (c ∷ lines) [] found none tried = refl
 no_write patience blocks (c ∷ lines) (a ∷ answers) found none (first, rest, whole, line, behind) =
@@ -47,16 +46,16 @@ no_write patience blocks (c ∷ lines) (a ∷ answers) found none (first, rest, 
 pub all_played : (volume : Volume) (geo : Geometry) (patience : ℕ) (cs : List Command) (begun back : List Post) (rows : List (Vec Answer Global)) → geometry_of (flash_of volume) ≡ geo → AreManned volume back → HasEnded volume patience cs begun back
     → map answers_in rows ≡ map answers_of back → ArePlayed geo patience cs (answers_by rows)
 all_played volume geo patience cs begun back rows geometry manned ended are =
-    let by : List (List Answer) → ℕ → List Answer = λ l t. get_or l t [] in
+    let by : List (List Said) → ℕ → List Said = λ l t. get_or l t [] in
     let same : rows_of back ≡ answers_by rows = ap by (sym are) in
     let hosts : length back ≡ hosts_of geo = manned.all ∙ ap hosts_of geometry in
     let sectors : sectors_of (geometry_of (flash_of volume)) ≡ sectors_of geo = ap sectors_of geometry in
     record {
-      told = subst (λ (x : ℕ × ℕ × (ℕ → List Answer)). AreAtOneHistory x.0 x.1 cs x.2) (λ i. (sectors i, hosts i, same i)) ended.told;
+      told = subst (λ (x : ℕ × ℕ × (ℕ → List Said)). AreAtOneHistory x.0 x.1 cs x.2) (λ i. (sectors i, hosts i, same i)) ended.told;
       untried = λ none t low.
           let there : t < length back = omega arith in
           let run = ended.each t there in
-          let row : rows_of back t ≡ answers_by rows t = ap (λ (f : ℕ → List Answer). f t) same in
+          let row : rows_of back t ≡ answers_by rows t = ap (λ (f : ℕ → List Said). f t) same in
           no_write patience (views_of volume (passes_of back) t).numbers.blocks (lines_for t cs) (answers_by rows t) run.found none
           (subst (λ l. LinesFound patience (views_of volume (passes_of back) t).numbers.blocks (lines_for t cs) l run.found) row run.tried);
       room = λ t low.
@@ -66,7 +65,7 @@ all_played volume geo patience cs begun back rows geometry manned ended are =
           let dealt = ended.dealt t p there in
           let lines : lines_at (arc_value post.commands) post.places.items ≡ lines_for t cs = (λ i. lines_at (dealt.commands i) (dealt.places i)) ∙ lines_all t cs in
           let geo_is : geometry_of (flash_of (arc_value post.volume)) ≡ geo = ap (λ (v : Volume). geometry_of (flash_of v)) (manned.at t p there) ∙ geometry in
-          let row : post.answers.items ≡ answers_by rows t = sym (row_at back t p there) ∙ ap (λ (f : ℕ → List Answer). f t) same in
-          subst (λ (x : Geometry × List Command × List Answer). HaveRoom x.0 x.1 x.2) (λ i. (geo_is i, lines i, row i)) post.able.room;
-      text = λ apart. subst (λ (x : ℕ × (ℕ → List Answer)). IsTextOfSome x.0 cs (lines_text 0 (merge cs x.1))) (λ i. (sectors i, same i)) (ended.text apart);
+          let row : post.answers.items ≡ answers_by rows t = sym (row_at back t p there) ∙ ap (λ (f : ℕ → List Said). f t) same in
+          subst (λ (x : Geometry × List Command × List Said). HaveRoom x.0 x.1 x.2) (λ i. (geo_is i, lines i, row i)) post.able.room;
+      text = λ apart. subst (λ (x : ℕ × (ℕ → List Said)). IsTextOfSome x.0 cs (lines_text 0 (merge cs x.1))) (λ i. (sectors i, same i)) (ended.text apart);
     }

@@ -10,8 +10,7 @@ use Rattle.geometry.specs.History.{Call, Begins}
 use Rattle.geometry.proofs.Histories.{Begins-refl, Begins-trans}
 use Rattle.flash_rule.specs.declared.view.View.{View}
 use Rattle.trace.specs.declared.commands.Command.{Command}
-use Rattle.lines.specs.declared.answer.Answer.{Answer}
-use Rattle.lines.specs.Lines.{calls_made, is_full}
+use Rattle.lines.specs.Lines.{Said, calls_made, is_full}
 use Rattle.lines.specs.Playing.{Plays, Played, LinesFound, calls_done, writes_done, one_done}
 use Rattle.playing.proofs.Lines.{found-append}
 use Rattle.volume.specs.Closing.{HasLooked}
@@ -28,52 +27,52 @@ use Rattle.shared_player.specs.Runs.{HasRun}
 use Rattle.shared_player.proofs.Walking.{FirstRound, StandsBehind, ends_from, lines_for-append, disjoint_first, disjoint_last}
 
 -- what a worker did in a round, behind these commands: its earlier answers stay
-pub record WorkerRound (t patience : ℕ) (done cs : List Command) (old new : List Answer) (v w : View) : Type 0 where
+pub record WorkerRound (t patience : ℕ) (done cs : List Command) (old new : List Said) (v w : View) : Type 0 where
   pub kept : take (line_count t done) old ≡ take (line_count t done) new
   pub enough : line_count t done + line_count t cs ≤ length new
   pub played : Played t patience v (lines_for t cs) (slice_range new (line_count t done) (line_count t done + line_count t cs)) w
 
-plays_earlier : (n t : ℕ) (s m e : List Call) (lines : List Command) (answers : List Answer) → Begins s m → Plays n t m lines answers e → Plays n t s lines answers e
+plays_earlier : (n t : ℕ) (s m e : List Call) (lines : List Command) (answers : List Said) → Begins s m → Plays n t m lines answers e → Plays n t s lines answers e
 plays_earlier n t s m e [] [] from p = Begins-trans s m e from p
 plays_earlier n t s m e [] (a ∷ answers) from p = absurd p
 plays_earlier n t s m e (c ∷ lines) [] from p = absurd p
 plays_earlier n t s m e (c ∷ lines) (a ∷ answers) from p = (p.0, Begins-trans s m p.0 from p.1, p.2, p.3)
 
-plays_on : (n t : ℕ) (s m e : List Call) (lines : List Command) (answers : List Answer) → Plays n t s lines answers m → Begins m e → Plays n t s lines answers e
+plays_on : (n t : ℕ) (s m e : List Call) (lines : List Command) (answers : List Said) → Plays n t s lines answers m → Begins m e → Plays n t s lines answers e
 plays_on n t s m e [] [] p on = Begins-trans s m e p on
 plays_on n t s m e [] (a ∷ answers) p on = absurd p
 plays_on n t s m e (c ∷ lines) [] p on = absurd p
 plays_on n t s m e (c ∷ lines) (a ∷ answers) p on = (p.0, p.1, p.2, plays_on n t (p.0 ++ calls_made t c a) m e lines answers p.3 on)
 
-module _ (n t : ℕ) (more : List Command) (others : List Answer) where
-  plays-append : (s m e : List Call) (lines : List Command) (answers : List Answer) → Plays n t s lines answers m → Plays n t m more others e → Plays n t s (lines ++ more) (answers ++ others) e
+module _ (n t : ℕ) (more : List Command) (others : List Said) where
+  plays-append : (s m e : List Call) (lines : List Command) (answers : List Said) → Plays n t s lines answers m → Plays n t m more others e → Plays n t s (lines ++ more) (answers ++ others) e
   plays-append s m e [] [] p q = plays_earlier n t s m e more others p q
   plays-append s m e [] (a ∷ answers) p q = absurd p
   plays-append s m e (c ∷ lines) [] p q = absurd p
   plays-append s m e (c ∷ lines) (a ∷ answers) p q = (p.0, p.1, p.2, plays-append (p.0 ++ calls_made t c a) m e lines answers p.3 q)
 
-  calls-append : (s m : List Call) (lines : List Command) (answers : List Answer) → Plays n t s lines answers m → calls_done t (lines ++ more) (answers ++ others) ≡ calls_done t lines answers ++ calls_done t more others
+  calls-append : (s m : List Call) (lines : List Command) (answers : List Said) → Plays n t s lines answers m → calls_done t (lines ++ more) (answers ++ others) ≡ calls_done t lines answers ++ calls_done t more others
   calls-append s m [] [] p = refl
   calls-append s m [] (a ∷ answers) p = absurd p
   calls-append s m (c ∷ lines) [] p = absurd p
   calls-append s m (c ∷ lines) (a ∷ answers) p =
       ap (λ rest. calls_made t c a ++ rest) (calls-append (p.0 ++ calls_made t c a) m lines answers p.3) ∙ sym (append_assoc (calls_made t c a) (calls_done t lines answers) (calls_done t more others))
 
-  writes-append : (s m : List Call) (lines : List Command) (answers : List Answer) → Plays n t s lines answers m → writes_done (lines ++ more) (answers ++ others) ≡ writes_done lines answers + writes_done more others
+  writes-append : (s m : List Call) (lines : List Command) (answers : List Said) → Plays n t s lines answers m → writes_done (lines ++ more) (answers ++ others) ≡ writes_done lines answers + writes_done more others
   writes-append s m [] [] p = omega arith
   writes-append s m [] (a ∷ answers) p = absurd p
   writes-append s m (c ∷ lines) [] p = absurd p
   writes-append s m (c ∷ lines) (a ∷ answers) p = let rest = writes-append (p.0 ++ calls_made t c a) m lines answers p.3 in omega (arith, rest)
 
 -- a worker that plays more lines: they are played up to each history that begins with what it has seen
-pub plays_to : (t patience : ℕ) (earlier : List ℕ) (lines more : List Command) (answers others : List Answer) (v u : View) (h : List Call) → HasRun t patience earlier lines answers v → Played t patience v more others u → Begins u.seen h
+pub plays_to : (t patience : ℕ) (earlier : List ℕ) (lines more : List Command) (answers others : List Said) (v u : View) (h : List Call) → HasRun t patience earlier lines answers v → Played t patience v more others u → Begins u.seen h
     → Plays v.numbers.sectors t [] (lines ++ more) (answers ++ others) h
 plays_to t patience earlier lines more answers others v u h run played on =
     let n = v.numbers.sectors in
     plays_on n t [] u.seen h (lines ++ more) (answers ++ others) (plays-append n t more others [] v.seen u.seen lines answers run.plays played.plays) on
 
 -- a worker that plays more lines, and then looks
-pub run_more : (t patience : ℕ) (earlier : List ℕ) (lines more : List Command) (answers others : List Answer) (v u w : View) → HasRun t patience earlier lines answers v → Played t patience v more others u → HasLooked u w
+pub run_more : (t patience : ℕ) (earlier : List ℕ) (lines more : List Command) (answers others : List Said) (v u w : View) → HasRun t patience earlier lines answers v → Played t patience v more others u → HasLooked u w
     → HasRun t patience earlier (lines ++ more) (answers ++ others) w
 run_more t patience earlier lines more answers others v u w run played looked =
     let n = v.numbers.sectors in
@@ -110,7 +109,7 @@ run_begins t patience v seen mine programs = record {
 }
 
 -- lines with fewer answers, or with more than they need
-told_take : (lines : List Command) (answers : List Answer) → told lines (take (length lines) answers) ≡ told lines answers
+told_take : (lines : List Command) (answers : List Said) → told lines (take (length lines) answers) ≡ told lines answers
 told_take [] answers = refl
 told_take (c ∷ lines) [] = refl
 told_take (c ∷ lines) (a ∷ answers) = let rest = told_take lines answers in λ i. line c a ∷ rest i
@@ -132,9 +131,9 @@ own_lines t (c ∷ cs) =
     go false same rest = rest
 
 -- the workers have played the merged lines of the round
-module _ (hosts n patience : ℕ) (done cs : List Command) (rows others : ℕ → List Answer) (before played : ℕ → View) (plain : HaveNoMeeting cs)
+module _ (hosts n patience : ℕ) (done cs : List Command) (rows others : ℕ → List Said) (before played : ℕ → View) (plain : HaveNoMeeting cs)
     (sectors : (t : ℕ) → t < hosts → (before t).numbers.sectors ≡ n) (each : (t : ℕ) → t < hosts → WorkerRound t patience done cs (rows t) (others t) (before t) (played t)) where
-  abbrev part : ℕ → List Answer
+  abbrev part : ℕ → List Said
   part t = slice_range (others t) (line_count t done) (line_count t done + line_count t cs)
 
   lines_are : (t : ℕ) → t < hosts → lines_of worker_of t (merge cs (rows_after done others)) ≡ told (lines_for t cs) (part t)
@@ -180,7 +179,7 @@ pub record Next (done cs tail : List Command) (ends : List ℕ) : Type 0 where
   pub nobody : (t : ℕ) → lines_for t meeting ≡ []
   pub left : Left (length (done ++ (cs ++ meeting))) rest ends
   pub disjoint : All AreDisjointCommands (rounds_of (cs ++ tail)) → AreDisjointCommands cs × All AreDisjointCommands (rounds_of rest)
-  pub answered : (n : ℕ) (h : List Call) (rows : ℕ → List Answer) → AreAnswered n h (merge (done ++ cs) rows) → AreAnswered n h (merge (done ++ (cs ++ meeting)) rows)
+  pub answered : (n : ℕ) (h : List Call) (rows : ℕ → List Said) → AreAnswered n h (merge (done ++ cs) rows) → AreAnswered n h (merge (done ++ (cs ++ meeting)) rows)
 
 none_disjoint : All AreDisjointCommands (rounds_of [])
 none_disjoint = All-cons AreDisjointCommands [] [] (All-nil _) (All-nil AreDisjointCommands)

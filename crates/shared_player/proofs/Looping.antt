@@ -18,7 +18,7 @@ use Rattle.flash_rule.specs.Views.{caller}
 use Rattle.flash_table.specs.declared.pass.Pass.{Pass}
 use Rattle.flash_table.specs.Flash.{view_of, device, geometry_of, first_view}
 use Rattle.trace.specs.declared.commands.Command.{Command}
-use Rattle.lines.specs.declared.answer.Answer.{Answer}
+use Rattle.lines.specs.Lines.{Said}
 use Rattle.lines.specs.Playing.{Played, Plays, calls_done}
 use Rattle.playing.specs.Playable.{lines_at}
 use Rattle.volume.specs.declared.volume.Volume.{Volume}
@@ -98,17 +98,17 @@ module _ (trace done cs tail : List Command) (t patience end : ℕ) (p q b r : P
       ∙ (ap (lines_at (done ++ (cs ++ tail))) (seam_range (places_for t done) (places_from (length done) t cs) (places_from (length done + length cs) t tail)) ∙ lines_there t done cs tail)
 
   answers_are : r.answers.items ≡ b.answers.items
-  answers_are = ap (λ (x : Volume × List Command × List ℕ × List Answer × List ℕ × ℕ × ℕ). x.3) same
+  answers_are = ap (λ (x : Volume × List Command × List ℕ × List Said × List ℕ × ℕ × ℕ). x.3) same
 
   places_are : r.places.items ≡ p.places.items
-  places_are = ap (λ (x : Volume × List Command × List ℕ × List Answer × List ℕ × ℕ × ℕ). x.2) same ∙ (played.places ∙ turn.places)
+  places_are = ap (λ (x : Volume × List Command × List ℕ × List Said × List ℕ × ℕ × ℕ). x.2) same ∙ (played.places ∙ turn.places)
 
   pub cursor_on : r.to ≡ line_count t done + line_count t cs
-  cursor_on = ap (λ (x : Volume × List Command × List ℕ × List Answer × List ℕ × ℕ × ℕ). x.6) same ∙ (played.to ∙ to_is)
+  cursor_on = ap (λ (x : Volume × List Command × List ℕ × List Said × List ℕ × ℕ × ℕ). x.6) same ∙ (played.to ∙ to_is)
 
   pub dealt_on : IsDealt trace t r
   dealt_on = record {
-    commands = ap (λ (x : Volume × List Command × List ℕ × List Answer × List ℕ × ℕ × ℕ). x.1) same ∙ (played.commands ∙ (turn.commands ∙ dealt.commands));
+    commands = ap (λ (x : Volume × List Command × List ℕ × List Said × List ℕ × ℕ × ℕ). x.1) same ∙ (played.commands ∙ (turn.commands ∙ dealt.commands));
     places = places_are ∙ dealt.places;
   }
 
@@ -119,11 +119,11 @@ module _ (trace done cs tail : List Command) (t patience end : ℕ) (p q b r : P
       let count : length r.answers.items ≡ length p.places.items = r.able.count ∙ ap (λ (l : List ℕ). length l) places_are in
       let told = played.played t (role_turned end t p q turn role) in
       let lasts : round_answers b ≡ slice_range r.answers.items (line_count t done) (line_count t done + line_count t cs) =
-      ap (λ (x : List Answer × ℕ × ℕ). slice_range x.0 x.1 x.2) (λ i. (sym answers_are i, (played.from ∙ from_is) i, (played.to ∙ to_is) i)) in
+      ap (λ (x : List Said × ℕ × ℕ). slice_range x.0 x.1 x.2) (λ i. (sym answers_are i, (played.from ∙ from_is) i, (played.to ∙ to_is) i)) in
       record {
         kept = sym (subst (λ k. take k r.answers.items ≡ take k p.answers.items) from_is kept);
         enough = (let to = to_is in omega (arith, within, count));
-        played = subst (λ (x : View × List Command × List Answer). Played t patience x.0 x.1 x.2 (view_of b.pass)) (λ i. (ap view_of turn.pass i, lines_are i, lasts i)) told;
+        played = subst (λ (x : View × List Command × List Said). Played t patience x.0 x.1 x.2 (view_of b.pass)) (λ i. (ap view_of turn.pass i, lines_are i, lasts i)) told;
       }
 
 -- what the post at a number knows and has answered
@@ -253,7 +253,7 @@ module _ (volume : Volume) (patience : ℕ) (trace : List Command) (begun : List
         let w =
         worker_round trace state.done cs first.tail t patience end (get_or posts t p) (get_or round.turned t p) (get_or round.between t p) (get_or back t p) whole_now first.last (state.dealt t p low) (state.cursor t p low)
         (round.turn.each t p p low) played_here rest_here (role_at t p low) in
-        subst (λ (y : List Answer × List Answer × View × View). WorkerRound t patience state.done cs y.0 y.1 y.2 y.3)
+        subst (λ (y : List Said × List Said × View × View). WorkerRound t patience state.done cs y.0 y.1 y.2 y.3)
         (λ i. (sym (row_at posts t p low) i, sym (row_at back t p (omega (arith, long_back))) i, sym (view_at volume posts t p low) i, sym (view_at volume round.between t p (omega (arith, long_between))) i)) w
 
     sectors_here : (before t).numbers.sectors ≡ n
@@ -291,7 +291,7 @@ module _ (volume : Volume) (patience : ℕ) (trace : List Command) (begun : List
       let b = line_count t state.done + line_count t cs in
       let looked : HasLooked (played t) (after t) = round.met.looked t (omega (arith, count_met)) in
       let more = run_more t patience (denied_by volume begun t) (lines_for t state.done) (lines_for t cs) (take a (rows_of posts t)) (slice_range (rows_of back t) a b) (before t) (played t) (after t) (state.each t low) w.played looked in
-      subst (λ (y : List Command × List Answer). HasRun t patience (denied_by volume begun t) y.0 y.1 (after t)) (λ i. (sym (lines_more t) i, answers_more t low i)) more
+      subst (λ (y : List Command × List Said). HasRun t patience (denied_by volume begun t) y.0 y.1 (after t)) (λ i. (sym (lines_more t) i, answers_more t low i)) more
 
   plays_here : (t : ℕ) → t < length posts
       → Plays n t [] (lines_for t (state.done ++ (cs ++ next.meeting))) (take (line_count t (state.done ++ (cs ++ next.meeting))) (rows_of back t)) round.met.history
@@ -300,7 +300,7 @@ module _ (volume : Volume) (patience : ℕ) (trace : List Command) (begun : List
       let b = line_count t state.done + line_count t cs in
       let plays =
       plays_to t patience (denied_by volume begun t) (lines_for t state.done) (lines_for t cs) (take a (rows_of posts t)) (slice_range (rows_of back t) a b) (before t) (played t) round.met.history (state.each t low) (worker_here t x low).played (swept.brought t low) in
-      subst (λ (y : ℕ × List Command × List Answer). Plays y.0 t [] y.1 y.2 round.met.history) (λ i. (sectors_here t x low i, sym (lines_more t) i, answers_more t low i)) plays
+      subst (λ (y : ℕ × List Command × List Said). Plays y.0 t [] y.1 y.2 round.met.history) (λ i. (sectors_here t x low i, sym (lines_more t) i, answers_more t low i)) plays
 
   told_here : AreAtOneHistory n (length back) (state.done ++ (cs ++ next.meeting)) (λ t. take (line_count t (state.done ++ (cs ++ next.meeting))) (rows_of back t))
   told_here =
@@ -366,7 +366,7 @@ none_past hosts t (c ∷ cs) all past =
 -- the answers of a post that has its worker's lines are no more than these
 answers_end : (trace : List Command) (posts : List Post) (t : ℕ) (p : Post) → t < length posts → IsDealt trace t (get_or posts t p) → take (line_count t trace) (rows_of posts t) ≡ rows_of posts t
 answers_end trace posts t p low dealt =
-    let a = ap (λ (l : List Answer). length l) (row_at posts t p low) in
+    let a = ap (λ (l : List Said). length l) (row_at posts t p low) in
     let b = (get_or posts t p).able.count in
     let c = ap (λ (l : List ℕ). length l) dealt.places in
     let d = count_places 0 t trace in
@@ -383,7 +383,7 @@ state_ends volume patience trace begun posts manned state =
           dite (dec_lt t (length posts))
           (λ low.
           let post = get_or posts t (some_post posts manned.some) in
-          let a = ap (λ (l : List Answer). length l) (row_at posts t (some_post posts manned.some) low) in
+          let a = ap (λ (l : List Said). length l) (row_at posts t (some_post posts manned.some) low) in
           let b = post.able.count in
           let c = ap (λ (l : List ℕ). length l) (state.dealt t (some_post posts manned.some) low).places in
           let d = count_places 0 t trace in omega arith)

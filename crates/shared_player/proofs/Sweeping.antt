@@ -12,7 +12,7 @@ use Rattle.flash_table.specs.Flash.{view_of, device, geometry_of, first_view}
 use Rattle.host.specs.Ready.{IsReady}
 use Rattle.host.specs.Told.{MetTold}
 use Rattle.trace.specs.declared.commands.Command.{Command}
-use Rattle.lines.specs.declared.answer.Answer.{Answer}
+use Rattle.lines.specs.Lines.{Said}
 use Rattle.volume.specs.declared.volume.Volume.{Volume}
 use Rattle.volume.specs.Closing.{HasLooked}
 use Rattle.volume.specs.Gathering.{MetEach}
@@ -111,12 +111,12 @@ all_ready volume posts at = All-map (IsReady (flash_of volume)) (λ (p : Post). 
 
 -- a post whose rest is that of another one is of the same volume
 pub same_at : (volume : Volume) (p q : Post) → rest_of q ≡ rest_of p → IsAt volume p → IsAt volume q
-same_at volume p q same at = ap (λ (r : Volume × List Command × List ℕ × List Answer × List ℕ × ℕ × ℕ). r.0) same ∙ at
+same_at volume p q same at = ap (λ (r : Volume × List Command × List ℕ × List Said × List ℕ × ℕ × ℕ). r.0) same ∙ at
 
 pub all_same_at : (volume : Volume) (posts others : List Post) → map rest_of others ≡ map rest_of posts → All (IsAt volume) posts → All (IsAt volume) others
 all_same_at volume posts others same at =
     λ k d low.
-    let long = ap (length {A = Volume × List Command × List ℕ × List Answer × List ℕ × ℕ × ℕ}) same in
+    let long = ap (length {A = Volume × List Command × List ℕ × List Said × List ℕ × ℕ × ℕ}) same in
     let inside : k < length posts = omega (arith, long, length-map others rest_of, length-map posts rest_of) in
     let e : rest_of (get_or others k d) ≡ rest_of (get_or posts k d) =
     sym (get_or-map rest_of others k d (rest_of d) low) ∙ (ap (λ l. get_or l k (rest_of d)) same ∙ get_or-map rest_of posts k d (rest_of d) inside) in

@@ -12,7 +12,7 @@ use Rattle.flash_rule.specs.declared.view.View.{View}
 use Rattle.flash_table.specs.declared.pass.Pass.{Pass}
 use Rattle.flash_table.specs.Flash.{view_of, geometry_of}
 use Rattle.trace.specs.declared.commands.Command.{Command}
-use Rattle.lines.specs.declared.answer.Answer.{Answer}
+use Rattle.lines.specs.Lines.{Said}
 use Rattle.volume.specs.declared.volume.Volume.{Volume}
 use Rattle.volume.specs.Volume.{flash_of}
 use Rattle.shared_player.specs.declared.post.Post.{Post}
@@ -108,7 +108,7 @@ module _ (volume : Volume) where
 
   pub rests_long : (ps qs : List Post) → map rest_of qs ≡ map rest_of ps → length qs ≡ length ps
   rests_long ps qs same =
-      let long = ap (length {A = Volume × List Command × List ℕ × List Answer × List ℕ × ℕ × ℕ}) same in omega (arith, long, length-map ps rest_of, length-map qs rest_of)
+      let long = ap (length {A = Volume × List Command × List ℕ × List Said × List ℕ × ℕ × ℕ}) same in omega (arith, long, length-map ps rest_of, length-map qs rest_of)
 
   pub manned_met : (ps qs : List Post) → AreManned volume ps → map rest_of qs ≡ map rest_of ps → AreSeated (passes_of qs) → AreManned volume qs
   manned_met ps qs m same seated =

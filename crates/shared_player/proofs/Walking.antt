@@ -8,7 +8,7 @@ use Rattle.std.proofs.lemmas.List.Elements.{All-nil, All-cons, All-head, All-tai
 use mathlib.Core.Logic.{dite}
 use native.Mathlib.Decide.{dec_lt}
 use Rattle.trace.specs.declared.commands.Command.{Command}
-use Rattle.lines.specs.declared.answer.Answer.{Answer}
+use Rattle.lines.specs.Lines.{Said}
 use Rattle.playing.specs.Playable.{lines_at, no_line}
 use Rattle.rounds.specs.Merging.{is_meet, is_line_of, lines_for, line_count, HaveNoMeeting, AreDisjointCommands, rounds_of, in_first_round}
 use Rattle.rounds.specs.Plans.{places_from, places_for, meetings_from, ends_of}

@@ -8,7 +8,7 @@ use Rattle.flash_rule.specs.declared.view.View.{View}
 use Rattle.flash_table.specs.declared.pass.Pass.{Pass}
 use Rattle.flash_table.specs.Flash.{view_of, device, first_view}
 use Rattle.trace.specs.declared.commands.Command.{Command}
-use Rattle.lines.specs.declared.answer.Answer.{Answer}
+use Rattle.lines.specs.Lines.{Said}
 use Rattle.volume.specs.Closing.{HasLooked}
 use Rattle.volume.specs.declared.volume.Volume.{Volume}
 use Rattle.volume.specs.Volume.{flash_of}
@@ -24,7 +24,7 @@ abbrev pub passes_of : List Post → List Pass
 passes_of posts = map (λ p. p.pass) posts
 
 -- a post without its pass
-abbrev pub rest_of : Post → Volume × List Command × List ℕ × List Answer × List ℕ × ℕ × ℕ
+abbrev pub rest_of : Post → Volume × List Command × List ℕ × List Said × List ℕ × ℕ × ℕ
 rest_of p = (arc_value p.volume, arc_value p.commands, p.places.items, p.answers.items, p.buffer.items, p.from, p.to)
 
 -- what the passes know, by their numbers

@@ -6,7 +6,7 @@ use Rattle.flash_rule.specs.declared.facts.Name.TheVariants.{Pass as APass}
 use Rattle.flash_rule.specs.declared.facts.Role.TheVariants.{Player}
 use Rattle.flash_table.specs.Flash.{view_of}
 use Rattle.trace.specs.declared.commands.Command.{Command}
-use Rattle.lines.specs.declared.answer.Answer.{Answer}
+use Rattle.lines.specs.Lines.{Said}
 use Rattle.lines.specs.Playing.{Played}
 use Rattle.playing.specs.Playable.{lines_at}
 use Rattle.shared_player.specs.declared.post.Post.{Post}
@@ -16,7 +16,7 @@ abbrev pub round_places : Post → List ℕ
 round_places p = slice_range p.places.items p.from p.to
 
 -- the answers of these lines
-abbrev pub round_answers : Post → List Answer
+abbrev pub round_answers : Post → List Said
 round_answers p = slice_range p.answers.items p.from p.to
 
 -- the post's lines of the round

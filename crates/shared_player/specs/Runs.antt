@@ -5,7 +5,7 @@ use Rattle.geometry.specs.Geometry.{hosts_of, sectors_of}
 use Rattle.flash_rule.specs.declared.view.View.{View}
 use Rattle.flash_table.specs.Flash.{geometry_of}
 use Rattle.trace.specs.declared.commands.Command.{Command}
-use Rattle.lines.specs.declared.answer.Answer.{Answer}
+use Rattle.lines.specs.Lines.{Said}
 use Rattle.lines.specs.Playing.{Plays, LinesFound, calls_done, writes_done}
 use Rattle.volume.specs.declared.volume.Volume.{Volume}
 use Rattle.volume.specs.Volume.{flash_of}
@@ -54,11 +54,11 @@ abbrev pub IsIdle : Post → Type 0
 IsIdle p = p.to ≤ p.from
 
 -- the answers of a post's lines
-abbrev pub answers_of : Post → List Answer
+abbrev pub answers_of : Post → List Said
 answers_of p = p.answers.items
 
 -- the answers of each worker's lines, by the worker's number
-abbrev pub rows_of : List Post → ℕ → List Answer
+abbrev pub rows_of : List Post → ℕ → List Said
 rows_of posts t = slice_index_or (map answers_of posts) t []
 
 -- a post has its worker's lines of this trace
@@ -81,7 +81,7 @@ denied_by volume posts t = (views_of volume (passes_of posts) t).denied
 
 -- What a worker has done in a run, by what its pass knows: it has answered its lines one after another, each rightly at a history, has made just their calls, has
 -- programmed a page for each write that was done, and has found taken, behind what it had found so before, the blocks of the tries of each line, in order
-pub record HasRun (t patience : ℕ) (earlier : List ℕ) (lines : List Command) (answers : List Answer) (v : View) : Type 0 where
+pub record HasRun (t patience : ℕ) (earlier : List ℕ) (lines : List Command) (answers : List Said) (v : View) : Type 0 where
   pub plays : Plays v.numbers.sectors t [] lines answers v.seen
   pub mine : v.mine ≡ calls_done t lines answers
   pub programmed : length v.programs ≡ writes_done lines answers

@@ -18,9 +18,8 @@ use Rattle.trace.specs.declared.commands.Op.{Op}
 use Rattle.trace.specs.declared.commands.Op.TheVariants as op
 use Rattle.answers.specs.Delivery.{AppendsBeginning, AppendsPart, AppendsText}
 use Rattle.answers.specs.Playable.{IsPlayable}
-use Rattle.lines.specs.Lines.{calls_made, kind_of, IsRight}
 use Rattle.lines.specs.Playing.{Plays}
-use Rattle.lines.specs.declared.answer.Answer.{Answer}
+use Rattle.lines.specs.Lines.{Said, calls_made, kind_of, IsRight}
 use Rattle.lines.specs.declared.answer.Kind.{Kind}
 use Rattle.lines.specs.declared.answer.Kind.TheVariants as kind
 use Rattle.rounds.specs.Merging.{is_meet, line_count, lines_for, merge, HaveAnswers}
@@ -31,7 +30,7 @@ use Rattle.shared_player.specs.Commands.{ArePlayed}
 use Rattle.shared_run.specs.Texts.{IsTextOf}
 
 -- each line that was played has one answer
-plays_long : (n t : ℕ) (seen : List Call) (lines : List Command) (answers : List Answer) (last : List Call) → Plays n t seen lines answers last → length lines ≡ length answers
+plays_long : (n t : ℕ) (seen : List Call) (lines : List Command) (answers : List Said) (last : List Call) → Plays n t seen lines answers last → length lines ≡ length answers
 plays_long n t seen [] [] last plays = refl
 plays_long n t seen [] (a ∷ answers) last plays = absurd plays
 plays_long n t seen (c ∷ lines) [] last plays = absurd plays
@@ -51,14 +50,14 @@ page_of_read op.Trim x k page right is = absurd (no_page x (sym right ∙ is))
 page_of_read op.Meet x k page right is = absurd (cc)
 
 -- an answer with a page is that of a read
-answer_of_read : (n t : ℕ) (seen : List Call) (lines : List Command) (answers : List Answer) (last : List Call) (p : ℕ) (a : Answer) → Plays n t seen lines answers last → slice_get answers p ≡ Some a → a.kind ≡ kind.Page
+answer_of_read : (n t : ℕ) (seen : List Call) (lines : List Command) (answers : List Said) (last : List Call) (p : ℕ) (a : Said) → Plays n t seen lines answers last → slice_get answers p ≡ Some a → a.kind ≡ kind.Page
     → (c : Command) × (slice_get lines p ≡ Some c) × (c.op ≡ op.Read)
 answer_of_read n t seen [] [] last p a plays at is = absurd (cc)
 answer_of_read n t seen [] (b ∷ answers) last p a plays at is = absurd plays
 answer_of_read n t seen (c ∷ lines) [] last p a plays at is = absurd plays
 answer_of_read n t seen (c ∷ lines) (b ∷ answers) last zero a plays at is =
     let same : b ≡ a = cc in
-    (c, refl, page_of_read c.op _ b.kind b.page.items plays.2 (ap (λ (x : Answer). x.kind) same ∙ is))
+    (c, refl, page_of_read c.op _ b.kind b.page plays.2 (ap (λ (x : Said). x.kind) same ∙ is))
 answer_of_read n t seen (c ∷ lines) (b ∷ answers) last (suc p) a plays at is = answer_of_read n t (plays.0 ++ calls_made t c b) lines answers last p a plays.3 at is
 
 -- a worker that isn't there has no line
@@ -82,7 +81,7 @@ workers_there geo cs some all k c low = subst (λ n. (get_or cs k c).worker < n)
     shared n some = ap (λ b. if b then 500 else n) (ne_eqb n 0 (λ none. omega arith))
 
 -- so each line has an answer
-pub enough_answers : (geo : Geometry) (patience : ℕ) (cs : List Command) (rows : ℕ → List Answer) → 0 < hosts_of geo → All (IsPlayable geo) cs → ArePlayed geo patience cs rows → HaveAnswers rows cs
+pub enough_answers : (geo : Geometry) (patience : ℕ) (cs : List Command) (rows : ℕ → List Said) → 0 < hosts_of geo → All (IsPlayable geo) cs → ArePlayed geo patience cs rows → HaveAnswers rows cs
 enough_answers geo patience cs rows some playable played t =
     dite (dec_lt t (hosts_of geo))
     (λ low. let long = plays_long (sectors_of geo) t [] (lines_for t cs) (rows t) played.told.history (played.told.plays t low) in omega (arith, long))
@@ -97,7 +96,7 @@ whole_pages geo patience cs rows digits all same played t row low p a within is 
     let at : slice_get (answers_by rows t) p ≡ Some found = ap (λ l. slice_get l p) own ∙ slice_get-get_or here.items p a within in
     let there : t < hosts_of geo = omega arith in
     let line = answer_of_read (sectors_of geo) t [] (lines_for t cs) (answers_by rows t) played.told.history p found (played.told.plays t there) at is in
-    let long : length found.page.items ≡ page_bytes_of geo = played.room t there p line.0 found line.1 at line.2 in
+    let long : length found.page ≡ page_bytes_of geo = played.room t there p line.0 found line.1 at line.2 in
     omega (arith, same, long)
 
 -- what was played, under other names for the commands and the rows
@@ -109,7 +108,7 @@ renamed geo patience cs were rows stood same same_rows played =
 pub renamed_meaning : (geo : Geometry) (cs were : List Command) (input : Option (List ℕ)) → cs ≡ were → IfSome input (λ bytes. commands_of bytes geo ≡ Ok were) → IfSome input (λ bytes. commands_of bytes geo ≡ Ok cs)
 renamed_meaning geo cs were input same meaning = subst (λ l. IfSome input (λ bytes. commands_of bytes geo ≡ Ok l)) (sym same) meaning
 
-module _ (geo : Geometry) (patience : ℕ) (cs : List Command) (rows : ℕ → List Answer) (played : ArePlayed geo patience cs rows) where
+module _ (geo : Geometry) (patience : ℕ) (cs : List Command) (rows : ℕ → List Said) (played : ArePlayed geo patience cs rows) where
   -- the text of what was played is a text of the bytes that mean these commands
   is_text : (bytes : List ℕ) → commands_of bytes geo ≡ Ok cs → IsTextOf patience geo bytes (text_of cs rows)
   is_text bytes meaning = record {

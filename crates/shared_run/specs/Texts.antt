@@ -5,7 +5,7 @@ use Rattle.geometry.specs.declared.geometry.Geometry.{Geometry}
 use Rattle.trace.specs.Trace.{commands_of}
 use Rattle.trace.specs.declared.commands.Command.{Command}
 use Rattle.answers.specs.Answers.{end_text}
-use Rattle.lines.specs.declared.answer.Answer.{Answer}
+use Rattle.lines.specs.Lines.{Said}
 use Rattle.lines.specs.Playing.{writes_done}
 use Rattle.rounds.specs.Merging.{lines_for, IsDisjointTrace}
 use Rattle.rounds.specs.Rows.{AreAtOneHistory}
@@ -24,7 +24,7 @@ pub record IsWholeTextOfSome (n : ℕ) (commands : List Command) (text : List �
 pub record IsTextOf (patience : ℕ) (geo : Geometry) (bytes text : List ℕ) : Type 0 where
   pub commands : List Command
   pub meaning : commands_of bytes geo ≡ Ok commands
-  pub rows : ℕ → List Answer
+  pub rows : ℕ → List Said
   pub lines : text ≡ text_of commands rows
   pub told : AreAtOneHistory (sectors_of geo) (hosts_of geo) commands rows
   pub untried : patience ≡ 0 → (t : ℕ) → t < hosts_of geo → writes_done (lines_for t commands) (rows t) ≡ 0

@@ -1,9 +1,12 @@
+use Rattle.std.proofs.Common.{◌≡◌, length, map, take}
 use Rattle.std.specs.Prelude.{All}
 use Rattle.flash_table.specs.Flash.{geometry_of}
 use Rattle.volume.specs.Volume.{flash_of}
+use Rattle.lines.specs.Lines.{said}
 use Rattle.playing.specs.Playable.{HasPage}
 use Rattle.playing.proofs.Lines.{Playing}
 use Rattle.playing.proofs.plays.play.Given as goal
 
 abbrev pub invariant-loop-i : goal.invariant-loop-i
-invariant-loop-i g l = Playing l.volume l.patience l.fn.pass l.lines l.i l.pass l.answers × All (HasPage (geometry_of (flash_of l.volume))) l.answers
+invariant-loop-i g l =
+    Playing l.volume l.patience l.fn.pass l.lines l.i l.pass (map said (take l.i l.answers)) × (length l.answers ≡ length l.lines) × All (HasPage (geometry_of (flash_of l.volume))) l.answers

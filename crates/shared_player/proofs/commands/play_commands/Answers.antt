@@ -2,7 +2,7 @@ use Rattle.std.proofs.Common.{◌≡◌, ℕ, List, length, sym, ap, ◌∙◌, 
 use Rattle.std.specs.Arc.{arc_value}
 use Rattle.std.proofs.lemmas.List.{length-map}
 use Rattle.geometry.specs.Geometry.{hosts_of}
-use Rattle.lines.specs.declared.answer.Answer.{Answer}
+use Rattle.lines.specs.Lines.{Said}
 use Rattle.trace.specs.declared.commands.Command.{Command}
 use Rattle.volume.specs.declared.volume.Volume.{Volume}
 use Rattle.volume.specs.Volume.{flash_of}
@@ -17,7 +17,7 @@ pub returns-clause-rows : goal.returns-clause-rows
 returns-clause-rows g c =
     let geometry : geometry_of (flash_of c.deref-2.result.now) ≡ c.args.geometry.now = ap (λ (v : Volume). geometry_of (flash_of v)) c.deref-2.ensures ∙ c.in_ok-volume.ensures.geometry in
     let all = c.in_ok-crew.ensures.manned.all ∙ ap hosts_of geometry in
-    let are = ap (length {A = List Answer}) c.hand_out.ensures in
+    let are = ap (length {A = List Said}) c.hand_out.ensures in
     omega (arith, length-map c.hand_out.new.rows.items answers_in, length-map c.in_ok-crew.crew.posts.items answers_of)
 
 pub returns-clause-played : goal.returns-clause-played

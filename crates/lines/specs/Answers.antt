@@ -1,0 +1,47 @@
+-- Answers side by side: what they tell, and the room for more.
+use Rattle.std.specs.Prelude.{◌≡◌, ℕ, ◌+◌, ◌≤◌, List, [], ◌∷◌, length, take, vec_capacity}
+use Rattle.trace.specs.declared.commands.Command.{Command}
+use Rattle.trace.specs.declared.commands.Op.{Op}
+use Rattle.trace.specs.declared.commands.Op.TheVariants as op
+use Rattle.lines.specs.Lines.{Said}
+use Rattle.lines.specs.Pages.{bytes_in, said_from}
+use Rattle.lines.specs.declared.answers.Answers.{Answers}
+use Rattle.lines.specs.declared.answers.Cursor.{Cursor}
+
+-- all answers, in order
+abbrev pub said_in : Answers → List Said
+said_in answers = said_from answers.page_bytes answers.kinds.items answers.pages.items
+
+-- of how many bytes their pages are
+abbrev pub page_size_of : Answers → ℕ
+page_size_of answers = answers.page_bytes
+
+-- there is room for so many answers more, with so many bytes
+pub record HasSpace (answers : Answers) (lines bytes : ℕ) : Type 0 where
+  pub kinds : length answers.kinds.items + lines ≤ vec_capacity answers.kinds
+  pub pages : length answers.pages.items + bytes ≤ vec_capacity answers.pages
+
+-- how many bytes the answer of an op can have
+abbrev pub space_for : ℕ → Op → ℕ
+space_for n op.Read = n
+space_for n op.Write = 0
+space_for n op.New = 0
+space_for n op.Trim = 0
+space_for n op.Meet = 0
+
+-- and how many those of lines can have
+abbrev pub space_of : ℕ → List Command → ℕ
+space_of n [] = 0
+space_of n (c ∷ lines) = space_for n c.op + space_of n lines
+
+-- there is room for the answers of these lines
+abbrev pub HasSpaceFor : Answers → List Command → Type 0
+HasSpaceFor answers lines = HasSpace answers (length lines) (space_of (page_size_of answers) lines)
+
+-- the cursor stands at one of the answers, or behind them all: its page begins behind those of the answers before it
+abbrev pub IsAt : Answers → Cursor → Type 0
+IsAt answers cursor = cursor.page ≡ bytes_in answers.page_bytes (take cursor.line answers.kinds.items)
+
+-- the number of the answer at which it stands
+abbrev pub place_of : Cursor → ℕ
+place_of cursor = cursor.line
