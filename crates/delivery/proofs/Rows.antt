@@ -1,8 +1,7 @@
 -- The next answer of each worker, where so many commands have theirs.
-use Rattle.std.proofs.Common.{◌≡◌, ℕ, ◌+◌, ◌<◌, All, List, [], ◌∷◌, ◌++◌, Bool, true, false, Option, None, Some, zero, suc, length, get_or, take, drop, refl, sym, ap, ◌∙◌, subst, arith, eq-eqb, ne_eqb}
-use Rattle.std.specs.Prelude.{slice_get, slice_set, if◌then◌else◌, not, ◌&&◌, ◌==◌, Vec}
-use Rattle.std.specs.Global.{Global}
-use Rattle.std.proofs.lemmas.List.{get_or-map, get_or-set_same, get_or-set_other, length-append, length-set, take-append-drop}
+use Rattle.std.proofs.Common.{◌≡◌, ℕ, ◌+◌, ◌*◌, ◌<◌, All, List, [], ◌∷◌, ◌++◌, Bool, true, false, Option, None, Some, zero, suc, length, map, replicate, get_or, take, drop, refl, sym, ap, ◌∙◌, subst, arith, eq-eqb, ne_eqb}
+use Rattle.std.specs.Prelude.{slice_get, slice_set, if◌then◌else◌, not, ◌&&◌, ◌==◌}
+use Rattle.std.proofs.lemmas.List.{get_or-map, get_or-replicate, get_or_default, get_or-set_same, get_or-set_other, length-append, length-map, length-replicate, length-set, take-append-drop}
 use Rattle.std.proofs.Math.Seq.{take-append_seam}
 use Rattle.std.proofs.lemmas.List.Elements.{filter-append}
 use Rattle.std.proofs.lemmas.Option.{slice_get_read, slice_get_within}
@@ -13,22 +12,24 @@ use Rattle.lines.specs.Lines.{Said}
 use Rattle.rounds.specs.Merging.{is_meet, is_line_of, line_count, lines_for, next_of, rows_after, HaveAnswers}
 use Rattle.rounds.proofs.Merging.{own_line}
 use Rattle.rounds.proofs.Planning.{at_place, commands_more}
-use Rattle.rounds.specs.Rows.{answers_by, answers_in}
+use Rattle.rounds.specs.Rows.{answers_by}
+use Rattle.lines.specs.Answers.{first_place, page_size_of, place_of, said_in, IsAt}
+use Rattle.lines.specs.declared.answer.Kind.TheVariants as kind
+use Rattle.lines.specs.declared.answers.Answers.{Answers}
+use Rattle.lines.specs.declared.answers.Cursor.{Cursor}
+use Rattle.lines.proofs.Pages.{said_whole}
+use Rattle.delivery.specs.Delivering.{AreAt, HasDigits, passed_in}
 
 -- the row of a worker
-pub row_is : (rows : List (Vec Answer Global)) (w : ℕ) (row : Vec Answer Global) → row ≡ get_or rows w row → w < length rows → answers_by rows w ≡ row.items
-row_is rows w row is low = get_or-map answers_in rows w row [] low ∙ ap answers_in (sym is)
-
--- the answer at a place of it
-pub answer_is : (rows : List (Vec Answer Global)) (w p : ℕ) (row : Vec Answer Global) (a : Said) → row ≡ get_or rows w row → w < length rows → p < length row.items → a ≡ get_or row.items p a → Some a ≡ slice_get (answers_by rows w) p
-answer_is rows w p row a is low below at = sym (ap (λ l. slice_get l p) (row_is rows w row is low) ∙ slice_get_read row.items (length row.items) p a refl below at)
+pub row_is : (rows : List Answers) (w : ℕ) (row : Answers) → row ≡ get_or rows w row → w < length rows → answers_by rows w ≡ said_in row
+row_is rows w row is low = get_or-map said_in rows w row [] low ∙ ap said_in (sym is)
 
 -- what was lent whole and came back
-pub lent : (n : ℕ) (new old : List ℕ) → length new ≡ n → take n (new ++ old) ≡ new
+pub lent : {X : Type 0} (n : ℕ) (new old : List X) → length new ≡ n → take n (new ++ old) ≡ new
 lent n new old same = ap (λ k. take k (new ++ old)) (sym same) ∙ take-append_seam new old
 
 -- a worker with an answer has a row
-pub row_there : (rows : List (Vec Answer Global)) (w p : ℕ) → p < length (answers_by rows w) → w < length rows
+pub row_there : (rows : List Answers) (w p : ℕ) → p < length (answers_by rows w) → w < length rows
 row_there [] w p below = absurd (omega arith)
 row_there (r ∷ rows) zero p below = omega arith
 row_there (r ∷ rows) (suc w) p below =
@@ -36,19 +37,19 @@ row_there (r ∷ rows) (suc w) p below =
     omega arith
 
 -- what holds of all answers of all rows holds of one
-pub answer_holds : (P : Said → Type 0) (rows : List (Vec Answer Global)) (w p : ℕ) (a : Said) → All (λ row. All P (answers_in row)) rows → slice_get (answers_by rows w) p ≡ Some a → P a
+pub answer_holds : (P : Said → Type 0) (rows : List Answers) (w p : ℕ) (a : Said) → All (λ row. All P (said_in row)) rows → slice_get (answers_by rows w) p ≡ Some a → P a
 answer_holds P rows w p a all is =
     let low = row_there rows w p (slice_get_within (answers_by rows w) p a is) in
     go rows low all is
   where
-    go : (rs : List (Vec Answer Global)) → w < length rs → All (λ row. All P (answers_in row)) rs → slice_get (answers_by rs w) p ≡ Some a → P a
+    go : (rs : List Answers) → w < length rs → All (λ row. All P (said_in row)) rs → slice_get (answers_by rs w) p ≡ Some a → P a
     go [] low all is = absurd (cc)
     go (r ∷ rs) low all is =
-        let own : All P (answers_by (r ∷ rs) w) = subst (All P) (sym (get_or-map answers_in (r ∷ rs) w r [] low)) (all w r low) in
+        let own : All P (answers_by (r ∷ rs) w) = subst (All P) (sym (get_or-map said_in (r ∷ rs) w r [] low)) (all w r low) in
         at_place P (answers_by (r ∷ rs) w) p a own is
 
 -- and so of the answer of a command
-pub answer_found : (P : Said → Type 0) (rows : List (Vec Answer Global)) (c : Command) (p : ℕ) (a : Said) → All (λ row. All P (answers_in row)) rows → (if is_meet c.op then None else slice_get (answers_by rows c.worker) p) ≡ Some a → P a
+pub answer_found : (P : Said → Type 0) (rows : List Answers) (c : Command) (p : ℕ) (a : Said) → All (λ row. All P (said_in row)) rows → (if is_meet c.op then None else slice_get (answers_by rows c.worker) p) ≡ Some a → P a
 answer_found P rows c p a all is = go (is_meet c.op) is
   where
     go : (b : Bool) → (if b then None else slice_get (answers_by rows c.worker) p) ≡ Some a → P a
@@ -81,7 +82,7 @@ first_left (suc n) (x ∷ xs) = first_left n xs
 abbrev pub AreNext : List ℕ → ℕ → List Command → Type 0
 AreNext next i cs = (t : ℕ) → t < length next → get_or next t 0 ≡ line_count t (take i cs)
 
-module _ (rows : List (Vec Answer Global)) (next : List ℕ) (i : ℕ) (cs : List Command) (c : Command) (so_far : AreNext next i cs) (same : length next ≡ length rows) where
+module _ (rows : List Answers) (next : List ℕ) (i : ℕ) (cs : List Command) (c : Command) (so_far : AreNext next i cs) (same : length next ≡ length rows) where
   -- a line's worker has an answer for it
   pub next_there : HaveAnswers (answers_by rows) cs → drop i cs ≡ c ∷ drop (i + 1) cs → is_meet c.op ≡ false → get_or next c.worker 0 < length (answers_by rows c.worker)
   next_there enough at plain =
@@ -131,3 +132,33 @@ module _ (rows : List (Vec Answer Global)) (next : List ℕ) (i : ℕ) (cs : Lis
           let none : ◌≡◌ {A = ℕ} (if is_line_of t c then 1 else 0) 0 = ap (λ b. if b then 1 else 0) (ap (λ b. not b && (c.worker == t)) e ∙ ne_eqb w t other) in
           let kept = get_or-set_other next w t (get_or next w 0 + 1) 0 (λ e. other (sym e)) in
           ap (λ l. get_or l t 0) is ∙ (kept ∙ omega (arith, grown t, none)))
+
+-- a row that goes on by one place is still at it
+pub at_more : (rows : List Answers) (next : List Cursor) (w : ℕ) (row : Answers) (cursor : Cursor) → row ≡ get_or rows w row → w < length rows → AreAt rows next → IsAt row cursor → AreAt rows (slice_set next w cursor)
+at_more rows next w row cursor is low all here t other d below =
+    let long = length-set next w cursor in
+    dite (ℕ_discrete t w)
+    (λ same.
+    let last : get_or (slice_set next w cursor) w d ≡ cursor = get_or-set_same next w cursor d (subst (λ u. u < length next) same (omega (arith, long))) in
+    let there : get_or rows w other ≡ row = get_or_default rows w other row low ∙ sym is in
+    subst (λ u. IsAt (get_or rows u other) (get_or (slice_set next w cursor) u d)) (sym same)
+    (subst (λ (x : Answers × Cursor). IsAt x.0 x.1) (λ i. (sym there i, sym last i)) here))
+    (λ apart.
+    subst (IsAt (get_or rows t other)) (sym (get_or-set_other next w t cursor d apart)) (all t other d (omega (arith, long))))
+
+-- the pages of each row have so many digits
+pub all_digits : (n : ℕ) (rows : List Answers) → All (λ row. n ≡ 2 * page_size_of row) rows → All (λ row. All (HasDigits n) (said_in row)) rows
+all_digits n rows all k d low =
+    let row = get_or rows k d in
+    λ j e below is.
+    all k d low ∙ ap (λ m. 2 * m) (sym (said_whole row.page_bytes row.kinds.items row.pages.items row.whole j e below is))
+
+-- no row is passed at first
+pub none_passed : (next : List Cursor) (n : ℕ) (cs : List Command) → next ≡ replicate n first_place → AreNext (passed_in next) 0 cs
+none_passed next n cs is t low =
+    let inside : t < length next = omega (arith, length-map next place_of) in
+    get_or-map place_of next t first_place 0 inside ∙ ap place_of (ap (λ (l : List Cursor). get_or l t first_place) is ∙ get_or-replicate n t first_place first_place (subst (λ k. t < k) (ap (length {A = Cursor}) is ∙ length-replicate n first_place) inside))
+
+pub all_at : (rows : List Answers) (next : List Cursor) (n : ℕ) → next ≡ replicate n first_place → AreAt rows next
+all_at rows next n is t row cursor low =
+    subst (IsAt (get_or rows t row)) (sym (get_or_default next t cursor first_place low ∙ (ap (λ (l : List Cursor). get_or l t first_place) is ∙ get_or-replicate n t first_place first_place (subst (λ k. t < k) (ap (length {A = Cursor}) is ∙ length-replicate n first_place) low)))) refl

@@ -1,10 +1,15 @@
 -- The answers of a shared run, by its workers, and the text that is written of them.
-use Rattle.std.specs.Prelude.{◌≡◌, ℕ, ◌+◌, ◌*◌, List, ◌++◌, Option, None, if◌then◌else◌, length, slice_get, slice_index_or, slice_set, vec_len}
+use Rattle.std.specs.Borrow.{Bor}
+use Rattle.std.specs.Prelude.{◌≡◌, ℕ, ◌+◌, ◌*◌, ◌<◌, List, ◌++◌, Option, None, if◌then◌else◌, length, map, slice_get, slice_index_or, slice_set, vec_len}
 use Rattle.trace.specs.declared.commands.Command.{Command}
 use Rattle.answers.specs.Answers.{end_text, line_text}
 use Rattle.answers.specs.Lines.{page_digits_of}
 use Rattle.lines.specs.Lines.{Said}
+use Rattle.lines.specs.Answers.{place_of, IsAt}
+use Rattle.lines.specs.declared.answer.Kind.{Kind}
 use Rattle.lines.specs.declared.answer.Kind.TheVariants as kind
+use Rattle.lines.specs.declared.answers.Answers.{Answers}
+use Rattle.lines.specs.declared.answers.Cursor.{Cursor}
 use Rattle.rounds.specs.Merging.{answer_for, is_meet, merge}
 use Rattle.rounds.specs.Texts.{answer_text, lines_text}
 use Rattle.delivery.specs.declared.delivery.Delivery.{Delivery}
@@ -20,6 +25,18 @@ workers_in delivery = vec_len delivery.next
 -- for how many digits of a page there is room
 abbrev pub digits_in : Delivery → ℕ
 digits_in delivery = page_digits_of delivery.lines
+
+-- an answer as it stands among others
+abbrev pub said_as : Kind × Bor (List ℕ) → Said
+said_as answer = record { kind = answer.0; page = answer.1.now }
+
+-- how far each row was passed, by the places of the next answers
+abbrev pub passed_in : List Cursor → List ℕ
+passed_in next = map place_of next
+
+-- each of these places is one of its row
+abbrev pub AreAt : List Answers → List Cursor → Type 0
+AreAt rows next = (t : ℕ) (row : Answers) (cursor : Cursor) → t < length next → IsAt (slice_index_or rows t row) (slice_index_or next t cursor)
 
 -- a page that an answer tells has so many digits
 abbrev pub HasDigits : ℕ → Said → Type 0

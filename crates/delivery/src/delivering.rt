@@ -7,17 +7,18 @@ ghost use Rattle.answers.specs.Replies.{reply_text};
 ghost use Rattle.answers.specs.declared.line.TheConstants.{PIECE_BYTES};
 ghost use Rattle.answers.specs.declared.reply.Reply.TheVariants as replies;
 ghost use Rattle.answers.specs.Streams.{Sends, SendsBeginning, over};
-ghost use Rattle.lines.specs.declared.answer.Answer.{Answer};
+ghost use Rattle.lines.specs.Answers.{page_size_of};
+ghost use Rattle.lines.specs.Lines.{Said};
 ghost use Rattle.lines.specs.declared.answer.Kind.TheVariants as kinds;
 ghost use Rattle.rounds.specs.Merging.{is_meet, HaveAnswers};
 ghost use Rattle.rounds.specs.Texts.{answer_text};
-ghost use Rattle.rounds.specs.Rows.{answers_by, answers_in};
-ghost use Rattle.delivery.specs.Delivering.{HasDigits, digits_in, line_of, next_of, passed, text_of, workers_in};
+ghost use Rattle.rounds.specs.Rows.{answers_by};
+ghost use Rattle.delivery.specs.Delivering.{AreAt, HasDigits, digits_in, line_of, next_of, passed, passed_in, said_as, text_of, workers_in};
 
 use crate::delivery::Delivery;
 use answers::{Lines, OutputFailed, Reply};
 use geometry::Geometry;
-use lines::{Answer, Kind};
+use lines::{Answers, Cursor, Kind};
 use std::alloc::{AllocError, Global};
 use std::io::Write;
 use trace::{Command, Commands, Op, Watched};
@@ -29,7 +30,7 @@ impl Delivery {
         ensures digits { IfOk result (λ delivery. digits_in delivery ≡ 2 * page_bytes_of geometry.now) }
     {
         Ok(Delivery {
-            next: vec![in alloc; 0; geometry.hosts() as usize]?,
+            next: vec![in alloc; Cursor::new(); geometry.hosts() as usize]?,
             lines: Lines::new(alloc, geometry)?,
         })
     }
@@ -39,12 +40,12 @@ impl Delivery {
     pub fn deliver<W: Write>(
         self,
         commands: &Commands,
-        rows: &[Vec<Answer>],
+        rows: &[Answers],
         writer: &mut Watched<W>,
     ) -> Result<(), OutputFailed>
         requires workers { length rows.now ≡ workers_in self }
         requires answers { HaveAnswers (answers_by rows.now) commands.now }
-        requires pages { All (λ row. All (HasDigits (digits_in self)) (answers_in row)) rows.now }
+        requires pages { All (λ row. digits_in self ≡ 2 * page_size_of row) rows.now }
         ensures sent { OnOk result (Sends (over W.contents writer.old writer.new) (text_of commands.now (answers_by rows.now))) }
         ensures unfailed { OnOk result (failures_of writer.new ≡ failures_of writer.old) }
         ensures part { OnErr result (SendsBeginning (over W.contents writer.old writer.new) (text_of commands.now (answers_by rows.now))) }
@@ -69,39 +70,33 @@ impl Delivery {
 // The next answer of a command's worker, which is passed over; a meeting has none of its own.
 fn next_answer<'a>(
     command: &Command<'_>,
-    rows: &'a [Vec<Answer>],
-    next: &mut [usize],
-) -> Option<&'a Answer>
+    rows: &'a [Answers],
+    next: &mut [Cursor],
+) -> Option<(Kind, &'a [u8])>
     requires workers { length next.old ≡ length rows.now }
-    requires there { is_meet command.now.op ≡ false → slice_index_or next.old command.now.worker 0 < length (answers_by rows.now command.now.worker) }
-    ensures answer { option_map (λ a. a.now) result ≡ next_of (answers_by rows.now) next.old command.now }
-    ensures next { next.new ≡ passed next.old command.now }
+    requires there { is_meet command.now.op ≡ false → slice_index_or (passed_in next.old) command.now.worker 0 < length (answers_by rows.now command.now.worker) }
+    requires at { AreAt rows.now next.old }
+    ensures answer { option_map said_as result ≡ next_of (answers_by rows.now) (passed_in next.old) command.now }
+    ensures next { passed_in next.new ≡ passed (passed_in next.old) command.now }
+    ensures at { AreAt rows.now next.new }
 {
     if let Op::Meet = command.op {
         return None;
     }
     let worker = command.worker as usize;
-    let answer = &rows[worker][next[worker]];
-    next[worker] += 1;
-    Some(answer)
+    Some(rows[worker].next(&mut next[worker]))
 }
 
 // Adds the line of a command that was answered so.
-fn put_answer(lines: &mut Lines, line: u64, command: &Command<'_>, answer: Option<&Answer>)
-    requires pages { (a : Answer) → option_map (λ x. x.now) answer ≡ Some a → HasDigits (page_digits_of lines.old) a }
+fn put_answer(lines: &mut Lines, line: u64, command: &Command<'_>, answer: Option<(Kind, &[u8])>)
+    requires pages { (a : Said) → option_map said_as answer ≡ Some a → HasDigits (page_digits_of lines.old) a }
     requires room { length (waiting_of lines.old) ≤ PIECE_BYTES }
-    ensures waiting { waiting_of lines.new ≡ waiting_of lines.old ++ line_of line command.now (option_map (λ a. a.now) answer.entry) }
+    ensures waiting { waiting_of lines.new ≡ waiting_of lines.old ++ line_of line command.now (option_map said_as answer.entry) }
     ensures page { page_digits_of lines.new ≡ page_digits_of lines.old }
 {
     match answer {
         None => lines.answer(line, command.op, command.sector, Reply::Met, &[]),
-        Some(found) => lines.answer(
-            line,
-            command.op,
-            command.sector,
-            reply(found.kind),
-            &found.page,
-        ),
+        Some((kind, page)) => lines.answer(line, command.op, command.sector, reply(kind), page),
     }
 }
 

@@ -1,1 +1,2 @@
-mod Pages
+pub mod Pages
+pub mod Spaces

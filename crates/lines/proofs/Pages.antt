@@ -1,7 +1,8 @@
 -- Pages side by side: one more, and the one of an answer.
-use Rattle.std.proofs.Common.{◌≡◌, ℕ, zero, suc, ◌+◌, ◌≤◌, List, [], ◌∷◌, ◌++◌, Some, length, take, drop, refl, sym, ap, ◌∙◌, subst, arith, add-zero, length-append}
+use Rattle.std.proofs.Common.{◌≡◌, ℕ, zero, suc, ◌+◌, ◌≤◌, All, List, [], ◌∷◌, ◌++◌, Some, length, take, drop, refl, sym, ap, ◌∙◌, subst, arith, add-zero, length-append}
 use Rattle.std.specs.Prelude.{slice_get}
-use Rattle.std.proofs.lemmas.List.{drop-append-le, drop-drop, length-drop, take-append-le}
+use Rattle.std.proofs.lemmas.List.{drop-append-le, drop-drop, length-drop, length-take-le, take-append-le}
+use Rattle.std.proofs.lemmas.List.Elements.{All-nil, All-cons}
 use Rattle.lines.specs.Lines.{Said}
 use Rattle.lines.specs.Pages.{bytes_of, bytes_in, said_from}
 use Rattle.lines.specs.declared.answer.Kind.{Kind}
@@ -58,3 +59,13 @@ said_at n (j ∷ kinds) bytes zero k is =
 said_at n (j ∷ kinds) bytes (suc i) k is =
     said_at n kinds (drop (bytes_of n j) bytes) i k is
     ∙ ap (λ l. Some (record { kind = k; page = take (bytes_of n k) l })) (drop-drop (bytes_in n (take i kinds)) (bytes_of n j) bytes)
+
+-- a page that is told has its bytes
+pub said_whole : (n : ℕ) (kinds : List Kind) (bytes : List ℕ) → length bytes ≡ bytes_in n kinds → All (λ (a : Said). a.kind ≡ kind.Page → length a.page ≡ n) (said_from n kinds bytes)
+said_whole n [] bytes long = All-nil _
+said_whole n (k ∷ kinds) bytes long =
+    let fewer : length (drop (bytes_of n k) bytes) ≡ bytes_in n kinds = omega (arith, length-drop (bytes_of n k) bytes) in
+    let size : length (take (bytes_of n k) bytes) ≡ bytes_of n k = length-take-le (bytes_of n k) bytes (omega arith) in
+    let one : Said = record { kind = k; page = take (bytes_of n k) bytes } in
+    let first : one.kind ≡ kind.Page → length one.page ≡ n = λ is. size ∙ ap (bytes_of n) is in
+    All-cons (λ (a : Said). a.kind ≡ kind.Page → length a.page ≡ n) one (said_from n kinds (drop (bytes_of n k) bytes)) first (said_whole n kinds (drop (bytes_of n k) bytes) fewer)

@@ -42,6 +42,10 @@ HasSpaceFor answers lines = HasSpace answers (length lines) (space_of (page_size
 abbrev pub IsAt : Answers → Cursor → Type 0
 IsAt answers cursor = cursor.page ≡ bytes_in answers.page_bytes (take cursor.line answers.kinds.items)
 
+-- the place of the first answer
+abbrev pub first_place : Cursor
+first_place = record { line = 0; page = 0 }
+
 -- the number of the answer at which it stands
 abbrev pub place_of : Cursor → ℕ
 place_of cursor = cursor.line

@@ -1,7 +1,7 @@
 ghost use Rattle.std.specs.Prelude.{◌≡◌, ℕ, Some, [], ◌∷◌, ◌++◌, ◌+◌, ◌*◌, ◌<◌, IfOk, length, slice_get, take};
 ghost use Rattle.lines.specs.declared.answer.Kind.TheVariants as kinds;
 ghost use Rattle.lines.specs.Pages.{bytes_of};
-ghost use Rattle.lines.specs.Answers.{page_size_of, place_of, said_in, HasSpace, IsAt};
+ghost use Rattle.lines.specs.Answers.{first_place, page_size_of, place_of, said_in, HasSpace, IsAt};
 
 use crate::answer::Kind;
 use crate::answers::{Answers, Cursor};
@@ -10,8 +10,7 @@ use std::alloc::{AllocError, Global};
 impl Cursor {
     /// The place of the first answer.
     pub fn new() -> Cursor
-        ensures place { place_of result ≡ 0 }
-        ensures at { (answers : Answers) → IsAt answers result }
+        ensures { result ≡ first_place }
     {
         Cursor { line: 0, page: 0 }
     }

@@ -1,34 +1,60 @@
 -- A post that has played is able to play on.
-use Rattle.std.proofs.Common.{◌≡◌, ℕ, ◌-◌, ◌≤◌, List, length, sym, ap, ◌∙◌, subst}
+use Rattle.std.proofs.Common.{◌≡◌, ℕ, ◌+◌, ◌-◌, ◌≤◌, List, ◌++◌, drop, length, sym, ap, ◌∙◌, subst, arith, length-append}
+use Rattle.std.proofs.lemmas.List.{map-append}
 use Rattle.std.specs.Arc.{arc_value}
 use Rattle.std.specs.List.{slice_range}
 use Rattle.flash_table.specs.declared.pass.Pass.{Pass}
 use Rattle.flash_table.specs.Flash.{geometry_of}
 use Rattle.host.specs.Ready.{IsReady}
+use Rattle.trace.specs.declared.commands.Command.{Command}
 use Rattle.volume.specs.Volume.{flash_of}
-use Rattle.lines.specs.declared.answer.Answer.{Answer}
-use Rattle.playing.specs.Playable.{HaveRoom, lines_at}
+use Rattle.lines.specs.Answers.{page_size_of, said_in, space_of, HasSpaceFor}
+use Rattle.lines.proofs.Spaces.{space_of-append}
+use Rattle.lines.specs.declared.answers.Answers.{Answers}
+use Rattle.playing.specs.Playable.{HasAnswered, lines_at}
+use Rattle.playing.proofs.Lines.{count_lines}
 use Rattle.shared_player.specs.declared.post.Post.{Post}
 use Rattle.shared_player.specs.Able.{IsAble}
-use Rattle.shared_player.proofs.Cursors.{lines_range, room_back, back, back_long}
+use Rattle.shared_player.specs.Posts.{answered, round_lines, round_places}
+use Rattle.shared_player.proofs.Cursors.{length_range, parts_behind}
 
-pub within_answers : (post : Post) → post.to ≤ length post.answers.items
-within_answers post = subst (λ n. post.to ≤ n) (sym post.able.count) post.within
+-- as many answers more as the round has lines
+pub round_count : (post : Post) → length (round_lines post) ≡ post.to - answered post
+round_count post = count_lines (arc_value post.commands) (round_places post) ∙ length_range post.places.items (answered post) post.to post.order post.within
 
-pub able_again : (post : Post) (pass : Pass) (new : List Answer) → length new ≡ post.to - post.from → IsReady (flash_of (arc_value post.volume)) pass
-    → HaveRoom (geometry_of (flash_of (arc_value post.volume))) (lines_at (arc_value post.commands) (slice_range post.places.items post.from post.to)) new
-    → (answers : List Answer) → answers ≡ back post.answers.items new post.from post.to → (buffer : List ℕ) → length buffer ≡ length post.buffer.items
+pub answered_all : (post : Post) (answers : Answers) → HasAnswered (round_lines post) post.answers answers → length (said_in answers) ≡ post.to
+answered_all post answers told =
+    let count = told.count in
+    let order = post.order in omega (arith, round_count post)
+
+-- the lines that are not answered yet, in two parts
+pub lines_left : (post : Post) → lines_at (arc_value post.commands) (drop (answered post) post.places.items) ≡ round_lines post ++ lines_at (arc_value post.commands) (drop post.to post.places.items)
+lines_left post =
+    ap (lines_at (arc_value post.commands)) (parts_behind post.places.items (answered post) post.to post.order) ∙ map-append _ (round_places post) (drop post.to post.places.items)
+
+-- there is room for the round's lines
+pub round_space : (post : Post) → HasSpaceFor post.answers (round_lines post ++ lines_at (arc_value post.commands) (drop post.to post.places.items))
+round_space post = subst (HasSpaceFor post.answers) (lines_left post) post.able.space
+
+pub round_room : (post : Post) → HasSpaceFor post.answers (round_lines post)
+round_room post =
+    let n = page_size_of post.answers in
+    let lines = round_lines post in
+    let rest = lines_at (arc_value post.commands) (drop post.to post.places.items) in
+    let kinds = (round_space post).kinds in
+    let pages = (round_space post).pages in
+    record { kinds = omega (arith, length-append lines rest); pages = omega (arith, space_of-append n lines rest) }
+
+pub able_again : (post : Post) (pass : Pass) (answers : Answers) (buffer : List ℕ) → IsReady (flash_of (arc_value post.volume)) pass → HasAnswered (round_lines post) post.answers answers → length buffer ≡ length post.buffer.items
     → IsAble (arc_value post.volume) (arc_value post.commands) pass post.places.items answers buffer
-able_again post pass new long ready room answers is buffer same =
-    let geo = geometry_of (flash_of (arc_value post.volume)) in
-    let lines = lines_at (arc_value post.commands) post.places.items in
-    let within = within_answers post in
-    let part = subst (λ l. HaveRoom geo l new) (lines_range (arc_value post.commands) post.places.items post.from post.to) room in
+able_again post pass answers buffer ready told same =
     record {
       ready = ready;
       there = post.able.there;
       doable = post.able.doable;
-      count = ap (λ (l : List Answer). length l) is ∙ (back_long post.answers.items new post.from post.to post.order within long ∙ post.able.count);
-      room = subst (HaveRoom geo lines) (sym is) (room_back geo lines post.answers.items new post.from post.to post.order within long post.able.room part);
+      page = told.page ∙ post.able.page;
+      space =
+          subst (λ k. HasSpaceFor answers (lines_at (arc_value post.commands) (drop k post.places.items))) (sym (answered_all post answers told))
+          (told.space (lines_at (arc_value post.commands) (drop post.to post.places.items)) (round_space post));
       paged = same ∙ post.able.paged;
     }

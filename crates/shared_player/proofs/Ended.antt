@@ -1,9 +1,6 @@
 -- What a run over all commands has made of the workers' rows.
-use Rattle.std.proofs.Common.{◌≡◌, ℕ, ◌+◌, ◌<◌, Bool, true, false, List, [], ◌∷◌, refl, get_or, map, length, sym, ap, ◌∙◌, subst, arith}
-use Rattle.std.specs.Prelude.{Vec}
-use Rattle.std.specs.Arc.{arc_value}
-use Rattle.std.specs.Global.{Global}
-use Rattle.geometry.specs.Geometry.{hosts_of, sectors_of}
+use Rattle.std.proofs.Common.{◌≡◌, ℕ, ◌+◌, ◌<◌, All, Bool, true, false, List, [], ◌∷◌, refl, get_or, map, length, sym, ap, ◌∙◌, subst, arith}
+use Rattle.geometry.specs.Geometry.{hosts_of, page_bytes_of, sectors_of}
 use Rattle.geometry.specs.declared.geometry.Geometry.{Geometry}
 use Rattle.flash_table.specs.Flash.{geometry_of}
 use Rattle.trace.specs.declared.commands.Command.{Command}
@@ -11,11 +8,15 @@ use Rattle.lines.specs.Lines.{Said, is_full}
 use Rattle.lines.specs.Playing.{LineFound, LinesFound, one_done, writes_done}
 use Rattle.trace.specs.declared.commands.Op.{Op}
 use Rattle.trace.specs.declared.commands.Op.TheVariants as op
-use Rattle.playing.specs.Playable.{HaveRoom, lines_at}
 use Rattle.volume.specs.declared.volume.Volume.{Volume}
 use Rattle.volume.specs.Volume.{flash_of}
 use Rattle.rounds.specs.Merging.{lines_for, merge}
-use Rattle.rounds.specs.Rows.{answers_by, answers_in, AreAtOneHistory}
+use Rattle.rounds.specs.Rows.{answers_by, AreAtOneHistory}
+use Rattle.lines.specs.Answers.{page_size_of, said_in}
+use Rattle.lines.specs.declared.answers.Answers.{Answers}
+use Rattle.std.proofs.lemmas.List.Elements.{All-map}
+use Rattle.std.proofs.lemmas.Simd.{map-map}
+use Rattle.shared_player.specs.Posts.{answers_kept}
 use Rattle.rounds.specs.Texts.{lines_text, IsTextOfSome}
 use Rattle.shared_player.specs.declared.post.Post.{Post}
 use Rattle.shared_player.specs.Meetings.{passes_of, views_of}
@@ -43,11 +44,11 @@ no_write patience blocks (c ∷ lines) (a ∷ answers) found none (first, rest, 
     let more = no_write patience blocks lines answers rest none behind in omega (arith, one, more)
 
 -- so have the rows that are handed out
-pub all_played : (volume : Volume) (geo : Geometry) (patience : ℕ) (cs : List Command) (begun back : List Post) (rows : List (Vec Answer Global)) → geometry_of (flash_of volume) ≡ geo → AreManned volume back → HasEnded volume patience cs begun back
-    → map answers_in rows ≡ map answers_of back → ArePlayed geo patience cs (answers_by rows)
+pub all_played : (volume : Volume) (geo : Geometry) (patience : ℕ) (cs : List Command) (begun back : List Post) (rows : List Answers) → geometry_of (flash_of volume) ≡ geo → AreManned volume back → HasEnded volume patience cs begun back
+    → rows ≡ map answers_kept back → ArePlayed geo patience cs (answers_by rows)
 all_played volume geo patience cs begun back rows geometry manned ended are =
     let by : List (List Said) → ℕ → List Said = λ l t. get_or l t [] in
-    let same : rows_of back ≡ answers_by rows = ap by (sym are) in
+    let same : rows_of back ≡ answers_by rows = ap by (sym (ap (map said_in) are ∙ map-map said_in answers_kept back)) in
     let hosts : length back ≡ hosts_of geo = manned.all ∙ ap hosts_of geometry in
     let sectors : sectors_of (geometry_of (flash_of volume)) ≡ sectors_of geo = ap sectors_of geometry in
     record {
@@ -58,14 +59,13 @@ all_played volume geo patience cs begun back rows geometry manned ended are =
           let row : rows_of back t ≡ answers_by rows t = ap (λ (f : ℕ → List Said). f t) same in
           no_write patience (views_of volume (passes_of back) t).numbers.blocks (lines_for t cs) (answers_by rows t) run.found none
           (subst (λ l. LinesFound patience (views_of volume (passes_of back) t).numbers.blocks (lines_for t cs) l run.found) row run.tried);
-      room = λ t low.
-          let there : t < length back = omega arith in
-          let p = some_post back manned.some in
-          let post = get_or back t p in
-          let dealt = ended.dealt t p there in
-          let lines : lines_at (arc_value post.commands) post.places.items ≡ lines_for t cs = (λ i. lines_at (dealt.commands i) (dealt.places i)) ∙ lines_all t cs in
-          let geo_is : geometry_of (flash_of (arc_value post.volume)) ≡ geo = ap (λ (v : Volume). geometry_of (flash_of v)) (manned.at t p there) ∙ geometry in
-          let row : post.answers.items ≡ answers_by rows t = sym (row_at back t p there) ∙ ap (λ (f : ℕ → List Said). f t) same in
-          subst (λ (x : Geometry × List Command × List Said). HaveRoom x.0 x.1 x.2) (λ i. (geo_is i, lines i, row i)) post.able.room;
       text = λ apart. subst (λ (x : ℕ × (ℕ → List Said)). IsTextOfSome x.0 cs (lines_text 0 (merge cs x.1))) (λ i. (sectors i, same i)) (ended.text apart);
     }
+
+-- the rows have pages of the device's size
+pub all_paged : (volume : Volume) (geo : Geometry) (back : List Post) (rows : List Answers) → geometry_of (flash_of volume) ≡ geo → AreManned volume back → rows ≡ map answers_kept back
+    → All (λ row. page_size_of row ≡ page_bytes_of geo) rows
+all_paged volume geo back rows geometry manned are =
+    subst (All (λ row. page_size_of row ≡ page_bytes_of geo)) (sym are)
+    (All-map (λ row. page_size_of row ≡ page_bytes_of geo) answers_kept back
+    (λ k p low. (get_or back k p).able.page ∙ ap (λ (v : Volume). page_bytes_of (geometry_of (flash_of v))) (manned.at k p low) ∙ ap page_bytes_of geometry))

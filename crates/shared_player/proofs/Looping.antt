@@ -3,7 +3,7 @@ use Rattle.std.proofs.Common.{◌≡◌, ℕ, zero, suc, ◌+◌, ◌-◌, ◌<�
 use Rattle.std.specs.Prelude.{if◌then◌else◌, not, ◌&&◌, ◌==◌}
 use Rattle.std.specs.Arc.{arc_value}
 use Rattle.std.specs.List.{slice_range}
-use Rattle.std.proofs.Math.Seq.{drop-append_seam, take-append_seam}
+use Rattle.std.proofs.Math.Seq.{drop-append_seam, take-append_seam, take-length}
 use Rattle.std.proofs.lemmas.List.{get_or-map, get_or_past, get_or_append_left, get_or-append-add, length-map, take_all, take-take, take-append-drop, drop-take}
 use Rattle.std.proofs.lemmas.List.Elements.{All-nil, All-head, All-tail}
 use mathlib.Core.Logic.{dite}
@@ -20,10 +20,12 @@ use Rattle.flash_table.specs.Flash.{view_of, device, geometry_of, first_view}
 use Rattle.trace.specs.declared.commands.Command.{Command}
 use Rattle.lines.specs.Lines.{Said}
 use Rattle.lines.specs.Playing.{Played, Plays, calls_done}
-use Rattle.playing.specs.Playable.{lines_at}
+use Rattle.playing.specs.Playable.{added, lines_at}
 use Rattle.volume.specs.declared.volume.Volume.{Volume}
 use Rattle.volume.specs.Closing.{HasLooked}
 use Rattle.volume.specs.Volume.{flash_of}
+use Rattle.lines.specs.Answers.{said_in}
+use Rattle.lines.specs.declared.answers.Answers.{Answers}
 use Rattle.rounds.specs.Meetings.{AreTied, WereSwept}
 use Rattle.rounds.specs.Merging.{is_meet, lines_for, line_count, merge, AreDisjointCommands, IsDisjointTrace, rounds_of}
 use Rattle.rounds.specs.Plans.{places_from, places_for, meetings_from}
@@ -35,8 +37,8 @@ use Rattle.rounds.proofs.Meetings.{tied_again}
 use Rattle.rounds.proofs.Planning.{places_from-append}
 use Rattle.rounds.proofs.Runs.{run_begins, run_goes_on, run_is_text}
 use Rattle.shared_player.specs.declared.post.Post.{Post}
-use Rattle.shared_player.specs.Meetings.{IsAt, passes_of, rest_of, views_of}
-use Rattle.shared_player.specs.Posts.{HasPlayed, round_lines, round_answers}
+use Rattle.shared_player.specs.Meetings.{IsAt, Rest, passes_of, rest_of, views_of}
+use Rattle.shared_player.specs.Posts.{HasPlayed, answered, round_lines}
 use Rattle.shared_player.specs.Turns.{HavePlayed}
 use Rattle.shared_player.specs.Runs.{IsTurned, AreTurned, RoundPlayed, AreManned, IsDealt, HasBegun, HasEnded, HasRun, answers_of, denied_by, rows_of}
 use Rattle.shared_player.proofs.Sweeping.{ready_at}
@@ -62,12 +64,14 @@ take_split a b xs order =
     let behind : drop a (take b xs) ≡ slice_range xs a b = subst (λ k. drop a (take k xs) ≡ slice_range xs a b) on (drop-take a (b - a) xs) in
     sym (take-append-drop a (take b xs)) ∙ (λ i. front i ++ behind i)
 
--- one worker's round, by its post before it, gone on to it, played, and after the meetings
-module _ (trace done cs tail : List Command) (t patience end : ℕ) (p q b r : Post) (whole : trace ≡ done ++ (cs ++ tail)) (last : end ≡ length done + length cs) (dealt : IsDealt trace t p) (cursor : p.to ≡ line_count t done)
-    (turn : IsTurned end p q) (played : HasPlayed patience q b) (same : rest_of r ≡ rest_of b) where
-  front : List ℕ
-  front = places_for t done
+-- the post has gone past the lines of these commands, and has answered them
+pub record IsBehind (t : ℕ) (done : List Command) (p : Post) : Type 0 where
+  pub to : p.to ≡ line_count t done
+  pub all : answered p ≡ line_count t done
 
+-- one worker's round, by its post before it, gone on to it, played, and after the meetings
+module _ (trace done cs tail : List Command) (t patience end : ℕ) (p q b r : Post) (whole : trace ≡ done ++ (cs ++ tail)) (last : end ≡ length done + length cs) (dealt : IsDealt trace t p) (cursor : IsBehind t done p)
+    (turn : IsTurned end p q) (played : HasPlayed patience q b) (same : rest_of r ≡ rest_of b) where
   row : p.places.items ≡ places_for t done ++ (places_from (length done) t cs ++ places_from (length done + length cs) t tail)
   row =
       dealt.places
@@ -75,18 +79,15 @@ module _ (trace done cs tail : List Command) (t patience end : ℕ) (p q b r : P
       ∙ (places_from-append 0 t done (cs ++ tail)
       ∙ (ap (λ k. places_for t done ++ places_from k t (cs ++ tail)) (zero-add (length done)) ∙ ap (λ l. places_for t done ++ l) (places_from-append (length done) t cs tail))))
 
-  begins : q.from ≡ length (places_for t done)
-  begins = turn.from ∙ (cursor ∙ sym (count_places 0 t done))
+  begins : answered q ≡ length (places_for t done)
+  begins = ap (λ (a : Answers). length (said_in a)) turn.answers ∙ (cursor.all ∙ sym (count_places 0 t done))
 
-  pub goes_to : q.to ≡ length (places_for t done) + length (places_from (length done) t cs)
+  goes_to : q.to ≡ length (places_for t done) + length (places_from (length done) t cs)
   goes_to =
       let within : q.to ≤ length p.places.items = subst (λ l. q.to ≤ length l) turn.places q.within in
-      past_is (places_for t done) (places_from (length done) t cs) (places_from (length done + length cs) t tail) q.from q.to end begins
-      (places_low (length done) t cs end last) (places_high (length done + length cs) t tail end (omega (arith, last))) q.order (subst (λ l. q.to ≤ length l) row within)
-      (subst (λ l. (k : ℕ) → q.from ≤ k → k < q.to → get_or l k 0 < end) row turn.before) (subst (λ l. q.to < length l → end ≤ get_or l q.to 0) row turn.behind)
-
-  from_is : q.from ≡ line_count t done
-  from_is = turn.from ∙ cursor
+      past_is (places_for t done) (places_from (length done) t cs) (places_from (length done + length cs) t tail) p.to q.to end (cursor.to ∙ sym (count_places 0 t done))
+      (places_low (length done) t cs end last) (places_high (length done + length cs) t tail end (omega (arith, last))) turn.later (subst (λ l. q.to ≤ length l) row within)
+      (subst (λ l. (k : ℕ) → p.to ≤ k → k < q.to → get_or l k 0 < end) row turn.before) (subst (λ l. q.to < length l → end ≤ get_or l q.to 0) row turn.behind)
 
   to_is : q.to ≡ line_count t done + line_count t cs
   to_is = (let a = count_places 0 t done in let b = count_places (length done) t cs in let c = goes_to in omega arith)
@@ -97,33 +98,52 @@ module _ (trace done cs tail : List Command) (t patience end : ℕ) (p q b r : P
       ap P (λ i. ((turn.commands ∙ (dealt.commands ∙ whole)) i, (turn.places ∙ row) i, begins i, goes_to i))
       ∙ (ap (lines_at (done ++ (cs ++ tail))) (seam_range (places_for t done) (places_from (length done) t cs) (places_from (length done + length cs) t tail)) ∙ lines_there t done cs tail)
 
-  answers_are : r.answers.items ≡ b.answers.items
-  answers_are = ap (λ (x : Volume × List Command × List ℕ × List Said × List ℕ × ℕ × ℕ). x.3) same
+  answers_are : r.answers ≡ b.answers
+  answers_are = ap (λ (x : Rest). x.3) same
 
-  places_are : r.places.items ≡ p.places.items
-  places_are = ap (λ (x : Volume × List Command × List ℕ × List Said × List ℕ × ℕ × ℕ). x.2) same ∙ (played.places ∙ turn.places)
+  abbrev more : List Said
+  more = added q.answers b.answers
 
-  pub cursor_on : r.to ≡ line_count t done + line_count t cs
-  cursor_on = ap (λ (x : Volume × List Command × List ℕ × List Said × List ℕ × ℕ × ℕ). x.6) same ∙ (played.to ∙ to_is)
+  grown : said_in r.answers ≡ said_in p.answers ++ more
+  grown = ap said_in answers_are ∙ (played.answers.kept ∙ ap (λ (a : Answers). said_in a ++ more) turn.answers)
+
+  count_added : length more ≡ line_count t cs
+  count_added =
+      let lines = ap (λ (l : List Command). length l) lines_are in
+      let count = played.answers.count in
+      let kept = ap (λ (l : List Said). length l) played.answers.kept in omega (arith, lines, count, kept, length-append (said_in q.answers) more)
+
+  count_all : answered r ≡ line_count t done + line_count t cs
+  count_all = (let parts = ap (λ (l : List Said). length l) grown in let all = cursor.all in omega (arith, parts, all, count_added, length-append (said_in p.answers) more))
+
+  pub cursor_on : (r.to ≡ line_count t done + line_count t cs) × (answered r ≡ line_count t done + line_count t cs)
+  cursor_on = (ap (λ (x : Rest). x.5) same ∙ (played.to ∙ to_is), count_all)
 
   pub dealt_on : IsDealt trace t r
   dealt_on = record {
-    commands = ap (λ (x : Volume × List Command × List ℕ × List Said × List ℕ × ℕ × ℕ). x.1) same ∙ (played.commands ∙ (turn.commands ∙ dealt.commands));
-    places = places_are ∙ dealt.places;
+    commands = ap (λ (x : Rest). x.1) same ∙ (played.commands ∙ (turn.commands ∙ dealt.commands));
+    places = ap (λ (x : Rest). x.2) same ∙ (played.places ∙ (turn.places ∙ dealt.places));
   }
 
-  pub worker_round : (view_of p.pass).role ≡ Player (APass t) → WorkerRound t patience done cs p.answers.items r.answers.items (view_of p.pass) (view_of b.pass)
+  kept : take (line_count t done) (said_in p.answers) ≡ take (line_count t done) (said_in r.answers)
+  kept =
+      let old = said_in p.answers in
+      subst (λ k. take k old ≡ take k (said_in r.answers)) cursor.all (take-length old ∙ sym (ap (take (length old)) grown ∙ take-append_seam old more))
+
+  part : slice_range (said_in r.answers) (line_count t done) (line_count t done + line_count t cs) ≡ more
+  part =
+      let old = said_in p.answers in
+      let ends : length old + length more ≡ line_count t done + line_count t cs = (let all = cursor.all in omega (arith, all, count_added)) in
+      let whole : said_in r.answers ≡ old ++ (more ++ []) = grown ∙ ap (λ l. old ++ l) (sym (append-nil more)) in
+      ap (λ (x : List Said × ℕ × ℕ). slice_range x.0 x.1 x.2) (λ i. (whole i, sym cursor.all i, sym ends i)) ∙ seam_range old more []
+
+  pub worker_round : (view_of p.pass).role ≡ Player (APass t) → WorkerRound t patience done cs (said_in p.answers) (said_in r.answers) (view_of p.pass) (view_of b.pass)
   worker_round role =
-      let kept : take q.from r.answers.items ≡ take q.from p.answers.items = ap (take q.from) answers_are ∙ (played.before ∙ ap (take q.from) turn.answers) in
-      let within : q.to ≤ length p.places.items = subst (λ l. q.to ≤ length l) turn.places q.within in
-      let count : length r.answers.items ≡ length p.places.items = r.able.count ∙ ap (λ (l : List ℕ). length l) places_are in
       let told = played.played t (role_turned end t p q turn role) in
-      let lasts : round_answers b ≡ slice_range r.answers.items (line_count t done) (line_count t done + line_count t cs) =
-      ap (λ (x : List Said × ℕ × ℕ). slice_range x.0 x.1 x.2) (λ i. (sym answers_are i, (played.from ∙ from_is) i, (played.to ∙ to_is) i)) in
       record {
-        kept = sym (subst (λ k. take k r.answers.items ≡ take k p.answers.items) from_is kept);
-        enough = (let to = to_is in omega (arith, within, count));
-        played = subst (λ (x : View × List Command × List Said). Played t patience x.0 x.1 x.2 (view_of b.pass)) (λ i. (ap view_of turn.pass i, lines_are i, lasts i)) told;
+        kept = kept;
+        enough = (let all = count_all in omega arith);
+        played = subst (λ (x : View × List Command × List Said). Played t patience x.0 x.1 x.2 (view_of b.pass)) (λ i. (ap view_of turn.pass i, lines_are i, sym part i)) told;
       }
 
 -- what the post at a number knows and has answered
@@ -133,7 +153,7 @@ view_at volume posts t p low =
     let count = length-map posts pass in
     get_or-map view_of (passes_of posts) t p.pass (first_view (device (flash_of volume)) t) (omega (arith, count)) ∙ ap view_of (get_or-map pass posts t p p.pass low)
 
-pub row_at : (posts : List Post) (t : ℕ) (p : Post) → t < length posts → rows_of posts t ≡ (get_or posts t p).answers.items
+pub row_at : (posts : List Post) (t : ℕ) (p : Post) → t < length posts → rows_of posts t ≡ said_in (get_or posts t p).answers
 row_at posts t p low = get_or-map answers_of posts t p [] low
 
 row_past : (posts : List Post) (t : ℕ) → length posts ≤ t → rows_of posts t ≡ []
@@ -152,7 +172,7 @@ pub record RunState (volume : Volume) (patience : ℕ) (trace : List Command) (b
   pub workers : All (λ c. c.worker < length posts) trace
   pub sectors : All (λ c. c.sector < sectors_of (geometry_of (flash_of volume))) trace
   pub dealt : (t : ℕ) (p : Post) → t < length posts → IsDealt trace t (get_or posts t p)
-  pub cursor : (t : ℕ) (p : Post) → t < length posts → (get_or posts t p).to ≡ line_count t done
+  pub cursor : (t : ℕ) (p : Post) → t < length posts → IsBehind t done (get_or posts t p)
   pub each : (t : ℕ) → t < length posts → HasRun t patience (denied_by volume before t) (lines_for t done) (take (line_count t done) (rows_of posts t)) (views_of volume (passes_of posts) t)
   pub told : AreAtOneHistory (sectors_of (geometry_of (flash_of volume))) (length posts) done (λ t. take (line_count t done) (rows_of posts t))
   pub order : IsDisjointTrace trace
@@ -169,7 +189,7 @@ state_begins volume patience trace ends posts b = record {
   workers = b.workers;
   sectors = b.sectors;
   dealt = b.dealt;
-  cursor = b.none;
+  cursor = λ t p low. record { to = (b.none t p low).0; all = ap (λ (l : List Said). length l) (b.none t p low).1 };
   each = λ t low. let new = b.new t low in going.run_begins t patience (views_of volume (passes_of posts) t) new.0 new.1 new.2;
   told = record { history = []; callers = All-nil (λ c. caller c < length posts); calls = λ t low. refl; plays = λ t low. Begins-refl [] };
   order = λ apart. (
@@ -243,7 +263,7 @@ module _ (volume : Volume) (patience : ℕ) (trace : List Command) (begun : List
         dealt_on trace state.done cs first.tail t patience end (get_or posts t p) (get_or round.turned t p) (get_or round.between t p) (get_or back t p) whole_now first.last (state.dealt t p low) (state.cursor t p low)
         (round.turn.each t p p low) played_here rest_here
 
-    cursor_here : (get_or back t p).to ≡ line_count t state.done + line_count t cs
+    cursor_here : ((get_or back t p).to ≡ line_count t state.done + line_count t cs) × (answered (get_or back t p) ≡ line_count t state.done + line_count t cs)
     cursor_here =
         cursor_on trace state.done cs first.tail t patience end (get_or posts t p) (get_or round.turned t p) (get_or round.between t p) (get_or back t p) whole_now first.last (state.dealt t p low) (state.cursor t p low)
         (round.turn.each t p p low) played_here rest_here
@@ -348,7 +368,7 @@ module _ (volume : Volume) (patience : ℕ) (trace : List Command) (begun : List
     workers = subst (λ k. All (λ c. c.worker < k) trace) (sym long_back) state.workers;
     sectors = state.sectors;
     dealt = λ t p low. dealt_here t p (omega (arith, long_back));
-    cursor = λ t p low. cursor_here t p (omega (arith, long_back)) ∙ sym (count_more t);
+    cursor = λ t p low. let here = cursor_here t p (omega (arith, long_back)) in record { to = here.0 ∙ sym (count_more t); all = here.1 ∙ sym (count_more t) };
     each = λ t low. run_here t (omega (arith, long_back));
     told = told_here;
     order = order_here;
@@ -363,30 +383,20 @@ none_past hosts t (c ∷ cs) all past =
     let other : ¬ (c.worker ≡ t) = λ same. omega arith in
     subst (λ b. length (if b then c ∷ lines_for t cs else lines_for t cs) ≡ 0) (sym (going.and_false (not (is_meet c.op)) (c.worker == t) (ne_eqb c.worker t other))) rest
 
--- the answers of a post that has its worker's lines are no more than these
-answers_end : (trace : List Command) (posts : List Post) (t : ℕ) (p : Post) → t < length posts → IsDealt trace t (get_or posts t p) → take (line_count t trace) (rows_of posts t) ≡ rows_of posts t
-answers_end trace posts t p low dealt =
-    let a = ap (λ (l : List Said). length l) (row_at posts t p low) in
-    let b = (get_or posts t p).able.count in
-    let c = ap (λ (l : List ℕ). length l) dealt.places in
-    let d = count_places 0 t trace in
-    take_all (line_count t trace) (rows_of posts t) (omega arith)
-
 -- the run's end, once no end of a round is left
 pub state_ends : (volume : Volume) (patience : ℕ) (trace : List Command) (begun posts : List Post) → AreManned volume posts → RunState volume patience trace begun [] posts → HasEnded volume patience trace begun posts
 state_ends volume patience trace begun posts manned state =
     let all : state.done ≡ trace = sym (append-nil state.done) ∙ (ap (λ l. state.done ++ l) (sym state.left) ∙ sym state.whole) in
-    let row_end : (t : ℕ) → t < length posts → take (line_count t trace) (rows_of posts t) ≡ rows_of posts t =
-    λ t low. answers_end trace posts t (some_post posts manned.some) low (state.dealt t (some_post posts manned.some) low) in
+    let long : (t : ℕ) → t < length posts → length (rows_of posts t) ≡ line_count t trace = λ t low.
+    let p = some_post posts manned.some in
+    ap (λ (l : List Said). length l) (row_at posts t p low) ∙ ((state.cursor t p low).all ∙ ap (line_count t) all) in
+    let row_end : (t : ℕ) → t < length posts → take (line_count t trace) (rows_of posts t) ≡ rows_of posts t = λ t low.
+    take_all (line_count t trace) (rows_of posts t) (omega (arith, long t low)) in
     record {
       count = λ t.
           dite (dec_lt t (length posts))
           (λ low.
-          let post = get_or posts t (some_post posts manned.some) in
-          let a = ap (λ (l : List Said). length l) (row_at posts t (some_post posts manned.some) low) in
-          let b = post.able.count in
-          let c = ap (λ (l : List ℕ). length l) (state.dealt t (some_post posts manned.some) low).places in
-          let d = count_places 0 t trace in omega arith)
+          omega (arith, long t low))
           (λ past. let none = none_past (length posts) t trace state.workers (omega arith) in omega (arith, none));
       dealt = state.dealt;
       told =

@@ -19,7 +19,7 @@ use Rattle.volume.specs.Gathering.{MetEach}
 use Rattle.volume.specs.Volume.{flash_of}
 use Rattle.volume.proofs.Looks.{Meets, meets_next, looked-trans}
 use Rattle.shared_player.specs.declared.post.Post.{Post}
-use Rattle.shared_player.specs.Meetings.{AreSeated, IsAt, PassesMet, passes_of, rest_of, views_of}
+use Rattle.shared_player.specs.Meetings.{AreSeated, IsAt, PassesMet, Rest, passes_of, rest_of, views_of}
 
 -- a look leaves the role and the pass's own calls
 role_kept : (v w : View) → HasLooked v w → w.role ≡ v.role
@@ -111,12 +111,12 @@ all_ready volume posts at = All-map (IsReady (flash_of volume)) (λ (p : Post). 
 
 -- a post whose rest is that of another one is of the same volume
 pub same_at : (volume : Volume) (p q : Post) → rest_of q ≡ rest_of p → IsAt volume p → IsAt volume q
-same_at volume p q same at = ap (λ (r : Volume × List Command × List ℕ × List Said × List ℕ × ℕ × ℕ). r.0) same ∙ at
+same_at volume p q same at = ap (λ (r : Rest). r.0) same ∙ at
 
 pub all_same_at : (volume : Volume) (posts others : List Post) → map rest_of others ≡ map rest_of posts → All (IsAt volume) posts → All (IsAt volume) others
 all_same_at volume posts others same at =
     λ k d low.
-    let long = ap (length {A = Volume × List Command × List ℕ × List Said × List ℕ × ℕ × ℕ}) same in
+    let long = ap (length {A = Rest}) same in
     let inside : k < length posts = omega (arith, long, length-map others rest_of, length-map posts rest_of) in
     let e : rest_of (get_or others k d) ≡ rest_of (get_or posts k d) =
     sym (get_or-map rest_of others k d (rest_of d) low) ∙ (ap (λ l. get_or l k (rest_of d)) same ∙ get_or-map rest_of posts k d (rest_of d) inside) in

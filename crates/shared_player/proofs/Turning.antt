@@ -1,7 +1,7 @@
 -- Posts go on to their next round, play it, and stay manned.
-use Rattle.std.proofs.Common.{◌≡◌, ℕ, zero, suc, ◌+◌, ◌-◌, ◌<◌, ◌≤◌, All, List, [], ◌∷◌, slice_set, map, length, take, drop, get_or, refl, sym, ap, ◌∙◌, subst, arith}
+use Rattle.std.proofs.Common.{◌≡◌, ℕ, zero, suc, ◌+◌, ◌-◌, ◌<◌, ◌≤◌, All, List, [], ◌∷◌, slice_set, map, length, ◌++◌, take, drop, get_or, refl, sym, ap, ◌∙◌, subst, arith, append-nil}
 use Rattle.std.specs.Arc.{arc_value}
-use Rattle.std.proofs.lemmas.List.{get_or-map, get_or_default, get_or-set_same, get_or-set_other, length-map, length-set}
+use Rattle.std.proofs.lemmas.List.{drop_all, get_or-map, get_or_default, get_or-set_same, get_or-set_other, length-map, length-set}
 use Rattle.std.proofs.lemmas.List.Elements.{All-head, All-tail}
 use mathlib.Core.Logic.{dite}
 use native.Mathlib.Decide.{ℕ_discrete}
@@ -16,11 +16,12 @@ use Rattle.lines.specs.Lines.{Said}
 use Rattle.volume.specs.declared.volume.Volume.{Volume}
 use Rattle.volume.specs.Volume.{flash_of}
 use Rattle.shared_player.specs.declared.post.Post.{Post}
-use Rattle.shared_player.specs.Meetings.{AreSeated, IsAt, passes_of, rest_of}
-use Rattle.shared_player.specs.Posts.{HasPlayed}
+use Rattle.shared_player.specs.Meetings.{AreSeated, IsAt, Rest, passes_of, rest_of}
+use Rattle.shared_player.specs.Posts.{HasPlayed, answered, round_lines}
 use Rattle.shared_player.specs.Turns.{HavePlayed}
 use Rattle.lines.specs.Playing.{Played}
-use Rattle.playing.specs.Playable.{lines_at}
+use Rattle.playing.specs.Playable.{HasAnswered, added, lines_at}
+use Rattle.lines.specs.Answers.{said_in}
 use Rattle.playing.proofs.Lines.{played_none}
 use Rattle.shared_player.specs.Runs.{IsTurned, AreTurned, AreManned, IsIdle}
 use Rattle.shared_player.proofs.Sweeping.{all_same_at}
@@ -108,7 +109,7 @@ module _ (volume : Volume) where
 
   pub rests_long : (ps qs : List Post) → map rest_of qs ≡ map rest_of ps → length qs ≡ length ps
   rests_long ps qs same =
-      let long = ap (length {A = Volume × List Command × List ℕ × List Said × List ℕ × ℕ × ℕ}) same in omega (arith, long, length-map ps rest_of, length-map qs rest_of)
+      let long = ap (length {A = Rest}) same in omega (arith, long, length-map ps rest_of, length-map qs rest_of)
 
   pub manned_met : (ps qs : List Post) → AreManned volume ps → map rest_of qs ≡ map rest_of ps → AreSeated (passes_of qs) → AreManned volume qs
   manned_met ps qs m same seated =
@@ -123,18 +124,22 @@ module _ (volume : Volume) where
 -- a post without a line in the round has played it as it is
 pub idle_played : (n : ℕ) (p : Post) → IsIdle p → HasPlayed n p p
 idle_played n p idle =
-    let none : p.to - p.from ≡ 0 = omega arith in
+    let none : p.to - answered p ≡ 0 = omega arith in
+    let lines : [] ≡ round_lines p = ap (λ k. lines_at (arc_value p.commands) (take k (drop (answered p) p.places.items))) (sym none) in
+    let nothing : added p.answers p.answers ≡ [] = drop_all (answered p) (said_in p.answers) (omega arith) in
     record {
       volume = refl;
       commands = refl;
       places = refl;
-      from = refl;
       to = refl;
-      before = refl;
-      behind = refl;
+      answers = subst (λ l. HasAnswered l p.answers p.answers) lines (record {
+        kept = sym (ap (λ l. said_in p.answers ++ l) nothing ∙ append-nil (said_in p.answers));
+        count = omega arith;
+        page = refl;
+        space = λ rest space. space;
+      });
       played = λ t role.
-          let P : ℕ → Type 0 = λ k. Played t n (view_of p.pass) (lines_at (arc_value p.commands) (take k (drop p.from p.places.items))) (take k (drop p.from p.answers.items)) (view_of p.pass) in
-          subst P (sym none) (played_none t n (view_of p.pass));
+          subst (λ (x : List Command × List Said). Played t n (view_of p.pass) x.0 x.1 (view_of p.pass)) (λ i. (lines i, sym nothing i)) (played_none t n (view_of p.pass));
     }
 
 pub idles_played : (n : ℕ) (posts : List Post) → All IsIdle posts → HavePlayed n posts posts

@@ -1,5 +1,5 @@
 -- What a worker can do in a round.
-use Rattle.std.specs.Prelude.{◌≡◌, ◌<◌, ℕ, All, List, length}
+use Rattle.std.specs.Prelude.{◌≡◌, ◌<◌, ℕ, All, List, drop, length}
 use Rattle.std.proofs.Props.{props}
 use Rattle.geometry.specs.Geometry.{page_bytes_of}
 use Rattle.flash_table.specs.declared.pass.Pass.{Pass}
@@ -8,18 +8,19 @@ use Rattle.host.specs.Ready.{IsReady}
 use Rattle.trace.specs.declared.commands.Command.{Command}
 use Rattle.volume.specs.declared.volume.Volume.{Volume}
 use Rattle.volume.specs.Volume.{flash_of}
-use Rattle.lines.specs.declared.answer.Answer.{Answer}
-use Rattle.playing.specs.Playable.{IsLine, HaveRoom, lines_at}
+use Rattle.lines.specs.Answers.{page_size_of, said_in, HasSpaceFor}
+use Rattle.lines.specs.declared.answers.Answers.{Answers}
+use Rattle.playing.specs.Playable.{IsLine, lines_at}
 
--- The pass is ready, each place is one of the trace's, the device can do the lines there, and there is room for their answers
-pub record IsAble (volume : Volume) (lines : List Command) (pass : Pass) (places : List ℕ) (answers : List Answer) (buffer : List ℕ) : Type 0 where
+-- The pass is ready, each place is one of the trace's, the device can do the lines there, and there is room for the answers of those that are not answered yet
+pub record IsAble (volume : Volume) (lines : List Command) (pass : Pass) (places : List ℕ) (answers : Answers) (buffer : List ℕ) : Type 0 where
   pub ready : IsReady (flash_of volume) pass
   pub there : All (λ p. p < length lines) places
   pub doable : All (IsLine (geometry_of (flash_of volume))) (lines_at lines places)
-  pub count : length answers ≡ length places
-  pub room : HaveRoom (geometry_of (flash_of volume)) (lines_at lines places) answers
+  pub page : page_size_of answers ≡ page_bytes_of (geometry_of (flash_of volume))
+  pub space : HasSpaceFor answers (lines_at lines (drop (length (said_in answers)) places))
   pub paged : length buffer ≡ page_bytes_of (geometry_of (flash_of volume))
 
 -- That a worker is able is a fact that has one proof at most, so that a struct can keep it
-pub IsAble-prop : (volume : Volume) (lines : List Command) (pass : Pass) (places : List ℕ) (answers : List Answer) (buffer : List ℕ) → IsProp (IsAble volume lines pass places answers buffer)
+pub IsAble-prop : (volume : Volume) (lines : List Command) (pass : Pass) (places : List ℕ) (answers : Answers) (buffer : List ℕ) → IsProp (IsAble volume lines pass places answers buffer)
 IsAble-prop volume lines pass places answers buffer = hlevel props

@@ -1,5 +1,5 @@
 -- What is dealt to the workers of a run: the device, a pass each, and a share of the trace.
-use Rattle.std.specs.Prelude.{◌≡◌, ℕ, ◌<◌, All, List, Some, length, slice_get}
+use Rattle.std.specs.Prelude.{◌≡◌, ℕ, ◌<◌, All, List, [], Some, length, slice_get}
 use Rattle.std.proofs.Props.{props}
 use Rattle.std.specs.Arc.{arc_value}
 use Rattle.geometry.specs.Geometry.{brooms_of, hosts_of, page_bytes_of}
@@ -9,8 +9,9 @@ use Rattle.flash_table.specs.Flash.{view_of, device, geometry_of, first_view}
 use Rattle.host.specs.Ready.{IsReady}
 use Rattle.broom.specs.declared.broom.Broom.{Broom}
 use Rattle.trace.specs.declared.commands.Command.{Command}
-use Rattle.lines.specs.declared.answer.Answer.{Answer}
-use Rattle.playing.specs.Playable.{IsLine, HaveRoom, lines_at}
+use Rattle.lines.specs.Answers.{page_size_of, said_in, HasSpaceFor}
+use Rattle.lines.specs.declared.answers.Answers.{Answers}
+use Rattle.playing.specs.Playable.{IsLine, lines_at}
 use Rattle.volume.specs.declared.volume.Volume.{Volume}
 use Rattle.volume.specs.Brooms.{IsBroomReady, IsBroomReady-prop}
 use Rattle.volume.specs.Volume.{flash_of}
@@ -36,9 +37,10 @@ pub record AreDoable (geo : Geometry) (lines : List Command) (places : List ℕ)
   pub there : All (λ p. p < length lines) places
   pub doable : All (IsLine geo) (lines_at lines places)
 
--- A share of a trace: places of lines that can be done, room for their answers, and a buffer of a page
-pub record IsFit (geo : Geometry) (lines : List Command) (places : List ℕ) (answers : List Answer) (buffer : List ℕ) : Type 0 where
+-- A share of a trace: places of lines that can be done, no answers and room for those of the lines, and a buffer of a page
+pub record IsFit (geo : Geometry) (lines : List Command) (places : List ℕ) (answers : Answers) (buffer : List ℕ) : Type 0 where
   pub doable : AreDoable geo lines places
-  pub count : length answers ≡ length places
-  pub room : HaveRoom geo (lines_at lines places) answers
+  pub none : said_in answers ≡ []
+  pub page : page_size_of answers ≡ page_bytes_of geo
+  pub space : HasSpaceFor answers (lines_at lines places)
   pub paged : length buffer ≡ page_bytes_of geo

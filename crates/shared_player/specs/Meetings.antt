@@ -8,7 +8,7 @@ use Rattle.flash_rule.specs.declared.view.View.{View}
 use Rattle.flash_table.specs.declared.pass.Pass.{Pass}
 use Rattle.flash_table.specs.Flash.{view_of, device, first_view}
 use Rattle.trace.specs.declared.commands.Command.{Command}
-use Rattle.lines.specs.Lines.{Said}
+use Rattle.lines.specs.declared.answers.Answers.{Answers}
 use Rattle.volume.specs.Closing.{HasLooked}
 use Rattle.volume.specs.declared.volume.Volume.{Volume}
 use Rattle.volume.specs.Volume.{flash_of}
@@ -23,9 +23,13 @@ IsAt volume p = arc_value p.volume ≡ volume
 abbrev pub passes_of : List Post → List Pass
 passes_of posts = map (λ p. p.pass) posts
 
+-- what a post has but for its pass
+abbrev pub Rest : Type 0
+Rest = Volume × List Command × List ℕ × Answers × List ℕ × ℕ
+
 -- a post without its pass
-abbrev pub rest_of : Post → Volume × List Command × List ℕ × List Said × List ℕ × ℕ × ℕ
-rest_of p = (arc_value p.volume, arc_value p.commands, p.places.items, p.answers.items, p.buffer.items, p.from, p.to)
+abbrev pub rest_of : Post → Rest
+rest_of p = (arc_value p.volume, arc_value p.commands, p.places.items, p.answers, p.buffer.items, p.to)
 
 -- what the passes know, by their numbers
 abbrev pub views_of : Volume → List Pass → ℕ → View

@@ -6,6 +6,7 @@ use Rattle.flash_rule.specs.declared.view.View.{View}
 use Rattle.flash_table.specs.Flash.{geometry_of}
 use Rattle.trace.specs.declared.commands.Command.{Command}
 use Rattle.lines.specs.Lines.{Said}
+use Rattle.lines.specs.Answers.{said_in}
 use Rattle.lines.specs.Playing.{Plays, LinesFound, calls_done, writes_done}
 use Rattle.volume.specs.declared.volume.Volume.{Volume}
 use Rattle.volume.specs.Volume.{flash_of}
@@ -15,17 +16,19 @@ use Rattle.rounds.specs.Rows.{AreAtOneHistory}
 use Rattle.rounds.specs.Texts.{lines_text, IsTextOfSome}
 use Rattle.shared_player.specs.declared.post.Post.{Post}
 use Rattle.shared_player.specs.Meetings.{AreSeated, IsAt, PassesMet, passes_of, rest_of, views_of}
+use Rattle.shared_player.specs.Posts.{answered}
+use Rattle.shared_player.specs.Shares.{HasPlayedNone}
 use Rattle.shared_player.specs.Turns.{HavePlayed}
 
--- The post goes on to its next round: the lines of its row that stand before an end, behind those of the round before. Nothing else of it changes
+-- The post goes on to its next round: up to the lines of its row that stand before an end, behind those of the round before. Nothing else of it changes
 pub record IsTurned (end : ℕ) (p q : Post) : Type 0 where
   pub volume : arc_value q.volume ≡ arc_value p.volume
   pub commands : arc_value q.commands ≡ arc_value p.commands
   pub pass : q.pass ≡ p.pass
   pub places : q.places.items ≡ p.places.items
-  pub answers : q.answers.items ≡ p.answers.items
-  pub from : q.from ≡ p.to
-  pub before : (k : ℕ) → q.from ≤ k → k < q.to → slice_index p.places.items k < end
+  pub answers : q.answers ≡ p.answers
+  pub later : p.to ≤ q.to
+  pub before : (k : ℕ) → p.to ≤ k → k < q.to → slice_index p.places.items k < end
   pub behind : q.to < length p.places.items → end ≤ slice_index p.places.items q.to
 
 -- and so does each post of a row
@@ -51,11 +54,11 @@ pub record AreManned (volume : Volume) (posts : List Post) : Type 0 where
 
 -- the post has no line in the round
 abbrev pub IsIdle : Post → Type 0
-IsIdle p = p.to ≤ p.from
+IsIdle p = p.to ≤ answered p
 
 -- the answers of a post's lines
 abbrev pub answers_of : Post → List Said
-answers_of p = p.answers.items
+answers_of p = said_in p.answers
 
 -- the answers of each worker's lines, by the worker's number
 abbrev pub rows_of : List Post → ℕ → List Said
@@ -72,7 +75,7 @@ pub record HasBegun (volume : Volume) (trace : List Command) (ends : List ℕ) (
   pub workers : All (λ c. c.worker < length posts) trace
   pub sectors : All (λ c. c.sector < sectors_of (geometry_of (flash_of volume))) trace
   pub dealt : (t : ℕ) (p : Post) → t < length posts → IsDealt trace t (slice_index_or posts t p)
-  pub none : (t : ℕ) (p : Post) → t < length posts → (slice_index_or posts t p).to ≡ 0
+  pub none : (t : ℕ) (p : Post) → t < length posts → HasPlayedNone (slice_index_or posts t p)
   pub new : (t : ℕ) → t < length posts → ((views_of volume (passes_of posts) t).seen ≡ []) × ((views_of volume (passes_of posts) t).mine ≡ []) × ((views_of volume (passes_of posts) t).programs ≡ [])
 
 -- the blocks that a post's pass has found taken

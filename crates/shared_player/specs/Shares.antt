@@ -1,11 +1,12 @@
 -- The shares of a trace, and the posts that they make.
-use Rattle.std.specs.Prelude.{◌≡◌, ℕ, List, Vec, map}
+use Rattle.std.specs.Prelude.{◌≡◌, ℕ, List, [], Vec, map}
 use Rattle.std.specs.declared.sync.Arc.{Arc}
 use Rattle.std.specs.Arc.{arc_value}
 use Rattle.std.specs.Global.{Global}
 use Rattle.std.specs.List.{range_with_len}
 use Rattle.geometry.specs.declared.geometry.Geometry.{Geometry}
 use Rattle.trace.specs.declared.commands.Command.{Command}
+use Rattle.lines.specs.Answers.{said_in}
 use Rattle.volume.specs.declared.volume.Volume.{Volume}
 use Rattle.rounds.specs.Plans.{places_for}
 use Rattle.shared_player.specs.declared.post.Post.{Post}
@@ -26,7 +27,7 @@ rows_for hosts cs = map (λ t. places_for t cs) (range_with_len 0 hosts)
 
 -- a share that a device of this geometry can play
 abbrev pub HasFitShare : Geometry → Share → Type 0
-HasFitShare geo s = IsFit geo (arc_value s.commands) s.places.items s.answers.items s.buffer.items
+HasFitShare geo s = IsFit geo (arc_value s.commands) s.places.items s.answers s.buffer.items
 
 -- the commands that a post has, and the places of its lines among them
 abbrev pub work_of : Post → List Command × List ℕ
@@ -34,7 +35,7 @@ work_of p = (arc_value p.commands, p.places.items)
 
 -- the post has played no line
 abbrev pub HasPlayedNone : Post → Type 0
-HasPlayedNone p = p.to ≡ 0
+HasPlayedNone p = (p.to ≡ 0) × (said_in p.answers ≡ [])
 
 -- an owner of this device
 abbrev pub IsOwner : Volume → Arc Volume Global → Type 0

@@ -1,8 +1,9 @@
 //! A whole run over the commands of a trace.
 ghost use Rattle.std.specs.Prelude.{◌≡◌, ◌+◌, ◌<◌, All, IfOk, length};
 ghost use Rattle.std.specs.Arc.{arc_value};
-ghost use Rattle.geometry.specs.Geometry.{brooms_of, hosts_of};
+ghost use Rattle.geometry.specs.Geometry.{brooms_of, hosts_of, page_bytes_of};
 ghost use Rattle.answers.specs.Playable.{IsPlayable};
+ghost use Rattle.lines.specs.Answers.{page_size_of};
 ghost use Rattle.rounds.specs.Rows.{answers_by};
 ghost use Rattle.shared_player.specs.Commands.{ArePlayed};
 
@@ -13,7 +14,7 @@ use crate::runs::play_rounds;
 use crate::starts::{NoShift, Starts};
 use flash_table::Gate;
 use geometry::Geometry;
-use lines::Answer;
+use lines::Answers;
 use rounds::Plan;
 use std::alloc::Global;
 use std::sync::{Arc, Wait};
@@ -30,11 +31,12 @@ pub fn play_commands<R: Threads + Wait + Sync, S: Starts + Copy + Drop, G: Gate 
     commands: &Arc<Commands, Global>,
     patience: u32,
     gates: &mut [G],
-) -> Result<Vec<Vec<Answer>>, NoShift>
+) -> Result<Vec<Answers>, NoShift>
     requires hosts { 0 < hosts_of geometry.now }
     requires playable { All (IsPlayable geometry.now) (arc_value commands.now) }
     requires gates { length gates.old ≡ hosts_of geometry.now + brooms_of geometry.now }
     ensures rows { IfOk result (λ rows. length rows.items ≡ hosts_of geometry.now) }
+    ensures pages { IfOk result (λ rows. All (λ row. page_size_of row ≡ page_bytes_of geometry.now) rows.items) }
     ensures played { IfOk result (λ rows. ArePlayed geometry.now patience (arc_value commands.now) (answers_by rows.items)) }
 {
     let Plan { rows: places, ends } = Plan::new(alloc, commands, geometry.hosts())?;

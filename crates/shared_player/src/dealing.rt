@@ -48,7 +48,6 @@ fn seat(volume: Arc<Volume, Global>, pass: Pass, share: Share) -> Post
         places,
         answers,
         buffer,
-        from: 0,
         to: 0,
     }
 }

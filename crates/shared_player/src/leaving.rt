@@ -2,17 +2,16 @@
 ghost use Rattle.std.specs.Prelude.{◌≡◌, ◌≤◌, All, length, map, vec_capacity};
 ghost use Rattle.std.specs.Vec.Iter.{into_iter_items};
 ghost use Rattle.host.specs.Ready.{IsReady};
-ghost use Rattle.rounds.specs.Rows.{answers_in};
 ghost use Rattle.volume.specs.Brooms.{IsBroomReady};
 ghost use Rattle.volume.specs.Volume.{flash_of};
 ghost use Rattle.shared_player.specs.Dealing.{AreReady};
-ghost use Rattle.shared_player.specs.Runs.{answers_of};
+ghost use Rattle.shared_player.specs.Posts.{answers_kept};
 
 use crate::post::Post;
 use crate::sweeper::Sweeper;
 use broom::Broom;
 use flash_table::Pass;
-use lines::Answer;
+use lines::Answers;
 use std::collections::VecDeque;
 use std::sync::Wait;
 use volume::Volume;
@@ -26,10 +25,10 @@ pub fn fold_sweepers<R: Wait>(rt: &R, sweepers: Vec<Sweeper>) {
 }
 
 /// Puts each worker's answers into a row, by their numbers. The passes are given up.
-pub fn hand_out(posts: Vec<Post>, rows: &mut Vec<Vec<Answer>>)
+pub fn hand_out(posts: Vec<Post>, rows: &mut Vec<Answers>)
     requires none { length rows.old.items ≡ 0 }
     requires room { length posts.items ≤ vec_capacity rows.old }
-    ensures { map answers_in rows.new.items ≡ map answers_of posts.items }
+    ensures { rows.new.items ≡ map answers_kept posts.items }
 {
     let mut posts = VecDeque::from_vec(posts);
     while let Some(post) = posts.pop_front() {

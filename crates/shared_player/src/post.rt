@@ -1,28 +1,28 @@
 //! A worker's post: its pass, all lines that are its own, and which of these are the round's.
 ghost use Rattle.std.specs.Prelude.{◌≡◌, ◌≤◌, length};
 ghost use Rattle.std.specs.Arc.{arc_value};
+ghost use Rattle.lines.specs.Answers.{said_in};
 ghost use Rattle.shared_player.specs.Able.{IsAble, IsAble-prop};
 
 use flash_table::Pass;
-use lines::Answer;
+use lines::Answers;
 use std::alloc::Global;
 use std::sync::Arc;
 use trace::Commands;
 use volume::Volume;
 
-/// What a worker needs for a run: its pass, the places of its lines in the trace, a place for the answer of each, and a buffer of a page. In a round
-/// it plays the lines from one of its row on up to another one. A post that is dropped gives up its pass.
+/// What a worker needs for a run: its pass, the places of its lines in the trace, their answers so far with room for the others, and a buffer of a
+/// page. In a round it plays the lines that are not answered yet up to one of its row. A post that is dropped gives up its pass.
 pub struct Post {
     pub volume: Arc<Volume, Global>,
     pub commands: Arc<Commands, Global>,
     pub pass: Pass,
     pub places: Vec<usize>,
-    pub answers: Vec<Answer>,
+    pub answers: Answers,
     pub buffer: Vec<u8>,
-    pub from: usize,
     pub to: usize,
-    pub ghost able: { IsAble (arc_value volume) (arc_value commands) pass places.items answers.items buffer.items } by { IsAble-prop (arc_value volume) (arc_value commands) pass places.items answers.items buffer.items },
-    pub ghost order: { from ≤ to },
+    pub ghost able: { IsAble (arc_value volume) (arc_value commands) pass places.items answers buffer.items } by { IsAble-prop (arc_value volume) (arc_value commands) pass places.items answers buffer.items },
+    pub ghost order: { length (said_in answers) ≤ to },
     pub ghost within: { to ≤ length places.items },
 }
 
@@ -35,7 +35,6 @@ impl Drop for Post {
             places: _,
             answers: _,
             buffer: _,
-            from: _,
             to: _,
         } = self;
         volume.retire(pass);
@@ -44,8 +43,8 @@ impl Drop for Post {
 
 impl Post {
     // The answers. The pass is given up.
-    pub(crate) fn into_answers(self) -> Vec<Answer>
-        ensures { result.items ≡ self.answers.items }
+    pub(crate) fn into_answers(self) -> Answers
+        ensures { result ≡ self.answers }
     {
         let Post {
             volume,
@@ -54,7 +53,6 @@ impl Post {
             places: _,
             answers,
             buffer: _,
-            from: _,
             to: _,
         } = self;
         volume.retire(pass);

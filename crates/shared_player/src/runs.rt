@@ -18,9 +18,7 @@ use volume::Volume;
 fn turn(post: &mut Post, end: usize)
     ensures { IsTurned end post.old post.new }
 {
-    let to = past(&post.places, post.to, end);
-    post.from = post.to;
-    post.to = to;
+    post.to = past(&post.places, post.to, end);
 }
 
 // All posts go on to their lines before this end.
@@ -57,7 +55,7 @@ fn have_no_line(posts: &[Post]) -> bool
     ensures { result ≡ true → All IsIdle posts.now }
 {
     for post in posts {
-        if post.from < post.to {
+        if post.answers.len() < post.to {
             return false;
         }
     }

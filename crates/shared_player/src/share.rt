@@ -1,60 +1,40 @@
 //! A worker's share of a trace.
-ghost use Rattle.std.specs.Prelude.{◌≡◌, ◌<◌, All, IfOk, length, map};
+ghost use Rattle.std.specs.Prelude.{◌≡◌, ◌<◌, ◌*◌, ℕ, All, IfOk, length, map};
 ghost use Rattle.std.specs.Arc.{arc_value};
-ghost use Rattle.trace.specs.declared.commands.Op.TheVariants as ops;
-ghost use Rattle.playing.specs.Playable.{HasPage, HaveRoom, lines_at};
+ghost use Rattle.lines.specs.Answers.{space_of};
+ghost use Rattle.playing.specs.Playable.{lines_at};
 ghost use Rattle.rounds.specs.Plans.{items_of};
 ghost use Rattle.shared_player.specs.Dealing.{AreDoable, IsFit};
 ghost use Rattle.shared_player.specs.Shares.{HasFitShare, work_in, with_commands};
 
 use geometry::Geometry;
-use lines::{Answer, Kind};
+use lines::Answers;
 use std::alloc::{AllocError, Global};
 use std::collections::VecDeque;
 use std::sync::Arc;
 use trace::{Commands, Op};
 
-/// What a worker plays: the places of its lines among the commands of a trace, a place for the answer of each, and a buffer of a page.
+/// What a worker plays: the places of its lines among the commands of a trace, room for their answers, and a buffer of a page.
 #[derive(Drop)]
 pub(crate) struct Share {
     pub commands: Arc<Commands, Global>,
     pub places: Vec<usize>,
-    pub answers: Vec<Answer>,
+    pub answers: Answers,
     pub buffer: Vec<u8>,
 }
 
-// A place for the answer of a line: a read's has room for a page.
-fn empty_answer(alloc: Global, geometry: &Geometry, op: Op) -> Result<Answer, AllocError>
-    ensures { IfOk result (λ answer. op ≡ ops.Read → HasPage geometry.now answer) }
-{
-    let bytes = if op == Op::Read {
-        geometry.page_bytes()
-    } else {
-        0
-    };
-    Ok(Answer {
-        kind: Kind::Empty,
-        page: vec![in alloc; 0; bytes]?,
-    })
-}
-
-// A place for the answer of each line at these places.
-fn empty_answers(
-    alloc: Global,
-    geometry: &Geometry,
-    commands: &Commands,
-    places: &[usize],
-) -> Result<Vec<Answer>, AllocError>
+// How many of the lines at these places are reads.
+fn count_reads(commands: &Commands, places: &[usize]) -> usize
     requires { All (λ p. p < length commands.now) places.now }
-    ensures count { IfOk result (λ answers. length answers.items ≡ length places.now) }
-    ensures room { IfOk result (λ answers. HaveRoom geometry.now (lines_at commands.now places.now) answers.items) }
+    ensures { (n : ℕ) → space_of n (lines_at commands.now places.now) ≡ n * result }
 {
-    let mut answers = Vec::with_capacity(alloc, places.len())?;
+    let mut reads = 0;
     for place in places {
-        let op = commands.command(*place).op;
-        answers.push_reserved(empty_answer(alloc, geometry, op)?);
+        if let Op::Read = commands.command(*place).op {
+            reads += 1;
+        }
     }
-    Ok(answers)
+    reads
 }
 
 // The share with the lines at these places.
@@ -68,7 +48,8 @@ fn make_share(
     ensures fit { IfOk result (HasFitShare geometry.now) }
     ensures work { IfOk result (λ share. work_in share ≡ (arc_value commands.now, places.items)) }
 {
-    let answers = empty_answers(alloc, geometry, commands, &places)?;
+    let reads = count_reads(commands, &places);
+    let answers = Answers::with_room(alloc, geometry.page_bytes(), places.len(), reads)?;
     Ok(Share {
         commands: Arc::try_clone(commands)?,
         places,

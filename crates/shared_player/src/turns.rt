@@ -28,23 +28,23 @@ pub enum Turn {
     Playing(PromisedHandle<Post, PlayOf>),
 }
 
-// Plays a post's lines.
+// Plays the lines of a post's round.
 fn work<G: Gate>(post: Post, patience: u32, gate: &mut G) -> Post
     ensures { HasPlayed patience post result }
 {
     let mut post = post;
     let p = &mut post;
-    let from = p.from;
+    let answered = p.answers.len();
     let to = p.to;
     play_at(
         &p.volume,
         &mut p.pass,
         &p.commands,
-        &p.places[from..to],
+        &p.places[answered..to],
         patience,
         gate,
         &mut p.buffer,
-        &mut p.answers[from..to],
+        &mut p.answers,
     );
     post
 }
@@ -59,7 +59,7 @@ pub(crate) fn start_post<'s, E, S: Starts, G: Gate + Send>(
 ) -> Result<Turn, NoShift>
     ensures { IfOk result (λ turn. asked patience turn ≡ with_patience patience post) }
 {
-    if post.from == post.to {
+    if post.answers.len() == post.to {
         return Ok(Turn::Idle(post));
     }
     if !starts.may_start() {

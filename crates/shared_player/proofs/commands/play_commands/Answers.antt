@@ -2,23 +2,23 @@ use Rattle.std.proofs.Common.{◌≡◌, ℕ, List, length, sym, ap, ◌∙◌, 
 use Rattle.std.specs.Arc.{arc_value}
 use Rattle.std.proofs.lemmas.List.{length-map}
 use Rattle.geometry.specs.Geometry.{hosts_of}
-use Rattle.lines.specs.Lines.{Said}
+use Rattle.lines.specs.declared.answers.Answers.{Answers}
 use Rattle.trace.specs.declared.commands.Command.{Command}
 use Rattle.volume.specs.declared.volume.Volume.{Volume}
 use Rattle.volume.specs.Volume.{flash_of}
 use Rattle.flash_table.specs.Flash.{geometry_of}
 use Rattle.rounds.specs.Plans.{ends_of}
-use Rattle.rounds.specs.Rows.{answers_in}
-use Rattle.shared_player.specs.Runs.{HasBegun, answers_of}
-use Rattle.shared_player.proofs.Ended.{all_played}
+use Rattle.shared_player.specs.Posts.{answers_kept}
+use Rattle.shared_player.specs.Runs.{HasBegun}
+use Rattle.shared_player.proofs.Ended.{all_paged, all_played}
 use Rattle.shared_player.proofs.commands.play_commands.Goals as goal
 
 pub returns-clause-rows : goal.returns-clause-rows
 returns-clause-rows g c =
     let geometry : geometry_of (flash_of c.deref-2.result.now) ≡ c.args.geometry.now = ap (λ (v : Volume). geometry_of (flash_of v)) c.deref-2.ensures ∙ c.in_ok-volume.ensures.geometry in
     let all = c.in_ok-crew.ensures.manned.all ∙ ap hosts_of geometry in
-    let are = ap (length {A = List Said}) c.hand_out.ensures in
-    omega (arith, length-map c.hand_out.new.rows.items answers_in, length-map c.in_ok-crew.crew.posts.items answers_of)
+    let are = ap (length {A = Answers}) c.hand_out.ensures in
+    omega (arith, length-map c.in_ok-crew.crew.posts.items answers_kept)
 
 pub returns-clause-played : goal.returns-clause-played
 returns-clause-played g c =
@@ -30,3 +30,8 @@ returns-clause-played g c =
     subst (λ (x : Volume × List ℕ). HasBegun x.0 cs x.1 c.in_ok-volume.crew.posts.items) (λ i. (sym c.deref-2.ensures i, ends i)) c.in_ok-volume.ensures.begun in
     all_played volume c.args.geometry.now c.args.patience cs c.in_ok-volume.crew.posts.items c.in_ok-crew.crew.posts.items c.hand_out.new.rows.items
     (ap (λ (v : Volume). geometry_of (flash_of v)) c.deref-2.ensures ∙ c.in_ok-volume.ensures.geometry) c.in_ok-crew.ensures.manned (c.in_ok-crew.ensures.run cs begun) c.hand_out.ensures
+
+pub returns-clause-pages : goal.returns-clause-pages
+returns-clause-pages g c =
+    all_paged c.deref-2.result.now c.args.geometry.now c.in_ok-crew.crew.posts.items c.hand_out.new.rows.items
+    (ap (λ (v : Volume). geometry_of (flash_of v)) c.deref-2.ensures ∙ c.in_ok-volume.ensures.geometry) c.in_ok-crew.ensures.manned c.hand_out.ensures
