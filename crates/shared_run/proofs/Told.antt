@@ -4,7 +4,7 @@ use Rattle.std.specs.Prelude.{All, IfSome, Ok, Vec, if◌then◌else◌, not, �
 use Rattle.std.specs.Io.KnownBytes.{Appends}
 use Rattle.std.specs.Global.{Global}
 use Rattle.std.proofs.lemmas.List.{get_or-map}
-use Rattle.std.proofs.lemmas.List.Elements.{All-head, All-tail}
+use Rattle.std.proofs.lemmas.List.Elements.{All-head, All-tail, All-weaker}
 use Rattle.std.proofs.lemmas.Option.{slice_get-get_or}
 use mathlib.Core.Logic.{dite}
 use native.Mathlib.Decide.{dec_lt}
@@ -23,9 +23,11 @@ use Rattle.lines.specs.Lines.{Said, calls_made, kind_of, IsRight}
 use Rattle.lines.specs.declared.answer.Kind.{Kind}
 use Rattle.lines.specs.declared.answer.Kind.TheVariants as kind
 use Rattle.rounds.specs.Merging.{is_meet, line_count, lines_for, merge, HaveAnswers}
-use Rattle.rounds.specs.Rows.{answers_by, answers_in}
+use Rattle.lines.specs.Answers.{page_size_of}
+use Rattle.lines.specs.declared.answers.Answers.{Answers}
+use Rattle.rounds.specs.Rows.{answers_by}
 use Rattle.rounds.specs.Texts.{lines_text}
-use Rattle.delivery.specs.Delivering.{HasDigits, text_of}
+use Rattle.delivery.specs.Delivering.{text_of}
 use Rattle.shared_player.specs.Commands.{ArePlayed}
 use Rattle.shared_run.specs.Texts.{IsTextOf}
 
@@ -35,30 +37,6 @@ plays_long n t seen [] [] last plays = refl
 plays_long n t seen [] (a ∷ answers) last plays = absurd plays
 plays_long n t seen (c ∷ lines) [] last plays = absurd plays
 plays_long n t seen (c ∷ lines) (a ∷ answers) last plays = ap suc (plays_long n t (plays.0 ++ calls_made t c a) lines answers last plays.3)
-
--- what a sector was is told without a page
-no_page : (x : Sector) → ¬ (kind_of (was_of x) ≡ kind.Page)
-no_page None is = absurd (cc)
-no_page (Some value) is = absurd (cc)
-
--- a page is told of a read alone
-page_of_read : (o : Op) (x : Sector) (k : Kind) (page : List ℕ) → IsRight o x k page → k ≡ kind.Page → o ≡ op.Read
-page_of_read op.Read x k page right is = refl
-page_of_read op.Write x k page right is = absurd (⊎_elim (λ (e : k ≡ kind.Full). absurd (cc)) (λ (e : k ≡ kind_of (was_of x)). no_page x (sym e ∙ is)) right)
-page_of_read op.New x k page right is = absurd (⊎_elim (λ (e : k ≡ kind.Full). absurd (cc)) (λ (e : k ≡ kind_of (was_of x)). no_page x (sym e ∙ is)) right)
-page_of_read op.Trim x k page right is = absurd (no_page x (sym right ∙ is))
-page_of_read op.Meet x k page right is = absurd (cc)
-
--- an answer with a page is that of a read
-answer_of_read : (n t : ℕ) (seen : List Call) (lines : List Command) (answers : List Said) (last : List Call) (p : ℕ) (a : Said) → Plays n t seen lines answers last → slice_get answers p ≡ Some a → a.kind ≡ kind.Page
-    → (c : Command) × (slice_get lines p ≡ Some c) × (c.op ≡ op.Read)
-answer_of_read n t seen [] [] last p a plays at is = absurd (cc)
-answer_of_read n t seen [] (b ∷ answers) last p a plays at is = absurd plays
-answer_of_read n t seen (c ∷ lines) [] last p a plays at is = absurd plays
-answer_of_read n t seen (c ∷ lines) (b ∷ answers) last zero a plays at is =
-    let same : b ≡ a = cc in
-    (c, refl, page_of_read c.op _ b.kind b.page plays.2 (ap (λ (x : Said). x.kind) same ∙ is))
-answer_of_read n t seen (c ∷ lines) (b ∷ answers) last (suc p) a plays at is = answer_of_read n t (plays.0 ++ calls_made t c b) lines answers last p a plays.3 at is
 
 -- a worker that isn't there has no line
 none_past : (hosts t : ℕ) (cs : List Command) → All (λ c. c.worker < hosts) cs → hosts ≤ t → line_count t cs ≡ 0
@@ -87,20 +65,12 @@ enough_answers geo patience cs rows some playable played t =
     (λ low. let long = plays_long (sectors_of geo) t [] (lines_for t cs) (rows t) played.told.history (played.told.plays t low) in omega (arith, long))
     (λ past. let none = none_past (hosts_of geo) t cs (workers_there geo cs some playable) (omega arith) in omega (arith, none))
 
--- and each page that is told is whole
-pub whole_pages : (geo : Geometry) (patience : ℕ) (cs : List Command) (rows : List (Vec Answer Global)) (digits : ℕ) → length rows ≡ hosts_of geo → digits ≡ 2 * page_bytes_of geo → ArePlayed geo patience cs (answers_by rows) → All (λ row. All (HasDigits digits) (answers_in row)) rows
-whole_pages geo patience cs rows digits all same played t row low p a within is =
-    let here = get_or rows t row in
-    let found = get_or here.items p a in
-    let own : answers_by rows t ≡ here.items = get_or-map answers_in rows t row [] low in
-    let at : slice_get (answers_by rows t) p ≡ Some found = ap (λ l. slice_get l p) own ∙ slice_get-get_or here.items p a within in
-    let there : t < hosts_of geo = omega arith in
-    let line = answer_of_read (sectors_of geo) t [] (lines_for t cs) (answers_by rows t) played.told.history p found (played.told.plays t there) at is in
-    let long : length found.page ≡ page_bytes_of geo = played.room t there p line.0 found line.1 at line.2 in
-    omega (arith, same, long)
+-- the digits of the rows' pages
+pub all_digits : (geo : Geometry) (rows : List Answers) (digits : ℕ) → digits ≡ 2 * page_bytes_of geo → All (λ row. page_size_of row ≡ page_bytes_of geo) rows → All (λ row. digits ≡ 2 * page_size_of row) rows
+all_digits geo rows digits same sizes = All-weaker (λ row. page_size_of row ≡ page_bytes_of geo) (λ row. digits ≡ 2 * page_size_of row) (λ row size. omega (arith, same, size)) rows sizes
 
 -- what was played, under other names for the commands and the rows
-pub renamed : (geo : Geometry) (patience : ℕ) (cs were : List Command) (rows stood : List (Vec Answer Global)) → cs ≡ were → rows ≡ stood → ArePlayed geo patience were (answers_by stood) → ArePlayed geo patience cs (answers_by rows)
+pub renamed : (geo : Geometry) (patience : ℕ) (cs were : List Command) (rows stood : List Answers) → cs ≡ were → rows ≡ stood → ArePlayed geo patience were (answers_by stood) → ArePlayed geo patience cs (answers_by rows)
 renamed geo patience cs were rows stood same same_rows played =
     subst (λ l. ArePlayed geo patience l (answers_by rows)) (sym same) (subst (λ r. ArePlayed geo patience were (answers_by r)) (sym same_rows) played)
 

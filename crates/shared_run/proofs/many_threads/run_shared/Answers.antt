@@ -3,8 +3,10 @@ use Rattle.std.specs.List.{All}
 use Rattle.trace.specs.Watched.{inner_of}
 use Rattle.answers.specs.Playable.{IsPlayable}
 use Rattle.rounds.specs.Rows.{answers_by}
+use Rattle.geometry.specs.Geometry.{page_bytes_of}
+use Rattle.lines.specs.Answers.{page_size_of}
 use Rattle.delivery.specs.Delivering.{digits_in}
-use Rattle.shared_run.proofs.Told.{enough_answers, part_sent, renamed, renamed_meaning, some_meaning, text_sent, whole_pages}
+use Rattle.shared_run.proofs.Told.{all_digits, enough_answers, part_sent, renamed, renamed_meaning, some_meaning, text_sent}
 use Rattle.shared_run.proofs.many_threads.run_shared.Goals as goal
 
 pub deliver-requires-clause-answers : goal.deliver-requires-clause-answers
@@ -18,9 +20,8 @@ deliver-requires-clause-answers g c =
 pub deliver-requires-clause-pages : goal.deliver-requires-clause-pages
 deliver-requires-clause-pages g c =
     let geo = c.args.geometry.now in
-    let rows = c.deref-2.result.now in
-    let played = renamed geo c.args.patience c.deref.result.now _ rows _ c.deref.ensures c.deref-2.ensures.value c.in-Ok-play_commands.ensures.played in
-    whole_pages geo c.args.patience c.deref.result.now rows (digits_in c.in-Ok-new.delivery) (ap length c.deref-2.ensures.value ∙ c.in-Ok-play_commands.ensures.rows) c.in-Ok-new.ensures.digits played
+    let sizes = subst (All (λ row. page_size_of row ≡ page_bytes_of geo)) (sym c.deref-2.ensures.value) c.in-Ok-play_commands.ensures.pages in
+    all_digits geo c.deref-2.result.now (digits_in c.in-Ok-new.delivery) c.in-Ok-new.ensures.digits sizes
 
 pub returns-in-Ok-deliver-clause-text : goal.returns-in-Ok-deliver-clause-text
 returns-in-Ok-deliver-clause-text g c =
