@@ -3,6 +3,7 @@ ghost use Rattle.std.specs.Bool.{OnTrue};
 ghost use Rattle.std.specs.Prelude.{◌≡◌, ◌<◌, Some, length, slice_get};
 ghost use Rattle.geometry.specs.Geometry.{sectors_of, page_bytes_of};
 ghost use Rattle.flash_table.specs.Flash.{geometry_of};
+ghost use Rattle.lines.specs.Answers.{page_size_of, HasSpace};
 ghost use Rattle.host.specs.Ready.{IsReady};
 ghost use Rattle.volume.specs.Volume.{flash_of};
 ghost use Rattle.trace.specs.declared.commands.Op.TheVariants as op;
@@ -10,7 +11,7 @@ ghost use Rattle.trace.specs.declared.commands.Op.TheVariants as op;
 use crate::opening::last_pass;
 use flash_table::{Gate, Pass, Point};
 use geometry::Geometry;
-use lines::{Answer, Kind};
+use lines::{Answer, Answers, Kind};
 use playing::{play, play_at};
 use std::test::Fail;
 use trace::{Command, Commands, Op, parse};
@@ -44,6 +45,7 @@ fn play_twice(
     commands: &Commands,
     line: Command<'_>,
     answer: Answer,
+    added: Answers,
 ) -> u32
     requires sectors { sectors_of (geometry_of (flash_of volume.now)) ≡ 2 }
     requires bytes { page_bytes_of (geometry_of (flash_of volume.now)) ≡ 8 }
@@ -52,10 +54,13 @@ fn play_twice(
     requires op { line.op ≡ op.Trim }
     requires sector { line.sector < 2 }
     requires page { length answer.page.items ≡ 8 }
+    requires size { page_size_of added ≡ 8 }
+    requires space { HasSpace added 1 8 }
 {
     let mut pass = pass;
     let mut gate = Counts { answered: 0 };
     let mut answers = [answer];
+    let mut added = added;
     play(volume, &mut pass, &[line], 1, &mut gate, &mut answers);
     play_at(
         volume,
@@ -65,7 +70,7 @@ fn play_twice(
         1,
         &mut gate,
         &mut [0; 8],
-        &mut answers,
+        &mut added,
     );
     volume.retire(pass);
     gate.answered
@@ -79,6 +84,7 @@ fn a_player_stops_at_its_gate_for_each_answer(rt: HostRuntime) -> Result<(), Fai
         kind: Kind::Full,
         page: vec![in rt.alloc(); 0; 8]?,
     };
+    let added = Answers::with_room(rt.alloc(), 8, 1, 1)?;
     assert!(rt; commands.len() == 1);
     let line = commands.command(0);
     assert!(rt; is_trim(&line));
@@ -86,6 +92,6 @@ fn a_player_stops_at_its_gate_for_each_answer(rt: HostRuntime) -> Result<(), Fai
     brooms.destroy_empty();
     let pass = last_pass(&volume, &mut passes);
     passes.destroy_empty();
-    assert!(rt; play_twice(&volume, pass, &commands, line, answer) == 2);
+    assert!(rt; play_twice(&volume, pass, &commands, line, answer, added) == 2);
     Ok(())
 }

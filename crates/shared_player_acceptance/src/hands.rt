@@ -2,7 +2,7 @@
 use answers::read_commands;
 use flash_table::{Gate, NoGate};
 use geometry::Geometry;
-use lines::{Answer, Kind};
+use lines::{Answer, Answers, Cursor, Kind};
 use shared_player::{AllStart, NoShift, Starts, play_commands};
 use std::alloc::Global;
 use std::process::Abort;
@@ -14,6 +14,18 @@ use trace::Watched;
 /// A device of so many blocks of two pages of one word, with two sectors.
 pub(crate) fn small(blocks: u32, hosts: u32, brooms: u32) -> Result<Geometry, Fail> {
     Ok(Geometry::new(1, blocks, 2, 1, 2, 1000, hosts, brooms)?)
+}
+
+// A row's answers, each with its page.
+fn listed(alloc: Global, row: &Answers) -> Result<Vec<Answer>, Fail> {
+    let mut cursor = Cursor::new();
+    let mut answers = Vec::new(alloc);
+    for _ in 0..row.len() {
+        let (kind, found) = row.next(&mut cursor);
+        let page = Vec::from_slice(alloc, found)?;
+        answers.push(Answer { kind, page })?;
+    }
+    Ok(answers)
 }
 
 /// Plays a trace, with these gates.
@@ -35,7 +47,16 @@ pub(crate) fn play<
     };
     assert!(rt; geometry.hosts() > 0);
     assert!(rt; gates.len() == geometry.hosts() as usize + geometry.brooms() as usize);
-    Ok(play_commands(rt, rt.alloc(), starts, geometry, &commands, patience, gates))
+    let alloc = rt.alloc();
+    let rows = match play_commands(rt, alloc, starts, geometry, &commands, patience, gates) {
+        Ok(rows) => rows,
+        Err(fault) => return Ok(Err(fault)),
+    };
+    let mut answers = Vec::new(alloc);
+    for row in &rows {
+        answers.push(listed(alloc, row)?)?;
+    }
+    Ok(Ok(answers))
 }
 
 /// Plays a trace with gates that do nothing.

@@ -1,4 +1,4 @@
-use Rattle.std.proofs.Common.{◌≡◌, ◌<◌, All, List, [], ◌∷◌, Some, sym, ◌∙◌, subst, arith}
+use Rattle.std.proofs.Common.{◌≡◌, ◌<◌, All, List, [], ◌∷◌, Some, sym, ap, ◌∙◌, subst, arith}
 use Rattle.std.specs.Prelude.{slice_get, slice_index_or}
 use Rattle.std.proofs.lemmas.List.Elements.{All-cons, All-nil}
 use Rattle.geometry.specs.declared.geometry.Geometry.{Geometry}
@@ -7,6 +7,7 @@ use Rattle.flash_table.specs.Flash.{geometry_of}
 use Rattle.trace.specs.declared.commands.Command.{Command}
 use Rattle.trace.specs.declared.commands.Op.{Op}
 use Rattle.trace.specs.declared.commands.Op.TheVariants as op
+use Rattle.lines.specs.Answers.{page_size_of, space_for, HasSpaceFor}
 use Rattle.playing.specs.Playable.{IsLine, HasPage, no_line}
 use Rattle.volume.specs.Volume.{flash_of}
 use Rattle.shared_acceptance.proofs.plays.play_twice.Goals as goal
@@ -46,3 +47,12 @@ play_at-requires-clause-lines c =
     let geo = geometry_of (flash_of c.args.volume.now) in
     let line = is_line geo c.args.line c.requires.op (omega (arith, c.requires.sectors, c.requires.sector)) in
     subst (λ (x : Command). All (IsLine geo) (x ∷ [])) (sym (the_first c.args.commands.now c.args.line c.requires.first)) (one_line geo c.args.line line)
+
+-- there is room for the line's answer
+pub play_at-requires-clause-space : goal.play_at-requires-clause-space
+play_at-requires-clause-space c =
+    let one = c.requires.space in
+    let kinds = one.kinds in
+    let pages = one.pages in
+    let no_page = ap (space_for (page_size_of c.args.added)) c.requires.op in
+    subst (λ (x : Command). HasSpaceFor c.args.added (x ∷ [])) (sym (the_first c.args.commands.now c.args.line c.requires.first)) (record { kinds = omega arith; pages = omega (arith, no_page) })
