@@ -41,6 +41,6 @@ loop-place-preserved c =
     let few = c.loop-place.invariant.1 in
     let next : suc c.loop-place.reads ≡ c.loop-place.reads + 1 = omega arith in
     elim c.match-command.branch [
-      in-Read w ↦ (λ n. all n ∙ (ap (λ o. n * c.loop-place.reads + space_for n o) w.in-Read.is ∙ (sym (mul-suc n c.loop-place.reads) ∙ ap (λ k. n * k) (next ∙ sym w.reads-is))), (let is = w.reads-is in omega arith))
-    | in_default w ↦ (λ n. all n ∙ (ap (λ k. n * c.loop-place.reads + k) (not_read n command.op w.in_default.not-Read) ∙ (add-zero (n * c.loop-place.reads) ∙ ap (λ k. n * k) (sym w.reads-is))), (let is = w.reads-is in omega arith))
+      | in-Read w ↦ (λ n. all n ∙ (ap (λ o. n * c.loop-place.reads + space_for n o) w.in-Read.is ∙ (sym (mul-suc n c.loop-place.reads) ∙ ap (λ k. n * k) (next ∙ sym w.reads-is))), (let is = w.reads-is in omega arith))
+      | in_default w ↦ (λ n. all n ∙ (ap (λ k. n * c.loop-place.reads + k) (not_read n command.op w.in_default.not-Read) ∙ (add-zero (n * c.loop-place.reads) ∙ ap (λ k. n * k) (sym w.reads-is))), (let is = w.reads-is in omega arith))
     ]

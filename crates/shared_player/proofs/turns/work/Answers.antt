@@ -28,7 +28,7 @@ play_at-requires-clause-lines g c =
     subst P (λ i. (sym c.deref.ensures i, sym c.deref-2.ensures i, sym c.deref-3.ensures.value i, sym c.len-answered.ensures i)) there
 
 pub play_at-requires-clause-space : goal.play_at-requires-clause-space
-play_at-requires-clause-space g c = 
+play_at-requires-clause-space g c =
     let post = c.args.post in
     let P : List Command × List ℕ × ℕ → Type 0 = λ x. HasSpaceFor post.answers (lines_at x.0 (slice_range x.1 x.2 post.to)) in
     subst P (λ i. (sym c.deref-2.ensures i, sym c.deref-3.ensures.value i, sym c.len-answered.ensures i)) (round_room post)
