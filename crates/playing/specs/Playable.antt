@@ -2,9 +2,13 @@
 use Rattle.std.specs.Prelude.{◌≡◌, ◌+◌, ◌<◌, ◌++◌, ℕ, List, [], length, drop, map, slice_index_or}
 use Rattle.geometry.specs.Geometry.{sectors_of, page_bytes_of}
 use Rattle.geometry.specs.declared.geometry.Geometry.{Geometry}
+use Rattle.flash_table.specs.declared.pass.Pass.{Pass}
+use Rattle.flash_table.specs.Flash.{view_of}
+use Rattle.flash_table.specs.Steps.{HasNumber}
 use Rattle.trace.specs.declared.commands.Command.{Command}
 use Rattle.trace.specs.declared.commands.Op.TheVariants as op
 use Rattle.lines.specs.Lines.{Said}
+use Rattle.lines.specs.Playing.{Played}
 use Rattle.lines.specs.Answers.{page_size_of, said_in, HasSpaceFor}
 use Rattle.lines.specs.declared.answer.Answer.{Answer}
 use Rattle.lines.specs.declared.answers.Answers.{Answers}
@@ -27,6 +31,10 @@ no_line = record { worker = 0; op = op.Meet; sector = 0; page = [] }
 -- the lines at these places
 abbrev pub lines_at : List Command → List ℕ → List Command
 lines_at lines places = map (λ p. slice_index_or lines p no_line) places
+
+-- the pass has played these lines, with so many tries of each write, and they were answered so
+abbrev pub HasPlayedLines : ℕ → Pass → List Command → List Said → Pass → Type 0
+HasPlayedLines patience old lines answers new = (t : ℕ) → HasNumber t old → Played t patience (view_of old) lines answers (view_of new)
 
 -- the answers that were added behind others
 abbrev pub added : Answers → Answers → List Said

@@ -1,15 +1,13 @@
 ghost use Rattle.std.specs.Prelude.{◌≡◌, ◌<◌, ℕ, All, length, map};
 ghost use Rattle.geometry.specs.Geometry.{sectors_of, page_bytes_of};
-ghost use Rattle.flash_table.specs.Flash.{view_of, geometry_of};
+ghost use Rattle.flash_table.specs.Flash.{geometry_of};
 ghost use Rattle.host.specs.Ready.{IsReady};
 ghost use Rattle.trace.specs.declared.commands.Op.TheVariants as op;
 ghost use Rattle.volume.specs.Volume.{flash_of};
 ghost use Rattle.lines.specs.Lines.{said};
 ghost use Rattle.lines.specs.Answers.{page_size_of, HasSpaceFor};
-ghost use Rattle.lines.specs.Playing.{Played};
-ghost use Rattle.playing.specs.Playable.{IsLine, HasPage, HasAnswered, added, lines_at};
+ghost use Rattle.playing.specs.Playable.{IsLine, HasPage, HasAnswered, HasPlayedLines, added, lines_at};
 ghost use Rattle.playing.specs.Line.{kind_found, HasPlayedLine};
-ghost use Rattle.flash_table.specs.Steps.{HasNumber};
 
 use flash_table::{Gate, Pass, Point};
 use geometry::Got;
@@ -120,7 +118,7 @@ pub fn play<G: Gate>(
     requires lines { All (IsLine (geometry_of (flash_of volume.now))) lines.now }
     requires count { length answers.old ≡ length lines.now }
     requires pages { All (HasPage (geometry_of (flash_of volume.now))) answers.old }
-    ensures told { (t : ℕ) → HasNumber t pass.old → Played t patience (view_of pass.old) lines.now (map said answers.new) (view_of pass.new) }
+    ensures told { HasPlayedLines patience pass.old lines.now (map said answers.new) pass.new }
     ensures pages { All (HasPage (geometry_of (flash_of volume.now))) answers.new }
     ensures pass { IsReady (flash_of volume.now) pass.new }
 {
@@ -148,7 +146,7 @@ pub fn play_at<G: Gate>(
     requires buffer { length buffer.old ≡ page_bytes_of (geometry_of (flash_of volume.now)) }
     requires page { page_size_of answers.old ≡ page_bytes_of (geometry_of (flash_of volume.now)) }
     requires space { HasSpaceFor answers.old (lines_at commands.now places.now) }
-    ensures told { (t : ℕ) → HasNumber t pass.old → Played t patience (view_of pass.old) (lines_at commands.now places.now) (added answers.old answers.new) (view_of pass.new) }
+    ensures told { HasPlayedLines patience pass.old (lines_at commands.now places.now) (added answers.old answers.new) pass.new }
     ensures answered { HasAnswered (lines_at commands.now places.now) answers.old answers.new }
     ensures pass { IsReady (flash_of volume.now) pass.new }
 {
