@@ -108,3 +108,30 @@ returns-then-is_none-clause-told g c = search rules
 
 pub returns-then-is_none-clause-block : goal.returns-then-is_none-clause-block
 returns-then-is_none-clause-block g c = tt
+
+pub choose-requires : goal.choose-requires
+choose-requires g c = c.requires
+
+pub returns-in_default-clause-ready : goal.returns-in_default-clause-ready
+returns-in_default-clause-ready g c = c.choose.ensures.ready
+
+pub returns-in_default-clause-queue : goal.returns-in_default-clause-queue
+returns-in_default-clause-queue g c = c.choose.ensures.queue
+
+pub returns-in_default-clause-block : goal.returns-in_default-clause-block
+returns-in_default-clause-block g c = tt
+
+pub claim-requires-clause-broom : goal.claim-requires-clause-broom
+claim-requires-clause-broom g c = c.choose.ensures.ready.rested.seat
+
+pub claim-requires-clause-at_rest : goal.claim-requires-clause-at_rest
+claim-requires-clause-at_rest g c = c.choose.ensures.ready.rested.reclaiming
+
+pub returns-then-not-claim-clause-queue : goal.returns-then-not-claim-clause-queue
+returns-then-not-claim-clause-queue g c = let h = c.choose.ensures.queue in record { place = h.place; aside = h.aside }
+
+pub returns-then-not-claim-clause-block : goal.returns-then-not-claim-clause-block
+returns-then-not-claim-clause-block g c = tt
+
+pub returns-clause-queue : goal.returns-clause-queue
+returns-clause-queue g c = let h = c.choose.ensures.queue in record { place = h.place; aside = h.aside }

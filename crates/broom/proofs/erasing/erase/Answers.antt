@@ -35,12 +35,9 @@ returns-then-ne-clause-told g c =
 
 pub returns-then-ne-clause-ready : goal.returns-then-ne-clause-ready
 returns-then-ne-clause-ready g c =
-    let s = c.args.broom.now.seat in
-    let p = c.load_state-state.result in
     let load = c.load_state-state.ensures in
     let h = c.requires.broom in
-    let other : ¬ (p.phase ≡ Drained) = search rules in
-    let is = loaded_stale (broom_view s) (broom_view c.load_state-state.new.broom) c.args.block p load.fits other load.told in
+    let is = (returns-then-ne-clause-told g c).0.changed in
     record { rested = rested_loaded c.args.flash.now c.args.broom.now.seat c.load_state-state.new.broom h.rested load.broom load.blocks _ _ _ is; states = h.states; counts = h.counts; closed = h.closed }
 
 -- it has readers
@@ -55,12 +52,9 @@ returns-then-state-gt0-clause-told g c =
 
 pub returns-then-state-gt0-clause-ready : goal.returns-then-state-gt0-clause-ready
 returns-then-state-gt0-clause-ready g c =
-    let s = c.args.broom.now.seat in
-    let p = c.load_state-state.result in
     let load = c.load_state-state.ensures in
     let h = c.requires.broom in
-    let drained : p.phase ≡ Drained = search rules in
-    let is = loaded_busy (broom_view s) (broom_view c.load_state-state.new.broom) c.args.block p load.fits drained (omega arith) load.told in
+    let is = (returns-then-state-gt0-clause-told g c).0.changed in
     record { rested = rested_loaded c.args.flash.now c.args.broom.now.seat c.load_state-state.new.broom h.rested load.broom load.blocks _ _ _ is; states = h.states; counts = h.counts; closed = h.closed }
 
 -- its word has changed
@@ -76,13 +70,10 @@ returns-then-not-condemn-clause-told g c =
 
 pub returns-then-not-condemn-clause-ready : goal.returns-then-not-condemn-clause-ready
 returns-then-not-condemn-clause-ready g c =
-    let s = c.args.broom.now.seat in
-    let p = c.load_state-state.result in
     let load = c.load_state-state.ensures in
     let h = c.requires.broom in
-    let drained : p.phase ≡ Drained = search rules in
     let busy = c.if-not-condemn.ensures.told in
-    let is = loaded_changed (broom_view s) (broom_view c.load_state-state.new.broom) (broom_view c.condemn.new.broom) c.args.block p load.fits drained (omega arith) load.told busy.changed in
+    let is = (returns-then-not-condemn-clause-told g c).0.changed in
     record { rested = rested_loaded c.args.flash.now c.args.broom.now.seat c.condemn.new.broom h.rested c.condemn.ensures.broom (busy.blocks ∙ load.blocks) _ _ _ is; states = h.states; counts = h.counts; closed = h.closed }
 
 pub condemn-requires-clause-expected : goal.condemn-requires-clause-expected

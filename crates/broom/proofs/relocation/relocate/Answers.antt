@@ -40,3 +40,9 @@ loop-page-preserved g c =
       | then-clear_page w ↦ more (let one : count_if c.clear_page.result ≡ 1 = ap count_if w.if-clear_page.true in let e = w.copied-is in omega arith)
       | else-clear_page w ↦ more (let none : count_if c.clear_page.result ≡ 0 = ap count_if w.if-clear_page.false in let e = w.copied-is in omega arith)
     ]
+
+pub clear_page-requires-clause-cleared : goal.clear_page-requires-clause-cleared
+clear_page-requires-clause-cleared g c = sym c.loop-page.invariant.cleared
+
+pub returns-clause-source : goal.returns-clause-source
+returns-clause-source g c = c.loop-page.invariant.source
