@@ -1,3 +1,4 @@
+use Rattle.std.proofs.lemmas.Grind.{common_steps}
 use Rattle.std.proofs.Common.{◌≡◌, ◌∙◌, ◌+◌, ◌*◌, List, get_or, map, replicate, refl, ap, arith, rules}
 use Rattle.std.specs.List.{range_with_len}
 use Rattle.std.proofs.lemmas.List.{get_or-replicate}
@@ -26,3 +27,12 @@ returns c = record {
       ap by state;
   copybacks = refl;
 }
+
+pub overflow_mul-places : goal.overflow_mul-places
+overflow_mul-places c = grind (arith, common_steps)
+
+pub overflow_mul-places-2 : goal.overflow_mul-places-2
+overflow_mul-places-2 c = grind (arith, common_steps)
+
+pub invariant_of-result : goal.invariant_of-result
+invariant_of-result c = grind (arith, common_steps)
