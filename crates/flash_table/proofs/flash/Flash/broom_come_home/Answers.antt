@@ -1,4 +1,4 @@
-use Rattle.std.proofs.Common.{ap, arith}
+use Rattle.std.proofs.Common.{ap, arith, refl}
 use Rattle.geometry.specs.Geometry.{numbers_of}
 use Rattle.flash_table.specs.Flash.{device, broom_view, note_view}
 use Rattle.flash_table.proofs.Here.{home_here}
@@ -18,3 +18,6 @@ join_seat-requires c =
       omega arith,
       home_here (device f) (numbers_of f.table.shared.key) (ap numbers_of f.key) s.seat.id (broom_view s) (broom_player f s c.requires.broom) c.args.note.seat.id (note_view c.args.note) t.0 t.1 t.2 c.requires.note.role t.3 t.4 t.5,
     )
+
+pub returns-clause-blocks : goal.returns-clause-blocks
+returns-clause-blocks c = refl

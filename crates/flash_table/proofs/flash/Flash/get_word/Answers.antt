@@ -1,4 +1,4 @@
-use Rattle.std.proofs.Common.{◌≡◌, ◌+◌, ℕ, ap, arith}
+use Rattle.std.proofs.Common.{◌≡◌, ◌+◌, ℕ, ap, arith, refl}
 use Rattle.geometry.specs.Geometry.{numbers_of}
 use Rattle.geometry.specs.TableOrder.{page_index}
 use Rattle.geometry.specs.declared.map_word.MapWord.{MapWord}
@@ -32,3 +32,6 @@ returns-clause-told c value pin =
 
 pub returns-clause-spared : goal.returns-clause-spared
 returns-clause-spared c value carried pin copy = c.load.ensures.2.2 c.args.page value carried pin copy
+
+pub returns-clause-opened : goal.returns-clause-opened
+returns-clause-opened c = refl

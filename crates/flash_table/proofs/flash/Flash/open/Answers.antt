@@ -107,3 +107,30 @@ invariant_of-flash c = grind (arith, common_steps)
 
 pub loop-i-init : goal.loop-i-init
 loop-i-init c = (no_broom_yet _ _ _ _ _ c.loop.invariant.0 c.in-Ok.ensures.items, c.in-Ok.ensures.capacity)
+
+pub returns-in_default-clause-geometry : goal.returns-in_default-clause-geometry
+returns-in_default-clause-geometry c = tt
+
+pub returns-in_default-clause-count : goal.returns-in_default-clause-count
+returns-in_default-clause-count c = tt
+
+pub returns-in_default-clause-passes : goal.returns-in_default-clause-passes
+returns-in_default-clause-passes c = tt
+
+pub returns-in_default-clause-brooms : goal.returns-in_default-clause-brooms
+returns-in_default-clause-brooms c = tt
+
+pub returns-clause-geometry : goal.returns-clause-geometry
+returns-clause-geometry c = refl
+
+pub invariant_of-push_reserved : goal.invariant_of-push_reserved
+invariant_of-push_reserved c = let s = c.split_seat-seat.ensures in record { bare = ap (λ x. x.1) s.4; owns = ap (λ (v : View). v.owns) (ap (λ x. x.0) s.4) }
+
+pub returns-clause-passes : goal.returns-clause-passes
+returns-clause-passes c = c.loop.invariant.0.each
+
+pub returns-clause-brooms : goal.returns-clause-brooms
+returns-clause-brooms c = c.loop-i.invariant.0.each
+
+pub push_reserved-requires-in-loop-i : goal.push_reserved-requires-in-loop-i
+push_reserved-requires-in-loop-i c = let long = c.loop-i.invariant.0.long in let room = c.loop-i.invariant.1 in let below = c.loop-i-test.true in let is = c.loop-i.brooms.ok.0 in omega arith

@@ -1,4 +1,4 @@
-use Rattle.std.proofs.Common.{◌≡◌, ◌+◌, ap, ◌∙◌, arith}
+use Rattle.std.proofs.Common.{◌≡◌, ◌+◌, ap, ◌∙◌, arith, refl}
 use Rattle.geometry.specs.Geometry.{numbers_of}
 use Rattle.geometry.specs.TableOrder.{page_index}
 use Rattle.flash_rule.specs.declared.view.View.{View}
@@ -59,3 +59,6 @@ returns-clause-broom c =
     let here : c.page_word_at.result + c.args.i ≡ page_index (device f) o.block 0 + c.args.i = omega arith in
     let changed = wipe_view f s c.requires.broom f.table.shared.table_id.slots blank_word c.store.new.seat.me (c.page_word_at.result + c.args.i) c.args.i o can c.requires.next here c.store.ensures.2 in
     stays_broom f s _ c.requires.broom c.store.ensures.0 (ap (λ (w : View). w.role) changed) (ap (λ (w : View). w.numbers) changed)
+
+pub returns-clause-blocks : goal.returns-clause-blocks
+returns-clause-blocks c = refl
