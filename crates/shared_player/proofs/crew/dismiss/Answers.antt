@@ -1,5 +1,4 @@
-use Rattle.std.proofs.Common.{rules}
 use Rattle.shared_player.proofs.crew.dismiss.Goals as goal
 
 pub returns-clause-posts : goal.returns-clause-posts
-returns-clause-posts c = search rules
+returns-clause-posts c = c.into_vec.ensures.items
