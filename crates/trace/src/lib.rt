@@ -18,8 +18,8 @@ mod watched;
 
 pub use commands::{Command, CommandIter, Commands, Op};
 pub use fault::{TraceFault, TraceFaultKind};
-pub use limits::{MAX_DIGITS, MAX_TRACE_BYTES};
-pub use loading::load;
+pub use limits::MAX_DIGITS;
+pub use loading::{MAX_TRACE_BYTES, load};
 pub use page::Page;
 pub use parsing::{parse, parse_owned};
 pub use watched::Watched;

@@ -4,10 +4,12 @@ ghost use Rattle.trace.specs.Loading.{ExplainsLoad, most_bytes};
 ghost use Rattle.trace.specs.Watched.{failures_of, inner_of};
 
 use crate::fault::{TraceFault, TraceFaultKind};
-use crate::limits::MAX_TRACE_BYTES;
 use crate::watched::Watched;
 use std::alloc::Global;
 use std::io::Read;
+
+/// The most bytes of a trace.
+pub const MAX_TRACE_BYTES: usize = 268_435_456;
 
 const PIECE_BYTES: usize = 16_384;
 

@@ -1,8 +1,9 @@
-use Rattle.std.proofs.Common.{◌∙◌, append-nil, inr}
+use Rattle.std.proofs.Common.{◌∙◌, append-nil, arith, inr, refl}
 use Rattle.trace.specs.declared.fault.TraceFaultKind.TheVariants.{Fields}
 use Rattle.trace.specs.Stored.{drafted}
 use Rattle.trace.proofs.CommandFacts.{line_is}
-use Rattle.trace.proofs.CheckFacts.{commands_of-commands, first_other, one_more_command, refuses_fields, states_fault}
+use Rattle.trace.proofs.CheckFacts.{commands_of-commands, first_other, first_refused, one_more_command, refuses_fields, states_fault}
+use Rattle.trace.proofs.NumberFacts.{falls_past}
 use Rattle.trace.proofs.parsing.parse_lines.Goals as goal
 
 pub returns-in-End-clause-commands : goal.returns-in-End-clause-commands
@@ -46,3 +47,67 @@ returns-in-Err-clause-commands c = tt
 
 pub returns-in-Err-clause-each : goal.returns-in-Err-clause-each
 returns-in-Err-clause-each c = tt
+
+pub returns-in_default-clause-fault : goal.returns-in_default-clause-fault
+returns-in_default-clause-fault c = rw c.whole.ensures refl
+
+pub returns-in_default-clause-first : goal.returns-in_default-clause-first
+returns-in_default-clause-first c = rw c.whole.ensures tt
+
+pub returns-in-End-clause-kept : goal.returns-in-End-clause-kept
+returns-in-End-clause-kept c = c.in-Ok.ensures.draft.kept
+
+pub returns-in-End-clause-each : goal.returns-in-End-clause-each
+returns-in-End-clause-each c = rw c.in-End.ensures at c.in-Ok.ensures.so_far ∙ append-nil _
+
+pub parse_rest-requires-clause-place : goal.parse_rest-requires-clause-place
+parse_rest-requires-clause-place c = c.in-Ok.ensures.within
+
+pub parse_rest-requires-clause-draft : goal.parse_rest-requires-clause-draft
+parse_rest-requires-clause-draft c = c.in-Ok.ensures.draft
+
+pub parse_rest-requires-clause-so_far : goal.parse_rest-requires-clause-so_far
+parse_rest-requires-clause-so_far c = c.in-Ok.ensures.so_far
+
+pub returns-in-Record-default-None-clause-kept : goal.returns-in-Record-default-None-clause-kept
+returns-in-Record-default-None-clause-kept c = c.parse_rest.ensures.kept
+
+pub returns-in-Record-default-None-clause-commands : goal.returns-in-Record-default-None-clause-commands
+returns-in-Record-default-None-clause-commands c = c.parse_rest.ensures.commands
+
+pub returns-in-Record-default-None-clause-each : goal.returns-in-Record-default-None-clause-each
+returns-in-Record-default-None-clause-each c = c.parse_rest.ensures.each
+
+pub returns-in-Record-default-None-clause-fault : goal.returns-in-Record-default-None-clause-fault
+returns-in-Record-default-None-clause-fault c = c.parse_rest.ensures.fault
+
+pub returns-in-Record-default-None-clause-first : goal.returns-in-Record-default-None-clause-first
+returns-in-Record-default-None-clause-first c = c.parse_rest.ensures.first
+
+pub add_cut-requires-clause-draft : goal.add_cut-requires-clause-draft
+add_cut-requires-clause-draft c = c.in-Ok.ensures.draft
+
+pub add_cut-requires-clause-within : goal.add_cut-requires-clause-within
+add_cut-requires-clause-within c = c.in-Record-default-Some.ensures.high
+
+pub add_cut-requires-clause-place : goal.add_cut-requires-clause-place
+add_cut-requires-clause-place c = rw c.in-Record-default-Some.field-1-is at c.in-Record-default-Some.ensures.place
+
+pub returns-in-Err-clause-first : goal.returns-in-Err-clause-first
+returns-in-Err-clause-first c =
+    let next = c.in-Record-default-Some.ensures in
+    let told = rw c.in-Record-default-Some.field-1-is at next.told in
+    rw (c.fault-in-Err.ensures, c.next_line-line.ensures, line_is c.args.text.now c.add_usual_lines.new.draft)
+    (first_refused c.args.text.now c.args.geometry.now (drafted c.args.text.now c.add_usual_lines.new.draft) next.fields _ _ _ c.in-Ok.ensures.so_far next.first (rw told c.in-Err.ensures.refused))
+
+pub records-init : goal.records-init
+records-init c =
+    let none = c.new-draft.ensures.none in
+    record {
+      place = omega arith;
+      draft = record { kept = rw none (λ k d within. absurd (omega arith)); size = c.new-draft.ensures.size ∙ c.page_bytes.ensures.value };
+      so_far = rw none refl;
+    }
+
+pub records-smaller : goal.records-smaller
+records-smaller c = falls_past _ _ _ _ c.in-Ok.ensures.place c.in-Record-default-Some.ensures.low c.in-Record-default-Some.ensures.high
