@@ -3,6 +3,8 @@ use Rattle.geometry.specs.Geometry.{endurance_of}
 use Rattle.geometry.specs.Limits.{Numbers}
 use Rattle.geometry.specs.PinWords.{pin_word}
 use Rattle.geometry.specs.declared.pin_word.Phase.TheVariants.{Drained}
+use Rattle.flash_rule.specs.declared.view.View.{View}
+use Rattle.flash_table.specs.declared.broom_seat.BroomBlocks.{BroomBlocks}
 use Rattle.flash_table.specs.declared.broom_seat.Reclaiming.TheVariants.{Nothing}
 use Rattle.flash_table.specs.Flash.{broom_view, own_blocks, geometry_of}
 use Rattle.broom.proofs.Renewing.{was_wiped, its, did_retire, rested_retired}
@@ -12,6 +14,29 @@ use Rattle.shared_acceptance.proofs.words.erase_in_steps.Goals as goal
 pub returns-then-ne-clause-seat : goal.returns-then-ne-clause-seat
 returns-then-ne-clause-seat c =
     rested_loaded c.args.flash.now c.args.seat.now c.load_state-state.new.broom c.requires.seat c.load_state-state.ensures.broom c.load_state-state.ensures.blocks c.args.block (pin_word c.load_state-state.result) c.load_state-state.ensures.told
+
+pub wipe_all-requires-clause-erasing : goal.wipe_all-requires-clause-erasing
+wipe_all-requires-clause-erasing c =
+    (_, record { its = ap (λ (x : BroomBlocks). x.reclaiming) c.if-not-condemn.ensures.told.blocks; low = c.requires.block; within = c.load_state-state.ensures.ranges.1 })
+
+pub wipe_all-requires-clause-none : goal.wipe_all-requires-clause-none
+wipe_all-requires-clause-none c = ap (λ (v : View). v.wiped) c.if-not-condemn.ensures.told.changed
+
+pub retire_block-requires-clause-last : goal.retire_block-requires-clause-last
+retire_block-requires-clause-last c =
+    let its = ap (λ (x : BroomBlocks). x.reclaiming) (c.wipe_all.ensures.blocks ∙ c.if-not-condemn.ensures.told.blocks) in (
+      _,
+      record {
+        erases = record { its = its; low = c.requires.block; within = c.load_state-state.ensures.ranges.1 };
+        last = c.if-state-endurance.false ∙ (c.endurance.ensures.value ∙ ap endurance_of c.geometry.ensures);
+      },
+    )
+
+pub pin_word-word-requires-clause-seat : goal.pin_word-word-requires-clause-seat
+pin_word-word-requires-clause-seat c = c.requires.watcher
+
+pub returns-clause-watcher : goal.returns-clause-watcher
+returns-clause-watcher c = c.pin_word-word.ensures
 
 pub returns-clause-seat : goal.returns-clause-seat
 returns-clause-seat c =
