@@ -298,7 +298,7 @@ impl<'a, H: Home> Sweeper<'a, H> {
 }
 
 /// What an actor is between two calls.
-#[derive(Clone, Copy, PartialEq, Eq)]
+#[derive(Clone, Copy)]
 pub(crate) enum Role {
     Host,
     Holder,
@@ -376,6 +376,11 @@ impl<'a, H: Home> Actor<'a, H> {
     }
 }
 
+/// An actor is given up, if there is one. The answer is whether there was.
+pub(crate) fn dismiss<H: Home>(actor: Option<Actor<'_, H>>) -> bool {
+    actor.is_some()
+}
+
 /// A call of the actor at a place, which is empty only meanwhile.
 pub(crate) fn call_at<H: Home>(
     place: &mut Option<Actor<'_, H>>,
@@ -386,6 +391,6 @@ pub(crate) fn call_at<H: Home>(
         return Done::Nothing;
     };
     let (actor, done) = actor.does(rt, call, &mut NoGate);
-    *place = Some(actor);
+    dismiss(place.replace(actor));
     done
 }

@@ -1,8 +1,8 @@
 //! The actors that are inside no call.
-use crate::actors::{Actor, Home};
+use crate::actors::{Actor, Home, dismiss};
 
 /// Three hosts and two brooms.
-#[derive(Clone, Copy, PartialEq, Eq)]
+#[derive(Clone, Copy)]
 pub(crate) enum Who {
     A,
     B,
@@ -39,7 +39,7 @@ impl<'a, H: Home> Cast<'a, H> {
 
     /// An actor comes back. The answer is whether its place was empty.
     pub(crate) fn put(&mut self, who: Who, actor: Actor<'a, H>) -> bool {
-        self.place(who).replace(actor).is_none()
+        !dismiss(self.place(who).replace(actor))
     }
 
     /// Whether no host is inside a call.
@@ -49,10 +49,9 @@ impl<'a, H: Home> Cast<'a, H> {
 
     /// Whether no broom but this one is inside a call.
     pub(crate) fn has_other_broom(&self, broom: Who) -> bool {
-        if broom == Who::First {
-            self.second.is_some()
-        } else {
-            self.first.is_some()
+        match broom {
+            Who::First => self.second.is_some(),
+            _ => self.first.is_some(),
         }
     }
 

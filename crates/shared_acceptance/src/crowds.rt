@@ -4,7 +4,7 @@ ghost use Rattle.host.specs.Ready.{IsReady};
 ghost use Rattle.volume.specs.Volume.{flash_of};
 ghost use Rattle.shared_acceptance.specs.Kept.{IsHome};
 
-use crate::actors::{Actor, Home, call_at};
+use crate::actors::{Actor, Home, call_at, dismiss};
 use crate::calls::{Call, Done, EMPTY, TRIMMED, WORDS, WRITTEN, hold};
 use crate::cast::{Cast, Who};
 use crate::closing::close;
@@ -175,9 +175,11 @@ fn run_race<'x, R: Threads + Wait + Sync, H: Home + Send + Sync>(
         a,
         b,
         c,
-        first: _,
-        second: _,
+        first,
+        second,
     } = cast;
+    dismiss(first);
+    dismiss(second);
     give_back(volume, a, &mut passes);
     give_back(volume, b, &mut passes);
     give_back(volume, c, &mut passes);

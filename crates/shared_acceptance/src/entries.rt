@@ -5,7 +5,7 @@ ghost use Rattle.volume.specs.Brooms.{IsBroomReady};
 ghost use Rattle.volume.specs.Volume.{flash_of};
 ghost use Rattle.shared_acceptance.specs.Kept.{IsHome};
 
-use crate::actors::{Actor, Home, Host, Sweeper};
+use crate::actors::{Actor, Home, Host, Sweeper, dismiss};
 use broom::Broom;
 use flash_table::Pass;
 use std::marker::PhantomData;
@@ -68,7 +68,10 @@ pub(crate) fn give_back<H: Home>(
     let host = match actor {
         Actor::Host(host) => host,
         Actor::Holder(holder) => holder.release(),
-        Actor::Sweeper(_) => return,
+        other => {
+            dismiss(Some(other));
+            return;
+        }
     };
     passes.push_reserved(host.into_pass(volume));
 }
@@ -80,6 +83,8 @@ pub(crate) fn fold<H: Home>(rt: &impl Wait, actor: Option<Actor<'_, H>>) {
     };
     match actor {
         Actor::Sweeper(sweeper) => sweeper.fold(rt),
-        Actor::Host(_) | Actor::Holder(_) => (),
+        other => {
+            dismiss(Some(other));
+        }
     }
 }

@@ -38,7 +38,7 @@ impl<'a, R: Wait, H: Home> Crew<'a, R, H> {
             let Some(actor) = self.cast.take(who) else {
                 continue;
             };
-            let can_look = actor.role() == Role::Host;
+            let can_look = matches!(actor.role(), Role::Host);
             let (actor, live) = actor.count_live(self.rt);
             self.put(who, actor);
             if can_look {

@@ -5,7 +5,7 @@ ghost use Rattle.volume.specs.Brooms.{IsBroomReady};
 ghost use Rattle.volume.specs.Volume.{flash_of};
 ghost use Rattle.shared_acceptance.specs.Kept.{IsHome};
 
-use crate::actors::Home;
+use crate::actors::{Home, dismiss};
 use crate::calls::{WORDS, hold};
 use crate::cast::{Cast, Who};
 use crate::closing::close;
@@ -89,10 +89,11 @@ fn play<'x, 's, R: Wait, H: Home>(
     let Cast {
         a,
         b,
-        c: _,
+        c,
         first,
         second,
     } = stage.cast;
+    dismiss(c);
     fold(rt, first);
     fold(rt, second);
     give_back(volume, a, &mut passes);

@@ -1,5 +1,5 @@
 //! The steps of a row are made one after another, and at the points of a gate.
-use crate::actors::Home;
+use crate::actors::{Home, dismiss};
 use crate::calls::{Call, Done};
 use crate::cast::{Cast, Who};
 use flash_table::{Gate, NoGate, Point};
@@ -72,7 +72,7 @@ impl<'s, R: Wait, H: Home> Stage<'_, 's, R, H> {
                 self.expect(have_met);
             }
             Step::Leave(who) => {
-                let _ = self.cast.take(who);
+                dismiss(self.cast.take(who));
             }
         }
     }
