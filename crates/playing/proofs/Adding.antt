@@ -20,8 +20,8 @@ use Rattle.host.specs.Ready.{IsReady}
 use Rattle.volume.specs.Volume.{flash_of}
 use Rattle.lines.specs.Playing.{Played}
 use Rattle.playing.specs.Line.{HasPlayedLine}
-use Rattle.playing.specs.Playable.{HasAnswered, added}
-use Rattle.playing.proofs.Lines.{Playing, other_page, playing_none, playing_more, playing_end}
+use Rattle.playing.specs.Playable.{HasAnswered, added, lines_at}
+use Rattle.playing.proofs.Lines.{Playing, count_lines, other_page, playing_none, playing_more, playing_end}
 
 -- an answer that tells a page only of a read has room where the line has
 pub kind_fits : (n : ℕ) (k : Kind) (o : Op) → (k ≡ kind.Page → o ≡ op.Read) → bytes_of n k ≤ space_for n o
@@ -95,18 +95,26 @@ module _ (volume : Volume) (patience : ℕ) (first now next : Pass) (lines : Lis
             (λ t role. other_page t patience (view_of now) c.op c.sector c.page k page a.page (is_full k) (view_of next) whole (line t role));
       }
 
--- all lines are played
-module _ (volume : Volume) (patience : ℕ) (first now : Pass) (lines : List Command) (old answers : Answers) (i : ℕ) (all : Adding volume patience first lines old i now answers) (past : length lines ≤ i) (within : i ≤ length lines) where
+-- the lines at all places are played
+module _ (volume : Volume) (patience : ℕ) (first now : Pass) (commands : List Command) (places : List ℕ) (old answers : Answers) (i : ℕ)
+    (all : Adding volume patience first (lines_at commands places) old i now answers) (past : length places ≤ i) (within : i ≤ length places) where
+  abbrev lines : List Command
+  lines = lines_at commands places
+
+  none_left : length lines ≤ i
+  none_left = omega (arith, count_lines commands places)
+
   added_is : added old answers ≡ all.more
   added_is = ap (drop (length (said_in old))) all.grown ∙ drop-append_seam (said_in old) all.more
 
   pub adding_end : (t : ℕ) → (view_of first).role ≡ Player (APass t) → Played t patience (view_of first) lines (added old answers) (view_of now)
-  adding_end t role = subst (λ l. Played t patience (view_of first) lines l (view_of now)) (sym added_is) (playing_end volume patience first now lines i all.more all.playing past t role)
+  adding_end t role =
+      subst (λ l. Played t patience (view_of first) lines l (view_of now)) (sym added_is) (playing_end volume patience first now lines i all.more all.playing none_left t role)
 
   pub all_answered : HasAnswered lines old answers
   all_answered = record {
     kept = all.grown ∙ ap (λ l. said_in old ++ l) (sym added_is);
-    count = ap (length {A = Said}) all.grown ∙ (let count = all.count in omega (arith, length-append (said_in old) all.more));
+    count = ap (length {A = Said}) all.grown ∙ (let count = all.count in omega (arith, length-append (said_in old) all.more, count_lines commands places));
     page = all.page;
-    space = λ rest space. subst (λ l. HasSpaceFor answers (l ++ rest)) (drop_all i lines past) (all.space rest space);
+    space = λ rest space. subst (λ l. HasSpaceFor answers (l ++ rest)) (drop_all i lines none_left) (all.space rest space);
   }

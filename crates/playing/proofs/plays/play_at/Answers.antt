@@ -57,16 +57,10 @@ loop-i-preserved g c =
 
 pub returns-clause-told : goal.returns-clause-told
 returns-clause-told g c =
-    let commands = c.args.commands.now in
-    let places = c.args.places.now in
-    let past : length (lines_at commands places) ≤ c.loop-i.i = (let past = c.loop-i-test.false in omega (arith, count_lines commands places)) in
-    let within : c.loop-i.i ≤ length (lines_at commands places) = (let within = c.loop-i.invariant.1 in omega (arith, count_lines commands places)) in
-    adding_end c.args.volume.now c.args.patience c.args.pass.now c.loop-i.pass (lines_at commands places) c.args.answers.now c.loop-i.answers c.loop-i.i c.loop-i.invariant.0 past within
+    adding_end c.args.volume.now c.args.patience c.args.pass.now c.loop-i.pass c.args.commands.now c.args.places.now c.args.answers.now c.loop-i.answers c.loop-i.i c.loop-i.invariant.0
+    (let past = c.loop-i-test.false in omega arith) c.loop-i.invariant.1
 
 pub returns-clause-answered : goal.returns-clause-answered
 returns-clause-answered g c =
-    let commands = c.args.commands.now in
-    let places = c.args.places.now in
-    let past : length (lines_at commands places) ≤ c.loop-i.i = (let past = c.loop-i-test.false in omega (arith, count_lines commands places)) in
-    let within : c.loop-i.i ≤ length (lines_at commands places) = (let within = c.loop-i.invariant.1 in omega (arith, count_lines commands places)) in
-    all_answered c.args.volume.now c.args.patience c.args.pass.now c.loop-i.pass (lines_at commands places) c.args.answers.now c.loop-i.answers c.loop-i.i c.loop-i.invariant.0 past within
+    all_answered c.args.volume.now c.args.patience c.args.pass.now c.loop-i.pass c.args.commands.now c.args.places.now c.args.answers.now c.loop-i.answers c.loop-i.i c.loop-i.invariant.0
+    (let past = c.loop-i-test.false in omega arith) c.loop-i.invariant.1
