@@ -13,7 +13,7 @@ use Rattle.rounds.specs.Merging.{is_meet, is_line_of, line_count, lines_for, nex
 use Rattle.rounds.proofs.Merging.{own_line}
 use Rattle.rounds.proofs.Planning.{at_place, commands_more}
 use Rattle.rounds.specs.Rows.{answers_by}
-use Rattle.lines.specs.Answers.{first_place, page_size_of, place_of, said_in, IsAt}
+use Rattle.lines.specs.Answers.{first_place, page_size_of, place_of, said_in, IsCursorOf}
 use Rattle.lines.specs.declared.answer.Kind.TheVariants as kind
 use Rattle.lines.specs.declared.answers.Answers.{Answers}
 use Rattle.lines.specs.declared.answers.Cursor.{Cursor}
@@ -134,17 +134,17 @@ module _ (rows : List Answers) (next : List ℕ) (i : ℕ) (cs : List Command) (
           ap (λ l. get_or l t 0) is ∙ (kept ∙ omega (arith, grown t, none)))
 
 -- a row that goes on by one place is still at it
-pub at_more : (rows : List Answers) (next : List Cursor) (w : ℕ) (row : Answers) (cursor : Cursor) → row ≡ get_or rows w row → w < length rows → AreAt rows next → IsAt row cursor → AreAt rows (slice_set next w cursor)
+pub at_more : (rows : List Answers) (next : List Cursor) (w : ℕ) (row : Answers) (cursor : Cursor) → row ≡ get_or rows w row → w < length rows → AreAt rows next → IsCursorOf row cursor → AreAt rows (slice_set next w cursor)
 at_more rows next w row cursor is low all here t other d below =
     let long = length-set next w cursor in
     dite (ℕ_discrete t w)
     (λ same.
     let last : get_or (slice_set next w cursor) w d ≡ cursor = get_or-set_same next w cursor d (subst (λ u. u < length next) same (omega (arith, long))) in
     let there : get_or rows w other ≡ row = get_or_default rows w other row low ∙ sym is in
-    subst (λ u. IsAt (get_or rows u other) (get_or (slice_set next w cursor) u d)) (sym same)
-    (subst (λ (x : Answers × Cursor). IsAt x.0 x.1) (λ i. (sym there i, sym last i)) here))
+    subst (λ u. IsCursorOf (get_or rows u other) (get_or (slice_set next w cursor) u d)) (sym same)
+    (subst (λ (x : Answers × Cursor). IsCursorOf x.0 x.1) (λ i. (sym there i, sym last i)) here))
     (λ apart.
-    subst (IsAt (get_or rows t other)) (sym (get_or-set_other next w t cursor d apart)) (all t other d (omega (arith, long))))
+    subst (IsCursorOf (get_or rows t other)) (sym (get_or-set_other next w t cursor d apart)) (all t other d (omega (arith, long))))
 
 -- the pages of each row have so many digits
 pub all_digits : (n : ℕ) (rows : List Answers) → All (λ row. n ≡ 2 * page_size_of row) rows → All (λ row. All (HasDigits n) (said_in row)) rows
@@ -161,4 +161,4 @@ none_passed next n cs is t low =
 
 pub all_at : (rows : List Answers) (next : List Cursor) (n : ℕ) → next ≡ replicate n first_place → AreAt rows next
 all_at rows next n is t row cursor low =
-    subst (IsAt (get_or rows t row)) (sym (get_or_default next t cursor first_place low ∙ (ap (λ (l : List Cursor). get_or l t first_place) is ∙ get_or-replicate n t first_place first_place (subst (λ k. t < k) (ap (length {A = Cursor}) is ∙ length-replicate n first_place) low)))) refl
+    subst (IsCursorOf (get_or rows t row)) (sym (get_or_default next t cursor first_place low ∙ (ap (λ (l : List Cursor). get_or l t first_place) is ∙ get_or-replicate n t first_place first_place (subst (λ k. t < k) (ap (length {A = Cursor}) is ∙ length-replicate n first_place) low)))) refl

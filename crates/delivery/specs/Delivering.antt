@@ -5,7 +5,7 @@ use Rattle.trace.specs.declared.commands.Command.{Command}
 use Rattle.answers.specs.Answers.{end_text, line_text}
 use Rattle.answers.specs.Lines.{page_digits_of}
 use Rattle.lines.specs.Lines.{Said}
-use Rattle.lines.specs.Answers.{place_of, IsAt}
+use Rattle.lines.specs.Answers.{place_of, IsCursorOf}
 use Rattle.lines.specs.declared.answer.Kind.{Kind}
 use Rattle.lines.specs.declared.answer.Kind.TheVariants as kind
 use Rattle.lines.specs.declared.answers.Answers.{Answers}
@@ -36,7 +36,7 @@ passed_in next = map place_of next
 
 -- each of these places is one of its row
 abbrev pub AreAt : List Answers → List Cursor → Type 0
-AreAt rows next = (t : ℕ) (row : Answers) (cursor : Cursor) → t < length next → IsAt (slice_index_or rows t row) (slice_index_or next t cursor)
+AreAt rows next = (t : ℕ) (row : Answers) (cursor : Cursor) → t < length next → IsCursorOf (slice_index_or rows t row) (slice_index_or next t cursor)
 
 -- a page that an answer tells has so many digits
 abbrev pub HasDigits : ℕ → Said → Type 0

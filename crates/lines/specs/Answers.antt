@@ -39,8 +39,8 @@ abbrev pub HasSpaceFor : Answers → List Command → Type 0
 HasSpaceFor answers lines = HasSpace answers (length lines) (space_of (page_size_of answers) lines)
 
 -- the cursor stands at one of the answers, or behind them all: its page begins behind those of the answers before it
-abbrev pub IsAt : Answers → Cursor → Type 0
-IsAt answers cursor = cursor.page ≡ bytes_in answers.page_bytes (take cursor.line answers.kinds.items)
+abbrev pub IsCursorOf : Answers → Cursor → Type 0
+IsCursorOf answers cursor = cursor.page ≡ bytes_in answers.page_bytes (take cursor.line answers.kinds.items)
 
 -- the place of the first answer
 abbrev pub first_place : Cursor

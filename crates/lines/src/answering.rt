@@ -1,7 +1,7 @@
 ghost use Rattle.std.specs.Prelude.{◌≡◌, ℕ, Some, [], ◌∷◌, ◌++◌, ◌+◌, ◌*◌, ◌<◌, IfOk, length, slice_get, take};
 ghost use Rattle.lines.specs.declared.answer.Kind.TheVariants as kinds;
 ghost use Rattle.lines.specs.Pages.{bytes_of};
-ghost use Rattle.lines.specs.Answers.{first_place, page_size_of, place_of, said_in, HasSpace, IsAt};
+ghost use Rattle.lines.specs.Answers.{first_place, page_size_of, place_of, said_in, HasSpace, IsCursorOf};
 
 use crate::answer::Kind;
 use crate::answers::{Answers, Cursor};
@@ -61,10 +61,10 @@ impl Answers {
     /// The answer at a cursor, which goes on to the next one. Where it tells no page, there is none.
     pub fn next(&self, cursor: &mut Cursor) -> (Kind, &[u8])
         requires there { place_of cursor.old < length (said_in self.now) }
-        requires at { IsAt self.now cursor.old }
+        requires at { IsCursorOf self.now cursor.old }
         ensures answer { slice_get (said_in self.now) (place_of cursor.old) ≡ Some (record { kind = result.0; page = result.1.now }) }
         ensures place { place_of cursor.new ≡ place_of cursor.old + 1 }
-        ensures at { IsAt self.now cursor.new }
+        ensures at { IsCursorOf self.now cursor.new }
     {
         let kind = self.kinds[cursor.line];
         cursor.line += 1;

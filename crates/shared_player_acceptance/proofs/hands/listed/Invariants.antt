@@ -1,6 +1,6 @@
 use Rattle.std.proofs.Common.{◌≡◌}
-use Rattle.lines.specs.Answers.{place_of, IsAt}
+use Rattle.lines.specs.Answers.{place_of, IsCursorOf}
 use Rattle.shared_player_acceptance.proofs.hands.listed.Given as goal
 
 abbrev pub invariant-loop : goal.invariant-loop
-invariant-loop l = (place_of l.cursor ≡ l.counter) × IsAt l.row l.cursor
+invariant-loop l = (place_of l.cursor ≡ l.counter) × IsCursorOf l.row l.cursor
