@@ -1,14 +1,15 @@
 -- What clap's clauses say of the program's own command line.
-use Rattle.std.proofs.Common.{◌≡◌, ℕ, true, List, Option, None, Some, refl, ap, ◌∙◌, subst, inl, inr}
-use Rattle.std.specs.Prelude.{Result, Ok, Err, IfOk, MatchOption, unwrap_or}
+use Rattle.std.proofs.Common.{◌≡◌, ◌+◌, ◌<◌, ℕ, true, List, Option, None, Some, refl, ap, ◌∙◌, subst, sym, inl, inr, fold, get_or, length, take}
+use Rattle.std.proofs.lemmas.List.Sums.{fold_more}
+use Rattle.std.specs.Prelude.{Result, Ok, Err, MatchOption, unwrap_or}
 use Rattle.std.specs.Str.Parse.{ParsesUnsigned}
-use Rattle.clap.specs.Words.{App, FailsBy, HasMatchesOf, Rule, Text, app_of, fault_of, found_of, is_simple, is_simple_and_free, matches_of, rows_of, with_rule}
+use Rattle.clap.specs.Words.{App, FailsBy, HasMatchesOf, Text, fault_of, found_of, is_simple, is_simple_and_free, matches_of, rows_of}
 use Rattle.clap.specs.Matches.{ReadsOne}
-use Rattle.clap.specs.declared.builder.command.Command.{Command}
 use Rattle.clap.specs.declared.error.Error.{Error}
 use Rattle.clap.specs.declared.parser.matches.ArgMatches.{ArgMatches}
 use Rattle.clap.proofs.OnLiterals.{clap_on_literals}
-use Rattle.player.specs.CommandLine.{IsNumberIn, faults_given, flashplay, rows_given}
+use Rattle.player.specs.CommandLine.{IsNumberIn, faults_given, flashplay, rows_given, with_number}
+use Rattle.player.specs.declared.arguments.NumberOption.{NumberOption}
 
 flashplay_is_simple : is_simple flashplay ≡ true
 unfolding clap_on_literals
@@ -18,10 +19,10 @@ flashplay_is_free : is_simple_and_free flashplay ≡ true
 unfolding clap_on_literals
 flashplay_is_free = refl
 
--- the third of three options
-pub third_option : {E : Type 0} (more : Result Command E) (app one two : App) (first second third : Rule) → one ≡ with_rule app first → two ≡ with_rule one second → IfOk more (λ m. app_of m ≡ with_rule two third) → IfOk more (λ m. app_of m ≡ with_rule (with_rule (with_rule app first) second) third)
-third_option more app one two first second third is_one is_two is =
-    subst (λ (a : App). IfOk more (λ m. app_of m ≡ with_rule a third)) (is_two ∙ ap (λ a. with_rule a second) is_one) is
+-- the options so far, and one more
+pub next_number : (numbers : List NumberOption) (i : ℕ) (none : NumberOption) (start app more : App) → i < length numbers → app ≡ fold with_number start (take i numbers) → more ≡ with_number app (get_or numbers i none) → more ≡ fold with_number start (take (i + 1) numbers)
+next_number numbers i none start app more inside so_far is =
+    is ∙ ap (λ (a : App). with_number a (get_or numbers i none)) so_far ∙ sym (fold_more with_number start numbers i none inside)
 
 -- the matches are those that the words give
 pub rows_are : (app : App) (words : List Text) (m : ArgMatches) → app ≡ flashplay → HasMatchesOf app words m → rows_of (found_of m) ≡ rows_given words

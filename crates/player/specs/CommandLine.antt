@@ -5,6 +5,7 @@ use Rattle.std.specs.Str.Parse.{IsNumeral, digits_value, without_leading_plus}
 use Rattle.clap.specs.Words.{App, Kinds, Row, Rule, Text, fault_of, first_of, matches_of, new_app, new_rule, one_of, with_rule}
 use Rattle.clap.specs.declared.builder.value_parser.ValueParser.TheVariants as parser
 use Rattle.geometry.specs.Limits.{Numbers, numbers}
+use Rattle.player.specs.declared.arguments.NumberOption.{NumberOption}
 use Rattle.player.specs.declared.command_line.Options.{Options}
 use Rattle.player.specs.declared.command_line.TheConstants.{LUNS, BLOCKS, PAGES, WORDS, SECTORS, ENDURANCE, WORKERS, BROOMS, PATIENCE}
 
@@ -21,6 +22,15 @@ patience_rule =
 -- an option of a file's name, which may be absent
 abbrev pub file_rule : Text → Rule
 file_rule name = record (new_rule name) { long = Some name; value_names = 1 }
+
+-- an option of a whole number, by its name, its default and the numbers that it takes
+abbrev pub number_rule : NumberOption → Rule
+number_rule number =
+    record (option_rule number.name.now number.default.now) { parser = Some (parser.Signed number.least number.most) }
+
+-- a command line with one such option more
+abbrev pub with_number : App → NumberOption → App
+with_number app number = with_rule app (number_rule number)
 
 -- a command line with the numbers of a device
 abbrev pub with_numbers : App

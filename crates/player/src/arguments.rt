@@ -1,12 +1,12 @@
 ghost use Rattle.std.specs.Prelude.{◌≡◌, codes, map, Some, IfOk, IfSome};
 ghost use Rattle.clap.specs.Words.{FailsBy, app_of, first_of, found_of, rows_of, with_rule};
-ghost use Rattle.player.specs.CommandLine.{AreOptionsOf, IsNumberOf, faults_given, file_rule, flashplay, option_rule, patience_rule, rows_given, with_numbers, with_threads};
+ghost use Rattle.player.specs.CommandLine.{AreOptionsOf, IsNumberOf, faults_given, file_rule, flashplay, rows_given, with_number};
 
 use crate::command_line::{
     BLOCKS, BROOMS, ENDURANCE, LUNS, Options, PAGES, PATIENCE, SECTORS, WORDS, WORKERS,
 };
 use clap::builder::ValueParser;
-use clap::{Arg, ArgMatches, Command, Error, value_parser};
+use clap::{Arg, ArgMatches, Command, Error};
 use std::alloc::{AllocError, Global};
 
 /// The options that the words of a command line give; the first word is the program's name.
@@ -50,12 +50,92 @@ pub fn wear_name<'a>(alloc: Global, words: &'a [&'a str]) -> Option<&'a str>
     }
 }
 
+// An option of one whole number: its name, its default, the numbers that it takes, and its help.
+struct NumberOption {
+    name: &'static str,
+    default: &'static str,
+    least: i64,
+    most: i64,
+    help: &'static str,
+}
+
+// The numbers of a device, then the threads of a run and the tries of a write.
+const NUMBERS: [NumberOption; 9] = [
+    NumberOption {
+        name: "luns",
+        default: "1",
+        least: 0,
+        most: u32::MAX as i64,
+        help: "LUNs, from 1 to 8",
+    },
+    NumberOption {
+        name: "blocks",
+        default: "64",
+        least: 0,
+        most: u32::MAX as i64,
+        help: "Blocks over all LUNs, from 3 to 4096, a multiple of the LUNs",
+    },
+    NumberOption {
+        name: "pages",
+        default: "64",
+        least: 0,
+        most: u32::MAX as i64,
+        help: "Pages of a block, from 1 to 16384",
+    },
+    NumberOption {
+        name: "words",
+        default: "64",
+        least: 0,
+        most: u32::MAX as i64,
+        help: "64-bit words of a page, from 1 to 512",
+    },
+    NumberOption {
+        name: "sectors",
+        default: "3072",
+        least: 0,
+        most: u32::MAX as i64,
+        help: "Sectors of one page each, from 1 to 1048576",
+    },
+    NumberOption {
+        name: "endurance",
+        default: "1000",
+        least: 0,
+        most: u32::MAX as i64,
+        help: "Erase cycles of a block, from 1 to 1000000; the last one fails",
+    },
+    NumberOption {
+        name: "workers",
+        default: "0",
+        least: 0,
+        most: u32::MAX as i64,
+        help: "Workers that play the trace, each in a thread of its own, from 1 to 500; with 0 one thread plays all",
+    },
+    NumberOption {
+        name: "brooms",
+        default: "0",
+        least: 0,
+        most: u32::MAX as i64,
+        help: "Brooms that collect beside the workers, each in a thread of its own, from 0 to 32",
+    },
+    NumberOption {
+        name: "patience",
+        default: "1000000",
+        least: 1,
+        most: 1_000_000_000,
+        help: "Tries of a worker's write that finds no block, before it is full",
+    },
+];
+
 // The command line as clap knows it.
 fn flashplay<'a>(alloc: Global) -> Result<Command<'a>, AllocError>
     ensures { IfOk result (λ command. app_of command ≡ flashplay) }
 {
-    let command = with_numbers(alloc)?;
-    let command = with_threads(alloc, command)?;
+    let mut command = Command::new(alloc, "flashplay").about(
+        "Plays a trace on a page-mapped flash layer: the trace comes from standard input, its answers go to standard output.",
+    );
+    'numbers: for number in &NUMBERS {
+        command = with(alloc, command, number)?;
+    }
     with_file(
         alloc,
         command,
@@ -64,123 +144,20 @@ fn flashplay<'a>(alloc: Global) -> Result<Command<'a>, AllocError>
     )
 }
 
-// The command with the numbers of a device.
-fn with_numbers<'a>(alloc: Global) -> Result<Command<'a>, AllocError>
-    ensures { IfOk result (λ command. app_of command ≡ with_numbers) }
-{
-    let command = Command::new(alloc, "flashplay").about(
-        "Plays a trace on a page-mapped flash layer: the trace comes from standard input, its answers go to standard output.",
-    );
-    let command = with_array(alloc, command)?;
-    with_pages(alloc, command)
-}
-
-// The command with the numbers of the array.
-fn with_array<'a>(alloc: Global, command: Command<'a>) -> Result<Command<'a>, AllocError>
-    ensures { IfOk result (λ more. app_of more ≡
-        with_rule (with_rule (with_rule (app_of command.entry)
-        (option_rule (codes "luns") (codes "1")))
-        (option_rule (codes "blocks") (codes "64")))
-        (option_rule (codes "pages") (codes "64"))) }
-{
-    let command = with(alloc, command, "luns", "1", "LUNs, from 1 to 8")?;
-    let command = with(
-        alloc,
-        command,
-        "blocks",
-        "64",
-        "Blocks over all LUNs, from 3 to 4096, a multiple of the LUNs",
-    )?;
-    with(
-        alloc,
-        command,
-        "pages",
-        "64",
-        "Pages of a block, from 1 to 16384",
-    )
-}
-
-// The command with the numbers of a page, of the sectors and of a block's erases.
-fn with_pages<'a>(alloc: Global, command: Command<'a>) -> Result<Command<'a>, AllocError>
-    ensures { IfOk result (λ more. app_of more ≡
-        with_rule (with_rule (with_rule (app_of command.entry)
-        (option_rule (codes "words") (codes "64")))
-        (option_rule (codes "sectors") (codes "3072")))
-        (option_rule (codes "endurance") (codes "1000"))) }
-{
-    let command = with(
-        alloc,
-        command,
-        "words",
-        "64",
-        "64-bit words of a page, from 1 to 512",
-    )?;
-    let command = with(
-        alloc,
-        command,
-        "sectors",
-        "3072",
-        "Sectors of one page each, from 1 to 1048576",
-    )?;
-    with(
-        alloc,
-        command,
-        "endurance",
-        "1000",
-        "Erase cycles of a block, from 1 to 1000000; the last one fails",
-    )
-}
-
-// The command with the threads of a run.
-fn with_threads<'a>(alloc: Global, command: Command<'a>) -> Result<Command<'a>, AllocError>
-    ensures { IfOk result (λ more. app_of more ≡ with_threads (app_of command.entry)) }
-{
-    let command = with(
-        alloc,
-        command,
-        "workers",
-        "0",
-        "Workers that play the trace, each in a thread of its own, from 1 to 500; with 0 one thread plays all",
-    )?;
-    let command = with(
-        alloc,
-        command,
-        "brooms",
-        "0",
-        "Brooms that collect beside the workers, each in a thread of its own, from 0 to 32",
-    )?;
-    with_patience(alloc, command)
-}
-
-// The command with the tries of a write.
-fn with_patience<'a>(alloc: Global, command: Command<'a>) -> Result<Command<'a>, AllocError>
-    ensures { IfOk result (λ more. app_of more ≡ with_rule (app_of command.entry) patience_rule) }
-{
-    let option = Arg::new(alloc, "patience")
-        .long("patience")
-        .value_name("N")
-        .value_parser(ValueParser::signed(1, 1_000_000_000))
-        .default_value("1000000")
-        .help("Tries of a worker's write that finds no block, before it is full");
-    command.arg(option)
-}
-
 // The command with one option more, of one whole number.
 fn with<'a>(
     alloc: Global,
     command: Command<'a>,
-    name: &'a str,
-    default: &'a str,
-    help: &'a str,
+    number: &NumberOption,
 ) -> Result<Command<'a>, AllocError>
-    ensures { IfOk result (λ more. app_of more ≡ with_rule (app_of command.entry) (option_rule name.entry.now default.entry.now)) }
+    ensures { IfOk result (λ more. app_of more ≡ with_number (app_of command.entry) number.now) }
 {
-    let option = Arg::new(alloc, name)
-        .long(name)
+    let option = Arg::new(alloc, number.name)
+        .long(number.name)
         .value_name("N")
-        .value_parser(value_parser!(u32))
-        .default_value(default)
-        .help(help);
+        .value_parser(ValueParser::signed(number.least, number.most))
+        .default_value(number.default)
+        .help(number.help);
     command.arg(option)
 }
 
