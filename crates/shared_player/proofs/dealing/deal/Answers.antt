@@ -8,11 +8,14 @@ use Rattle.geometry.specs.declared.geometry.Geometry.{Geometry}
 use Rattle.flash_table.specs.declared.pass.Pass.{Pass}
 use Rattle.flash_table.specs.Flash.{view_of, device, geometry_of, first_view}
 use Rattle.host.specs.Ready.{IsReady}
+use Rattle.broom.specs.declared.broom.Broom.{Broom}
 use Rattle.trace.specs.declared.commands.Command.{Command}
 use Rattle.volume.specs.declared.volume.Volume.{Volume}
 use Rattle.volume.specs.Brooms.{IsBroomReady}
 use Rattle.volume.specs.Volume.{flash_of}
 use Rattle.rounds.specs.Plans.{ends_of}
+use Rattle.shared_player.specs.declared.post.Post.{Post}
+use Rattle.shared_player.specs.declared.sweeper.Sweeper.{Sweeper}
 use Rattle.shared_player.specs.Meetings.{IsAt}
 use Rattle.shared_player.specs.Runs.{AreManned, HasBegun}
 use Rattle.shared_player.specs.Shares.{HasFitShare, IsOwner, with_commands, work_in}
@@ -44,6 +47,25 @@ seat_posts-requires-clause-shares_count c =
     let new = c.in_ok-unseated.ensures.playing in
     omega (arith, length-map c.in_ok-shares.shares.items work_in, length-map c.args.rows.items (with_commands (arc_value c.args.commands.now)))
 
+pub seat_posts-requires-clause-owners_count : goal.seat_posts-requires-clause-owners_count
+seat_posts-requires-clause-owners_count c =
+    let owners = c.in_ok-post_owners.ensures.count in
+    let hosts = c.hosts-hosts.ensures in
+    let passes = ap (length {A = Pass}) c.into_parts-volume.ensures.passes in
+    let new = c.in_ok-unseated.ensures.playing in
+    omega arith
+
+pub seat_posts-requires-clause-none : goal.seat_posts-requires-clause-none
+seat_posts-requires-clause-none c = ap (length {A = Post}) c.in_ok-posts.ensures.items
+
+pub seat_posts-requires-clause-room : goal.seat_posts-requires-clause-room
+seat_posts-requires-clause-room c =
+    let room = c.in_ok-posts.ensures.capacity in
+    let hosts = c.hosts-hosts.ensures in
+    let passes = ap (length {A = Pass}) c.into_parts-volume.ensures.passes in
+    let new = c.in_ok-unseated.ensures.playing in
+    omega arith
+
 pub seat_sweepers-requires-clause-ready : goal.seat_sweepers-requires-clause-ready
 seat_sweepers-requires-clause-ready c =
     subst (λ (v : Volume). All (IsBroomReady v) c.into_parts-volume.result.2.items) (sym c.deref-2.ensures) c.into_parts-volume.ensures.ready.brooms_ready
@@ -51,6 +73,34 @@ seat_sweepers-requires-clause-ready c =
 pub seat_sweepers-requires-clause-owners : goal.seat_sweepers-requires-clause-owners
 seat_sweepers-requires-clause-owners c =
     subst (λ (v : Volume). All (IsOwner v) c.in_ok-sweeper_owners.sweeper_owners.items) (sym (c.deref-2.ensures ∙ c.into_parts-volume.ensures.volume)) c.in_ok-sweeper_owners.ensures.same
+
+pub seat_sweepers-requires-clause-count : goal.seat_sweepers-requires-clause-count
+seat_sweepers-requires-clause-count c =
+    let owners = c.in_ok-sweeper_owners.ensures.count in
+    let count = c.brooms-brooms.ensures in
+    let brooms = ap (length {A = Broom}) c.into_parts-volume.ensures.brooms in
+    let new = c.in_ok-unseated.ensures.sweeping in
+    omega arith
+
+pub seat_sweepers-requires-clause-none : goal.seat_sweepers-requires-clause-none
+seat_sweepers-requires-clause-none c = ap (length {A = Sweeper}) c.in_ok-sweepers.ensures.items
+
+pub seat_sweepers-requires-clause-room : goal.seat_sweepers-requires-clause-room
+seat_sweepers-requires-clause-room c =
+    let room = c.in_ok-sweepers.ensures.capacity in
+    let count = c.brooms-brooms.ensures in
+    let brooms = ap (length {A = Broom}) c.into_parts-volume.ensures.brooms in
+    let new = c.in_ok-unseated.ensures.sweeping in
+    omega arith
+
+pub returns-clause-geometry : goal.returns-clause-geometry
+returns-clause-geometry c = ap (λ (v : Volume). geometry_of (flash_of v)) c.into_parts-volume.ensures.volume ∙ c.in_ok-unseated.ensures.geometry
+
+pub returns-clause-sweepers : goal.returns-clause-sweepers
+returns-clause-sweepers c =
+    let same = ap (length {A = Sweeper}) c.in_ok-new.ensures.sweepers in
+    let brooms = ap (length {A = Broom}) c.into_parts-volume.ensures.brooms in
+    same ∙ (c.seat_sweepers.ensures ∙ (brooms ∙ c.in_ok-unseated.ensures.sweeping))
 
 pub returns-clause-begun : goal.returns-clause-begun
 returns-clause-begun c =
