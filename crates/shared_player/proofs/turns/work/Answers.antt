@@ -1,9 +1,10 @@
-use Rattle.std.proofs.Common.{◌≡◌, ℕ, All, List, length, refl, sym, ap, ◌∙◌, subst, arith}
+use Rattle.std.proofs.Common.{◌≡◌, ℕ, ◌<◌, All, List, length, refl, sym, ap, ◌∙◌, subst, arith}
 use Rattle.std.proofs.lemmas.List.{with_items_is}
 use Rattle.std.specs.Arc.{arc_value}
 use Rattle.std.specs.List.{slice_range}
 use Rattle.std.specs.Vec.{with_items}
 use Rattle.flash_table.specs.Flash.{view_of, geometry_of}
+use Rattle.geometry.specs.Geometry.{page_bytes_of}
 use Rattle.host.specs.Ready.{IsReady}
 use Rattle.trace.specs.declared.commands.Command.{Command}
 use Rattle.lines.specs.Answers.{HasSpaceFor}
@@ -16,6 +17,26 @@ use Rattle.shared_player.specs.Posts.{answered, round_lines}
 use Rattle.shared_player.proofs.Cursors.{lines_range, All-range}
 use Rattle.shared_player.proofs.Able.{able_again, answered_all, round_room}
 use Rattle.shared_player.proofs.turns.work.Goals as goal
+
+pub play_at-requires-clause-pass : goal.play_at-requires-clause-pass
+play_at-requires-clause-pass g c =
+    subst (λ (v : Volume). IsReady (flash_of v) c.args.post.pass) (sym c.deref.ensures) c.args.post.able.ready
+
+pub play_at-requires-clause-there : goal.play_at-requires-clause-there
+play_at-requires-clause-there g c =
+    let post = c.args.post in
+    let P : List Command × List ℕ × ℕ → Type 0 = λ x. All (λ p. p < length x.0) (slice_range x.1 x.2 post.to) in
+    subst P (λ i. (sym c.deref-2.ensures i, sym c.deref-3.ensures.value i, sym c.len-answered.ensures i))
+    (All-range (λ p. p < length (arc_value post.commands)) post.places.items (answered post) post.to post.able.there)
+
+pub play_at-requires-clause-buffer : goal.play_at-requires-clause-buffer
+play_at-requires-clause-buffer g c =
+    ap (length {A = ℕ}) c.deref_mut.ensures.value
+    ∙ (c.args.post.able.paged ∙ ap (λ (v : Volume). page_bytes_of (geometry_of (flash_of v))) (sym c.deref.ensures))
+
+pub play_at-requires-clause-page : goal.play_at-requires-clause-page
+play_at-requires-clause-page g c =
+    c.args.post.able.page ∙ ap (λ (v : Volume). page_bytes_of (geometry_of (flash_of v))) (sym c.deref.ensures)
 
 pub play_at-requires-clause-lines : goal.play_at-requires-clause-lines
 play_at-requires-clause-lines g c =
@@ -56,10 +77,10 @@ returns g c =
     let P : List Command × List ℕ × ℕ → Type 0 = λ x. HasAnswered (lines_at x.0 (slice_range x.1 x.2 post.to)) post.answers new.answers in
     let Q : ℕ → List Command × List ℕ × ℕ → Type 0 = λ t x. Played t c.args.patience (view_of post.pass) (lines_at x.0 (slice_range x.1 x.2 post.to)) (added post.answers new.answers) (view_of new.pass) in
     record {
-      volume = refl;
-      commands = refl;
-      places = refl;
-      to = refl;
+      volume = refl {A = Volume};
+      commands = refl {A = List Command};
+      places = refl {A = List ℕ};
+      to = refl {A = ℕ};
       answers = subst P (λ i. (c.deref-2.ensures i, c.deref-3.ensures.value i, c.len-answered.ensures i)) c.play_at.ensures.answered;
       played = λ t role. subst (Q t) (λ i. (c.deref-2.ensures i, c.deref-3.ensures.value i, c.len-answered.ensures i)) (c.play_at.ensures.told t role);
     }
