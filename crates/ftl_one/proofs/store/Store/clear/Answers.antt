@@ -25,6 +25,15 @@ relocate-requires-clause-source_block c = omega (arith, ap blocks_of c.loop-page
 pub relocate-requires-clause-source_usable : goal.relocate-requires-clause-source_usable
 relocate-requires-clause-source_usable c = c.loop-page.invariant.keeps.retired c.args.victim c.requires.victim ∙ c.requires.usable
 
+pub relocate-requires-clause-source_page : goal.relocate-requires-clause-source_page
+relocate-requires-clause-source_page c = omega (arith, c.loop-page.invariant.size, c.next-page-end.ensures.value, length-entries_of c.args.self.now c.args.victim)
+
+pub relocate-requires-clause-live : goal.relocate-requires-clause-live
+relocate-requires-clause-live c = sym c.is_live.ensures ∙ c.if-is_live.true
+
+pub relocate-requires-clause-apart : goal.relocate-requires-clause-apart
+relocate-requires-clause-apart c = c.requires.apart
+
 pub relocate-requires-clause-room : goal.relocate-requires-clause-room
 relocate-requires-clause-room c =
     ClearedTo-room c.args.self.now c.loop-page.self c.args.victim c.args.spare c.loop-page.page c.loop-page.copies c.loop-page.invariant
