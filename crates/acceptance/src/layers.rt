@@ -295,11 +295,12 @@ fn compare(rt: &(impl Abort + AllocGlobal), bench: &mut Bench, commands: u32) ->
         seed = following(seed);
         let sector = (seed >> 8) % sectors;
         let byte = (seed >> 16 & 255) as u8;
-        match seed >> 28 {
-            0 | 1 => assert!(rt; bench.trim(rt, sector) == plain.trim(sector)),
-            2..=5 => assert!(rt; bench.read(rt, sector) == plain.read(sector)),
-            _ => assert!(rt; bench.write(rt, sector, byte) == Some(plain.write(sector, byte)?)),
-        }
+        let is_same = match seed >> 28 {
+            0 | 1 => bench.trim(rt, sector) == plain.trim(sector),
+            2..=5 => bench.read(rt, sector) == plain.read(sector),
+            _ => bench.write(rt, sector, byte) == Some(plain.write(sector, byte)?),
+        };
+        assert!(rt; is_same);
     }
     for sector in 0..sectors {
         assert!(rt; bench.read(rt, sector) == plain.read(sector));

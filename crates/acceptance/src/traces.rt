@@ -149,17 +149,20 @@ fn page_of(command: &Command<'_>) -> Option<[u8; 8]> {
     Some(bytes)
 }
 
+// Whether a trace is one command of worker 7.
+fn is_one(commands: &Commands, op: Op, sector: u32, page: Option<[u8; 8]>) -> bool {
+    if commands.len() != 1 {
+        return false;
+    }
+    let command = commands.command(0);
+    (command.worker, command.op, command.sector) == (7, op, sector) && has_page(&command, page)
+}
+
 #[test]
 fn accepted_records_are_commands(rt: HostRuntime) -> Result<(), Fail> {
     for (name, text, op, sector, page) in ACCEPTED {
         let commands = commands(rt.alloc(), text.as_bytes())?;
-        assert!(rt; commands.len() == 1, "{name}");
-        let command = commands.command(0);
-        let found = (command.worker, command.op, command.sector);
-        assert!(rt;
-            found == (7, op, sector) && has_page(&command, page),
-            "{name}"
-        );
+        assert!(rt; is_one(&commands, op, sector, page), "{name}");
     }
     Ok(())
 }
@@ -352,8 +355,7 @@ fn a_trace_is_read_to_its_end(rt: HostRuntime) -> Result<(), Fail> {
             fails_at: None,
         });
         assert!(rt; load(rt.alloc(), &mut reader)?.as_slice() == text.as_slice());
-        assert!(rt; reader.failures() == 0);
-        assert!(rt; reader.into_inner().rest.len() == 0);
+        assert!(rt; reader.failures() == 0 && reader.into_inner().rest.len() == 0);
     }
     Ok(())
 }
@@ -368,32 +370,30 @@ fn long_trace(alloc: Global, line: &[u8], lines: usize) -> Result<Vec<u8>, Fail>
     Ok(text)
 }
 
+// Whether a text is loaded in pieces of a size as it is, without a failure.
+fn loads(alloc: Global, text: &[u8], size: usize) -> Result<bool, Fail> {
+    let mut reader = Watched::new(Pieces {
+        rest: text,
+        size,
+        fails_at: None,
+    });
+    let loaded = load(alloc, &mut reader)?;
+    Ok(loaded.as_slice() == text && reader.failures() == 0)
+}
+
 #[test]
 fn a_trace_of_100000_lines_is_loaded_and_parsed(rt: HostRuntime) -> Result<(), Fail> {
     let plain = b"499,write,2,0102030405060708\n".as_slice();
     let quoted = b"499,\"write\",2,0102030405060708\n".as_slice();
     for (line, size) in [(plain, 1), (quoted, 20_000)] {
         let text = long_trace(rt.alloc(), line, 99_999)?;
-        assert!(rt; text.len() > 1 << 20);
-        let mut reader = Watched::new(Pieces {
-            rest: text.as_slice(),
-            size,
-            fails_at: None,
-        });
-        let loaded = load(rt.alloc(), &mut reader)?;
-        assert!(rt; loaded.as_slice() == text.as_slice() && reader.failures() == 0);
-        let commands = commands(rt.alloc(), loaded.as_slice())?;
+        assert!(rt; text.len() > 1 << 20 && loads(rt.alloc(), text.as_slice(), size)?);
+        let commands = commands(rt.alloc(), text.as_slice())?;
         assert!(rt; commands.len() == 100_000);
-        let ends = (
-            page_of(&commands.command(99_998)),
-            page_of(&commands.command(99_999)),
-        );
-        assert!(rt;
-            ends == (
-                Some([1, 2, 3, 4, 5, 6, 7, 8]),
-                Some([9, 0, 0, 0, 0, 0, 0, 0])
-            )
-        );
+        let last = page_of(&commands.command(99_998));
+        assert!(rt; last == Some(*b"\x01\x02\x03\x04\x05\x06\x07\x08"));
+        let short = page_of(&commands.command(99_999));
+        assert!(rt; short == Some(*b"\x09\0\0\0\0\0\0\0"));
     }
     Ok(())
 }
@@ -484,15 +484,11 @@ fn what_never_fails_has_no_failure(rt: HostRuntime) -> Result<(), Fail> {
     let mut bytes = Vec::new(rt.alloc());
     for size in [1, 2, 511, 4_096, 65_536, 80_000] {
         bytes.resize(size, 0)?;
-        let counts = (
-            watched.read(bytes.as_mut_slice())?,
-            watched.write(bytes.as_slice())?,
-        );
-        assert!(rt; counts == (size, size) && bytes.as_slice().first() == Some(&7));
+        assert!(rt; watched.read(bytes.as_mut_slice())? == size);
+        assert!(rt; watched.write(bytes.as_slice())? == size && bytes.as_slice()[0] == 7);
         watched.flush()?;
     }
-    assert!(rt; watched.failures() == 0);
-    assert!(rt; watched.inner().flushes == 6);
+    assert!(rt; watched.failures() == 0 && watched.inner().flushes == 6);
     assert!(rt; watched.into_inner().flushes == 6);
     Ok(())
 }
