@@ -1,3 +1,4 @@
+use crate::saying::{expect, is_shown};
 use geometry::{Geometry, GeometryFault, put_word, word_at};
 use std::test::Fail;
 
@@ -74,18 +75,17 @@ const BEYOND: [([u32; 8], GeometryFault); 25] = [
 #[test]
 fn each_limit_is_where_it_is_said_to_be(rt: HostRuntime) -> Result<(), Fail> {
     for numbers in ENDS {
-        assert!(rt; geometry_of(numbers).is_ok(), "{numbers:?}");
+        expect(&rt, geometry_of(numbers).is_ok(), &numbers);
     }
     for (numbers, fault) in BEYOND {
-        assert!(rt; geometry_of(numbers) == Err(fault), "{numbers:?}");
+        expect(&rt, geometry_of(numbers) == Err(fault), &numbers);
     }
     Ok(())
 }
 
 #[test]
 fn a_fault_is_printed_by_its_name(rt: HostRuntime) -> Result<(), Fail> {
-    let text = format!(in rt.alloc(); "{}", GeometryFault::TooFewBlocks)?;
-    assert!(rt; text.as_str() == "TooFewBlocks");
+    assert!(rt; is_shown(rt.alloc(), &GeometryFault::TooFewBlocks, "TooFewBlocks")?);
     Ok(())
 }
 

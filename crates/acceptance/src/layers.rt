@@ -2,6 +2,7 @@ ghost use Rattle.std.specs.Prelude.{◌≡◌};
 ghost use Rattle.geometry.specs.Geometry.{page_bytes_of};
 ghost use Rattle.ftl_one.specs.OneFtl.{geometry_of};
 
+use crate::saying::expect;
 use ftl_one::{NewOneFault, OneFtl};
 use geometry::{Geometry, Got, Was};
 use std::alloc::Global;
@@ -115,7 +116,7 @@ fn check_row(rt: &(impl Abort + AllocGlobal), row: Row) -> Result<(), Fail> {
         (counts.programs, counts.copies, counts.erases),
         [bench.read(rt, 0), bench.read(rt, 1), bench.read(rt, 2)],
     );
-    assert!(rt; found == (refused, totals, sectors), "{name}");
+    expect(rt, found == (refused, totals, sectors), &name);
     Ok(())
 }
 

@@ -11,6 +11,8 @@ mod geometries;
 #[cfg(test)]
 mod layers;
 #[cfg(test)]
+mod saying;
+#[cfg(test)]
 mod traces;
 #[cfg(test)]
 mod words;

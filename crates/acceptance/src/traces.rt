@@ -1,3 +1,4 @@
+use crate::saying::{expect, is_shown};
 use geometry::Geometry;
 use std::alloc::Global;
 use std::io;
@@ -62,10 +63,8 @@ fn each_faulty_record_has_its_fault(rt: HostRuntime) -> Result<(), Fail> {
         (TOO_LONG, kind::TooLong),
         (UNUSED, kind::Unused),
     ] {
-        assert!(rt;
-            all_have(rt.alloc(), &geometry, records, at(1, fault)),
-            "{fault}"
-        );
+        let all = all_have(rt.alloc(), &geometry, records, at(1, fault));
+        expect(&rt, all, &fault);
     }
     Ok(())
 }
@@ -162,7 +161,7 @@ fn is_one(commands: &Commands, op: Op, sector: u32, page: Option<[u8; 8]>) -> bo
 fn accepted_records_are_commands(rt: HostRuntime) -> Result<(), Fail> {
     for (name, text, op, sector, page) in ACCEPTED {
         let commands = commands(rt.alloc(), text.as_bytes())?;
-        assert!(rt; is_one(&commands, op, sector, page), "{name}");
+        expect(&rt, is_one(&commands, op, sector, page), &name);
     }
     Ok(())
 }
@@ -180,10 +179,8 @@ const TWO: &str =
 fn records_end_as_csv_says(rt: HostRuntime) -> Result<(), Fail> {
     for (texts, count) in [(NONE, 0), (ONE, 1), (TWO, 2)] {
         for text in texts.split('|') {
-            assert!(rt;
-                commands(rt.alloc(), text.as_bytes())?.len() == count,
-                "{text}"
-            );
+            let commands = commands(rt.alloc(), text.as_bytes())?;
+            expect(&rt, commands.len() == count, &text);
         }
     }
     Ok(())
@@ -209,10 +206,8 @@ fn the_first_faulty_record_is_answered_by_its_number(rt: HostRuntime) -> Result<
         (SECOND_WORKER, 2, kind::Worker),
         (FIRST_OP, 1, kind::Op),
     ] {
-        assert!(rt;
-            all_have(rt.alloc(), &geometry, texts, at(line, fault)),
-            "{fault}"
-        );
+        let all = all_have(rt.alloc(), &geometry, texts, at(line, fault));
+        expect(&rt, all, &fault);
     }
     Ok(())
 }
@@ -227,7 +222,7 @@ fn each_beginning_of_a_line_has_its_answer(rt: HostRuntime) -> Result<(), Fail> 
             11 => at(1, kind::Hex),
             _ => at(1, kind::Fields),
         };
-        assert!(rt; first_fault(rt.alloc(), &line[..k])? == answer, "{k}");
+        expect(&rt, first_fault(rt.alloc(), &line[..k])? == answer, &k);
     }
     Ok(())
 }
@@ -242,7 +237,7 @@ fn bytes_that_are_no_text_fail_their_check(rt: HostRuntime) -> Result<(), Fail> 
         (b"0,write,0,\xff\xff".as_slice(), kind::Hex),
         (b"0,read,0,\xff\xff".as_slice(), kind::Unused),
     ] {
-        assert!(rt; first_fault(rt.alloc(), text)? == at(1, fault), "{fault}");
+        expect(&rt, first_fault(rt.alloc(), text)? == at(1, fault), &fault);
     }
     Ok(())
 }
@@ -266,10 +261,8 @@ fn long_texts_have_their_faults(rt: HostRuntime) -> Result<(), Fail> {
     ];
     for (front, byte, count, fault) in wanted {
         let text = padded(rt.alloc(), front, byte, count)?;
-        assert!(rt;
-            first_fault(rt.alloc(), text.as_slice())? == fault,
-            "{front}"
-        );
+        let found = first_fault(rt.alloc(), text.as_slice())?;
+        expect(&rt, found == fault, &front);
     }
     Ok(())
 }
@@ -309,7 +302,7 @@ fn commands_come_in_order(rt: HostRuntime) -> Result<(), Fail> {
 #[test]
 fn a_fault_prints_its_line_and_kind(rt: HostRuntime) -> Result<(), Fail> {
     let fault = first_fault(rt.alloc(), b"0,read,0,\n0,read,3,\n")?.ok_or("no fault")?;
-    assert!(rt; format!(in rt.alloc(); "{fault}")?.as_str() == "line 2: Sector");
+    assert!(rt; is_shown(rt.alloc(), &fault, "line 2: Sector")?);
     Ok(())
 }
 
@@ -478,15 +471,21 @@ impl Write for Steady {
     }
 }
 
+// Whether these bytes are read, written and flushed at once.
+fn takes_all(watched: &mut Watched<Steady>, bytes: &mut [u8]) -> bool {
+    watched.read(bytes).ok() == Some(bytes.len())
+        && bytes.iter().all(|byte| *byte == 7)
+        && watched.write(bytes).ok() == Some(bytes.len())
+        && watched.flush().is_ok()
+}
+
 #[test]
 fn what_never_fails_has_no_failure(rt: HostRuntime) -> Result<(), Fail> {
     let mut watched = Watched::new(Steady { flushes: 0 });
     let mut bytes = Vec::new(rt.alloc());
     for size in [1, 2, 511, 4_096, 65_536, 80_000] {
         bytes.resize(size, 0)?;
-        assert!(rt; watched.read(bytes.as_mut_slice())? == size);
-        assert!(rt; watched.write(bytes.as_slice())? == size && bytes.as_slice()[0] == 7);
-        watched.flush()?;
+        expect(&rt, takes_all(&mut watched, &mut bytes), &size);
     }
     assert!(rt; watched.failures() == 0 && watched.inner().flushes == 6);
     assert!(rt; watched.into_inner().flushes == 6);

@@ -1,3 +1,4 @@
+use crate::saying::{expect, is_shown};
 use geometry::{MapWord, NEXT_PHASE, PAGE_WRITTEN, Phase, PinWord, TAKEN, freed, kept};
 use std::test::Fail;
 
@@ -112,13 +113,11 @@ const NO_PIN_WORDS: [u64; 3] = [0x2000, 0xd000, 0x1_0000];
 #[test]
 fn pin_words_have_readers_phase_pages_and_generation(rt: HostRuntime) -> Result<(), Fail> {
     for (word, pin) in PIN_WORDS {
-        assert!(rt;
-            PinWord::unpack(word) == Some(pin) && pin.pack() == word,
-            "{pin}"
-        );
+        let is_same = PinWord::unpack(word) == Some(pin) && pin.pack() == word;
+        expect(&rt, is_same, &pin);
     }
     for word in NO_PIN_WORDS {
-        assert!(rt; PinWord::unpack(word) == None, "{word}");
+        expect(&rt, PinWord::unpack(word) == None, &word);
     }
     Ok(())
 }
@@ -140,15 +139,19 @@ fn words_are_shown_in_words(rt: HostRuntime) -> Result<(), Fail> {
         block: 2,
         page: 3,
     };
-    let text = format!(in rt.alloc(); "{page}")?;
-    assert!(rt; text.as_str() == "block 2 page 3 generation 1");
+    assert!(rt; is_shown(rt.alloc(), &page, "block 2 page 3 generation 1")?);
     let pin = PinWord {
         readers: 2,
         phase: Phase::Closed,
         written: 2,
         generation: 5,
     };
-    let text = format!(in rt.alloc(); "{pin}")?;
-    assert!(rt; text.as_str() == "closed, 2 written, generation 5, 2 readers");
+    assert!(rt;
+        is_shown(
+            rt.alloc(),
+            &pin,
+            "closed, 2 written, generation 5, 2 readers"
+        )?
+    );
     Ok(())
 }

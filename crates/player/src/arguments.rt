@@ -1,6 +1,6 @@
-ghost use Rattle.std.specs.Prelude.{◌≡◌, codes, map, Some, IfOk, IfSome};
-ghost use Rattle.clap.specs.Words.{FailsBy, app_of, first_of, found_of, rows_of, with_rule};
-ghost use Rattle.player.specs.CommandLine.{AreOptionsOf, IsNumberOf, faults_given, file_rule, flashplay, rows_given, with_number};
+ghost use Rattle.std.specs.Prelude.{◌≡◌, codes, map, false, Some, IfOk, IfSome};
+ghost use Rattle.clap.specs.Words.{FailsBy, app_of, first_of, found_of, rows_of, rule_of};
+ghost use Rattle.player.specs.CommandLine.{AreOptionsOf, IsNumberOf, faults_given, file_rule, flashplay, number_rule, rows_given, with_numbers, with_threads};
 
 use crate::command_line::{
     BLOCKS, BROOMS, ENDURANCE, LUNS, Options, PAGES, PATIENCE, SECTORS, WORDS, WORKERS,
@@ -130,51 +130,46 @@ const NUMBERS: [NumberOption; 9] = [
 fn flashplay<'a>(alloc: Global) -> Result<Command<'a>, AllocError>
     ensures { IfOk result (λ command. app_of command ≡ flashplay) }
 {
+    number_options(alloc)?.arg(named(
+        alloc,
+        "wear",
+        "FILE",
+        "Writes each block's erases and live pages to this file after the run",
+    ))
+}
+
+// The command with the options of whole numbers.
+fn number_options<'a>(alloc: Global) -> Result<Command<'a>, AllocError>
+    ensures { IfOk result (λ command. app_of command ≡ with_threads with_numbers) }
+{
     let mut command = Command::new(alloc, "flashplay").about(
         "Plays a trace on a page-mapped flash layer: the trace comes from standard input, its answers go to standard output.",
     );
     'numbers: for number in &NUMBERS {
-        command = with(alloc, command, number)?;
+        command = command.arg(option(alloc, number))?;
     }
-    with_file(
-        alloc,
-        command,
-        "wear",
-        "Writes each block's erases and live pages to this file after the run",
-    )
+    Ok(command)
 }
 
-// The command with one option more, of one whole number.
-fn with<'a>(
-    alloc: Global,
-    command: Command<'a>,
-    number: &NumberOption,
-) -> Result<Command<'a>, AllocError>
-    ensures { IfOk result (λ more. app_of more ≡ with_number (app_of command.entry) number.now) }
+// An option of one whole number.
+fn option<'a>(alloc: Global, number: &NumberOption) -> Arg<'a>
+    ensures rule { rule_of result ≡ number_rule number.now }
+    ensures local { result.global ≡ false }
 {
-    let option = Arg::new(alloc, number.name)
-        .long(number.name)
-        .value_name("N")
+    named(alloc, number.name, "N", number.help)
         .value_parser(ValueParser::signed(number.least, number.most))
         .default_value(number.default)
-        .help(number.help);
-    command.arg(option)
 }
 
-// The command with one option more, of a file's name.
-fn with_file<'a>(
-    alloc: Global,
-    command: Command<'a>,
-    name: &'a str,
-    help: &'a str,
-) -> Result<Command<'a>, AllocError>
-    ensures { IfOk result (λ more. app_of more ≡ with_rule (app_of command.entry) (file_rule name.entry.now)) }
+// An option behind two dashes, by its name, its value's name, and its help.
+fn named<'a>(alloc: Global, name: &'a str, value: &'a str, help: &'a str) -> Arg<'a>
+    ensures rule { rule_of result ≡ file_rule name.entry.now }
+    ensures local { result.global ≡ false }
 {
-    let option = Arg::new(alloc, name)
+    Arg::new(alloc, name)
         .long(name)
-        .value_name("FILE")
-        .help(help);
-    command.arg(option)
+        .value_name(value)
+        .help(help)
 }
 
 // The number that the matches give to an option.

@@ -1,7 +1,7 @@
 use Rattle.std.proofs.Common.{◌≡◌, codes, fold, take}
 use Rattle.clap.specs.Words.{app_of, new_app}
 use Rattle.player.specs.CommandLine.{with_number}
-use Rattle.player.proofs.arguments.flashplay.Given as goal
+use Rattle.player.proofs.arguments.number_options.Given as goal
 
 -- the command has the numbers so far
 abbrev pub invariant-numbers : goal.invariant-numbers
