@@ -1,5 +1,5 @@
 /// What a die keeps of a block beside its pages.
-#[derive(Clone, Copy, Debug)]
+#[derive(Clone, Copy)]
 pub struct BlockState {
     /// How many pages are programmed, which is also the page to be programmed next.
     pub next: u32,

@@ -13,7 +13,7 @@ pub const ERASED_BYTE: u8 = 0xff;
 pub const ERASED_STAMP: u64 = u64::MAX;
 
 /// The dies of a device, as one row of blocks.
-#[derive(Debug, Drop)]
+#[derive(Drop)]
 pub struct Die {
     geometry: Geometry,
     // The main bytes of all pages, block by block.

@@ -3,7 +3,7 @@ use atomic_table::Seat;
 use flash_rule::View;
 
 /// A block that a broom drains or erases: the number of its pages written, in its generation.
-#[derive(Clone, Copy, Debug, PartialEq, Eq)]
+#[derive(Clone, Copy)]
 pub struct ReclaimedBlock {
     pub block: u32,
     pub generation: u32,
@@ -11,7 +11,7 @@ pub struct ReclaimedBlock {
 }
 
 /// What a broom does with a block that it has claimed or condemned.
-#[derive(Clone, Copy, Debug, PartialEq, Eq)]
+#[derive(Clone, Copy)]
 pub enum Reclaiming {
     Nothing,
     /// It copies the block's live pages elsewhere.
@@ -21,7 +21,7 @@ pub enum Reclaiming {
 }
 
 /// The blocks of a broom's own.
-#[derive(Clone, Copy, Debug, PartialEq, Eq)]
+#[derive(Clone, Copy)]
 pub struct BroomBlocks {
     /// The block that live pages are copied to.
     pub destination: Option<OpenBlock>,

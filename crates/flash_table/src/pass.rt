@@ -2,7 +2,7 @@ use atomic_table::Seat;
 use flash_rule::View;
 
 /// A block that a pass or a broom has open: the number of its pages written, in its generation.
-#[derive(Clone, Copy, Debug, PartialEq, Eq)]
+#[derive(Clone, Copy)]
 pub struct OpenBlock {
     pub block: u32,
     pub generation: u32,

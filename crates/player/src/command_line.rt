@@ -18,7 +18,7 @@ pub const BROOMS: u32 = 0;
 pub const PATIENCE: u32 = 1_000_000;
 
 /// What the command line gives, under the names of its options.
-#[derive(Clone, Copy, Debug, PartialEq, Eq)]
+#[derive(Clone, Copy)]
 pub struct Options<'a> {
     pub luns: u32,
     pub blocks: u32,

@@ -1,14 +1,15 @@
 //! Hosts that race, each in a thread of its own, where no broom is.
-ghost use Rattle.std.specs.Prelude.{◌≡◌, All, length};
+ghost use Rattle.std.specs.Prelude.{All};
 ghost use Rattle.host.specs.Ready.{IsReady};
 ghost use Rattle.volume.specs.Volume.{flash_of};
 ghost use Rattle.shared_acceptance.specs.Kept.{IsHome};
 
-use crate::actors::{Actor, Home, call_at, dismiss};
+use crate::actors::{Actor, Home, call_at};
 use crate::calls::{Call, Done, EMPTY, TRIMMED, WORDS, WRITTEN, hold};
 use crate::cast::{Cast, Who};
 use crate::closing::close;
-use crate::entries::{give_back, next_host};
+use crate::entries::{disband, next_host};
+use crate::saying::expect;
 use flash_table::Pass;
 use geometry::Geometry;
 use std::marker::Brand;
@@ -144,7 +145,6 @@ fn run_race<'x, R: Threads + Wait + Sync, H: Home + Send + Sync>(
 ) -> (Vec<Pass>, bool)
     requires home { IsHome H.home volume.now }
     requires ready { All (IsReady (flash_of volume.now)) passes.items }
-    requires hosts { length passes.items ≡ 3 }
     ensures { All (IsReady (flash_of volume.now)) result.0.items }
 {
     let mut passes = passes;
@@ -171,18 +171,7 @@ fn run_race<'x, R: Threads + Wait + Sync, H: Home + Send + Sync>(
         second: None,
     };
     let right = find_last(rt, &mut cast, race.sectors) && right;
-    let Cast {
-        a,
-        b,
-        c,
-        first,
-        second,
-    } = cast;
-    dismiss(first);
-    dismiss(second);
-    give_back(volume, a, &mut passes);
-    give_back(volume, b, &mut passes);
-    give_back(volume, c, &mut passes);
+    disband(rt, volume, cast, &mut passes);
     (passes, right)
 }
 
@@ -223,10 +212,10 @@ fn hosts_that_race_are_answered_what_they_have_to_be(rt: HostRuntime) -> Result<
         let (volume, passes, brooms) = Volume::open(rt.alloc(), &geometry)?;
         brooms.destroy_empty();
         let (passes, right) = run_race::<HostRuntime, Brand>(&rt, &volume, passes, race);
-        assert!(rt; right, "{name}");
-        assert!(rt; !passes.is_empty(), "{name}");
+        expect(&rt, right, &name);
+        assert!(rt; !passes.is_empty());
         let sectors = close(&rt, volume, passes);
-        assert!(rt; hold(sectors.as_slice(), &race.sectors), "{name}");
+        expect(&rt, hold(sectors.as_slice(), &race.sectors), &name);
     }
     Ok(())
 }

@@ -1,11 +1,12 @@
 //! Actors come from the passes and brooms of a device, and go back into them.
-ghost use Rattle.std.specs.Prelude.{◌≡◌, ◌+◌, ◌-◌, ◌<◌, ◌≤◌, All, length, vec_capacity};
+ghost use Rattle.std.specs.Prelude.{◌≡◌, ◌-◌, All, length};
 ghost use Rattle.host.specs.Ready.{IsReady};
 ghost use Rattle.volume.specs.Brooms.{IsBroomReady};
 ghost use Rattle.volume.specs.Volume.{flash_of};
 ghost use Rattle.shared_acceptance.specs.Kept.{IsHome};
 
 use crate::actors::{Actor, Home, Host, Sweeper, dismiss};
+use crate::cast::Cast;
 use broom::Broom;
 use flash_table::Pass;
 use std::marker::PhantomData;
@@ -19,9 +20,7 @@ pub(crate) fn next_host<'a, H: Home>(
 ) -> Option<Actor<'a, H>>
     requires home { IsHome H.home volume.now }
     requires ready { All (IsReady (flash_of volume.now)) passes.old.items }
-    ensures count { length passes.new.items ≡ length passes.old.items - 1 }
-    ensures room { vec_capacity passes.new ≡ vec_capacity passes.old }
-    ensures ready { All (IsReady (flash_of volume.now)) passes.new.items }
+    ensures { All (IsReady (flash_of volume.now)) passes.new.items }
 {
     let pass = passes.pop()?;
     Some(Actor::Host(Host {
@@ -49,18 +48,15 @@ pub(crate) fn next_broom<'a, H: Home>(
     }))
 }
 
-/// A host gives its pass back.
+/// A host gives its pass back where there is room for it, and else retires it.
 pub(crate) fn give_back<H: Home>(
     volume: &Volume,
     actor: Option<Actor<'_, H>>,
     passes: &mut Vec<Pass>,
 )
     requires home { IsHome H.home volume.now }
-    requires room { length passes.old.items < vec_capacity passes.old }
     requires ready { All (IsReady (flash_of volume.now)) passes.old.items }
-    ensures room { vec_capacity passes.new ≡ vec_capacity passes.old }
-    ensures one { length passes.new.items ≤ length passes.old.items + 1 }
-    ensures ready { All (IsReady (flash_of volume.now)) passes.new.items }
+    ensures { All (IsReady (flash_of volume.now)) passes.new.items }
 {
     let Some(actor) = actor else {
         return;
@@ -73,7 +69,9 @@ pub(crate) fn give_back<H: Home>(
             return;
         }
     };
-    passes.push_reserved(host.into_pass(volume));
+    if passes.len() < passes.capacity() {
+        passes.push_reserved(host.into_pass(volume));
+    }
 }
 
 /// A broom is given up.
@@ -87,4 +85,29 @@ pub(crate) fn fold<H: Home>(rt: &impl Wait, actor: Option<Actor<'_, H>>) {
             dismiss(Some(other));
         }
     }
+}
+
+/// All leave: the brooms are given up, and the hosts give their passes back.
+pub(crate) fn disband<H: Home>(
+    rt: &impl Wait,
+    volume: &Volume,
+    cast: Cast<'_, H>,
+    passes: &mut Vec<Pass>,
+)
+    requires home { IsHome H.home volume.now }
+    requires ready { All (IsReady (flash_of volume.now)) passes.old.items }
+    ensures { All (IsReady (flash_of volume.now)) passes.new.items }
+{
+    let Cast {
+        a,
+        b,
+        c,
+        first,
+        second,
+    } = cast;
+    fold(rt, first);
+    fold(rt, second);
+    give_back(volume, a, passes);
+    give_back(volume, b, passes);
+    give_back(volume, c, passes);
 }

@@ -56,6 +56,8 @@ mod random;
 #[cfg(test)]
 mod refusals;
 #[cfg(test)]
+mod saying;
+#[cfg(test)]
 mod sizes;
 #[cfg(test)]
 mod stage;

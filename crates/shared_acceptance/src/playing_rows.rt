@@ -1,15 +1,16 @@
 //! A row is played on a device of its own, which is closed at its end.
-ghost use Rattle.std.specs.Prelude.{◌≡◌, ◌≤◌, All, length};
+ghost use Rattle.std.specs.Prelude.{◌≤◌, All, length};
 ghost use Rattle.host.specs.Ready.{IsReady};
 ghost use Rattle.volume.specs.Brooms.{IsBroomReady};
 ghost use Rattle.volume.specs.Volume.{flash_of};
 ghost use Rattle.shared_acceptance.specs.Kept.{IsHome};
 
-use crate::actors::{Home, dismiss};
+use crate::actors::Home;
 use crate::calls::{WORDS, hold};
 use crate::cast::{Cast, Who};
 use crate::closing::close;
-use crate::entries::{fold, give_back, next_broom, next_host};
+use crate::entries::{disband, next_broom, next_host};
+use crate::saying::expect;
 use crate::stage::{Stage, Step, Told};
 use broom::Broom;
 use flash_table::{Pass, Point};
@@ -53,7 +54,6 @@ fn play<'x, 's, R: Wait, H: Home>(
     requires home { IsHome H.home volume.now }
     requires ready { All (IsReady (flash_of volume.now)) passes.items }
     requires brooms { All (IsBroomReady volume.now) brooms.items }
-    requires hosts { length passes.items ≡ 2 }
     requires two { length brooms.items ≤ 2 }
     ensures { All (IsReady (flash_of volume.now)) result.0.items }
 {
@@ -86,18 +86,7 @@ fn play<'x, 's, R: Wait, H: Home>(
         }
         done = done.wrapping_add(1);
     }
-    let Cast {
-        a,
-        b,
-        c,
-        first,
-        second,
-    } = stage.cast;
-    dismiss(c);
-    fold(rt, first);
-    fold(rt, second);
-    give_back(volume, a, &mut passes);
-    give_back(volume, b, &mut passes);
+    disband(rt, volume, stage.cast, &mut passes);
     (passes, done)
 }
 
@@ -119,9 +108,9 @@ pub(crate) fn check_row<R: Wait + Abort + AllocGlobal>(rt: &R, row: Row<'_>) -> 
     let geometry = Geometry::new(1, blocks, 2, WORDS, 2, endurance, 2, brooms)?;
     let (volume, passes, brooms) = Volume::open(rt.alloc(), &geometry)?;
     let (passes, done) = play::<R, Brand>(rt, &volume, passes, brooms, steps, meanwhile);
-    assert!(rt; done == steps.len(), "{name}, step {done}");
-    assert!(rt; !passes.is_empty(), "{name}");
+    expect(rt, done == steps.len(), &(name, done));
+    assert!(rt; !passes.is_empty());
     let closed = close(rt, volume, passes);
-    assert!(rt; hold(closed.as_slice(), &sectors), "{name}");
+    expect(rt, hold(closed.as_slice(), &sectors), &name);
     Ok(())
 }

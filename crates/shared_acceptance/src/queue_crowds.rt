@@ -3,6 +3,7 @@ ghost use Rattle.std.specs.Prelude.{◌≡◌, ◌+◌, ◌<◌, All, length};
 ghost use Rattle.erase_queue.specs.Queue.{IsNewPass};
 
 use crate::queue_hands::{Hand, QueueCall, next_hand};
+use crate::saying::expect;
 use erase_queue::{EraseQueue, QueuePass};
 use std::sync::Wait;
 use std::test::Fail;
@@ -163,7 +164,7 @@ fn four_threads_share_a_queue(rt: HostRuntime) -> Result<(), Fail> {
     for (name, crowd) in CROWDS {
         assert!(rt; crowd.places > 0);
         let (queue, passes) = EraseQueue::new(rt.alloc(), crowd.places, 4)?;
-        assert!(rt; is_right(&rt, &queue, passes, crowd), "{name}");
+        expect(&rt, is_right(&rt, &queue, passes, crowd), &name);
     }
     Ok(())
 }

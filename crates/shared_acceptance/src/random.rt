@@ -9,10 +9,11 @@ use crate::actors::Home;
 use crate::calls::{WORDS, hold};
 use crate::cast::Cast;
 use crate::closing::close;
-use crate::entries::{fold, give_back, next_broom, next_host};
+use crate::entries::{disband, next_broom, next_host};
 use crate::judge::{BLOCKS, SECTORS};
 use crate::jury::{Jury, Looks};
 use crate::nesting::{Crew, Nested};
+use crate::saying::expect;
 use crate::tally::Tally;
 use broom::Broom;
 use flash_table::Pass;
@@ -41,7 +42,6 @@ fn play<'x, R: Wait + Abort + AllocGlobal, H: Home>(
     requires home { IsHome H.home volume.now }
     requires ready { All (IsReady (flash_of volume.now)) passes.items }
     requires brooms { All (IsBroomReady volume.now) brooms.items }
-    requires hosts { length passes.items ≡ 3 }
     requires two { length brooms.items ≡ 2 }
     ensures { All (IsReady (flash_of volume.now)) result.0.items }
 {
@@ -73,18 +73,7 @@ fn play<'x, R: Wait + Abort + AllocGlobal, H: Home>(
         jury,
         looks: _,
     } = crew;
-    let Cast {
-        a,
-        b,
-        c,
-        first,
-        second,
-    } = cast;
-    fold(rt, first);
-    fold(rt, second);
-    give_back(volume, a, &mut passes);
-    give_back(volume, b, &mut passes);
-    give_back(volume, c, &mut passes);
+    disband(rt, volume, cast, &mut passes);
     (passes, jury)
 }
 
@@ -103,7 +92,7 @@ fn play_seed<R: Wait + Abort + AllocGlobal>(
     assert!(rt; passes.len() == 3);
     let closed = close(rt, volume, passes);
     let is_right = jury.is_right() && hold(closed.as_slice(), &jury.judge.numbers);
-    assert!(rt; is_right, "seed {seed}");
+    expect(rt, is_right, &seed);
     Ok(jury.tally)
 }
 
@@ -128,8 +117,8 @@ fn each_answer_is_the_arrays_in_every_schedule(rt: HostRuntime) -> Result<(), Fa
         hosts,
         brooms,
     } = tally;
-    assert!(rt; stops.are_all_reached(), "{stops:?}");
-    assert!(rt; hosts.did_all(), "{hosts:?}");
-    assert!(rt; brooms.gave_all(), "{brooms:?}");
+    assert!(rt; stops.are_all_reached());
+    assert!(rt; hosts.did_all());
+    assert!(rt; brooms.gave_all());
     Ok(())
 }

@@ -4,8 +4,8 @@ use Rattle.host.specs.Ready.{IsReady}
 use Rattle.volume.specs.Volume.{flash_of}
 use Rattle.shared_acceptance.proofs.entries.give_back.Goals as goal
 
-pub returns-clause-ready : goal.returns-clause-ready
-returns-clause-ready g c =
+pub returns-then-len-capacity : goal.returns-then-len-capacity
+returns-then-len-capacity g c =
     let P = IsReady (flash_of c.args.volume.now) in
     let items = c.args.passes.now.items in
     let pass = c.into_pass.result in All-same P c.push_reserved.new.self.items (items ++ pass ∷ []) c.push_reserved.ensures.items (All-push P items pass c.requires.ready c.into_pass.ensures)

@@ -9,5 +9,5 @@ invariant_of-result g c =
     let popped = All-pop (IsReady (flash_of c.args.volume.now)) c.args.passes.now.items c.pop.new.self.items (Some c.in_ok-pass.pass) c.in_ok-pass.ensures.items c.requires.ready in
     record { home = c.requires.home; ready = popped.1 }
 
-pub returns-clause-ready : goal.returns-clause-ready
-returns-clause-ready g c = (All-pop (IsReady (flash_of c.args.volume.now)) c.args.passes.now.items c.pop.new.self.items (Some c.in_ok-pass.pass) c.in_ok-pass.ensures.items c.requires.ready).0
+pub returns : goal.returns
+returns g c = (All-pop (IsReady (flash_of c.args.volume.now)) c.args.passes.now.items c.pop.new.self.items (Some c.in_ok-pass.pass) c.in_ok-pass.ensures.items c.requires.ready).0
