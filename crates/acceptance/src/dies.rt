@@ -1,6 +1,7 @@
 ghost use Rattle.std.specs.Prelude.{◌≡◌, IfOk};
+ghost use Rattle.std.specs.Bool.{OnTrue};
 ghost use Rattle.geometry.specs.Geometry.{blocks_of, pages_of, page_bytes_of};
-ghost use Rattle.die.specs.Die.{geometry_of};
+ghost use Rattle.die.specs.Die.{geometry_of, IsUsable, IsNext};
 
 use die::Die;
 use geometry::{Geometry, PageAddr};
@@ -8,6 +9,8 @@ use std::process::Abort;
 use std::test::Fail;
 
 const FIRST: PageAddr = PageAddr { block: 0, page: 0 };
+// What a read of a page shows that isn't programmed.
+const EMPTY: ([u8; 8], u64) = ([255; 8], 0xffff_ffff_ffff_ffff);
 
 // A die of one LUN, three blocks of two pages of one word, and endurance 2.
 #[derive(Drop)]
@@ -21,42 +24,47 @@ struct Bench {
 impl Bench {
     fn new(rt: &(impl Abort + AllocGlobal)) -> Result<Bench, Fail> {
         let geometry = Geometry::new(1, 3, 2, 1, 3, 2, 0, 0)?;
-        assert!(rt; geometry.blocks() == 3);
-        assert!(rt; geometry.pages() == 2);
-        assert!(rt; geometry.page_bytes() == 8);
+        assert!(rt; (geometry.blocks(), geometry.pages(), geometry.page_bytes()) == (3, 2, 8));
         Ok(Bench {
             die: Die::new(rt.alloc(), &geometry)?,
         })
     }
 
+    // Whether the die has the block, and it isn't retired.
+    fn is_usable(&self, block: u32) -> bool
+        ensures { OnTrue result (IsUsable self.now.die block) }
+    {
+        block < 3 && !self.die.retired(block)
+    }
+
+    // Whether the page is the next one of a usable block.
+    fn is_next(&self, at: PageAddr) -> bool
+        ensures { OnTrue result (IsNext self.now.die at) }
+    {
+        at.page < 2 && self.is_usable(at.block) && self.die.next(at.block) == at.page
+    }
+
     fn program(&mut self, rt: &impl Abort, at: PageAddr, byte: u8, stamp: u32) -> u8 {
-        assert!(rt; at.block < 3 && at.page < 2);
-        assert!(rt; !self.die.retired(at.block));
-        assert!(rt; self.die.next(at.block) == at.page);
+        assert!(rt; self.is_next(at));
         self.die.program(at, &[byte, 0, 0, 0, 0, 0, 0, 0], stamp)
     }
 
     fn copyback(&mut self, rt: &impl Abort, from: PageAddr, to: PageAddr) -> u8 {
-        assert!(rt; from.block < 3 && to.block < 3 && to.page < 2);
-        assert!(rt; !self.die.retired(from.block));
-        assert!(rt; !self.die.retired(to.block));
-        assert!(rt; from.page < self.die.next(from.block));
-        assert!(rt; self.die.next(to.block) == to.page);
+        assert!(rt; self.is_usable(from.block) && from.page < self.die.next(from.block));
+        assert!(rt; self.is_next(to));
         let geometry = self.die.geometry();
         assert!(rt; geometry.lun_of(from.block) == geometry.lun_of(to.block));
         self.die.copyback(from, to)
     }
 
     fn erase(&mut self, rt: &impl Abort, block: u32) -> u8 {
-        assert!(rt; block < 3);
-        assert!(rt; !self.die.retired(block));
+        assert!(rt; self.is_usable(block));
         self.die.erase(block)
     }
 
     // What a read of a page shows: its bytes and its stamp.
     fn read(&self, rt: &impl Abort, at: PageAddr) -> ([u8; 8], u64) {
-        assert!(rt; at.block < 3);
-        assert!(rt; !self.die.retired(at.block));
+        assert!(rt; self.is_usable(at.block));
         let mut out = [0; 8];
         let stamp = self.die.read(at, &mut out);
         (out, stamp)
@@ -76,8 +84,9 @@ fn a_die_keeps_and_copies_pages(rt: HostRuntime) -> Result<(), Fail> {
         bench.read(&rt, copy),
     ];
     let page = ([1, 0, 0, 0, 0, 0, 0, 0], 2);
-    assert!(rt; (programmed, copied, bench.die.copybacks()) == (0, 0, 1));
-    assert!(rt; reads == [page, ([255; 8], 0xffff_ffff_ffff_ffff), page]);
+    assert!(rt;
+        (programmed, copied, bench.die.copybacks()) == (0, 0, 1) && reads == [page, EMPTY, page]
+    );
     Ok(())
 }
 
@@ -89,8 +98,7 @@ fn the_last_erase_retires_a_block(rt: HostRuntime) -> Result<(), Fail> {
     let programmed = bench.die.next(0);
     let read = bench.read(&rt, FIRST);
     let second = bench.erase(&rt, 0);
-    assert!(rt; (first, second) == (0, 1));
-    assert!(rt; (programmed, read) == (0, ([255; 8], 0xffff_ffff_ffff_ffff)));
-    assert!(rt; (bench.die.retired(0), bench.die.erases(0)) == (true, 2));
+    let end = (bench.die.retired(0), bench.die.erases(0));
+    assert!(rt; (first, programmed, read, second, end) == (0, 0, EMPTY, 1, (true, 2)));
     Ok(())
 }

@@ -26,8 +26,7 @@ impl Bench {
         endurance: u32,
     ) -> Result<Bench, Fail> {
         let geometry = Geometry::new(luns, blocks, pages, 1, sectors, endurance, 0, 0)?;
-        assert!(rt; geometry.page_bytes() == 8);
-        assert!(rt; geometry.hosts() == 0);
+        assert!(rt; (geometry.page_bytes(), geometry.hosts()) == (8, 0));
         Ok(Bench {
             ftl: OneFtl::new(rt.alloc(), &geometry)?,
         })
@@ -207,35 +206,34 @@ fn collection_and_wear_follow_the_worked_rows(rt: HostRuntime) -> Result<(), Fai
 #[test]
 fn a_trim_empties_a_sector_and_programs_nothing(rt: HostRuntime) -> Result<(), Fail> {
     let mut bench = Bench::new(&rt, 1, 3, 2, 3, 10)?;
-    assert!(rt; bench.write(&rt, 0, 65) == Some(Was::Empty));
-    assert!(rt; bench.trim(&rt, 0) == Was::Written);
-    assert!(rt; bench.trim(&rt, 0) == Was::Empty);
-    assert!(rt; bench.read(&rt, 0) == None);
-    assert!(rt; bench.ftl.counts().programs == 1);
+    let written = bench.write(&rt, 0, 65);
+    let trimmed = (bench.trim(&rt, 0), bench.trim(&rt, 0));
+    let end = (bench.read(&rt, 0), bench.ftl.counts().programs);
+    assert!(rt;
+        (written, trimmed, end) == (Some(Was::Empty), (Was::Written, Was::Empty), (None, 1))
+    );
+    Ok(())
+}
+
+#[test]
+fn a_written_sector_is_refused_before_a_page_is_programmed(rt: HostRuntime) -> Result<(), Fail> {
+    let mut bench = Bench::new(&rt, 1, 3, 2, 3, 10)?;
+    let written = (bench.write_new(&rt, 0, 0x41), bench.write_new(&rt, 0, 0x42));
+    let end = (bench.read(&rt, 0), bench.ftl.counts().programs);
+    assert!(rt; (written, end) == ((Ok(()), Err(NewOneFault::Written)), (Some(0x41), 1)));
     Ok(())
 }
 
 // Two sectors are written by turns. The victims are blocks 0, 1, 2 and 0, whose second erase fails.
 #[test]
-fn a_written_sector_is_refused_before_a_page_is_programmed(rt: HostRuntime) -> Result<(), Fail> {
-    let mut bench = Bench::new(&rt, 1, 3, 2, 3, 10)?;
-    assert!(rt; bench.write_new(&rt, 0, 0x41) == Ok(()));
-    assert!(rt; bench.write_new(&rt, 0, 0x42) == Err(NewOneFault::Written));
-    assert!(rt; bench.read(&rt, 0) == Some(0x41));
-    assert!(rt; bench.ftl.counts().programs == 1);
-    Ok(())
-}
-
-#[test]
 fn the_blocks_tell_their_wear(rt: HostRuntime) -> Result<(), Fail> {
     let mut bench = Bench::new(&rt, 1, 3, 2, 3, 2)?;
     for byte in 0..6u8 {
-        assert!(rt; bench.write(&rt, 0, byte).is_some());
-        assert!(rt; bench.write(&rt, 1, byte).is_some());
+        let is_written = bench.write(&rt, 0, byte).is_some() && bench.write(&rt, 1, byte).is_some();
+        assert!(rt; is_written);
     }
-    assert!(rt; bench.wear(&rt, 0) == (2, 0, true));
-    assert!(rt; bench.wear(&rt, 1) == (1, 0, false));
-    assert!(rt; bench.wear(&rt, 2) == (1, 2, false));
+    let wear = [bench.wear(&rt, 0), bench.wear(&rt, 1), bench.wear(&rt, 2)];
+    assert!(rt; wear == [(2, 0, true), (1, 0, false), (1, 2, false)]);
     Ok(())
 }
 

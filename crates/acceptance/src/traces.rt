@@ -278,12 +278,16 @@ const NO_SECTOR: &str = "0,read,1048576,|0,read,01048575,";
 fn numbers_end_at_their_limits(rt: HostRuntime) -> Result<(), Fail> {
     use TraceFaultKind as kind;
     let largest = Geometry::new(1, 4096, 1024, 1, 1_048_576, 10, 0, 0)?;
-    assert!(rt; all_have(rt.alloc(), &largest, WITHIN, None));
-    assert!(rt; all_have(rt.alloc(), &largest, NO_WORKER, at(1, kind::Worker)));
-    assert!(rt; all_have(rt.alloc(), &largest, NO_SECTOR, at(1, kind::Sector)));
     let two_hosts = Geometry::new(1, 5, 2, 1, 2, 10, 2, 1)?;
-    assert!(rt; all_have(rt.alloc(), &two_hosts, "1,read,0,", None));
-    assert!(rt; all_have(rt.alloc(), &two_hosts, "2,read,0,", at(1, kind::Worker)));
+    for (geometry, texts, fault) in [
+        (&largest, WITHIN, None),
+        (&largest, NO_WORKER, at(1, kind::Worker)),
+        (&largest, NO_SECTOR, at(1, kind::Sector)),
+        (&two_hosts, "1,read,0,", None),
+        (&two_hosts, "2,read,0,", at(1, kind::Worker)),
+    ] {
+        expect(&rt, all_have(rt.alloc(), geometry, texts, fault), &texts);
+    }
     Ok(())
 }
 
@@ -338,17 +342,25 @@ impl Read for Endless {
     }
 }
 
+// Whether a text is loaded in pieces of a size, as it is and to its end, without a failure.
+fn loads(alloc: Global, text: &[u8], size: usize) -> Result<bool, Fail> {
+    let mut reader = Watched::new(Pieces {
+        rest: text,
+        size,
+        fails_at: None,
+    });
+    let is_same = load(alloc, &mut reader)?.as_slice() == text;
+    Ok(is_same && reader.failures() == 0 && reader.into_inner().rest.is_empty())
+}
+
 #[test]
 fn a_trace_is_read_to_its_end(rt: HostRuntime) -> Result<(), Fail> {
-    let text = b"0,write,0,41\n0,read,0,\n";
     for size in [1, 5, 100] {
-        let mut reader = Watched::new(Pieces {
-            rest: text,
-            size,
-            fails_at: None,
-        });
-        assert!(rt; load(rt.alloc(), &mut reader)?.as_slice() == text.as_slice());
-        assert!(rt; reader.failures() == 0 && reader.into_inner().rest.len() == 0);
+        expect(
+            &rt,
+            loads(rt.alloc(), b"0,write,0,41\n0,read,0,\n", size)?,
+            &size,
+        );
     }
     Ok(())
 }
@@ -363,15 +375,11 @@ fn long_trace(alloc: Global, line: &[u8], lines: usize) -> Result<Vec<u8>, Fail>
     Ok(text)
 }
 
-// Whether a text is loaded in pieces of a size as it is, without a failure.
-fn loads(alloc: Global, text: &[u8], size: usize) -> Result<bool, Fail> {
-    let mut reader = Watched::new(Pieces {
-        rest: text,
-        size,
-        fails_at: None,
-    });
-    let loaded = load(alloc, &mut reader)?;
-    Ok(loaded.as_slice() == text && reader.failures() == 0)
+// Whether the commands are 100,000, and the last two of them a whole page and one of one byte.
+fn ends_well(commands: &Commands) -> bool {
+    commands.len() == 100_000
+        && page_of(&commands.command(99_998)) == Some(*b"\x01\x02\x03\x04\x05\x06\x07\x08")
+        && page_of(&commands.command(99_999)) == Some(*b"\x09\0\0\0\0\0\0\0")
 }
 
 #[test]
@@ -381,12 +389,7 @@ fn a_trace_of_100000_lines_is_loaded_and_parsed(rt: HostRuntime) -> Result<(), F
     for (line, size) in [(plain, 1), (quoted, 20_000)] {
         let text = long_trace(rt.alloc(), line, 99_999)?;
         assert!(rt; text.len() > 1 << 20 && loads(rt.alloc(), text.as_slice(), size)?);
-        let commands = commands(rt.alloc(), text.as_slice())?;
-        assert!(rt; commands.len() == 100_000);
-        let last = page_of(&commands.command(99_998));
-        assert!(rt; last == Some(*b"\x01\x02\x03\x04\x05\x06\x07\x08"));
-        let short = page_of(&commands.command(99_999));
-        assert!(rt; short == Some(*b"\x09\0\0\0\0\0\0\0"));
+        assert!(rt; ends_well(&commands(rt.alloc(), text.as_slice())?));
     }
     Ok(())
 }
@@ -487,7 +490,7 @@ fn what_never_fails_has_no_failure(rt: HostRuntime) -> Result<(), Fail> {
         bytes.resize(size, 0)?;
         expect(&rt, takes_all(&mut watched, &mut bytes), &size);
     }
-    assert!(rt; watched.failures() == 0 && watched.inner().flushes == 6);
-    assert!(rt; watched.into_inner().flushes == 6);
+    let counts = (watched.failures(), watched.inner().flushes);
+    assert!(rt; (counts, watched.into_inner().flushes) == ((0, 6), 6));
     Ok(())
 }

@@ -124,11 +124,8 @@ fn pin_words_have_readers_phase_pages_and_generation(rt: HostRuntime) -> Result<
 
 #[test]
 fn owners_add_these_numbers(rt: HostRuntime) -> Result<(), Fail> {
-    assert!(rt; TAKEN == 0x1000);
-    assert!(rt; NEXT_PHASE == 0x2000);
-    assert!(rt; PAGE_WRITTEN == 0x1_0000);
-    assert!(rt; freed(2) == 0xfffd_7000);
-    assert!(rt; kept(2) == 0xfffd_8000);
+    assert!(rt; [TAKEN, NEXT_PHASE, PAGE_WRITTEN] == [0x1000, 0x2000, 0x1_0000]);
+    assert!(rt; [freed(2), kept(2)] == [0xfffd_7000, 0xfffd_8000]);
     Ok(())
 }
 

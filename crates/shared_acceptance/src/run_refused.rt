@@ -1,5 +1,6 @@
 //! Threads that are refused.
-use crate::hands::{play, small, told};
+use crate::run::{play, small, told};
+use crate::saying::expect;
 use flash_table::NoGate;
 use shared_player::{NoShift, Starts};
 use std::test::Fail;
@@ -28,7 +29,7 @@ fn a_run_without_all_its_threads_says_so(rt: HostRuntime) -> Result<(), Fail> {
     for left in 0..4 {
         let mut gates = [NoGate; 4];
         let rows = play(&rt, First { left }, &geometry, trace, 1, &mut gates)?;
-        assert!(rt; rows.err() == Some(NoShift::Threads), "with {left} threads");
+        expect(&rt, rows.err() == Some(NoShift::Threads), &left);
     }
     let mut gates = [NoGate; 4];
     let rows = play(&rt, First { left: 4 }, &geometry, trace, 1, &mut gates)??;

@@ -1,5 +1,6 @@
 //! Rows whose answers are the same in every schedule, and a trace whose answers are not.
-use crate::hands::{answers_of, play_freely, small};
+use crate::run::{answers_of, play_freely, small};
+use crate::saying::expect;
 use lines::{Answer, Kind};
 use std::test::Fail;
 
@@ -77,7 +78,7 @@ fn workers_answer_as_one_thread_would(rt: HostRuntime) -> Result<(), Fail> {
     for (hosts, brooms, blocks, patience, trace, answers) in ROWS {
         let geometry = small(blocks, hosts, brooms)?;
         let text = answers_of(&rt, &geometry, trace.as_bytes(), patience)?;
-        assert!(rt; text.as_str() == answers, "for {trace}");
+        expect(&rt, text.as_str() == answers, &trace);
     }
     Ok(())
 }

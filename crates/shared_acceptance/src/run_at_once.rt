@@ -1,5 +1,5 @@
 //! Workers run at once.
-use crate::hands::{play, small, told};
+use crate::run::{play, small, told};
 use flash_table::{Gate, Point};
 use shared_player::AllStart;
 use std::sync::atomic::{AtomicBool, Ordering};
