@@ -15,7 +15,7 @@ use crate::broom::Broom;
 use flash_table::{BroomSeat, Flash, Gate, Point};
 use geometry::Phase;
 
-/// IsErasing a drained block that nobody reads. It stops at its gate once the block's state is loaded, before the block is condemned.
+/// Erases a drained block that nobody reads. It stops at its gate once the block's state is loaded, before the block is condemned.
 pub fn erase<G: Gate>(flash: &Flash, broom: &mut Broom, block: u32, gate: &mut G) -> Erase
     requires broom { IsReady flash.now broom.old }
     requires block { block < blocks_of (geometry_of flash.now) }

@@ -191,7 +191,7 @@ fn wipe_all(flash: &Flash, seat: &mut BroomSeat)
     }
 }
 
-// IsErasing a drained block in its last generation, step by step. The answer is its pin word between the condemn and the retirement, as another seat
+// Erases a drained block in its last generation, step by step. The answer is its pin word between the condemn and the retirement, as another seat
 // reads it, or none where the block is no such block.
 fn erase_in_steps(
     flash: &Flash,
