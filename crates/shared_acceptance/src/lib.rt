@@ -1,7 +1,6 @@
 //! Tests of the shared device's public calls: rows of calls with their answers, calls of hosts and brooms that interleave at every point of
-//! a gate as seeds draw them, judged by a plain array, the words of its table after each call, and crowds in real threads; and of a run by
-//! many workers: rows with the same answers in every schedule, values that were written, threads that are refused, and workers that run at
-//! once. They stand in a crate of their own, since a crate with tests is proved twice.
+//! a gate as seeds draw them, judged by a plain array, the words of its table after each call, and crowds in real threads. They stand in a
+//! crate of their own, since a crate with tests is proved twice.
 #![tactic(auto)]
 
 #[cfg(test)]
@@ -56,14 +55,6 @@ mod queue_rows;
 mod random;
 #[cfg(test)]
 mod refusals;
-#[cfg(test)]
-mod run;
-#[cfg(test)]
-mod run_at_once;
-#[cfg(test)]
-mod run_refused;
-#[cfg(test)]
-mod run_rows;
 #[cfg(test)]
 mod saying;
 #[cfg(test)]
