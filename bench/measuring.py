@@ -57,8 +57,8 @@ def build_plain(names, words=(), suffix=""):
 
 
 def build_program():
-    """The proved program, by the launcher, which builds it where it is missing or old."""
-    call([TOP / "flashplay", "--help"])
+    """The proved program, by the launcher, which proves and builds it where it is missing or old."""
+    call([TOP / "flashplay", "--prove"])
     shutil.copy2(TOP / "crates/flashplay/out/flashplay", OUT / "flashplay")
     return OUT / "flashplay"
 

@@ -1,13 +1,16 @@
 // Stands between a program and the C library, and refuses or cuts short what the environment names:
 //   REFUSE_ALLOCATION=K  the K-th allocation        REFUSE_READ=K, REFUSE_WRITE=K  the K-th read of standard input, write to
 //   REFUSE_WITH=E        by this error number       standard output (with error 0 a write takes nothing)
+//   REFUSE_FILE=K        the K-th write to a file of its own, by the same error number
 //   REFUSE_THREAD=K      the K-th start of a thread
 //   MOST=N               a read gives, and a write takes, N bytes at most; with SEED=S from 1 to N at random
 //   AFTER_WRITE=W        allocations are counted from the W-th write to standard output, and only until the next one
-//   REPORT=FILE          gets the numbers of allocations, of reads and writes, and of writes to standard error at the end
+//   REPORT=FILE          gets the numbers of allocations, of reads and writes, of writes to files, of threads, and of writes to
+//                        standard error at the end
 #define _GNU_SOURCE
 #include <dlfcn.h>
 #include <errno.h>
+#include <fcntl.h>
 #include <pthread.h>
 #include <stdio.h>
 #include <stdlib.h>
@@ -17,7 +20,7 @@
 extern void *__libc_malloc(size_t size);
 extern void *__libc_realloc(void *old, size_t size);
 
-static long allocations, reads, writes, tellings;
+static long allocations, reads, writes, file_writes, threads, tellings;
 
 static long number(const char *name) {
     const char *text = getenv(name);
@@ -64,7 +67,6 @@ void *realloc(void *old, size_t size) {
 }
 
 int pthread_create(pthread_t *thread, const pthread_attr_t *how, void *(*start)(void *), void *argument) {
-    static long threads;
     if (is_refused(&threads, "REFUSE_THREAD"))
         return EAGAIN;
     int (*real)(pthread_t *, const pthread_attr_t *, void *(*)(void *), void *) = dlsym(RTLD_NEXT, "pthread_create");
@@ -88,6 +90,11 @@ ssize_t write(int file, const void *bytes, size_t length) {
     }
     if (file == 2)
         tellings += 1;
+    if (file > 2) {
+        if (is_refused(&file_writes, "REFUSE_FILE"))
+            return errno ? -1 : 0;
+        length = shortened(length);
+    }
     return syscall(SYS_write, file, bytes, length);
 }
 
@@ -97,11 +104,13 @@ ssize_t __write(int file, const void *bytes, size_t length) {
 
 __attribute__((destructor)) static void report(void) {
     const char *path = getenv("REPORT");
-    FILE *file = path ? fopen(path, "w") : NULL;
-    if (file) {
-        fprintf(file, "%ld %ld %ld %ld\n", allocations, reads, writes, tellings);
-        fclose(file);
-    }
+    int file = path ? open(path, O_WRONLY | O_CREAT | O_TRUNC, 0644) : -1;
+    if (file < 0)
+        return;
+    char text[128];
+    int length = snprintf(text, sizeof text, "%ld %ld %ld %ld %ld %ld\n", allocations, reads, writes, file_writes, threads, tellings);
+    syscall(SYS_write, file, text, length);
+    close(file);
 }
 
 // A program that may start threads ends by this call, which runs no destructor.

@@ -28,11 +28,12 @@ struct Options {
     workers: u32,
     brooms: u32,
     patience: u32,
+    drains: u32,
 }
 
 fn main() -> ExitCode {
     let Some(options) = options() else {
-        eprintln!("options: --luns --blocks --pages --words --sectors --endurance --workers --brooms --patience");
+        eprintln!("options: --luns --blocks --pages --words --sectors --endurance --workers --brooms --patience --drains");
         return ExitCode::from(2);
     };
     if let Some(fault) = options.fault() {
@@ -65,7 +66,7 @@ fn main() -> ExitCode {
 
 fn options() -> Option<Options> {
     let geometry = Geometry { luns: 1, blocks: 64, pages: 64, words: 64, sectors: 3072, endurance: 1000 };
-    let mut options = Options { geometry, workers: 0, brooms: 0, patience: 1_000_000 };
+    let mut options = Options { geometry, workers: 0, brooms: 0, patience: 1_000_000, drains: 1 };
     let mut words = std::env::args().skip(1);
     while let Some(name) = words.next() {
         let number = words.next()?.parse().ok()?;
@@ -79,6 +80,7 @@ fn options() -> Option<Options> {
             "--workers" => options.workers = number,
             "--brooms" => options.brooms = number,
             "--patience" => options.patience = number,
+            "--drains" => options.drains = number,
             _ => return None,
         }
     }
@@ -161,7 +163,7 @@ fn play(text: &[u8], plan: &mut Plan, options: &Options) {
         let (table, stop) = (&table, &stop);
         std::thread::scope(|scope| {
             for broom in &mut brooms {
-                scope.spawn(move || broom.sweep(table, stop));
+                scope.spawn(move || broom.sweep(table, stop, options.drains));
             }
             let busy = plan.workers.iter_mut().zip(ends).filter(|(worker, end)| worker.answers.len() < **end);
             let threads: Vec<_> = busy.map(|(worker, &end)| scope.spawn(move || worker.play(table, text, end, options))).collect();
@@ -186,12 +188,23 @@ impl Worker {
             answers.push(match line.op {
                 Op::Read if table.read(line.sector, |page| pages.extend(page.iter().map(|word| word.load(table::PAGE_WORD)))) => Answer::Page,
                 Op::Read | Op::Meet => Answer::Empty,
-                Op::Write => done(tries.find_map(|_| table.write(open, line.sector, words_of(&buffer)))),
-                Op::New => done(tries.find_map(|_| table.write_new(open, line.sector, words_of(&buffer)))),
+                Op::Write => done(tries.find_map(|tried| table.write(open, line.sector, words_of(&buffer)).or_else(|| rest_after(tried)))),
+                Op::New => done(tries.find_map(|tried| table.write_new(open, line.sector, words_of(&buffer)).or_else(|| rest_after(tried)))),
                 Op::Trim => done(Some(table.trim(line.sector))),
             });
         }
     }
+}
+
+/// How many tries of a write that are turned away stand between two yields.
+const TRIES_A_YIELD: u32 = 16;
+
+/// A write was turned away, after so many tries that were: nothing. Now and then the processor is given to another thread.
+fn rest_after(turned_away: u32) -> Option<bool> {
+    if turned_away % TRIES_A_YIELD == 0 {
+        std::thread::yield_now();
+    }
+    None
 }
 
 /// The words that a page's bytes make, the lowest byte first.

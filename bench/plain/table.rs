@@ -8,6 +8,7 @@ use std::collections::VecDeque;
 use std::sync::Mutex;
 use std::sync::atomic::Ordering::{Relaxed, SeqCst};
 use std::sync::atomic::{AtomicBool, AtomicU64, Ordering};
+use std::time::Duration;
 
 /// Whoever reads a page's words has found its map word first, which was stored behind them, and whoever stores them owns the block.
 pub const PAGE_WORD: Ordering = if cfg!(tuned) { Relaxed } else { SeqCst };
@@ -166,47 +167,92 @@ pub struct Broom {
     spare: Option<Open>,
     pins: Vec<u64>,
     counts: Vec<u64>,
+    marked: Vec<bool>,
+    ranking: Vec<u64>,
+    next: usize,
+    is_ranked: bool,
+}
+
+/// What a drain did.
+#[derive(Clone, Copy, PartialEq)]
+enum Drain {
+    Drained,
+    Lost,
+    NothingToGain,
+    NoSpare,
 }
 
 impl Broom {
     pub fn new(table: &Table, spare: usize) -> Broom {
         let spare = Open { block: spare as u64, generation: 0, written: 0 };
-        Broom { destination: None, spare: Some(spare), pins: vec![0; table.blocks], counts: vec![0; table.blocks] }
+        let [pins, counts] = [vec![0; table.blocks], vec![0; table.blocks]];
+        let (marked, ranking) = (vec![false; table.blocks], Vec::with_capacity(table.blocks));
+        Broom { destination: None, spare: Some(spare), pins, counts, marked, ranking, next: 0, is_ranked: false }
     }
 
-    /// Drains and erases in turns until the flag is set.
-    pub fn sweep(&mut self, table: &Table, stop: &AtomicBool) {
+    /// Drains and erases in turns until the flag is set, and rests where a turn has gained nothing.
+    pub fn sweep(&mut self, table: &Table, stop: &AtomicBool, drains: u32) {
+        let longest = LONGEST_SLEEP.max(table.sectors as u64 / SECTORS_A_MICROSECOND);
+        let mut micros = 0;
         while !stop.load(SeqCst) {
-            self.drain(table);
-            self.erase(table);
+            if self.turn(table, stop, drains) {
+                micros = 0;
+            } else if !stop.load(SeqCst) {
+                micros = rest(micros, longest);
+            }
         }
     }
 
-    /// Moves the live pages out of the closed block that has the fewest.
-    fn drain(&mut self, table: &Table) {
-        if self.spare.is_none() {
-            return;
+    /// A drain by a new survey, and more by that one while it gives some, each with an erase; whether anything was gained.
+    fn turn(&mut self, table: &Table, stop: &AtomicBool, drains: u32) -> bool {
+        let mut gained = false;
+        for i in 0..drains {
+            let drain = self.drain(table, i == 0);
+            gained |= drain == Drain::Drained;
+            gained |= self.erase(table);
+            if drain == Drain::NoSpare {
+                gained |= self.restock(table);
+            }
+            if matches!(drain, Drain::NothingToGain | Drain::NoSpare) || stop.load(SeqCst) {
+                break;
+            }
         }
-        let Some(block) = self.choose(table) else {
-            return;
+        gained
+    }
+
+    /// Moves the live pages out of the closed block that has the fewest by a new survey or by the last one.
+    fn drain(&mut self, table: &Table, anew: bool) -> Drain {
+        if self.spare.is_none() {
+            return Drain::NoSpare;
+        }
+        if anew {
+            self.survey(table);
+        }
+        let victim = if anew { self.least() } else { self.first() };
+        let Some(block) = victim.filter(|&block| self.counts[block] < table.pages as u64) else {
+            return Drain::NothingToGain;
         };
+        self.marked[block] = false;
         let (pin, found) = (table.pin(block), self.pins[block]);
         if pin.compare_exchange(found, found + NEXT_PHASE, SeqCst, SeqCst).is_err() {
-            return;
+            return Drain::Lost;
         }
         for page in 0..written(found) {
             self.clear(table, Open { block: block as u64, generation: found / GENERATION, written: page });
         }
         pin.fetch_add(NEXT_PHASE, SeqCst);
         table.drained.lock().expect("no panic").push_back(block);
+        Drain::Drained
     }
 
-    /// Counts the live pages of each block, and chooses a closed one with a dead page.
-    fn choose(&mut self, table: &Table) -> Option<usize> {
+    /// Counts the live pages of each block, and marks the closed ones.
+    fn survey(&mut self, table: &Table) {
         let (map, rest) = table.words.split_at(table.sectors);
-        for (kept, pin) in self.pins.iter_mut().zip(rest) {
+        for ((kept, marked), pin) in self.pins.iter_mut().zip(&mut self.marked).zip(rest) {
             *kept = pin.load(SeqCst);
+            *marked = *kept & PHASES == CLOSED;
         }
+        self.is_ranked = false;
         self.counts.fill(0);
         for word in map {
             let word = word.load(SeqCst);
@@ -215,9 +261,37 @@ impl Broom {
                 self.counts[block] += 1;
             }
         }
-        let closed = (0..table.blocks).filter(|&block| self.pins[block] & PHASES == CLOSED);
-        let victim = closed.min_by_key(|&block| self.counts[block])?;
-        (self.counts[victim] < table.pages as u64).then_some(victim)
+    }
+
+    /// The marked block with the fewest live pages.
+    fn least(&self) -> Option<usize> {
+        let marked = (0..self.marked.len()).filter(|&block| self.marked[block]);
+        marked.min_by_key(|&block| self.counts[block])
+    }
+
+    /// The same, by the order of the last survey, which is made once.
+    fn first(&mut self) -> Option<usize> {
+        if !self.is_ranked {
+            let Broom { counts, marked, ranking, .. } = self;
+            ranking.clear();
+            ranking.extend((0..marked.len()).filter(|&block| marked[block]).map(|block| counts[block] << 32 | block as u64));
+            ranking.sort_unstable();
+            (self.next, self.is_ranked) = (0, true);
+        }
+        while let Some(key) = self.ranking.get(self.next) {
+            let block = (key & 0xffff_ffff) as usize;
+            if self.marked[block] {
+                return Some(block);
+            }
+            self.next += 1;
+        }
+        None
+    }
+
+    /// Takes the lowest free block as the spare of a broom that has none; whether it has one now.
+    fn restock(&mut self, table: &Table) -> bool {
+        self.spare = self.spare.or_else(|| table.take());
+        self.spare.is_some()
     }
 
     /// Copies a page of the victim if it is live.
@@ -236,15 +310,16 @@ impl Broom {
     }
 
     /// Erases the block that was drained first, if nobody reads it.
-    fn erase(&mut self, table: &Table) {
+    fn erase(&mut self, table: &Table) -> bool {
         let Some(block) = table.drained.lock().expect("no panic").pop_front() else {
-            return;
+            return false;
         };
+        self.marked[block] = false;
         let pin = table.pin(block);
         let found = pin.load(SeqCst);
         if found & READERS != 0 || pin.compare_exchange(found, found + NEXT_PHASE, SeqCst, SeqCst).is_err() {
             table.drained.lock().expect("no panic").push_back(block);
-            return;
+            return false;
         }
         let size = table.pages * (table.page_words + 1);
         for word in &table.words[table.sectors + table.blocks + block * size..][..size] {
@@ -260,5 +335,20 @@ impl Broom {
         } else {
             pin.fetch_add(renewed, SeqCst);
         }
+        true
     }
+}
+
+/// The longest sleep of a broom, in microseconds, and by how many sectors it grows on a large device.
+const LONGEST_SLEEP: u64 = 1_000;
+const SECTORS_A_MICROSECOND: u64 = 30;
+
+/// A yield, and then a sleep of so many microseconds; how long the next rest is.
+fn rest(micros: u64, longest: u64) -> u64 {
+    if micros == 0 {
+        std::thread::yield_now();
+        return 10;
+    }
+    std::thread::sleep(Duration::from_micros(micros));
+    (2 * micros).min(longest)
 }

@@ -1,4 +1,4 @@
-"""The answers of a run of `flashplay`, counted."""
+"""The answers of a run of `flashplay`, counted, and the kind of each line."""
 
 from dataclasses import dataclass, field
 
@@ -14,18 +14,33 @@ ANSWERS = {
     b"meet": {b"met"},
 }
 REFUSALS = (b"worn", b"full")
+# The kinds of lines, as bytes: what a line did is all that its time depends on.
+READ_DATA, READ_EMPTY, WRITE_DONE, WRITE_NOT_DONE, TRIM, MEET = range(6)
+KINDS = {
+    (b"read", b"data"): READ_DATA,
+    (b"read", b"empty"): READ_EMPTY,
+    **{(op, answer): WRITE_NOT_DONE for op in (b"write", b"new") for answer in REFUSALS},
+    # A write of an empty sector that found it written changed nothing.
+    (b"new", b"written"): WRITE_NOT_DONE,
+    **{(op, b"empty"): WRITE_DONE for op in (b"write", b"new")},
+    (b"write", b"written"): WRITE_DONE,
+    **{(b"trim", answer): TRIM for answer in (b"empty", b"written")},
+    (b"meet", b"met"): MEET,
+}
 # The totals of a run by one thread; a run by many ends with the first of these words alone.
 TOTALS = (b"end", b"programs", b"copies", b"erases")
 
 
 @dataclass
 class Answers:
-    """How many lines of each op gave each answer; the pages of the reads; and the totals, where the run tells them."""
+    """How many lines of each op gave each answer; the kind of each; the pages of the reads; and the totals, where the run tells them."""
 
     lines: int = 0
     counts: dict = field(default_factory=dict)
+    kinds: bytearray = field(default_factory=bytearray)
     first_refused: int | None = None
     page_bytes: int | None = None
+    quiet: bool = False
     programs: int | None = None
     copies: int | None = None
     erases: int | None = None
@@ -34,19 +49,27 @@ class Answers:
         return self.counts.get((op.encode(), answer.encode()), 0)
 
     def accepted_writes(self):
-        """Writes that were done. A write of an empty sector that found it written changed nothing."""
-        return self.count("write", "empty") + self.count("write", "written") + self.count("new", "empty")
+        """Writes that were done."""
+        return sum(count for key, count in self.counts.items() if KINDS[key] == WRITE_DONE)
 
     def refused_writes(self):
         return sum(self.count(op, answer.decode()) for op in ("write", "new") for answer in REFUSALS)
 
+    def programs_at(self, line):
+        """Whether a line, counted from 1, is a write that was done."""
+        return 0 < line <= self.lines and self.kinds[line - 1] == WRITE_DONE
+
+    def programs_within(self, before, end):
+        """The writes that were done behind line `before` up to line `end`."""
+        return self.kinds.count(WRITE_DONE, before, end)
+
     def write_amplification(self):
-        """Pages programmed, for writes and for copies, by the pages programmed for writes."""
+        """Pages programmed, for writes and for copies, divided by the pages programmed for writes."""
         return (self.programs + self.copies) / self.programs if self.programs else None
 
 
 def read_answers(source):
-    """Reads the answers of a whole run, and counts them."""
+    """Reads the answers of a whole run, and counts them. They may be the last line alone."""
     answers = Answers()
     ended = False
     for number, line in numbered_lines(source):
@@ -76,6 +99,7 @@ def _count(answers, number, line):
         answer = _page(answers, number, op, answer)
     key = op, answer
     answers.counts[key] = answers.counts.get(key, 0) + 1
+    answers.kinds.append(KINDS[key])
     answers.lines = number
     if answers.first_refused is None and answer in REFUSALS:
         answers.first_refused = number
@@ -98,5 +122,6 @@ def _end(answers, number, line):
     if len(fields) == len(TOTALS):
         names = (name.decode() for name in TOTALS[1:])
         answers.programs, answers.copies, answers.erases = (number_in(text, number, name) for text, name in zip(fields[1:], names))
-        if answers.programs != answers.accepted_writes():
+        answers.quiet = answers.lines == 0 and answers.programs > 0
+        if not answers.quiet and answers.programs != answers.accepted_writes():
             raise LineFault(number, f"{answers.programs:,} programs, where {answers.accepted_writes():,} writes were accepted")

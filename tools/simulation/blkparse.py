@@ -7,6 +7,7 @@ from .lines import number_in, shown
 from .requests import READ, TRIM, WRITE, PassedOver, Request
 
 SECTOR_BYTES = 512
+SECOND = 1_000_000_000
 EVENT = re.compile(rb"\s*\d+,\d+\s")
 # The counts that follow the events: of each processor, of a device, and of all.
 SUMMARY = re.compile(rb"CPU ?\d+ \(|Total \(")
@@ -36,15 +37,22 @@ def _event(line, text, wanted):
     number_in(processor, line, "processor")
     number_in(sequence, line, "sequence number")
     number_in(process, line, "process")
-    number_in(time.replace(b".", b"", 1), line, "time")
+    nanoseconds = _nanoseconds(time, line)
     if not action.isalpha():
         raise LineFault(line, f"{shown(action)} is no action of blkparse")
     if action != wanted:
         return PassedOver("other action")
-    return _of_kind(line, device, action, kind, fields[HEAD_FIELDS:])
+    return _of_kind(line, device, action, kind, fields[HEAD_FIELDS:], nanoseconds)
 
 
-def _of_kind(line, device, action, kind, rest):
+def _nanoseconds(time, line):
+    """Seconds with a point are nanoseconds without it, once nine digits stand behind the point."""
+    number_in(time.replace(b".", b"", 1), line, "time")
+    seconds, _, rest = time.partition(b".")
+    return int(seconds or b"0") * SECOND + int(rest[:9].ljust(9, b"0"))
+
+
+def _of_kind(line, device, action, kind, rest, time):
     if not rest or not rest[-1].endswith(b"]"):
         raise LineFault(line, "the event is cut short")
     # A flush before the request is an F before its letter.
@@ -58,4 +66,4 @@ def _of_kind(line, device, action, kind, rest):
     if action == COMPLETE and rest[-1] != b"[0]":
         return PassedOver("failed request")
     sector, count = number_in(rest[0], line, "sector"), number_in(rest[2], line, "count")
-    return Request(line, op, device, sector * SECTOR_BYTES, count * SECTOR_BYTES)
+    return Request(line, op, device, sector * SECTOR_BYTES, count * SECTOR_BYTES, time)

@@ -29,19 +29,22 @@ def positive(text):
     return number
 
 
-def convert(options, source, writer):
-    """Converts a log line by line; answers how many requests it had, and how many lines of each kind were passed over."""
+def convert(options, source, writer, clock=None):
+    """Converts a log line by line; answers how many requests it had, and how many lines of each kind were passed over. The clock, if
+    there is one, is turned to the time of each request."""
     devices = Devices(options.device.encode() if options.device else None, several=options.dense)
     placement = Folded(options.sectors) if options.wrap else Dense(options.sectors) if options.dense else Within(options.sectors)
     puts = {READ: writer.read, WRITE: writer.write, TRIM: writer.trim}
     counts = collections.Counter()
-    for request in _requests(options, source):
+    for request in _requests(options, source, clock is not None):
         if isinstance(request, PassedOver):
             counts[request.what] += 1
         elif not devices.takes(request):
             counts["other device"] += 1
         else:
             counts["requests"] += 1
+            if clock:
+                clock.turn(request)
             put = puts[request.op]
             sectors = placement.sectors_of(request, pages_of(request, options.page_bytes))
             if options.lines:
@@ -53,10 +56,10 @@ def convert(options, source, writer):
     return counts
 
 
-def _requests(options, source):
+def _requests(options, source, timed):
     lines = numbered_lines(source)
     if options.format == "fio":
-        return fio.requests(lines)
+        return fio.requests(lines, timed)
     if options.format == "msr":
         return msr.requests(lines)
     return blkparse.requests(lines, options.action.encode())

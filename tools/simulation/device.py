@@ -1,6 +1,7 @@
 """The numbers of a device, and plays on it."""
 
 import contextlib
+import os
 import pathlib
 import subprocess
 from dataclasses import dataclass
@@ -8,7 +9,8 @@ from dataclasses import dataclass
 from .faults import Fault
 
 TOP = pathlib.Path(__file__).resolve().parents[2]
-LAUNCHER = TOP / "flashplay"
+# The program that plays: the repository's launcher, or what the environment names in its place.
+LAUNCHER = os.environ.get("FLASHPLAY") or str(TOP / "flashplay")
 # The options of flashplay and their defaults.
 DEFAULTS = {"luns": 1, "blocks": 64, "pages": 64, "words": 64, "sectors": 3072, "endurance": 1000}
 READ_AT_ONCE = 1 << 20
@@ -36,6 +38,18 @@ def numbers_of(options):
     return {name: DEFAULTS[name] if number is None else number for name, number in given.items()}
 
 
+def is_named(options):
+    """Whether an option names a number of the device."""
+    return any(getattr(options, name) is not None for name in DEFAULTS)
+
+
+def shown(numbers):
+    """A device as a title names it."""
+    luns = f"{numbers['luns']:,} LUNs, " if numbers["luns"] > 1 else ""
+    percent = 100 * numbers["sectors"] / (numbers["blocks"] * numbers["pages"])
+    return f"{luns}{numbers['blocks']:,} blocks of {numbers['pages']:,} pages, {numbers['sectors']:,} sectors ({percent:.3g} %)"
+
+
 def words_of(device):
     return [word for name, number in device.items() for word in (f"--{name}", str(number))]
 
@@ -49,18 +63,30 @@ def build():
 
 def play(device, feed):
     """Plays the trace that `feed` writes, and answers its totals. The answers are read as they come, and let go."""
-    with subprocess.Popen([LAUNCHER, *words_of(device)], stdin=subprocess.PIPE, stdout=subprocess.PIPE, stderr=subprocess.PIPE) as run:
+    lines, worn, tail = run(device, feed, _read_answers)
+    programs, copies, erases = (int(text) for text in tail.split(b",")[1:])
+    return Totals(lines - 1, programs, copies, erases, worn)
+
+
+def run(device, feed, reader):
+    """Plays the trace that `feed` writes, and answers what `reader` makes of the answers."""
+    words = words_of(device)
+    with subprocess.Popen([LAUNCHER, *words], stdin=subprocess.PIPE, stdout=subprocess.PIPE, stderr=subprocess.PIPE) as run:
         # The program answers nothing before it has read the whole trace; if it reads no more, it says why.
         with contextlib.suppress(BrokenPipeError):
             feed(run.stdin)
         with contextlib.suppress(BrokenPipeError):
             run.stdin.close()
-        lines, worn, tail = _read_answers(run.stdout)
+        try:
+            told = reader(run.stdout)
+        except Fault as fault:
+            told = fault
         errors = run.stderr.read().decode("utf-8", "replace").strip()
     if run.returncode != 0:
-        raise Fault(f"flashplay {' '.join(words_of(device))} ended with status {run.returncode}: {errors}")
-    programs, copies, erases = (int(text) for text in tail.split(b",")[1:])
-    return Totals(lines - 1, programs, copies, erases, worn)
+        raise Fault(f"flashplay {' '.join(words)} ended with status {run.returncode}: {errors}")
+    if isinstance(told, Fault):
+        raise told
+    return told
 
 
 def _read_answers(source):

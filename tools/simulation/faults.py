@@ -39,5 +39,7 @@ def run(name, main):
     except OSError as error:
         print(f"{name}: {error.filename or 'input or output'}: {error.strerror}", file=sys.stderr)
         sys.exit(FAILED)
-    except KeyboardInterrupt:
+    except KeyboardInterrupt as interrupt:
+        if interrupt.args:
+            print(f"{name}: {interrupt}", file=sys.stderr)
         sys.exit(128 + signal.SIGINT)

@@ -1,6 +1,6 @@
 """The requests of fio's iolog, versions 2 and 3."""
 
-from .faults import LineFault
+from .faults import Fault, LineFault
 from .lines import number_in, shown
 from .requests import READ, TRIM, WRITE, PassedOver, Request
 
@@ -8,24 +8,28 @@ VERSIONS = {b"fio version 2 iolog": 2, b"fio version 3 iolog": 3}
 FILE_ACTIONS = {b"add", b"open", b"close"}
 OPS = {b"read": READ, b"write": WRITE, b"trim": TRIM}
 NO_DATA = {b"wait", b"sync", b"datasync", b"sync_file_range", b"syncfs"}
+MICROSECOND = 1_000
 
 
-def requests(lines):
-    """Version 2 has lines `file action` and `file action offset length`; version 3 has a timestamp before them."""
+def requests(lines, timed=False):
+    """Version 2 has lines `file action` and `file action offset length`; version 3 has a timestamp in microseconds before them."""
     number, head = next(lines, (1, b""))
     version = VERSIONS.get(head.strip())
     if version is None:
         raise LineFault(number, f"an iolog begins with `fio version 2 iolog` or `fio version 3 iolog`, and this one with {shown(head)}")
+    if timed and version == 2:
+        raise Fault("an iolog of version 2 has no times; fio 3.31 and later write version 3")
     for number, line in lines:
         fields = line.split()
         if not fields:
             continue
-        if version == 3:
-            number_in(fields.pop(0), number, "timestamp")
-        yield _request(number, fields)
+        if line.strip() in VERSIONS:
+            raise LineFault(number, "a second iolog begins here, as where two jobs write into one file: convert each by itself")
+        time = number_in(fields.pop(0), number, "timestamp") * MICROSECOND if version == 3 else None
+        yield _request(number, fields, time)
 
 
-def _request(line, fields):
+def _request(line, fields, time):
     if len(fields) < 2:
         raise LineFault(line, "a file and an action are wanted")
     name, action, *numbers = fields
@@ -38,4 +42,4 @@ def _request(line, fields):
         return PassedOver("file action" if action in FILE_ACTIONS else action.decode())
     if len(numbers) != 2:
         raise LineFault(line, f"a {op} has an offset and a length, and this one {len(numbers)} numbers")
-    return Request(line, op, name, number_in(numbers[0], line, "offset"), number_in(numbers[1], line, "length"))
+    return Request(line, op, name, number_in(numbers[0], line, "offset"), number_in(numbers[1], line, "length"), time)

@@ -28,12 +28,14 @@ class Point:
 
 
 def numbers_in(text):
-    """`50,60,70`, `50:95:5` (from, to, step), or both: `50:90:10,95`."""
+    """`50,60,70`, `50:95:5` (from, to, step), or both: `50:90:10,95`. An empty range is refused, since nobody means it."""
     numbers = []
     for part in text.split(","):
         bounds = [float(bound) for bound in part.split(":")]
         if len(bounds) == 3 and bounds[2] > 0:
             first, last, step = bounds
+            if last < first:
+                raise ValueError(f"{part} is empty")
             numbers += [first + step * i for i in range(int((last - first) / step + 1e-9) + 1)]
         elif len(bounds) == 1:
             numbers += bounds

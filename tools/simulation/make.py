@@ -3,6 +3,7 @@
 import argparse
 import bisect
 import itertools
+import math
 from array import array
 
 from . import traces
@@ -18,11 +19,13 @@ def add_options(parser, sized=True):
     parser.add_argument("--reads", type=float, default=0, metavar="PERCENT", help="share of the lines that are reads (0); what no option names are writes")
     parser.add_argument("--trims", type=float, default=0, metavar="PERCENT", help="share of the lines that are trims (0)")
     parser.add_argument("--meets", type=float, default=0, metavar="PERCENT", help="share of the lines at which all workers meet (0)")
-    parser.add_argument("--exponent", type=float, default=0.99, metavar="X", help="zipf: the sector of rank r is named in proportion to r to the power of -X (0.99)")
+    parser.add_argument("--exponent", type=float, default=0.99, metavar="X", help="zipf: the sector of rank r is named by r to the power of -X (0.99)")
     parser.add_argument("--hot-sectors", type=float, default=20, metavar="PERCENT", help="hot-cold: the first sectors, of this share, are hot (20)")
     parser.add_argument("--hot-share", type=float, default=80, metavar="PERCENT", help="hot-cold: share of the lines that name a hot sector (80)")
     parser.add_argument("--uniform-reads", action="store_true", help="reads and trims name any sector alike, and the kind is that of the writes")
     parser.add_argument("--data-bytes", type=int, default=8, metavar="N", help="with --data random: bytes of a write (8)")
+    parser.add_argument("--rate", type=float, metavar="N", help="arrivals: so many lines a second, at exponential intervals from the seed")
+    parser.add_argument("--interval", type=float, metavar="US", help="arrivals: a line every so many microseconds")
     parser.add_argument("--seed", type=int, default=1, metavar="N", help="the same seed makes the same trace (1)")
 
 
@@ -33,6 +36,9 @@ def check(options):
         raise argparse.ArgumentTypeError("shares are percents from 0 to 100, and those of the ops are 100 together at most")
     if options.sectors < 1 or options.lines < 0 or options.data_bytes < 1:
         raise argparse.ArgumentTypeError("sectors and bytes are at least 1, and lines at least 0")
+    times = [time for time in (options.rate, options.interval) if time is not None]
+    if len(times) > 1 or not all(0 < time < math.inf for time in times):
+        raise argparse.ArgumentTypeError("arrivals have a rate or an interval, which is above 0")
     if options.kind == "hot-cold" and not 0 < hot_count(options) < options.sectors:
         raise argparse.ArgumentTypeError("with hot-cold at least one sector is hot, and one cold")
 

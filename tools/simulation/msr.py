@@ -9,7 +9,9 @@ from .requests import READ, WRITE, Request
 HEAD = b"timestamp,hostname,disknumber,type,offset,size,responsetime"
 FIELDS = 7
 OPS = {b"read": READ, b"write": WRITE}
-LINE = re.compile(rb"\d{1,20},([^,]*),(\d{1,20}),(read|write),(\d{1,20}),(\d{1,20}),\d{1,20}", re.IGNORECASE)
+# A timestamp counts steps of 100 nanoseconds.
+STEP = 100
+LINE = re.compile(rb"(\d{1,20}),([^,]*),(\d{1,20}),(read|write),(\d{1,20}),(\d{1,20}),\d{1,20}", re.IGNORECASE)
 
 
 def requests(lines):
@@ -17,8 +19,8 @@ def requests(lines):
     for number, line in lines:
         found = LINE.fullmatch(line)
         if found:
-            host, disk, kind, offset, size = found.groups()
-            yield Request(number, OPS[kind.lower()], host + b"_" + disk, int(offset), int(size))
+            time, host, disk, kind, offset, size = found.groups()
+            yield Request(number, OPS[kind.lower()], host + b"_" + disk, int(offset), int(size), int(time) * STEP)
         elif line and not (number == 1 and line.lower() == HEAD):
             _refuse(number, line)
 

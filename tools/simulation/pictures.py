@@ -1,96 +1,219 @@
-"""Pictures as SVG, by matplotlib. The same numbers give the same bytes."""
+"""Pictures as SVG or PNG, by matplotlib. The same numbers give the same bytes."""
 
-import os
-import sys
+import pathlib
 
-from .faults import Fault
+from . import debian, over_time
+from .faults import ARGUMENTS, Fault
 
-DEBIAN_PYTHON = "/usr/bin/python3"
 BLUE, GOLD, RED, GREEN, GREY = "#1f5fa8", "#b8860b", "#c0392b", "#2e7d32", "#777777"
 COLOURS = (BLUE, GOLD, RED, GREEN, "#6a3d9a", "#e377c2", "#17a2b8", GREY)
+GRID = "#dddddd"
 SIZE = (7.2, 4.2)
+FORMATS = (".svg", ".png")
+DOTS_AN_INCH = 150
+# Up to so many blocks have a bar each.
+MOST_BARS = 200
+AMPLIFICATION = "write amplification (pages programmed / pages written)"
+LINE = "line of the trace"
 
 
 def want():
-    """Ends the tool where matplotlib is missing. Debian's package serves Debian's Python, which takes over if another one runs."""
-    try:
-        import matplotlib
-    except ImportError:
-        if os.path.exists(DEBIAN_PYTHON) and os.path.realpath(sys.executable) != os.path.realpath(DEBIAN_PYTHON):
-            sys.stdout.flush()
-            os.execv(DEBIAN_PYTHON, [DEBIAN_PYTHON, *sys.argv])
-        raise Fault("pictures need matplotlib, which isn't installed; this installs it: apt-get install python3-matplotlib")
+    """Ends the tool where matplotlib is missing."""
+    debian.want("matplotlib", "pictures")
 
 
-def new_axes(across, up):
+def check_name(path):
+    """A picture's name says what it is."""
+    if pathlib.Path(path).suffix.lower() not in FORMATS:
+        raise Fault(f"a picture's name ends with {' or '.join(FORMATS)}, and not as {path}", ARGUMENTS)
+
+
+def new_axes(across, up, title="", size=SIZE):
     import matplotlib
 
     matplotlib.use("svg")
-    matplotlib.rcParams.update({"svg.hashsalt": "flashplay", "svg.fonttype": "none", "font.size": 10, "axes.grid": True, "grid.color": "#dddddd"})
+    matplotlib.rcParams.update({"svg.hashsalt": "flashplay", "svg.fonttype": "none", "font.size": 10, "axes.grid": True, "grid.color": GRID})
     from matplotlib import pyplot
 
-    figure, axes = pyplot.subplots(figsize=SIZE, layout="constrained")
+    figure, axes = pyplot.subplots(figsize=size, layout="constrained")
     axes.set_axisbelow(True)
     axes.set_xlabel(across)
-    axes.set_ylabel(up)
+    axes.set_ylabel(up, fontsize=9)
+    for axis in (axes.xaxis, axes.yaxis):
+        axis.set_major_formatter(lambda value, _: f"{round(value, 9):,.10g}")
+    if title:
+        figure.suptitle(title, fontsize=9)
     return figure, axes
 
 
-def save(figure, path):
+def whole(*axes):
+    """Ticks at whole numbers alone."""
+    from matplotlib.ticker import MaxNLocator
+
+    for axis in axes:
+        axis.set_major_locator(MaxNLocator(nbins="auto", steps=[1, 2, 5, 10], integer=True))
+
+
+def legend_above(axes):
+    """Above the picture; a narrow one has two columns, so that a long legend isn't cut off."""
+    columns = 4 if axes.figure.get_figwidth() > 6 else 2
+    if axes.get_legend_handles_labels()[0]:
+        axes.legend(loc="lower center", bbox_to_anchor=(0.5, 1), ncol=columns, frameon=False)
+
+
+def save(figure, path, title=""):
+    """By the name an SVG or a PNG; `path` may also be a text that takes the SVG. The title stands in its metadata too."""
     from matplotlib import pyplot
 
-    figure.savefig(path, format="svg", metadata={"Date": None, "Creator": None})
+    titled = {"Title": title} if title else {}
+    if isinstance(path, (str, pathlib.Path)) and pathlib.Path(path).suffix.lower() == ".png":
+        figure.savefig(path, format="png", dpi=DOTS_AN_INCH, metadata={**titled, "Software": None})
+    else:
+        figure.savefig(path, format="svg", metadata={**titled, "Date": None, "Creator": None})
     pyplot.close(figure)
 
 
-def erases_by_block(blocks, spread, path):
-    """A bar for each block, in another colour where it is retired, with the quartiles as a band."""
-    figure, axes = new_axes("block", "erases")
-    numbers = range(len(blocks))
-    used = [block.erases for block in blocks]
-    axes.fill_between([-0.5, len(blocks) - 0.5], spread[1], spread[3], color=GOLD, alpha=0.25, label="middle half of the blocks")
-    axes.axhline(spread[2], color=GOLD, label="median")
-    axes.vlines(numbers, 0, used, color=BLUE, linewidth=max(0.5, min(8, 400 / len(blocks))), label="in use")
-    retired = [number for number in numbers if blocks[number].retired]
-    if retired:
-        axes.vlines(retired, 0, [used[number] for number in retired], color=RED, linewidth=max(0.5, min(8, 400 / len(blocks))), label="retired")
-    axes.set_xlim(-0.5, len(blocks) - 0.5)
+def erases_by_block(blocks, spread, path, title="", size=SIZE):
+    """The erases of each block with the median and the middle half: bars, or above some 200 blocks a sorted curve."""
+    bars = len(blocks) <= MOST_BARS
+    figure, axes = new_axes("block" if bars else "blocks, from the least erased to the most", "erases", title, size)
+    (_bars if bars else _sorted_curve)(axes, blocks)
+    width = len(blocks) - 0.5
+    axes.fill_between([-0.5, width], spread[1], spread[3], color=GOLD, alpha=0.35, zorder=3, label="middle half", linewidth=0)
+    axes.axhline(spread[2], color=GOLD, zorder=4, label="median")
+    axes.set_xlim(-0.5, width)
     axes.set_ylim(0)
-    axes.legend(loc="lower center", bbox_to_anchor=(0.5, 1), ncol=4, frameon=False)
-    save(figure, path)
+    whole(axes.xaxis, axes.yaxis)
+    legend_above(axes)
+    save(figure, path, title)
 
 
-def amplification_over_time(pieces, path):
-    """A step for each part of the trace, and the amplification of all so far."""
-    figure, axes = new_axes("line of the trace", "pages programmed by pages written")
-    edges = [0, *(piece.line for piece in pieces)]
+def _bars(axes, blocks):
+    for retired, colour, name in ((False, BLUE, "in use"), (True, RED, "retired")):
+        numbers = [number for number, block in enumerate(blocks) if block.retired == retired]
+        if numbers:
+            axes.bar(numbers, [blocks[number].erases for number in numbers], width=0.8, color=colour, label=name)
+
+
+def _sorted_curve(axes, blocks):
+    used = sorted((block.erases, block.retired) for block in blocks)
+    axes.fill_between(range(len(used)), [erases for erases, _ in used], color=BLUE, alpha=0.2, linewidth=0)
+    axes.plot([erases for erases, _ in used], color=BLUE, linewidth=1.5, label="each block")
+    retired = [(place, erases) for place, (erases, is_retired) in enumerate(used) if is_retired]
+    if retired:
+        axes.plot(*zip(*retired), color=RED, linestyle="none", marker="o", markersize=4, label="retired", zorder=5)
+
+
+def amplification_over_time(pieces, path, title="", size=SIZE):
+    """A step for each part of the run, and the amplification of all so far."""
+    figure, axes = new_axes(LINE, AMPLIFICATION, title, size)
     parts = [piece.write_amplification() for piece in pieces]
-    axes.stairs([float("nan") if value is None else value for value in parts], edges, color=BLUE, baseline=None, linewidth=1.5, label="of each part")
-    programs = copies = 0
-    so_far = []
-    for piece in pieces:
-        programs, copies = programs + piece.programs, copies + piece.copies
-        so_far.append((programs + copies) / programs if programs else float("nan"))
-    axes.plot(edges[1:], so_far, color=GOLD, linestyle="--", label="of all so far")
-    axes.set_xlim(0, edges[-1])
+    _steps(axes, pieces, parts, "of each part")
+    axes.plot([piece.line for piece in pieces], _drawn(over_time.so_far(pieces)), color=GOLD, linestyle="--", label="of all so far")
     room = 0.05 * (max([value for value in parts if value is not None], default=2) - 1) or 0.05
     axes.set_ylim(bottom=1 - room)
-    axes.legend(loc="lower right")
-    save(figure, path)
+    whole(axes.xaxis)
+    legend_above(axes)
+    save(figure, path, title)
 
 
-def lines_of_a_sweep(series, across, up, path, curves=()):
+def collections_over_time(pieces, path, title="", size=SIZE):
+    """How often a line of each part of the run had to collect."""
+    figure, axes = new_axes(LINE, "collections per 1,000 lines", title, size)
+    _steps(axes, pieces, [1000 * piece.collections / (piece.line - piece.first + 1) for piece in pieces], "")
+    axes.set_ylim(bottom=0)
+    whole(axes.xaxis)
+    save(figure, path, title)
+
+
+def _steps(axes, pieces, values, name):
+    edges = [0, *(piece.line for piece in pieces)]
+    axes.stairs(_drawn(values), edges, color=BLUE, baseline=None, linewidth=1.5, label=name)
+    axes.set_xlim(0, max(1, edges[-1]))
+
+
+def _drawn(values):
+    return [float("nan") if value is None else value for value in values]
+
+
+def live_pages_of_victims(counts, path, title="", size=SIZE):
+    """How many victims had each number of live pages."""
+    figure, axes = new_axes("live pages of the victim (all are copied)", "collections", title, size)
+    axes.bar(*zip(*counts) if counts else ([], []), width=0.9, color=BLUE)
+    axes.set_xlim((counts[0][0] if counts else 0) - 0.6, (counts[-1][0] if counts else 1) + 0.6)
+    axes.set_ylim(bottom=0)
+    whole(axes.xaxis, axes.yaxis)
+    save(figure, path, title)
+
+
+def lines_of_a_sweep(series, across, up, path, curves=(), title="", up_log=False):
     """A line of dots for each series, a list of name and points; and curves, each with its name, points and style of line."""
-    figure, axes = new_axes(across, up)
+    figure, axes = new_axes(across, up, title)
     for (name, points), colour in zip(series, cycle_of(COLOURS, len(series))):
         style = {"linestyle": "none"} if curves else {}
         axes.plot(*zip(*points), color=RED if curves else colour, marker="o", markersize=4, label=name, zorder=3, **style)
     for (name, points, style), colour in zip(curves, (BLUE, GOLD)):
         axes.plot(*zip(*points), color=colour, linestyle=style, label=name)
+    if all(x == int(x) for _, points in series for x, _ in points):
+        whole(axes.xaxis)
+    if up_log:
+        axes.set_yscale("log")
+        _plain_numbers(axes.yaxis)
+    elif all(y == int(y) for _, points in series for _, y in points):
+        whole(axes.yaxis)
     if any(name for name, _ in series):
         axes.legend(loc="upper left")
-    save(figure, path)
+    save(figure, path, title)
 
 
 def cycle_of(colours, count):
     return [colours[place % len(colours)] for place in range(count)]
+
+
+TAIL = "share of lines that take longer"
+RESPONSE = "response time (µs)"
+
+
+def response_tails(tails, path, title="", size=SIZE):
+    """The share of lines whose response is longer than a time, by the time: a step curve for each group of lines with its points."""
+    figure, axes = new_axes(RESPONSE, TAIL, title, size)
+    for (name, points), colour in zip(tails, cycle_of(COLOURS, len(tails))):
+        seen = [(time, share) for time, share in points if share > 0]
+        if points:
+            # The longest response ends its curve at the smallest share.
+            ended = [(points[-1][0], seen[-1][1])] if seen else [(points[-1][0], 1.0)]
+            axes.plot(*zip(*[(points[0][0], 1.0), *seen, *ended]), color=colour, drawstyle="steps-post", label=name)
+    axes.set_xscale("log")
+    axes.set_yscale("log")
+    _plain_numbers(axes.xaxis)
+    axes.yaxis.set_major_formatter(lambda value, _: f"{round(100 * value, 9):,.10g} %")
+    axes.set_ylim(top=1.5)
+    legend_above(axes)
+    save(figure, path, title)
+
+
+def response_over_time(parts, timed, path, title="", size=SIZE):
+    """The longest and the mean response of each part of a run; parts with collections are marked at the bottom."""
+    figure, axes = new_axes("time (s)" if timed else LINE, RESPONSE, title, size)
+    places = [part.place for part in parts]
+    for name, colour, values in (("longest", BLUE, [part.longest for part in parts]), ("mean", GOLD, [part.mean for part in parts])):
+        axes.plot(places, [value or float("nan") for value in values], color=colour, linewidth=1.2, label=name)
+    axes.set_yscale("log")
+    _plain_numbers(axes.yaxis)
+    marked = [part.place for part in parts if part.collections]
+    if marked:
+        style = {"color": RED, "linestyle": "none", "marker": "|", "markersize": 7}
+        axes.plot(marked, [0.012] * len(marked), transform=axes.get_xaxis_transform(), label="collections", **style)
+    legend_above(axes)
+    save(figure, path, title)
+
+
+def _plain_numbers(axis):
+    """A logarithmic axis with its numbers written out; with less than two powers of ten on it, other numbers too."""
+    from matplotlib.ticker import LogLocator, NullFormatter
+
+    axis.set_major_formatter(lambda value, _: f"{round(value, 9):,.10g}")
+    least, most = axis.get_view_interval()
+    if most < 100 * least:
+        axis.set_major_locator(LogLocator(subs=(1, 2, 5)))
+    axis.set_minor_formatter(NullFormatter())

@@ -10,13 +10,14 @@ READ, WRITE, TRIM = "read", "write", "trim"
 
 @dataclass(slots=True)
 class Request:
-    """Some bytes of a device, read, written or trimmed; `line` is the log's line."""
+    """Some bytes of a device, read, written or trimmed; `line` is the log's line, and the time is in nanoseconds where it is told."""
 
     line: int
     op: str
     device: bytes
     offset: int
     length: int
+    time: int | None = None
 
 
 @dataclass(slots=True)

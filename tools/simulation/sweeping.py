@@ -2,19 +2,28 @@
 
 import argparse
 import csv
+import hashlib
+import io
 import itertools
 import json
+import pathlib
 import random
 import shlex
 import shutil
 import subprocess
 import sys
+import tempfile
+import uuid
+from dataclasses import dataclass
 
-from . import device, make
+from . import answers, arrivals, collected, device, inputs, make, model, part, pictures, response
 from .faults import Fault
 from .traces import TraceWriter
 
 COLUMNS = (*device.DEFAULTS, "utilisation", "lines", "programs", "copies", "erases", "worn", "write_amplification")
+# With the times of a part: the response of writes, by the name in a report, and the load of the device.
+RESPONSES = {"write_mean_us": "response_writes_mean_us", "write_p99_us": "response_writes_p99_us", "write_p999_us": "response_writes_p999_us"}
+RESPONSE_COLUMNS = ("load", *RESPONSES)
 SWEEP = device.TOP / "tools/sweep"
 
 
@@ -33,27 +42,77 @@ def maker(text, point, lines):
 
 def play_point(options, point):
     """The row of a point: what was done after the lines that settle the device."""
-    whole = play(options, point, options.rounds)
-    settled = play(options, point, options.settle) if options.settle else device.Totals(0, 0, 0, 0, 0)
-    programs, copies = whole.programs - settled.programs, whole.copies - settled.copies
-    row = {
-        **point.device,
-        "utilisation": f"{point.utilisation():.6g}",
-        "lines": whole.lines - settled.lines,
-        "programs": programs,
-        "copies": copies,
-        "erases": whole.erases - settled.erases,
-        "worn": whole.worn - settled.worn,
-        "write_amplification": f"{(programs + copies) / programs:.6f}" if programs else "",
-    }
-    return [row[name] for name in COLUMNS]
+    if part.is_named(options):
+        row = _responding(options, point)
+    else:
+        whole = device.play(point.device, feeder(options, point, options.rounds))
+        settled = device.play(point.device, feeder(options, point, options.settle)) if options.settle else device.Totals(0, 0, 0, 0, 0)
+        row = _totals(whole.lines - settled.lines, *(getattr(whole, name) - getattr(settled, name) for name in ("programs", "copies", "erases", "worn")))
+    row |= {**point.device, "utilisation": f"{point.utilisation():.6g}"}
+    return [row[name] for name in columns_of(options)]
 
 
-def play(options, point, rounds):
-    """Plays the trace, as far as so many lines for each page of the device, behind the fill of one that is made."""
-    lines = None if rounds is None else int(rounds * point.pages())
+def _totals(lines, programs, copies, erases, worn):
+    amplification = f"{(programs + copies) / programs:.6f}" if programs else ""
+    return {"lines": lines, "programs": programs, "copies": copies, "erases": erases, "worn": worn, "write_amplification": amplification}
+
+
+def _responding(options, point):
+    """The totals and the response times, from one run and its log."""
+    first_line = 1
+    if options.settle:
+        fill = point.device["sectors"] if options.make and maker(options.make, point, 0).fill else 0
+        first_line += fill + lines_of(options.settle, point)
+    run, log = _with_log(point.device, feeder(options, point, options.rounds))
+    told = response.respond(run, log, part.part_of(options), times_of(options, point, run.lines), options.speed, first_line)
+    figures = response.summarise(told, None)
+    worn = run.kinds.count(answers.WRITE_NOT_DONE, first_line - 1)
+    row = _totals(len(told.kind), run.programs_within(first_line - 1, run.lines), told.copied, told.collections, worn)
+    waits = {name: "" if figures[key] is None else f"{figures[key]:.3f}" for name, key in RESPONSES.items()}
+    return row | waits | {"load": "" if figures["load"] is None else f"{figures['load']:.6f}"}
+
+
+def _with_log(numbers, feed):
+    """The answers of a run, and its log of collections: by the model, which has to answer the same."""
+    with tempfile.TemporaryFile() as kept:
+        device.run(numbers, feed, lambda source: shutil.copyfileobj(source, kept))
+        kept.seek(0)
+        run = answers.read_answers(kept)
+        trace = io.BytesIO()
+        feed(trace)
+        kept.seek(0)
+        log = collected.read_log(io.BytesIO(model.log_of(numbers, trace.getvalue(), kept).encode()))
+    collected.check(log, run)
+    return run, log
+
+
+def times_of(options, point, lines):
+    """The arrivals of a run's lines, or None."""
+    import numpy
+
+    if options.arrivals:
+        with inputs.opened(files_of(options)["arrivals"].found()) as source:
+            return arrivals.read_arrivals(source)[: lines if options.rounds is not None else None]
+    made = maker(options.make, point, 0) if options.make else None
+    if made and (made.rate or made.interval):
+        return numpy.fromiter(itertools.islice(arrivals.made(made), lines), dtype=numpy.int64, count=lines)
+    return None
+
+
+def columns_of(options):
+    return (*COLUMNS, *RESPONSE_COLUMNS) if part.is_named(options) else COLUMNS
+
+
+def lines_of(rounds, point):
+    return None if rounds is None else int(rounds * point.pages())
+
+
+def feeder(options, point, rounds):
+    """Writes the trace, as far as so many lines for each page of the device, behind the fill of one that is made."""
+    lines = lines_of(rounds, point)
     if options.trace:
-        return device.play(point.device, lambda sink: copy_lines(options.trace, lines, sink))
+        trace = files_of(options)["trace"].found()
+        return lambda sink: copy_lines(trace, lines, sink)
 
     def feed(sink):
         made = maker(options.make, point, lines)
@@ -62,11 +121,11 @@ def play(options, point, rounds):
         make.make(made, seeded, writer)
         writer.flush()
 
-    return device.play(point.device, feed)
+    return feed
 
 
 def copy_lines(path, lines, sink):
-    with open(path, "rb") as trace:
+    with inputs.opened(path) as trace:
         if lines is None:
             shutil.copyfileobj(trace, sink)
         else:
@@ -83,25 +142,64 @@ def want_parallel():
         raise Fault("a sweep needs GNU parallel, which isn't installed; this installs it: apt-get install parallel")
 
 
+# What a sweep leaves in its folder.
+KEPT = ("sweep.json", "jobs.log", "sweep.csv", "sweep.svg")
+
+
 def begin(options, points):
-    """The sweep's folder: a new one, or one of just this sweep to go on with."""
+    """The sweep's folder: a new one, or one of just this sweep to go on with; --force takes away what an earlier sweep left there."""
     told = json.dumps({"points": [str(point) for point in points], "call": words_of_play(options)}, indent=1)
     plan = options.out / "sweep.json"
+    if plan.exists() and options.force:
+        for name in KEPT:
+            (options.out / name).unlink(missing_ok=True)
+        shutil.rmtree(options.out / "points", ignore_errors=True)
     if not plan.exists():
         options.out.mkdir(parents=True, exist_ok=True)
         plan.write_text(told)
     elif not options.resume:
-        raise Fault(f"{options.out} has a sweep already; --resume goes on with it")
+        raise Fault(f"{options.out} has a sweep already; --resume goes on with it, and --force begins anew")
     elif plan.read_text() != told:
-        raise Fault(f"the sweep in {options.out} is another one: go on with it by the same options, or take another folder")
+        raise Fault(f"the sweep in {options.out} is another one: go on with it by the same options, take another folder, or begin anew by --force")
+
+
+@dataclass
+class File:
+    """A file that each point reads: where it lies, or a copy of its name that was handed over; its sum says that it is the one."""
+
+    path: pathlib.Path
+    sum: str
+
+    def found(self):
+        for path in (self.path, pathlib.Path(self.path.name)):
+            if path.is_file() and sum_of(path) == self.sum:
+                return path
+        raise Fault(f"{self.path} is not the file with which the sweep began")
+
+
+def sum_of(path):
+    """The SHA-256 sum of a file."""
+    with open(path, "rb") as source:
+        return hashlib.file_digest(source, "sha256").hexdigest()
+
+
+def files_of(options):
+    """The files that each point reads, looked at before anything is played."""
+    given = {"trace": options.trace, "arrivals": options.arrivals}
+    sums = {"trace": options.trace_sum, "arrivals": options.arrivals_sum}
+    return {name: File(path.resolve(), sums[name] or sum_of(path)) for name, path in given.items() if path}
 
 
 def words_of_play(options):
     """What the call for a point says beside the point."""
-    words = ["--trace", str(options.trace.resolve())] if options.trace else ["--make", options.make]
+    words = [] if options.trace else ["--make", options.make]
+    for name, file in files_of(options).items():
+        words += [f"--{name}", str(file.path), f"--{name}-sum", file.sum]
     for name in ("rounds", "settle"):
         if getattr(options, name) is not None:
             words += [f"--{name}", f"{getattr(options, name):g}"]
+    if part.is_named(options):
+        words += [*part.words_of(part.part_of(options)), "--speed", repr(options.speed)]
     return words
 
 
@@ -116,32 +214,65 @@ def play_all(options, points):
     if options.jobs:
         words += ["--jobs", options.jobs]
     if options.sshloginfile:
-        words += ["--sshloginfile", str(options.sshloginfile)]
+        words += ["--sshloginfile", str(options.sshloginfile), *_handed_over(options)]
     text = "".join(f"{point}\n" for point in points)
-    done = subprocess.run([*words, call], input=text, text=True, stdout=subprocess.DEVNULL, stderr=None if options.bar else subprocess.PIPE)
+    try:
+        done = subprocess.run([*words, call], input=text, text=True, stdout=subprocess.DEVNULL, stderr=None if options.bar else subprocess.PIPE)
+    except KeyboardInterrupt:
+        raise KeyboardInterrupt(f"interrupted; the same call with --resume goes on with the sweep in {options.out}")
     return done.stderr or ""
+
+
+def _handed_over(options):
+    """Other machines get the files of the sweep in a folder of their own, which is taken away at the end."""
+    files = [word for file in files_of(options).values() for word in ("--basefile", f"{file.path.parent}/./{file.path.name}")]
+    return ["--workdir", f"/tmp/flashplay-sweep-{uuid.uuid4()}", "--cleanup", *files] if files else []
 
 
 def gather(options, points, told_by_parallel):
     """Writes the rows of all points into one file, in the grid's order; answers them, and the points that failed with their reasons."""
-    rows, failures = [], []
+    rows, failures, columns = [], [], columns_of(options)
     for point in points:
         folder = options.out / "points" / str(point)
         row = (folder / "stdout").read_text().strip() if (folder / "stdout").exists() else ""
-        if row.count(",") == len(COLUMNS) - 1:
+        if row.count(",") == len(columns) - 1:
             rows.append(row.split(","))
         else:
             told = (folder / "stderr").read_text().strip() if (folder / "stderr").exists() else ""
             failures.append((point, told or f"it was not played: {told_by_parallel.strip()}"))
     with open(options.out / "sweep.csv", "w", newline="") as sink:
-        csv.writer(sink, lineterminator="\n").writerows([COLUMNS, *rows])
-    return [dict(zip(COLUMNS, row)) for row in rows], failures
+        csv.writer(sink, lineterminator="\n").writerows([columns, *rows])
+    return [dict(zip(columns, row)) for row in rows], failures
 
 
 def label_of(column):
     """What an axis of a plot says of a column."""
-    labels = {"utilisation": "sectors in percent of all pages", "write_amplification": "pages programmed by pages written"}
+    labels = {
+        "utilisation": "utilisation (sectors, % of physical pages)",
+        "write_amplification": pictures.AMPLIFICATION,
+        "pages": "pages per block",
+        "words": "words per page",
+        "luns": "LUNs",
+        "endurance": "endurance (erases of a block)",
+        "load": "load (work / time)",
+        "write_mean_us": "mean response of writes (µs)",
+        "write_p99_us": "response of writes, 99 % (µs)",
+        "write_p999_us": "response of writes, 99.9 % (µs)",
+    }
     return labels.get(column, column)
+
+
+def name_of(column, number):
+    """What a legend says of the lines of a plot that have one number of a column."""
+    what = {"utilisation": "% utilisation", "pages": "pages per block", "words": "words per page", "luns": "LUNs"}.get(column, column)
+    return f"{number:,g} {what}"
+
+
+def title_of(options, points):
+    """What all points of a sweep have in common: the numbers of the device that stay, and the trace."""
+    same = {name: number for name, number in points[0].device.items() if len({point.device[name] for point in points}) == 1}
+    told = [f"{number:,} {name}" for name, number in same.items() if name in ("luns", "blocks", "pages", "sectors") and (name, number) != ("luns", 1)]
+    return " · ".join([*([", ".join(told)] if told else []), options.make or options.trace.name])
 
 
 def series_of(rows, across, up, by):
@@ -149,6 +280,6 @@ def series_of(rows, across, up, by):
     lines = {}
     for row in rows:
         if row[up] != "":
-            name = f"{by} {float(row[by]):g}" if by else ""
+            name = name_of(by, float(row[by])) if by else ""
             lines.setdefault(name, []).append((float(row[across]), float(row[up])))
     return [(name, sorted(points)) for name, points in lines.items()]

@@ -8,10 +8,12 @@ CHUNK = 65_536
 
 
 class TraceWriter:
-    """Writes the lines of a trace. Each command is of worker 0; what a write holds is up to `data`, by the number of its line."""
+    """Writes the lines of a trace, and their arrivals. Each command is of worker 0; what a write holds is up to `data`, by the number
+    of its line."""
 
-    def __init__(self, sink, data):
+    def __init__(self, sink, data, arrivals=None):
         self.lines = 0
+        self._arrivals = arrivals
         self._sink = sink
         self._data = data
         self._bytes = 0
@@ -35,6 +37,8 @@ class TraceWriter:
             raise Fault(f"the trace would have more than {MOST_BYTES:,} bytes, the most that flashplay takes; --lines ends it earlier")
         self._bytes += len(line)
         self.lines += 1
+        if self._arrivals:
+            self._arrivals.put()
         self._waiting.append(line)
         self._waiting_bytes += len(line)
         if self._waiting_bytes >= CHUNK:
@@ -45,6 +49,8 @@ class TraceWriter:
         self._sink.flush()
         self._waiting.clear()
         self._waiting_bytes = 0
+        if self._arrivals:
+            self._arrivals.flush()
 
 
 def line_number(line):

@@ -1,10 +1,12 @@
+import gzip
 import os
-import shutil
+import struct
 import subprocess
 import sys
 import tempfile
 import unittest
 
+from tests.packages import needs
 from tests.tools import LOGS, TOOLS, convert
 
 
@@ -23,7 +25,7 @@ class Formats(unittest.TestCase):
         self.assertEqual(told, wanted)
         self.assertEqual(len(told), 40)
 
-    @unittest.skipUnless(shutil.which("fio"), "fio isn't installed: apt-get install fio")
+    @needs("fio")
     def test_the_iolog_of_the_fio_that_is_installed_is_read(self):
         with tempfile.TemporaryDirectory() as folder:
             words = ["--name=job", "--ioengine=null", "--filename=disk", "--size=64k", "--rw=randrw", "--bs=4k", f"--write_iolog={folder}/log"]
@@ -52,6 +54,34 @@ class Formats(unittest.TestCase):
         self.assertEqual(convert("blkparse", log, "--action", "Q").lines, [*begin, *rest, "0,write,4,0000000c"])
         # The last of the writes failed.
         self.assertEqual(convert("blkparse", log, "--action", "C").lines, [*begin, *rest])
+
+
+def event(sequence, microseconds, sector, count, action, kind):
+    """An event as the kernel writes it: `struct blk_io_trace` of linux/blktrace_api.h, version 7, on the device 8,0."""
+    categories = {"read": 1 << 0, "write": 1 << 1, "discard": 1 << 1 | 1 << 13}[kind] | 1 << 8
+    number, category = {"Q": (1, 1 << 4), "D": (7, 1 << 6), "C": (8, 1 << 7)}[action]
+    action, device, magic = number | (categories | category) << 16, 8 << 20, 0x65617407
+    return struct.pack("=IIQQIIIIIHH", magic, sequence, microseconds * 1000, sector, count * 512, action, 99, device, 0, 0, 0)
+
+
+class FromTheKernel(unittest.TestCase):
+    @needs("blkparse")
+    def test_the_text_of_the_blkparse_that_is_installed_is_read(self):
+        requests = [(0, 16, "write"), (8, 8, "read"), (16, 16, "discard")]
+        events, sequence = [], 0
+        for number, (sector, count, kind) in enumerate(requests):
+            for action, later in (("Q", 0), ("D", 5), ("C", 60)):
+                sequence += 1
+                events.append(event(sequence, 1000 * number + later, sector, count, action, kind))
+        with tempfile.TemporaryDirectory() as folder:
+            with open(f"{folder}/disk.blktrace.0", "wb") as log:
+                log.write(b"".join(events))
+            text = subprocess.run(["blkparse", "-i", "disk"], cwd=folder, capture_output=True, check=True).stdout
+            done = convert("blkparse", text, "--arrivals", f"{folder}/arrivals")
+            with open(f"{folder}/arrivals") as arrivals:
+                times = arrivals.read().split()
+        self.assertEqual((done.status, done.lines), (0, ["0,write,0,00000001", "0,write,1,00000002", "0,read,1,", "0,trim,2,", "0,trim,3,"]), done.errors)
+        self.assertEqual(times, ["0.000", "0.000", "1000.000", "2000.000", "2000.000"])
 
 
 class Places(unittest.TestCase):
@@ -110,6 +140,8 @@ class BrokenLines(unittest.TestCase):
             (b"fio version 2 iolog\nf write 0 4096\nf write 0\n", 3, "a write has an offset and a length, and this one 1 numbers"),
             (b"fio version 2 iolog\nf write 0 -1\n", 2, "the length '-1' is no whole number"),
             (b"fio version 2 iolog\nf\n", 2, "a file and an action are wanted"),
+            (b"fio version 2 iolog\nf write 0 4096\nfio version 2 iolog\nf write 0 4096\n", 3, "a second iolog begins here"),
+            (b"fio version 3 iolog\n1 f write 0 4096\nfio version 3 iolog\n", 3, "a second iolog begins here"),
             (b"fio version 3 iolog\n1 f add\nf write 0 4096\n", 3, "the timestamp 'f' is no whole number"),
             (b"fio version 3 iolog\n1 f write 0 1\n2 f erase 0 1\n", 3, "'erase' is no action of an iolog"),
         ])
@@ -135,6 +167,29 @@ class BrokenLines(unittest.TestCase):
     def test_stop_the_trace_behind_what_came_before(self):
         done = convert("msr", b"1,hm,0,Read,0,1,1\nbroken\n")
         self.assertEqual((done.status, done.lines), (3, ["0,read,0,"]))
+
+
+class Compressed(unittest.TestCase):
+    log = (LOGS / "msr.csv").read_bytes()
+
+    def refuses(self, log, told):
+        done = convert("msr", log)
+        self.assertEqual(done.status, 3)
+        self.assertIn(told, done.errors)
+
+    def test_a_log_in_gzip_is_read_and_a_broken_one_is_named(self):
+        self.assertEqual(convert("msr", gzip.compress(self.log)).lines, convert("msr", self.log).lines)
+        self.refuses(gzip.compress(self.log)[:40], "standard input is no whole gzip file")
+
+    @needs("zstd")
+    def test_a_log_in_zstd_is_read_and_a_broken_one_is_named(self):
+        packed = subprocess.run(["zstd", "-qc"], input=self.log, capture_output=True, check=True).stdout
+        self.assertEqual(convert("msr", packed).lines, convert("msr", self.log).lines)
+        self.assertEqual(convert("msr", packed, "--lines", "1").lines, ["0,write,0,00000001"])
+        self.refuses(packed[:40], "standard input is no whole zstd file")
+
+    def test_another_compression_is_named(self):
+        self.refuses(b"BZh91AY&SY", "compressed by bzip2, which isn't read here: decompress it first")
 
 
 class Memory(unittest.TestCase):

@@ -1,17 +1,37 @@
+import gzip
+import io
 import json
-import os
+import pathlib
+import random
+import re
 import tempfile
 import unittest
 
-from tests.pictures_installed import HAS_MATPLOTLIB
+from simulation import collected, model, over_time
+from simulation.answers import read_answers
+from tests.packages import needs
+from tests.test_model import line_of
 from tests.tools import TOP, Run
 
 COLLECTION = TOP / "examples/collection.out"
+LOG = b"line,victim,copied,copybacks,erases,outcome\n5,0,1,1,1,freed\n"
+BROOMS = b"broom,drained,moved,programmed,erased,kept,retired,lost,pinned,stale,idle\n0,5,12,13,3,1,1,2,4,0,9\n1,1,2,2,1,0,0,0,0,1,8\n"
 WEAR = b"block,erases,live,retired\n0,1,0,0\n1,0,1,0\n2,0,2,0\n"
 
 
 def report(answers, *words):
     return Run("report", "-", *words, given=answers)
+
+
+class InARoom(unittest.TestCase):
+    def setUp(self):
+        room = tempfile.TemporaryDirectory()
+        self.addCleanup(room.cleanup)
+        self.room = pathlib.Path(room.name)
+
+    def file(self, name, data):
+        (self.room / name).write_bytes(data)
+        return self.room / name
 
 
 class Told(unittest.TestCase):
@@ -87,32 +107,166 @@ class Refused(unittest.TestCase):
                 self.assertEqual((done.status, done.text), (3, ""), told)
                 self.assertIn(told, done.errors)
 
-    def test_a_file_that_is_missing_is_named(self):
+    def test_a_file_that_is_missing_and_a_folder_are_named(self):
         done = Run("report", "no_such_file")
         self.assertEqual((done.status, done.errors), (1, "report: no_such_file: No such file or directory\n"))
+        self.assertEqual((Run("report", "/").status, Run("report", "/").errors), (1, "report: /: Is a directory\n"))
 
 
-@unittest.skipUnless(HAS_MATPLOTLIB, "matplotlib isn't installed: apt-get install python3-matplotlib")
-class Pictures(unittest.TestCase):
-    def test_erases_and_amplification_are_drawn(self):
+class OfCollections(InARoom):
+    def told(self, *words):
+        return json.loads(Run("report", COLLECTION, "--json", *words).text)
+
+    def test_the_log_of_the_example_is_told(self):
+        log = self.file("log", LOG)
+        told = self.told("--collections", log)
+        wanted = {
+            "collections": 1, "first_collection_line": 5, "victim_live_pages_mean": 1, "copybacks": 1, "copyback_share": 1,
+            "collections_retired": 0, "brooms": None,
+        }
+        self.assertEqual({name: told[name] for name in wanted}, wanted)
+        text = Run("report", COLLECTION, "--collections", log).text
+        self.assertIn("collections          1, the first at line 5; 1.00 pages copied each, 100.0 % of them by copyback\n", text)
+
+    def test_what_brooms_did_is_told_as_sums(self):
+        log = self.file("log", BROOMS)
+        told = json.loads(report(b"1,write,0,empty\nend\n", "--json", "--collections", log).text)
+        wanted = {"brooms": 2, "broom_drained": 6, "broom_moved": 14, "broom_programmed": 15, "broom_erased": 4, "broom_idle": 17, "collections": None}
+        self.assertEqual({name: told[name] for name in wanted}, wanted)
+        for words in (("--victims-picture", "x.svg"), ("--part", TOP / "examples/parts/made_up_2020s.toml")):
+            done = report(b"1,write,0,empty\nend\n", "--collections", log, *words)
+            self.assertEqual((done.status, done.text), (2, ""))
+            self.assertIn("the log is of brooms", done.errors)
+        self.assertIn("6 blocks drained, 4 erased, 1 retired, 1 kept", report(b"1,write,0,empty\nend\n", "--collections", log).text)
+
+    def test_compressed_files_are_read(self):
+        done = Run("report", self.file("a", gzip.compress(COLLECTION.read_bytes())), "--collections", self.file("log", gzip.compress(LOG)), "--json")
+        self.assertEqual(json.loads(done.text), self.told("--collections", self.file("plain", LOG)))
+
+    def test_a_quiet_run_is_reported_by_its_totals(self):
+        told = json.loads(report(b"end,5,1,1\n", "--json", "--page-bytes", "8", "--collections", self.file("log", LOG)).text)
+        self.assertEqual((told["lines"], told["write_amplification"], told["erases_per_gigabyte"], told["copybacks"]), (None, 1.2, 25_000_000, 1))
+
+    def test_the_source_of_the_size_of_a_page_is_told(self):
+        self.assertIn("(40 bytes in pages of 8, as the reads show)", Run("report", COLLECTION).text)
+        self.assertIn("(20,480 bytes in pages of 4,096, as --page-bytes says)", Run("report", COLLECTION, "--page-bytes", "4096").text)
+        self.assertEqual([self.told(*words)["page_bytes_from"] for words in ((), ("--page-bytes", "4096"))], ["reads", "option"])
+
+    def test_a_log_of_another_run_or_a_broken_one_is_refused(self):
+        head, row = LOG.splitlines(keepends=True)
+        for text, told in [
+            (head, "the log has 0 erases and 0 copies, and the answers 1 and 1: they are of two runs"),
+            (LOG.replace(b"5,0,1,1", b"5,0,0,0"), "the log has 1 erases and 0 copies, and the answers 1 and 1"),
+            (LOG.replace(b"5,0,1,1", b"6,0,1,1"), "line 2 of the log: line 6 of the answers is no write that was done"),
+            (LOG.replace(b"line,", b"lines,"), "line 1: a log of collections begins with"),
+            (head + b"5,0,1,1,1\n", "line 2: a collection has 6 fields, and this line 5"),
+            (head + b"5,0,1,2,1,freed\n", "line 2: more copybacks than copies"),
+            (head + b"5,0,1,1,0,freed\n", "line 2: a victim that wasn't erased"),
+            (head + b"5,0,1,1,1,lost\n", "line 2: 'lost' is neither freed nor retired"),
+            (head + row + row, "line 3: a collection at line 5 of the trace behind one at line 5"),
+            (head + b"5,0,1,1,1,retired\n6,0,1,1,1,freed\n", "line 3: a collection behind the one that retired its victim"),
+            (BROOMS.replace(b"\n1,1,2", b"\n1,1,3"), "line 3: more pages moved than programmed"),
+            (BROOMS.replace(b"\n1,", b"\n2,"), "line 3: broom 1 is wanted here"),
+        ]:
+            with self.subTest(told):
+                done = Run("report", COLLECTION, "--collections", self.file("log", text))
+                self.assertEqual((done.status, done.text), (3, ""))
+                self.assertIn(told, done.errors)
+
+    def test_a_device_that_the_files_contradict_is_refused(self):
+        files = ("--collections", self.file("log", LOG), "--wear", self.file("wear", WEAR))
         device = (TOP / "examples/collection.args").read_text().split()
-        with tempfile.TemporaryDirectory() as folder:
-            wear, erases, amplification = (os.path.join(folder, name) for name in ("wear.csv", "erases.svg", "amplification.svg"))
-            with open(wear, "wb") as sink:
-                sink.write(WEAR)
-            done = Run(
-                "report", COLLECTION, "--wear", wear, "--erases-picture", erases,
-                "--trace", TOP / "examples/collection.csv", "--amplification-picture", amplification, "--pieces", 3, *device,
-                apart=True,
-            )
-            self.assertEqual(done.status, 0, done.errors)
-            for path in (erases, amplification):
-                with open(path) as picture:
-                    self.assertIn("<svg", picture.read())
+        self.assertEqual(Run("report", COLLECTION, *files, *device).status, 0)
+        for words, told in [
+            (("--blocks", "4"), "the wear file has 3 blocks, and the device that the options name 4"),
+            (("--words", "2"), "the reads show pages of 8 bytes, and the device that the options name has 16"),
+            (("--pages", "1"), "the log has a victim that the device that the options name doesn't have"),
+        ]:
+            with self.subTest(words):
+                done = Run("report", COLLECTION, *files, *device, *words)
+                self.assertEqual(done.status, 3)
+                self.assertIn(told, done.errors)
 
-    def test_the_trace_of_another_run_is_refused(self):
-        with tempfile.TemporaryDirectory() as folder:
-            picture = os.path.join(folder, "amplification.svg")
-            done = Run("report", COLLECTION, "--trace", TOP / "examples/first.csv", "--amplification-picture", picture, apart=True)
-            self.assertEqual(done.status, 3)
-            self.assertIn("the trace on this device ends with end,1,0,0, and not as the answers do", done.errors)
+    def test_arguments_that_make_no_report_are_refused(self):
+        for words in (("--erases-picture", "x.svg"), ("--victims-picture", "x.svg"), ("--collections", "log", "--victims-picture", "x.gif"), ("--pieces", "0")):
+            with self.subTest(words):
+                self.assertEqual(Run("report", COLLECTION, *words).status, 2)
+
+
+class OverTime(unittest.TestCase):
+    def pieces(self, answers, log, count):
+        return over_time.in_pieces(read_answers(io.BytesIO(answers)), collected.read_log(io.BytesIO(log)), count)
+
+    def test_each_piece_has_its_own_pages_and_collections(self):
+        pieces = self.pieces(COLLECTION.read_bytes(), LOG, 3)
+        told = [(piece.first, piece.line, piece.programs, piece.copies, piece.collections) for piece in pieces]
+        self.assertEqual(told, [(1, 3, 3, 0, 0), (4, 6, 2, 1, 1), (7, 9, 0, 0, 0)])
+        self.assertEqual([piece.write_amplification() for piece in pieces], [1, 1.5, None])
+        self.assertEqual(over_time.so_far(pieces), [1, 1.2, 1.2])
+        # The collection is of the piece that ends with its line.
+        self.assertEqual([piece.collections for piece in self.pieces(COLLECTION.read_bytes(), LOG, 9)], [0, 0, 0, 0, 1, 0, 0, 0, 0])
+
+    def test_pieces_of_a_random_run_are_those_of_its_beginnings(self):
+        """What a piece adds is what a run of the trace up to its end has more than one up to its begin."""
+        seeded = random.Random(5)
+        device = {"luns": 1, "blocks": 5, "pages": 4, "words": 1, "sectors": 13, "endurance": 1000}
+        lines = [line_of(op, seeded, 13) for op in seeded.choices(("write", "read", "trim"), (8, 2, 1), k=400)]
+        played = model.Model(**device)
+        answers = "".join(played.play("".join(lines).encode())).encode()
+        before = model.Model(**device)
+        for piece in self.pieces(answers, played.log().encode(), 7):
+            after = model.Model(**device)
+            list(after.play("".join(lines[: piece.line]).encode()))
+            grown = after.programs - before.programs, after.copies - before.copies, len(after.collections) - len(before.collections)
+            self.assertEqual((piece.programs, piece.copies, piece.collections), grown)
+            before = after
+        self.assertGreater(played.copies, 0)
+
+    def test_victims_are_counted_by_their_live_pages(self):
+        head = LOG.splitlines(keepends=True)[0]
+        log = collected.read_log(io.BytesIO(head + b"5,0,1,1,1,freed\n6,1,0,0,1,freed\n9,0,1,0,2,freed\n"))
+        self.assertEqual(collected.live_pages(log), [(0, 1), (1, 2)])
+        told = collected.as_object(log)
+        self.assertEqual((told["collections"], told["victim_live_pages_mean"], told["copyback_share"]), (3, 2 / 3, 0.5))
+
+
+@needs("matplotlib")
+class Pictures(InARoom):
+    kinds = ("erases", "amplification", "collections", "victims")
+
+    def drawn(self, suffix, *words):
+        log, wear = self.file("log", LOG), self.file("wear", WEAR)
+        paths = [self.room / f"{kind}{suffix}" for kind in self.kinds]
+        pictures = [word for kind, path in zip(self.kinds, paths) for word in (f"--{kind}-picture", path)]
+        done = Run("report", COLLECTION, "--wear", wear, "--collections", log, "--pieces", 3, *pictures, *words)
+        self.assertEqual(done.status, 0, done.errors)
+        return [path.read_bytes() for path in paths]
+
+    def test_each_picture_is_drawn_with_its_axes_device_and_trace(self):
+        device = (TOP / "examples/collection.args").read_text().split()
+        title = "3 blocks of 2 pages, 3 sectors (50 %) · collection.csv"
+        axes = ("erases", "write amplification (pages programmed / pages written)", "collections per 1,000 lines", "live pages of the victim (all are copied)")
+        for picture, wanted in zip(self.drawn(".svg", "--trace", TOP / "examples/collection.csv", *device), axes):
+            text = picture.decode()
+            self.assertIn("<svg", text)
+            self.assertIn(wanted, text)
+            self.assertRegex(text, f"<dc:title>{re.escape(title)}</dc:title>")
+            self.assertRegex(text, f"<text[^>]*>{re.escape(title)}</text>")
+
+    def test_a_name_that_ends_with_png_gives_one(self):
+        for picture in self.drawn(".png"):
+            self.assertTrue(picture.startswith(b"\x89PNG\r\n"))
+
+    def test_many_blocks_are_a_curve_and_no_bars(self):
+        paths = []
+        for count in (200, 201):
+            wear = b"block,erases,live,retired\n" + b"".join(b"%d,%d,0,%d\n" % (block, block % 7, block == 6) for block in range(count))
+            erases = sum(block % 7 for block in range(count))
+            paths.append(self.room / f"{count}.svg")
+            done = Run("report", self.file("answers", b"end,0,0,%d\n" % erases), "--wear", self.file("wear", wear), "--erases-picture", paths[-1])
+            self.assertEqual(done.status, 0, done.errors)
+        bars, curve = (path.read_text() for path in paths)
+        self.assertIn("in use", bars)
+        self.assertIn("from the least erased to the most", curve)
+        self.assertIn("retired", curve)
+        self.assertLess(curve.count("<path"), bars.count("<path") / 3)

@@ -1,22 +1,26 @@
 import csv
+import gzip
 import os
 import pathlib
-import shutil
+import signal
+import subprocess
+import sys
 import tempfile
+import time
 import unittest
 
 from simulation import grid
-from tests.pictures_installed import HAS_MATPLOTLIB
-from tests.tools import TOP, Run
+from tests import sshd
+from tests.packages import needs
+from tests.tools import TOOLS, TOP, Run
 
-HAS_PARALLEL = shutil.which("parallel") is not None
 SMALL = ("--blocks", "8", "--words", "1", "--endurance", "1000")
 
 
 class Grids(unittest.TestCase):
     def test_numbers_are_lists_and_steps(self):
         self.assertEqual(grid.numbers_in("50,60:80:10,95"), [50, 60, 70, 80, 95])
-        for text in ("", "1,,2", "1:2", "2:3:0", "x"):
+        for text in ("", "1,,2", "1:2", "2:3:0", "90:50:10", "x"):
             with self.assertRaises(ValueError):
                 grid.numbers_in(text)
 
@@ -27,7 +31,7 @@ class Grids(unittest.TestCase):
             self.assertEqual(grid.point_in(str(point)), point)
 
 
-@unittest.skipUnless(HAS_PARALLEL, "GNU parallel isn't installed: apt-get install parallel")
+@needs("parallel", "matplotlib")
 class Swept(unittest.TestCase):
     def setUp(self):
         room = tempfile.TemporaryDirectory()
@@ -40,14 +44,15 @@ class Swept(unittest.TestCase):
 
     def test_each_point_has_a_row_and_a_sweep_goes_on_where_it_was_cut_off(self):
         words = ("--out", self.out, "--make", "sequential --fill", "--rounds", "2", "--settle", "1", *SMALL, "--pages", "4,8", "--utilisation", "50")
-        plot = ("--plot",) if HAS_MATPLOTLIB else ()
-        done = Run("sweep", *words, *plot, apart=True)
+        done = Run("sweep", *words, "--plot")
         self.assertEqual((done.status, done.errors), (0, ""))
         rows = self.rows()
         # Written in order, a victim has no live page, so nothing is copied; a block is erased for each that is filled.
         told = [[row[name] for name in ("pages", "sectors", "lines", "programs", "copies", "erases", "worn")] for row in rows]
         self.assertEqual(told, [["4", "16", "32", "32", "0", "8", "0"], ["8", "32", "64", "64", "0", "8", "0"]])
-        self.assertEqual((self.out / "sweep.svg").exists(), HAS_MATPLOTLIB)
+        picture = (self.out / "sweep.svg").read_text()
+        for text in ("pages per block", "write amplification (pages programmed / pages written)", "8 blocks · sequential --fill"):
+            self.assertIn(text, picture)
         # The last job is taken out of the log, as if it had been cut off: it alone is played again.
         log = self.out / "jobs.log"
         first = [line for line in log.read_text().splitlines() if not line.startswith("2\t")]
@@ -57,6 +62,12 @@ class Swept(unittest.TestCase):
         self.assertEqual(self.rows(), rows)
         self.assertIn("has a sweep already", Run("sweep", *words).errors)
         self.assertIn("is another one", Run("sweep", *words, "--resume", "--luns", "2").errors)
+        (self.out / "own").write_text("kept")
+        self.assertEqual(Run("sweep", *words, "--force", "--luns", "2").status, 0)
+        self.assertEqual([row["luns"] for row in self.rows()], ["2", "2"])
+        self.assertEqual({path.name.split(",")[0] for path in (self.out / "points").iterdir()}, {"luns=2"})
+        self.assertFalse((self.out / "sweep.svg").exists())
+        self.assertTrue((self.out / "own").exists())
 
     def test_a_trace_is_played_on_each_device_and_what_is_no_device_is_named(self):
         trace = TOP / "examples/collection.csv"
@@ -66,6 +77,90 @@ class Swept(unittest.TestCase):
         self.assertIn("geometry: Blocks", done.errors)
         told = [[row[name] for name in ("lines", "programs", "copies", "erases", "write_amplification")] for row in self.rows()]
         self.assertEqual(told, [["9", "5", "1", "1", "1.200000"]])
+
+
+    @needs("numpy")
+    def test_with_the_times_of_a_part_each_row_has_the_response_of_writes(self):
+        times = ("--read-time", "1", "--program-time", "10", "--erase-time", "1000", "--transfer-time", "0.5")
+        rounds = ("--rounds", "2", "--settle", "1")
+        words = ("--out", self.out, "--make", "sequential --fill --interval 100000", *rounds, *SMALL, "--pages", "4", "--utilisation", "50")
+        done = Run("sweep", *words, *times, "--plot", "--up", "write_p99_us")
+        self.assertEqual((done.status, done.errors), (0, ""))
+        (row,) = self.rows()
+        # Of 32 lines 24 are a write, and 8 an erase and a write; nothing waits. The last arrives 31 intervals behind the first.
+        self.assertEqual([float(row[name]) for name in ("write_mean_us", "write_p99_us", "write_p999_us")], [(24 * 10.5 + 8 * 1010.5) / 32, 1010.5, 1010.5])
+        self.assertAlmostEqual(float(row["load"]), (32 * 10.5 + 8 * 1000) / 3_100_000, places=6)
+        self.assertEqual([row[name] for name in ("lines", "programs", "copies", "erases", "worn")], ["32", "32", "0", "8", "0"])
+        self.assertIn("response of writes, 99 % (µs)", (self.out / "sweep.svg").read_text())
+
+    @needs("numpy")
+    def test_a_trace_with_arrivals_is_played_as_it_arrives(self):
+        arrivals = self.out.parent / "arrivals"
+        arrivals.write_text("".join(f"{line * 4}\n" for line in range(9)))
+        times = ("--read-time", "1", "--program-time", "10", "--erase-time", "1000", "--transfer-time", "0")
+        device = (TOP / "examples/collection.args").read_text().split()
+        done = Run("sweep", "--out", self.out, "--trace", TOP / "examples/collection.csv", "--arrivals", arrivals, "--speed", "2", *device, *times)
+        self.assertEqual((done.status, done.errors), (0, ""))
+        # Writes arrive at 0, 2, 4, 6 and 8 and take 10, the last one 11 for its copy and 1,000 for its erase before that.
+        self.assertEqual(float(self.rows()[0]["write_mean_us"]), (10 + 18 + 26 + 34 + 1053) / 5)
+
+    def test_a_trace_that_is_not_there_leaves_no_folder(self):
+        done = Run("sweep", "--out", self.out, "--trace", "/no/such/trace", "--blocks", "8")
+        self.assertEqual((done.status, done.errors, self.out.exists()), (1, "sweep: /no/such/trace: No such file or directory\n", False))
+
+    def test_a_trace_that_has_changed_is_no_part_of_the_sweep(self):
+        trace = self.out.parent / "trace.csv"
+        trace.write_text("0,write,0,\n")
+        words = ("--out", self.out, "--trace", trace, *SMALL, "--pages", "4", "--sectors", "4")
+        self.assertEqual(Run("sweep", *words).status, 0)
+        trace.write_text("0,write,1,\n")
+        self.assertIn("is another one", Run("sweep", *words, "--resume").errors)
+        point = Run("sweep", "--trace", trace, "--trace-sum", "0" * 64, "--point", "blocks=8")
+        self.assertEqual((point.status, point.errors), (1, f"sweep: {trace} is not the file with which the sweep began\n"))
+
+    def test_an_interrupt_says_how_to_go_on(self):
+        words = ["--out", self.out, "--make", "uniform --fill", "--rounds", "200", *SMALL, "--pages", "256", "--utilisation", "50:90:1", "--jobs", "1"]
+        with subprocess.Popen([sys.executable, TOOLS / "sweep", *words], stderr=subprocess.PIPE, text=True, start_new_session=True) as run:
+            while not (self.out / "jobs.log").exists():
+                time.sleep(0.05)
+            time.sleep(0.5)
+            os.killpg(run.pid, signal.SIGINT)
+            told = run.stderr.read()
+        self.assertEqual(run.returncode, 130)
+        self.assertIn(f"sweep: interrupted; the same call with --resume goes on with the sweep in {self.out}\n", told)
+
+    @needs("ssh", "sshd", "rsync")
+    def test_other_machines_are_handed_the_trace(self):
+        trace, away = self.out.parent / "trace.csv", self.out.parent / "away.csv"
+        trace.write_bytes(gzip.compress((TOP / "examples/collection.csv").read_bytes()))
+        # On the other machine the trace is nowhere but where it was handed over: it is away while anything but rsync runs there.
+        forced = self.out.parent / "forced"
+        lines = [
+            "#!/bin/sh",
+            'case "$SSH_ORIGINAL_COMMAND" in *rsync*) exec sh -c "$SSH_ORIGINAL_COMMAND" ;; esac',
+            f"mv {trace} {away}",
+            f'{other_program()} sh -c "$SSH_ORIGINAL_COMMAND"',
+            "status=$?",
+            f"mv {away} {trace}",
+            "exit $status",
+        ]
+        forced.write_text("\n".join([*lines, ""]))
+        forced.chmod(0o755)
+        machines = self.out.parent / "machines"
+        with sshd.running(forced) as machine:
+            machines.write_text(f"1/{machine}\n")
+            words = ("--sectors", "3", "--words", "1", "--endurance", "10", "--pages", "2", "--blocks", "3,4")
+            done = Run("sweep", "--out", self.out, "--trace", trace, *words, "--sshloginfile", machines, "--jobs", "1")
+        self.assertEqual((done.status, done.errors), (0, ""))
+        self.assertEqual([row["erases"] for row in self.rows()], ["1", "0"])
+        hosts = {line.split("\t")[1] for line in (self.out / "jobs.log").read_text().splitlines()[1:]}
+        self.assertEqual(len(hosts), 1)
+        self.assertIn("127.0.0.1", hosts.pop())
+
+
+def other_program():
+    """What a machine is told of the program that plays, where it isn't the launcher's."""
+    return f"FLASHPLAY={os.environ['FLASHPLAY']}" if "FLASHPLAY" in os.environ else ""
 
 
 class Missing(unittest.TestCase):
@@ -79,6 +174,13 @@ class Missing(unittest.TestCase):
         self.assertIn("apt-get install parallel", done.errors)
 
     def test_arguments_that_make_no_sweep_are_refused(self):
-        for words in (("--make", "normal"), ("--make", "uniform", "--pages", "a"), ("--make", "uniform", "--settle", "9"), ("--trace", "x", "--make", "uniform"), ()):
+        uniform = "--make", "uniform"
+        refused = [
+            ("--make", "normal"), ("--trace", "x", *uniform), (),
+            *((*uniform, *words.split()) for words in (
+                "--pages a", "--blocks 90:50:10", "--settle 9", "--resume --force", "--up load", "--speed 0", "--part /nowhere --arrivals a",
+            )),
+        ]
+        for words in refused:
             with self.subTest(words):
                 self.assertEqual(Run("sweep", "--out", "/nowhere/out", *words).status, 2)

@@ -1,10 +1,11 @@
 -- A survey as a whole, and the choice by it.
-use Rattle.std.proofs.Common.{◌≡◌, ℕ, ◌<◌, Bool, false, true, All, List, ◌++◌, length, Option, None, Some, IfSome, sym, ap, ◌∙◌, subst, arith, get_or}
-use Rattle.std.proofs.lemmas.List.{get_or_past}
+use Rattle.std.proofs.Common.{◌≡◌, ℕ, ◌<◌, Bool, false, true, All, List, [], ◌∷◌, ◌++◌, length, Option, None, Some, IfSome, MatchOption, refl, sym, ap, ◌∙◌, subst, arith, get_or}
+use Rattle.std.proofs.lemmas.List.{get_or_past, length-map}
+use Rattle.geometry.proofs.GreedyLemmas.{greedy_of-closed}
 use Rattle.std.proofs.lemmas.List.FromFn.{get_or-map-range_with_len}
 use mathlib.Core.Logic.{dite}
 use native.Mathlib.Decide.{dec_lt}
-use Rattle.geometry.specs.Geometry.{blocks_of, pages_of}
+use Rattle.geometry.specs.Geometry.{blocks_of}
 use Rattle.geometry.specs.Greedy.{greedy_of, IsClosed}
 use Rattle.geometry.specs.History.{Call, Begins}
 use Rattle.geometry.specs.Limits.{Numbers}
@@ -17,10 +18,10 @@ use Rattle.flash_table.specs.declared.broom_seat.BroomBlocks.{BroomBlocks}
 use Rattle.flash_table.specs.declared.broom_seat.BroomSeat.{BroomSeat}
 use Rattle.flash_table.specs.Flash.{IsBroomOf, broom_view, own_blocks, geometry_of, device}
 use Rattle.broom.specs.declared.broom.Broom.{Broom}
-use Rattle.broom.specs.Survey.{Survey, GainsNothing, live_pages, victim_of, loads_of, looks_of}
-use Rattle.broom.specs.Ready.{IsRested, view_of_broom}
-use Rattle.broom.specs.Told.{Surveyed, GainedNothing}
-use Rattle.broom.specs.Surveying.{IsInRange, StatesLoaded, PagesCounted, Chosen}
+use Rattle.broom.specs.Survey.{Survey, GainsNothing, live_pages, victim_of, loads_of, looks_of, is_closed, closed_of}
+use Rattle.broom.specs.Ready.{IsInRange, IsRested, IsReady, view_of_broom}
+use Rattle.broom.specs.Told.{Surveyed, GainedNothing, LeftSurvey, GainsNothingNext, IsNext, next_of}
+use Rattle.broom.specs.Surveying.{StatesLoaded, PagesCounted, Chosen, ChoseNone, Chooses}
 
 -- a broom rests again where only such fields of its view have changed as a survey or a lost claim sets
 pub rested_again : (f : Flash) (s t : BroomSeat) → IsRested f s → IsBroomOf f t → own_blocks t ≡ own_blocks s
@@ -39,6 +40,12 @@ rested_again f s t h seat blocks changed callers =
       whole = ap (λ (v : View). v.whole) changed ∙ h.whole;
       alone = ap (λ (v : View). v.guest) changed ∙ h.alone;
     }
+
+-- a marked place is within the list of marks
+pub closed_low : (closed : List Bool) (i : ℕ) → IsClosed closed i → i < length closed
+closed_low closed i is = dite (dec_lt i (length closed)) (λ below. below) (λ past. absurd (marked_past (get_or_past closed i false (omega arith)))) where
+  marked_past : get_or closed i false ≡ false → ⊥
+  marked_past e = let both : false ≡ true = sym e ∙ is in absurd (cc)
 
 module _ (f : Flash) (before after : Broom) (s : BroomSeat) (states : List PinWord) (counts : List ℕ) (closed : List Bool) (seat : IsBroomOf f before.seat)
     (loaded : StatesLoaded (device f) (view_of_broom before) states closed (broom_view s)) (counted : PagesCounted (broom_view s) states counts (view_of_broom after)) (long : length states ≡ blocks_of (geometry_of f)) where
@@ -91,27 +98,54 @@ module _ (f : Flash) (before after : Broom) (s : BroomSeat) (states : List PinWo
   pub gained_nothing : GainsNothing the_survey v.numbers.pages → GainedNothing v w
   gained_nothing nothing = record { survey = the_survey; made = made; nothing = nothing; changed = changed }
 
-  pub none_closed : None ≡ greedy_of counts closed → GainedNothing v w
-  none_closed is = let P : Option ℕ → Type 0 = λ o. IfSome o (λ b. live_pages the_survey b ≡ v.numbers.pages) in gained_nothing (subst P (sym (choice None is)) tt)
+  -- the broom keeps what the survey found
+  module _ (keeps : after.states.items ≡ states) (counts_are : after.counts.items ≡ counts) (marks_are : after.closed.items ≡ closed) (many : length after.counts.items ≡ length after.closed.items) where
+    next : next_of after ≡ greedy_of counts closed
+    next = λ i. greedy_of (counts_are i) (marks_are i)
 
-  pub all_live : (b : ℕ) → b < length states → Some b ≡ greedy_of counts closed → get_or counts b 0 ≡ pages_of (geometry_of f) → GainedNothing v w
-  all_live b low is full =
-      let pages : v.numbers.pages ≡ (device f).pages = ap (λ (z : Numbers). z.pages) seat.numbers in
-      let P : Option ℕ → Type 0 = λ o. IfSome o (λ b. live_pages the_survey b ≡ v.numbers.pages) in gained_nothing (subst P (sym (choice (Some b) is)) (sym (live_is b low) ∙ (full ∙ sym pages)))
+    numbers_after : w.numbers ≡ v.numbers
+    numbers_after = ap (λ (x : View). x.numbers) changed
 
-  pub chosen : (b : ℕ) → b < length states → IsClosed closed b → Some b ≡ greedy_of counts closed → ¬ (get_or counts b 0 ≡ pages_of (geometry_of f)) → after.states.items ≡ states → Chosen v b after
-  chosen b low shut is gains kept =
-      let pages : v.numbers.pages ≡ (device f).pages = ap (λ (z : Numbers). z.pages) seat.numbers in
-      record {
-        survey = the_survey;
-        made = made;
-        victim = record { chosen = choice (Some b) is; gains = λ e. gains (live_is b low ∙ (e ∙ pages)) };
-        kept = sym kept;
-        low = low;
-        closed = subst (λ l. IsClosed l b) loaded.marked shut;
-        ranges = subst (λ (z : Numbers). All (IsInRange z) states) (sym seat.numbers) loaded.ranges;
-        changed = changed;
-      }
+    low : (b : ℕ) → IsClosed after.closed.items b → b < length states
+    low b shut =
+        let below = closed_low after.closed.items b shut in
+        let marks = ap (length {A = Bool}) (marks_are ∙ loaded.marked) in
+        let all = length-map states (λ (p : PinWord). is_closed p.phase) in omega arith
+
+    count_is : (b : ℕ) → IsClosed after.closed.items b → get_or after.counts.items b 0 ≡ live_pages the_survey b
+    count_is b shut = ap (λ (l : List ℕ). get_or l b 0) counts_are ∙ live_is b (low b shut)
+
+    left : LeftSurvey v the_survey (closed_of states) after
+    left = record { made = made; states = keeps; counts = counts_are ∙ counted.counted; marks = marks_are ∙ loaded.marked }
+
+    none : (o : Option ℕ) → next_of after ≡ o → IfSome o (λ b. get_or after.counts.items b 0 ≡ w.numbers.pages) → IfSome o (λ b. live_pages the_survey b ≡ v.numbers.pages)
+    none None is full = tt
+    none (Some b) is full = sym (count_is b (greedy_of-closed after.counts.items after.closed.items many b is)) ∙ (full ∙ ap (λ (z : Numbers). z.pages) numbers_after)
+
+    pub chose_none : GainsNothingNext after → ChoseNone v after
+    chose_none full =
+        let P : Option ℕ → Type 0 = λ o. IfSome o (λ b. live_pages the_survey b ≡ v.numbers.pages) in
+        record { gained = gained_nothing (subst P (sym (choice (next_of after) next)) (none (next_of after) refl full)); left = (the_survey, left) }
+
+    pub chosen : (b : ℕ) → IsNext after b → Chosen v b after
+    chosen b h =
+        let shut = greedy_of-closed after.counts.items after.closed.items many b h.chosen in
+        record {
+          survey = the_survey;
+          made = made;
+          victim = record { chosen = choice (Some b) (sym h.chosen ∙ next); gains = λ e. h.gains (count_is b shut ∙ (e ∙ ap (λ (z : Numbers). z.pages) (sym numbers_after))) };
+          kept = sym keeps;
+          counts = left.counts;
+          marks = left.marks;
+          low = low b shut;
+          closed = subst (λ l. IsClosed l b) (marks_are ∙ loaded.marked) shut;
+          ranges = subst (λ (z : Numbers). All (IsInRange z) states) (sym seat.numbers) loaded.ranges;
+          changed = changed;
+        }
+
+    pub chooses : (result : Option ℕ) → MatchOption result (GainsNothingNext after) (λ b. IsNext after b) → Chooses v result after
+    chooses None told = chose_none told
+    chooses (Some b) told = chosen b told
 
   pub rested_surveyed : IsRested f before.seat → IsBroomOf f after.seat → own_blocks after.seat ≡ own_blocks before.seat → IsRested f after.seat
   rested_surveyed h now blocks =
@@ -119,8 +153,13 @@ module _ (f : Flash) (before after : Broom) (s : BroomSeat) (states : List PinWo
       rested_again f before.seat after.seat h now blocks
       (all ∙ (λ i. record v { seen = w.seen; loaded = w.loaded; named = (sym all i).named; busy = w.busy; stale = w.stale; lost = (sym all i).lost })) callers
 
--- a marked place is within the list of marks
-pub closed_low : (closed : List Bool) (i : ℕ) → IsClosed closed i → i < length closed
-closed_low closed i is = dite (dec_lt i (length closed)) (λ below. below) (λ past. absurd (marked_past (get_or_past closed i false (omega arith)))) where
-  marked_past : get_or closed i false ≡ false → ⊥
-  marked_past e = let both : false ≡ true = sym e ∙ is in absurd (cc)
+-- the block to be drained next is one of the device
+pub next_low : (f : Flash) (b : Broom) (victim : ℕ) → IsReady f b → Some victim ≡ next_of b → victim < blocks_of (geometry_of f)
+next_low f b victim h is = let low = closed_low b.closed.items victim (greedy_of-closed b.counts.items b.closed.items (h.counts ∙ sym h.closed) victim (sym is)) in let long = h.closed in omega arith
+
+-- and where a claim was lost
+pub rested_lost : (f : Flash) (s t : BroomSeat) (b : ℕ) → IsRested f s → IsBroomOf f t → own_blocks t ≡ own_blocks s → broom_view t ≡ record (broom_view s) { lost = (broom_view s).lost ++ b ∷ [] } → IsRested f t
+rested_lost f s t b h seat blocks lost =
+    let e = sym lost in
+    rested_again f s t h seat blocks (lost ∙ (λ i. record (broom_view s) { seen = (e i).seen; loaded = (e i).loaded; named = (e i).named; busy = (e i).busy; stale = (e i).stale; lost = (e i).lost }))
+    (subst (λ (v : View). AreOfHosts v.numbers v.seen) e h.callers)

@@ -1,12 +1,12 @@
 -- A drain as a whole: the survey, the claim, the relocation and the last step.
-use Rattle.std.proofs.Common.{◌≡◌, ℕ, ◌+◌, ◌<◌, ◌≤◌, true, false, List, [], ◌∷◌, ◌++◌, length, map, Option, None, Some, is_some, sym, refl, ap, ◌∙◌, subst, arith, append_assoc, get_or}
-use Rattle.std.proofs.lemmas.List.{get_or-map, length-map}
+use Rattle.std.proofs.Common.{◌≡◌, ℕ, ◌+◌, ◌<◌, ◌≤◌, true, false, List, [], ◌∷◌, ◌++◌, length, Option, None, Some, is_some, sym, refl, ap, ◌∙◌, subst, arith, append-nil, get_or, set}
+use Rattle.std.proofs.lemmas.List.{get_or-map}
 use Rattle.geometry.specs.Geometry.{blocks_of, pages_of}
+use Rattle.geometry.specs.Greedy.{IsClosed}
 use Rattle.geometry.specs.History.{Begins, Call}
 use Rattle.geometry.specs.Limits.{Numbers}
 use Rattle.geometry.specs.PinWords.{FitsPin, pin_word}
-use Rattle.geometry.specs.declared.pin_word.Phase.{Phase}
-use Rattle.geometry.specs.declared.pin_word.Phase.TheVariants.{Free, Open, Closed, Victim, Drained, Erasing, Retired}
+use Rattle.geometry.specs.declared.pin_word.Phase.TheVariants.{Closed}
 use Rattle.geometry.specs.declared.pin_word.PinWord.{PinWord}
 use Rattle.geometry.proofs.Histories.{Begins-trans}
 use Rattle.flash_rule.specs.declared.facts.Cycle.{Cycle}
@@ -22,76 +22,59 @@ use Rattle.flash_table.specs.declared.broom_seat.ReclaimedBlock.{ReclaimedBlock}
 use Rattle.flash_table.specs.declared.broom_seat.Reclaiming.TheVariants.{Nothing, Draining}
 use Rattle.flash_table.specs.Flash.{IsBroomOf, broom_view, own_blocks, geometry_of, device}
 use Rattle.broom.specs.declared.broom.Broom.{Broom}
-use Rattle.broom.specs.Survey.{is_closed, generation_in, written_in, looks_of}
-use Rattle.broom.specs.Emptying.{Emptied}
-use Rattle.broom.specs.Ready.{IsRested, IsReady, view_of_broom}
-use Rattle.broom.specs.Told.{Surveyed, DidDrain, victim_in}
-use Rattle.broom.specs.Surveying.{IsInRange, Chosen}
+use Rattle.broom.specs.declared.ranking.Ranking.{Ranking}
+use Rattle.broom.specs.Handing.{HandsNothing, place_of, aside_of}
+use Rattle.broom.specs.Survey.{generation_in, written_in, looks_of}
+use Rattle.broom.specs.Emptying.{Emptied, looks_in}
+use Rattle.broom.specs.Ready.{IsRested, IsReady, IsMarked, view_of_broom, blocks_of_broom, marks_of}
+use Rattle.broom.specs.declared.answer.Drain.{Drain}
+use Rattle.broom.specs.declared.answer.Drain.TheVariants as drain
+use Rattle.broom.specs.Told.{Surveyed, DidDrain, DrainTold, LostClaim, DidDrainAgain, LostAgain, IsNext, MarkedTold, NextTold, Unmarks, SurveyLeft, HasOnlyRanked, GainsNothingNext, states_kept, counts_kept, victim_in, block_in}
+use Rattle.broom.specs.Surveying.{Chosen}
 use Rattle.broom.specs.Relocating.{Sweeps, Relocated, room_in, room_left}
-use Rattle.broom.proofs.Loading.{enumerate_once}
+use Rattle.broom.proofs.Marking.{last_of-loaded}
+use Rattle.broom.proofs.Choosing.{closed_low}
 use Rattle.broom.proofs.Counting.{generation_at}
 use Rattle.broom.proofs.Emptying.{emptied_same}
 
-closed_phase : (p : Phase) → is_closed p ≡ true → p ≡ Closed
-closed_phase Free e = absurd (cc)
-closed_phase Open e = absurd (cc)
-closed_phase Closed e = refl
-closed_phase Victim e = absurd (cc)
-closed_phase Drained e = absurd (cc)
-closed_phase Erasing e = absurd (cc)
-closed_phase Retired e = absurd (cc)
-
-module _ (f : Flash) (v : View) (b : ℕ) (r : Broom) (chosen : Chosen v b r) (ready : IsReady f r) where
+module _ (f : Flash) (r : Broom) (b : ℕ) (ready : IsReady f r) (marked : IsClosed r.closed.items b) where
   -- ---- the claim
-  pub low_states : b < length r.states.items
-  low_states = let low = chosen.low in let e : length chosen.survey.states ≡ length r.states.items = ap (length {A = PinWord}) chosen.kept in omega arith
+  pub low_mark : b < length r.closed.items
+  low_mark = closed_low r.closed.items b marked
 
   pub low_block : b < blocks_of (geometry_of f)
-  low_block = let low = low_states in let long = ready.states in omega arith
+  low_block = let low = low_mark in let long = ready.closed in omega arith
+
+  pub low_states : b < length r.states.items
+  low_states = let low = low_block in let long = ready.states in omega arith
 
   module _ (q : PinWord) (is : q ≡ get_or r.states.items b q) where
-    -- the state of the victim as loaded
-    here : get_or chosen.survey.states b q ≡ q
-    here = ap (λ (l : List PinWord). get_or l b q) chosen.kept ∙ sym is
-
-    pub in_range : IsInRange v.numbers q
-    in_range = subst (IsInRange v.numbers) here (chosen.ranges b q chosen.low)
+    -- the state of the victim as loaded last
+    mark : IsMarked (device f) (view_of_broom r) b q
+    mark = subst (IsMarked (device f) (view_of_broom r) b) (sym is) (ready.marks b q marked)
 
     pub state_closed : FitsPin q × (q.phase ≡ Closed)
-    state_closed =
-        let mark : is_closed (get_or chosen.survey.states b q).phase ≡ true = sym (get_or-map (λ (p : PinWord). is_closed p.phase) chosen.survey.states b q false chosen.low) ∙ chosen.closed in
-        (in_range.fits, closed_phase q.phase (ap (λ (p : PinWord). is_closed p.phase) (sym here) ∙ mark))
+    state_closed = (mark.range.fits, mark.closed)
 
     pub last_loaded : IsLastLoaded (view_of_broom r) b (pin_word q)
-    last_loaded =
-        let states = chosen.survey.states in
-        let long : b < length (map pin_word states) = let e = length-map states pin_word in let low = chosen.low in omega arith in
-        let once = enumerate_once 0 b b (map pin_word states) 0 long (omega arith) in
-        let word : get_or (map pin_word states) b 0 ≡ pin_word q = get_or-map pin_word states b q 0 chosen.low ∙ ap pin_word here in
-        record {
-          earlier = v.loaded ++ once.earlier;
-          later = once.later;
-          is = chosen.made.loaded ∙ (ap (λ l. v.loaded ++ l) once.is ∙ (sym (append_assoc v.loaded once.earlier ((b, get_or (map pin_word states) b 0) ∷ once.later)) ∙ ap (λ n. (v.loaded ++ once.earlier) ++ (b, n) ∷ once.later) word));
-          last = once.last;
-        }
+    last_loaded = last_of-loaded b (pin_word q) (view_of_broom r) mark.last
 
-    generation_is : q.generation ≡ generation_in chosen.survey.states b
-    generation_is = ap (λ (p : PinWord). p.generation) (sym here) ∙ sym (generation_at chosen.survey.states b q chosen.low)
+    generation_is : q.generation ≡ generation_in r.states.items b
+    generation_is = ap (λ (p : PinWord). p.generation) is ∙ sym (generation_at r.states.items b q low_states)
 
-    written_is : q.written ≡ written_in chosen.survey.states b
-    written_is = ap (λ (p : PinWord). p.written) (sym here) ∙ sym (get_or-map (λ (p : PinWord). p.written) chosen.survey.states b q 0 chosen.low)
+    written_is : q.written ≡ written_in r.states.items b
+    written_is = ap (λ (p : PinWord). p.written) is ∙ sym (get_or-map (λ (p : PinWord). p.written) r.states.items b q 0 low_states)
 
     -- the block as the broom's victim
     abbrev pub victim_of_state : ReclaimedBlock
     victim_of_state = record { block = b; generation = q.generation; written = q.written }
 
     -- ---- the relocation begins
-    module _ (t : BroomSeat) (seat : IsBroomOf f t) (owns : List Owned) (claimed : broom_view t ≡ record (view_of_broom r) { owns = owns; cleared = 0 }) (blocks : own_blocks t ≡ record (own_blocks r.seat) { reclaiming = Draining victim_of_state })
-        (numbers : v.numbers ≡ device f) where
+    module _ (t : BroomSeat) (seat : IsBroomOf f t) (owns : List Owned) (claimed : broom_view t ≡ record (view_of_broom r) { owns = owns; cleared = 0 }) (blocks : own_blocks t ≡ record (own_blocks r.seat) { reclaiming = Draining victim_of_state }) where
       pub claimed_sweeps : Sweeps f t victim_of_state
       claimed_sweeps =
           let h = ready.rested in
-          let range : IsInRange (device f) q = subst (λ (z : Numbers). IsInRange z q) numbers in_range in
+          let range = mark.range in
           record {
             seat = seat;
             draining = ap (λ (y : BroomBlocks). y.reclaiming) blocks;
@@ -107,7 +90,7 @@ module _ (f : Flash) (v : View) (b : ℕ) (r : Broom) (chosen : Chosen v b r) (r
 
       pub claimed_room : is_some (own_blocks r.seat).spare ≡ true → q.written ≤ room_left (pages_of (geometry_of f)) (own_blocks t)
       claimed_room some =
-          let range : IsInRange (device f) q = subst (λ (z : Numbers). IsInRange z q) numbers in_range in
+          let range = mark.range in
           let short = range.within in
           let spare = some_block (own_blocks r.seat).spare some in
           let empty = (ready.rested.spare spare.0 spare.1).room in
@@ -118,36 +101,20 @@ module _ (f : Flash) (v : View) (b : ℕ) (r : Broom) (chosen : Chosen v b r) (r
 
       -- ---- the drain ends
       module _ (u w : BroomSeat) (copied : ℕ) (went : Relocated (broom_view t) copied (broom_view u)) (bare : (broom_view u).source ≡ None) (sweeps : Sweeps f u victim_of_state) (owned ceded : List Owned)
-          (drained : broom_view w ≡ record (broom_view u) { owns = owned; drains = (broom_view u).drains ++ record { block = b; generation = q.generation } ∷ []; ceded = ceded }) (free : own_blocks w ≡ record (own_blocks u) { reclaiming = Nothing }) (none : v.source ≡ None)
-          (cleared : (broom_view u).cleared ≡ q.written) (y : BroomBlocks) (same : own_blocks r.seat ≡ y) (emptied : Emptied (pages_of (geometry_of f)) victim_of_state (broom_view t) (own_blocks t) copied (broom_view u) (own_blocks u)) where
-        named_is : (broom_view t).named ≡ v.named ++ looks_of chosen.survey.pages
-        named_is = ap (λ (y : View). y.named) claimed ∙ ap (λ (y : View). y.named) chosen.changed
-
-        made_whole : Surveyed v chosen.survey (broom_view w)
-        made_whole =
-            let kept : (broom_view w).loaded ≡ (view_of_broom r).loaded = ap (λ (y : View). y.loaded) drained ∙ (ap (λ (y : View). y.loaded) went.changed ∙ ap (λ (y : View). y.loaded) claimed) in
-            let seen : (broom_view t).seen ≡ (view_of_broom r).seen = ap (λ (y : View). y.seen) claimed in
-            let last : (broom_view w).seen ≡ (broom_view u).seen = ap (λ (y : View). y.seen) drained in
-            let named : (broom_view w).named ≡ (broom_view u).named = ap (λ (y : View). y.named) drained in
-            record {
-              whole = chosen.made.whole;
-              loaded = kept ∙ chosen.made.loaded;
-              named = let P : List (ℕ × ℕ) × List (ℕ × ℕ) → Type 0 = λ y. Begins y.0 y.1 in subst P (λ i. (named_is i, sym named i)) went.named;
-              later = let P : List Call × List Call → Type 0 = λ y. Begins y.0 y.1 in Begins-trans v.seen (view_of_broom r).seen (broom_view w).seen chosen.made.later (subst P (λ i. (seen i, sym last i)) went.later);
-            }
+          (drained : broom_view w ≡ record (broom_view u) { owns = owned; drains = (broom_view u).drains ++ record { block = b; generation = q.generation } ∷ []; ceded = ceded }) (free : own_blocks w ≡ record (own_blocks u) { reclaiming = Nothing }) (none : (view_of_broom r).source ≡ None)
+          (cleared : (broom_view u).cleared ≡ q.written) (emptied : Emptied (pages_of (geometry_of f)) victim_of_state (broom_view t) (own_blocks t) copied (broom_view u) (own_blocks u)) where
+        abbrev v : View
+        v = view_of_broom r
 
         all : broom_view w ≡ record v {
           seen = (broom_view u).seen;
-          loaded = (view_of_broom r).loaded;
           named = (broom_view u).named;
-          busy = (view_of_broom r).busy;
-          stale = (view_of_broom r).stale;
           owns = owned;
           work = (broom_view u).work;
           programs = (broom_view u).programs;
-          cleared = written_in chosen.survey.states b;
+          cleared = written_in r.states.items b;
           moves = v.moves + copied;
-          drains = v.drains ++ record { block = b; generation = generation_in chosen.survey.states b } ∷ [];
+          drains = v.drains ++ record { block = b; generation = generation_in r.states.items b } ∷ [];
           ceded = ceded;
         }
         all =
@@ -157,20 +124,12 @@ module _ (f : Flash) (v : View) (b : ℕ) (r : Broom) (chosen : Chosen v b r) (r
             ≡ record (broom_view t) { seen = x.seen; named = x.named; owns = owned; work = x.work; programs = x.programs; cleared = x.cleared; source = x.source; moves = (broom_view t).moves + copied; drains = (broom_view t).drains ++ c ∷ []; ceded = ceded } =
             drained ∙ (λ i. record (went.changed i) { owns = owned; drains = (went.changed i).drains ++ c ∷ []; ceded = ceded }) in
             let e2 : broom_view w
-            ≡ record (view_of_broom r) { seen = x.seen; named = x.named; owns = owned; work = x.work; programs = x.programs; cleared = x.cleared; source = x.source; moves = (view_of_broom r).moves + copied; drains = (view_of_broom r).drains ++ c ∷ []; ceded = ceded } =
+            ≡ record v { seen = x.seen; named = x.named; owns = owned; work = x.work; programs = x.programs; cleared = x.cleared; source = x.source; moves = v.moves + copied; drains = v.drains ++ c ∷ []; ceded = ceded } =
             e1 ∙ (λ i. record (claimed i) { seen = x.seen; named = x.named; owns = owned; work = x.work; programs = x.programs; cleared = x.cleared; source = x.source; moves = (claimed i).moves + copied; drains = (claimed i).drains ++ c ∷ []; ceded = ceded }) in
-            let k = chosen.changed in
-            let e3 : broom_view w
-            ≡ record v { seen = x.seen; loaded = (view_of_broom r).loaded; named = x.named; busy = (view_of_broom r).busy; stale = (view_of_broom r).stale; owns = owned; work = x.work; programs = x.programs; cleared = x.cleared; source = x.source; moves = v.moves + copied; drains = v.drains ++ c ∷ []; ceded = ceded } =
             e2
-            ∙ (λ i. record (k i) { seen = x.seen; named = x.named; owns = owned; work = x.work; programs = x.programs; cleared = x.cleared; source = x.source; moves = (k i).moves + copied; drains = (k i).drains ++ c ∷ []; ceded = ceded }) in
-            e3
             ∙ (λ i. record v {
               seen = x.seen;
-              loaded = (view_of_broom r).loaded;
               named = x.named;
-              busy = (view_of_broom r).busy;
-              stale = (view_of_broom r).stale;
               owns = owned;
               work = x.work;
               programs = x.programs;
@@ -181,45 +140,44 @@ module _ (f : Flash) (v : View) (b : ℕ) (r : Broom) (chosen : Chosen v b r) (r
               ceded = ceded;
             })
 
-        -- its pages, with the survey behind and the drain ahead
-        whole_emptied : Emptied v.numbers.pages (victim_in chosen.survey b) (record v { named = v.named ++ looks_of chosen.survey.pages }) y copied (broom_view w) (own_blocks w)
-        whole_emptied =
-            let pages : pages_of (geometry_of f) ≡ v.numbers.pages = ap (λ (z : Numbers). z.pages) (sym numbers) in
-            let victim : victim_of_state ≡ victim_in chosen.survey b = λ i. record { block = b; generation = generation_is i; written = written_is i } in
-            let programs : (broom_view t).programs ≡ v.programs = ap (λ (z : View). z.programs) claimed ∙ ap (λ (z : View). z.programs) chosen.changed in
-            let work : (broom_view t).work ≡ v.work = ap (λ (z : View). z.work) claimed ∙ ap (λ (z : View). z.work) chosen.changed in
-            let open_ones : BroomBlocks → Option OpenBlock × Option OpenBlock = λ z. (z.destination, z.spare) in
-            let before = ap open_ones blocks ∙ ap open_ones same in
-            let after = ap open_ones free in
-            let P : ℕ × ReclaimedBlock → Type 0 = λ k. Emptied k.0 k.1 (record v { named = v.named ++ looks_of chosen.survey.pages }) y copied (broom_view w) (own_blocks w) in
-            subst P (λ i. (pages i, victim i))
-            (emptied_same (pages_of (geometry_of f)) copied victim_of_state (broom_view t) (record v { named = v.named ++ looks_of chosen.survey.pages }) (broom_view u) (broom_view w) (own_blocks t) y (own_blocks u) (own_blocks w) named_is programs work
-            (ap (λ (z : View). z.named) drained) (ap (λ (z : View). z.programs) drained) (ap (λ (z : View). z.work) drained) before after emptied)
+        -- no state was loaded
+        pub drained_loaded : (broom_view w).loaded ≡ v.loaded
+        drained_loaded = ap (λ (x : View). x.loaded) all
 
-        pub did_drain : DidDrain v y b copied (broom_view w) (own_blocks w)
+        -- its pages, with the claim behind and the drain ahead
+        whole_emptied : Emptied v.numbers.pages (block_in r.states.items b) v (own_blocks r.seat) copied (broom_view w) (own_blocks w)
+        whole_emptied =
+            let pages : pages_of (geometry_of f) ≡ v.numbers.pages = ap (λ (z : Numbers). z.pages) (sym ready.rested.seat.numbers) in
+            let victim : victim_of_state ≡ block_in r.states.items b = λ i. record { block = b; generation = generation_is i; written = written_is i } in
+            let open_ones : BroomBlocks → Option OpenBlock × Option OpenBlock = λ z. (z.destination, z.spare) in
+            let before = ap open_ones blocks in
+            let after = ap open_ones free in
+            let P : ℕ × ReclaimedBlock → Type 0 = λ k. Emptied k.0 k.1 v (own_blocks r.seat) copied (broom_view w) (own_blocks w) in
+            subst P (λ i. (pages i, victim i))
+            (emptied_same (pages_of (geometry_of f)) copied victim_of_state (broom_view t) v (broom_view u) (broom_view w) (own_blocks t) (own_blocks r.seat) (own_blocks u) (own_blocks w) (ap (λ (z : View). z.named) claimed) (ap (λ (z : View). z.programs) claimed)
+            (ap (λ (z : View). z.work) claimed) (ap (λ (z : View). z.named) drained) (ap (λ (z : View). z.programs) drained) (ap (λ (z : View). z.work) drained) before after emptied)
+
+        pub did_drain : DidDrainAgain v (own_blocks r.seat) r.states.items b copied (broom_view w) (own_blocks w)
         did_drain =
             let e = all in
+            let seen : (broom_view t).seen ≡ v.seen = ap (λ (y : View). y.seen) claimed in
+            let last : (broom_view w).seen ≡ (broom_view u).seen = ap (λ (y : View). y.seen) drained in
             record {
-              survey = chosen.survey;
-              made = made_whole;
-              victim = chosen.victim;
+              later = let P : List Call × List Call → Type 0 = λ y. Begins y.0 y.1 in subst P (λ i. (seen i, sym last i)) went.later;
               emptied = whole_emptied;
               room = λ o is.
-                  let left = (sweeps.destination o (sym (ap (λ (z : BroomBlocks). z.destination) free) ∙ is)).room in subst (λ (z : Numbers). o.written < z.pages) (sym numbers) left;
-              reclaiming = ap (λ (z : BroomBlocks). z.reclaiming) free ∙ (sym ready.rested.reclaiming ∙ ap (λ (z : BroomBlocks). z.reclaiming) same);
+                  let left = (sweeps.destination o (sym (ap (λ (z : BroomBlocks). z.destination) free) ∙ is)).room in subst (λ (z : Numbers). o.written < z.pages) (sym ready.rested.seat.numbers) left;
+              reclaiming = ap (λ (z : BroomBlocks). z.reclaiming) free ∙ sym ready.rested.reclaiming;
               changed = e
                   ∙ (λ i. record v {
                     seen = (sym e i).seen;
-                    loaded = (sym e i).loaded;
                     named = (sym e i).named;
-                    busy = (sym e i).busy;
-                    stale = (sym e i).stale;
                     owns = (sym e i).owns;
                     work = (sym e i).work;
                     programs = (sym e i).programs;
-                    cleared = written_in chosen.survey.states b;
+                    cleared = written_in r.states.items b;
                     moves = v.moves + copied;
-                    drains = v.drains ++ record { block = b; generation = generation_in chosen.survey.states b } ∷ [];
+                    drains = v.drains ++ record { block = b; generation = generation_in r.states.items b } ∷ [];
                     ceded = (sym e i).ceded;
                   });
             }
@@ -239,3 +197,140 @@ module _ (f : Flash) (v : View) (b : ℕ) (r : Broom) (chosen : Chosen v b r) (r
               whole = ap (λ (y : View). y.whole) drained ∙ (ap (λ (y : View). y.whole) went.changed ∙ (ap (λ (y : View). y.whole) claimed ∙ h.whole));
               alone = ap (λ (y : View). y.guest) drained ∙ (ap (λ (y : View). y.guest) went.changed ∙ (ap (λ (y : View). y.guest) claimed ∙ h.alone));
             }
+
+-- ---- a drain of a survey's victim is a drain
+module _ (v : View) (b : ℕ) (r after : Broom) (chosen : Chosen v b r) (x : BroomBlocks) (same : blocks_of_broom r ≡ x) where
+  abbrev u : View
+  u = view_of_broom r
+
+  abbrev w : View
+  w = view_of_broom after
+
+  numbers : u.numbers ≡ v.numbers
+  numbers = ap (λ (z : View). z.numbers) chosen.changed
+
+  -- a survey is a survey still where nothing is loaded, and what is looked at comes behind
+  surveyed_still : w.loaded ≡ u.loaded → Begins u.named w.named → Begins u.seen w.seen → Surveyed v chosen.survey w
+  surveyed_still loaded named later =
+      let behind : u.named ≡ v.named ++ looks_of chosen.survey.pages = ap (λ (z : View). z.named) chosen.changed in
+      record {
+        whole = chosen.made.whole;
+        loaded = loaded ∙ chosen.made.loaded;
+        named = let P : List (ℕ × ℕ) → Type 0 = λ l. Begins l w.named in subst P behind named;
+        later = Begins-trans v.seen u.seen w.seen chosen.made.later later;
+      }
+
+  made_drained : (copied : ℕ) → DidDrainAgain u (blocks_of_broom r) r.states.items b copied w (blocks_of_broom after) → Surveyed v chosen.survey w
+  made_drained copied h = surveyed_still (ap (λ (z : View). z.loaded) h.changed) (looks_in h.emptied.finds, sym h.emptied.named) h.later
+
+  made_lost : LostAgain u b w → Surveyed v chosen.survey w
+  made_lost lost =
+      let named : w.named ≡ u.named = ap (λ (z : View). z.named) lost in
+      let seen : w.seen ≡ u.seen = ap (λ (z : View). z.seen) lost in
+      surveyed_still (ap (λ (z : View). z.loaded) lost) ([], append-nil u.named ∙ sym named) ([], append-nil u.seen ∙ sym seen)
+
+  surveyed_drained : (copied : ℕ) → DidDrainAgain u (blocks_of_broom r) r.states.items b copied w (blocks_of_broom after) → DidDrain v x b copied w (blocks_of_broom after)
+  surveyed_drained copied h =
+      let c = h.changed in
+      let k = chosen.changed in
+      let victim : block_in r.states.items b ≡ victim_in chosen.survey b = λ i. block_in (sym chosen.kept i) b in
+      let begun : View = record v { named = v.named ++ looks_of chosen.survey.pages } in
+      let emptied : Emptied v.numbers.pages (victim_in chosen.survey b) u x copied w (blocks_of_broom after) =
+      let P : Numbers × ReclaimedBlock × BroomBlocks → Type 0 = λ y. Emptied y.0.pages y.1 u y.2 copied w (blocks_of_broom after) in subst P (λ i. (numbers i, victim i, same i)) h.emptied in
+      let named : u.named ≡ v.named ++ looks_of chosen.survey.pages = ap (λ (z : View). z.named) k in
+      record {
+        survey = chosen.survey;
+        made = made_drained copied h;
+        victim = chosen.victim;
+        emptied = emptied_same v.numbers.pages copied (victim_in chosen.survey b) u begun w w x x (blocks_of_broom after) (blocks_of_broom after) named (ap (λ (z : View). z.programs) k) (ap (λ (z : View). z.work) k) refl refl refl refl refl emptied;
+        room = λ o is. subst (λ (z : Numbers). o.written < z.pages) numbers (h.room o is);
+        reclaiming = h.reclaiming ∙ ap (λ (z : BroomBlocks). z.reclaiming) same;
+        changed =
+            let all : w
+            ≡ record v { seen = w.seen; loaded = u.loaded; named = w.named; busy = u.busy; stale = u.stale; owns = w.owns; work = w.work; programs = w.programs; cleared = (block_in r.states.items b).written; moves = v.moves + copied; drains = v.drains ++ record { block = b; generation = (block_in r.states.items b).generation } ∷ []; ceded = w.ceded } =
+            c ∙ (λ i. record (k i) { seen = w.seen; named = w.named; owns = w.owns; work = w.work; programs = w.programs; cleared = (block_in r.states.items b).written; moves = (k i).moves + copied; drains = (k i).drains ++ record { block = b; generation = (block_in r.states.items b).generation } ∷ []; ceded = w.ceded }) in
+            all
+            ∙ (λ i. record v {
+              seen = w.seen;
+              loaded = (sym all i).loaded;
+              named = w.named;
+              busy = (sym all i).busy;
+              stale = (sym all i).stale;
+              owns = w.owns;
+              work = w.work;
+              programs = w.programs;
+              cleared = (victim i).written;
+              moves = v.moves + copied;
+              drains = v.drains ++ record { block = b; generation = (victim i).generation } ∷ [];
+              ceded = w.ceded;
+            });
+      }
+
+  surveyed_lost : LostAgain u b w → LostClaim v w
+  surveyed_lost lost =
+      let k = chosen.changed in
+      let all = lost ∙ (λ i. record (k i) { lost = (k i).lost ++ b ∷ [] }) in
+      record {
+        survey = chosen.survey;
+        made = made_lost lost;
+        block = b;
+        victim = chosen.victim;
+        changed = all ∙ (λ i. record v { seen = (sym all i).seen; loaded = (sym all i).loaded; named = v.named ++ looks_of chosen.survey.pages; busy = (sym all i).busy; stale = (sym all i).stale; lost = v.lost ++ b ∷ [] });
+      }
+
+-- what a drain of a survey's victim tells
+pub drain_told : (before r after : Broom) (b : ℕ) (answer : Drain) → Chosen (view_of_broom before) b r → blocks_of_broom r ≡ blocks_of_broom before → MarkedTold r b answer after → DrainTold before answer after
+drain_told before r after b (drain.Drained block copied) chosen same told =
+    let did = surveyed_drained (view_of_broom before) b r after chosen (blocks_of_broom before) same copied told.1 in
+    subst (λ k. DidDrain (view_of_broom before) (blocks_of_broom before) k copied (view_of_broom after) (blocks_of_broom after)) (sym told.0) did
+drain_told before r after b drain.NothingToGain chosen same told = absurd told
+drain_told before r after b drain.NoSpare chosen same told = absurd told
+drain_told before r after b drain.Lost chosen same told = (surveyed_lost (view_of_broom before) b r after chosen (blocks_of_broom before) same told.0, told.1 ∙ same)
+drain_told before r after b drain.QueueFull chosen same told = absurd told
+
+-- what a drain of a survey's victim leaves
+pub drain_left : (before r after : Broom) (b : ℕ) (answer : Drain) → Chosen (view_of_broom before) b r → blocks_of_broom r ≡ blocks_of_broom before → MarkedTold r b answer after → Unmarks r b after → SurveyLeft before answer after
+drain_left before r after b (drain.Drained block copied) chosen same told marks = (
+  chosen.survey,
+  record { made = made_drained (view_of_broom before) b r after chosen (blocks_of_broom before) same copied told.1; states = marks.states ∙ sym chosen.kept; counts = marks.counts ∙ chosen.counts; marks = marks.marks ∙ (λ i. set (chosen.marks i) (sym told.0 i) false) },
+)
+drain_left before r after b drain.NothingToGain chosen same told marks = absurd told
+drain_left before r after b drain.NoSpare chosen same told marks = absurd told
+drain_left before r after b drain.Lost chosen same told marks = (
+  chosen.survey,
+  b,
+  chosen.victim,
+  record { made = made_lost (view_of_broom before) b r after chosen (blocks_of_broom before) same told.0; states = marks.states ∙ sym chosen.kept; counts = marks.counts ∙ chosen.counts; marks = marks.marks ∙ (λ i. set (chosen.marks i) b false) },
+)
+drain_left before r after b drain.QueueFull chosen same told marks = absurd told
+
+-- what a drain of the next block tells
+pub next_told : (before after : Broom) (b : ℕ) (answer : Drain) → IsNext before b → MarkedTold before b answer after → Unmarks before b after → NextTold before answer after
+next_told before after b (drain.Drained block copied) next told marks = (
+  subst (IsNext before) (sym told.0) next,
+  subst (λ k. DidDrainAgain (view_of_broom before) (blocks_of_broom before) before.states.items k copied (view_of_broom after) (blocks_of_broom after)) (sym told.0) told.1,
+  subst (λ k. Unmarks before k after) (sym told.0) marks,
+)
+next_told before after b drain.NothingToGain next told marks = absurd told
+next_told before after b drain.NoSpare next told marks = absurd told
+next_told before after b drain.Lost next told marks = (b, next, told.0, told.1, marks)
+next_told before after b drain.QueueFull next told marks = absurd told
+
+-- ---- a drain of the next block, which ranks the blocks first where the survey is new
+marked_ranked : (before after : Broom) (ranking : Ranking) (b : ℕ) (answer : Drain) → MarkedTold (record before { ranking = ranking }) b answer after → MarkedTold before b answer after
+marked_ranked before after ranking b (drain.Drained block copied) told = told
+marked_ranked before after ranking b drain.NothingToGain told = told
+marked_ranked before after ranking b drain.NoSpare told = told
+marked_ranked before after ranking b drain.Lost told = told
+marked_ranked before after ranking b drain.QueueFull told = told
+
+pub next_ranked : (before r after : Broom) (b : ℕ) (answer : Drain) → HasOnlyRanked before r → IsNext before b → MarkedTold r b answer after → Unmarks r b after → NextTold before answer after
+next_ranked before r after b answer rest next told marks =
+    let same = marked_ranked before after r.ranking b answer (subst (λ (x : Broom). MarkedTold x b answer after) rest told) in
+    next_told before after b answer next same (record { states = marks.states ∙ ap states_kept rest; counts = marks.counts ∙ ap counts_kept rest; marks = marks.marks ∙ ap (λ (x : Broom). set (marks_of x) b false) rest })
+
+pub none_ranked : (before r : Broom) → HasOnlyRanked before r → GainsNothingNext before → NextTold before drain.NothingToGain r
+none_ranked before r rest none = (none, ap view_of_broom rest, ap blocks_of_broom rest, record { states = ap states_kept rest; counts = ap counts_kept rest; marks = ap marks_of rest })
+
+pub handed_ranked : (before r after : Broom) → HasOnlyRanked before r → HandsNothing r after → HandsNothing before after
+handed_ranked before r after rest h = record { place = h.place ∙ ap place_of rest; aside = h.aside ∙ ap aside_of rest }

@@ -1,7 +1,9 @@
 pub mod Leaving
 pub mod Loading
 pub mod Counting
+pub mod Ranks
 pub mod Choosing
+pub mod Marking
 pub mod Emptying
 pub mod Sweeping
 pub mod Copying
@@ -9,6 +11,7 @@ pub mod Clearing
 pub mod Drains
 pub mod Wiping
 pub mod Renewing
+pub mod Sparing
 pub mod Tying
 pub mod Keeping
 pub mod Turning

@@ -16,7 +16,8 @@ use Rattle.flash_table.specs.declared.broom_seat.BroomBlocks.{BroomBlocks}
 use Rattle.flash_table.specs.declared.broom_seat.BroomSeat.{BroomSeat}
 use Rattle.flash_table.specs.Flash.{IsBroomOf, broom_view, own_blocks, device}
 use Rattle.broom.specs.Survey.{loads_of, is_closed, closed_of}
-use Rattle.broom.specs.Surveying.{IsInRange, StatesLoaded}
+use Rattle.broom.specs.Ready.{IsInRange}
+use Rattle.broom.specs.Surveying.{StatesLoaded}
 
 -- ---- numbered lists
 pub enumerate_more : {X : Type 0} (k n : ℕ) (xs : List X) (x : X) → length xs ≡ n → enumerate_from k (xs ++ x ∷ []) ≡ enumerate_from k xs ++ (k + n, x) ∷ []

@@ -8,7 +8,7 @@ use Rattle.broom.specs.declared.answer.Drain.{Drain}
 use Rattle.broom.specs.declared.answer.Drain.TheVariants as drain
 use Rattle.broom.specs.declared.answer.Erase.{Erase}
 use Rattle.broom.specs.declared.answer.Erase.TheVariants as erase
-use Rattle.broom.specs.Told.{DrainTold}
+use Rattle.broom.specs.Told.{DrainTold, NextTold, SurveyLeft, Unmarks}
 use Rattle.broom.specs.Erasing.{EraseTold}
 
 -- a broom's place at the queue
@@ -73,32 +73,41 @@ pub record FoundNone (before after : Broom) : Type 0 where
   pub still : aside_of after ≡ None
   pub empty : WasEmpty (place_of before) (place_of after)
 
--- What was set aside was put first. Then the broom made a drain with this answer, and did nothing else
-pub record DrainedAfterPut (before : Broom) (answer : Drain) (after : Broom) : Type 0 where
+-- What was set aside was put first. Then the broom made a drain of this kind with this answer, and did nothing else
+pub record DrainedAfterPut (Told : Broom → Drain → Broom → Type 0) (before : Broom) (answer : Drain) (after : Broom) : Type 0 where
   pub relieved : Broom
   pub first : Relieved before relieved
-  pub drain : DrainTold relieved answer after
+  pub drain : Told relieved answer after
   pub apart : HandsNothing relieved after
 
 -- What was set aside was put first. Then the broom drained this block, and handed it on
-pub record DrainedAndHandedOn (limit : ℕ) (before : Broom) (block copied : ℕ) (after : Broom) : Type 0 where
+pub record DrainedAndHandedOn (Told : Broom → Drain → Broom → Type 0) (limit : ℕ) (before : Broom) (block copied : ℕ) (after : Broom) : Type 0 where
   pub drained : Broom
-  pub drain : DrainedAfterPut before (drain.Drained block copied) drained
+  pub drain : DrainedAfterPut Told before (drain.Drained block copied) drained
   pub handed : HandedOn limit drained block after
 
--- What each answer of a turn that drains tells
-abbrev pub DrainOneTold : ℕ → Broom → Drain → Broom → Type 0
-DrainOneTold limit before (drain.Drained block copied) after = DrainedAndHandedOn limit before block copied after
-DrainOneTold limit before drain.NothingToGain after = DrainedAfterPut before drain.NothingToGain after
-DrainOneTold limit before drain.NoSpare after = DrainedAfterPut before drain.NoSpare after
-DrainOneTold limit before drain.Lost after = DrainedAfterPut before drain.Lost after
-DrainOneTold limit before drain.QueueFull after = Stuck limit before after
+-- what each answer of a turn with a drain of this kind tells
+abbrev pub TurnTold : (Broom → Drain → Broom → Type 0) → ℕ → Broom → Drain → Broom → Type 0
+TurnTold Told limit before (drain.Drained block copied) after = DrainedAndHandedOn Told limit before block copied after
+TurnTold Told limit before drain.NothingToGain after = DrainedAfterPut Told before drain.NothingToGain after
+TurnTold Told limit before drain.NoSpare after = DrainedAfterPut Told before drain.NoSpare after
+TurnTold Told limit before drain.Lost after = DrainedAfterPut Told before drain.Lost after
+TurnTold Told limit before drain.QueueFull after = Stuck limit before after
 
--- A block was fetched. Then the broom made an erase of it with this answer, and did nothing else
+-- what each answer of a turn that drains tells; its drain leaves its survey
+abbrev pub DrainOneTold : ℕ → Broom → Drain → Broom → Type 0
+DrainOneTold limit before answer after = TurnTold (λ b given x. DrainTold b given x × SurveyLeft b given x) limit before answer after
+
+-- what each answer of a turn that drains by the last survey tells
+abbrev pub DrainNextOneTold : ℕ → Broom → Drain → Broom → Type 0
+DrainNextOneTold limit before answer after = TurnTold NextTold limit before answer after
+
+-- A block was fetched. Then the broom made an erase of it with this answer, by which the block isn't marked any more, and did nothing else
 pub record FetchedAndErased (before : Broom) (block : ℕ) (answer : Erase) (after : Broom) : Type 0 where
   pub fetched : Broom
   pub first : Fetched before block fetched
   pub erase : EraseTold fetched block answer after
+  pub marks : Unmarks fetched block after
   pub apart : HandsNothing fetched after
 
 -- A block was fetched and not erased, since it had readers, and was handed on again

@@ -1,10 +1,12 @@
 -- What public contracts rest on.
 pub mod Survey
+pub mod Ranking
 pub mod Ready
 pub mod Once
 pub mod Emptying
 pub mod Told
 pub mod Erasing
+pub mod Restocking
 pub mod Ends
 pub mod Meeting
 pub mod Handing

@@ -1,7 +1,12 @@
 -- A broom between two calls.
-use Rattle.std.specs.Prelude.{◌≡◌, ℕ, ◌<◌, true, None, Some, length}
+use Rattle.std.specs.Prelude.{◌≡◌, ℕ, ◌<◌, ◌≤◌, ◌==◌, Bool, true, false, List, [], ◌∷◌, Option, None, Some, length, slice_index_or}
 use Rattle.geometry.specs.Geometry.{blocks_of, pages_of, endurance_of}
+use Rattle.geometry.specs.Greedy.{IsClosed}
+use Rattle.geometry.specs.Limits.{Numbers}
+use Rattle.geometry.specs.PinWords.{FitsPin, pin_word}
 use Rattle.geometry.specs.declared.geometry.Geometry.{Geometry}
+use Rattle.geometry.specs.declared.pin_word.Phase.TheVariants.{Closed}
+use Rattle.geometry.specs.declared.pin_word.PinWord.{PinWord}
 use Rattle.flash_rule.specs.declared.facts.Work.{Work}
 use Rattle.flash_rule.specs.declared.view.View.{View}
 use Rattle.flash_rule.specs.Views.{AreOfHosts}
@@ -10,7 +15,8 @@ use Rattle.flash_table.specs.declared.pass.OpenBlock.{OpenBlock}
 use Rattle.flash_table.specs.declared.broom_seat.BroomBlocks.{BroomBlocks}
 use Rattle.flash_table.specs.declared.broom_seat.BroomSeat.{BroomSeat}
 use Rattle.flash_table.specs.declared.broom_seat.Reclaiming.TheVariants.{Nothing}
-use Rattle.flash_table.specs.Flash.{IsBroomOf, broom_view, own_blocks, geometry_of}
+use Rattle.flash_table.specs.Flash.{IsBroomOf, broom_view, own_blocks, geometry_of, device}
+use Rattle.broom.specs.Ranking.{Ranks}
 use Rattle.broom.specs.declared.broom.Broom.{Broom}
 
 -- a broom's seat at the table
@@ -24,6 +30,14 @@ view_of_broom b = broom_view b.seat
 -- the blocks of its own
 abbrev pub blocks_of_broom : Broom → BroomBlocks
 blocks_of_broom b = own_blocks b.seat
+
+-- for each block whether it is marked
+abbrev pub marks_of : Broom → List Bool
+marks_of b = b.closed.items
+
+-- no block is marked
+abbrev pub HasNoMarks : Broom → Type 0
+HasNoMarks b = (k : ℕ) → ¬ (IsClosed (marks_of b) k)
 
 -- An open block is of this device, with fewer pages written than this, in a generation below the endurance
 pub record HasRoom (g : Geometry) (most : ℕ) (o : OpenBlock) : Type 0 where
@@ -48,12 +62,42 @@ pub record IsRested (f : Flash) (s : BroomSeat) : Type 0 where
   pub whole : (broom_view s).whole ≡ true
   pub alone : (broom_view s).guest ≡ None
 
--- A broom between two calls: its seat is at rest, and it has the room for a survey
+-- The state has room in its word, the generation is below the endurance, and no more pages are written than there are
+pub record IsInRange (z : Numbers) (p : PinWord) : Type 0 where
+  pub fits : FitsPin p
+  pub young : p.generation < z.endurance
+  pub within : p.written ≤ z.pages
+
+-- a word, unless a later one was loaded
+abbrev pub unless_later : Bool → ℕ → Option ℕ → Option ℕ
+unless_later here word (Some later) = Some later
+unless_later true word None = Some word
+unless_later false word None = None
+
+-- the word of this block that was loaded last, if one was
+abbrev pub last_of : ℕ → List (ℕ × ℕ) → Option ℕ
+last_of b [] = None
+last_of b (load ∷ later) = unless_later (load.0 == b) load.1 (last_of b later)
+
+-- The state of this block as the broom loaded it last: it was closed then
+pub record IsMarked (z : Numbers) (v : View) (b : ℕ) (p : PinWord) : Type 0 where
+  pub range : IsInRange z p
+  pub closed : p.phase ≡ Closed
+  pub last : last_of b v.loaded ≡ Some (pin_word p)
+
+-- of each marked block the state that is kept is the one loaded last, and it was closed then
+abbrev pub AreMarked : Numbers → View → List PinWord → List Bool → Type 0
+AreMarked z v states marks = (b : ℕ) (d : PinWord) → IsClosed marks b → IsMarked z v b (slice_index_or states b d)
+
+-- A broom between two calls: its seat is at rest, it has the room for a survey, the state that it keeps of each block that is still marked is
+-- the one that it loaded last, and its ranking is one of the marked blocks
 pub record IsReady (f : Flash) (b : Broom) : Type 0 where
   pub rested : IsRested f b.seat
   pub states : length b.states.items ≡ blocks_of (geometry_of f)
   pub counts : length b.counts.items ≡ blocks_of (geometry_of f)
   pub closed : length b.closed.items ≡ blocks_of (geometry_of f)
+  pub marks : AreMarked (device f) (broom_view b.seat) b.states.items b.closed.items
+  pub ranking : Ranks b.counts.items b.closed.items b.ranking
 
 -- a seat was handed back as it was
 abbrev pub IsSameSeat : BroomSeat → BroomSeat → Type 0

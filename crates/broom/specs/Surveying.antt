@@ -1,24 +1,17 @@
 -- The two parts of a survey, and the victim that is chosen.
-use Rattle.std.specs.Prelude.{◌≡◌, ℕ, ◌<◌, ◌≤◌, All, List, Bool, ◌++◌, Option, IfSome, MatchOption, length}
+use Rattle.std.specs.Prelude.{◌≡◌, ℕ, ◌<◌, All, List, Bool, ◌++◌, Option, IfSome, MatchOption, length}
 use Rattle.geometry.specs.Greedy.{IsClosed}
 use Rattle.geometry.specs.History.{Begins}
 use Rattle.geometry.specs.Limits.{Numbers}
 use Rattle.geometry.specs.MapWords.{FitsMap}
-use Rattle.geometry.specs.PinWords.{FitsPin}
 use Rattle.geometry.specs.declared.map_word.MapWord.{MapWord}
 use Rattle.geometry.specs.declared.pin_word.PinWord.{PinWord}
 use Rattle.flash_rule.specs.declared.view.View.{View}
 use Rattle.flash_rule.specs.Views.{AreOfHosts}
 use Rattle.broom.specs.declared.broom.Broom.{Broom}
 use Rattle.broom.specs.Survey.{Survey, IsVictim, counts_of, closed_of, loads_of, looks_of}
-use Rattle.broom.specs.Ready.{view_of_broom}
-use Rattle.broom.specs.Told.{GainedNothing, Surveyed}
-
--- The state has room in its word, the generation is below the endurance, and no more pages are written than there are
-pub record IsInRange (z : Numbers) (p : PinWord) : Type 0 where
-  pub fits : FitsPin p
-  pub young : p.generation < z.endurance
-  pub within : p.written ≤ z.pages
+use Rattle.broom.specs.Ready.{IsInRange, view_of_broom}
+use Rattle.broom.specs.Told.{GainedNothing, Surveyed, LeftSurvey}
 
 -- The states of the blocks were loaded in order, and the closed ones are marked
 pub record StatesLoaded (z : Numbers) (v : View) (states : List PinWord) (closed : List Bool) (w : View) : Type 0 where
@@ -42,11 +35,18 @@ pub record Chosen (v : View) (block : ℕ) (after : Broom) : Type 0 where
   pub made : Surveyed v survey (view_of_broom after)
   pub victim : IsVictim survey v.numbers.pages block
   pub kept : survey.states ≡ after.states.items
+  pub counts : after.counts.items ≡ counts_of survey
+  pub marks : after.closed.items ≡ closed_of survey.states
   pub low : block < length survey.states
   pub closed : IsClosed (closed_of survey.states) block
   pub ranges : All (IsInRange v.numbers) survey.states
   pub changed : view_of_broom after ≡ record v { seen = (view_of_broom after).seen; loaded = (view_of_broom after).loaded; named = v.named ++ looks_of survey.pages; busy = (view_of_broom after).busy; stale = (view_of_broom after).stale }
 
+-- A survey was made, which the broom keeps, and by it there is nothing to gain
+pub record ChoseNone (v : View) (after : Broom) : Type 0 where
+  pub gained : GainedNothing v (view_of_broom after)
+  pub left : (x : Survey) × LeftSurvey v x (closed_of x.states) after
+
 -- a survey was made, and its victim chosen, or there was nothing to gain
 abbrev pub Chooses : View → Option ℕ → Broom → Type 0
-Chooses v victim after = MatchOption victim (GainedNothing v (view_of_broom after)) (λ block. Chosen v block after)
+Chooses v victim after = MatchOption victim (ChoseNone v after) (λ block. Chosen v block after)

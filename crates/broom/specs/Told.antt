@@ -1,6 +1,8 @@
 -- What a drain tells of what its broom knows, before and after.
-use Rattle.std.specs.Prelude.{◌≡◌, ℕ, ◌+◌, ◌<◌, [], ◌∷◌, ◌++◌, None, Some}
+use Rattle.std.specs.Prelude.{◌≡◌, ℕ, ◌+◌, ◌<◌, Bool, false, List, [], ◌∷◌, ◌++◌, Option, None, Some, IfSome, slice_index, slice_set}
+use Rattle.geometry.specs.Greedy.{greedy_of}
 use Rattle.geometry.specs.History.{Begins}
+use Rattle.geometry.specs.declared.pin_word.PinWord.{PinWord}
 use Rattle.flash_rule.specs.declared.view.View.{View}
 use Rattle.flash_table.specs.declared.broom_seat.BroomBlocks.{BroomBlocks}
 use Rattle.flash_table.specs.declared.broom_seat.ReclaimedBlock.{ReclaimedBlock}
@@ -8,9 +10,9 @@ use Rattle.flash_table.specs.declared.pass.OpenBlock.{OpenBlock}
 use Rattle.broom.specs.declared.broom.Broom.{Broom}
 use Rattle.broom.specs.declared.answer.Drain.{Drain}
 use Rattle.broom.specs.declared.answer.Drain.TheVariants as drain
-use Rattle.broom.specs.Survey.{Survey, IsSurvey, GainsNothing, IsVictim, loads_of, looks_of, generation_in, written_in}
+use Rattle.broom.specs.Survey.{Survey, IsSurvey, GainsNothing, IsVictim, loads_of, looks_of, generation_in, written_in, counts_of, closed_of}
 use Rattle.broom.specs.Emptying.{Emptied}
-use Rattle.broom.specs.Ready.{view_of_broom, blocks_of_broom}
+use Rattle.broom.specs.Ready.{view_of_broom, blocks_of_broom, marks_of}
 
 -- A survey was made: the state of each block was loaded in order, and then each sector looked at in order, with these words
 pub record Surveyed (v : View) (x : Survey) (w : View) : Type 0 where
@@ -76,3 +78,98 @@ DrainTold before drain.NothingToGain after = GainedNothing (view_of_broom before
 DrainTold before drain.NoSpare after = HadNoSpare before after
 DrainTold before drain.Lost after = LostClaim (view_of_broom before) (view_of_broom after) × (blocks_of_broom after ≡ blocks_of_broom before)
 DrainTold before drain.QueueFull after = ⊥
+
+-- a block in its generation and with its pages written as its state among these has them
+abbrev pub block_in : List PinWord → ℕ → ReclaimedBlock
+block_in states b = record { block = b; generation = generation_in states b; written = written_in states b }
+
+-- This block was drained, in its generation as loaded: no map word names it any more. No state was loaded, and no sector was looked at but
+-- where the stamp of a page of this block names it. It was emptied page by page, as a drain does it
+pub record DidDrainAgain (v : View) (x : BroomBlocks) (states : List PinWord) (block copied : ℕ) (w : View) (y : BroomBlocks) : Type 0 where
+  pub later : Begins v.seen w.seen
+  pub emptied : Emptied v.numbers.pages (block_in states block) v x copied w y
+  pub room : (o : OpenBlock) → y.destination ≡ Some o → o.written < v.numbers.pages
+  pub reclaiming : y.reclaiming ≡ x.reclaiming
+  pub changed : w ≡ record v {
+    seen = w.seen;
+    named = w.named;
+    owns = w.owns;
+    work = w.work;
+    programs = w.programs;
+    cleared = written_in states block;
+    moves = v.moves + copied;
+    drains = v.drains ++ record { block = block; generation = generation_in states block } ∷ [];
+    ceded = w.ceded;
+  }
+
+-- the claim of this block failed, and nothing else was done
+abbrev pub LostAgain : View → ℕ → View → Type 0
+LostAgain v block w = w ≡ record v { lost = v.lost ++ block ∷ [] }
+
+-- the live pages of each block by the survey that the broom made last
+abbrev pub counts_kept : Broom → List ℕ
+counts_kept b = b.counts.items
+
+-- the states that it keeps
+abbrev pub states_kept : Broom → List PinWord
+states_kept b = b.states.items
+
+-- the block to be drained next: of those still marked the one with the fewest live pages, the lowest on a tie
+abbrev pub next_of : Broom → Option ℕ
+next_of b = greedy_of b.counts.items b.closed.items
+
+-- the broom has changed in its ranking of the marked blocks, and in nothing else
+abbrev pub HasOnlyRanked : Broom → Broom → Type 0
+HasOnlyRanked before after = after ≡ record before { ranking = after.ranking }
+
+-- there is nothing to gain: no block is marked any more, or the one to be drained next had as many live pages as a block has pages
+abbrev pub GainsNothingNext : Broom → Type 0
+GainsNothingNext b = IfSome (next_of b) (λ block. slice_index (counts_kept b) block ≡ (view_of_broom b).numbers.pages)
+
+-- This block is the one to be drained next, and not all of its pages were live
+pub record IsNext (b : Broom) (block : ℕ) : Type 0 where
+  pub chosen : next_of b ≡ Some block
+  pub gains : ¬ (slice_index (counts_kept b) block ≡ (view_of_broom b).numbers.pages)
+
+-- what each answer of a drain of a marked block tells
+abbrev pub MarkedTold : Broom → ℕ → Drain → Broom → Type 0
+MarkedTold before b (drain.Drained block copied) after = (block ≡ b) × DidDrainAgain (view_of_broom before) (blocks_of_broom before) (states_kept before) b copied (view_of_broom after) (blocks_of_broom after)
+MarkedTold before b drain.NothingToGain after = ⊥
+MarkedTold before b drain.NoSpare after = ⊥
+MarkedTold before b drain.Lost after = LostAgain (view_of_broom before) b (view_of_broom after) × (blocks_of_broom after ≡ blocks_of_broom before)
+MarkedTold before b drain.QueueFull after = ⊥
+
+-- The broom has unmarked this block, and keeps everything else of its last survey
+pub record Unmarks (before : Broom) (block : ℕ) (after : Broom) : Type 0 where
+  pub states : states_kept after ≡ states_kept before
+  pub counts : counts_kept after ≡ counts_kept before
+  pub marks : marks_of after ≡ slice_set (marks_of before) block false
+
+-- The broom keeps everything of its last survey
+pub record KeepsSurvey (before after : Broom) : Type 0 where
+  pub states : states_kept after ≡ states_kept before
+  pub counts : counts_kept after ≡ counts_kept before
+  pub marks : marks_of after ≡ marks_of before
+
+-- what each answer of a drain by the last survey tells
+abbrev pub NextTold : Broom → Drain → Broom → Type 0
+NextTold before (drain.Drained block copied) after = IsNext before block × DidDrainAgain (view_of_broom before) (blocks_of_broom before) (states_kept before) block copied (view_of_broom after) (blocks_of_broom after) × Unmarks before block after
+NextTold before drain.NothingToGain after = GainsNothingNext before × (view_of_broom after ≡ view_of_broom before) × (blocks_of_broom after ≡ blocks_of_broom before) × KeepsSurvey before after
+NextTold before drain.NoSpare after = HadNoSpare before after × KeepsSurvey before after
+NextTold before drain.Lost after = (block : ℕ) × IsNext before block × LostAgain (view_of_broom before) block (view_of_broom after) × (blocks_of_broom after ≡ blocks_of_broom before) × Unmarks before block after
+NextTold before drain.QueueFull after = ⊥
+
+-- A survey was made, and the broom keeps it, with these marks
+pub record LeftSurvey (v : View) (x : Survey) (marked : List Bool) (after : Broom) : Type 0 where
+  pub made : Surveyed v x (view_of_broom after)
+  pub states : states_kept after ≡ x.states
+  pub counts : counts_kept after ≡ counts_of x
+  pub marks : marks_of after ≡ marked
+
+-- What a drain leaves for the next ones: where it made a survey the broom keeps that, and each closed block is marked, but for the victim
+abbrev pub SurveyLeft : Broom → Drain → Broom → Type 0
+SurveyLeft before (drain.Drained block copied) after = (x : Survey) × LeftSurvey (view_of_broom before) x (slice_set (closed_of x.states) block false) after
+SurveyLeft before drain.NothingToGain after = (x : Survey) × LeftSurvey (view_of_broom before) x (closed_of x.states) after
+SurveyLeft before drain.NoSpare after = KeepsSurvey before after
+SurveyLeft before drain.Lost after = (x : Survey) × (block : ℕ) × IsVictim x (view_of_broom before).numbers.pages block × LeftSurvey (view_of_broom before) x (slice_set (closed_of x.states) block false) after
+SurveyLeft before drain.QueueFull after = KeepsSurvey before after

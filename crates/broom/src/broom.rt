@@ -1,7 +1,8 @@
-ghost use Rattle.std.specs.Prelude.{◌≡◌, IfOk, IfErr, length};
+ghost use Rattle.std.specs.Prelude.{◌≡◌, IfOk, IfErr, replicate};
 ghost use Rattle.flash_table.specs.declared.flash.Flash.{Flash};
 ghost use Rattle.flash_table.specs.Flash.{broom_view, own_blocks, geometry_of};
 
+use crate::ranking::Ranking;
 use erase_queue::QueuePass;
 use flash_table::BroomSeat;
 use geometry::{Geometry, Phase, PinWord};
@@ -14,6 +15,7 @@ pub struct Broom {
     pub(crate) states: Vec<PinWord>,
     pub(crate) counts: Vec<u32>,
     pub(crate) closed: Vec<bool>,
+    pub(crate) ranking: Ranking,
     pub(crate) place: QueuePass,
     pub(crate) aside: Option<u32>,
 }
@@ -28,7 +30,7 @@ const NOT_LOADED: PinWord = PinWord {
 
 // A row of so many values.
 fn row<T: Copy>(alloc: Global, places: usize, value: T) -> Result<Vec<T>, AllocError>
-    ensures { IfOk result (λ v. length v.items ≡ places) }
+    ensures { IfOk result (λ v. v.items ≡ replicate places value) }
 {
     let mut row = Vec::with_capacity(alloc, places)?;
     row.resize(places, value)?;
@@ -37,7 +39,7 @@ fn row<T: Copy>(alloc: Global, places: usize, value: T) -> Result<Vec<T>, AllocE
 
 impl Broom {
     ghost use Rattle.std.specs.Prelude.{None};
-    ghost use Rattle.broom.specs.Ready.{IsRested, IsReady, IsSameSeat, view_of_broom, blocks_of_broom};
+    ghost use Rattle.broom.specs.Ready.{HasNoMarks, IsRested, IsReady, IsSameSeat, view_of_broom, blocks_of_broom};
     ghost use Rattle.broom.specs.Handing.{place_of, aside_of};
 
     /// A broom with the room for its surveys of a device of this geometry, and nothing set aside. `Err` is out of memory, and gives the
@@ -52,6 +54,7 @@ impl Broom {
         ensures blocks { IfOk result (λ b. blocks_of_broom b ≡ own_blocks seat) }
         ensures ready { IfOk result (λ b. (f : Flash) → geometry_of f ≡ geometry.now → IsRested f seat → IsReady f b) }
         ensures queue { IfOk result (λ b. (place_of b ≡ place) × (aside_of b ≡ None)) }
+        ensures unmarked { IfOk result HasNoMarks }
         ensures refused { IfErr result (λ back. IsSameSeat seat back.0) }
         ensures place { IfErr result (λ back. back.1 ≡ place) }
     {
@@ -65,11 +68,15 @@ impl Broom {
         let Ok(closed) = row(alloc, blocks, false) else {
             return Err((seat, place));
         };
+        let Ok(ranking) = Ranking::new(alloc, blocks) else {
+            return Err((seat, place));
+        };
         Ok(Broom {
             seat,
             states,
             counts,
             closed,
+            ranking,
             place,
             aside: None,
         })

@@ -9,6 +9,7 @@ ghost use Rattle.broom.specs.Ready.{IsReady};
 ghost use Rattle.broom.specs.Handing.{HandsNothing};
 ghost use Rattle.broom.specs.Renewing.{Kept, Freed};
 ghost use Rattle.broom.specs.Erasing.{EraseTold};
+ghost use Rattle.broom.specs.Told.{Unmarks};
 
 use crate::answer::Erase;
 use crate::broom::Broom;
@@ -20,9 +21,11 @@ pub fn erase<G: Gate>(flash: &Flash, broom: &mut Broom, block: u32, gate: &mut G
     requires broom { IsReady flash.now broom.old }
     requires block { block < blocks_of (geometry_of flash.now) }
     ensures told { EraseTold broom.old block result broom.new }
+    ensures marks { Unmarks broom.old block broom.new }
     ensures ready { IsReady flash.now broom.new }
     ensures queue { HandsNothing broom.old broom.new }
 {
+    broom.closed[block as usize] = false;
     let state = flash.load_state(&mut broom.seat, block);
     if state.phase != Phase::Drained {
         return Erase::Stale;

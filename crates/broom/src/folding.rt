@@ -59,6 +59,7 @@ pub fn retire_broom(flash: &Flash, broom: Broom) -> Folded
         states: _,
         counts: _,
         closed: _,
+        ranking: _,
         place,
         aside: _,
     } = broom;

@@ -4,6 +4,7 @@ ghost use Rattle.geometry.specs.declared.page_addr.PageAddr.{PageAddr};
 ghost use Rattle.flash_table.specs.Flash.{IsPassOf, view_of, opened_of};
 ghost use Rattle.broom.specs.Ready.{IsReady, view_of_broom, blocks_of_broom};
 ghost use Rattle.broom.specs.Handing.{HandsNothing};
+ghost use Rattle.broom.specs.Told.{KeepsSurvey};
 ghost use Rattle.broom.specs.Meeting.{IsPinned, StoodTold, BroomsMet, page_in};
 
 use crate::broom::Broom;
@@ -20,7 +21,9 @@ pub fn meet_brooms(flash: &Flash, first: &mut Broom, second: &mut Broom)
     ensures first_blocks { blocks_of_broom first.new ≡ blocks_of_broom first.old }
     ensures second_blocks { blocks_of_broom second.new ≡ blocks_of_broom second.old }
     ensures first_queue { HandsNothing first.old first.new }
+    ensures first_survey { KeepsSurvey first.old first.new }
     ensures second_queue { HandsNothing second.old second.new }
+    ensures second_survey { KeepsSurvey second.old second.new }
 {
     let note = flash.broom_lend(&mut second.seat);
     flash.broom_take_in(&mut first.seat, note);
@@ -41,6 +44,7 @@ pub fn stand(flash: &Flash, pass: &mut Pass, page: PageAddr, generation: u32, br
     ensures broom { IsReady flash.now broom.new }
     ensures blocks { blocks_of_broom broom.new ≡ blocks_of_broom broom.old }
     ensures queue { HandsNothing broom.old broom.new }
+    ensures survey { KeepsSurvey broom.old broom.new }
 {
     let page = MapWord {
         generation,

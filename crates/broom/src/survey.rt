@@ -1,10 +1,12 @@
 //! The survey that a broom makes before it claims a block: the state of each block, and for each sector its page.
-ghost use Rattle.std.specs.Prelude.{◌≡◌, None, length};
+ghost use Rattle.std.specs.Prelude.{◌≡◌, None, length, IfSome, MatchOption};
 ghost use Rattle.geometry.specs.Geometry.{blocks_of};
 ghost use Rattle.flash_rule.specs.Views.{AreOfHosts};
 ghost use Rattle.flash_table.specs.Flash.{IsBroomOf, broom_view, own_blocks, geometry_of, device};
 ghost use Rattle.broom.specs.Survey as survey;
-ghost use Rattle.broom.specs.Ready.{IsReady, view_of_broom, blocks_of_broom};
+ghost use Rattle.geometry.specs.Greedy.{IsClosed};
+ghost use Rattle.broom.specs.Ready.{IsReady, view_of_broom, blocks_of_broom, marks_of};
+ghost use Rattle.broom.specs.Told.{GainsNothingNext, HasOnlyRanked, IsNext, next_of};
 ghost use Rattle.broom.specs.Handing.{HandsNothing};
 ghost use Rattle.broom.specs.Surveying.{StatesLoaded, PagesCounted, Chooses};
 
@@ -70,14 +72,42 @@ fn count_pages(flash: &Flash, seat: &mut BroomSeat, states: &[PinWord], counts: 
 pub(crate) fn choose(flash: &Flash, broom: &mut Broom) -> Option<u32>
     requires { IsReady flash.now broom.old }
     ensures told { Chooses (view_of_broom broom.old) result broom.new }
+    ensures marked { IfSome result (λ block. IsClosed (marks_of broom.new) block) }
     ensures ready { IsReady flash.now broom.new }
     ensures blocks { blocks_of_broom broom.new ≡ blocks_of_broom broom.old }
     ensures queue { HandsNothing broom.old broom.new }
 {
     load_states(flash, &mut broom.seat, &mut broom.states, &mut broom.closed);
     count_pages(flash, &mut broom.seat, &broom.states, &mut broom.counts);
-    let victim = greedy(&broom.counts, &broom.closed)?;
-    if broom.counts[victim] == flash.geometry().pages() {
+    broom.ranking.forget();
+    let victim = greedy(&broom.counts, &broom.closed);
+    gains(flash, broom, victim)
+}
+
+// Chooses the block to be drained next by the last survey, if there is something to gain. It ranks the blocks where the survey is new.
+pub(crate) fn choose_next(flash: &Flash, broom: &mut Broom) -> Option<u32>
+    requires { IsReady flash.now broom.old }
+    ensures told { MatchOption result (GainsNothingNext broom.old) (IsNext broom.old) }
+    ensures marked { IfSome result (IsClosed (marks_of broom.old)) }
+    ensures rest { HasOnlyRanked broom.old broom.new }
+    ensures ready { IsReady flash.now broom.new }
+{
+    let victim = broom.ranking.first(&broom.counts, &broom.closed);
+    gains(flash, broom, victim)
+}
+
+// The block to be drained next, if not all of its pages are live.
+fn gains(flash: &Flash, broom: &Broom, victim: Option<usize>) -> Option<u32>
+    requires ready { IsReady flash.now broom.now }
+    requires next { victim ≡ next_of broom.now }
+    ensures told { MatchOption result (GainsNothingNext broom.now) (IsNext broom.now) }
+    ensures marked { IfSome result (IsClosed (marks_of broom.now)) }
+{
+    let Some(victim) = victim else {
+        return None;
+    };
+    let pages = flash.geometry().pages();
+    if broom.counts[victim] == pages {
         return None;
     }
     Some(victim as u32)

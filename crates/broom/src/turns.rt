@@ -4,11 +4,11 @@ ghost use Rattle.geometry.specs.Geometry.{blocks_of};
 ghost use Rattle.erase_queue.specs.Queue.{limit_of};
 ghost use Rattle.flash_table.specs.Flash.{geometry_of};
 ghost use Rattle.broom.specs.Ready.{IsReady};
-ghost use Rattle.broom.specs.Handing.{IsQueued, DrainOneTold, EraseOneTold};
+ghost use Rattle.broom.specs.Handing.{IsQueued, DrainOneTold, DrainNextOneTold, EraseOneTold};
 
 use crate::answer::{Drain, Erase};
 use crate::broom::Broom;
-use crate::draining::drain;
+use crate::draining::{drain, drain_next};
 use crate::erasing::erase;
 use crate::handing::{fetch, hand_on, relieve};
 use erase_queue::EraseQueue;
@@ -36,6 +36,33 @@ pub fn drain_one<G: Gate>(
         return Drain::QueueFull;
     }
     let answer = drain(flash, broom, gate);
+    let Drain::Drained { block, copied } = answer else {
+        return answer;
+    };
+    hand_on(queue, rt, broom, block);
+    Drain::Drained { block, copied }
+}
+
+/// A drain by the survey that the broom made last, whose block goes on as that of `drain_one` does.
+#[tactic(auto, using(crate::proofs::Keeping::still_at, crate::proofs::Keeping::still_queued))]
+pub fn drain_next_one<G: Gate>(
+    flash: &Flash,
+    queue: &EraseQueue,
+    rt: &impl Wait,
+    broom: &mut Broom,
+    gate: &mut G,
+) -> Drain
+    requires limit { limit_of queue.now ≡ blocks_of (geometry_of flash.now) }
+    requires ready { IsReady flash.now broom.old }
+    requires queued { IsQueued queue.now broom.old }
+    ensures told { DrainNextOneTold (limit_of queue.now) broom.old result broom.new }
+    ensures ready { IsReady flash.now broom.new }
+    ensures queued { IsQueued queue.now broom.new }
+{
+    if !relieve(queue, rt, broom) {
+        return Drain::QueueFull;
+    }
+    let answer = drain_next(flash, broom, gate);
     let Drain::Drained { block, copied } = answer else {
         return answer;
     };

@@ -1,6 +1,5 @@
 -- A die as the standard sees it: blocks, each a list of programmed pages.
 use Rattle.std.specs.Prelude.{ℕ, ◌+◌, ◌==◌, Bool, false, List, [], ◌∷◌, ◌++◌, slice_index_or, replicate}
-use Rattle.die.specs.declared.die.TheConstants.{ERASED_BYTE, ERASED_STAMP}
 
 -- a programmed page: its main bytes, and the stamp in its spare bytes
 pub record Page : Type 0 where
@@ -13,9 +12,9 @@ pub record Block : Type 0 where
   pub erases : ℕ
   pub retired : Bool
 
--- what a read shows where no page is programmed: every bit is one
+-- what a read shows where no page is programmed: every bit is one, of each byte and of the 64 bits of the stamp
 abbrev pub erased_page : ℕ → Page
-erased_page page_bytes = record { value = replicate page_bytes ERASED_BYTE; stamp = ERASED_STAMP }
+erased_page page_bytes = record { value = replicate page_bytes 255; stamp = 18446744073709551615 }
 
 -- the page that a read of a place in a block shows
 abbrev pub page_at : ℕ → Block → ℕ → Page

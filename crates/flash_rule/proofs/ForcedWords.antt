@@ -33,7 +33,7 @@ use Rattle.flash_rule.proofs.OwnSteps.{worker, own_low}
 use Rattle.flash_rule.proofs.Reclaiming.{owner_numbers, broom_live}
 use Rattle.flash_rule.proofs.EraseSteps.{erasing_low}
 use Rattle.flash_rule.proofs.Still.{pass_numbers}
-use Rattle.flash_rule.proofs.Steps.{free_or_not, take_allowed, count_allowed, close_allowed}
+use Rattle.flash_rule.proofs.Steps.{free_or_not, player_live, take_allowed, count_allowed, close_allowed}
 use Rattle.flash_rule.proofs.ReaderSteps.{intact_or_not, pin_allowed, unpin_allowed}
 use Rattle.flash_rule.proofs.ReclaimAllowed.{claim_allowed, condemn_allowed, drain_allowed, freed_allowed, kept_allowed, retired_allowed}
 use Rattle.flash_rule.proofs.Forcing.{Alike, alike_same, forced}
@@ -104,13 +104,13 @@ module _ (z : Numbers) (slots id : ℕ) (me : Sitter) where
 
 -- ---- the laws
 pub takes_forced : TakeSets
-takes_forced z slots id me x y b pass low other also t sits =
+takes_forced z slots id me x y b player low other also t sits =
     let k : ℕ = pin_index z b in
-    let numbers = pass_here z slots id me t k sits pass in
+    let numbers = ((law z slots id me t k sits).views id me.0 sits.seat).kind.numbers (player_live me.0.role player) in
     let below : b < me.0.numbers.blocks = subst (λ (n : Numbers). b < n.blocks) (sym numbers) low in
     forced z slots id me b (λ n. bit_or n TAKEN) (take_told (step slots k x y none) me) low
     (λ n w u one two. took_alike me.0 b n w.0 u.0 (one.1 b below (placed z slots id me numbers b)) (two.1 b below (placed z slots id me numbers b)))
-    (take_allowed z slots id me b pass low) other also t sits
+    (take_allowed z slots id me b player low) other also t sits
 
 pub pins_forced : PinAdds
 pins_forced z slots id me x y m value pass is low other also t sits =

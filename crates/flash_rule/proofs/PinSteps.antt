@@ -17,7 +17,7 @@ use Rattle.flash_rule.specs.declared.facts.Role.{Role}
 use Rattle.flash_rule.specs.declared.facts.Role.TheVariants.{Dealer, Player, Note, Gone}
 use Rattle.flash_rule.specs.declared.facts.Work.{Work}
 use Rattle.flash_rule.specs.declared.view.View.{View}
-use Rattle.flash_rule.specs.Views.{is_pass, may_own, pins_on, weight, owned_at, with_owned}
+use Rattle.flash_rule.specs.Views.{is_player, may_own, pins_on, weight, owned_at, with_owned}
 use Rattle.flash_rule.specs.World.{World, put, is_owned, is_intact, is_nameable, is_still, half_cycle, age_of}
 use Rattle.flash_rule.specs.Ceded.{rank, LawfulCeded}
 use Rattle.flash_rule.specs.Rule.{IsCurrent, IsProgrammed, IsFilling, LawfulBlock, LawfulOwned, LawfulView, Lawful, IsDealt}
@@ -149,7 +149,7 @@ module _ (z : Numbers) (g : World) (vs : List View) (id : ℕ) (v w : View) (b :
 free_not : (f : Phase) → f ≡ Free → is_owned f ≡ true → ⊥
 free_not f free is = let e : is_owned f ≡ false = ap is_owned free in let no : true ≡ false = sym is ∙ e in absurd (cc)
 
-module _ (z : Numbers) (g : World) (vs : List View) (id : ℕ) (v : View) (b : ℕ) (law : Lawful z g vs) (at : get_elem? vs id ≡ some v) (pass : is_pass v.role ≡ true) (low : b < z.blocks) where
+module _ (z : Numbers) (g : World) (vs : List View) (id : ℕ) (v : View) (b : ℕ) (law : Lawful z g vs) (at : get_elem? vs id ≡ some v) (player : is_player v.role ≡ true) (low : b < z.blocks) where
   abbrev pub newly_owned : Owned
   newly_owned = record { block = b; phase = Open; generation = (g.pins b).generation; written = 0 }
 
@@ -162,7 +162,7 @@ module _ (z : Numbers) (g : World) (vs : List View) (id : ℕ) (v : View) (b : �
   abbrev pub taken : World
   taken = moved g b taken_state id
 
-  -- a block that was found free is the pass's
+  -- a block that was found free is the seat's
   pub takes : (g.pins b).phase ≡ Free → Lawful z taken (set vs id taker)
   takes free =
       let h = law.views id v at in
@@ -207,7 +207,7 @@ module _ (z : Numbers) (g : World) (vs : List View) (id : ℕ) (v : View) (b : �
               (λ unlike. kind.opens is c o (sym (with_else newly_owned c v.owns unlike) ∙ owns));
           unpinned = kind.unpinned;
           idle = kind.idle;
-          owns_none = λ is. let no : true ≡ false = sym (pass_may_own v.role pass) ∙ is in absurd (cc);
+          owns_none = λ is. let no : true ≡ false = sym (player_may_own v.role player) ∙ is in absurd (cc);
           reclaims = one_with_open newly_owned v.owns refl kind.reclaims;
         };
         knowledge = record { seen = knows.seen; pin = knows.pin; known = knows.known; programs = knows.programs; erases = knows.erases; copy = knows.copy; older = knows.older; out = knows.out };
@@ -265,11 +265,11 @@ module _ (z : Numbers) (g : World) (vs : List View) (id : ℕ) (v : View) (b : �
       (λ c _. refl) (λ c unlike o is. (o, with_else newly_owned c v.owns unlike ∙ is)) refl
       (ceded_owned z g.pins vs id v taker law.ceded at refl b taken_state refl refl refl (inr (refl, (let e : rank (g.pins b).phase ≡ 0 = ap rank free in omega arith), omega arith)))
     where
-      pass_may_own : (r : Role) → is_pass r ≡ true → may_own r ≡ true
-      pass_may_own (Player n) is = refl
-      pass_may_own Dealer is = refl
-      pass_may_own Note is = absurd (cc)
-      pass_may_own Gone is = absurd (cc)
+      player_may_own : (r : Role) → is_player r ≡ true → may_own r ≡ true
+      player_may_own (Player n) is = refl
+      player_may_own Dealer is = refl
+      player_may_own Note is = absurd (cc)
+      player_may_own Gone is = absurd (cc)
 
   -- and another one stays as it was
   pub denied : Lawful z g (set vs id (record v { denied = v.denied ++ b ∷ [] }))

@@ -30,7 +30,7 @@ use Rattle.flash_rule.specs.declared.facts.Pin.TheVariants.{Accepted}
 use Rattle.flash_rule.specs.declared.facts.Work.{Work}
 use Rattle.flash_rule.specs.declared.view.View.{View}
 use Rattle.flash_rule.specs.Views.{is_pass, is_player, is_live_role, owned_at, without, with_owned}
-use Rattle.flash_rule.specs.World.{World, Fits, sector_word}
+use Rattle.flash_rule.specs.World.{World, Fits, is_owned, sector_word}
 use Rattle.flash_rule.specs.Rule.{Lawful}
 use Rattle.flash_rule.specs.Seats.{Ruled}
 use Rattle.flash_rule.specs.Plays.{Sitter, Looked, Placed, Took, CanPlace, CanPut, CanCount, CanClose, words_in, next_page, look_told, write_told, new_told, trim_told, take_told, put_told, get_told, Called, count_told, close_told, is_unpinned}
@@ -46,8 +46,9 @@ use Rattle.flash_rule.proofs.MapSteps.{placed, placer, place_world, pass_same, w
 use Rattle.flash_rule.proofs.Calls.{trims, writes, writes_new, leaves}
 use Rattle.flash_rule.proofs.Values.{value_same}
 use Rattle.flash_rule.proofs.Points.{put_here}
+use Rattle.flash_rule.proofs.Reclaiming.{unowned}
 
-player_live : (r : Role) → is_player r ≡ true → is_live_role r ≡ true
+pub player_live : (r : Role) → is_player r ≡ true → is_live_role r ≡ true
 player_live (Player n) is = refl
 player_live Dealer is = absurd (cc)
 player_live Note is = absurd (cc)
@@ -190,40 +191,40 @@ module _ (z : Numbers) (slots id : ℕ) (me : Sitter) where
       ) in answer)
 
   -- ---- take
-  -- a pass sets the taking bit of a block
-  pub take_allowed : (b : ℕ) → is_pass me.0.role ≡ true → b < z.blocks → Allows (Ruled z) slots id me (pin_index z b) (λ n. bit_or n TAKEN) (take_told (step slots (pin_index z b) TAKEN 0 none) me)
-  take_allowed b pass low t (g, fits, law) _ at _ =
+  -- a pass or a broom sets the taking bit of a block
+  pub take_allowed : (b : ℕ) → is_player me.0.role ≡ true → b < z.blocks → Allows (Ruled z) slots id me (pin_index z b) (λ n. bit_or n TAKEN) (take_told (step slots (pin_index z b) TAKEN 0 none) me)
+  take_allowed b player low t (g, fits, law) _ at _ =
       let p : PinWord = g.pins b in
       let k : ℕ = pin_index z b in
       let n : ℕ = get_or t.words k 0 in
       let found : n ≡ pin_word p = fits.blocks b low in
       let fitting = state_fits z g t.views law b low in
-      let numbers = numbers_now g t.views law at (pass_player me.0.role pass) in
+      let numbers = numbers_now g t.views law at player in
       let same_block : (c : ℕ) → k ≡ pin_index me.0.numbers c → b ≡ c = λ c is. let e : me.0.numbers.sectors ≡ z.sectors = ap (λ (y : Numbers). y.sectors) numbers in omega arith in
       let young : p.generation < me.0.numbers.endurance = let r = (law.blocks b low).generation in let e : me.0.numbers.endurance ≡ z.endurance = ap (λ (y : Numbers). y.endurance) numbers in omega arith in
       ⊎_elim
       (λ (free : p.phase ≡ Free).
-      let w : View = taker z g t.views id me.0 b law at pass low in
-      let q : PinWord = taken_state z g t.views id me.0 b law at pass low in
+      let w : View = taker z g t.views id me.0 b law at player low in
+      let q : PinWord = taken_state z g t.views id me.0 b law at player low in
       let now : bit_or n TAKEN ≡ pin_word q = ap (λ x. bit_or x TAKEN) found ∙ takes_free p fitting free in
-      let after : World = taken z g t.views id me.0 b law at pass low in
-      let told : Took me.0 b n w = record { state = p; fits = fitting; young = young; found = found; free = λ _. refl; denied = λ not. absurd (not free) } in
+      let after : World = taken z g t.views id me.0 b law at player low in
+      let told : Took me.0 b n w = record { state = p; fits = fitting; young = young; found = found; fresh = λ _. unowned z g t.views id me.0 law at b (ap is_owned free); free = λ _. refl; denied = λ not. absurd (not free) } in
       let answer : (w : View) × (a : Act (Unit {0})) × Valid t.homes me.1 a × Ruled z (stepped t k (bit_or n TAKEN) id me.1 w a) × take_told (step slots k TAKEN 0 none) me n (w, carried_after me.1 a) = (
         w,
         keeps,
         tt,
-        (after, subst (λ x. Fits z g.map after.pins g.pages (set t.words k x)) (sym now) (fits_pin z g.map g.pins g.pages t.words fits b q low), takes z g t.views id me.0 b law at pass low free),
+        (after, subst (λ x. Fits z g.map after.pins g.pages (set t.words k x)) (sym now) (fits_pin z g.map g.pins g.pages t.words fits b q low), takes z g t.views id me.0 b law at player low free),
         (refl, λ c _ is. subst (λ (j : ℕ). Took me.0 j n w) (same_block c is) told),
       ) in answer)
       (λ (not : ¬ (p.phase ≡ Free)).
       let w : View = record me.0 { denied = me.0.denied ++ b ∷ [] } in
       let now : bit_or n TAKEN ≡ n = ap (λ x. bit_or x TAKEN) found ∙ (takes_taken p fitting not ∙ sym found) in
-      let told : Took me.0 b n w = record { state = p; fits = fitting; young = young; found = found; free = λ free. absurd (not free); denied = λ _. refl } in
+      let told : Took me.0 b n w = record { state = p; fits = fitting; young = young; found = found; fresh = λ free. absurd (not free); free = λ free. absurd (not free); denied = λ _. refl } in
       let answer : (w : View) × (a : Act (Unit {0})) × Valid t.homes me.1 a × Ruled z (stepped t k (bit_or n TAKEN) id me.1 w a) × take_told (step slots k TAKEN 0 none) me n (w, carried_after me.1 a) = (
         w,
         keeps,
         tt,
-        (g, subst (λ x. Fits z g.map g.pins g.pages (set t.words k x)) (sym now) (fits_load z g.map g.pins g.pages t.words fits k (pin_within z b low)), denied z g t.views id me.0 b law at pass low),
+        (g, subst (λ x. Fits z g.map g.pins g.pages (set t.words k x)) (sym now) (fits_load z g.map g.pins g.pages t.words fits k (pin_within z b low)), denied z g t.views id me.0 b law at player low),
         (refl, λ c _ is. subst (λ (j : ℕ). Took me.0 j n w) (same_block c is) told),
       ) in answer)
       (free_or_not p.phase)

@@ -15,7 +15,7 @@ use Rattle.flash_rule.specs.declared.facts.Owned.{Owned}
 use Rattle.flash_rule.specs.declared.facts.Pin.TheVariants.{Candidate}
 use Rattle.flash_rule.specs.declared.facts.Work.{Work}
 use Rattle.flash_rule.specs.declared.view.View.{View}
-use Rattle.flash_rule.specs.Views.{is_pass, is_broom}
+use Rattle.flash_rule.specs.Views.{is_pass, is_player, is_broom}
 use Rattle.flash_rule.specs.Seats.{Ruled}
 use Rattle.flash_rule.specs.Plays.{Sitter, IsOn, CanCount, CanClose, take_told, pin_told, unpin_told, count_told, close_told}
 use Rattle.flash_rule.specs.BroomPlays.{CanClaim, CanDrain, CanCondemn, CanRenew, CanRetire, claim_told, drain_told, condemn_told, freed_told, kept_told, retired_told}
@@ -46,7 +46,7 @@ to_next_phase p n = either (n == pin_word p) (pin_word p + NEXT_PHASE) n
 
 -- A take sets the taking bit
 abbrev pub TakeSets : Type 0
-TakeSets = AtEach (λ z slots id me x y. (b : ℕ) → is_pass me.0.role ≡ true → b < z.blocks
+TakeSets = AtEach (λ z slots id me x y. (b : ℕ) → is_player me.0.role ≡ true → b < z.blocks
     → Forces z slots id me (pin_index z b) (λ n. bit_or n TAKEN) (take_told (step slots (pin_index z b) x y none) me))
 
 -- A pin adds one reader

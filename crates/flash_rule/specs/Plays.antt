@@ -115,16 +115,17 @@ new_told st me n after =
 abbrev pub trim_told : Step (Unit {0}) → Sitter → ℕ → Sitter → Type 0
 trim_told st me n after = (after.1 ≡ me.1) × ((t : ℕ) → me.0.role ≡ Player (Pass t) → Placed me.0 (Trim t st.word) st.word n after.0)
 
--- TAKE. A block found free is now the pass's, open and with nothing written; another one is as it was. Its generation is below the endurance
+-- TAKE. A block found free wasn't the seat's, and is now, open and with nothing written; another one is as it was. Its generation is below the endurance
 pub record Took (v : View) (b n : ℕ) (w : View) : Type 0 where
   pub state : PinWord
   pub fits : FitsPin state
   pub young : state.generation < v.numbers.endurance
   pub found : n ≡ pin_word state
+  pub fresh : state.phase ≡ Free → owned_at b v.owns ≡ None
   pub free : state.phase ≡ Free → w ≡ record v { taken = v.taken + 1; owns = with_owned (record { block = b; phase = Open; generation = state.generation; written = 0 }) v.owns }
   pub denied : ¬ (state.phase ≡ Free) → w ≡ record v { denied = v.denied ++ b ∷ [] }
 
--- what a take tells a pass
+-- what a take tells a pass or a broom
 abbrev pub take_told : Step (Unit {0}) → Sitter → ℕ → Sitter → Type 0
 take_told st me n after = (after.1 ≡ me.1) × ((b : ℕ) → b < me.0.numbers.blocks → st.word ≡ pin_index me.0.numbers b → Took me.0 b n after.0)
 

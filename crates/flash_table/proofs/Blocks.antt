@@ -12,7 +12,7 @@ use Rattle.flash_table.specs.declared.broom_seat.Reclaiming.{Reclaiming}
 use Rattle.flash_table.specs.declared.broom_seat.Reclaiming.TheVariants as reclaiming
 use Rattle.flash_table.specs.declared.broom_seat.BroomBlocks.{BroomBlocks}
 use Rattle.flash_table.specs.Owning.{owned_of, owned_list, reclaimed_as, reclaimed_list, blocks_list, OwnsJust}
-use Rattle.flash_table.proofs.Rows.{at_first, past_first, just_at, just_set, just_without, just_with}
+use Rattle.flash_table.proofs.Rows.{at_first, past_first, just_at, just_set, just_without, just_with, stays_without}
 
 -- a row of three parts
 abbrev row : Option OpenBlock → Option OpenBlock → List Owned → List Owned
@@ -22,6 +22,11 @@ row d s r = (owned_list d ++ owned_list s) ++ r
 middle : (d : Option OpenBlock) (e : Owned) (r : List Owned) → owned_list d ++ e ∷ r ≡ (owned_list d ++ e ∷ []) ++ r
 middle None e r = refl
 middle (Some x) e r = refl
+
+-- no entry in the middle is none
+parted : (d : Option OpenBlock) (r : List Owned) → (owned_list d ++ []) ++ r ≡ owned_list d ++ r
+parted None r = refl
+parted (Some x) r = refl
 
 last : (d : Option OpenBlock) (e : Owned) → (owned_list d ++ []) ++ e ∷ [] ≡ (owned_list d ++ e ∷ []) ++ []
 last None e = refl
@@ -79,6 +84,15 @@ module _ (x : BroomBlocks) (owns : List Owned) (h : OwnsJust (blocks_list x) own
 
   pub condemned_just : (o : ReclaimedBlock) → x.reclaiming ≡ reclaiming.Nothing → owned_at o.block owns ≡ None → OwnsJust (blocks_list (record x { reclaiming = reclaiming.Erasing o })) (with_owned (reclaimed_as Erasing o) owns)
   condemned_just o is fresh = just_with (owned_list x.destination ++ owned_list x.spare) [] owns (reclaimed_as Erasing o) fresh (with_reclaiming reclaiming.Nothing is)
+
+  pub spared_just : (e : OpenBlock) → x.spare ≡ None → owned_at e.block owns ≡ None → OwnsJust (blocks_list (record x { spare = Some e })) (owned_of e ∷ owns)
+  spared_just e none fresh =
+      let r : List Owned = reclaimed_list x.reclaiming in
+      let there : OwnsJust (row x.destination None r) owns = subst (λ s. OwnsJust (row x.destination s r) owns) none h in
+      let bare : OwnsJust (owned_list x.destination ++ r) owns = subst (λ l. OwnsJust l owns) (parted x.destination r) there in
+      let more : OwnsJust (owned_list x.destination ++ owned_of e ∷ r) (owned_of e ∷ owns) =
+      subst (λ l. OwnsJust (owned_list x.destination ++ owned_of e ∷ r) (owned_of e ∷ l)) (stays_without e.block owns fresh) (just_with (owned_list x.destination) r owns (owned_of e) fresh bare) in
+      subst (λ l. OwnsJust l (owned_of e ∷ owns)) (middle x.destination (owned_of e) r) more
 
   pub drained_just : (o : ReclaimedBlock) → x.reclaiming ≡ reclaiming.Draining o → OwnsJust (blocks_list (record x { reclaiming = reclaiming.Nothing })) (without o.block owns)
   drained_just o is = just_without (owned_list x.destination ++ owned_list x.spare) [] owns (reclaimed_as Victim o) (with_reclaiming (reclaiming.Draining o) is)

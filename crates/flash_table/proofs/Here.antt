@@ -52,8 +52,8 @@ module _ (z k : Numbers) (same : k ≡ z) (slots id : ℕ) (me : Sitter) where
       → Allows (Ruled k) slots id me s (λ n. either (n == UNMAPPED) word n) (new_told (step slots s UNMAPPED word none) me)
   new_here s word m value pass low packed fits can = at_numbers z k same slots id me (λ n. either (n == UNMAPPED) word n) (new_told (step slots s UNMAPPED word none) me) s (new_allowed z slots id me s word m value pass low packed fits can)
 
-  pub take_here : (word b : ℕ) → word ≡ pin_index z b → is_pass me.0.role ≡ true → b < z.blocks → Allows (Ruled k) slots id me word (λ n. bit_or n TAKEN) (take_told (step slots word TAKEN 0 none) me)
-  take_here word b is pass low = at_place z k same slots id me (λ n. bit_or n TAKEN) (λ w. take_told (step slots w TAKEN 0 none) me) word (pin_index z b) is (take_allowed z slots id me b pass low)
+  pub take_here : (word b : ℕ) → word ≡ pin_index z b → is_player me.0.role ≡ true → b < z.blocks → Allows (Ruled k) slots id me word (λ n. bit_or n TAKEN) (take_told (step slots word TAKEN 0 none) me)
+  take_here word b is player low = at_place z k same slots id me (λ n. bit_or n TAKEN) (λ w. take_told (step slots w TAKEN 0 none) me) word (pin_index z b) is (take_allowed z slots id me b player low)
 
   pub put_here : (word : ℕ) (o : Owned) (x : ℕ) → word ≡ page_index z o.block o.written + length (words_in me.0.work o) → is_player me.0.role ≡ true → me.0.numbers ≡ z → CanPut me.0 o
       → Allows (Ruled k) slots id me word (λ _. x) (λ _. put_told (step slots word x 0 none) me x)

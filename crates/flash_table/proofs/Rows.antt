@@ -19,6 +19,14 @@ none_first : (o : Owned) (os : List Owned) (b : ℕ) → owned_at b (o ∷ os) �
 none_first o os b none =
     let unlike : b ≢ o.block = λ same. none_some o (sym none ∙ at_first o os b same) in (unlike, sym (past_first o os b unlike) ∙ none)
 
+-- what owns no entry of a block stays where it is taken out
+pub stays_without : (b : ℕ) (os : List Owned) → owned_at b os ≡ None → without b os ≡ os
+stays_without b [] none = refl
+stays_without b (o ∷ os) none =
+    dite (ℕ_discrete b o.block)
+    (λ same. absurd (none_some o (sym none ∙ at_first o os b same)))
+    (λ apart. rw (ne_eqb o.block b (λ e. apart (sym e))) (ap (λ (l : List Owned). o ∷ l) (stays_without b os (sym (past_first o os b apart) ∙ none))))
+
 -- ---- an entry is taken out of a row
 fewer : (xs ys : List Owned) (o : Owned) (b : ℕ) → owned_at b (xs ++ o ∷ ys) ≡ None → (b ≢ o.block) × (owned_at b (xs ++ ys) ≡ None)
 fewer [] ys o b none = none_first o ys b none

@@ -4,5 +4,6 @@ pub mod Leaving
 pub mod Erasing
 pub mod GivingUp
 pub mod Steps
+pub mod Spares
 -- Internal: the plain data of a seat beside its view.
 pub mod Owning

@@ -15,6 +15,7 @@ mod reclaim_steps;
 mod relocation_steps;
 mod retired;
 mod retired_broom;
+mod spares;
 mod steps;
 
 pub use broom_seat::{BroomBlocks, BroomSeat, ReclaimedBlock, Reclaiming};

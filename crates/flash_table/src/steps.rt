@@ -34,7 +34,7 @@ fn was_by(found: u64) -> Was
 }
 
 // The generation of a block that the word says is free.
-fn generation_if_free(word: u64) -> Option<u32>
+pub(crate) fn generation_if_free(word: u64) -> Option<u32>
     ensures some { IfSome result (λ n. (state : PinWord) × FitsPin state × (pin_word state ≡ word) × (state.phase ≡ phase.Free) × (state.generation ≡ n)) }
     ensures none { IfNone result ((state : PinWord) → FitsPin state → pin_word state ≡ word → ¬ (state.phase ≡ phase.Free)) }
 {

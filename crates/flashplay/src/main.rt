@@ -2,14 +2,15 @@
 //! to standard output.
 #![tactic(auto)]
 
-mod late_file;
+mod out_file;
 
-use late_file::LateFile;
-use player::{Stop, Watched, read_words, session, tell, wear_name};
+use out_file::OutFile;
+use player::{RunFiles, Stop, Watched, read_words, session, tell};
 use std::io::Write;
 use std::process::ExitCode;
 use std::sync::Wait;
 use std::thread::Threads;
+use std::time::Clock;
 
 fn main(rt: HostRuntime) -> ExitCode {
     let mut errors = Watched::new(rt.stderr());
@@ -21,7 +22,7 @@ fn main(rt: HostRuntime) -> ExitCode {
 }
 
 // Runs a session on the arguments and the standard streams. Its threads are started by a handle of their own.
-fn play<T: Threads + Wait + Sync, E: Write>(
+fn play<T: Threads + Wait + Clock + Sync, E: Write>(
     rt: &HostRuntime,
     threads: &T,
     errors: &mut Watched<E>,
@@ -36,8 +37,9 @@ fn play<T: Threads + Wait + Sync, E: Write>(
     }
     let mut input = Watched::new(rt.stdin());
     let mut output = Watched::new(rt.stdout());
-    let file = LateFile::new(rt, wear_name(alloc, &words).unwrap_or(""));
-    let mut wear = Watched::new(file);
+    let mut files = RunFiles {
+        wear: Watched::new(OutFile::new(rt)),
+    };
     Ok(session(
         threads,
         alloc,
@@ -45,6 +47,6 @@ fn play<T: Threads + Wait + Sync, E: Write>(
         &mut input,
         &mut output,
         errors,
-        &mut wear,
+        &mut files,
     ))
 }

@@ -336,9 +336,12 @@ sum_table_le w f (suc n) m most =
     omega (arith, more, front, last)
 
 -- no block has more erases than its endurance
-erases_within : (s : Store) (b : ℕ) → b < blocks_of (geometry_of s) → erases_of s b ≤ endurance_of (geometry_of s)
+pub erases_within : (s : Store) (b : ℕ) → b < blocks_of (geometry_of s) → erases_of s b ≤ endurance_of (geometry_of s)
 unfolding erases_of
 erases_within s b low = omega (arith, erases-block s.die b, (s.die.sound b low).erased)
+
+pub erases_at : (f : OneFtl) (b : ℕ) → b < blocks_of (geometry_of f.store) → (block_at (stock_of f) b).erases ≤ endurance_of (geometry_of f.store)
+erases_at f b low = omega (arith, ap (λ (x : Block). x.erases) (block_at-stock f b low), erases_within f.store b low)
 
 -- the totals stay far below what a counter can hold
 pub total_small : (f : OneFtl) → f.counts.programs + f.counts.copies + f.counts.erases < 2 ^ 60

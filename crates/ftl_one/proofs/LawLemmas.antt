@@ -13,10 +13,10 @@ use Rattle.ftl_one.specs.Laws.{block_at, ErasesNothing, Collects}
 use Rattle.ftl_one.proofs.FtlLemmas.{closed_by, spare_by}
 
 -- a change of one block, place by place
-change-here : (xs : List Block) (b : ℕ) (h : Block → Block) → b < length xs → get_or (change_at xs b h) b (unused Retired) ≡ h (get_or xs b (unused Retired))
+pub change-here : (xs : List Block) (b : ℕ) (h : Block → Block) → b < length xs → get_or (change_at xs b h) b (unused Retired) ≡ h (get_or xs b (unused Retired))
 change-here xs b h low = get_or-set_same xs b (h (get_or xs b (unused Retired))) (unused Retired) low
 
-change-there : (xs : List Block) (b c : ℕ) (h : Block → Block) → c ≢ b → get_or (change_at xs b h) c (unused Retired) ≡ get_or xs c (unused Retired)
+pub change-there : (xs : List Block) (b c : ℕ) (h : Block → Block) → c ≢ b → get_or (change_at xs b h) c (unused Retired) ≡ get_or xs c (unused Retired)
 change-there xs b c h apart = get_or-set_other xs b c (h (get_or xs b (unused Retired))) (unused Retired) apart
 
 -- a change that keeps each block's erases keeps them in the list
@@ -31,7 +31,7 @@ change-erases xs b c h same = elim (cases_eq c b) [
   ]
 ]
 
-map-erases : (xs : List Block) (s c : ℕ) → (get_or (map (forget s) xs) c (unused Retired)).erases ≡ (get_or xs c (unused Retired)).erases
+pub map-erases : (xs : List Block) (s c : ℕ) → (get_or (map (forget s) xs) c (unused Retired)).erases ≡ (get_or xs c (unused Retired)).erases
 map-erases xs s c = elim (cases_lt c (length xs)) [
   | inl low ↦ ap (λ (x : Block). x.erases) (get_or-map (forget s) xs c (unused Retired) (unused Retired) low)
   | inr past ↦
@@ -47,7 +47,7 @@ closed-erases pages x = by (eqb (length x.entries) pages)
     by false = refl
 
 -- a page that is put erases nothing and relocates nothing
-written : (pages s : ℕ) (k k' : Stock) (o : Option ℕ) → write_into pages s k o ≡ Some k' → ErasesNothing k k'
+pub written : (pages s : ℕ) (k k' : Stock) (o : Option ℕ) → write_into pages s k o ≡ Some k' → ErasesNothing k k'
 written pages s k k' None h = absurd (none_some h)
   where
     none_some : None ≡ Some k' → ⊥
@@ -94,7 +94,7 @@ module _ (endurance : ℕ) (k : Stock) (spare v : ℕ) (is_spare_of : spare_of k
   sizes : length (map live_of k.blocks) ≡ length (map (λ block. is_closed block.role) k.blocks)
   sizes = length-map k.blocks live_of ∙ sym (length-map k.blocks (λ (block : Block). is_closed block.role))
 
-  victim_low : v < length k.blocks
+  pub victim_low : v < length k.blocks
   victim_low = elim (cases_lt v (length k.blocks)) [
     | inl low ↦ low
     | inr past ↦ absurd (false≢true (sym (get_or_past (map (λ block. is_closed block.role) k.blocks) v false (omega (arith, past, length-map k.blocks (λ (block : Block). is_closed block.role)))) ∙ greedy_of-closed (map live_of k.blocks) (map (λ block. is_closed block.role) k.blocks) sizes v chosen))
@@ -106,7 +106,7 @@ module _ (endurance : ℕ) (k : Stock) (spare v : ℕ) (is_spare_of : spare_of k
       (sym (get_or-map (λ (block : Block). is_closed block.role) k.blocks v (unused Retired) false victim_low)
       ∙ greedy_of-closed (map live_of k.blocks) (map (λ block. is_closed block.role) k.blocks) sizes v chosen)
 
-  victim_apart : v ≢ spare
+  pub victim_apart : v ≢ spare
   victim_apart e = clash (block_at k v).role victim_closed (ap (λ (b : ℕ). (block_at k b).role) e ∙ found_spare.1)
     where
       clash : (r : Role) → r ≡ Closed → r ≡ Spare → ⊥
@@ -146,10 +146,10 @@ module _ (endurance : ℕ) (k : Stock) (spare v : ℕ) (is_spare_of : spare_of k
 abbrev pub Does : Stock → Stock → Type 0
 Does k k' = ErasesNothing k k' ⊎ ((v : ℕ) × (spare : ℕ) × (spare_of k.blocks ≡ Some spare) × Collects k k' v)
 
-same_some : (x y : Stock) → Some x ≡ Some y → x ≡ y
+pub same_some : (x y : Stock) → Some x ≡ Some y → x ≡ y
 same_some x y h = cc
 
-none_some : (x : Stock) → None ≡ Some x → ⊥
+pub none_some : (x : Stock) → None ≡ Some x → ⊥
 none_some x h = cc
 
 collect-does : (endurance : ℕ) (k k' : Stock) (spare : ℕ) (o : Option ℕ) → spare_of k.blocks ≡ Some spare → victim_of k.blocks ≡ o → collect endurance k spare o ≡ Some k' → Does k k'
@@ -160,7 +160,7 @@ collect-does endurance k k' spare (Some v) s e h =
 pub nothing_same : (k : Stock) → ErasesNothing k k
 nothing_same k = record { blocks = λ b. refl; erases = refl; copies = refl }
 
-nothing_opened : (k : Stock) (b : ℕ) → ErasesNothing k (opened k b)
+pub nothing_opened : (k : Stock) (b : ℕ) → ErasesNothing k (opened k b)
 nothing_opened k b = record { blocks = λ c. change-erases k.blocks b c (λ block. record block { role = Open }) (λ x. refl); erases = refl; copies = refl }
 
 ready-does : (endurance : ℕ) (k k' : Stock) (o f s : Option ℕ) → spare_of k.blocks ≡ s → ready_by endurance k o f s ≡ Some k' → Does k k'

@@ -12,4 +12,5 @@ pub mod Current
 pub mod CollectLemmas
 pub mod NewLemmas
 pub mod LawLemmas
+pub mod CollectionLemmas
 pub mod FewestLemmas

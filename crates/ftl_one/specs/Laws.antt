@@ -1,7 +1,7 @@
 -- What a write may do to the stock, in the words of the device.
-use Rattle.std.specs.Prelude.{◌≡◌, ℕ, ◌≢◌, ◌+◌, ◌<◌, ◌≤◌, ◌⊎◌, length, slice_index_or}
+use Rattle.std.specs.Prelude.{◌≡◌, ℕ, ◌≢◌, ◌+◌, ◌<◌, ◌≤◌, ◌⊎◌, length, slice_index_or, None}
 use Rattle.ftl_one.specs.declared.role.Role.TheVariants.{Closed, Retired}
-use Rattle.ftl_one.specs.Stock.{Stock, Block, unused, live_of}
+use Rattle.ftl_one.specs.Stock.{Stock, Block, free_of, live_of, open_of, spare_of, unused}
 
 -- a block of the stock
 abbrev pub block_at : Stock → ℕ → Block
@@ -30,3 +30,9 @@ CollectsAtMostOne old new = ErasesNothing old new ⊎ ((victim : ℕ) × Collect
 -- an erase of some block has failed
 abbrev pub HasRetired : Stock → Type 0
 HasRetired stock = (b : ℕ) × (b < length stock.blocks) × ((block_at stock b).role ≡ Retired)
+
+-- no page is left to program, and none can be won: no block is open, none is free, and there is no spare
+pub record HasNoPage (stock : Stock) : Type 0 where
+  pub no_open : open_of stock.blocks ≡ None
+  pub no_free : free_of stock.blocks ≡ None
+  pub no_spare : spare_of stock.blocks ≡ None

@@ -2,6 +2,7 @@
 pub mod Stock
 pub mod OneFtl
 pub mod Laws
+pub mod Collections
 -- How the layer keeps its pages and roles: internal.
 pub mod Entries
 pub mod MapEntries

@@ -1,10 +1,11 @@
-ghost use Rattle.std.specs.Prelude.{◌≡◌, ℕ, ◌+◌, ◌*◌, ◌<◌, ◌≤◌, false, length, map, sum_by, Option, None, Some};
-ghost use Rattle.geometry.specs.Geometry.{blocks_of, pages_of, page_bytes_of, endurance_of, sectors_of, hosts_of};
+ghost use Rattle.std.specs.Prelude.{◌≡◌, ℕ, ◌+◌, ◌*◌, ◌<◌, ◌≤◌, ◌==◌, if◌then◌else◌, false, length, map, sum_by, Option, None, Some};
+ghost use Rattle.geometry.specs.Geometry.{blocks_of, pages_of, page_bytes_of, endurance_of, lun_of, sectors_of, hosts_of};
 ghost use Rattle.ftl_one.specs.Store.{geometry_of as store_geometry_of, entries_of, retired_of};
 ghost use Rattle.ftl_one.specs.Stock.{is_free};
 ghost use Rattle.ftl_one.specs.Lawful.{IsLawful, KnowsSpare, role_in};
 ghost use Rattle.ftl_one.specs.Blocks.{blocks_in, weight};
 
+use crate::collection::Collection;
 use crate::fewest::fewest_beside;
 use crate::role::Role;
 use crate::roles::{hand_over, lowest_free, next_spare};
@@ -57,7 +58,8 @@ pub struct OneFtl {
 }
 
 impl OneFtl {
-    ghost use Rattle.ftl_one.specs.Laws.{CollectsAtMostOne, ErasesNothing, HasRetired, block_at};
+    ghost use Rattle.ftl_one.specs.Collections.{collection_between, collection_due, collection_into};
+    ghost use Rattle.ftl_one.specs.Laws.{CollectsAtMostOne, ErasesNothing, HasNoPage, HasRetired, block_at};
     ghost use Rattle.std.specs.Prelude.{◌≢◌, [], IfOk, IfSome, IfNone, OnOk, OnErr, ◌^◌};
     ghost use Rattle.geometry.specs.Sectors.{sector_at, was_of, Answers};
     ghost use Rattle.std.specs.Prelude.{Err};
@@ -127,8 +129,9 @@ impl OneFtl {
         ensures array { OnOk result (array_of self.new ≡ step (array_of self.old) (Write 0 sector bytes.now)) }
         ensures stock { OnOk result (next (geometry_of self.old) (stock_of self.old) (Write 0 sector bytes.now) ≡ Some (stock_of self.new)) }
 
-        // A write that is refused has changed nothing.
+        // A write that is refused has changed nothing: no block is open or free, and there is no spare.
         ensures worn { OnErr result (next (geometry_of self.old) (stock_of self.old) (Write 0 sector bytes.now) ≡ None) }
+        ensures no_page { OnErr result (HasNoPage (stock_of self.old)) }
         ensures same_array { OnErr result (array_of self.new ≡ array_of self.old) }
         ensures same_stock { OnErr result (stock_of self.new ≡ stock_of self.old) }
 
@@ -139,6 +142,9 @@ impl OneFtl {
         // At most one block is collected, a closed one with the fewest live pages, and none after a failed erase.
         ensures collection { CollectsAtMostOne (stock_of self.old) (stock_of self.new) }
         ensures after_failure { HasRetired (stock_of self.old) → ErasesNothing (stock_of self.old) (stock_of self.new) }
+
+        // The collection that it makes is the one that was due.
+        ensures due { OnOk result (collection_between (geometry_of self.old) (stock_of self.old) (stock_of self.new) ≡ collection_due (geometry_of self.old) (stock_of self.old)) }
     {
         let Some(block) = self.make_ready() else {
             return Err(WornOut);
@@ -211,12 +217,59 @@ impl OneFtl {
         u32::from(self.store.live()[block as usize])
     }
 
+    /// The collection that the next write makes that programs a page, if it needs one: the open block is full, and no block is free.
+    pub fn collection_due(&self) -> Option<Collection>
+        ensures { result ≡ collection_due (geometry_of self.now) (stock_of self.now) }
+    {
+        if self.open_block.is_some() {
+            return None;
+        }
+        if lowest_free(&self.roles, self.free_from).is_some() {
+            return None;
+        }
+        let spare = self.spare?;
+        Some(self.collection_into(spare))
+    }
+
     /// Whether a block's last erase has failed, so that it is never used again.
     pub fn retired(&self, block: u32) -> bool
         requires { block < blocks_of (geometry_of self.now) }
         ensures { result ≡ is_retired (block_at (stock_of self.now) block).role }
     {
         matches!(self.roles[block as usize], Role::Retired)
+    }
+
+    // The collection of the greedy victim into the spare.
+    fn collection_into(&self, spare: u32) -> Collection
+        requires none { open_of (stock_of self.now).blocks ≡ None }
+        requires no_free { free_of (stock_of self.now).blocks ≡ None }
+        requires spare { spare_of (stock_of self.now).blocks ≡ Some spare }
+        ensures victim { victim_of (stock_of self.now).blocks ≡ Some result.victim }
+        ensures value { result ≡ collection_into (geometry_of self.now) (stock_of self.now) spare result.victim }
+    {
+        let victim = fewest_beside(self.store.live(), spare as usize) as u32;
+        let copied = self.live(victim);
+        let erases = self.erases(victim) + 1;
+        Collection {
+            victim,
+            copied,
+            copybacks: self.copybacks(victim, spare, copied),
+            erases,
+            retired: erases == self.store.geometry().endurance(),
+        }
+    }
+
+    // How many of so many copies are copybacks: all within one LUN, and none to another.
+    fn copybacks(&self, victim: u32, spare: u32, copied: u32) -> u32
+        requires victim { victim < blocks_of (store_geometry_of self.now.store) }
+        requires spare { spare < blocks_of (store_geometry_of self.now.store) }
+        ensures { result ≡ (if lun_of (store_geometry_of self.now.store) victim == lun_of (store_geometry_of self.now.store) spare then copied else 0) }
+    {
+        if self.store.is_one_lun(victim, spare) {
+            copied
+        } else {
+            0
+        }
     }
 
     // The open block: the one that there is, or the lowest free block, or the spare after a collection.
@@ -226,6 +279,7 @@ impl OneFtl {
         ensures ready { IfSome result (λ block. ready (endurance_of (geometry_of self.old)) (stock_of self.old) ≡ Some (stock_of self.new)) }
         ensures opened { IfSome result (λ block. open_of (stock_of self.new).blocks ≡ Some block) }
         ensures none { IfNone result (ready (endurance_of (geometry_of self.old)) (stock_of self.old) ≡ None) }
+        ensures no_page { IfNone result (HasNoPage (stock_of self.old)) }
         ensures same { IfNone result (stock_of self.new ≡ stock_of self.old) }
     {
         if let Some(block) = self.open_block {

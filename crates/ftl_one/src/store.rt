@@ -150,8 +150,8 @@ impl Store {
         self.current[self.die.stamp(at) as usize].page() == Some(at)
     }
 
-    // Whether two blocks are on one LUN.
-    fn is_one_lun(&self, first: u32, second: u32) -> bool
+    /// Whether two blocks are on one LUN.
+    pub fn is_one_lun(&self, first: u32, second: u32) -> bool
         requires first { first < blocks_of (geometry_of self.now) }
         requires second { second < blocks_of (geometry_of self.now) }
         ensures { result ≡ (lun_of (geometry_of self.now) first == lun_of (geometry_of self.now) second) }

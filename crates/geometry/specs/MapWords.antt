@@ -1,14 +1,14 @@
--- The word of a sector.
+-- The word of a sector. The fields stand here as numerals, so that the constants of the code are held to them: the page has bits 0 to 15,
+-- the block bits 16 to 31, the generation bits 32 to 62, and bit 63 is set.
 use Rattle.std.specs.Prelude.{ℕ, ◌+◌, ◌*◌, ◌<◌}
 use Rattle.geometry.specs.Limits.{Numbers}
 use Rattle.geometry.specs.declared.map_word.MapWord.{MapWord}
-use Rattle.geometry.specs.declared.map_word.TheConstants.{MAPPED, MAP_GENERATION, MAP_BLOCK, MAP_GENERATIONS, MAP_BLOCKS}
 
 -- the fields have room in a word
 pub record FitsMap (m : MapWord) : Type 0 where
-  pub generation : m.generation < MAP_GENERATIONS
-  pub block : m.block < MAP_BLOCKS
-  pub page : m.page < MAP_BLOCK
+  pub generation : m.generation < 2147483648
+  pub block : m.block < 65536
+  pub page : m.page < 65536
 
 -- a page that a device has, in a generation that its block can reach
 pub record IsPageOf (n : Numbers) (m : MapWord) : Type 0 where
@@ -18,4 +18,4 @@ pub record IsPageOf (n : Numbers) (m : MapWord) : Type 0 where
 
 -- the word that names a page
 abbrev pub map_word : MapWord → ℕ
-map_word m = ((MAPPED + m.generation * MAP_GENERATION) + m.block * MAP_BLOCK) + m.page
+map_word m = ((9223372036854775808 + m.generation * 4294967296) + m.block * 65536) + m.page

@@ -1,5 +1,6 @@
 -- The looks of a search: each but the last one is followed by a stray pin, by which the pass learns that a block is older than it knew.
-use Rattle.std.proofs.Common.{◌≡◌, ℕ, ◌+◌, ◌-◌, ◌*◌, ◌<◌, ◌≤◌, ◌∙◌, List, true, None, Some, sym, ap, subst, refl, arith}
+use Rattle.std.proofs.Common.{◌≡◌, ℕ, ◌+◌, ◌-◌, ◌*◌, ◌<◌, ◌≤◌, ◌∙◌, List, true, Option, None, Some, is_some, sym, ap, subst, refl, arith}
+use Rattle.std.specs.Option.{IfSome}
 use Rattle.geometry.specs.History.{Call, Begins, held}
 use Rattle.geometry.specs.Limits.{Numbers}
 use Rattle.geometry.specs.MapWords.{FitsMap, map_word}
@@ -13,6 +14,7 @@ use Rattle.flash_rule.specs.declared.facts.Pin.{Pin}
 use Rattle.flash_rule.specs.declared.facts.Pin.TheVariants.{Clear, Candidate, Accepted}
 use Rattle.flash_rule.specs.declared.view.View.{View}
 use Rattle.flash_rule.specs.Views.{AreOfHosts, calls_of, sum_of, owned_at}
+use Rattle.flash_rule.specs.World.{sector_word}
 use Rattle.flash_rule.specs.Rule.{IsValue}
 use Rattle.flash_rule.specs.Plays.{Looked, is_unpinned}
 use Rattle.flash_table.specs.declared.flash.Flash.{Flash}
@@ -229,3 +231,22 @@ found_empty f p w q tries s h pass look rested now opened =
     let told = search_looks (view_of p) (view_of w) (view_of q) tries s 0 h look in
     let own = look_knows (view_of w) (view_of q) s 0 look in
     (record { rested = rested_searched f p q (tries + 1) rested now opened told.changed own; unpinned = empty.1 }, empty.0)
+
+-- ---- one look alone
+-- A pass has looked at a sector once: it is ready again, and what it found tells whether the sector is written
+pub record LookedOnce (f : Flash) (p q : Pass) (s : ℕ) (found : Option MapWord) : Type 0 where
+  pub told : Searched (view_of p) 1 (view_of q)
+  pub answer : is_some found ≡ is_some (held (device f).sectors (view_of q).seen s)
+  pub ready : IsReady f q
+
+pub looked_once : (f : Flash) (p q : Pass) (s : ℕ) (found : Option MapWord) → IsReady f p → IsPassOf f q → opened_of q ≡ opened_of p → IfSome found FitsMap → Looked (view_of p) s (sector_word found) (view_of q)
+    → LookedOnce f p q s found
+looked_once f p q s found h pass opened fits look =
+    let told = search_looks (view_of p) (view_of p) (view_of q) 0 s (sector_word found) (search_begins f p h) look in
+    let rested = rested_searched f p q 1 h.rested pass opened told.changed (look_knows (view_of p) (view_of q) s (sector_word found) look) in
+    let seen = what found fits look in record { told = told; answer = seen.0; ready = record { rested = rested; unpinned = seen.1 } }
+  where
+    what : (found : Option MapWord) → IfSome found FitsMap → Looked (view_of p) s (sector_word found) (view_of q) → (is_some found ≡ is_some (held (device f).sectors (view_of q).seen s)) × (is_unpinned (view_of q).pin ≡ true)
+    what None fits look = let t = look_finds_empty f (view_of p) (view_of q) s h.rested.pass.numbers look in (sym (ap is_some t.0), t.1)
+    what (Some page) fits look =
+        let t = look_names f (view_of p) (view_of q) s page h.rested.pass.numbers fits look in (sym (ap is_some t.here), ap is_unpinned t.candidate)

@@ -1,5 +1,5 @@
 //! Reads: a look names the sector's page, a pin keeps its block from being erased, and the page is read.
-ghost use Rattle.std.specs.Prelude.{◌≡◌, ◌<◌, length};
+ghost use Rattle.std.specs.Prelude.{◌≡◌, ◌<◌, is_some, length};
 ghost use Rattle.geometry.specs.Geometry.{sectors_of, page_bytes_of};
 ghost use Rattle.geometry.specs.History.{held};
 ghost use Rattle.geometry.specs.Sectors.{Answers};
@@ -61,4 +61,16 @@ pub fn read_gated<G: Gate>(
         got: Got::Data,
         tries: looks.tries,
     }
+}
+
+/// Whether a sector is written, by one look at its map word. No page is read.
+pub fn look(flash: &Flash, pass: &mut Pass, sector: u32) -> bool
+    requires pass { IsReady flash.now pass.old }
+    requires sector { sector < sectors_of (geometry_of flash.now) }
+    ensures told { Searched (view_of pass.old) 1 (view_of pass.new) }
+    ensures answer { result ≡ is_some (held (sectors_of (geometry_of flash.now)) (view_of pass.new).seen sector) }
+    ensures pass { IsReady flash.now pass.new }
+    ensures opened { opened_of pass.new ≡ opened_of pass.old }
+{
+    flash.look(pass, sector).is_some()
 }

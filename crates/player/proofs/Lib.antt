@@ -1,2 +1,4 @@
 mod CommandLines
+mod Endings
 mod RunTexts
+mod Words

@@ -1,13 +1,14 @@
 -- The command line: the options as clap knows them, and the numbers that its matches give them.
-use Rattle.std.specs.Prelude.{◌≡◌, ℕ, List, [], ◌∷◌, codes, Some, pos, MatchOption, ◌^◌, ◌<◌, ◌⊎◌}
+use Rattle.std.specs.Prelude.{◌≡◌, ℕ, true, List, [], ◌∷◌, codes, Some, pos, MatchOption, ◌^◌, ◌<◌, ◌⊎◌}
 use Rattle.std.specs.Option.{option_map}
 use Rattle.std.specs.Str.Parse.{IsNumeral, digits_value, without_leading_plus}
+use Rattle.clap.specs.Simple.{on_top}
 use Rattle.clap.specs.Words.{App, Kinds, Row, Rule, Text, fault_of, first_of, matches_of, new_app, new_rule, one_of, with_rule}
 use Rattle.clap.specs.declared.builder.value_parser.ValueParser.TheVariants as parser
 use Rattle.geometry.specs.Limits.{Numbers, numbers}
 use Rattle.player.specs.declared.arguments.NumberOption.{NumberOption}
 use Rattle.player.specs.declared.command_line.Options.{Options}
-use Rattle.player.specs.declared.command_line.TheConstants.{LUNS, BLOCKS, PAGES, WORDS, SECTORS, ENDURANCE, WORKERS, BROOMS, PATIENCE}
+use Rattle.player.specs.declared.command_line.TheConstants.{LUNS, BLOCKS, PAGES, WORDS, SECTORS, ENDURANCE, WORKERS, BROOMS, PATIENCE, DRAINS}
 
 -- an option: its name behind two dashes, and one whole number of 32 bits, with a default
 abbrev pub option_rule : Text → Text → Rule
@@ -19,9 +20,18 @@ abbrev pub patience_rule : Rule
 patience_rule =
     record (new_rule (codes "patience")) { long = Some (codes "patience"); value_names = 1; defaults = codes "1000000" ∷ []; parser = Some (parser.Signed (pos 1) (pos 1000000000)) }
 
--- an option of a file's name, which may be absent
+-- the option of the drains by one survey, which are some
+abbrev pub drains_rule : Rule
+drains_rule =
+    record (new_rule (codes "drains")) { long = Some (codes "drains"); value_names = 1; defaults = codes "1" ∷ []; parser = Some (parser.Signed (pos 1) (pos 4096)) }
+
+-- an option of one value, of any text
+abbrev pub named_rule : Text → Rule
+named_rule name = record (new_rule name) { long = Some name; value_names = 1 }
+
+-- an option of a file's name, which is not empty; the option may be absent
 abbrev pub file_rule : Text → Rule
-file_rule name = record (new_rule name) { long = Some name; value_names = 1 }
+file_rule name = record (named_rule name) { parser = Some parser.NonEmptyString }
 
 -- an option of a whole number, by its name, its default and the numbers that it takes
 abbrev pub number_rule : NumberOption → Rule
@@ -32,10 +42,14 @@ number_rule number =
 abbrev pub with_number : App → NumberOption → App
 with_number app number = with_rule app (number_rule number)
 
+-- a command line without options, which has a version
+abbrev pub versioned : App
+versioned = on_top (λ top. record top { has_version = true }) (new_app (codes "flashplay"))
+
 -- a command line with the numbers of a device
 abbrev pub with_numbers : App
 with_numbers =
-    with_rule (with_rule (with_rule (with_rule (with_rule (with_rule (new_app (codes "flashplay"))
+    with_rule (with_rule (with_rule (with_rule (with_rule (with_rule versioned
     (option_rule (codes "luns") (codes "1")))
     (option_rule (codes "blocks") (codes "64")))
     (option_rule (codes "pages") (codes "64")))
@@ -43,9 +57,9 @@ with_numbers =
     (option_rule (codes "sectors") (codes "3072")))
     (option_rule (codes "endurance") (codes "1000"))
 
--- a command line with the threads of a run too: workers, brooms, and the tries of a write
+-- a command line with the threads of a run too: workers, brooms, the tries of a write, and the drains by one survey
 abbrev pub with_threads : App → App
-with_threads app = with_rule (with_rule (with_rule app (option_rule (codes "workers") (codes "0"))) (option_rule (codes "brooms") (codes "0"))) patience_rule
+with_threads app = with_rule (with_rule (with_rule (with_rule app (option_rule (codes "workers") (codes "0"))) (option_rule (codes "brooms") (codes "0"))) patience_rule) drains_rule
 
 -- the program's command line: the numbers of a device, the threads of a run, and the file of the wear
 abbrev pub flashplay : App
@@ -83,6 +97,7 @@ pub record AreOptionsOf (rows : List Row) (given : Options) : Type 0 where
   pub workers : IsNumberOf rows (codes "workers") WORKERS given.workers
   pub brooms : IsNumberOf rows (codes "brooms") BROOMS given.brooms
   pub patience : IsNumberOf rows (codes "patience") PATIENCE given.patience
+  pub drains : IsNumberOf rows (codes "drains") DRAINS given.drains
   pub wear : option_map (λ name. name.now) given.wear ≡ first_of (codes "wear") rows
 
 -- the numbers of the device that the options describe: it has a host for each worker

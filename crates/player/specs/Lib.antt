@@ -1,4 +1,5 @@
 -- What public contracts rest on.
+pub mod Arguments
 pub mod CommandLine
 pub mod Session
 pub mod Telling

@@ -1,8 +1,9 @@
 -- How a session of the program ends.
-use Rattle.std.specs.Prelude.{◌≡◌, ◌≢◌, ◌⊎◌, ◌≤◌, ⊤, ℕ, zero, suc, true, List, [], MatchOption, is_some, Some, Result, Ok, Err}
+use Rattle.std.specs.Prelude.{◌≡◌, ◌≢◌, ◌⊎◌, ℕ, zero, suc, List, [], true, MatchOption, IfSome, Option, Some, is_some, Result, Ok, Err}
 use Rattle.std.specs.Io.KnownBytes.{IsAtEnd}
 use Rattle.clap.specs.Words.{IsAmong, Text, kind_of}
 use Rattle.clap.specs.declared.error.Error.{Error}
+use Rattle.clap.specs.declared.error.kind.ErrorKind.{ErrorKind}
 use Rattle.clap.specs.declared.error.kind.ErrorKind.TheVariants as kind
 use Rattle.geometry.specs.Geometry.{hosts_of, numbers_of}
 use Rattle.geometry.specs.Limits.{first_fault}
@@ -11,7 +12,11 @@ use Rattle.geometry.specs.declared.fault.GeometryFault.{GeometryFault}
 use Rattle.trace.specs.declared.fault.TraceFaultKind.{TraceFaultKind}
 use Rattle.trace.specs.declared.fault.TraceFaultKind.TheVariants as fault
 use Rattle.answers.specs.Outcome.{ExplainsRun}
-use Rattle.answers.specs.Streams.{Passage, Sends, SendsBeginning, Stream, Tells, TellsPart}
+use Rattle.trace.specs.Watched.{inner_of}
+use Rattle.trace.specs.declared.named_file.OpenFault.{OpenFault}
+use Rattle.trace.specs.declared.named_file.OpenFault.TheVariants as open_fault
+use Rattle.trace.specs.declared.watched.Watched.{Watched}
+use Rattle.answers.specs.Streams.{Passage, Sends, SendsBeginning, Stream, Tells, TellsPart, over, stream_of}
 use Rattle.answers.specs.declared.fault.RunFault.{RunFault}
 use Rattle.answers.specs.declared.fault.RunFault.TheVariants as run
 use Rattle.one_player.specs.Playing.{IsTextOf}
@@ -20,6 +25,11 @@ use Rattle.shared_run.specs.Texts.{IsTextOf as IsSharedTextOf}
 use Rattle.player.specs.CommandLine.{AreOptionsOf, faults_given, numbers_given, rows_given}
 use Rattle.player.specs.Telling.{TellsEnding}
 use Rattle.player.specs.declared.command_line.Options.{Options}
+use Rattle.player.specs.declared.run_files.FileStop.{FileStop}
+use Rattle.player.specs.declared.run_files.FileStop.TheVariants as file_stop
+use Rattle.player.specs.declared.run_files.RunFile.{RunFile}
+use Rattle.player.specs.declared.run_files.RunFile.TheVariants as run_file
+use Rattle.player.specs.declared.run_files.RunFiles.{RunFiles}
 use Rattle.player.specs.declared.stop.Stop.{Stop}
 use Rattle.player.specs.declared.stop.Stop.TheVariants as stop
 
@@ -36,16 +46,27 @@ status_of_run run.Memory = 4
 status_of_run run.Threads = 4
 status_of_run run.Output = 1
 
+-- the exit status where a file of a run was not written
+abbrev pub status_of_file : FileStop → ℕ
+status_of_file file_stop.NotWithWorkers = 2
+status_of_file file_stop.NotOpened = 1
+status_of_file file_stop.NotItsOwn = 2
+status_of_file file_stop.Failed = 1
+
+-- why a file that could not be opened is not written
+abbrev pub stop_of_open : OpenFault → FileStop
+stop_of_open open_fault.Refused = file_stop.NotOpened
+stop_of_open open_fault.InUse = file_stop.NotItsOwn
+
 -- the exit status of a session that stopped
 abbrev pub status_of : Stop → ℕ
-status_of (stop.Arguments error) = 2
+status_of (stop.Arguments text) = 2
 status_of (stop.Encoding place) = 2
 status_of (stop.Geometry found) = 2
 status_of (stop.Run found) = status_of_run found
 status_of stop.Help = 1
 status_of stop.Memory = 4
-status_of stop.Wear = 1
-status_of stop.SharedWear = 2
+status_of (stop.File file why) = status_of_file why
 
 -- the device that the words of a command line describe: clap finds no fault in the words
 pub record IsDescribed (words : List Text) (geo : Geometry) : Type 0 where
@@ -79,27 +100,111 @@ pub record Answered (words : List Text) (input output : Passage) : Type 0 where
   pub input_unfailed : input.after.failures ≡ input.before.failures
   pub output_unfailed : output.after.failures ≡ output.before.failures
 
--- the wear is told where the options name a file for it: that of the device after the trace, and no call failed. Else
--- nothing is told
-abbrev pub TellsWear : Geometry → Options → Stream → Passage → Type 0
+-- a file was opened by this name, where it tells the name, and no byte of it changed by that
+pub record IsOpenedAs {F : Type 0} (name_in : F → Option Text) (contents : F → Option (List ℕ)) (old : Watched F) (name : Text) : Type 0 where
+  pub opened : Watched F
+  pub named : IfSome (name_in (inner_of opened)) (λ known. known ≡ name)
+  pub untouched : stream_of contents opened ≡ stream_of contents old
+
+-- What a clause sees of a file over a session: by which name it was opened, and its stream before and after
+pub record Filing : Type 1 where
+  pub is_opened_as : Text → Type 0
+  pub stream : Passage
+
+-- What a clause sees of the files that a run writes beside its answers
+pub record Filings : Type 1 where
+  pub wear : Filing
+
+-- a file over a session, with the functions that tell its name and its bytes
+abbrev pub filing : {F : Type 0} → (F → Option Text) → (F → Option (List ℕ)) → Watched F → Watched F → Filing
+filing name_in contents old new = record { is_opened_as = IsOpenedAs name_in contents old; stream = over contents old new }
+
+-- the files of a run over a session
+abbrev pub filings : {F : Type 0} → (F → Option Text) → (F → Option (List ℕ)) → RunFiles F → RunFiles F → Filings
+filings name_in contents old new = record { wear = filing name_in contents old.wear new.wear }
+
+-- nothing was written to the files, and no call of theirs failed
+abbrev pub AreUntouched : Filings → Type 0
+AreUntouched files = files.wear.stream.after ≡ files.wear.stream.before
+
+-- nothing was written to a file, but a call of it failed
+abbrev pub HasFailedToOpen : Passage → Type 0
+HasFailedToOpen stream = (stream.after.bytes ≡ stream.before.bytes) × (stream.after.failures ≢ stream.before.failures)
+
+-- the wear is told where the options name a file for it, which was opened by that name: that of the device after the
+-- trace, and no call failed. Else nothing is told
+abbrev pub TellsWear : Geometry → Options → Stream → Filing → Type 0
 TellsWear geo given input wear =
-    MatchOption given.wear (wear.after ≡ wear.before) (λ name. (wear.after.failures ≡ wear.before.failures) × Tells (IsWearOf geo) input wear)
+    MatchOption given.wear (wear.stream.after ≡ wear.stream.before)
+    (λ name. wear.is_opened_as name.now × (wear.stream.after.failures ≡ wear.stream.before.failures) × Tells (IsWearOf geo) input wear.stream)
 
 -- the trace was played, and the wear told as the options want it
-pub record Played (words : List Text) (input output wear : Passage) : Type 0 where
+pub record Played (words : List Text) (input output : Passage) (files : Filings) : Type 0 where
   pub answered : Answered words input output
-  pub told : TellsWear answered.geo answered.device.given input.before wear
+  pub told : TellsWear answered.geo answered.device.given input.before files.wear
+
+-- the options name a file, which was opened by that name
+abbrev pub IsOpenedForWear : Options → Filing → Type 0
+IsOpenedForWear given wear = MatchOption given.wear ⊥ (λ name. wear.is_opened_as name.now)
 
 -- the trace was played, and the file for the wear could not be written: a beginning of the wear is told
-pub record LosesWear (words : List Text) (input output wear : Passage) : Type 0 where
+pub record LosesWear (words : List Text) (input output : Passage) (wear : Filing) : Type 0 where
   pub answered : Answered words input output
-  pub asked : is_some answered.device.given.wear ≡ true
-  pub failed : wear.after.failures ≢ wear.before.failures
-  pub part : TellsPart (IsWearOf answered.geo) input.before wear
+  pub opened : IsOpenedForWear answered.device.given wear
+  pub failed : wear.stream.after.failures ≢ wear.stream.before.failures
+  pub part : TellsPart (IsWearOf answered.geo) input.before wear.stream
 
--- the words asked for help, which was written, and nothing was read
+-- the words describe a device, and name a file for the wear
+pub record NamesWear (words : List Text) : Type 0 where
+  pub geo : Geometry
+  pub device : IsDescribed words geo
+  pub asked : is_some device.given.wear ≡ true
+
+-- nothing was read, and nothing written to the output
+abbrev pub IsIdle : Passage → Passage → Type 0
+IsIdle input output = (input.after ≡ input.before) × (output.after ≡ output.before)
+
+-- one thread played the trace
+pub record PlaysAlone (geo : Geometry) (input output : Passage) : Type 0 where
+  pub alone : hosts_of geo ≡ 0
+  pub end : IsAtEnd input.after.bytes
+  pub text : Tells (IsTextOf geo) input.before output
+  pub input_unfailed : input.after.failures ≡ input.before.failures
+  pub output_unfailed : output.after.failures ≡ output.before.failures
+
+-- why the wear of a run is not told, on a device
+abbrev pub LosesWearOf : FileStop → Geometry → Text → Passage → Passage → Filing → Type 0
+LosesWearOf file_stop.NotWithWorkers geo name input output wear =
+    (hosts_of geo ≢ 0) × IsIdle input output × (wear.stream.after ≡ wear.stream.before)
+LosesWearOf file_stop.NotOpened geo name input output wear = IsIdle input output × HasFailedToOpen wear.stream
+LosesWearOf file_stop.NotItsOwn geo name input output wear = IsIdle input output × HasFailedToOpen wear.stream
+LosesWearOf file_stop.Failed geo name input output wear =
+    PlaysAlone geo input output × wear.is_opened_as name × (wear.stream.after.failures ≢ wear.stream.before.failures)
+    × TellsPart (IsWearOf geo) input.before wear.stream
+
+-- how a run by one thread that tells its wear ended, by the name of the file
+abbrev pub EndsWithWear : Result (Unit {0}) Stop → Geometry → Text → Passage → Passage → Filing → Type 0
+EndsWithWear (Ok _) geo name input output wear =
+    PlaysAlone geo input output × wear.is_opened_as name
+    × (wear.stream.after.failures ≡ wear.stream.before.failures) × Tells (IsWearOf geo) input.before wear.stream
+EndsWithWear (Err (stop.Arguments text)) geo name input output wear = ⊥
+EndsWithWear (Err (stop.Encoding place)) geo name input output wear = ⊥
+EndsWithWear (Err (stop.Geometry found)) geo name input output wear = ⊥
+EndsWithWear (Err (stop.Run found)) geo name input output wear =
+    (hosts_of geo ≡ 0) × ExplainsRun IsTextOf geo input output found × (wear.stream.after ≡ wear.stream.before)
+EndsWithWear (Err stop.Help) geo name input output wear = ⊥
+EndsWithWear (Err stop.Memory) geo name input output wear = ⊥
+EndsWithWear (Err (stop.File run_file.Wear why)) geo name input output wear = LosesWearOf why geo name input output wear
+
+-- the words ask for help or for the version, which clap counts among its faults
+abbrev pub AsksClap : ErrorKind → Type 0
+AsksClap found = (found ≡ kind.DisplayHelp) ⊎ (found ≡ kind.DisplayVersion)
+
+-- the words asked for help or the version, which was written, and nothing was read
 pub record Helped (words : List Text) (input output : Passage) : Type 0 where
-  pub asked : IsAmong kind.DisplayHelp (faults_given words)
+  pub error : Error
+  pub asked : IsAmong (kind_of error) (faults_given words)
+  pub is_request : AsksClap (kind_of error)
   pub text : List ℕ
   pub out : Sends output text
   pub unread : input.after ≡ input.before
@@ -111,45 +216,62 @@ pub record Stopped (words : List Text) (found : RunFault) (input output : Passag
   pub device : IsDescribed words geo
   pub why : ExplainsRun (IsTextFor device.given.patience) geo input output found
 
--- the words describe a device with workers, and name a file for the wear, which one thread alone tells
-pub record WantsSharedWear (words : List Text) : Type 0 where
-  pub geo : Geometry
-  pub device : IsDescribed words geo
-  pub shared : hosts_of geo ≢ 0
-  pub asked : is_some device.given.wear ≡ true
-
 -- some of a text went out, and then the writer failed
 pub record AppendsSome (output : Passage) : Type 0 where
   pub text : List ℕ
   pub part : SendsBeginning output text
   pub failed : output.after.failures ≢ output.before.failures
 
--- why a session stopped. Nothing is on the output but after `Output` of a run, `Help` and `Wear`, nothing was read but
--- by a run, and of the wear nothing is told but with `Wear`
-abbrev pub ExplainsStop : Stop → List Text → Passage → Passage → Passage → Type 0
-ExplainsStop (stop.Arguments error) words input output wear =
-    IsAmong (kind_of error) (faults_given words) × (kind_of error ≢ kind.DisplayHelp) × (input.after ≡ input.before) × (output.after ≡ output.before) × (wear.after ≡ wear.before)
-ExplainsStop (stop.Encoding place) words input output wear = ⊥
-ExplainsStop (stop.Geometry found) words input output wear =
-    DescribesNone words found × (input.after ≡ input.before) × (output.after ≡ output.before) × (wear.after ≡ wear.before)
-ExplainsStop (stop.Run found) words input output wear =
-    Stopped words found input output × (wear.after ≡ wear.before)
-ExplainsStop stop.Help words input output wear =
-    IsAmong kind.DisplayHelp (faults_given words) × (input.after ≡ input.before) × AppendsSome output × (wear.after ≡ wear.before)
-ExplainsStop stop.Memory words input output wear =
-    (input.after ≡ input.before) × (output.after ≡ output.before) × (wear.after ≡ wear.before)
-ExplainsStop stop.Wear words input output wear =
+-- why the file of the wear was not written: workers are asked for, it was not opened, or it failed as it was written
+abbrev pub ExplainsWear : FileStop → List Text → Passage → Passage → Filing → Type 0
+ExplainsWear file_stop.NotWithWorkers words input output wear =
+    ((named : NamesWear words) × (hosts_of named.geo ≢ 0)) × IsIdle input output × (wear.stream.after ≡ wear.stream.before)
+ExplainsWear file_stop.NotOpened words input output wear =
+    NamesWear words × IsIdle input output × HasFailedToOpen wear.stream
+ExplainsWear file_stop.NotItsOwn words input output wear =
+    NamesWear words × IsIdle input output × HasFailedToOpen wear.stream
+ExplainsWear file_stop.Failed words input output wear =
     LosesWear words input output wear
-ExplainsStop stop.SharedWear words input output wear =
-    WantsSharedWear words × (input.after ≡ input.before) × (output.after ≡ output.before) × (wear.after ≡ wear.before)
+
+-- why a file of a run was not written
+abbrev pub ExplainsFile : RunFile → FileStop → List Text → Passage → Passage → Filings → Type 0
+ExplainsFile run_file.Wear why words input output files = ExplainsWear why words input output files.wear
+
+-- clap finds a fault in the words, which asks neither for help nor for the version
+pub record IsRefused (words : List Text) : Type 0 where
+  pub error : Error
+  pub found : IsAmong (kind_of error) (faults_given words)
+  pub no_request : AsksClap (kind_of error) → ⊥
+
+-- the words ask for help or for the version
+pub record AsksForText (words : List Text) : Type 0 where
+  pub error : Error
+  pub asked : IsAmong (kind_of error) (faults_given words)
+  pub is_request : AsksClap (kind_of error)
+
+-- why a session stopped. Nothing is on the output but after `Output` of a run, `Help` and `Failed` of a file, nothing was
+-- read but by a run, and nothing is told in a file but with its `Failed`
+abbrev pub ExplainsStop : Stop → List Text → Passage → Passage → Filings → Type 0
+ExplainsStop (stop.Arguments text) words input output files =
+    IsRefused words × IsIdle input output × AreUntouched files
+ExplainsStop (stop.Encoding place) words input output files = ⊥
+ExplainsStop (stop.Geometry found) words input output files =
+    DescribesNone words found × IsIdle input output × AreUntouched files
+ExplainsStop (stop.Run found) words input output files =
+    Stopped words found input output × AreUntouched files
+ExplainsStop stop.Help words input output files =
+    AsksForText words × (input.after ≡ input.before) × AppendsSome output × AreUntouched files
+ExplainsStop stop.Memory words input output files =
+    IsIdle input output × AreUntouched files
+ExplainsStop (stop.File file why) words input output files = ExplainsFile file why words input output files
 
 -- how an attempt ended
-abbrev pub Explains : Result (Unit {0}) Stop → List Text → Passage → Passage → Passage → Type 0
-Explains (Ok _) words input output wear =
-    Played words input output wear
-    ⊎ (Helped words input output × (wear.after ≡ wear.before))
-Explains (Err why) words input output wear =
-    ExplainsStop why words input output wear
+abbrev pub Explains : Result (Unit {0}) Stop → List Text → Passage → Passage → Filings → Type 0
+Explains (Ok _) words input output files =
+    Played words input output files
+    ⊎ (Helped words input output × AreUntouched files)
+Explains (Err why) words input output files =
+    ExplainsStop why words input output files
 
 -- the exit status
 abbrev pub status_after : Result (Unit {0}) Stop → ℕ
@@ -157,35 +279,23 @@ status_after (Ok _) = 0
 status_after (Err why) = status_of why
 
 -- how a session ended, and that the status and what was told on standard error tell it
-pub record EndsSession (status : ℕ) (words : List Text) (input output errors wear : Passage) : Type 0 where
+pub record EndsSession (status : ℕ) (words : List Text) (input output errors : Passage) (files : Filings) : Type 0 where
   pub ending : Result (Unit {0}) Stop
   pub status_is : status ≡ status_after ending
-  pub why : Explains ending words input output wear
+  pub why : Explains ending words input output files
   pub told : TellsEnding ending errors
 
--- what comes of the words that clap refused with an error: the help is written, and every other text is told elsewhere
+-- what comes of the words that clap refused with an error: the help or the version is written, and every other text is told elsewhere
 abbrev pub AnswersClap : Error → Result (Unit {0}) Stop → Passage → Type 0
 AnswersClap error (Ok _) output =
-    (kind_of error ≡ kind.DisplayHelp) × (output.after.failures ≡ output.before.failures) × (text : List ℕ) × Sends output text
-AnswersClap error (Err (stop.Arguments told)) output =
-    (told ≡ error) × (kind_of error ≢ kind.OutOfMemory) × (kind_of error ≢ kind.DisplayHelp) × (output.after ≡ output.before)
+    AsksClap (kind_of error) × (output.after.failures ≡ output.before.failures) × (text : List ℕ) × Sends output text
+AnswersClap error (Err (stop.Arguments text)) output =
+    (kind_of error ≢ kind.OutOfMemory) × (AsksClap (kind_of error) → ⊥) × (output.after ≡ output.before)
 AnswersClap error (Err (stop.Encoding place)) output = ⊥
 AnswersClap error (Err (stop.Geometry found)) output = ⊥
 AnswersClap error (Err (stop.Run found)) output = ⊥
 AnswersClap error (Err stop.Help) output =
-    (kind_of error ≡ kind.DisplayHelp) × AppendsSome output
+    AsksClap (kind_of error) × AppendsSome output
 AnswersClap error (Err stop.Memory) output =
-    ((kind_of error ≡ kind.OutOfMemory) ⊎ (kind_of error ≡ kind.DisplayHelp)) × (output.after ≡ output.before)
-AnswersClap error (Err stop.Wear) output = ⊥
-AnswersClap error (Err stop.SharedWear) output = ⊥
-
--- why the words of a command line could not be read; arguments count from 1
-abbrev pub IsUnread : Stop → Type 0
-IsUnread (stop.Arguments error) = ⊥
-IsUnread (stop.Encoding place) = 1 ≤ place
-IsUnread (stop.Geometry found) = ⊥
-IsUnread (stop.Run found) = ⊥
-IsUnread stop.Help = ⊥
-IsUnread stop.Memory = ⊤
-IsUnread stop.Wear = ⊥
-IsUnread stop.SharedWear = ⊥
+    output.after ≡ output.before
+AnswersClap error (Err (stop.File file why)) output = ⊥

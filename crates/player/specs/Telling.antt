@@ -1,30 +1,49 @@
 -- What a session tells on standard error.
-use Rattle.std.specs.Prelude.{◌≡◌, ℕ, List, ◌++◌, codes, decimal, Option, None, Some, IfSome, Result, Ok, Err}
+use Rattle.std.specs.Prelude.{◌≡◌, ℕ, List, [], ◌++◌, codes, decimal, string_bytes, Result, Ok, Err}
 use Rattle.geometry.specs.Faults.{fault_name}
 use Rattle.answers.specs.Faults.{run_text}
 use Rattle.answers.specs.Streams.{Passage, Sends, SendsBeginning}
+use Rattle.player.specs.declared.run_files.FileStop.{FileStop}
+use Rattle.player.specs.declared.run_files.FileStop.TheVariants as file_stop
+use Rattle.player.specs.declared.run_files.RunFile.{RunFile}
+use Rattle.player.specs.declared.run_files.RunFile.TheVariants as run_file
 use Rattle.player.specs.declared.stop.Stop.{Stop}
 use Rattle.player.specs.declared.stop.Stop.TheVariants as stop
 
--- the line that tells why a session stopped. Where the arguments are refused the text is clap's
-abbrev pub line_of : Stop → Option (List ℕ)
-line_of (stop.Arguments error) = None
-line_of (stop.Encoding place) = Some (codes "argument " ++ decimal place ++ codes ": not UTF-8\n")
-line_of (stop.Geometry found) = Some (codes "geometry: " ++ fault_name found ++ codes "\n")
-line_of (stop.Run found) = Some (run_text found ++ codes "\n")
-line_of stop.Help = Some (codes "output: failed\n")
-line_of stop.Memory = Some (codes "memory: refused\n")
-line_of stop.Wear = Some (codes "wear: failed\n")
-line_of stop.SharedWear = Some (codes "wear: not with workers\n")
+-- the name of a file of a run
+abbrev pub file_name : RunFile → List ℕ
+file_name run_file.Wear = codes "wear"
 
--- a line went out whole where no call of the writer failed, and else a beginning of it
-pub record IsTold (line : List ℕ) (errors : Passage) : Type 0 where
-  pub part : SendsBeginning errors line
-  pub whole : errors.after.failures ≡ errors.before.failures → Sends errors line
+-- why a file of a run was not written
+abbrev pub file_text : FileStop → List ℕ
+file_text file_stop.NotWithWorkers = codes ": not with workers"
+file_text file_stop.NotOpened = codes ": not opened"
+file_text file_stop.NotItsOwn = codes ": not a file of its own"
+file_text file_stop.Failed = codes ": failed"
 
--- the line of this stop was told
+-- what tells why a session stopped: a line, or clap's text where the arguments are refused
+abbrev pub text_of : Stop → List ℕ
+text_of (stop.Arguments text) = string_bytes text
+text_of (stop.Encoding place) = codes "argument " ++ decimal place ++ codes ": not UTF-8\n"
+text_of (stop.Geometry found) = codes "geometry: " ++ fault_name found ++ codes "\n"
+text_of (stop.Run found) = run_text found ++ codes "\n"
+text_of stop.Help = codes "output: failed\n"
+text_of stop.Memory = codes "memory: refused\n"
+text_of (stop.File file why) = file_name file ++ file_text why ++ codes "\n"
+
+-- the same where it is a line of our own, and nothing where it is clap's text
+abbrev pub line_of : Stop → List ℕ
+line_of (stop.Arguments text) = []
+line_of why = text_of why
+
+-- a text went out whole where no call of the writer failed, and else a beginning of it
+pub record IsTold (text : List ℕ) (errors : Passage) : Type 0 where
+  pub part : SendsBeginning errors text
+  pub whole : errors.after.failures ≡ errors.before.failures → Sends errors text
+
+-- the text of this stop was told, once
 abbrev pub TellsStop : Stop → Passage → Type 0
-TellsStop why errors = IfSome (line_of why) (λ line. IsTold line errors)
+TellsStop why errors = IsTold (text_of why) errors
 
 -- a session that ends well tells nothing, and else it tells why it stopped
 abbrev pub TellsEnding : Result (Unit {0}) Stop → Passage → Type 0

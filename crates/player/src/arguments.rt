@@ -1,10 +1,11 @@
-ghost use Rattle.std.specs.Prelude.{◌≡◌, codes, map, false, Some, IfOk, IfSome};
-ghost use Rattle.clap.specs.Words.{FailsBy, app_of, first_of, found_of, rows_of, rule_of};
-ghost use Rattle.player.specs.CommandLine.{AreOptionsOf, IsNumberOf, faults_given, file_rule, flashplay, number_rule, rows_given, with_numbers, with_threads};
+ghost use Rattle.std.specs.Prelude.{◌≡◌, codes, map, false, Some, IfOk};
+ghost use Rattle.clap.specs.Words.{FailsBy, app_of, found_of, rows_of, rule_of};
+ghost use Rattle.player.specs.CommandLine.{AreOptionsOf, IsNumberOf, faults_given, file_rule, flashplay, named_rule, number_rule, rows_given, versioned, with_numbers, with_threads};
 
 use crate::command_line::{
-    BLOCKS, BROOMS, ENDURANCE, LUNS, Options, PAGES, PATIENCE, SECTORS, WORDS, WORKERS,
+    BLOCKS, BROOMS, DRAINS, ENDURANCE, LUNS, Options, PAGES, PATIENCE, SECTORS, WORDS, WORKERS,
 };
+use crate::help::{HELP, VERSION};
 use clap::builder::ValueParser;
 use clap::{Arg, ArgMatches, Command, Error};
 use std::alloc::{AllocError, Global};
@@ -36,17 +37,8 @@ fn options_in<'a>(matches: &ArgMatches<'a>) -> Options<'a>
         workers: number(matches, "workers", WORKERS),
         brooms: number(matches, "brooms", BROOMS),
         patience: number(matches, "patience", PATIENCE),
+        drains: number(matches, "drains", DRAINS),
         wear: matches.get_str("wear"),
-    }
-}
-
-/// The file that the words name for the wear, where they are accepted.
-pub fn wear_name<'a>(alloc: Global, words: &'a [&'a str]) -> Option<&'a str>
-    ensures { IfSome result (λ name. first_of (codes "wear") (rows_given (map (λ w. w.now) words.entry.now)) ≡ Some name.now) }
-{
-    match options(alloc, words) {
-        Ok(given) => given.wear,
-        Err(_) => None,
     }
 }
 
@@ -59,8 +51,8 @@ struct NumberOption {
     help: &'static str,
 }
 
-// The numbers of a device, then the threads of a run and the tries of a write.
-const NUMBERS: [NumberOption; 9] = [
+// The numbers of a device, then the threads of a run, the tries of a write, and the drains by one survey.
+const NUMBERS: [NumberOption; 10] = [
     NumberOption {
         name: "luns",
         default: "1",
@@ -124,16 +116,22 @@ const NUMBERS: [NumberOption; 9] = [
         most: 1_000_000_000,
         help: "Tries of a worker's write that finds no block, before it is full",
     },
+    NumberOption {
+        name: "drains",
+        default: "1",
+        least: 1,
+        most: 4096,
+        help: "Blocks that a broom drains by one survey, from 1 to 4096",
+    },
 ];
 
 // The command line as clap knows it.
 fn flashplay<'a>(alloc: Global) -> Result<Command<'a>, AllocError>
     ensures { IfOk result (λ command. app_of command ≡ flashplay) }
 {
-    number_options(alloc)?.arg(named(
+    number_options(alloc)?.arg(file(
         alloc,
         "wear",
-        "FILE",
         "Writes each block's erases and live pages to this file after the run",
     ))
 }
@@ -142,13 +140,23 @@ fn flashplay<'a>(alloc: Global) -> Result<Command<'a>, AllocError>
 fn number_options<'a>(alloc: Global) -> Result<Command<'a>, AllocError>
     ensures { IfOk result (λ command. app_of command ≡ with_threads with_numbers) }
 {
-    let mut command = Command::new(alloc, "flashplay").about(
-        "Plays a trace on a page-mapped flash layer: the trace comes from standard input, its answers go to standard output.",
-    );
+    let mut command = named_command(alloc);
     'numbers: for number in &NUMBERS {
         command = command.arg(option(alloc, number))?;
     }
     Ok(command)
+}
+
+// The command without options: its version and its texts of help.
+fn named_command<'a>(alloc: Global) -> Command<'a>
+    ensures { app_of result ≡ versioned }
+{
+    Command::new(alloc, "flashplay")
+        .version(VERSION)
+        .about(
+            "Plays a trace on a page-mapped flash layer: the trace comes from standard input, its answers go to standard output.",
+        )
+        .after_help(HELP)
 }
 
 // An option of one whole number.
@@ -161,9 +169,17 @@ fn option<'a>(alloc: Global, number: &NumberOption) -> Arg<'a>
         .default_value(number.default)
 }
 
+// An option of a file's name.
+fn file<'a>(alloc: Global, name: &'a str, help: &'a str) -> Arg<'a>
+    ensures rule { rule_of result ≡ file_rule name.entry.now }
+    ensures local { result.global ≡ false }
+{
+    named(alloc, name, "FILE", help).value_parser(ValueParser::NonEmptyString)
+}
+
 // An option behind two dashes, by its name, its value's name, and its help.
 fn named<'a>(alloc: Global, name: &'a str, value: &'a str, help: &'a str) -> Arg<'a>
-    ensures rule { rule_of result ≡ file_rule name.entry.now }
+    ensures rule { rule_of result ≡ named_rule name.entry.now }
     ensures local { result.global ≡ false }
 {
     Arg::new(alloc, name)

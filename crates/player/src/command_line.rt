@@ -16,6 +16,8 @@ pub const WORKERS: u32 = 0;
 pub const BROOMS: u32 = 0;
 /// The tries of a write where `--patience` is absent.
 pub const PATIENCE: u32 = 1_000_000;
+/// The drains of a broom by one survey where `--drains` is absent.
+pub const DRAINS: u32 = 1;
 
 /// What the command line gives, under the names of its options.
 #[derive(Clone, Copy)]
@@ -29,6 +31,7 @@ pub struct Options<'a> {
     pub workers: u32,
     pub brooms: u32,
     pub patience: u32,
+    pub drains: u32,
     /// The file for the wear of each block.
     pub wear: Option<&'a str>,
 }

@@ -1,17 +1,45 @@
-ghost use Rattle.std.specs.Prelude.{◌≤◌, IfErr};
-ghost use Rattle.player.specs.Session.{IsUnread};
+ghost use Rattle.std.specs.Prelude.{◌≡◌, ℕ, List, Option, None, IfErr, IfOk, IfSome, slice_get, map, option_map, string_bytes};
+ghost use Rattle.player.specs.Arguments.{AreWordsOf, IsUnread};
 
 use crate::stop::Stop;
-use std::alloc::Global;
+use std::alloc::{AllocError, Global};
 use std::env::{Env, FillError};
 
 /// The room at first for an argument. It is doubled while it is too little.
 const FIRST_BYTES: usize = 256;
 
+/// The arguments of a program, without the name that it was called by.
+pub trait Arguments {
+    /// All of them, where they are known.
+    ghost all: { Self → Option (List (List ℕ)) } = { λ _. None };
+
+    /// The bytes of the argument at a place, or none past the last one.
+    fn argument(&self, alloc: Global, place: usize) -> Result<Option<Vec<u8>>, AllocError>
+        ensures { IfSome (all self.now) (λ arguments. IfOk result (λ found. option_map (λ bytes. bytes.items) found ≡ slice_get arguments place)) };
+}
+
+impl<S: Env> Arguments for S {
+    fn argument(&self, alloc: Global, place: usize) -> Result<Option<Vec<u8>>, AllocError> {
+        let mut bytes = vec![in alloc; 0u8; FIRST_BYTES]?;
+        for _ in 0..usize::BITS {
+            match self.arg(place.saturating_add(1), &mut bytes) {
+                Ok(len) => {
+                    bytes.truncate(len);
+                    return Ok(Some(bytes));
+                }
+                Err(FillError::NotPresent) => return Ok(None),
+                Err(FillError::TooLong) => bytes.resize(bytes.len().saturating_mul(2), 0)?,
+            }
+        }
+        Err(AllocError)
+    }
+}
+
 /// The words of the command line: the program's name, whatever it was called by, and then the
 /// arguments. Each has to be UTF-8.
-pub fn read_words<S: Env>(system: &S, alloc: Global) -> Result<Vec<String>, Stop>
-    ensures why { IfErr result IsUnread }
+pub fn read_words<S: Arguments>(system: &S, alloc: Global) -> Result<Vec<String>, Stop>
+    ensures words { IfOk result (λ words. IfSome (S.all system.now) (AreWordsOf (map string_bytes words.items))) }
+    ensures why { IfErr result (IsUnread (S.all system.now)) }
 {
     let Ok(name) = String::from_str(alloc, "flashplay") else {
         return Err(Stop::Memory);
@@ -20,43 +48,18 @@ pub fn read_words<S: Env>(system: &S, alloc: Global) -> Result<Vec<String>, Stop
     if words.push(name).is_err() {
         return Err(Stop::Memory);
     }
-    for place in 1..usize::MAX {
-        match argument(system, alloc, place)? {
-            None => break,
-            Some(word) => {
-                if words.push(word).is_err() {
-                    return Err(Stop::Memory);
-                }
-            }
-        }
-    }
-    Ok(words)
-}
-
-// The argument at a place, or none past the last one.
-fn argument<S: Env>(system: &S, alloc: Global, place: usize) -> Result<Option<String>, Stop>
-    requires { 1 ≤ place }
-    ensures why { IfErr result IsUnread }
-{
-    let Ok(mut bytes) = vec![in alloc; 0u8; FIRST_BYTES] else {
-        return Err(Stop::Memory);
-    };
-    for _ in 0..usize::BITS {
-        match system.arg(place, &mut bytes) {
-            Ok(len) => {
-                bytes.truncate(len);
-                return match String::from_utf8(bytes) {
-                    Ok(word) => Ok(Some(word)),
-                    Err(_) => Err(Stop::Encoding(place as u64)),
-                };
-            }
-            Err(FillError::NotPresent) => return Ok(None),
-            Err(FillError::TooLong) => {
-                let more = bytes.len().saturating_mul(2);
-                if bytes.resize(more, 0).is_err() {
-                    return Err(Stop::Memory);
-                }
-            }
+    for place in 0..usize::MAX {
+        let Ok(found) = system.argument(alloc, place) else {
+            return Err(Stop::Memory);
+        };
+        let Some(bytes) = found else {
+            return Ok(words);
+        };
+        let Ok(word) = String::from_utf8(bytes) else {
+            return Err(Stop::Encoding(place as u64 + 1));
+        };
+        if words.push(word).is_err() {
+            return Err(Stop::Memory);
         }
     }
     Err(Stop::Memory)

@@ -4,17 +4,21 @@
 mod arguments;
 mod command_line;
 mod environment;
+mod help;
+mod run_files;
 mod sessions;
 mod stop;
 mod telling;
 
 pub use answers::RunFault;
-pub use arguments::{options, wear_name};
+pub use arguments::options;
 pub use command_line::Options;
-pub use environment::read_words;
+pub use environment::{Arguments, read_words};
+pub use help::VERSION;
 pub use one_player::run;
+pub use run_files::{FileStop, RunFile, RunFiles};
 pub use sessions::session;
 pub use shared_run::run_shared;
 pub use stop::Stop;
 pub use telling::tell;
-pub use trace::{TraceFault, TraceFaultKind, Watched};
+pub use trace::{NamedFile, OpenFault, TraceFault, TraceFaultKind, Watched};

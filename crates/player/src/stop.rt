@@ -1,6 +1,7 @@
 ghost use Rattle.std.specs.Prelude.{◌≡◌};
-ghost use Rattle.player.specs.Session.{status_of_run, status_of_trace};
+ghost use Rattle.player.specs.Session.{status_of_file, status_of_run, status_of_trace};
 
+use crate::run_files::{FileStop, RunFile};
 use answers::RunFault;
 use geometry::GeometryFault;
 use trace::TraceFaultKind;
@@ -8,8 +9,8 @@ use trace::TraceFaultKind;
 /// Why a session ended without its answers.
 #[derive(Debug, Drop)]
 pub enum Stop {
-    /// The arguments are refused.
-    Arguments(clap::Error),
+    /// The arguments are refused, for the reason in this text.
+    Arguments(String),
     /// The argument of this number isn't UTF-8; they count from 1.
     Encoding(u64),
     /// The numbers make no device.
@@ -20,10 +21,8 @@ pub enum Stop {
     Help,
     /// Memory ran out before the run.
     Memory,
-    /// The answers are whole, but the file of the wear could not be written.
-    Wear,
-    /// A file for the wear is named, and workers are, which don't tell it.
-    SharedWear,
+    /// A file that the command line names was not written. Where it failed after it was opened the answers are whole.
+    File(RunFile, FileStop),
 }
 
 impl Stop {
@@ -34,11 +33,21 @@ impl Stop {
         ensures { result ≡ status_of self.now }
     {
         match self {
-            Stop::Arguments(_) | Stop::Encoding(_) | Stop::Geometry(_) | Stop::SharedWear => 2,
+            Stop::Arguments(_) | Stop::Encoding(_) | Stop::Geometry(_) => 2,
             Stop::Run(fault) => run_status(*fault),
-            Stop::Help | Stop::Wear => 1,
+            Stop::Help => 1,
             Stop::Memory => 4,
+            Stop::File(_, why) => file_status(*why),
         }
+    }
+}
+
+fn file_status(why: FileStop) -> u8
+    ensures { result ≡ status_of_file why }
+{
+    match why {
+        FileStop::NotWithWorkers | FileStop::NotItsOwn => 2,
+        FileStop::NotOpened | FileStop::Failed => 1,
     }
 }
 

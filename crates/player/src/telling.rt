@@ -1,4 +1,4 @@
-ghost use Rattle.std.specs.Prelude.{◌≡◌, ◌+◌, ◌≤◌, ◌++◌, codes, length, option_map};
+ghost use Rattle.std.specs.Prelude.{◌≡◌, ◌+◌, ◌≤◌, ◌++◌, codes, length};
 ghost use Rattle.trace.specs.Faults.{fault_text};
 ghost use Rattle.answers.specs.Faults.{run_text};
 ghost use Rattle.answers.specs.Streams.{over};
@@ -17,45 +17,42 @@ const LINE_BYTES: usize = 64;
 
 type Line = ArrayString<LINE_BYTES>;
 
-/// Tells why a session stopped: in one line, handed on at once, or in the text of `clap`. The answer
-/// is the exit status, and whether the line was written changes nothing.
+/// Tells why a session stopped: in one line or in the text of `clap`, handed on at once. The answer
+/// is the exit status, and whether the text was written changes nothing.
 pub fn tell<E: Write>(stop: &Stop, errors: &mut Watched<E>) -> u8
     ensures status { result ≡ status_of stop.now }
     ensures told { TellsStop stop.now (over E.contents errors.old errors.new) }
 {
-    let Some(line) = line(stop) else {
-        if let Stop::Arguments(error) = stop {
-            let _ = write!(errors, "{error}");
-        }
+    if let Stop::Arguments(text) = stop {
+        tell_text(text.as_str(), errors);
         return stop.status();
-    };
-    tell_line(line.as_str(), errors);
+    }
+    tell_text(line(stop).as_str(), errors);
     stop.status()
 }
 
-// Hands on a line, and doesn't mind whether it went out.
-fn tell_line<E: Write>(line: &str, errors: &mut Watched<E>)
-    ensures { IsTold line.now (over E.contents errors.old errors.new) }
+// Hands on a text, and doesn't mind whether it went out.
+fn tell_text<E: Write>(text: &str, errors: &mut Watched<E>)
+    ensures { IsTold text.now (over E.contents errors.old errors.new) }
 {
-    let _ = send(errors, line.as_bytes());
+    let _ = send(errors, text.as_bytes());
 }
 
-// The line that tells a stop, where its text isn't clap's.
-fn line(stop: &Stop) -> Option<Line>
-    ensures { option_map (λ l. l.bytes) result ≡ line_of stop.now }
+// The line that tells a stop. It is empty where the text is clap's.
+fn line(stop: &Stop) -> Line
+    ensures { result.bytes ≡ line_of stop.now }
 {
     match stop {
-        Stop::Arguments(_) => None,
+        Stop::Arguments(_) => ArrayString::new(),
         Stop::Encoding(place) => {
             let mut digits = itoa::Buffer::new();
-            Some(joined("argument ", digits.format(*place), ": not UTF-8\n"))
+            joined("argument ", digits.format(*place), ": not UTF-8\n")
         }
-        Stop::Geometry(fault) => Some(joined("geometry: ", fault.name(), "\n")),
-        Stop::Run(fault) => Some(run_line(*fault)),
-        Stop::Help => Some(joined("output: ", "failed", "\n")),
-        Stop::Memory => Some(joined("memory: ", "refused", "\n")),
-        Stop::Wear => Some(joined("wear: ", "failed", "\n")),
-        Stop::SharedWear => Some(joined("wear: ", "not with workers", "\n")),
+        Stop::Geometry(fault) => joined("geometry: ", fault.name(), "\n"),
+        Stop::Run(fault) => run_line(*fault),
+        Stop::Help => joined("output: ", "failed", "\n"),
+        Stop::Memory => joined("memory: ", "refused", "\n"),
+        Stop::File(file, why) => joined(file.name(), why.text(), "\n"),
     }
 }
 

@@ -13,6 +13,7 @@ use flash_table::{Gate, Pass, Point};
 use geometry::Got;
 use host::NewFault;
 use lines::{Answer, Answers, Kind};
+use std::thread;
 use trace::{Command, Commands, Op};
 use volume::Volume;
 
@@ -23,6 +24,16 @@ fn found(got: Got) -> Kind
     match got {
         Got::Empty => Kind::Empty,
         Got::Data => Kind::Page,
+    }
+}
+
+// How many tries of a write that are turned away stand between two yields.
+const TRIES_A_YIELD: u32 = 16;
+
+// A write was turned away, after so many tries that were. Now and then the processor is given to another thread, as to a broom.
+fn rest_after(turned_away: u32) {
+    if turned_away % TRIES_A_YIELD == 0 {
+        thread::yield_now();
     }
 }
 
@@ -45,6 +56,7 @@ fn write_patiently<G: Gate>(
         if let Ok(was) = volume.write_gated(pass, sector, bytes, gate) {
             return Kind::of_was(was);
         }
+        rest_after(tried);
     }
     Kind::Full
 }
@@ -70,6 +82,7 @@ fn write_new_patiently<G: Gate>(
             Err(NewFault::Written) => return Kind::Written,
             Err(NewFault::NoBlock) => {}
         }
+        rest_after(refused);
     }
     Kind::Full
 }

@@ -1,7 +1,6 @@
 //! Workers run at once.
 use crate::run::{play, small, told};
 use flash_table::{Gate, Point};
-use shared_player::AllStart;
 use std::sync::atomic::{AtomicBool, Ordering};
 use std::test::Fail;
 
@@ -48,7 +47,7 @@ fn two_workers_wait_for_each_other(rt: HostRuntime) -> Result<(), Fail> {
             seen: false,
         },
     ];
-    let rows = play(&rt, AllStart, &small(5, 2, 0)?, trace, 9, &mut gates)??;
+    let rows = play(&rt, &small(5, 2, 0)?, trace, 9, &mut gates)??;
     assert!(rt; gates.iter().all(|gate| gate.seen));
     let text = told(rt.alloc(), &rows)?;
     assert!(rt; text.as_str() == "empty A | empty B | ");

@@ -1,11 +1,9 @@
-//! Tests of a run by many workers: rows with the same answers in every schedule, values that were written, threads that are refused, and
-//! workers that run at once.
+//! Tests of a run by many workers: rows with the same answers in every schedule, values that were written, and workers that run at
+//! once.
 #![tactic(auto)]
 
 #[cfg(test)]
 mod at_once;
-#[cfg(test)]
-mod refused;
 #[cfg(test)]
 mod rows;
 #[cfg(test)]

@@ -3,13 +3,17 @@ use answers::read_commands;
 use flash_table::{Gate, NoGate};
 use geometry::Geometry;
 use lines::{Answer, Answers, Cursor, Kind};
-use shared_player::{AllStart, NoShift, Starts, play_commands};
+use shared_player::{NoShift, play_commands};
 use std::alloc::Global;
 use std::process::Abort;
 use std::sync::{Arc, Wait};
 use std::test::Fail;
 use std::thread::Threads;
+use std::time::Clock;
 use trace::Watched;
+
+// How many blocks a broom drains by one survey.
+const DRAINS: u32 = 4;
 
 /// A device of so many blocks of two pages of one word, with two sectors.
 pub(crate) fn small(blocks: u32, hosts: u32, brooms: u32) -> Result<Geometry, Fail> {
@@ -29,13 +33,8 @@ fn listed(alloc: Global, row: &Answers) -> Result<Vec<Answer>, Fail> {
 }
 
 /// Plays a trace, with these gates.
-pub(crate) fn play<
-    R: Threads + Wait + Sync + Abort + AllocGlobal,
-    S: Starts + Copy + Drop,
-    G: Gate + Send,
->(
+pub(crate) fn play<R: Threads + Wait + Clock + Sync + Abort + AllocGlobal, G: Gate + Send>(
     rt: &R,
-    starts: S,
     geometry: &Geometry,
     trace: &[u8],
     patience: u32,
@@ -48,7 +47,7 @@ pub(crate) fn play<
     assert!(rt; geometry.hosts() > 0);
     assert!(rt; gates.len() == geometry.hosts() as usize + geometry.brooms() as usize);
     let alloc = rt.alloc();
-    let rows = match play_commands(rt, alloc, starts, geometry, &commands, patience, gates) {
+    let rows = match play_commands(rt, alloc, geometry, &commands, patience, DRAINS, gates) {
         Ok(rows) => rows,
         Err(fault) => return Ok(Err(fault)),
     };
@@ -60,7 +59,7 @@ pub(crate) fn play<
 }
 
 /// Plays a trace with gates that do nothing.
-pub(crate) fn play_freely<R: Threads + Wait + Sync + Abort + AllocGlobal>(
+pub(crate) fn play_freely<R: Threads + Wait + Clock + Sync + Abort + AllocGlobal>(
     rt: &R,
     geometry: &Geometry,
     trace: &[u8],
@@ -68,7 +67,7 @@ pub(crate) fn play_freely<R: Threads + Wait + Sync + Abort + AllocGlobal>(
 ) -> Result<Vec<Vec<Answer>>, Fail> {
     let count = geometry.hosts() as usize + geometry.brooms() as usize;
     let mut gates = vec![in rt.alloc(); NoGate; count]?;
-    Ok(play(rt, AllStart, geometry, trace, patience, &mut gates)??)
+    Ok(play(rt, geometry, trace, patience, &mut gates)??)
 }
 
 // Adds a word for an answer: a page is told by its first byte, which is a letter.
@@ -101,7 +100,7 @@ pub(crate) fn told(alloc: Global, rows: &[Vec<Answer>]) -> Result<String, Fail> 
 }
 
 /// What the workers are answered, with gates that do nothing.
-pub(crate) fn answers_of<R: Threads + Wait + Sync + Abort + AllocGlobal>(
+pub(crate) fn answers_of<R: Threads + Wait + Clock + Sync + Abort + AllocGlobal>(
     rt: &R,
     geometry: &Geometry,
     trace: &[u8],

@@ -99,6 +99,12 @@ impl<'a, H: Home> Host<'a, H> {
         read_done(done.got, &out, done.tries)
     }
 
+    fn ask(&mut self, sector: u32) -> Done
+        requires { sector < sectors_of (geometry_of (flash_of self.old.volume.now)) }
+    {
+        Done::Asked(self.volume.look(&mut self.pass, sector))
+    }
+
     // Holds the page of a sector.
     fn hold(self, sector: u32) -> (Actor<'a, H>, Done)
         requires { sector < sectors_of (geometry_of (flash_of self.volume.now)) }
@@ -122,6 +128,7 @@ impl<'a, H: Home> Host<'a, H> {
             Call::New(sector, number) if sector < sectors => self.write_new(sector, number, gate),
             Call::Trim(sector) if sector < sectors => self.trim(sector),
             Call::Read(sector) if sector < sectors => self.read(sector, gate),
+            Call::Ask(sector) if sector < sectors => self.ask(sector),
             _ => Done::Nothing,
         }
     }
@@ -275,6 +282,11 @@ impl<'a, H: Home> Sweeper<'a, H> {
             Call::Erase(block) => Done::Erased(self.erase(block, gate)),
             Call::DrainOne => Done::Drained(self.volume.drain_one(rt, &mut self.broom, gate)),
             Call::EraseOne => Done::Erased(self.volume.erase_one(rt, &mut self.broom, gate)),
+            Call::DrainNext => Done::Drained(self.volume.drain_next(&mut self.broom, gate)),
+            Call::DrainNextOne => {
+                Done::Drained(self.volume.drain_next_one(rt, &mut self.broom, gate))
+            }
+            Call::Restock => Done::Restocked(self.volume.restock(&mut self.broom)),
             _ => Done::Nothing,
         }
     }

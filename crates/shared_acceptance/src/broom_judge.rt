@@ -7,12 +7,26 @@ use arrayvec::ArrayVec;
 use broom::{Drain, Erase};
 
 // What a broom has between two calls: whether it has a spare, how many pages are left in the block that it copies to, 0 where there is
-// none, and the block that it has set aside.
+// none, the block that it has set aside, and which blocks may still be marked by its last survey.
 #[derive(Clone, Copy)]
 struct Kit {
     has_spare: bool,
     room: u32,
     aside: Option<u32>,
+    may_be_marked: [bool; 10],
+}
+
+impl Kit {
+    fn unmark(&mut self, block: u32) {
+        if let Some(mark) = self.may_be_marked.get_mut(block as usize) {
+            *mark = false;
+        }
+    }
+}
+
+// Whether this drain is one by the last survey.
+fn is_next(drawn: Drawn) -> bool {
+    matches!(drawn.kind, 5..8 | 9)
 }
 
 /// What a call of a broom begins with.
@@ -64,6 +78,7 @@ impl BroomJudge {
             has_spare: true,
             room: 0,
             aside: None,
+            may_be_marked: [false; 10],
         };
         BroomJudge {
             kits: [kit; 2],
@@ -152,8 +167,8 @@ impl BroomJudge {
                     ..Start::none()
                 };
             }
-            8..10 => return Start::none(),
-            10..17 => self.fetch(broom),
+            8..10 | 16 => return Start::none(),
+            10..16 => self.fetch(broom),
             _ => Some(drawn.block),
         };
         let was_drained = match block {
@@ -190,7 +205,8 @@ impl BroomJudge {
         let has_spare = self.kits[broom].has_spare;
         self.expect(is_stuck == (drain == Drain::QueueFull));
         self.expect(is_stuck || has_spare == (drain != Drain::NoSpare));
-        self.expect(drain != Drain::Lost || !course.alone);
+        self.expect(drain != Drain::Lost || !course.alone || is_next(drawn));
+        self.survey(broom, drawn, drain);
         let Drain::Drained { block, copied } = drain else {
             return;
         };
@@ -200,6 +216,32 @@ impl BroomJudge {
         if drawn.kind < 8 {
             self.hand_on(broom, block);
         }
+    }
+
+    // A drain makes a survey, by which all closed blocks are marked. One by the last survey makes none, and its block was still marked.
+    fn survey(&mut self, broom: usize, drawn: Drawn, drain: Drain)
+        requires { broom < 2 }
+    {
+        if matches!(drain, Drain::NoSpare | Drain::QueueFull) {
+            return;
+        }
+        if !is_next(drawn) {
+            self.kits[broom].may_be_marked = [true; 10];
+        }
+        let marks = self.kits[broom].may_be_marked;
+        if let Drain::Drained { block, copied: _ } = drain {
+            self.expect(marks.get(block as usize) == Some(&true));
+            self.kits[broom].unmark(block);
+        }
+        self.expect(drain != Drain::Lost || marks.contains(&true));
+    }
+
+    /// A broom has asked for a spare.
+    pub(crate) fn restock(&mut self, broom: usize, has_spare: bool)
+        requires { broom < 2 }
+    {
+        self.expect(has_spare || !self.kits[broom].has_spare);
+        self.kits[broom].has_spare = has_spare;
     }
 
     /// An erase has answered.
@@ -212,6 +254,7 @@ impl BroomJudge {
             return;
         };
         self.expect(start.was_drained == (erase != Erase::Stale));
+        self.kits[broom].unmark(wanted);
         match erase {
             Erase::Erased { block, kept } => {
                 self.expect(block == wanted && kept != self.kits[broom].has_spare);

@@ -53,6 +53,8 @@ pub(crate) enum Call {
     New(u32, u64),
     Trim(u32),
     Read(u32),
+    /// Whether a sector is written.
+    Ask(u32),
     Hold(u32),
     /// A look at the page that is held.
     Look,
@@ -63,6 +65,10 @@ pub(crate) enum Call {
     Erase(u32),
     DrainOne,
     EraseOne,
+    /// A drain by the broom's last survey, and one over the queue.
+    DrainNext,
+    DrainNextOne,
+    Restock,
 }
 
 /// What a call answers.
@@ -75,6 +81,8 @@ pub(crate) enum Done {
     Trimmed(Was),
     /// The number of the sector's page, or nothing for an empty sector, after so many looks.
     Read(Option<u64>, u64),
+    /// Whether the sector is written.
+    Asked(bool),
     /// The block and the generation of the page that is held, or nothing for an empty sector.
     Holds(Option<(u32, u32)>),
     /// The number of the page that is held.
@@ -85,6 +93,8 @@ pub(crate) enum Done {
     Released,
     Drained(Drain),
     Erased(Erase),
+    /// Whether the broom has a spare.
+    Restocked(bool),
 }
 
 /// What a read answers by its buffer, in which all bytes were 99.

@@ -6,7 +6,7 @@ ghost use Rattle.volume.specs.Volume.{flash_of};
 ghost use Rattle.shared_acceptance.specs.Kept.{IsHome};
 
 use crate::actors::{Actor, Home, call_at};
-use crate::calls::{Call, WORDS, number_of};
+use crate::calls::{Call, Done, WORDS, number_of};
 use crate::closing::close;
 use crate::crowd_notes::Notes;
 use crate::crowd_values::SECTORS;
@@ -74,17 +74,24 @@ impl<'a, H: Home> Player<'a, H> {
         }
     }
 
-    // A broom drains and erases.
+    // A broom drains and erases, asks for a spare, and drains twice by its last survey.
     fn sweep(&mut self, rt: &impl Wait, block: u32) {
-        let (drain, erase) = if self.has_queue {
-            (Call::DrainOne, Call::EraseOne)
+        let (drain, next, erase) = if self.has_queue {
+            (Call::DrainOne, Call::DrainNextOne, Call::EraseOne)
         } else {
-            (Call::Drain, Call::Erase(block))
+            (Call::Drain, Call::DrainNext, Call::Erase(block))
         };
-        let drained = call_at(&mut self.place, rt, drain);
-        let erased = call_at(&mut self.place, rt, erase);
-        self.brooms.note(drained);
-        self.brooms.note(erased);
+        for call in [drain, erase, Call::Restock] {
+            let done = call_at(&mut self.place, rt, call);
+            self.brooms.note(done);
+        }
+        for _ in 0..2 {
+            let done = call_at(&mut self.place, rt, next);
+            if let Done::Drained(drain) = done {
+                self.brooms.note_next(true, drain);
+            }
+            self.brooms.note(done);
+        }
     }
 
     // A player's part of a round.
@@ -233,12 +240,13 @@ fn rounds(rt: &(impl Env + AllocGlobal)) -> u64 {
     }
 }
 
-// Whether the brooms, taken together, drained, moved pages, erased blocks, and found some that were read.
+// Whether the brooms, taken together, drained, moved pages, erased blocks, found some that were read, and drained by a survey again.
 fn did_all(a: BroomCalls, b: BroomCalls) -> bool {
     (a.drained > 0 || b.drained > 0)
         && (a.copied > 0 || b.copied > 0)
         && (a.erased > 0 || b.erased > 0)
         && (a.pinned > 0 || b.pinned > 0)
+        && (a.drained_next > 0 || b.drained_next > 0)
 }
 
 #[test]

@@ -37,7 +37,8 @@ impl Drawn {
             0..8 => Call::Write(self.sector, self.number),
             8..10 => Call::New(self.sector, self.number),
             10..12 => Call::Trim(self.sector),
-            12..17 => Call::Read(self.sector),
+            12..16 => Call::Read(self.sector),
+            16 => Call::Ask(self.sector),
             _ => Call::Hold(self.sector),
         }
     }
@@ -45,9 +46,12 @@ impl Drawn {
     /// As a broom makes it.
     pub(crate) fn of_broom(self) -> Call {
         match self.kind {
-            0..8 => Call::DrainOne,
-            8..10 => Call::Drain,
-            10..17 => Call::EraseOne,
+            0..5 => Call::DrainOne,
+            5..8 => Call::DrainNextOne,
+            8 => Call::Drain,
+            9 => Call::DrainNext,
+            10..16 => Call::EraseOne,
+            16 => Call::Restock,
             _ => Call::Erase(self.block),
         }
     }

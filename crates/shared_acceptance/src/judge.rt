@@ -92,6 +92,13 @@ impl Judge {
         self.expect(found.unwrap_or(0) == numbers[sector as usize] && found != Some(0));
     }
 
+    /// A look found a sector written, or empty.
+    pub(crate) fn ask(&mut self, sector: u32, is_written: bool)
+        requires { sector < 3 }
+    {
+        self.expect(is_written == (self.was(sector) == Was::Written));
+    }
+
     /// A hold found a page in this generation of a block.
     pub(crate) fn hold(&mut self, host: usize, sector: u32, block: u32, generation: u32)
         requires host { host < 3 }

@@ -252,15 +252,22 @@ impl Jury {
 
     fn judge_drain(&mut self, begun: Begun, drain: Drain, looks: &Looks) -> Next {
         self.tally.brooms.note_drain(drain);
+        let is_next = matches!(begun.call, Call::DrainNext | Call::DrainNextOne);
+        self.tally.brooms.note_next(is_next, drain);
         self.judge.drain(drain, self.pages);
         let course = self.course(begun, looks);
         self.brooms
             .drain(broom_of(begun.k), begun.drawn, course, drain);
-        if drain == Drain::NothingToGain {
+        if drain == Drain::NothingToGain && !is_next {
             Next::Count
         } else {
             Next::Nothing
         }
+    }
+
+    fn judge_restock(&mut self, begun: Begun, has_spare: bool) {
+        self.tally.brooms.note_restock(has_spare);
+        self.brooms.restock(broom_of(begun.k), has_spare);
     }
 
     /// Each block has so many live pages where a drain found nothing to gain.
@@ -300,6 +307,8 @@ impl Jury {
             Done::Looked(number) => return self.judge_look(begun, number),
             Done::Drained(drain) => return self.judge_drain(begun, drain, looks),
             Done::Erased(erase) => self.judge_erase(begun, erase, looks, are_idle),
+            Done::Asked(is_written) => self.judge.ask(begun.drawn.sector, is_written),
+            Done::Restocked(has_spare) => self.judge_restock(begun, has_spare),
             Done::Nothing | Done::Torn | Done::Opened(_) | Done::Released => {
                 self.judge.expect(false);
             }

@@ -40,6 +40,8 @@ mod jury;
 #[cfg(test)]
 mod nesting;
 #[cfg(test)]
+mod next_rows;
+#[cfg(test)]
 mod opening;
 #[cfg(test)]
 mod playing_rows;

@@ -77,6 +77,9 @@ pub(crate) struct BroomCalls {
     pub no_spare: u64,
     pub lost: u64,
     pub queue_full: u64,
+    pub drained_next: u64,
+    pub lost_next: u64,
+    pub unstocked: u64,
     pub erased: u64,
     pub kept: u64,
     pub retired: u64,
@@ -99,6 +102,9 @@ impl BroomCalls {
             && self.surveyed > 0
             && self.lost > 0
             && self.queue_full > 0
+            && self.drained_next > 0
+            && self.lost_next > 0
+            && self.unstocked > 0
     }
 
     fn has_erased(&self) -> bool {
@@ -129,6 +135,22 @@ impl BroomCalls {
             Drain::Lost => self.lost = self.lost.wrapping_add(1),
             Drain::QueueFull => self.queue_full = self.queue_full.wrapping_add(1),
         }
+    }
+
+    /// A drain by the last survey, or by one of its own, has answered.
+    pub(crate) fn note_next(&mut self, is_next: bool, drain: Drain) {
+        match drain {
+            Drain::Drained { .. } if is_next => {
+                self.drained_next = self.drained_next.wrapping_add(1);
+            }
+            Drain::Lost if is_next => self.lost_next = self.lost_next.wrapping_add(1),
+            _ => (),
+        }
+    }
+
+    /// A broom found no free block, or has a spare.
+    pub(crate) fn note_restock(&mut self, has_spare: bool) {
+        self.unstocked = self.unstocked.wrapping_add(u64::from(!has_spare));
     }
 
     pub(crate) fn note_erase(&mut self, erase: Erase) {

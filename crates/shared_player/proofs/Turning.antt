@@ -1,5 +1,8 @@
 -- Posts go on to their next round, play it, and stay manned.
 use Rattle.std.proofs.Common.{◌≡◌, ℕ, zero, suc, ◌+◌, ◌-◌, ◌<◌, ◌≤◌, All, List, [], ◌∷◌, slice_set, map, length, ◌++◌, take, drop, get_or, refl, sym, ap, ◌∙◌, subst, arith, append-nil}
+use Rattle.std.specs.Prelude.{Vec}
+use Rattle.std.specs.Global.{Global}
+use Rattle.std.specs.Vec.{with_items}
 use Rattle.std.specs.Arc.{arc_value}
 use Rattle.std.proofs.lemmas.List.{drop_all, get_or-map, get_or_default, get_or-set_same, get_or-set_other, length-map, length-set}
 use Rattle.std.proofs.lemmas.List.Elements.{All-head, All-tail}
@@ -24,6 +27,7 @@ use Rattle.playing.specs.Playable.{HasAnswered, added, lines_at}
 use Rattle.lines.specs.Answers.{said_in}
 use Rattle.playing.proofs.Lines.{played_none}
 use Rattle.shared_player.specs.Runs.{IsTurned, AreTurned, AreManned, IsIdle}
+use Rattle.shared_player.proofs.Lent.{lent_all}
 use Rattle.shared_player.proofs.Sweeping.{all_same_at}
 
 -- the first so many of a row have gone on
@@ -154,3 +158,10 @@ idle_more posts i p there idle all k d low below =
     let here : p ≡ get_or posts k d = there ∙ (ap (λ j. get_or posts j p) (sym same) ∙ get_or_default posts k p d below) in
     subst IsIdle here idle)
     (λ other. all k d (omega arith) below)
+
+-- the posts were lent to go on, came back, were played, and are lent again: they are manned still
+pub manned_round : (volume : Volume) (n end : ℕ) (row : Vec Post Global) (lent new back again : List Post) → AreManned volume row.items → lent ≡ row.items → length new ≡ length lent → AreTurned end lent new → HavePlayed n (with_items row new).items back → again ≡ back → AreManned volume again
+manned_round volume n end row lent new back again manned is long turned played same =
+    let items = lent_all row lent new is long in
+    let on : AreTurned end row.items (with_items row new).items = subst (λ (x : List Post × List Post). AreTurned end x.0 x.1) (λ i. (is i, sym items i)) turned in
+    subst (AreManned volume) (sym same) (manned_played volume n (with_items row new).items back (manned_turned volume end row.items (with_items row new).items manned on) played)

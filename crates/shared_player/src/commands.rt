@@ -7,11 +7,11 @@ ghost use Rattle.lines.specs.Answers.{page_size_of};
 ghost use Rattle.rounds.specs.Rows.{answers_by};
 ghost use Rattle.shared_player.specs.Commands.{ArePlayed};
 
-use crate::crew::Back;
 use crate::dealing::deal;
 use crate::leaving::{fold_sweepers, hand_out};
 use crate::runs::play_rounds;
-use crate::starts::{NoShift, Starts};
+use crate::starts::NoShift;
+use crate::team::Team;
 use flash_table::Gate;
 use geometry::Geometry;
 use lines::Answers;
@@ -19,17 +19,19 @@ use rounds::Plan;
 use std::alloc::Global;
 use std::sync::{Arc, Wait};
 use std::thread::Threads;
+use std::time::Clock;
 use trace::Commands;
 
 /// Plays the commands of a trace on a new device, by a thread for each worker with a line in a round, and brooms beside them. There is a gate for each
-/// host, and then one for each broom. The rows are the workers' answers, by their numbers. After a fault no thread runs, and nothing is left.
-pub fn play_commands<R: Threads + Wait + Sync, S: Starts + Copy + Drop, G: Gate + Send>(
+/// host, and then one for each broom. A broom drains at most so many blocks by one survey. The rows are the workers' answers, by their numbers. After a
+/// fault no thread runs, and nothing is left.
+pub fn play_commands<R: Threads + Wait + Clock + Sync, G: Gate + Send>(
     rt: &R,
     alloc: Global,
-    starts: S,
     geometry: &Geometry,
     commands: &Arc<Commands, Global>,
     patience: u32,
+    drains: u32,
     gates: &mut [G],
 ) -> Result<Vec<Answers>, NoShift>
     requires hosts { 0 < hosts_of geometry.now }
@@ -41,14 +43,14 @@ pub fn play_commands<R: Threads + Wait + Sync, S: Starts + Copy + Drop, G: Gate 
 {
     let Plan { rows: places, ends } = Plan::new(alloc, commands, geometry.hosts())?;
     let mut rows = Vec::with_capacity(alloc, geometry.hosts() as usize)?;
-    let (volume, crew) = deal(alloc, geometry, commands, places)?;
-    let crew = play_rounds(rt, starts, &volume, crew, &ends, patience, gates)?;
-    let Back {
+    let (volume, team) = deal(alloc, geometry, commands, places, drains)?;
+    let team = play_rounds(rt, &volume, team, &ends, patience, gates)?;
+    let Team {
         posts,
         sweepers,
         turns: _,
         sweeping: _,
-    } = crew;
+    } = team;
     fold_sweepers(rt, sweepers);
     hand_out(posts, &mut rows);
     Ok(rows)

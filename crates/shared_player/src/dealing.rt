@@ -12,11 +12,11 @@ ghost use Rattle.volume.specs.Volume.{flash_of};
 ghost use Rattle.shared_player.specs.Meetings.{IsAt, passes_of};
 ghost use Rattle.shared_player.specs.Shares.{HasFitShare, HasPlayedNone, IsOwner, rows_for, work_in, work_of};
 
-use crate::crew::Back;
 use crate::opening::{more_owners, open_shared};
 use crate::post::Post;
 use crate::share::{Share, make_shares};
 use crate::sweeper::Sweeper;
+use crate::team::Team;
 use broom::Broom;
 use flash_table::Pass;
 use geometry::Geometry;
@@ -92,6 +92,7 @@ fn seat_sweepers(
     volume: &Volume,
     brooms: Vec<Broom>,
     owners: Vec<Arc<Volume, Global>>,
+    drains: u32,
     sweepers: &mut Vec<Sweeper>,
 )
     requires ready { All (IsBroomReady volume.now) brooms.items }
@@ -107,7 +108,11 @@ fn seat_sweepers(
         let Some(volume) = owners.pop_front() else {
             unreachable!()
         };
-        sweepers.push_reserved(Sweeper { volume, broom });
+        sweepers.push_reserved(Sweeper {
+            volume,
+            broom,
+            drains,
+        });
     }
     brooms.destroy_empty();
 }
@@ -118,7 +123,8 @@ pub(crate) fn deal(
     geometry: &Geometry,
     commands: &Arc<Commands, Global>,
     rows: Vec<Vec<usize>>,
-) -> Result<(Arc<Volume, Global>, Back), AllocError>
+    drains: u32,
+) -> Result<(Arc<Volume, Global>, Team), AllocError>
     requires hosts { 0 < hosts_of geometry.now }
     requires playable { All (IsPlayable geometry.now) (arc_value commands.now) }
     requires rows { map items_of rows.items ≡ rows_for (hosts_of geometry.now) (arc_value commands.now) }
@@ -137,6 +143,6 @@ pub(crate) fn deal(
     let sweeper_owners = more_owners(alloc, &unseated.volume, brooms)?;
     let (volume, passes, brooms) = unseated.into_parts();
     seat_posts(&volume, passes, post_owners, shares, &mut posts);
-    seat_sweepers(&volume, brooms, sweeper_owners, &mut sweepers);
-    Ok((volume, Back::new(alloc, posts, sweepers)?))
+    seat_sweepers(&volume, brooms, sweeper_owners, drains, &mut sweepers);
+    Ok((volume, Team::new(alloc, posts, sweepers)?))
 }

@@ -1,8 +1,8 @@
 //! Playing a trace on a shared device by many workers at once: each is a thread with a pass of its own, and brooms collect garbage beside them.
 #![tactic(auto)]
 
+mod collecting;
 mod commands;
-mod crew;
 mod dealing;
 mod leaving;
 mod meetings;
@@ -12,14 +12,15 @@ mod runs;
 mod share;
 mod starts;
 mod sweeper;
+mod team;
 mod turns;
 mod unseated;
 
 pub use commands::play_commands;
-pub use crew::{Back, play_posts};
 pub use leaving::{fold_sweepers, hand_out};
 pub use meetings::sweep_posts;
 pub use post::Post;
 pub use runs::{play_round, play_rounds};
-pub use starts::{AllStart, NoShift, Starts};
+pub use starts::NoShift;
 pub use sweeper::Sweeper;
+pub use team::{Team, play_posts};

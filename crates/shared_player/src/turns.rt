@@ -4,7 +4,7 @@ ghost use Rattle.shared_player.specs.Posts.{HasPlayed};
 ghost use Rattle.shared_player.specs.Turns.{asked, with_patience};
 
 use crate::post::Post;
-use crate::starts::{NoShift, Starts};
+use crate::starts::NoShift;
 use flash_table::{Gate, NoGate};
 use playing::play_at;
 use std::snapshot::Snapshot;
@@ -50,9 +50,8 @@ fn work<G: Gate>(post: Post, patience: u32, gate: &mut G) -> Post
 }
 
 // Starts a worker, if it has a line.
-pub(crate) fn start_post<'s, E, S: Starts, G: Gate + Send>(
+pub(crate) fn start_post<'s, E, G: Gate + Send>(
     scope: &Scope<'s, E>,
-    starts: &mut S,
     post: Post,
     patience: u32,
     gate: &'s mut G,
@@ -61,9 +60,6 @@ pub(crate) fn start_post<'s, E, S: Starts, G: Gate + Send>(
 {
     if post.answers.len() == post.to {
         return Ok(Turn::Idle(post));
-    }
-    if !starts.may_start() {
-        return Err(NoShift::Threads);
     }
     let promise = PlayOf {
         before: Snapshot::of(&post),

@@ -10,11 +10,12 @@ use answers::{OutputFailed, RunFault, read_commands};
 use delivery::Delivery;
 use flash_table::{Gate, NoGate};
 use geometry::{Geometry, MAX_BROOMS, MAX_HOSTS};
-use shared_player::{AllStart, NoShift, Starts, play_commands};
+use shared_player::{NoShift, play_commands};
 use std::alloc::Global;
 use std::io::{Read, Write};
 use std::sync::{Arc, Wait};
 use std::thread::Threads;
+use std::time::Clock;
 use trace::Watched;
 
 // The most threads of a round: a worker for each host, and the brooms.
@@ -23,22 +24,17 @@ const MAX_THREADS: usize = MAX_HOSTS as usize + MAX_BROOMS as usize;
 /// Plays a trace on a shared device: each host's lines are played by a worker in a thread of its own, brooms collect beside them, and then the answers
 /// are written in the order of the trace. Workers and brooms pass a gate each, the workers' first.
 ///
-/// The whole trace is read and checked before the first command. A write that finds no block is tried as often as the patience says. After a fault no
-/// thread runs.
-pub fn run_shared<
-    T: Threads + Wait + Sync,
-    S: Starts + Copy + Drop,
-    R: Read,
-    W: Write,
-    G: Gate + Send,
->(
+/// The whole trace is read and checked before the first command. A write that finds no block is tried as often as the patience says, and a broom
+/// drains at most `drains` blocks by one survey. After a fault no thread runs.
+#[allow(clippy::too_many_arguments)]
+pub fn run_shared<T: Threads + Wait + Clock + Sync, R: Read, W: Write, G: Gate + Send>(
     rt: &T,
     alloc: Global,
-    starts: S,
     reader: &mut Watched<R>,
     writer: &mut Watched<W>,
     geometry: &Geometry,
     patience: u32,
+    drains: u32,
     gates: &mut [G],
 ) -> Result<(), RunFault>
     requires hosts { 0 < hosts_of geometry.now }
@@ -63,7 +59,7 @@ pub fn run_shared<
     let Ok(commands) = Arc::new(alloc, commands) else {
         return Err(RunFault::Memory);
     };
-    let rows = match play_commands(rt, alloc, starts, geometry, &commands, patience, gates) {
+    let rows = match play_commands(rt, alloc, geometry, &commands, patience, drains, gates) {
         Ok(rows) => rows,
         Err(NoShift::Memory) => return Err(RunFault::Memory),
         Err(NoShift::Threads) => return Err(RunFault::Threads),
@@ -74,14 +70,15 @@ pub fn run_shared<
     }
 }
 
-/// Plays a trace as `run_shared` does, where every thread may be started and the gates do nothing.
-pub fn run_by_workers<T: Threads + Wait + Sync, R: Read, W: Write>(
+/// Plays a trace as `run_shared` does, where the gates do nothing.
+pub fn run_by_workers<T: Threads + Wait + Clock + Sync, R: Read, W: Write>(
     rt: &T,
     alloc: Global,
     reader: &mut Watched<R>,
     writer: &mut Watched<W>,
     geometry: &Geometry,
     patience: u32,
+    drains: u32,
 ) -> Result<(), RunFault>
     requires { 0 < hosts_of geometry.now }
     ensures end { OnOk result (IsAtEnd (R.remaining (inner_of reader.new))) }
@@ -95,11 +92,11 @@ pub fn run_by_workers<T: Threads + Wait + Sync, R: Read, W: Write>(
     run_shared(
         rt,
         alloc,
-        AllStart,
         reader,
         writer,
         geometry,
         patience,
+        drains,
         &mut gates[..threads],
     )
 }

@@ -19,7 +19,7 @@ pub enum TraceFaultKind {
     Fields,
     /// The worker is no number, or too large.
     Worker,
-    /// The op is none of the four.
+    /// The op is none of the five.
     Op,
     /// The sector is no number, or too large.
     Sector,

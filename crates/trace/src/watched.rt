@@ -1,8 +1,9 @@
-ghost use Rattle.std.specs.Prelude.{◌≡◌};
+ghost use Rattle.std.specs.Prelude.{◌≡◌, IfSome, OnOk};
 ghost use Rattle.std.specs.Io.{ReadsAtMost, WritesAtMost};
 ghost use Rattle.std.specs.Io.KnownBytes.{Keeps, ReadConsumes, WriteAppends};
 ghost use Rattle.trace.specs.Watched.{after_call, after_write, failures_of, inner_of, one_more};
 
+use crate::named_file::{NamedFile, OpenFault};
 use std::io;
 use std::io::{Read, Write};
 
@@ -23,7 +24,7 @@ impl<T> Watched<T> {
     }
 
     /// How many calls failed, modulo 2^64: those that answered an error, of any kind, and the writes
-    /// that took no byte of some.
+    /// that took no byte of some. A file that could not be opened counts too.
     pub fn failures(&self) -> u64
         ensures { result ≡ failures_of self.now }
     {
@@ -90,6 +91,22 @@ impl<W: Write> Write for Watched<W> {
         ensures count { failures_of self.new ≡ after_call (failures_of self.old) result }
     {
         let result = self.inner.flush();
+        if result.is_err() {
+            self.count_failure();
+        }
+        result
+    }
+}
+
+impl<F: NamedFile> NamedFile for Watched<F> {
+    ghost opened_as = { λ w. F.opened_as (inner_of w) };
+
+    fn open(&mut self, name: &str) -> Result<(), OpenFault>
+        ensures bytes { F.contents (inner_of self.new) ≡ F.contents (inner_of self.old) }
+        ensures opened { OnOk result (IfSome (F.opened_as (inner_of self.new)) (λ known. known ≡ name.now)) }
+        ensures count { failures_of self.new ≡ after_call (failures_of self.old) result }
+    {
+        let result = self.inner.open(name);
         if result.is_err() {
             self.count_failure();
         }

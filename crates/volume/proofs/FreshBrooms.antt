@@ -19,7 +19,7 @@ use Rattle.flash_table.specs.declared.pass.OpenBlock.{OpenBlock}
 use Rattle.flash_table.specs.Flash.{IsBroomOf, broom_view, own_blocks, geometry_of, device, first_broom, first_blocks, spare_of}
 use Rattle.broom.specs.declared.broom.Broom.{Broom}
 use Rattle.broom.specs.Handing.{IsQueued, place_of, aside_of}
-use Rattle.broom.specs.Ready.{IsRested, IsReady, HasRoom, view_of_broom, blocks_of_broom}
+use Rattle.broom.specs.Ready.{HasNoMarks, IsRested, IsReady, HasRoom, view_of_broom, blocks_of_broom}
 use Rattle.volume.specs.Brooms.{IsFresh}
 use Rattle.volume.specs.Opening.{known_by_seat, known_by_broom}
 
@@ -95,8 +95,8 @@ pub record Making (f : Flash) (q : EraseQueue) (all : List BroomSeat) (brooms : 
 
 -- one seat more has become a broom
 pub one_made : (f : Flash) (q : EraseQueue) (all rest rest' : List BroomSeat) (places places' : List QueuePass) (brooms brooms' : List Broom) (s : BroomSeat) (p : QueuePass) (b : Broom) → Making f q all brooms rest places → rest ≡ s ∷ rest'
-    → places ≡ places' ++ p ∷ [] → brooms' ≡ brooms ++ b ∷ [] → view_of_broom b ≡ broom_view s → blocks_of_broom b ≡ own_blocks s → (place_of b ≡ p) × (aside_of b ≡ None) → (IsRested f s → IsReady f b) → Making f q all brooms' rest' places'
-one_made f q all rest rest' places places' brooms brooms' s p b was next left pushed view blocks place ready =
+    → places ≡ places' ++ p ∷ [] → brooms' ≡ brooms ++ b ∷ [] → view_of_broom b ≡ broom_view s → blocks_of_broom b ≡ own_blocks s → (place_of b ≡ p) × (aside_of b ≡ None) → (IsRested f s → IsReady f b) → HasNoMarks b → Making f q all brooms' rest' places'
+one_made f q all rest rest' places places' brooms brooms' s p b was next left pushed view blocks place ready unmarked =
     let known : known_by_broom b ≡ known_by_seat s = λ i. (view i, blocks i) in
     let others = taken (IsRested f) s rest' rest next was.rested in
     let popped = All-pop (IsNewPass q) places places' (Some p) left was.new in
@@ -110,6 +110,6 @@ one_made f q all rest rest' places places' brooms brooms' s p b was next left pu
           ∙ (ap (λ l. l ++ map known_by_seat rest') (map_push known_by_broom brooms b)
           ∙ (append_assoc (map known_by_broom brooms) (known_by_broom b ∷ []) (map known_by_seat rest')
           ∙ (ap (λ x. map known_by_broom brooms ++ x ∷ map known_by_seat rest') known ∙ (ap (λ l. map known_by_broom brooms ++ map known_by_seat l) (sym next) ∙ was.known))));
-      fresh = subst (All (IsFresh f q)) (sym pushed) (All-push (IsFresh f q) brooms b was.fresh (record { ready = ready others.0; place = subst (IsNewPass q) (sym place.0) popped.1; aside = place.1 }));
+      fresh = subst (All (IsFresh f q)) (sym pushed) (All-push (IsFresh f q) brooms b was.fresh (record { ready = ready others.0; place = subst (IsNewPass q) (sym place.0) popped.1; aside = place.1; unmarked = unmarked }));
       rested = others.1;
     }

@@ -7,7 +7,7 @@ use Rattle.flash_table.specs.declared.flash.Flash.{Flash}
 use Rattle.broom.specs.declared.broom.Broom.{Broom}
 use Rattle.broom.specs.Handing.{IsQueued, place_of, aside_of}
 use Rattle.broom.specs.Once.{IsReady-prop, IsQueued-prop}
-use Rattle.broom.specs.Ready.{IsReady, blocks_of_broom, view_of_broom}
+use Rattle.broom.specs.Ready.{HasNoMarks, IsReady, blocks_of_broom, view_of_broom}
 use Rattle.volume.specs.declared.volume.Volume.{Volume}
 use Rattle.volume.specs.Volume.{flash_of, queue_of}
 use Rattle.flash_table.specs.Flash.{device, first_blocks, first_broom}
@@ -17,11 +17,13 @@ pub record IsBroomReady (v : Volume) (b : Broom) : Type 0 where
   pub ready : IsReady (flash_of v) b
   pub queued : IsQueued (queue_of v) b
 
--- A broom that was just made: it is ready, has seen, done and counted nothing at its queue, and has nothing set aside
+-- A broom that was just made: it is ready, has seen, done and counted nothing at its queue, has nothing set aside, and has made no survey:
+-- no block is marked
 pub record IsFresh (f : Flash) (q : EraseQueue) (b : Broom) : Type 0 where
   pub ready : IsReady f b
   pub place : IsNewPass q (place_of b)
   pub aside : aside_of b ≡ None
+  pub unmarked : HasNoMarks b
 
 -- a broom of this number of an unused device
 abbrev pub IsUnused : Flash → ℕ → Broom → Type 0

@@ -1,6 +1,6 @@
--- What holds of each read, write, write of an empty sector and trim, whatever other threads do meanwhile: it is one step of an array of sectors, at a place of one
+-- What holds of each read, look, write, write of an empty sector and trim, whatever other threads do meanwhile: it is one step of an array of sectors, at a place of one
 -- history that only grows, and not before anything that its pass had seen.
-use Rattle.std.specs.Prelude.{◌≡◌, ℕ, List, [], ◌∷◌, ◌++◌}
+use Rattle.std.specs.Prelude.{◌≡◌, ℕ, Bool, List, [], ◌∷◌, ◌++◌, is_some}
 use Rattle.geometry.specs.Sectors.{Answers}
 use Rattle.geometry.specs.History.{Call, held, was, Begins}
 use Rattle.geometry.specs.History as call
@@ -15,32 +15,42 @@ use Rattle.flash_table.specs.Steps.{HasNumber}
 use Rattle.volume.specs.declared.volume.Volume.{Volume}
 use Rattle.volume.specs.Volume.{flash_of}
 
--- what a pass may ask: the value of a sector, a new value for it, a value for it if it is empty, or that it be empty
+-- what a pass may ask: the value of a sector, whether it has one, a new value for it, a value for it if it is empty, or that it be empty
 pub data Asked : Type 0 where
   Read : ℕ → Asked
+  Look : ℕ → Asked
   Write : ℕ → List ℕ → Asked
   WriteNew : ℕ → List ℕ → Asked
   Trim : ℕ → Asked
 
--- what it is answered: what it got, with its buffer before and after, or what the sector was
+-- what it is answered: what it got, with its buffer before and after, whether the sector is written, or what it was
 pub data Answer : Type 0 where
   Found : Got → List ℕ → List ℕ → Answer
+  IsWritten : Bool → Answer
   Replaced : Was → Answer
 
 -- the answer that an array of so many sectors gives after a history
 abbrev pub IsAnswerAt : ℕ → List Call → Asked → Answer → Type 0
 IsAnswerAt n h (Read s) (Found got old new) = Answers (held n h s) got old new
+IsAnswerAt n h (Read s) (IsWritten written) = ⊥
 IsAnswerAt n h (Read s) (Replaced was_there) = ⊥
+IsAnswerAt n h (Look s) (Found got old new) = ⊥
+IsAnswerAt n h (Look s) (IsWritten written) = written ≡ is_some (held n h s)
+IsAnswerAt n h (Look s) (Replaced was_there) = ⊥
 IsAnswerAt n h (Write s value) (Found got old new) = ⊥
+IsAnswerAt n h (Write s value) (IsWritten written) = ⊥
 IsAnswerAt n h (Write s value) (Replaced was_there) = was_there ≡ was n h s
 IsAnswerAt n h (WriteNew s value) (Found got old new) = ⊥
+IsAnswerAt n h (WriteNew s value) (IsWritten written) = ⊥
 IsAnswerAt n h (WriteNew s value) (Replaced was_there) = was_there ≡ was n h s
 IsAnswerAt n h (Trim s) (Found got old new) = ⊥
+IsAnswerAt n h (Trim s) (IsWritten written) = ⊥
 IsAnswerAt n h (Trim s) (Replaced was_there) = was_there ≡ was n h s
 
--- the calls that a pass adds to the history by what it asks: a read adds none
+-- the calls that a pass adds to the history by what it asks: a read and a look add none
 abbrev pub calls_for : ℕ → Asked → List Call
 calls_for t (Read s) = []
+calls_for t (Look s) = []
 calls_for t (Write s value) = call.Write t s value ∷ []
 calls_for t (WriteNew s value) = call.WriteNew t s value ∷ []
 calls_for t (Trim s) = call.Trim t s ∷ []

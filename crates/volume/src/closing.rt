@@ -126,7 +126,7 @@ impl Volume {
         ensures first { IfOk result (λ closed. (p : Pass) → slice_get passes.items 0 ≡ Some p → HasLeft (view_of p) (last_view closed)) }
 
         // All is handed back as it was, but that the passes have looked.
-        ensures volume { IfErr result (λ back. flash_of back.0 ≡ flash_of self) }
+        ensures volume { IfErr result (λ back. back.0 ≡ self) }
         ensures looked { IfErr result (λ back. HaveLooked passes.items back.1.items) }
         ensures ready { IfErr result (λ back. All (IsReady (flash_of back.0)) back.1.items) }
     {

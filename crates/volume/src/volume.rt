@@ -19,12 +19,12 @@ use std::sync::Wait;
 #[derive(Drop)]
 pub struct Volume {
     pub(crate) flash: Flash,
-    queue: EraseQueue,
+    pub(crate) queue: EraseQueue,
     ghost limit: { limit_of queue ≡ blocks_of (geometry_of flash) },
 }
 
 impl Volume {
-    ghost use Rattle.std.specs.Prelude.{ℕ, ◌<◌, All, List, None, Some, Err, IfOk, IfSome, OnErr, length, slice_get};
+    ghost use Rattle.std.specs.Prelude.{ℕ, ◌<◌, All, List, None, Some, Err, IfOk, IfSome, OnErr, is_some, length, slice_get};
     ghost use Rattle.geometry.specs.Geometry.{brooms_of, hosts_of, sectors_of, words_of, page_bytes_of};
     ghost use Rattle.geometry.specs.History as call;
     ghost use Rattle.geometry.specs.History.{held};
@@ -40,15 +40,16 @@ impl Volume {
     ghost use Rattle.erase_queue.specs.Queue.{IsNewPass};
     ghost use Rattle.broom.specs.Ends.{folded_view, folded_place};
     ghost use Rattle.broom.specs.Erasing.{EraseTold};
-    ghost use Rattle.broom.specs.Told.{DrainTold};
+    ghost use Rattle.broom.specs.Told.{DrainTold, NextTold, KeepsSurvey, SurveyLeft, Unmarks};
+    ghost use Rattle.broom.specs.Restocking.{RestockTold};
     ghost use Rattle.broom.specs.Meeting.{StoodTold, BroomsMet};
-    ghost use Rattle.broom.specs.Handing.{DrainOneTold, EraseOneTold, HandsNothing, IsBelow, LeftAt, aside_of, place_of};
+    ghost use Rattle.broom.specs.Handing.{DrainNextOneTold, DrainOneTold, EraseOneTold, HandsNothing, IsBelow, LeftAt, aside_of, place_of};
     ghost use Rattle.broom.specs.Ready.{view_of_broom, blocks_of_broom};
     ghost use Rattle.host.specs.Ready.{IsReady};
     ghost use Rattle.host.specs.Told.{Searched, Wrote, WroteNew, Refused, MetTold, was_found};
     ghost use Rattle.host.specs.declared.writing_new.NewFault.TheVariants as fault;
     ghost use Rattle.host.specs.Holding.{Holds, Found, pass_of, page_of};
-    ghost use Rattle.volume.specs.Correct.{Does, Read, Write, WriteNew, Trim, Found as Got, Replaced};
+    ghost use Rattle.volume.specs.Correct.{Does, Read, Look, Write, WriteNew, Trim, Found as Got, IsWritten, Replaced};
     ghost use Rattle.volume.specs.Brooms.{IsBroomReady, IsFresh, IsUnused};
     ghost use Rattle.volume.specs.Undisturbed.{IsUndisturbed};
     ghost use Rattle.volume.specs.Volume.{flash_of, queue_of};
@@ -140,6 +141,19 @@ impl Volume {
         ensures opened { opened_of pass.new ≡ opened_of pass.old }
     {
         host::read_gated(&self.flash, pass, sector, out, gate)
+    }
+
+    /// Whether a sector is written, by one look at its map word. No page is read.
+    pub fn look(&self, pass: &mut Pass, sector: u32) -> bool
+        requires pass { IsReady (flash_of self.now) pass.old }
+        requires sector { sector < sectors_of (geometry_of (flash_of self.now)) }
+        ensures correct { Does self.now pass.old (Look sector) (IsWritten result) pass.new }
+        ensures told { Searched (view_of pass.old) 1 (view_of pass.new) }
+        ensures answer { result ≡ is_some (held (sectors_of (geometry_of (flash_of self.now))) (view_of pass.new).seen sector) }
+        ensures pass { IsReady (flash_of self.now) pass.new }
+        ensures opened { opened_of pass.new ≡ opened_of pass.old }
+    {
+        host::look(&self.flash, pass, sector)
     }
 
     /// Writes a page of bytes to a sector. The answer is what the sector was.
@@ -287,6 +301,8 @@ impl Volume {
         ensures second_blocks { blocks_of_broom second.new ≡ blocks_of_broom second.old }
         ensures first_queue { HandsNothing first.old first.new }
         ensures second_queue { HandsNothing second.old second.new }
+        ensures first_survey { KeepsSurvey first.old first.new }
+        ensures second_survey { KeepsSurvey second.old second.new }
     {
         broom::meet_brooms(&self.flash, first, second)
     }
@@ -302,6 +318,7 @@ impl Volume {
         ensures broom { IsBroomReady self.now broom.new }
         ensures blocks { blocks_of_broom broom.new ≡ blocks_of_broom broom.old }
         ensures queue { HandsNothing broom.old broom.new }
+        ensures survey { KeepsSurvey broom.old broom.new }
     {
         let (mut pass, page, generation) = held.parts();
         broom::stand(&self.flash, &mut pass, page, generation, broom);
@@ -322,11 +339,25 @@ impl Volume {
     pub fn drain<G: Gate>(&self, broom: &mut Broom, gate: &mut G) -> Drain
         requires { IsBroomReady self.now broom.old }
         ensures told { DrainTold broom.old result broom.new }
+        ensures left { SurveyLeft broom.old result broom.new }
         ensures ready { IsBroomReady self.now broom.new }
         ensures queue { HandsNothing broom.old broom.new }
         ensures block { IsBelow (blocks_of (geometry_of (flash_of self.now))) result }
     {
         broom::drain(&self.flash, broom, gate)
+    }
+
+    /// Claims the next block by the survey that the broom made last, and moves its live pages out of it: of the blocks that were closed then,
+    /// and that the broom has neither drained nor loaded since, the one with the fewest live pages. It stops at its gate as `drain` does.
+    #[tactic(auto, using(crate::proofs::Queued::still_ready))]
+    pub fn drain_next<G: Gate>(&self, broom: &mut Broom, gate: &mut G) -> Drain
+        requires { IsBroomReady self.now broom.old }
+        ensures told { NextTold broom.old result broom.new }
+        ensures ready { IsBroomReady self.now broom.new }
+        ensures queue { HandsNothing broom.old broom.new }
+        ensures block { IsBelow (blocks_of (geometry_of (flash_of self.now))) result }
+    {
+        broom::drain_next(&self.flash, broom, gate)
     }
 
     /// Erases a drained block that nobody reads. It stops at its gate once the block's state is loaded, before the block is condemned.
@@ -335,10 +366,23 @@ impl Volume {
         requires broom { IsBroomReady self.now broom.old }
         requires block { block < blocks_of (geometry_of (flash_of self.now)) }
         ensures told { EraseTold broom.old block result broom.new }
+        ensures marks { Unmarks broom.old block broom.new }
         ensures ready { IsBroomReady self.now broom.new }
         ensures queue { HandsNothing broom.old broom.new }
     {
         broom::erase(&self.flash, broom, block, gate)
+    }
+
+    /// Makes the lowest free block the spare of a broom that has none, and says whether the broom has a spare now.
+    #[tactic(auto, using(crate::proofs::Queued::still_ready))]
+    pub fn restock(&self, broom: &mut Broom) -> bool
+        requires { IsBroomReady self.now broom.old }
+        ensures told { RestockTold broom.old result broom.new }
+        ensures ready { IsBroomReady self.now broom.new }
+        ensures queue { HandsNothing broom.old broom.new }
+        ensures survey { KeepsSurvey broom.old broom.new }
+    {
+        broom::restock(&self.flash, broom)
     }
 
     /// A drain whose block goes to the queue of drained blocks, or is set aside where the queue is full. What is set aside already is put
@@ -349,6 +393,15 @@ impl Volume {
         ensures ready { IsBroomReady self.now broom.new }
     {
         broom::drain_one(&self.flash, &self.queue, rt, broom, gate)
+    }
+
+    /// A drain by the survey that the broom made last, whose block goes on as that of `drain_one` does.
+    pub fn drain_next_one<G: Gate>(&self, rt: &impl Wait, broom: &mut Broom, gate: &mut G) -> Drain
+        requires { IsBroomReady self.now broom.old }
+        ensures told { DrainNextOneTold (limit_of (queue_of self.now)) broom.old result broom.new }
+        ensures ready { IsBroomReady self.now broom.new }
+    {
+        broom::drain_next_one(&self.flash, &self.queue, rt, broom, gate)
     }
 
     /// An erase of the block that is set aside, or else of the queue's first. A block that has readers is put back, at the queue's end.

@@ -1,11 +1,17 @@
-use Rattle.std.proofs.Common.{rules, ◌≡◌, ℕ, MatchBool, refl, sym, ap, ◌∙◌, arith}
+use Rattle.std.proofs.Common.{rules, ◌≡◌, ℕ, ◌<◌, Bool, true, false, [], ◌∷◌, ◌++◌, length, MatchBool, set, refl, sym, ap, ◌∙◌, arith, length-set}
+use Rattle.flash_rule.specs.declared.view.View.{View}
+use Rattle.flash_table.specs.declared.broom_seat.BroomBlocks.{BroomBlocks}
+use Rattle.geometry.specs.PinWords.{pin_word}
 use Rattle.geometry.specs.Geometry.{endurance_of}
 use Rattle.geometry.specs.Limits.{Numbers}
 use Rattle.geometry.specs.declared.pin_word.Phase.TheVariants.{Drained}
 use Rattle.flash_table.specs.declared.broom_seat.Reclaiming.TheVariants.{Nothing}
-use Rattle.flash_table.specs.Flash.{broom_view, own_blocks, geometry_of}
+use Rattle.flash_table.specs.Flash.{broom_view, own_blocks, geometry_of, device}
 use Rattle.broom.specs.Erasing.{DidKeep, DidFree}
 use Rattle.broom.proofs.Renewing.{loaded_stale, loaded_busy, loaded_changed, rested_loaded, WasWiped, was_wiped, its, did_retire, did_renew, told_erased, rested_retired, rested_renewed}
+use Rattle.broom.specs.Ready.{view_of_broom}
+use Rattle.broom.proofs.Marking.{marks_after, still_marked}
+use Rattle.broom.proofs.Ranks.{ranks_fewer}
 use Rattle.broom.proofs.erasing.erase.Given.{Over}
 use Rattle.broom.proofs.erasing.erase.Goals as goal
 use Rattle.broom.proofs.erasing.erase.Goals.{After-wipe_all}
@@ -38,7 +44,9 @@ returns-then-ne-clause-ready g c =
     let load = c.load_state-state.ensures in
     let h = c.requires.broom in
     let is = (returns-then-ne-clause-told g c).0.changed in
-    record { rested = rested_loaded c.args.flash.now c.args.broom.now.seat c.load_state-state.new.broom h.rested load.broom load.blocks _ _ _ is; states = h.states; counts = h.counts; closed = h.closed }
+    let h0 = c.args.broom.now in
+    let low : c.args.block < length h0.closed.items = let long = h.closed in let block = c.requires.block in omega arith in
+    record { rested = rested_loaded c.args.flash.now c.args.broom.now.seat c.load_state-state.new.broom h.rested load.broom load.blocks _ _ _ is; states = h.states; counts = h.counts; closed = length-set c.args.broom.now.closed.items c.args.block false ∙ h.closed; marks = marks_after (device c.args.flash.now) h0.states.items (view_of_broom h0) _ h0.closed.items c.args.block _ low (ap (λ (v : View). v.loaded) is) h.marks; ranking = ranks_fewer h0.counts.items h0.closed.items (set h0.closed.items c.args.block false) h0.ranking (length-set h0.closed.items c.args.block false) (still_marked h0.closed.items c.args.block low) h.ranking }
 
 -- it has readers
 pub returns-then-state-gt0-clause-told : goal.returns-then-state-gt0-clause-told
@@ -55,7 +63,9 @@ returns-then-state-gt0-clause-ready g c =
     let load = c.load_state-state.ensures in
     let h = c.requires.broom in
     let is = (returns-then-state-gt0-clause-told g c).0.changed in
-    record { rested = rested_loaded c.args.flash.now c.args.broom.now.seat c.load_state-state.new.broom h.rested load.broom load.blocks _ _ _ is; states = h.states; counts = h.counts; closed = h.closed }
+    let h0 = c.args.broom.now in
+    let low : c.args.block < length h0.closed.items = let long = h.closed in let block = c.requires.block in omega arith in
+    record { rested = rested_loaded c.args.flash.now c.args.broom.now.seat c.load_state-state.new.broom h.rested load.broom load.blocks _ _ _ is; states = h.states; counts = h.counts; closed = length-set c.args.broom.now.closed.items c.args.block false ∙ h.closed; marks = marks_after (device c.args.flash.now) h0.states.items (view_of_broom h0) _ h0.closed.items c.args.block _ low (ap (λ (v : View). v.loaded) is) h.marks; ranking = ranks_fewer h0.counts.items h0.closed.items (set h0.closed.items c.args.block false) h0.ranking (length-set h0.closed.items c.args.block false) (still_marked h0.closed.items c.args.block low) h.ranking }
 
 -- its word has changed
 pub returns-then-not-condemn-clause-told : goal.returns-then-not-condemn-clause-told
@@ -74,7 +84,9 @@ returns-then-not-condemn-clause-ready g c =
     let h = c.requires.broom in
     let busy = c.if-not-condemn.ensures.told in
     let is = (returns-then-not-condemn-clause-told g c).0.changed in
-    record { rested = rested_loaded c.args.flash.now c.args.broom.now.seat c.condemn.new.broom h.rested c.condemn.ensures.broom (busy.blocks ∙ load.blocks) _ _ _ is; states = h.states; counts = h.counts; closed = h.closed }
+    let h0 = c.args.broom.now in
+    let low : c.args.block < length h0.closed.items = let long = h.closed in let block = c.requires.block in omega arith in
+    record { rested = rested_loaded c.args.flash.now c.args.broom.now.seat c.condemn.new.broom h.rested c.condemn.ensures.broom (busy.blocks ∙ load.blocks) _ _ _ is; states = h.states; counts = h.counts; closed = length-set c.args.broom.now.closed.items c.args.block false ∙ h.closed; marks = marks_after (device c.args.flash.now) h0.states.items (view_of_broom h0) _ h0.closed.items c.args.block _ low (ap (λ (v : View). v.loaded) is) h.marks; ranking = ranks_fewer h0.counts.items h0.closed.items (set h0.closed.items c.args.block false) h0.ranking (length-set h0.closed.items c.args.block false) (still_marked h0.closed.items c.args.block low) h.ranking }
 
 pub condemn-requires-clause-expected : goal.condemn-requires-clause-expected
 condemn-requires-clause-expected g c = search rules
@@ -95,11 +107,15 @@ pub returns-then-state-endurance-clause-ready : goal.returns-then-state-enduranc
 returns-then-state-endurance-clause-ready g c =
     let did = returns-then-state-endurance-clause-told g c in
     let h = c.requires.broom in
+    let h0 = c.args.broom.now in
+    let low : c.args.block < length h0.closed.items = let long = h.closed in let block = c.requires.block in omega arith in
     record {
       rested = rested_retired c.args.flash.now c.args.broom.now.seat c.retire_block.new.broom c.args.block h.rested c.retire_block.ensures.broom did.1;
       states = h.states;
       counts = h.counts;
-      closed = h.closed;
+      closed = length-set h0.closed.items c.args.block false ∙ h.closed;
+      marks = marks_after (device c.args.flash.now) h0.states.items (view_of_broom h0) _ h0.closed.items c.args.block _ low (ap (λ (v : View). v.loaded) did.1.erased.changed) h.marks;
+      ranking = ranks_fewer h0.counts.items h0.closed.items (set h0.closed.items c.args.block false) h0.ranking (length-set h0.closed.items c.args.block false) (still_marked h0.closed.items c.args.block low) h.ranking;
     }
 
 -- the block begins its next generation
@@ -116,15 +132,23 @@ renewed g c =
     did_renew s c.wipe_all.new.seat c.renew-kept.new.seat c.args.block p (wiped g at) c.renew-kept.result (omega arith)
     (c.renew-kept.ensures.told _ (its s c.wipe_all.new.seat c.args.block p (wiped g at)))
 
+renewed_loaded : (v : View) (x : BroomBlocks) (b : ℕ) (w : View) (y : BroomBlocks) (kept : Bool) → MatchBool kept (DidKeep v x b w y) (DidFree v x b w y) → (n : ℕ) × (w.loaded ≡ v.loaded ++ (b, n) ∷ [])
+renewed_loaded v x b w y true h = (pin_word h.state, ap (λ (z : View). z.loaded) h.erased.changed)
+renewed_loaded v x b w y false h = (pin_word h.state, ap (λ (z : View). z.loaded) h.erased.changed)
+
 pub returns-clause-told : goal.returns-clause-told
-returns-clause-told g c = told_erased c.args.broom.now (record c.args.broom.now { seat = c.renew-kept.new.seat }) c.args.block c.renew-kept.result (renewed g c)
+returns-clause-told g c = told_erased c.args.broom.now _ c.args.block c.renew-kept.result (renewed g c)
 
 pub returns-clause-ready : goal.returns-clause-ready
 returns-clause-ready g c =
     let h = c.requires.broom in
+    let h0 = c.args.broom.now in
+    let low : c.args.block < length h0.closed.items = let long = h.closed in let block = c.requires.block in omega arith in
     record {
       rested = rested_renewed c.args.flash.now c.args.broom.now.seat c.renew-kept.new.seat c.args.block h.rested c.renew-kept.ensures.seat c.renew-kept.result c.requires.block (renewed g c);
       states = h.states;
       counts = h.counts;
-      closed = h.closed;
+      closed = length-set h0.closed.items c.args.block false ∙ h.closed;
+      marks = let more = renewed_loaded _ _ c.args.block _ _ c.renew-kept.result (renewed g c) in marks_after (device c.args.flash.now) h0.states.items (view_of_broom h0) _ h0.closed.items c.args.block more.0 low more.1 h.marks;
+      ranking = ranks_fewer h0.counts.items h0.closed.items (set h0.closed.items c.args.block false) h0.ranking (length-set h0.closed.items c.args.block false) (still_marked h0.closed.items c.args.block low) h.ranking;
     }

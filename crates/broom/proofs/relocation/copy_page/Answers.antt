@@ -83,8 +83,8 @@ loop-i-preserved c o there value is =
     let x : Source = record { page = c.args.page; stamp = c.args.sector; value = Some value } in
     let h = read at o there value is in
     let source = ap (λ (v : View). v.source) (c.loop-i.invariant o there value is).changed ∙ is in
-    filling_more f (broom_view c.args.seat.now) (own_blocks c.args.seat.now) o value c.loop-i.i c.get_source_word-word.result c.get_source_word-word.new.broom c.put_copy_word.new.broom h c.put_copy_word.ensures.broom c.put_copy_word.ensures.blocks
-    (c.put_copy_word.ensures.told o (ap (λ (y : BroomBlocks). y.destination) h.kept ∙ h.opened)) (c.get_source_word-word.ensures.told x value source refl)
+    filling_more f (broom_view c.args.seat.now) (own_blocks c.args.seat.now) o value c.loop-i.i _ c.get_source_word-word.new.broom c.put_copy_word.new.broom h c.put_copy_word.ensures.broom c.put_copy_word.ensures.blocks
+    (c.put_copy_word.ensures.told o (ap (λ (y : BroomBlocks). y.destination) h.kept ∙ h.opened)) (omega (arith, c.get_source_word-word.ensures.told x value source refl))
 
 -- all words of the source stand in the copy
 full : (c : After-loop-i) (value : List ℕ) → (broom_view c.args.seat.now).source ≡ Some (record { page = c.args.page; stamp = c.args.sector; value = Some value })

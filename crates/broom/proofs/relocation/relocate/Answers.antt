@@ -23,7 +23,7 @@ loop-page-init g c =
     clearing_none f c.args.seat.now c.in-Draining.victim (subst (Sweeps f c.args.seat.now) same t.1) c.requires.cleared c.requires.source room
 
 pub clear_page-requires-clause-next : goal.clear_page-requires-clause-next
-clear_page-requires-clause-next g c = (c.in-Draining.victim, c.loop-page.invariant.sweeps, (refl, c.loop-page-test.true))
+clear_page-requires-clause-next g c = (c.in-Draining.victim, c.loop-page.invariant.sweeps, (refl, omega arith))
 
 pub clear_page-requires-clause-room : goal.clear_page-requires-clause-room
 clear_page-requires-clause-room g c = let room = c.loop-page.invariant.room in let below = c.loop-page-test.true in omega arith

@@ -1,4 +1,5 @@
 use Rattle.std.proofs.Common.{◌∙◌}
+use Rattle.broom.specs.Told.{DrainTold, SurveyLeft}
 use Rattle.broom.proofs.Keeping.{still_queued, still_at}
 use Rattle.broom.proofs.Turning.{drained_none, drained_one}
 use Rattle.broom.proofs.turns.drain_one.Goals as goal
@@ -7,7 +8,7 @@ pub returns-in_default : goal.returns-in_default
 returns-in_default g c =
     let told = c.drain-answer.ensures in
     record {
-      told = drained_none _ c.args.broom.now c.relieve.new.broom c.drain-answer.new.broom c.drain-answer.result c.in_default.not-Drained c.if-not-relieve.ensures.told told.told told.queue;
+      told = drained_none (λ b given x. DrainTold b given x × SurveyLeft b given x) (λ b x told. told.0) _ c.args.broom.now c.relieve.new.broom c.drain-answer.new.broom c.drain-answer.result c.in_default.not-Drained c.if-not-relieve.ensures.told (told.told, told.left) told.queue;
       ready = told.ready;
       queued = still_queued c.args.queue.now c.relieve.new.broom c.drain-answer.new.broom told.queue c.relieve.ensures.queued;
     }
@@ -15,7 +16,7 @@ returns-in_default g c =
 pub returns-clause-told : goal.returns-clause-told
 returns-clause-told g c =
     let told = c.drain-answer.ensures in
-    drained_one _ c.args.broom.now c.relieve.new.broom c.drain-answer.new.broom c.hand_on.new.broom c.in-Drained.block c.in-Drained.copied c.drain-answer.result c.in-Drained.is c.if-not-relieve.ensures.told told.told told.queue c.hand_on.ensures.told
+    drained_one (λ b given x. DrainTold b given x × SurveyLeft b given x) _ c.args.broom.now c.relieve.new.broom c.drain-answer.new.broom c.hand_on.new.broom c.in-Drained.block c.in-Drained.copied c.drain-answer.result c.in-Drained.is c.if-not-relieve.ensures.told (told.told, told.left) told.queue c.hand_on.ensures.told
 
 pub relieve-requires : goal.relieve-requires
 relieve-requires g c = c.requires.queued

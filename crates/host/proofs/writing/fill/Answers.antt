@@ -33,8 +33,8 @@ loop-i-init c o is = filling_none c.args.flash.now c.args.pass.now o c.args.byte
 pub loop-i-preserved : goal.loop-i-preserved
 loop-i-preserved c o is =
     let h = c.loop-i.invariant o is in
-    filling_more c.args.flash.now (view_of c.args.pass.now) o c.args.bytes.now c.loop-i.i c.word_at.result c.loop-i.pass c.put_word.new.pass h c.put_word.ensures.pass c.put_word.ensures.opened
-    (c.put_word.ensures.told o h.opened) (c.word_at.ensures ∙ sym (word_is c.args.bytes.now c.loop-i.i))
+    filling_more c.args.flash.now (view_of c.args.pass.now) o c.args.bytes.now c.loop-i.i _ c.loop-i.pass c.put_word.new.pass h c.put_word.ensures.pass c.put_word.ensures.opened
+    (c.put_word.ensures.told o h.opened) (omega (arith, c.word_at.ensures, word_is c.args.bytes.now c.loop-i.i))
 
 pub put_word-requires-clause-pass : goal.put_word-requires-clause-pass
 put_word-requires-clause-pass c = (c.loop-i.invariant c.in-Some.opened (opened (goal.at.put_word-requires-clause-pass c).In-Some)).pass

@@ -1,7 +1,7 @@
-use Rattle.std.proofs.Common.{◌∙◌, ap, arith, codes, fold}
+use Rattle.std.proofs.Common.{◌∙◌, ap, arith, fold}
 use Rattle.std.proofs.lemmas.List.{take_all}
-use Rattle.clap.specs.Words.{app_of, new_app, with_rule}
-use Rattle.player.specs.CommandLine.{with_number}
+use Rattle.clap.specs.Words.{app_of, with_rule}
+use Rattle.player.specs.CommandLine.{versioned, with_number}
 use Rattle.player.proofs.CommandLines.{next_number}
 use Rattle.player.proofs.arguments.number_options.Goals as goal
 
@@ -12,4 +12,4 @@ numbers-preserved c =
 
 pub returns : goal.returns
 returns c =
-    c.numbers.invariant ∙ ap (fold with_number (new_app (codes "flashplay"))) (take_all c.numbers.number-index _ (omega arith))
+    c.numbers.invariant ∙ ap (fold with_number versioned) (take_all c.numbers.number-index _ (omega arith))

@@ -14,5 +14,6 @@ returns c = record {
   workers = c.number-7.ensures;
   brooms = c.number-8.ensures;
   patience = c.number-9.ensures;
+  drains = c.number-10.ensures;
   wear = c.get_str.ensures ∙ first_value-rows (found_of c.args.matches.now) (codes "wear");
 }

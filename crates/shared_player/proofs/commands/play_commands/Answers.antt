@@ -16,9 +16,9 @@ use Rattle.shared_player.proofs.commands.play_commands.Goals as goal
 pub returns-clause-rows : goal.returns-clause-rows
 returns-clause-rows g c =
     let geometry : geometry_of (flash_of c.deref-2.result.now) ≡ c.args.geometry.now = ap (λ (v : Volume). geometry_of (flash_of v)) c.deref-2.ensures ∙ c.in_ok-volume.ensures.geometry in
-    let all = c.in_ok-crew.ensures.manned.all ∙ ap hosts_of geometry in
+    let all = c.in_ok-team.ensures.manned.all ∙ ap hosts_of geometry in
     let are = ap (length {A = Answers}) c.hand_out.ensures in
-    omega (arith, length-map c.in_ok-crew.crew.posts.items answers_kept)
+    omega (arith, length-map c.in_ok-team.team.posts.items answers_kept)
 
 pub returns-clause-played : goal.returns-clause-played
 returns-clause-played g c =
@@ -26,12 +26,12 @@ returns-clause-played g c =
     let volume = c.deref-2.result.now in
     let ends : ends_of cs ≡ c.deref-3.result.now =
     ap ends_of (sym c.deref.ensures) ∙ (sym c.in_ok-places.ensures.ends ∙ sym c.deref-3.ensures.value) in
-    let begun : HasBegun volume cs c.deref-3.result.now c.in_ok-volume.crew.posts.items =
-    subst (λ (x : Volume × List ℕ). HasBegun x.0 cs x.1 c.in_ok-volume.crew.posts.items) (λ i. (sym c.deref-2.ensures i, ends i)) c.in_ok-volume.ensures.begun in
-    all_played volume c.args.geometry.now c.args.patience cs c.in_ok-volume.crew.posts.items c.in_ok-crew.crew.posts.items c.hand_out.new.rows.items
-    (ap (λ (v : Volume). geometry_of (flash_of v)) c.deref-2.ensures ∙ c.in_ok-volume.ensures.geometry) c.in_ok-crew.ensures.manned (c.in_ok-crew.ensures.run cs begun) c.hand_out.ensures
+    let begun : HasBegun volume cs c.deref-3.result.now c.in_ok-volume.team.posts.items =
+    subst (λ (x : Volume × List ℕ). HasBegun x.0 cs x.1 c.in_ok-volume.team.posts.items) (λ i. (sym c.deref-2.ensures i, ends i)) c.in_ok-volume.ensures.begun in
+    all_played volume c.args.geometry.now c.args.patience cs c.in_ok-volume.team.posts.items c.in_ok-team.team.posts.items c.hand_out.new.rows.items
+    (ap (λ (v : Volume). geometry_of (flash_of v)) c.deref-2.ensures ∙ c.in_ok-volume.ensures.geometry) c.in_ok-team.ensures.manned (c.in_ok-team.ensures.run cs begun) c.hand_out.ensures
 
 pub returns-clause-pages : goal.returns-clause-pages
 returns-clause-pages g c =
-    all_paged c.deref-2.result.now c.args.geometry.now c.in_ok-crew.crew.posts.items c.hand_out.new.rows.items
-    (ap (λ (v : Volume). geometry_of (flash_of v)) c.deref-2.ensures ∙ c.in_ok-volume.ensures.geometry) c.in_ok-crew.ensures.manned c.hand_out.ensures
+    all_paged c.deref-2.result.now c.args.geometry.now c.in_ok-team.team.posts.items c.hand_out.new.rows.items
+    (ap (λ (v : Volume). geometry_of (flash_of v)) c.deref-2.ensures ∙ c.in_ok-volume.ensures.geometry) c.in_ok-team.ensures.manned c.hand_out.ensures

@@ -1,43 +1,44 @@
-use Rattle.std.proofs.Common.{◌≡◌, ◌+◌, ◌∙◌, arith}
-use Rattle.shared_player.proofs.Turning.{played_long, manned_turned, manned_played, manned_met, rests_long}
+use Rattle.std.proofs.Common.{◌≡◌, List, length, map, sym, ap, ◌∙◌, subst}
+use Rattle.shared_player.specs.declared.post.Post.{Post}
+use Rattle.shared_player.specs.Meetings.{rest_of}
+use Rattle.shared_player.specs.Runs.{AreManned}
+use Rattle.shared_player.proofs.Lent.{lent_all}
+use Rattle.shared_player.proofs.Turning.{played_long, manned_round, manned_met}
 use Rattle.shared_player.proofs.runs.play_round.Goals as goal
 
-pub play_crew-requires-clause-gates : goal.play_crew-requires-clause-gates
-play_crew-requires-clause-gates g c =
-    let posts = c.turn_crew-crew.ensures.turned.long in
-    let sweepers = c.turn_crew-crew.ensures.sweepers in
-    let gates = c.requires.gates in omega arith
+pub sweep_posts-requires-clause-some : goal.sweep_posts-requires-clause-some
+sweep_posts-requires-clause-some g c =
+    (manned_round c.args.volume.now c.args.patience c.args.end c.args.team.posts c.deref_mut.result.now c.turn_all.new.posts c.in_ok-team.team.posts.items c.deref_mut-2.result.now c.requires.manned c.deref_mut.ensures.value
+    c.turn_all.auto.posts c.turn_all.ensures c.in_ok-team.ensures.played c.deref_mut-2.ensures.value).some
 
-pub meet_crew-requires : goal.meet_crew-requires
-meet_crew-requires g c =
-    let volume = c.args.volume.now in
-    let posts = c.args.crew.posts.items in
-    let turned = c.turn_crew-crew.result.posts.items in
-    manned_played volume c.args.patience turned c.in_ok-crew.crew.posts.items (manned_turned volume c.args.end posts turned c.requires.manned c.turn_crew-crew.ensures.turned) c.in_ok-crew.ensures.played
+pub sweep_posts-requires-clause-all : goal.sweep_posts-requires-clause-all
+sweep_posts-requires-clause-all g c =
+    (manned_round c.args.volume.now c.args.patience c.args.end c.args.team.posts c.deref_mut.result.now c.turn_all.new.posts c.in_ok-team.team.posts.items c.deref_mut-2.result.now c.requires.manned c.deref_mut.ensures.value
+    c.turn_all.auto.posts c.turn_all.ensures c.in_ok-team.ensures.played c.deref_mut-2.ensures.value).all
 
-pub returns-clause-played : goal.returns-clause-played
-returns-clause-played g c = record {
-  turned = c.turn_crew-crew.result.posts.items;
-  turn = c.turn_crew-crew.ensures.turned;
-  between = c.in_ok-crew.crew.posts.items;
-  played = c.in_ok-crew.ensures.played;
-  met = c.meet_crew.ensures.met;
-  rest = c.meet_crew.ensures.rest;
-}
+pub sweep_posts-requires-clause-at : goal.sweep_posts-requires-clause-at
+sweep_posts-requires-clause-at g c =
+    (manned_round c.args.volume.now c.args.patience c.args.end c.args.team.posts c.deref_mut.result.now c.turn_all.new.posts c.in_ok-team.team.posts.items c.deref_mut-2.result.now c.requires.manned c.deref_mut.ensures.value
+    c.turn_all.auto.posts c.turn_all.ensures c.in_ok-team.ensures.played c.deref_mut-2.ensures.value).at
+
+pub sweep_posts-requires-clause-seated : goal.sweep_posts-requires-clause-seated
+sweep_posts-requires-clause-seated g c =
+    (manned_round c.args.volume.now c.args.patience c.args.end c.args.team.posts c.deref_mut.result.now c.turn_all.new.posts c.in_ok-team.team.posts.items c.deref_mut-2.result.now c.requires.manned c.deref_mut.ensures.value
+    c.turn_all.auto.posts c.turn_all.ensures c.in_ok-team.ensures.played c.deref_mut-2.ensures.value).seated
 
 pub returns-clause-manned : goal.returns-clause-manned
 returns-clause-manned g c =
     let volume = c.args.volume.now in
-    let posts = c.args.crew.posts.items in
-    let turned = c.turn_crew-crew.result.posts.items in
-    let between = c.in_ok-crew.crew.posts.items in
-    manned_met volume between c.meet_crew.result.posts.items
-    (manned_played volume c.args.patience turned between (manned_turned volume c.args.end posts turned c.requires.manned c.turn_crew-crew.ensures.turned) c.in_ok-crew.ensures.played) c.meet_crew.ensures.rest c.meet_crew.ensures.seated
+    let manned = manned_round volume c.args.patience c.args.end c.args.team.posts c.deref_mut.result.now c.turn_all.new.posts c.in_ok-team.team.posts.items c.deref_mut-2.result.now c.requires.manned c.deref_mut.ensures.value
+    c.turn_all.auto.posts c.turn_all.ensures c.in_ok-team.ensures.played c.deref_mut-2.ensures.value in
+    let items = lent_all c.in_ok-team.team.posts c.deref_mut-2.result.now c.sweep_posts.new.posts c.deref_mut-2.ensures.value c.sweep_posts.auto.posts in
+    subst (AreManned volume) (sym items) (manned_met volume c.deref_mut-2.result.now c.sweep_posts.new.posts manned c.sweep_posts.ensures.rest c.sweep_posts.ensures.seated)
 
 pub returns-clause-count : goal.returns-clause-count
 returns-clause-count g c =
-    rests_long c.args.volume.now c.in_ok-crew.crew.posts.items c.meet_crew.result.posts.items c.meet_crew.ensures.rest
-    ∙ (played_long c.args.patience c.turn_crew-crew.result.posts.items c.in_ok-crew.crew.posts.items c.in_ok-crew.ensures.played ∙ c.turn_crew-crew.ensures.turned.long)
-
-pub returns-clause-sweepers : goal.returns-clause-sweepers
-returns-clause-sweepers g c = c.meet_crew.ensures.sweepers ∙ (c.in_ok-crew.ensures.swept ∙ c.turn_crew-crew.ensures.sweepers)
+    let long : List Post → _ = λ l. length l in
+    let turned = lent_all c.args.team.posts c.deref_mut.result.now c.turn_all.new.posts c.deref_mut.ensures.value c.turn_all.auto.posts in
+    let met = lent_all c.in_ok-team.team.posts c.deref_mut-2.result.now c.sweep_posts.new.posts c.deref_mut-2.ensures.value c.sweep_posts.auto.posts in
+    ap long met
+    ∙ (c.sweep_posts.auto.posts
+    ∙ (ap long c.deref_mut-2.ensures.value ∙ (played_long c.args.patience _ c.in_ok-team.team.posts.items c.in_ok-team.ensures.played ∙ (ap long turned ∙ (c.turn_all.auto.posts ∙ ap long c.deref_mut.ensures.value)))))

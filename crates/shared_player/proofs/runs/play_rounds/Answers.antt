@@ -8,7 +8,7 @@ pub loop-i-init : goal.loop-i-init
 loop-i-init g c = record {
   manned = c.requires.manned;
   gates = c.requires.gates;
-  run = λ trace begun. state_begins c.args.volume.now c.args.patience trace c.args.ends.now c.args.crew.posts.items begun;
+  run = λ trace begun. state_begins c.args.volume.now c.args.patience trace c.args.ends.now c.args.team.posts.items begun;
 }
 
 pub loop-i-preserved : goal.loop-i-preserved
@@ -16,24 +16,24 @@ loop-i-preserved g c =
     let volume = c.args.volume.now in
     let ends = c.args.ends.now in
     let i = c.loop-i.i in
-    let here = c.loop-i.crew.posts.items in
-    let back = c.in_ok-crew.crew.posts.items in
+    let here = c.loop-i.team.posts.items in
+    let back = c.in_ok-team.team.posts.items in
     let on : suc i ≡ i + 1 = omega arith in
     let split : drop i ends ≡ get_or ends i 0 ∷ drop (i + 1) ends = subst (λ k. drop i ends ≡ get_or ends i 0 ∷ drop k ends) on (drop-cons ends i 0 c.loop-i-test.true) in
     record {
-      manned = c.in_ok-crew.ensures.manned;
+      manned = c.in_ok-team.ensures.manned;
       gates =
-          (let posts = c.in_ok-crew.ensures.count in
-          let sweepers = c.in_ok-crew.ensures.sweepers in
+          (let posts = c.in_ok-team.ensures.count in
+          let sweepers = c.in_ok-team.ensures.sweepers in
           let gates = c.loop-i.invariant.gates in omega arith);
       run = λ trace begun.
-          state_next volume c.args.patience trace c.args.crew.posts.items (get_or ends i 0) (drop (i + 1) ends) here back c.loop-i.invariant.manned c.in_ok-crew.ensures.played
-          (subst (λ l. RunState volume c.args.patience trace c.args.crew.posts.items l here) split (c.loop-i.invariant.run trace begun));
+          state_next volume c.args.patience trace c.args.team.posts.items (get_or ends i 0) (drop (i + 1) ends) here back c.loop-i.invariant.manned c.in_ok-team.ensures.played
+          (subst (λ l. RunState volume c.args.patience trace c.args.team.posts.items l here) split (c.loop-i.invariant.run trace begun));
     }
 
 pub returns-clause-run : goal.returns-clause-run
 returns-clause-run g c trace begun =
     let ends = c.args.ends.now in
     let past = c.loop-i-test.false in
-    state_ends c.args.volume.now c.args.patience trace c.args.crew.posts.items c.loop-i.crew.posts.items c.loop-i.invariant.manned
-    (subst (λ l. RunState c.args.volume.now c.args.patience trace c.args.crew.posts.items l c.loop-i.crew.posts.items) (drop_all c.loop-i.i ends past) (c.loop-i.invariant.run trace begun))
+    state_ends c.args.volume.now c.args.patience trace c.args.team.posts.items c.loop-i.team.posts.items c.loop-i.invariant.manned
+    (subst (λ l. RunState c.args.volume.now c.args.patience trace c.args.team.posts.items l c.loop-i.team.posts.items) (drop_all c.loop-i.i ends past) (c.loop-i.invariant.run trace begun))

@@ -6,7 +6,7 @@ use Rattle.shared_player.proofs.runs.play_rounds.Given as goal
 
 abbrev pub invariant-loop-i : goal.invariant-loop-i
 invariant-loop-i g l = record {
-  manned : AreManned l.volume l.crew.posts.items;
-  gates : length l.crew.posts.items + length l.crew.sweepers.items ≡ length l.fn.gates;
-  run : (trace : List Command) → HasBegun l.volume trace l.ends l.fn.crew.posts.items → RunState l.volume l.patience trace l.fn.crew.posts.items (drop l.i l.ends) l.crew.posts.items;
+  manned : AreManned l.volume l.team.posts.items;
+  gates : length l.team.posts.items + length l.team.sweepers.items ≡ length l.fn.gates;
+  run : (trace : List Command) → HasBegun l.volume trace l.ends l.fn.team.posts.items → RunState l.volume l.patience trace l.fn.team.posts.items (drop l.i l.ends) l.team.posts.items;
 }

@@ -8,7 +8,7 @@ loop-end-init c = none_so_far c.args.text.now c.args.start c.requires
 
 pub returns-then-not-is_ascii_digit : goal.returns-then-not-is_ascii_digit
 returns-then-not-is_ascii_digit c =
-    number_ends c.args.text.now c.args.start c.loop-end.end c.loop-end.value c.args.bound c.loop-end.invariant (omega arith) (omega arith) (omega arith) c.if-byte-ne44.false c.if-value-bound.false
+    number_ends c.args.text.now c.args.start c.loop-end.end c.loop-end.value c.args.bound c.loop-end.invariant (omega arith) (omega arith) (omega arith) c.if-byte-ne44.false (omega arith)
 
 pub overflow_mul-value : goal.overflow_mul-value
 overflow_mul-value c = let few = ten_to (c.loop-end.end - c.args.start) (omega arith) in omega (arith, few, c.loop-end.invariant.small)

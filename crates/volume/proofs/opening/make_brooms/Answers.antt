@@ -22,7 +22,7 @@ loop-seat-preserved c =
     let room = c.loop-seat.invariant.1 in
     let kept = c.push_reserved.ensures.capacity in (
       one_made f c.args.queue.now c.args.seats.items (into_iter_items c.loop-seat.seats) (into_iter_items c.next.new.self) c.loop-seat.places.items c.pop.new.self.items c.loop-seat.brooms.items c.push_reserved.new.self.items c.in-Some.seat c.in-Some-pop.place
-          c.in-Ok-new.broom c.loop-seat.invariant.0 next c.in-Some-pop.ensures.items pushed made.view made.blocks made.queue (made.ready f (sym c.geometry.ensures)),
+          c.in-Ok-new.broom c.loop-seat.invariant.0 next c.in-Some-pop.ensures.items pushed made.view made.blocks made.queue (made.ready f (sym c.geometry.ensures)) made.unmarked,
       omega (arith, length_push c.loop-seat.brooms.items c.in-Ok-new.broom),
     )
 

@@ -5,10 +5,12 @@ use Rattle.std.proofs.lemmas.Nat.{same_from_place}
 use Rattle.std.proofs.Math.Nat.{mul-le-mul_right}
 use Rattle.geometry.specs.Geometry.{blocks_of, pages_of, page_bytes_of}
 use Rattle.die.specs.declared.block_state.BlockState.{BlockState}
-use Rattle.die.specs.Die.{block_of}
-use Rattle.die.specs.Pages.{Page, page_at}
+use Rattle.die.specs.declared.die.Die.{Die}
+use Rattle.die.specs.Die.{block_of, ChangesBlock}
+use Rattle.die.specs.Pages.{Page, page_at, programmed}
 use Rattle.die.specs.Slots.{PutsSlot, slot}
 use Rattle.die.specs.Storage.{stored}
+use Rattle.die.proofs.BlockLemmas.{Adds}
 use Rattle.die.proofs.DieLemmas.{state_of, state_read, next-state, counted, sound-set, sound-counted, adds_page, changes_by_adding, pages_within, page-stored}
 use Rattle.die.proofs.die.Die.copyback.Goals as goal
 use Rattle.die.proofs.die.Die.copyback.Goals.{After-deref_mut, After-index_mut-2}
@@ -72,7 +74,7 @@ invariant_of-self c =
     let s = c.index_mut-2.result.now in
     record {
       bytes_sized = ap (λ (xs : List ℕ). length xs) (the_bytes at_end).0 ∙ ((the_bytes at_end).1.size ∙ d.bytes_sized);
-      stamps_sized = length-set d.stamps.items c.place_of-place.result c.index.result.now ∙ d.stamps_sized;
+      stamps_sized = length-set d.stamps.items c.place_of-place.result _ ∙ d.stamps_sized;
       states_sized = length-set d.states.items c.args.to.block (counted s) ∙ d.states_sized;
       sound = sound-set d c.args.to.block (counted s) c.requires.next.usable.within (sound-counted d c.args.to s c.requires.next (the_state at_end));
     }
@@ -90,12 +92,19 @@ the_page c =
     ∙ (ap (λ (k : ℕ). page k (get_or d.stamps.items k 0)) c.place_of-source.ensures.value
     ∙ sym (page-stored d c.args.from.block c.args.from.page c.requires.source.programmed))
 
+-- a page that is added, by the value of its stamp
+changed_by : (old new : Die) (b p : ℕ) (value : List ℕ) (stamp shown : ℕ) → new.geometry ≡ old.geometry → Adds (page_bytes_of old.geometry) (pages_of old.geometry) (blocks_of old.geometry) old.bytes.items new.bytes.items old.stamps.items new.stamps.items old.states.items new.states.items b p (record { value = value; stamp = stamp }) → stamp ≡ shown → ChangesBlock old new b (programmed (block_of old b) (record { value = value; stamp = shown }))
+changed_by old new b p value stamp shown same adds is =
+    subst (λ (k : ℕ). ChangesBlock old new b (programmed (block_of old b) (record { value = value; stamp = k }))) is (changes_by_adding old new b p (record { value = value; stamp = stamp }) same adds)
+
 pub returns-clause-changes : goal.returns-clause-changes
 returns-clause-changes c =
     let at_end = (goal.at.returns-clause-changes c).After-index_mut-2 in
     let d = c.args.self.now in
-    let page : Page = record { value = slot (page_bytes_of d.geometry) d.bytes.items c.place_of-source.result; stamp = c.index.result.now } in
+    let value = slot (page_bytes_of d.geometry) d.bytes.items c.place_of-source.result in
     let b = the_bytes at_end in
-    let puts = subst (λ (xs : List ℕ). PutsSlot (page_bytes_of d.geometry) d.bytes.items xs c.place_of-place.result page.value) (sym b.0) b.1 in
-    let adds = adds_page d c.args.to c.place_of-place.result page (with_items d.bytes c.move_page.new.bytes).items c.index_mut-2.result.now c.requires.next c.place_of-place.ensures.value puts (the_state at_end) in
-    rw (← the_page at_end) (changes_by_adding d _ c.args.to.block c.args.to.page page refl adds)
+    let puts = subst (λ (xs : List ℕ). PutsSlot (page_bytes_of d.geometry) d.bytes.items xs c.place_of-place.result value) (sym b.0) b.1 in
+    rw (← the_page at_end)
+    (changed_by d _ c.args.to.block c.args.to.page value _ c.index.result.now refl
+    (adds_page d c.args.to c.place_of-place.result (record { value = value; stamp = _ }) (with_items d.bytes c.move_page.new.bytes).items c.index_mut-2.result.now c.requires.next c.place_of-place.ensures.value puts (the_state at_end))
+    (omega arith))

@@ -22,7 +22,7 @@ fetch_add-requires c =
     let size = f.size in (
       c.requires.broom.table,
       omega arith,
-      freed_here (device f) (numbers_of f.table.shared.key) (ap numbers_of f.key) _ _ _ c.pin_at-word.result c.freed.result _ at c.freed.ensures (can_renew f s c.requires.broom o t),
+      freed_here (device f) (numbers_of f.table.shared.key) (ap numbers_of f.key) _ _ _ c.pin_at-word.result _ _ at (omega (arith, c.freed.ensures)) (can_renew f s c.requires.broom o t),
     )
 
 pub invariant_of-broom : goal.invariant_of-broom

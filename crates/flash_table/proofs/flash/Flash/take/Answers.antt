@@ -5,7 +5,7 @@ use Rattle.flash_rule.proofs.Places.{pin_within}
 use Rattle.flash_table.specs.Flash.{device}
 use Rattle.flash_table.specs.Owning.{owned_of}
 use Rattle.flash_table.proofs.Here.{take_here}
-use Rattle.flash_table.proofs.Told.{stays_pass, take_free_view, take_other_view, same_generation}
+use Rattle.flash_table.proofs.Told.{pass_player, stays_pass, take_free_view, take_other_view, same_generation}
 use Rattle.flash_table.proofs.flash.Flash.take.Goals as goal
 
 pub fetch_or-found-requires : goal.fetch_or-found-requires
@@ -16,7 +16,7 @@ fetch_or-found-requires c =
     let size = f.size in (
       c.requires.pass.table,
       omega arith,
-      take_here (device f) (numbers_of f.table.shared.key) (ap numbers_of f.key) _ _ _ c.pin_at-word.result c.args.block at c.requires.pass.role c.requires.block,
+      take_here (device f) (numbers_of f.table.shared.key) (ap numbers_of f.key) _ _ _ c.pin_at-word.result c.args.block at (pass_player _ c.requires.pass.role) c.requires.block,
     )
 
 pub invariant_of-pass : goal.invariant_of-pass

@@ -74,3 +74,12 @@ returns-clause-ready c =
     (free_of-stock c.args.self.now ∙ (ap (position is_free) (sym c.deref.ensures.value) ∙ (sym c.lowest_free.ensures ∙ c.in_default-lowest_free.is)))
     (spare_of-stock c.args.self.now ∙ c.in_ok-spare.was)
     ∙ c.collect.ensures.stock
+
+pub returns-in_err-spare-clause-no_page : goal.returns-in_err-spare-clause-no_page
+returns-in_err-spare-clause-no_page c =
+    rw c.from_residual.ensures
+    (record {
+      no_open = open_of-stock c.args.self.now ∙ c.in_default.is;
+      no_free = free_of-stock c.args.self.now ∙ (ap (position is_free) (sym c.deref.ensures.value) ∙ (sym c.lowest_free.ensures ∙ c.in_default-lowest_free.is));
+      no_spare = spare_of-stock c.args.self.now ∙ c.in_err-spare.was;
+    })

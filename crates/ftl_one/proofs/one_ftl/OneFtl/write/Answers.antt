@@ -10,6 +10,7 @@ use Rattle.ftl_one.proofs.one_ftl.OneFtl.write.Goals.{After-write_into}
 use Rattle.geometry.specs.Sectors.{Sector}
 use Rattle.ftl_one.specs.Laws.{ErasesNothing}
 use Rattle.ftl_one.proofs.FtlLemmas.{no_spare}
+use Rattle.ftl_one.proofs.CollectionLemmas.{write-makes}
 use Rattle.ftl_one.proofs.LawLemmas.{nothing_same, write-does, write-programs}
 
 -- a write that finds a block ready, and one that doesn't
@@ -85,3 +86,10 @@ returns-clause-after_failure c = λ retired.
       | inl nothing ↦ nothing
       | inr one ↦ absurd (no_spare c.args.self.now retired one.1 one.2)
     ]
+
+pub returns-in_default-clause-no_page : goal.returns-in_default-clause-no_page
+returns-in_default-clause-no_page c = c.in_default.ensures.no_page
+
+pub returns-clause-due : goal.returns-clause-due
+returns-clause-due c =
+    write-makes (geometry_of c.args.self.now) c.args.sector (stock_of c.args.self.now) (stock_of c.write_into.new.self) (the_next (goal.at.returns-clause-due c).After-write_into)

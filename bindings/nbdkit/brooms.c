@@ -1,0 +1,188 @@
+#define _GNU_SOURCE
+#define NBDKIT_API_VERSION 2
+#include "brooms.h"
+
+#include <errno.h>
+#include <inttypes.h>
+#include <nbdkit-plugin.h>
+#include <sched.h>
+#include <stdio.h>
+#include <stdlib.h>
+#include <string.h>
+
+enum { DRAINS_OF_A_SURVEY = 64 };
+
+int brooms_begin(struct brooms *brooms, const struct options *options, struct stock *stock, struct mintlintel_seat *seats) {
+    *brooms = (struct brooms){.stock = stock, .count = options->brooms, .blocks = options->blocks};
+    brooms->brooms = aligned_alloc(_Alignof(struct broom), (options->brooms + 1) * sizeof *brooms->brooms);
+    brooms->erases = calloc(options->blocks, sizeof *brooms->erases);
+    brooms->is_retired = calloc(options->blocks, sizeof *brooms->is_retired);
+    int is_short = !brooms->brooms || !brooms->erases || !brooms->is_retired;
+    for (uint32_t i = 0; i < options->brooms && brooms->brooms; i++) {
+        struct broom *broom = &brooms->brooms[i];
+        *broom = (struct broom){.seat = &seats[i], .all = brooms, .number = i};
+        broom->drained = calloc(options->blocks, sizeof *broom->drained);
+        is_short |= !broom->drained;
+    }
+    if (!is_short)
+        return 0;
+    nbdkit_error("there is no memory for the brooms");
+    brooms_end(brooms);
+    return -1;
+}
+
+void brooms_end(struct brooms *brooms) {
+    for (uint32_t i = 0; i < brooms->count && brooms->brooms; i++)
+        free(brooms->brooms[i].drained);
+    free(brooms->brooms);
+    free((void *) brooms->erases);
+    free((void *) brooms->is_retired);
+}
+
+// A code that no call of a broom should give. It is told once.
+static void fail(struct broom *broom, const char *call, uint32_t code) {
+    if (!broom->has_failed)
+        nbdkit_error("broom %" PRIu32 ": %s: %s (%" PRIu32 ")", broom->number, call, mintlintel_code_name(code), code);
+    broom->has_failed = 1;
+}
+
+static void set_spareless(struct broom *broom, int is_spareless) {
+    if (broom->is_spareless == is_spareless)
+        return;
+    broom->is_spareless = is_spareless;
+    stock_count_spare(broom->all->stock, is_spareless);
+}
+
+static void count_erase(struct broom *broom, uint32_t block) {
+    atomic_fetch_add_explicit(&broom->all->erases[block], 1, memory_order_relaxed);
+}
+
+// Erases a drained block. 0 where somebody reads it, so that it has to wait.
+static int erase(struct broom *broom, uint32_t block) {
+    uint32_t code = mintlintel_broom_erase(announced(broom->seat), block);
+    switch (code) {
+    case MINTLINTEL_DONE:
+        count_erase(broom, block);
+        stock_add_free(broom->all->stock);
+        break;
+    case MINTLINTEL_KEPT:
+        count_erase(broom, block);
+        tally_add(&broom->kept, 1);
+        set_spareless(broom, 0);
+        break;
+    case MINTLINTEL_RETIRED:
+        count_erase(broom, block);
+        atomic_store_explicit(&broom->all->is_retired[block], 1, memory_order_relaxed);
+        break;
+    case MINTLINTEL_PINNED:
+        tally_add(&broom->pinned, 1);
+        return 0;
+    default:
+        fail(broom, "erase", code);
+    }
+    return 1;
+}
+
+// Erases what waits for it. 1 where there was something, even if somebody still reads it: then a later round will erase it.
+static int erase_drained(struct broom *broom) {
+    int was_there = broom->drained_count > 0;
+    for (uint32_t i = 0; i < broom->drained_count;) {
+        if (erase(broom, broom->drained[i]))
+            broom->drained[i] = broom->drained[--broom->drained_count];
+        else
+            i++;
+    }
+    if (broom->drained_count > 0)
+        sched_yield();
+    return was_there;
+}
+
+// Drains the best block of the survey that the broom keeps, and of a new one where that has none.
+static uint32_t drain_one(struct broom *broom, uint32_t *block, uint32_t *moved) {
+#ifdef MINTLINTEL_HAS_DRAIN_NEXT
+    if (broom->drains_of_survey > 0 && broom->drains_of_survey < DRAINS_OF_A_SURVEY) {
+        uint32_t code = mintlintel_broom_drain_next(announced(broom->seat), block, moved);
+        if (code != MINTLINTEL_NOTHING_TO_GAIN) {
+            broom->drains_of_survey++;
+            return code;
+        }
+    }
+#endif
+    broom->drains_of_survey = 1;
+    return mintlintel_broom_drain(announced(broom->seat), block, moved);
+}
+
+// A broom without a spare can't drain. It takes a free block as its spare, if the library has the call and there is one.
+static int restock(struct broom *broom) {
+    set_spareless(broom, 1);
+#ifdef MINTLINTEL_HAS_RESTOCK
+    if (stock_reserve(broom->all->stock)) {
+        if (mintlintel_broom_restock(announced(broom->seat)) == MINTLINTEL_DONE) {
+            tally_add(&broom->restocks, 1);
+            set_spareless(broom, 0);
+            return 1;
+        }
+        stock_add_free(broom->all->stock);
+    }
+#endif
+    return 0;
+}
+
+// Drains a block. 0 where there is nothing to gain, or nowhere to copy to.
+static int drain(struct broom *broom) {
+    uint32_t block = 0, moved = 0, code = drain_one(broom, &block, &moved);
+    switch (code) {
+    case MINTLINTEL_DONE:
+        tally_add(&broom->drains, 1);
+        tally_add(&broom->copies, moved);
+        broom->drained[broom->drained_count++] = block;
+        return 1;
+    case MINTLINTEL_LOST:
+        tally_add(&broom->lost, 1);
+        return 1;
+    case MINTLINTEL_NO_SPARE:
+        return restock(broom);
+    case MINTLINTEL_NOTHING_TO_GAIN:
+        return 0;
+    default:
+        fail(broom, "drain", code);
+        return 0;
+    }
+}
+
+static void *sweep(void *argument) {
+    struct broom *broom = argument;
+    struct stock *stock = broom->all->stock;
+    char name[16];
+    snprintf(name, sizeof name, "broom-%" PRIu32, broom->number);
+    pthread_setname_np(pthread_self(), name);
+    uint64_t known;
+    while (stock_begin_round(stock, broom->number, &known)) {
+        int was_fruitful = erase_drained(broom);
+        was_fruitful |= drain(broom);
+        was_fruitful |= erase_drained(broom);
+        if (!was_fruitful)
+            tally_add(&broom->fruitless, 1);
+        stock_end_round(stock, broom->number, known, !was_fruitful);
+    }
+    return NULL;
+}
+
+int brooms_start(struct brooms *brooms) {
+    while (brooms->started < brooms->count) {
+        struct broom *broom = &brooms->brooms[brooms->started];
+        int error = pthread_create(&broom->thread, NULL, sweep, broom);
+        if (error) {
+            nbdkit_error("no thread for broom %" PRIu32 ": %s", broom->number, strerror(error));
+            return -1;
+        }
+        brooms->started++;
+    }
+    return 0;
+}
+
+void brooms_join(struct brooms *brooms) {
+    for (uint32_t i = 0; i < brooms->started; i++)
+        pthread_join(brooms->brooms[i].thread, NULL);
+    brooms->started = 0;
+}

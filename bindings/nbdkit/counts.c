@@ -1,0 +1,229 @@
+#define _GNU_SOURCE
+#define NBDKIT_API_VERSION 2
+#include "counts.h"
+
+#include <errno.h>
+#include <inttypes.h>
+#include <nbdkit-plugin.h>
+#include <signal.h>
+#include <stdio.h>
+#include <stdlib.h>
+#include <string.h>
+#include <unistd.h>
+
+struct host_counts {
+    uint64_t reads, writes, trims, refusals, handles_that_wrote;
+};
+struct broom_counts {
+    uint64_t drains, copies, kept, restocks, pinned, lost, fruitless;
+};
+struct block_counts {
+    uint32_t erases, is_retired;
+};
+struct stock_counts {
+    uint64_t free, open, spareless, waits, waited_ns, gave_up, miscounts;
+};
+
+static struct host_counts counts_of_hosts(const struct stock *stock) {
+    struct host_counts counts = {0};
+    for (uint32_t i = 0; i < stock->host_count; i++) {
+        struct host *host = &stock->hosts[i];
+        counts.reads += tally_of(&host->reads);
+        counts.writes += tally_of(&host->writes);
+        counts.trims += tally_of(&host->trims);
+        counts.refusals += tally_of(&host->refusals);
+        counts.handles_that_wrote += tally_of(&host->writes) > 0;
+    }
+    return counts;
+}
+
+static struct broom_counts counts_of_brooms(const struct brooms *brooms) {
+    struct broom_counts counts = {0};
+    for (uint32_t i = 0; i < brooms->count; i++) {
+        struct broom *broom = &brooms->brooms[i];
+        counts.drains += tally_of(&broom->drains);
+        counts.copies += tally_of(&broom->copies);
+        counts.kept += tally_of(&broom->kept);
+        counts.restocks += tally_of(&broom->restocks);
+        counts.pinned += tally_of(&broom->pinned);
+        counts.lost += tally_of(&broom->lost);
+        counts.fruitless += tally_of(&broom->fruitless);
+    }
+    return counts;
+}
+
+static struct stock_counts counts_of_stock(struct stock *stock) {
+    pthread_mutex_lock(&stock->mutex);
+    struct stock_counts counts = {
+        .free = stock->free_count,
+        .open = stock->open_count,
+        .spareless = stock->spareless,
+        .waits = stock->waits,
+        .waited_ns = stock->waited_ns,
+        .gave_up = stock->gave_up,
+        .miscounts = stock->miscounts,
+    };
+    pthread_mutex_unlock(&stock->mutex);
+    return counts;
+}
+
+static void print_numbers(FILE *file, const struct options *options) {
+    const struct {
+        const char *name;
+        uint64_t number;
+    } lines[] = {
+        {"luns", options->luns},       {"blocks", options->blocks},   {"pages", options->pages},
+        {"page_bytes", options->page}, {"sectors", options->sectors}, {"endurance", options->endurance},
+        {"hosts", options->hosts},     {"brooms", options->brooms},   {"low", options->low},
+        {"high", options->high},
+    };
+    for (size_t i = 0; i < sizeof lines / sizeof *lines; i++)
+        fprintf(file, "%s,%" PRIu64 "\n", lines[i].name, lines[i].number);
+}
+
+static void print_counts(FILE *file, struct device *device, uint64_t erases, uint64_t retired) {
+    struct host_counts hosts = counts_of_hosts(&device->stock);
+    struct broom_counts brooms = counts_of_brooms(&device->brooms);
+    struct stock_counts stock = counts_of_stock(&device->stock);
+    const struct {
+        const char *name;
+        uint64_t number;
+    } lines[] = {
+        {"programs", hosts.writes},
+        {"copies", brooms.copies},
+        {"erases", erases},
+        {"free_blocks", stock.free},
+        {"retired_blocks", retired},
+        {"reads", hosts.reads},
+        {"trims", hosts.trims},
+        {"refused_tries", hosts.refusals},
+        {"handles_that_wrote", hosts.handles_that_wrote},
+        {"open_blocks", stock.open},
+        {"waits", stock.waits},
+        {"waited_ms", stock.waited_ns / 1000000},
+        {"no_space", stock.gave_up},
+        {"miscounts", stock.miscounts},
+        {"drains", brooms.drains},
+        {"kept_as_spare", brooms.kept},
+        {"restocks", brooms.restocks},
+        {"brooms_without_spare", stock.spareless},
+        {"pinned", brooms.pinned},
+        {"lost", brooms.lost},
+        {"fruitless_rounds", brooms.fruitless},
+    };
+    for (size_t i = 0; i < sizeof lines / sizeof *lines; i++)
+        fprintf(file, "%s,%" PRIu64 "\n", lines[i].name, lines[i].number);
+}
+
+// The blocks at one moment, so that their sums are those of the lines above them.
+static struct block_counts *counts_of_blocks(const struct brooms *brooms, uint64_t *erases, uint64_t *retired) {
+    struct block_counts *blocks = calloc(brooms->blocks, sizeof *blocks);
+    *erases = *retired = 0;
+    for (uint32_t i = 0; blocks && i < brooms->blocks; i++) {
+        blocks[i].erases = atomic_load_explicit(&brooms->erases[i], memory_order_relaxed);
+        blocks[i].is_retired = atomic_load_explicit(&brooms->is_retired[i], memory_order_relaxed);
+        *erases += blocks[i].erases;
+        *retired += blocks[i].is_retired;
+    }
+    return blocks;
+}
+
+#ifdef MINTLINTEL_HAS_BLOCK
+// How many blocks the library has in another generation than their erases say, once the brooms have ended.
+static void print_wrong_generations(FILE *file, struct device *device, const struct block_counts *blocks) {
+    uint32_t wrong = 0;
+    for (uint32_t i = 0; i < device->brooms.blocks; i++) {
+        struct mintlintel_state state = {0};
+        uint32_t code = mintlintel_broom_block(announced(&device->broom_seats[0]), i, &state);
+        wrong += code != MINTLINTEL_DONE || state.generation + blocks[i].is_retired != blocks[i].erases;
+    }
+    fprintf(file, "wrong_generations,%" PRIu32 "\n", wrong);
+}
+#endif
+
+static int print_all(FILE *file, struct device *device) {
+    uint64_t erases, retired;
+    struct block_counts *blocks = counts_of_blocks(&device->brooms, &erases, &retired);
+    if (!blocks)
+        return -1;
+    fprintf(file, "name,number\n");
+    print_numbers(file, &device->options);
+    print_counts(file, device, erases, retired);
+#ifdef MINTLINTEL_HAS_BLOCK
+    if (device->has_ended && device->brooms.count > 0)
+        print_wrong_generations(file, device, blocks);
+#endif
+    fprintf(file, "block,erases,retired\n");
+    for (uint32_t i = 0; i < device->brooms.blocks; i++)
+        fprintf(file, "%" PRIu32 ",%" PRIu32 ",%" PRIu32 "\n", i, blocks[i].erases, blocks[i].is_retired);
+    free(blocks);
+    return 0;
+}
+
+static int tell(const char *call, const char *name) {
+    nbdkit_error("%s: %s: %s", call, name, strerror(errno));
+    return -1;
+}
+
+int counts_write(struct device *device) {
+    char *name;
+    if (asprintf(&name, "%s.new", device->options.stats) == -1)
+        return tell("stats", device->options.stats);
+    FILE *file = fopen(name, "w");
+    if (!file) {
+        tell("stats", name);
+        free(name);
+        return -1;
+    }
+    int has_failed = print_all(file, device);
+    has_failed |= ferror(file);
+    has_failed |= fclose(file);
+    if (has_failed || rename(name, device->options.stats) == -1) {
+        tell("stats", device->options.stats);
+        unlink(name);
+        free(name);
+        return -1;
+    }
+    free(name);
+    return 0;
+}
+
+static void one_signal(sigset_t *signals) {
+    sigemptyset(signals);
+    sigaddset(signals, SIGUSR1);
+}
+
+static void *write_at_signals(void *argument) {
+    struct device *device = argument;
+    sigset_t signals;
+    int signal;
+    one_signal(&signals);
+    pthread_setname_np(pthread_self(), "counts");
+    while (sigwait(&signals, &signal) == 0 && !atomic_load(&device->is_stopping))
+        counts_write(device);
+    return NULL;
+}
+
+// All threads of the server start behind this one, so none of them is interrupted by the signal.
+int counts_start(struct device *device) {
+    sigset_t signals;
+    one_signal(&signals);
+    int error = pthread_sigmask(SIG_BLOCK, &signals, NULL);
+    if (error == 0)
+        error = pthread_create(&device->counter, NULL, write_at_signals, device);
+    if (error == 0) {
+        device->has_counter = 1;
+        return 0;
+    }
+    nbdkit_error("no thread for the counts: %s", strerror(error));
+    return -1;
+}
+
+void counts_stop(struct device *device) {
+    if (!device->has_counter)
+        return;
+    atomic_store(&device->is_stopping, 1);
+    pthread_kill(device->counter, SIGUSR1);
+    pthread_join(device->counter, NULL);
+    device->has_counter = 0;
+}

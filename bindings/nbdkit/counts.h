@@ -1,0 +1,16 @@
+// The counts of a device, as a file: a line for each count, and then one for each block.
+#ifndef NBDKIT_COUNTS_H
+#define NBDKIT_COUNTS_H
+
+#include "device.h"
+
+// Starts the thread that writes the file at each SIGUSR1: 0, or -1 with an error told.
+int counts_start(struct device *device);
+
+// Ends that thread.
+void counts_stop(struct device *device);
+
+// Writes the file, in one step for whoever opens it: 0, or -1 with an error told.
+int counts_write(struct device *device);
+
+#endif

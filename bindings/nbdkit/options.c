@@ -1,0 +1,262 @@
+#define NBDKIT_API_VERSION 2
+#include "options.h"
+
+#include <inttypes.h>
+#include <nbdkit-plugin.h>
+#include <stdio.h>
+#include <stdlib.h>
+#include <string.h>
+#include <unistd.h>
+
+#include "library.h"
+
+enum {
+    WORD_BYTES = 8,
+    MAX_LUNS = 8,
+    MAX_BLOCKS = 4096,
+    MAX_PAGES = 16384,
+    MAX_SECTORS = 1048576,
+    MAX_ENDURANCE = 1000000,
+    MAX_HOSTS = 500,
+    MAX_BROOMS = 32,
+    MAX_TABLE_WORDS = 16777216,
+    MAX_SPARE = 10000,
+    MAX_WAIT = 600000,
+};
+
+const char options_help[] = "[size=]SIZE            Bytes of the device, such as 64M (default 96M).\n"
+                            "spare=PERCENT%         Pages beyond the sectors, of these (default 12%).\n"
+                            "page=BYTES             A page, which is a sector (default 4096).\n"
+                            "pages=N                Pages of a block (default 64).\n"
+                            "sectors=N, blocks=N    In place of size= and spare=.\n"
+                            "luns=N                 LUNs (default 1).\n"
+                            "endurance=N            Erase cycles of a block (default 1000000).\n"
+                            "hosts=N                Requests that use the device at once\n"
+                            "                       (default as many as processors, 4 to 16).\n"
+                            "brooms=N               Threads that collect garbage (default 1).\n"
+                            "low=N, high=N          Brooms start below N free blocks, go on to N.\n"
+                            "wait=MILLISECONDS      A write waits as long while no block comes free\n"
+                            "                       (default 2000).\n"
+                            "stats=FILE             Counts, written at the end and on SIGUSR1.";
+
+static uint32_t default_hosts(void) {
+    long processors = sysconf(_SC_NPROCESSORS_ONLN);
+    return processors < 4 ? 4 : processors > 16 ? 16 : (uint32_t) processors;
+}
+
+void options_begin(struct options *options) {
+    *options = (struct options){
+        .page = 4096,
+        .luns = 1,
+        .pages = 64,
+        .endurance = MAX_ENDURANCE,
+        .hosts = default_hosts(),
+        .brooms = 1,
+        .wait = 2000,
+        .size = -1,
+        .spare = 12,
+    };
+}
+
+void options_end(struct options *options) {
+    free(options->stats);
+    options->stats = NULL;
+}
+
+// A number from `least` on.
+static int set_number(const char *key, const char *value, uint32_t least, uint32_t most, uint32_t *number) {
+    if (nbdkit_parse_uint32_t(key, value, number) == -1)
+        return -1;
+    if (*number >= least && *number <= most)
+        return 0;
+    nbdkit_error("%s=%s: it is %" PRIu32 " to %" PRIu32, key, value, least, most);
+    return -1;
+}
+
+static int set_size(const char *key, const char *value, int64_t most, int64_t *bytes) {
+    int64_t size = nbdkit_parse_size(value);
+    if (size == -1)
+        return -1;
+    if (size < 1 || size > most) {
+        nbdkit_error("%s=%s: it is 1 to %" PRIi64 " bytes", key, value, most);
+        return -1;
+    }
+    *bytes = size;
+    return 0;
+}
+
+static int set_page(struct options *options, const char *value) {
+    int64_t bytes;
+    if (set_size("page", value, MAX_PAGE_BYTES, &bytes) == -1)
+        return -1;
+    if (bytes % WORD_BYTES != 0) {
+        nbdkit_error("page=%s: a page has a multiple of %d bytes, at most %d", value, WORD_BYTES, MAX_PAGE_BYTES);
+        return -1;
+    }
+    options->page = (uint32_t) bytes;
+    return 0;
+}
+
+static int set_spare(struct options *options, const char *value) {
+    char digits[16];
+    size_t length = strlen(value);
+    if (length > 0 && value[length - 1] == '%')
+        length--;
+    if (length >= sizeof digits) {
+        nbdkit_error("spare=%s: it is a percentage, 0 to %d", value, MAX_SPARE);
+        return -1;
+    }
+    memcpy(digits, value, length);
+    digits[length] = 0;
+    options->has_spare = 1;
+    return set_number("spare", digits, 0, MAX_SPARE, &options->spare);
+}
+
+static int set_stats(struct options *options, const char *value) {
+    free(options->stats);
+    options->stats = nbdkit_absolute_path(value);
+    return options->stats ? 0 : -1;
+}
+
+int options_set(struct options *options, const char *key, const char *value) {
+    const struct {
+        const char *key;
+        uint32_t least, most, *number;
+    } numbers[] = {
+        {"luns", 1, MAX_LUNS, &options->luns},
+        {"blocks", 3, MAX_BLOCKS, &options->blocks},
+        {"pages", 1, MAX_PAGES, &options->pages},
+        {"sectors", 1, MAX_SECTORS, &options->sectors},
+        {"endurance", 1, MAX_ENDURANCE, &options->endurance},
+        {"hosts", 1, MAX_HOSTS, &options->hosts},
+        {"brooms", 0, MAX_BROOMS, &options->brooms},
+        {"low", 1, MAX_BLOCKS, &options->low},
+        {"high", 1, MAX_BLOCKS, &options->high},
+        {"wait", 0, MAX_WAIT, &options->wait},
+    };
+    for (size_t i = 0; i < sizeof numbers / sizeof *numbers; i++)
+        if (strcmp(key, numbers[i].key) == 0)
+            return set_number(key, value, numbers[i].least, numbers[i].most, numbers[i].number);
+    if (strcmp(key, "size") == 0)
+        return set_size(key, value, INT64_MAX, &options->size);
+    if (strcmp(key, "page") == 0)
+        return set_page(options, value);
+    if (strcmp(key, "spare") == 0)
+        return set_spare(options, value);
+    if (strcmp(key, "stats") == 0)
+        return set_stats(options, value);
+    nbdkit_error("unknown parameter '%s'", key);
+    return -1;
+}
+
+static int choose_sectors(struct options *options) {
+    if (options->sectors && options->size != -1) {
+        nbdkit_error("size= and sectors= say the same: give one of them");
+        return -1;
+    }
+    if (options->sectors)
+        return 0;
+    int64_t size = options->size == -1 ? 96 << 20 : options->size, page = options->page;
+    if (size % page != 0) {
+        nbdkit_error("size=%" PRIi64 ": it is a multiple of the page's %" PRIi64 " bytes; %" PRIi64 " and %" PRIi64 " are",
+                     size, page, size / page * page, (size / page + 1) * page);
+        return -1;
+    }
+    if (size / page > MAX_SECTORS) {
+        nbdkit_error("size=%" PRIi64 ": with pages of %" PRIi64 " bytes it is at most %" PRIi64 " bytes, which are %d sectors",
+                     size, page, MAX_SECTORS * page, MAX_SECTORS);
+        return -1;
+    }
+    options->sectors = (uint32_t) (size / page);
+    return 0;
+}
+
+// The blocks that handles and brooms keep: one that each handle writes to, two of each broom.
+static uint64_t kept_blocks(const struct options *options) {
+    return options->hosts + 2 * (uint64_t) options->brooms;
+}
+
+static int choose_blocks(struct options *options) {
+    if (options->blocks && options->has_spare) {
+        nbdkit_error("spare= and blocks= say the same: give one of them");
+        return -1;
+    }
+    if (options->blocks)
+        return 0;
+    uint64_t hundred_pages = 100 * (uint64_t) options->pages;
+    uint64_t blocks =
+        (options->sectors * (100 + (uint64_t) options->spare) + hundred_pages - 1) / hundred_pages + kept_blocks(options);
+    blocks = (blocks + options->luns - 1) / options->luns * options->luns;
+    // More than a device may have are told as such by the library.
+    options->blocks = blocks > UINT32_MAX ? UINT32_MAX : (uint32_t) blocks;
+    return 0;
+}
+
+static uint32_t within(uint64_t number, uint32_t least, uint32_t most) {
+    return number < least ? least : number > most ? most : (uint32_t) number;
+}
+
+// Brooms rest with a few blocks free for the writes to come. The marks are low enough to be reached with every sector written:
+// a broom that never rests copies pages that would soon have been written anew.
+static int choose_marks(struct options *options) {
+    uint64_t used = (options->sectors + (uint64_t) options->pages - 1) / options->pages + kept_blocks(options);
+    uint64_t spare = options->blocks > used ? options->blocks - used : 0;
+    if (options->low == 0)
+        options->low = within(spare / 4, 1, 4 + 2 * options->brooms);
+    if (options->high == 0)
+        options->high = options->low + within(spare / 4, 1, 4);
+    if (options->high >= options->low)
+        return 0;
+    nbdkit_error("high=%" PRIu32 " is below low=%" PRIu32, options->high, options->low);
+    return -1;
+}
+
+int options_complete(struct options *options) {
+    if (choose_sectors(options) == -1 || choose_blocks(options) == -1)
+        return -1;
+    return choose_marks(options);
+}
+
+uint64_t options_memory(const struct options *options) {
+    uint64_t pages = (uint64_t) options->blocks * options->pages;
+    return pages * (options->page + WORD_BYTES) + ((uint64_t) options->sectors + options->blocks) * WORD_BYTES;
+}
+
+static void tell_too_much_memory(const struct options *options) {
+    uint64_t page = options->page;
+    nbdkit_error("a device of %" PRIu64 " bytes with %" PRIu64 " bytes of pages takes %" PRIu64
+                 " bytes in memory, and may take %" PRIu64 ": make size= or spare= less",
+                 options->sectors * page, options->blocks * (uint64_t) options->pages * page, options_memory(options),
+                 (uint64_t) MAX_TABLE_WORDS * WORD_BYTES);
+}
+
+static void tell_too_few_blocks(const struct options *options) {
+    uint64_t block = (uint64_t) options->pages * options->page, kept = kept_blocks(options), all = options->blocks;
+    nbdkit_error("%" PRIu64 " blocks have %" PRIu64 " bytes; %" PRIu32 " handles and %" PRIu32 " brooms keep %" PRIu64
+                 " bytes of them (%" PRIu64 " blocks), which leaves %" PRIu64 " for the %" PRIu64
+                 " bytes of the device: more blocks=, or fewer hosts=",
+                 all, all * block, options->hosts, options->brooms, kept * block, kept, all > kept ? (all - kept) * block : 0,
+                 options->sectors * (uint64_t) options->page);
+}
+
+void options_tell_refusal(const struct options *options, uint32_t code) {
+    uint64_t block = (uint64_t) options->pages * options->page;
+    switch (code) {
+    case MINTLINTEL_BAD_BLOCKS:
+        nbdkit_error("%" PRIu32 " blocks of %" PRIu64 " bytes: a device has 3 to %d, and a multiple of luns=%" PRIu32
+                     "; with more pages= a block has more bytes",
+                     options->blocks, block, MAX_BLOCKS, options->luns);
+        break;
+    case MINTLINTEL_TOO_MANY_WORDS:
+        tell_too_much_memory(options);
+        break;
+    case MINTLINTEL_TOO_FEW_BLOCKS:
+        tell_too_few_blocks(options);
+        break;
+    case MINTLINTEL_NO_MEMORY:
+        nbdkit_error("there is no memory for a device of %" PRIu64 " bytes", options_memory(options));
+        break;
+    default:
+        nbdkit_error("no device was made: %s (%" PRIu32 ")", mintlintel_code_name(code), code);
+    }
+}

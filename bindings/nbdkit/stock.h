@@ -1,0 +1,92 @@
+// The stock: handles for the requests, and the free blocks.
+//
+// Whoever takes a handle holds no other, waits for nothing while holding it, and gives it back. A sector's lock is taken before
+// a handle, never after.
+//
+// The library doesn't count its free blocks, so the stock does. The count tells who has to wait, and when brooms may rest; that
+// a write is done or refused is said by the library alone.
+#ifndef NBDKIT_STOCK_H
+#define NBDKIT_STOCK_H
+
+#include <pthread.h>
+#include <stdatomic.h>
+#include <stdint.h>
+
+#include "library.h"
+#include "options.h"
+
+// A count that one thread at a time adds to, and any thread may load.
+typedef _Atomic uint64_t tally;
+
+static inline void tally_add(tally *count, uint64_t more) {
+    atomic_store_explicit(count, atomic_load_explicit(count, memory_order_relaxed) + more, memory_order_relaxed);
+}
+
+static inline uint64_t tally_of(tally *count) {
+    return atomic_load_explicit(count, memory_order_relaxed);
+}
+
+// A host's handle.
+struct host {
+    _Alignas(64) struct mintlintel_seat *seat;
+    uint32_t room; // pages that are left in its open block
+    tally reads, writes, trims, refusals;
+};
+
+struct stock {
+    pthread_mutex_t mutex; // of all fields that change
+    pthread_cond_t for_any, for_write, for_broom;
+    struct host *hosts;
+    uint32_t host_count, broom_count, pages, low, high;
+    uint64_t wait_ns;
+    struct host **roomy, **roomless; // idle handles with room in an open block, and without; the one given back last is on top
+    uint32_t roomy_count, roomless_count;
+    uint32_t open_count; // handles with room, idle or not
+    uint32_t free_count; // free blocks that no handle is about to take
+    uint32_t spareless;  // brooms that have lost their spare
+    uint32_t waiting_for_any, waiting_to_write;
+    uint32_t starving;         // writes that wait while no block is free
+    uint32_t resting, pausing; // brooms that wait for work, and those that looked in vain a moment ago
+    uint64_t changes;          // what was done so far, from 1 on: behind each a broom may find what it didn't find before
+    uint64_t *fruitless_at;    // of each broom, the changes that it knew as it last found nothing to do, or 0
+    uint64_t freed_at;         // when a block last came free
+    int is_collecting, is_stopping;
+    uint64_t waits, waited_ns, gave_up, miscounts;
+};
+
+// 0, or -1 where there is no memory, with an error told. The seats are those of an open device.
+int stock_begin(struct stock *stock, const struct options *options, struct mintlintel_seat *seats);
+void stock_end(struct stock *stock);
+
+// A handle to read or trim with.
+struct host *stock_take(struct stock *stock);
+void stock_give(struct stock *stock, struct host *host);
+
+// A write's way to a handle.
+struct attempt {
+    uint64_t began; // when no block was free for it, or 0
+    int is_last;    // it has waited in vain, so this try is its last
+};
+
+// A handle with room for a page, or, if no block comes free, any handle for a last try.
+struct host *stock_take_to_write(struct stock *stock, struct attempt *attempt);
+
+// Gives a handle back after a write, a write for which the library found no block, or a trim.
+void stock_give_written(struct stock *stock, struct host *host, const struct attempt *attempt);
+void stock_give_refused(struct stock *stock, struct host *host, struct attempt *attempt);
+void stock_give_trimmed(struct stock *stock, struct host *host);
+
+// A broom waits for work: 0 where the brooms are to stop. `known` is what it hands on at the end of its round.
+int stock_begin_round(struct stock *stock, uint32_t broom, uint64_t *known);
+void stock_end_round(struct stock *stock, uint32_t broom, uint64_t known, int was_fruitless);
+
+// A block was erased and is free; a broom has lost its spare, or has one again; a free block is set aside for a broom, if there
+// is one.
+void stock_add_free(struct stock *stock);
+void stock_count_spare(struct stock *stock, int was_lost);
+int stock_reserve(struct stock *stock);
+
+// Brooms and writers wait no longer.
+void stock_stop(struct stock *stock);
+
+#endif

@@ -1,0 +1,153 @@
+"""What is refused: parameters, and a system that gives no memory, thread or file. And wrong plugins, which the parts have to refuse."""
+
+import os
+import shutil
+import subprocess
+import time
+
+from running import HERE, Failure, Server, kill, want
+
+# Parameters, and words of the error that each has to get. A block of 64 pages has 262,144 bytes.
+REFUSED = [
+    (["size=1000000"], "a multiple of the page's 4096 bytes; 999424 and 1003520 are"),
+    (["size=0"], "size=0: it is 1 to"),
+    (["size=lots"], "size"),
+    (["size=8G"], "at most 4294967296 bytes, which are 1048576 sectors"),
+    (["size=16M", "page=8"], "at most 8388608 bytes, which are 1048576 sectors"),
+    (["size=128M"], "and may take 134217728: make size= or spare= less"),
+    (["size=8M", "sectors=100"], "size= and sectors= say the same"),
+    (["spare=5%", "blocks=100"], "spare= and blocks= say the same"),
+    (["spare=x"], "spare"),
+    (["spare=12345%"], "spare=12345: it is 0 to 10000"),
+    (["page=1001"], "a multiple of 8 bytes, at most 4096"),
+    (["page=8192"], "page=8192: it is 1 to 4096 bytes"),
+    (["pages=0"], "pages=0: it is 1 to 16384"),
+    (["luns=9"], "luns=9: it is 1 to 8"),
+    (["endurance=0"], "endurance=0: it is 1 to 1000000"),
+    (["hosts=0"], "hosts=0: it is 1 to 500"),
+    (["brooms=33"], "brooms=33: it is 0 to 32"),
+    (["low=9", "high=3"], "high=3 is below low=9"),
+    (["blocks=50", "luns=4"], "50 blocks of 262144 bytes: a device has 3 to 4096, and a multiple of luns=4"),
+    (["size=64M", "pages=1"], "blocks of 4096 bytes: a device has 3 to 4096"),
+    (["sectors=2400", "blocks=40", "hosts=4"], "40 blocks have 10485760 bytes; 4 handles and 1 brooms keep 1572864 bytes of them (6 blocks), which leaves 8912896 for the 9830400 bytes"),
+    (["nonsense=1"], "unknown parameter 'nonsense'"),
+    (["stats=/nowhere/counts"], "/nowhere/counts.new: No such file or directory"),
+]
+
+
+def start(shop, words, environment=None):
+    """The status and the errors of a server that has to end by itself, or that is up: then None, and it is ended."""
+    log, socket = shop.folder / "refused.log", shop.folder / "refused.socket"
+    socket.unlink(missing_ok=True)
+    process = shop.start(["nbdkit", "-f", "-U", socket, shop.plugin(), *words], log, env={**os.environ, **(environment or {})})
+    end = time.monotonic() + 20
+    while process.poll() is None and not answers(shop, socket):
+        want(time.monotonic() < end, f"nbdkit {words}: neither up nor ended")
+        time.sleep(0.01)
+    status = process.poll()
+    kill(process)
+    shop.started.remove(process)
+    return status, log.read_text()
+
+
+def answers(shop, socket):
+    if not socket.exists():
+        return False
+    call = ["nbdinfo", "--size", f"nbd+unix:///?socket={socket}"]
+    return subprocess.run(call, stdout=subprocess.DEVNULL, stderr=subprocess.DEVNULL, timeout=20, check=False).returncode == 0
+
+
+def refused_words(shop):
+    for words, text in REFUSED:
+        status, told = start(shop, words)
+        want(status == 1 and text in told, f"{' '.join(words)}: status {status}: {told}")
+    return f"{len(REFUSED)} rows"
+
+
+def refused_in_turn(shop, name, texts):
+    """Refuses the first, second, .. request of the plugin, until the server starts. Each refusal ends it with status 1 and an error."""
+    for number in range(1, 200):
+        status, told = start(shop, ["size=4M", "brooms=2", f"stats={shop.folder}/counts"], {"LD_PRELOAD": str(shop.client("refuse.so")), name: str(number)})
+        if status is None:
+            want(number > 1, f"{name}: nothing was refused")
+            return number - 1
+        want(status == 1 and any(text in told for text in texts), f"{name}={number}: status {status}: {told}")
+    raise Failure(f"{name}: the server never starts")
+
+
+def refused_resources(shop):
+    memory = refused_in_turn(shop, "REFUSE_ALLOCATION", ("no memory", "Cannot allocate memory"))
+    threads = refused_in_turn(shop, "REFUSE_THREAD", ("no thread for",))
+    server = Server(shop, "size=4M")
+    shutil.rmtree(server.stats.parent)  # the counts can't be written at the end: that is told, and the server ends well
+    server.process.terminate()
+    want(server.process.wait(20) == 0, "a server whose counts can't be written ended badly")
+    return f"{memory} allocations and {threads} starts of threads refused in turn"
+
+
+def help_and_page(shop):
+    told = shop.run(["nbdkit", shop.plugin(), "--help"])
+    dumped = dict(line.split("=", 1) for line in shop.run(["nbdkit", shop.plugin(), "--dump-plugin"]).splitlines())
+    want(dumped["name"] == "mintlintel" and dumped["thread_model"] == "parallel" and dumped["mintlintel_max_page"] == "4096", str(dumped))
+    page = HERE / "nbdkit-mintlintel-plugin.pod"
+    shop.run(["podchecker", "-warnings", page])
+    text = page.read_text()
+    for line in told.splitlines():
+        for word in line.split("  ")[0].replace(",", " ").split():
+            name = word.replace("[size=]", "size=").split("=")[0]
+            if "=" in word:
+                want(f"B<{name}=" in text or f"B<[>{name}=" in text.replace("B<[>B<", "B<[>"), f"the page doesn't have {name}=")
+    shop.run(["man", "--warnings", "-l", HERE / "out/nbdkit-mintlintel-plugin.1"])
+    return ""
+
+
+class Edit:
+    """A wrong plugin: changes of one file, and the part that has to refuse it."""
+
+    def __init__(self, path):
+        self.name, self.pairs = path.stem, []
+        for line in path.read_text().splitlines()[1:]:
+            key, _, text = line.partition(": ")
+            text = text.replace("\\n", "\n")
+            if key == "old":
+                self.pairs.append([text])
+            elif key == "new":
+                self.pairs[-1].append(text)
+            else:
+                setattr(self, key, text)
+
+    def make(self, shop, kind):
+        """The plugin with the changes, in a folder of its own."""
+        folder = shop.folder / "wrong" / self.name
+        shutil.copytree(HERE, folder, ignore=shutil.ignore_patterns("out", "tests", "wrong"))
+        source = folder / self.file
+        text = source.read_text()
+        for old, new in self.pairs:
+            want(text.count(old) == 1, f"{self.name}: the old text stands {text.count(old)} times in {self.file}")
+            text = text.replace(old, new)
+        source.write_text(text)
+        flags = [f"CFLAGS=-O1 -g -fsanitize={kind}"] if kind else []
+        place = [f"{name}={(HERE / value).resolve()}" for name, value in (("LIBRARY", os.environ.get("LIBRARY", "../out/libmintlintel.a")),
+                                                                         ("INCLUDE", os.environ.get("INCLUDE", "../include")))]
+        shop.run(["make", "-s", "-C", folder, *place, *flags, "out/nbdkit-mintlintel-plugin.so"])
+        return folder / "out/nbdkit-mintlintel-plugin.so"
+
+
+def wrong_plugins(shop, parts):
+    """Each wrong plugin is refused by the part that it names, which the plugin itself has passed."""
+    edits = [Edit(path) for path in sorted((HERE / "wrong").glob("*.edit"))]
+    passed, shop.options.long = [], False
+    for edit in edits:
+        kind = edit.part.removesuffix("_sanitizer") if edit.part.endswith("_sanitizer") else ""
+        shop.end_kept()
+        shop.wrong = edit.make(shop, kind)
+        try:
+            parts[edit.part](shop)
+            passed.append(edit.name)
+        except Failure as failure:
+            print(f"nbdkit:   {edit.name}: refused: {' '.join(str(failure).split())[:160]}", flush=True)
+        shop.end_all()
+    shop.wrong = None
+    shop.end_kept()
+    want(not passed, f"not refused: {', '.join(passed)}")
+    return f"{len(edits)} wrong plugins refused"

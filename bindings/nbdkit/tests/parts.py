@@ -1,0 +1,306 @@
+"""The parts of the check, in their order. Each gives a text on what it did, or raises Failure."""
+
+import contextlib
+import functools
+import random
+import re
+import signal
+import subprocess
+import time
+
+import faults
+import files
+from running import HERE, Failure, Server, end_fio, fio, kibibytes, want
+
+ZIPF = {"norandommap": 1, "random_distribution": "zipf:0.9"}
+UNALIGNED = {"bsrange": "512-20k", "bs_unaligned": 1, "blockalign": 512, "serialize_overlap": 1}
+
+
+def build(shop):
+    """The plugin, also under the sanitizers, its page, and the clients."""
+    shop.run(["make", "-s", "-C", HERE], 120)
+    for kind in ("address", "thread"):
+        shop.run(["make", "-s", "-C", HERE, f"OUT=out/{kind}", f"CFLAGS=-O1 -g -fno-omit-frame-pointer -fsanitize={kind}", f"out/{kind}/nbdkit-mintlintel-plugin.so"], 120)
+    clients = HERE / "out/clients"
+    clients.mkdir(parents=True, exist_ok=True)
+    strict = ["gcc", "-std=gnu11", "-O2", "-Wall", "-Wextra", "-Werror"]
+    for name in ("overlap", "wear_out", "dies"):
+        shop.run([*strict, HERE / f"tests/{name}.c", "-o", clients / name, "-lnbd", "-pthread", "-lm"], 60)
+    shop.run([*strict, "-fPIC", "-shared", HERE / "tests/refuse.c", "-o", clients / "refuse.so", "-ldl"], 60)
+    return "plain and under two sanitizers"
+
+
+# ---- One device whose pages are 88 % in use, and which collects in every part.
+
+AGED = ["size=48M", "spare=9", "hosts=4"]
+
+
+def aged(shop, brooms=1):
+    """The device for most parts: every sector is written, and then overwritten at random until brooms copy."""
+    if shop.aged and shop.aged.brooms == brooms:
+        return shop.aged
+    shop.end_kept()
+    server = Server(shop, *AGED, f"brooms={brooms}")
+    server.brooms = brooms
+    age(shop, server)
+    shop.keep(server)
+    shop.aged = server
+    return server
+
+
+def age(shop, server):
+    fio(shop, server, "fill", rw="write", bs="64k", size="48m", iodepth=4)
+    fio(shop, server, "age", rw="randwrite", bs="4k", size="48m", iodepth=16, io_size="80m", randrepeat=0, **ZIPF)
+    want(server.counts().copies > 0, "an aged device has copied nothing")
+
+
+def on_aged(part):
+    """A part on the aged device, under which pages have to be copied."""
+
+    @functools.wraps(part)
+    def of_shop(shop, brooms=1):
+        server = aged(shop, brooms)
+        fio(shop, server, "mix", rw="randwrite", bs="4k", size="48m", iodepth=16, io_size="12m", randrepeat=0, norandommap=1)
+        shop.copies = 0
+        before = server.counts()
+        told = part(shop, server) or ""
+        after = server.counts()
+        want(after.copies > before.copies, "nothing was copied under it")
+        want(after.no_space == before.no_space, "a write found no space")
+        return told
+
+    return of_shop
+
+
+@on_aged
+def checksums(shop, server):
+    part = kibibytes(shop, server) // 4
+    fio(shop, server, "crc", rw="randwrite", bs="4k", size=f"{part}k", offset_increment=f"{part}k", numjobs=4, iodepth=16,
+        io_size=f"{shop.scaled(20, 300)}m", verify="crc32c", serialize_overlap=1, **ZIPF)
+
+
+@on_aged
+def mixed_sizes(shop, server):
+    fio(shop, server, "mixed", rw="randwrite", size="48m", iodepth=16, io_size="48m", verify="md5", randseed=4242, **UNALIGNED)
+
+
+@on_aged
+def mixed_sizes_by_four(shop, server):
+    part = kibibytes(shop, server) // 4
+    fio(shop, server, "mixed", rw="randwrite", size=f"{part}k", offset_increment=f"{part}k", numjobs=4, iodepth=16,
+        io_size=f"{shop.scaled(12, 200)}m", verify="crc32c", **UNALIGNED, **ZIPF)
+
+
+@on_aged
+def trims_and_writes(shop, server):
+    fio(shop, server, "trimwrite", rw="trimwrite", bs="4k", size="48m", iodepth=16, io_size=f"{shop.scaled(48, 96)}m")
+    fio(shop, server, "again", rw="randwrite", bs="4k", size="48m", iodepth=16, io_size="40m", verify="crc32c")
+
+
+@on_aged
+def sixteen_connections(shop, server):
+    part = kibibytes(shop, server) // 64 * 4
+    fio(shop, server, "sixteen", rw="randwrite", bs="4k", size=f"{part}k", offset_increment=f"{part}k", numjobs=16, iodepth=4,
+        io_size=f"{shop.scaled(4, 40)}m", verify="crc32c", serialize_overlap=1, **ZIPF)
+
+
+@on_aged
+def there_and_back(shop, server):
+    image, back = shop.folder / "image", shop.folder / "back"
+    image.write_bytes(random.Random(1).randbytes(kibibytes(shop, server) * 1024))
+    shop.run(["nbdcopy", image, server.uri])
+    shop.run(["nbdcopy", server.uri, back])
+    shop.run(["cmp", image, back])
+
+
+@on_aged
+def by_qemu_img(shop, server):
+    image = shop.folder / "image"
+    with open(image, "wb") as file:
+        file.write(random.Random(2).randbytes(30_000_000))
+        file.truncate(kibibytes(shop, server) * 1024)
+    shop.run(["qemu-img", "convert", "-n", "-f", "raw", "-O", "raw", image, server.uri])
+    shop.run(["qemu-img", "compare", "-f", "raw", "-F", "raw", image, server.uri])
+
+
+@contextlib.contextmanager
+def loaded(shop, server):
+    """Random writes to the last 8 MiB meanwhile, so that brooms collect beside a quiet client."""
+    load = shop.start(["fio", "--name=load", "--thread", "--ioengine=nbd", f"--uri={server.uri}", "--rw=randwrite", "--bs=4k", "--offset=40m", "--size=8m", "--iodepth=4",
+                       "--time_based", "--runtime=60", "--norandommap"], shop.folder / "load")
+    copies = server.counts().copies
+    server.wait_until(lambda: server.counts().copies > copies, 30, "copy anything under it")
+    yield
+    end_fio(shop, load, shop.folder / "load")
+    server.settle()
+
+
+@on_aged
+def by_qemu_io(shop, server):
+    """Unaligned writes, discards and zeros; a discard zeroes parts of pages too."""
+    commands = ["write -P 0x11 0 40M", "write -P 0x5a 4097 12345", "read -P 0x5a 4097 12345", "read -P 0x11 0 4097", "read -P 0x11 16442 100000",
+                "discard 1M 8M", "read -P 0 1M 8M", "discard 9437184 5120", "read -P 0 9437184 5120", "read -P 0x11 9442304 3072",
+                "write -z 20000 30000", "read -P 0 20000 30000", "read -P 0x11 50000 1000", "write -z -u 100000 900000", "read -P 0 100000 900000",
+                "write -P 0x77 20M 10M", "read -P 0x77 20M 10M", "write -z -u -n 12M 4M", "read -P 0 12M 4M", "flush"]
+    # Each thread of the server reads data into its buffer, and then zeros.
+    commands += 32 * ["read -P 0x77 24M 4M"] + ["discard 24M 4M"] + 32 * ["read -P 0 24M 4M"]
+    with loaded(shop, server):
+        printed = shop.run(["qemu-io", "-f", "raw", *(word for command in commands for word in ("-c", command)), server.uri])
+    want(not re.search("fail|mismatch|error", printed, re.I), printed)
+
+
+@on_aged
+def a_map_of_holes(shop, server):
+    """The holes are the sectors that were trimmed, and no others."""
+    shop.run(["qemu-io", "-f", "raw", "-c", "write -P 1 0 48M", "-c", "discard 4M 1M", "-c", "discard 6M 4k", "-c", "write 4200k 4k", server.uri])
+    holes, others = [], []
+    with loaded(shop, server):
+        printed = shop.run(["nbdinfo", "--map", server.uri])
+    for line in printed.splitlines():
+        offset, length, kind = map(int, line.split()[:3])
+        (holes if kind == 3 else others).append((offset, length))
+    wanted = [(4 << 20, 104 << 10), (4204 << 10, (1 << 20) - (108 << 10)), (6 << 20, 4096)]
+    want(holes == wanted, f"the holes are {holes} and not {wanted}")
+    want(sum(length for _, length in holes + others) == 48 << 20, "the map isn't as long as the device")
+
+
+# ---- Devices of their own.
+
+
+def overlaps(shop):
+    server = Server(shop, "size=8M", "spare=4", "hosts=4")
+    fio(shop, server, "age", rw="randwrite", bs="4k", size="8m", iodepth=16, io_size="32m", randrepeat=0, **ZIPF)
+    printed = shop.run([shop.client("overlap"), server.uri, shop.scaled(10_000, 100_000)])
+    want(server.stop().copies > 0, "nothing was copied under it")
+    return printed.strip()
+
+
+def handles(shop):
+    """Few handles for many requests, and many, with hardly a spare block: four connections of 16 requests each."""
+    told = []
+    for hosts in (2, 4, 16, 64):
+        server = Server(shop, "size=16M", "spare=3", f"hosts={hosts}", "brooms=1")
+        fio(shop, server, f"hosts{hosts}", rw="randwrite", size="4m", offset_increment="4m", numjobs=4, iodepth=16, io_size=f"{shop.scaled(8, 100)}m",
+            verify="crc32c", **(UNALIGNED | {"bsrange": "512-8k"}), **ZIPF)
+        counts = server.stop()
+        want(counts.copies > 0 and counts.no_space == 0, f"with {hosts} handles: {counts.numbers}")
+        want(100 * counts.miscounts <= counts.erases, f"with {hosts} handles the free blocks were miscounted: {counts.numbers}")
+        told.append(f"{hosts} handles: {counts.handles_that_wrote} wrote, {counts.waits} waits for a block")
+    return "; ".join(told)
+
+
+def killed_clients(shop, brooms=1):
+    """Programs are killed in mid-write, over and over, beside one that checks a half of its own.
+
+    Here nbdkit has one thread for each connection. With more, nbdkit 1.32 ends by an assertion of its own, with any plugin, if a connection breaks under two answers at once. To the plugin it is
+    the same: it doesn't know of connections, and each program has four."""
+    server = Server(shop, *AGED, f"brooms={brooms}", threads=1)
+    age(shop, server)
+    before, half = server.counts(), kibibytes(shop, server) // 2
+    own = shop.start(["fio", "--name=own", "--thread", "--ioengine=nbd", f"--uri={server.uri}", "--rw=randwrite", "--bs=4k", "--numjobs=4", f"--size={half // 4}k",
+                      f"--offset_increment={half // 4}k", "--iodepth=16", f"--io_size={shop.scaled(15, 75)}m", "--norandommap", "--random_distribution=zipf:0.9",
+                      "--serialize_overlap=1", "--verify=crc32c", "--verify_fatal=1"], shop.folder / "own")
+    kills = beside = 0
+    while kills < shop.scaled(20, 200) or own.poll() is None:
+        shop.run([shop.client("dies"), server.uri, half * 1024, half * 1024, kills], 120, status=-signal.SIGKILL)
+        kills += 1
+        beside += own.poll() is None
+    want(own.wait(60) == 0, (shop.folder / "own").read_text()[-2000:])
+    want(beside > 0, "the client beside was done before any was killed")
+    server.settle()
+    fio(shop, server, "whole", rw="randwrite", bs="4k", size="48m", io_size="10m", iodepth=16, verify="crc32c")
+    after = server.stop()
+    want(after.copies > before.copies, "nothing was copied under it")
+    want(after.no_space == 0, "a write found no space")
+    return f"{kills} programs killed, {beside} of them beside a client that checks"
+
+
+def other_pages(shop):
+    """Pages of 8, 1000 and 512 bytes; only the last is a size that NBD can prefer."""
+    for page, size, pages, preferred in ((8, 131_072, 64, False), (1000, 6_400_000, 16, False), (512, 4_194_304, 64, True)):
+        server = Server(shop, f"page={page}", f"size={size}", f"pages={pages}", "spare=8", "hosts=3")
+        info = shop.run(["nbdinfo", server.uri])
+        want((f"block_size_preferred: {page}" in info) == preferred, info)
+        fio(shop, server, "odd", rw="randwrite", size=size, bsrange="512-6k", bs_unaligned=1, blockalign=512, iodepth=16, serialize_overlap=1, io_size="12m",
+            verify="crc32c", **ZIPF)
+        want(server.stop().copies > 0, f"nothing was copied with pages of {page} bytes")
+    return "8, 1000 and 512 bytes"
+
+
+def resting_brooms(shop):
+    """Brooms that rest leave pages time to die: 100,000 random writes at 70 % of the pages in use."""
+    server = Server(shop, "sectors=22400", "blocks=500", "hosts=16")
+    fio(shop, server, "over", rw="randwrite", bs="4k", size="89600k", numjobs=1, iodepth=16, io_size="400m", norandommap=1, randrepeat=1)
+    amplification = server.stop().amplification
+    want(1 < amplification < 1.7, f"{amplification:.2f} programs a write")
+    return f"{amplification:.2f} programs a write"
+
+
+def worn_out(shop):
+    """Until the device is worn out: refusals are ENOSPC and come at once, and each page that was answered is there."""
+    told = []
+    for brooms in (1, 2):
+        for pattern in ("uniform", "skewed"):
+            server = Server(shop, "sectors=2400", "blocks=60", "hosts=4", f"brooms={brooms}", "endurance=20")
+            printed = shop.run([shop.client("wear_out"), server.uri, pattern])
+            late = float(re.search(r"at most ([\d.]+) ms", printed)[1])
+            want(late < 1000, f"a refusal took {late} ms")
+            told.append(f"{pattern}, {brooms} brooms: {share(server.stop())}, refused within {late} ms")
+    for brooms in shop.scaled((1,), (1, 2)):
+        for pattern in ("random", "zipf:1.2"):
+            told.append(f"fio's {pattern}, {brooms} brooms: {share(worn_out_by_fio(shop, brooms, pattern))}")
+    return "; ".join(told)
+
+
+def worn_out_by_fio(shop, brooms, pattern):
+    server = Server(shop, "sectors=2400", "blocks=60", "hosts=4", f"brooms={brooms}", "endurance=10")
+    printed = shop.run(["fio", "--name=wear", "--thread", "--ioengine=nbd", f"--uri={server.uri}", "--rw=randwrite", "--bs=4k", "--size=9600k", "--iodepth=4",
+                        "--io_size=2g", "--norandommap", f"--random_distribution={pattern}"], status=1)
+    want("No space left on device" in printed, printed[-2000:])
+    return server.stop()
+
+
+def share(counts):
+    most = counts.blocks * counts.pages * counts.endurance
+    return f"{100 * (counts.programs + counts.copies) / most:.0f} % of all programs"
+
+
+def sanitized(shop, kind):
+    """All kinds of requests on a plugin under a sanitizer, and counts that are written meanwhile."""
+    server = Server(shop, "size=8M", "spare=4", "hosts=3", "brooms=2", kind=kind)
+    load = shop.start(["fio", "--name=load", "--thread", "--ioengine=nbd", f"--uri={server.uri}", "--rw=randwrite", "--bsrange=512-16k", "--bs_unaligned=1", "--blockalign=512",
+                       "--size=2m", "--offset_increment=2m", "--numjobs=4", "--iodepth=16", f"--io_size={shop.scaled(12, 100)}m", "--norandommap",
+                       "--random_distribution=zipf:0.9", "--serialize_overlap=1", "--verify=crc32c", "--verify_fatal=1"], shop.folder / "load")
+    while load.poll() is None:
+        server.counts()
+        time.sleep(0.1)
+    want(load.returncode == 0, (shop.folder / "load").read_text()[-2000:])
+    shop.run([shop.client("overlap"), server.uri, shop.scaled(1000, 20_000)])
+    shop.run(["qemu-io", "-f", "raw", "-c", "discard 10000 3M", "-c", "write -z 100 9999", "-c", "write -z -u 5000 1M", "-c", "map", server.uri])
+    shop.run(["nbdinfo", "--map", server.uri])
+    want(server.stop().copies > 0, "nothing was copied under it")
+    server = Server(shop, "sectors=2400", "blocks=60", "hosts=4", "brooms=2", "endurance=6", kind=kind)
+    shop.run([shop.client("wear_out"), server.uri, "uniform"])
+    server.stop()
+    return ""
+
+
+# The parts that have to refuse wrong plugins.
+REFUSING = {part.__name__: part for part in (overlaps, handles, resting_brooms, worn_out, by_qemu_io, a_map_of_holes, mixed_sizes, there_and_back)}
+REFUSING |= {f"{kind}_sanitizer": functools.partial(sanitized, kind=kind) for kind in ("address", "thread")}
+
+
+def chosen(options):
+    """The parts that were asked for, by their names."""
+    brooms = (1, 2) if options.long else (1,)
+    on_device = {"fio's crc32c of four jobs": checksums, "fio's md5 of mixed sizes": mixed_sizes, "fio's mixed sizes of four jobs": mixed_sizes_by_four,
+                 "fio's trims and writes": trims_and_writes, "16 connections": sixteen_connections, "nbdcopy there and back": there_and_back,
+                 "qemu-img's convert and compare": by_qemu_img, "qemu-io unaligned": by_qemu_io, "a map of holes": a_map_of_holes, "killed clients": killed_clients,
+                 "files in a file system": on_aged(files.a_file_system), "a database in a file system": on_aged(files.a_database)}
+    parts = {"what is refused": faults.refused_words, "no memory, no thread, no file": faults.refused_resources, "help and page": faults.help_and_page, "the page's lines": files.the_page,
+             "parts and whole pages at once": overlaps, "2, 4, 16 and 64 handles": handles, "pages of other sizes": other_pages, "brooms that rest": resting_brooms, "a device that wears out": worn_out}
+    parts |= {f"{name}, {count} broom{'s' * (count > 1)}": functools.partial(part, brooms=count) for count in brooms for name, part in on_device.items()}
+    parts |= {f"{sanitizer}Sanitizer": functools.partial(sanitized, kind=sanitizer.lower()) for sanitizer in ("Address", "Thread")}
+    if options.long:
+        parts["wrong plugins"] = functools.partial(faults.wrong_plugins, parts=REFUSING)
+    return [(name, part) for name, part in parts.items() if not options.only or any(word in name for word in options.only)]

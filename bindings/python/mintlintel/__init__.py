@@ -1,0 +1,18 @@
+"""A proved flash translation layer: `Device` for one thread, and `SharedDevice` for many.
+
+>>> import mintlintel
+>>> with mintlintel.Device(blocks=24, pages=64, words=64, sectors=1000, endurance=1000) as device:
+...     device.write(7, b"a page".ljust(512))
+...     device.read(7)[:6]
+False
+b'a page'
+"""
+
+from .device import Block, Counts, Device
+from .faults import BadNumbers, Closed, MintlintelError, NoBlock, NoSuchBlock, NoSuchSector, NotAPage, OutOfMemory, WornOut, WrongKind
+from .shared import Broom, Drain, Drained, Erase, Held, Host, Page, SharedDevice
+
+__all__ = [
+    "BadNumbers", "Block", "Broom", "Closed", "Counts", "Device", "Drain", "Drained", "Erase", "Held", "Host", "MintlintelError",
+    "NoBlock", "NoSuchBlock", "NoSuchSector", "NotAPage", "OutOfMemory", "Page", "SharedDevice", "WornOut", "WrongKind",
+]

@@ -1,0 +1,52 @@
+"""Packs the package with the shared object as a wheel: PEP 517, without any other package. The shared object is that of the
+folder that MINTLINTEL_LIB names, or else it is made by make, which needs the toolchain."""
+
+import base64
+import hashlib
+import os
+import subprocess
+import sysconfig
+import tarfile
+import zipfile
+from pathlib import Path
+
+HERE = Path(__file__).resolve().parent
+NAME, VERSION = "mintlintel", "0.1.0"
+TAG = "py3-none-" + sysconfig.get_platform().replace("-", "_").replace(".", "_")
+METADATA = f"Metadata-Version: 2.1\nName: {NAME}\nVersion: {VERSION}\nSummary: A proved flash translation layer\nRequires-Python: >=3.9\n"
+
+
+def shared_object():
+    folder = os.environ.get("MINTLINTEL_LIB")
+    if folder is None:
+        bindings = HERE.parent
+        subprocess.run(["make", "-C", str(bindings)], check=True)
+        folder = bindings / "out"
+    return Path(folder) / "libmintlintel.so"
+
+
+def build_wheel(wheel_directory, config_settings=None, metadata_directory=None):
+    name = f"{NAME}-{VERSION}-{TAG}.whl"
+    described = f"{NAME}-{VERSION}.dist-info"
+    files = {f"{NAME}/{path.name}": path.read_bytes() for path in sorted((HERE / NAME).iterdir()) if path.suffix in (".py", ".typed")}
+    files[f"{NAME}/libmintlintel.so"] = shared_object().read_bytes()
+    files[f"{described}/METADATA"] = METADATA.encode()
+    files[f"{described}/WHEEL"] = f"Wheel-Version: 1.0\nGenerator: packing\nRoot-Is-Purelib: false\nTag: {TAG}\n".encode()
+    record = "".join(f"{path},sha256={digest(data)},{len(data)}\n" for path, data in files.items())
+    files[f"{described}/RECORD"] = (record + f"{described}/RECORD,,\n").encode()
+    with zipfile.ZipFile(Path(wheel_directory) / name, "w", zipfile.ZIP_DEFLATED) as wheel:
+        for path, data in files.items():
+            wheel.writestr(path, data)
+    return name
+
+
+def digest(data):
+    return base64.urlsafe_b64encode(hashlib.sha256(data).digest()).rstrip(b"=").decode()
+
+
+def build_sdist(sdist_directory, config_settings=None):
+    name = f"{NAME}-{VERSION}.tar.gz"
+    with tarfile.open(Path(sdist_directory) / name, "w:gz") as packed:
+        for path in ("pyproject.toml", "packing.py", NAME):
+            packed.add(HERE / path, f"{NAME}-{VERSION}/{path}", filter=lambda member: None if "__pycache__" in member.name else member)
+    return name

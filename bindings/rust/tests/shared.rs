@@ -1,0 +1,126 @@
+//! A shared device, its hosts and a broom in threads of their own.
+use mintlintel::{Broom, Drain, Erase, Fault, Geometry, Host, OpenFault, SharedDevice, Was};
+use std::sync::atomic::{AtomicUsize, Ordering};
+use std::thread;
+
+const GEOMETRY: Geometry = Geometry { luns: 1, blocks: 40, pages: 8, words: 2, sectors: 200, endurance: 1_000_000 };
+const WRITERS: usize = 3;
+
+fn page(writer: usize, sector: u32, number: u32) -> [u8; 16] {
+    let mut page = [writer as u8; 16];
+    page[4..8].copy_from_slice(&sector.to_le_bytes());
+    page[8..12].copy_from_slice(&number.to_le_bytes());
+    page
+}
+
+/// A host writes the sectors of its own class, and reads them back at once; a sector of another one is whole.
+fn play(host: &mut Host, writer: usize) -> Result<(), Fault> {
+    let mut out = [0; 16];
+    for number in 0..20_000u32 {
+        let sector = number * 7 % 66 * 3 + writer as u32;
+        let written = page(writer, sector, number);
+        loop {
+            match host.write(sector, &written) {
+                Err(Fault::NoBlock) => thread::yield_now(),
+                other => break other.map(drop)?,
+            }
+        }
+        assert_eq!(host.read(sector, &mut out)?, Was::Written);
+        assert_eq!(out, written);
+        let other = (sector + 1) % 198;
+        if host.read(other, &mut out)? == Was::Written {
+            let number = u32::from_le_bytes([out[8], out[9], out[10], out[11]]);
+            assert_eq!(out, page(other as usize % 3, other, number));
+        }
+    }
+    Ok(())
+}
+
+fn sweep(broom: &mut Broom, left: &AtomicUsize) -> Result<u32, Fault> {
+    let mut moved_all = 0;
+    while left.load(Ordering::SeqCst) > 0 {
+        if let Drain::Drained { block, moved } = broom.drain()? {
+            moved_all += moved;
+            while broom.erase(block)? == Erase::Pinned {}
+        }
+    }
+    Ok(moved_all)
+}
+
+#[test]
+fn hosts_read_what_they_wrote_beside_a_broom() {
+    let SharedDevice { hosts, mut brooms } = SharedDevice::open(GEOMETRY, WRITERS, 1).expect("it opens");
+    let left = AtomicUsize::new(WRITERS);
+    thread::scope(|scope| {
+        for (writer, mut host) in hosts.into_iter().enumerate() {
+            let left = &left;
+            scope.spawn(move || {
+                let played = play(&mut host, writer);
+                left.fetch_sub(1, Ordering::SeqCst);
+                played.expect("each call is answered");
+            });
+        }
+        let swept = sweep(&mut brooms[0], &left).expect("each call is answered");
+        assert!(swept > 0);
+    });
+}
+
+#[test]
+fn a_held_page_stays() -> Result<(), Fault> {
+    let mut device = SharedDevice::open(GEOMETRY, 2, 1).expect("it opens");
+    let [reader, writer] = &mut device.hosts[..] else { unreachable!() };
+    assert!(reader.hold(5)?.is_none());
+    writer.write(5, &page(1, 5, 1))?;
+    let mut held = reader.hold(5)?.expect("sector 5 is written");
+    let place = held.place()?;
+    let mut number = 2;
+    let mut pinned = false;
+    for _ in 0..2000 {
+        number += 1;
+        if writer.write(number % 200, &page(1, number % 200, number)) == Err(Fault::NoBlock) {
+            if let Drain::Drained { block, .. } = device.brooms[0].drain()? {
+                let erased = device.brooms[0].erase(block)?;
+                assert_eq!(erased == Erase::Pinned, block == place.block);
+                pinned |= erased == Erase::Pinned;
+            }
+        }
+        let mut out = [0; 16];
+        held.copy(&mut out)?;
+        assert_eq!(out, page(1, 5, 1));
+        assert_eq!(held.word(1)?, u64::from_le_bytes([1, 0, 0, 0, 1, 1, 1, 1]));
+    }
+    assert!(pinned);
+    assert_eq!(held.word(2), Err(Fault::NoSuchBlock));
+    drop(held);
+    let mut out = [0; 16];
+    assert_eq!(reader.read(5, &mut out)?, Was::Written);
+    assert_ne!(out, page(1, 5, 1));
+    Ok(())
+}
+
+#[test]
+fn each_refusal_says_why() -> Result<(), Fault> {
+    assert_eq!(SharedDevice::open(GEOMETRY, 0, 0).err(), Some(OpenFault::Seats));
+    assert_eq!(SharedDevice::open(GEOMETRY, 501, 0).err(), Some(OpenFault::Seats));
+    assert_eq!(SharedDevice::open(GEOMETRY, 39, 1).err(), Some(OpenFault::TooFewBlocks));
+    let mut device = SharedDevice::open(GEOMETRY, 1, 1).expect("it opens");
+    assert_eq!(device.hosts[0].read(200, &mut [0; 16]), Err(Fault::NoSector));
+    assert_eq!(device.hosts[0].write(0, &[0; 17]), Err(Fault::NotAPage));
+    assert_eq!(device.hosts[0].write_new(0, &[0; 16])?, Was::Empty);
+    assert_eq!(device.hosts[0].write_new(0, &[1; 16])?, Was::Written);
+    assert_eq!(device.hosts[0].trim(0)?, Was::Written);
+    assert_eq!(device.brooms[0].drain()?, Drain::NothingToGain);
+    assert_eq!(device.brooms[0].erase(0)?, Erase::Stale);
+    assert_eq!(device.brooms[0].erase(40), Err(Fault::NoSuchBlock));
+    assert_eq!(device.hosts[0].geometry()?, GEOMETRY);
+    Ok(())
+}
+
+#[test]
+fn the_types_may_go_to_another_thread() {
+    fn goes<T: Send>() {}
+    goes::<mintlintel::Device>();
+    goes::<SharedDevice>();
+    goes::<Host>();
+    goes::<Broom>();
+}

@@ -1,0 +1,44 @@
+/* An allocator that counts its live blocks and refuses one allocation: linked with --wrap=malloc, realloc and free. */
+#ifndef COUNTED_H
+#define COUNTED_H
+
+#include <stddef.h>
+#include <stdint.h>
+
+void *__real_malloc(size_t size);
+void *__real_realloc(void *old, size_t size);
+void __real_free(void *block);
+
+/* how many blocks are live; how many allocations are granted before one is refused, or -1 for all */
+static long live, granted = -1;
+
+static int is_refused(void)
+{
+    if (granted == 0)
+        return 1;
+    if (granted > 0)
+        granted--;
+    return 0;
+}
+
+void *__wrap_malloc(size_t size)
+{
+    void *block = is_refused() ? NULL : __real_malloc(size);
+    live += block != NULL;
+    return block;
+}
+
+void *__wrap_realloc(void *old, size_t size)
+{
+    void *block = is_refused() ? NULL : __real_realloc(old, size);
+    live += block != NULL && old == NULL;
+    return block;
+}
+
+void __wrap_free(void *block)
+{
+    live -= block != NULL;
+    __real_free(block);
+}
+
+#endif

@@ -1,0 +1,68 @@
+/* Memory of a device for one thread: each allocation of an open refused in turn, and a thousand opens and closes without growing. */
+#include "counted.h"
+#include "testing.h"
+
+enum { PAGE = 64 };
+
+static uint32_t opened(struct mintlintel_one *device)
+{
+    return mintlintel_one_open(device, 1, 64, 16, 8, 900, 10);
+}
+
+static long refuse_in_turn(void)
+{
+    struct mintlintel_one device = {0}, zero = {0};
+    long before = live;
+    for (long grants = 0; grants < 1000; grants++) {
+        granted = grants;
+        uint32_t code = opened(&device);
+        granted = -1;
+        if (code == MINTLINTEL_DONE) {
+            mintlintel_one_close(&device);
+            CHECK(live == before);
+            return grants;
+        }
+        CHECK(code == MINTLINTEL_NO_MEMORY && live == before);
+        CHECK(memcmp(&device, &zero, sizeof device) == 0);
+    }
+    CHECK(!"an open ends");
+    return 0;
+}
+
+/* An open handle takes no memory, so it answers as it is when none is left. */
+static void open_without_memory(void)
+{
+    struct mintlintel_one device = {0};
+    uint8_t page[PAGE] = {1}, out[PAGE];
+    CHECK(opened(&device) == MINTLINTEL_DONE);
+    granted = 0;
+    CHECK(opened(&device) == MINTLINTEL_ALREADY_OPEN);
+    for (uint32_t i = 0; i < 5000; i++)
+        CHECK(mintlintel_one_write(&device, i % 900, page, PAGE) == (i >= 900));
+    CHECK(mintlintel_one_read(&device, 7, out, PAGE) == MINTLINTEL_WRITTEN && memcmp(out, page, PAGE) == 0);
+    granted = -1;
+    mintlintel_one_close(&device);
+}
+
+static void reopen(int times)
+{
+    struct mintlintel_one device = {0};
+    uint8_t page[PAGE] = {1};
+    long before = live;
+    for (int i = 0; i < times; i++) {
+        CHECK(opened(&device) == MINTLINTEL_DONE && live > before);
+        CHECK(mintlintel_one_write(&device, 7, page, PAGE) == MINTLINTEL_EMPTY);
+        mintlintel_one_close(&device);
+        CHECK(live == before);
+    }
+}
+
+int main(void)
+{
+    long allocations = refuse_in_turn();
+    CHECK(allocations > 0);
+    open_without_memory();
+    reopen(1000);
+    printf("memory_one: each of %ld allocations refused in turn, and 1000 opens left no block\n", allocations);
+    return 0;
+}

@@ -1,0 +1,255 @@
+/* Four hosts and two brooms at one device, each in a thread of its own. A page names its writer, its sector and the writer's count. Every read is
+ * whole, and no thread reads a value again that it has seen gone. Under ThreadSanitizer each handle is announced as written before a call,
+ * so that two threads in one handle are reported. */
+#include "testing.h"
+#include <pthread.h>
+#include <sched.h>
+#include <stdatomic.h>
+
+#ifdef __SANITIZE_THREAD__
+void __tsan_write_range(void *start, unsigned long size);
+#define AT(handle) (__tsan_write_range((handle), sizeof *(handle)), (handle))
+#else
+#define AT(handle) (handle)
+#endif
+
+enum { HOSTS = 4, BROOMS = 2, SECTORS = 600, WORDS = 8, PAGE = 8 * WORDS, BLOCKS = 60, PAGES = 16 };
+
+static struct mintlintel_seat hosts[HOSTS], brooms[BROOMS];
+static atomic_int hosts_left;
+static long rounds = 20000;
+
+/* what a thread has seen of a sector: the value that it saw last, and each writer's highest count */
+struct sight { uint32_t writer, count, highest[HOSTS]; };
+struct thread { uint32_t number; long writes, reads, no_block; struct sight sights[SECTORS]; };
+struct sweep { uint32_t number; long drained, moved, erased, kept, pinned, other; };
+
+static void fill(uint8_t *page, uint32_t writer, uint32_t sector, uint32_t count)
+{
+    for (int i = 0; i < PAGE; i += 8) {
+        uint32_t words[2] = {writer << 24 | sector, count};
+        memcpy(page + i, words, 8);
+    }
+}
+
+/* A value that a thread reads is whole, of this sector, and the last one that it saw or a newer one of its writer. An empty sector has writer HOSTS. */
+static void seen(struct thread *t, uint32_t sector, uint32_t code, const uint8_t *page)
+{
+    struct sight *sight = &t->sights[sector];
+    uint32_t words[2] = {HOSTS << 24 | sector, 0};
+    if (code == MINTLINTEL_WRITTEN)
+        memcpy(words, page, 8);
+    uint32_t writer = words[0] >> 24, count = words[1];
+    CHECK((words[0] & 0xffffff) == sector && writer <= HOSTS);
+    for (int i = 8; code == MINTLINTEL_WRITTEN && i < PAGE; i += 8)
+        CHECK(memcmp(page, page + i, 8) == 0);
+    if (writer == sight->writer && count == sight->count)
+        return;
+    if (writer < HOSTS) {
+        CHECK(count > sight->highest[writer]);
+        sight->highest[writer] = count;
+    }
+    sight->writer = writer;
+    sight->count = count;
+}
+
+static void write_once(struct thread *t, uint32_t sector, uint32_t count, int only_new)
+{
+    uint8_t page[PAGE];
+    struct mintlintel_seat *host = &hosts[t->number];
+    uint32_t code;
+    fill(page, t->number, sector, count);
+    for (;;) {
+        code = only_new ? mintlintel_host_write_new(AT(host), sector, page, PAGE) : mintlintel_host_write(AT(host), sector, page, PAGE);
+        if (code != MINTLINTEL_NO_BLOCK)
+            break;
+        t->no_block++;
+        sched_yield();
+    }
+    CHECK(code <= MINTLINTEL_WRITTEN);
+    t->writes++;
+    if (!only_new || code == MINTLINTEL_EMPTY)
+        seen(t, sector, MINTLINTEL_WRITTEN, page);
+}
+
+static void read_once(struct thread *t, uint32_t sector)
+{
+    uint8_t page[PAGE];
+    uint32_t code = mintlintel_host_read(AT(&hosts[t->number]), sector, page, PAGE);
+    CHECK(code <= MINTLINTEL_WRITTEN);
+    t->reads++;
+    seen(t, sector, code, page);
+}
+
+static void *run_host(void *argument)
+{
+    struct thread *t = argument;
+    uint64_t state = 88172645463325252u + t->number;
+    for (long i = 1; i <= rounds; i++) {
+        uint32_t sector = drawn(&state) % SECTORS, kind = drawn(&state) % 16;
+        if (kind < 7) {
+            write_once(t, sector, (uint32_t)i, 0);
+        } else if (kind == 7) {
+            write_once(t, sector, (uint32_t)i, 1);
+        } else if (kind == 8) {
+            CHECK(mintlintel_host_trim(AT(&hosts[t->number]), sector) <= MINTLINTEL_WRITTEN);
+            seen(t, sector, MINTLINTEL_EMPTY, NULL);
+        } else {
+            read_once(t, sector);
+        }
+    }
+    atomic_fetch_sub(&hosts_left, 1);
+    return NULL;
+}
+
+static void *run_broom(void *argument)
+{
+    struct sweep *s = argument;
+    struct mintlintel_seat *broom = &brooms[s->number];
+    while (atomic_load(&hosts_left) > 0) {
+        uint32_t block, moved, code;
+        if (mintlintel_broom_drain(AT(broom), &block, &moved) != MINTLINTEL_DONE) {
+            s->other++;
+            sched_yield();
+            continue;
+        }
+        s->drained++;
+        s->moved += moved;
+        while ((code = mintlintel_broom_erase(AT(broom), block)) == MINTLINTEL_PINNED)
+            s->pinned++;
+        CHECK(code == MINTLINTEL_DONE || code == MINTLINTEL_KEPT);
+        s->erased++;
+        s->kept += code == MINTLINTEL_KEPT;
+    }
+    return NULL;
+}
+
+/* A call for another kind of seat answers 9 and changes nothing; so do wrong sectors, lengths and blocks by their codes. */
+static void refused_calls(void)
+{
+    uint8_t page[PAGE] = {5}, kept[PAGE] = {5};
+    uint32_t block = 77, moved = 78;
+    CHECK(mintlintel_host_read(&brooms[0], SECTORS, page, 1) == MINTLINTEL_WRONG_KIND);
+    CHECK(mintlintel_host_write(&brooms[0], 0, page, PAGE) == MINTLINTEL_WRONG_KIND);
+    CHECK(mintlintel_host_write_new(&brooms[0], 0, page, PAGE) == MINTLINTEL_WRONG_KIND);
+    CHECK(mintlintel_host_trim(&brooms[0], 0) == MINTLINTEL_WRONG_KIND);
+    CHECK(mintlintel_broom_drain(&hosts[0], &block, &moved) == MINTLINTEL_WRONG_KIND);
+    CHECK(mintlintel_broom_erase(&hosts[0], 0) == MINTLINTEL_WRONG_KIND);
+    CHECK(mintlintel_host_read(&hosts[0], SECTORS, page, 1) == MINTLINTEL_NO_SECTOR);
+    CHECK(mintlintel_host_read(&hosts[0], 0, page, 1) == MINTLINTEL_NOT_A_PAGE);
+    CHECK(mintlintel_host_write(&hosts[0], SECTORS, page, PAGE) == MINTLINTEL_NO_SECTOR);
+    CHECK(mintlintel_host_write(&hosts[0], 0, page, PAGE - 1) == MINTLINTEL_NOT_A_PAGE);
+    CHECK(mintlintel_host_write_new(&hosts[0], SECTORS, page, PAGE) == MINTLINTEL_NO_SECTOR);
+    CHECK(mintlintel_host_write_new(&hosts[0], 0, page, PAGE - 1) == MINTLINTEL_NOT_A_PAGE);
+    CHECK(mintlintel_host_trim(&hosts[0], SECTORS) == MINTLINTEL_NO_SECTOR);
+    CHECK(mintlintel_broom_erase(&brooms[0], BLOCKS) == MINTLINTEL_NO_SUCH_BLOCK);
+    CHECK(mintlintel_broom_erase(&brooms[0], 0) == MINTLINTEL_STALE);
+    CHECK(mintlintel_broom_drain(&brooms[0], &block, &moved) == MINTLINTEL_NOTHING_TO_GAIN);
+    CHECK(block == 77 && moved == 78 && memcmp(page, kept, PAGE) == 0);
+    CHECK(mintlintel_shared_open(hosts, HOSTS, brooms, BROOMS, 0, 0, 0, 0, 0, 0) == MINTLINTEL_ALREADY_OPEN);
+    struct mintlintel_numbers n, wanted = {1, BLOCKS, PAGES, WORDS, SECTORS, 1000000, HOSTS, BROOMS};
+    CHECK(mintlintel_seat_numbers(&hosts[1], &n) == MINTLINTEL_DONE && memcmp(&n, &wanted, sizeof n) == 0);
+    CHECK(mintlintel_seat_numbers(&brooms[1], &n) == MINTLINTEL_DONE && memcmp(&n, &wanted, sizeof n) == 0);
+}
+
+/* Once all threads have ended, each host reads the same of every sector. */
+static void all_agree(struct thread *threads)
+{
+    for (uint32_t sector = 0; sector < SECTORS; sector++) {
+        uint8_t first[PAGE] = {0}, other[PAGE] = {0};
+        uint32_t code = mintlintel_host_read(AT(&hosts[0]), sector, first, PAGE);
+        seen(&threads[0], sector, code, first);
+        for (uint32_t t = 1; t < HOSTS; t++) {
+            CHECK(mintlintel_host_read(AT(&hosts[t]), sector, other, PAGE) == code);
+            seen(&threads[t], sector, code, other);
+            CHECK(memcmp(first, other, PAGE) == 0);
+        }
+    }
+}
+
+/* Each call on a closed handle answers so, and writes nothing of what it was given. */
+static void closed_seat(void)
+{
+    struct mintlintel_seat closed = {0}, zero = {0};
+    uint8_t page[PAGE] = {5}, kept[PAGE] = {5};
+    uint32_t block = 77, moved = 78;
+    uint64_t word = 79;
+    struct mintlintel_page place = {80, 81};
+    struct mintlintel_numbers n = {82, 0, 0, 0, 0, 0, 0, 0};
+    CHECK(mintlintel_host_read(&closed, 0, page, PAGE) == MINTLINTEL_CLOSED);
+    CHECK(mintlintel_host_write(&closed, 0, page, PAGE) == MINTLINTEL_CLOSED);
+    CHECK(mintlintel_host_write_new(&closed, 0, page, PAGE) == MINTLINTEL_CLOSED);
+    CHECK(mintlintel_host_trim(&closed, 0) == MINTLINTEL_CLOSED && mintlintel_host_hold(&closed, 0) == MINTLINTEL_CLOSED);
+    CHECK(mintlintel_host_copy(&closed, page, PAGE) == MINTLINTEL_CLOSED && mintlintel_host_word(&closed, 0, &word) == MINTLINTEL_CLOSED);
+    CHECK(mintlintel_host_held(&closed, &place) == MINTLINTEL_CLOSED && mintlintel_host_release(&closed) == MINTLINTEL_CLOSED);
+    CHECK(mintlintel_broom_drain(&closed, &block, &moved) == MINTLINTEL_CLOSED && mintlintel_broom_erase(&closed, 0) == MINTLINTEL_CLOSED);
+    CHECK(mintlintel_seat_numbers(&closed, &n) == MINTLINTEL_CLOSED);
+    mintlintel_seat_close(&closed);
+    CHECK(block == 77 && moved == 78 && word == 79 && place.block == 80 && place.generation == 81 && n.luns == 82);
+    CHECK(memcmp(page, kept, PAGE) == 0 && memcmp(&closed, &zero, sizeof closed) == 0);
+}
+
+/* The faults of a shared device's counts, by the limits of docs/FORMATS.md: none is opened, and all handles stay closed. */
+static void counts_at_fault(void)
+{
+    static struct mintlintel_seat many[501], few[33], zeros[501];
+    CHECK(mintlintel_shared_open(many, 0, few, 0, 1, 40, 4, 1, 10, 10) == MINTLINTEL_BAD_SEATS);
+    CHECK(mintlintel_shared_open(many, 0, few, 1, 1, 40, 4, 1, 10, 10) == MINTLINTEL_BAD_SEATS);
+    CHECK(mintlintel_shared_open(many, 0, few, 0, 1, 40, 4, 1, 1000, 10) == MINTLINTEL_BAD_SEATS);
+    CHECK(mintlintel_shared_open(many, 501, few, 0, 1, 4096, 4, 1, 10, 10) == MINTLINTEL_BAD_SEATS);
+    CHECK(mintlintel_shared_open(many, 1, few, 33, 1, 4096, 4, 1, 10, 10) == MINTLINTEL_BAD_SEATS);
+    CHECK(mintlintel_shared_open(many, 501, few, 33, 1, 4096, 4, 1, 10, 0) == MINTLINTEL_BAD_ENDURANCE);
+    CHECK(mintlintel_shared_open(many, 38, few, 1, 1, 40, 4, 1, 10, 10) == MINTLINTEL_TOO_FEW_BLOCKS);
+    CHECK(memcmp(many, zeros, sizeof many) == 0 && memcmp(few, zeros, sizeof few) == 0);
+    CHECK(mintlintel_shared_open(many, 500, few, 32, 1, 4096, 1, 1, 1, 1) == MINTLINTEL_DONE);
+    for (int i = 0; i < 500; i++)
+        mintlintel_seat_close(&many[i]);
+    for (int i = 0; i < 32; i++)
+        mintlintel_seat_close(&few[i]);
+}
+
+int main(int count, char **words)
+{
+    static struct thread threads[HOSTS];
+    static struct sweep sweeps[BROOMS];
+    pthread_t host_threads[HOSTS], broom_threads[BROOMS];
+    if (count > 1)
+        rounds = atol(words[1]);
+    closed_seat();
+    counts_at_fault();
+    CHECK(mintlintel_shared_open(hosts, HOSTS, brooms, BROOMS, 1, BLOCKS, PAGES, WORDS, SECTORS, 1000000) == MINTLINTEL_DONE);
+    refused_calls();
+    atomic_store(&hosts_left, HOSTS);
+    for (uint32_t i = 0; i < BROOMS; i++) {
+        sweeps[i].number = i;
+        pthread_create(&broom_threads[i], NULL, run_broom, &sweeps[i]);
+    }
+    for (uint32_t i = 0; i < HOSTS; i++) {
+        threads[i].number = i;
+        for (uint32_t sector = 0; sector < SECTORS; sector++)
+            threads[i].sights[sector].writer = HOSTS;
+        pthread_create(&host_threads[i], NULL, run_host, &threads[i]);
+    }
+    for (int i = 0; i < HOSTS; i++)
+        pthread_join(host_threads[i], NULL);
+    for (int i = 0; i < BROOMS; i++)
+        pthread_join(broom_threads[i], NULL);
+    all_agree(threads);
+    long writes = 0, reads = 0, no_block = 0, moved = 0, erased = 0, pinned = 0;
+    for (int i = 0; i < HOSTS; i++) {
+        writes += threads[i].writes;
+        reads += threads[i].reads;
+        no_block += threads[i].no_block;
+        mintlintel_seat_close(AT(&hosts[i]));
+    }
+    for (int i = 0; i < BROOMS; i++) {
+        moved += sweeps[i].moved;
+        erased += sweeps[i].erased;
+        pinned += sweeps[i].pinned;
+        mintlintel_seat_close(AT(&brooms[i]));
+    }
+    CHECK(writes > 0 && reads > 0 && erased > 0 && moved > 0);
+    printf("shared: %ld writes, %ld reads, %ld refused for want of a block; %ld pages moved, %ld blocks erased, %ld erases put off for readers\n",
+           writes, reads, no_block, moved, erased, pinned);
+    return 0;
+}

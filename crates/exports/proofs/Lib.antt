@@ -1,0 +1,4 @@
+pub mod Crossing
+pub mod Dealing
+pub mod Rows
+pub mod Told

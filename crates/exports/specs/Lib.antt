@@ -1,0 +1,9 @@
+pub mod Heaps
+pub mod Holds
+pub mod Kept
+pub mod Codes
+pub mod Handles
+pub mod One
+pub mod Shared
+pub mod Holding
+pub mod Opening

@@ -1,0 +1,83 @@
+-- The opening of a shared device: the code that has to come, and what the handles have then.
+use Rattle.std.specs.Prelude.{◌≡◌, ℕ, ◌<◌, ◌==◌, Bool, nat_le, if◌then◌else◌, List, length, slice_index_or, Option, None, Some}
+use Rattle.geometry.specs.Geometry.{numbers_of as numbers_in}
+use Rattle.geometry.specs.Limits.{Numbers, first_fault}
+use Rattle.geometry.specs.declared.fault.GeometryFault.{GeometryFault}
+use Rattle.flash_table.specs.declared.pass.Pass.{Pass}
+use Rattle.flash_table.specs.Flash.{view_of, device, first_view}
+use Rattle.broom.specs.declared.broom.Broom.{Broom}
+use Rattle.volume.specs.Brooms.{IsUnused}
+use Rattle.volume.specs.Volume.{flash_of}
+use Rattle.volume.specs.declared.volume.Volume.{Volume}
+use Rattle.exports.specs.declared.handle.Handle.{Handle}
+use Rattle.exports.specs.declared.seat.Seat.{Seat}
+use Rattle.exports.specs.declared.seat.Seat.TheVariants as seat
+use Rattle.exports.specs.Codes.{fault_code}
+use Rattle.exports.specs.Handles.{seat_of}
+use Rattle.exports.specs.Shared.{numbers_of, host_volume, sweeper_volume}
+
+-- the handle is closed
+abbrev pub IsClosed : Handle → Type 0
+IsClosed h = seat_of h ≡ None
+
+-- a number, or the bound that it is over
+abbrev pub capped : ℕ → ℕ → ℕ
+capped most n = if nat_le n most then n else most
+
+-- the code of a fault of a shared device's numbers: one that has no host is at fault as if its hosts were too many
+abbrev pub shared_fault_code : ℕ → GeometryFault → ℕ
+shared_fault_code hosts f = if hosts == 0 then capped 107 (fault_code f) else fault_code f
+
+-- the code of an open of closed handles, by the first fault of the numbers, and then by whether the heap had room
+abbrev pub shared_open_by : ℕ → Option GeometryFault → Bool → ℕ
+shared_open_by hosts (Some f) had_room = shared_fault_code hosts f
+shared_open_by hosts None had_room = if hosts == 0 then 107 else (if had_room then 0 else 6)
+
+-- the code of an open: a handle that is open comes before the faults
+abbrev pub shared_open_code : Bool → Numbers → Bool → ℕ
+shared_open_code closed n had_room = if closed then shared_open_by n.hosts (first_fault n) had_room else 8
+
+-- a seat is this pass, at this device
+abbrev pub IsPassIn : Volume → Pass → Option Seat → Type 0
+IsPassIn v p None = ⊥
+IsPassIn v p (Some (seat.One l)) = ⊥
+IsPassIn v p (Some (seat.Host h)) = (host_volume h ≡ v) × (h.pass ≡ p)
+IsPassIn v p (Some (seat.Sweeper s)) = ⊥
+IsPassIn v p (Some (seat.Holder k)) = ⊥
+IsPassIn v p (Some seat.Away) = ⊥
+
+-- a seat is this broom, at this device
+abbrev pub IsBroomIn : Volume → Broom → Option Seat → Type 0
+IsBroomIn v b None = ⊥
+IsBroomIn v b (Some (seat.One l)) = ⊥
+IsBroomIn v b (Some (seat.Host h)) = ⊥
+IsBroomIn v b (Some (seat.Sweeper s)) = (sweeper_volume s ≡ v) × (s.broom ≡ b)
+IsBroomIn v b (Some (seat.Holder k)) = ⊥
+IsBroomIn v b (Some seat.Away) = ⊥
+
+-- this holds of each element of a list, by its place
+abbrev pub EachAt : {X : Type 0} → (ℕ → X → Type 0) → List X → Type 0
+EachAt {X} P xs = (k : ℕ) (x : X) → k < length xs → P k (slice_index_or xs k x)
+
+-- pass t of a device has done nothing yet
+abbrev pub IsFirstPass : Volume → ℕ → Pass → Type 0
+IsFirstPass v t p = view_of p ≡ first_view (device (flash_of v)) t
+
+-- broom i of a device has done nothing yet
+abbrev pub IsFirstBroom : Volume → ℕ → Broom → Type 0
+IsFirstBroom v i b = IsUnused (flash_of v) i b
+
+-- a handle has pass t of this device, which has done nothing yet
+abbrev pub IsFreshHost : Volume → ℕ → Handle → Type 0
+IsFreshHost v t h = (p : Pass) × IsFirstPass v t p × IsPassIn v p (seat_of h)
+
+-- a handle has broom i of this device, which has done nothing yet
+abbrev pub IsFreshBroom : Volume → ℕ → Handle → Type 0
+IsFreshBroom v i h = (b : Broom) × IsFirstBroom v i b × IsBroomIn v b (seat_of h)
+
+-- the handles have the hosts and the brooms of one device of these numbers, in their order, each as it is before its first call
+pub record AreFresh (n : Numbers) (hosts brooms : List Handle) : Type 0 where
+  pub volume : Volume
+  pub numbers : numbers_in (numbers_of volume) ≡ n
+  pub host : EachAt (IsFreshHost volume) hosts
+  pub broom : EachAt (IsFreshBroom volume) brooms

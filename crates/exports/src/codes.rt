@@ -1,0 +1,72 @@
+//! The codes that a call answers by, and those of the faults of a geometry.
+ghost use Rattle.std.specs.Prelude.{◌≡◌, ◌<◌};
+ghost use Rattle.exports.specs.Codes.{was_code, fault_code};
+
+use geometry::{GeometryFault, Was};
+
+/// The call is done, or the sector was empty.
+pub const DONE: u32 = 0;
+/// The sector was written.
+pub const WRITTEN: u32 = 1;
+/// The handle is closed.
+pub const CLOSED: u32 = 2;
+/// The device has no such sector.
+pub const NO_SECTOR: u32 = 3;
+/// The buffer is not as long as a page.
+pub const NOT_A_PAGE: u32 = 4;
+/// No page is left for a write, and none can be won.
+pub const WORN_OUT: u32 = 5;
+/// The heap has no room for the device.
+pub const NO_MEMORY: u32 = 6;
+/// No block is free for a write.
+pub const NO_FREE_BLOCK: u32 = 7;
+/// A handle is open already.
+pub const ALREADY_OPEN: u32 = 8;
+/// The handle is of another kind.
+pub const WRONG_KIND: u32 = 9;
+/// The device has no such block, or a page no such word.
+pub const NO_BLOCK: u32 = 10;
+/// A device has too many hosts or brooms, or a shared one no host.
+pub const WRONG_COUNTS: u32 = 107;
+/// A drain has nothing to gain.
+pub const NOTHING_TO_GAIN: u32 = 20;
+/// A broom has no spare to drain into.
+pub const NO_SPARE: u32 = 21;
+/// The state of a drain's block changed meanwhile.
+pub const LOST: u32 = 22;
+/// An erase was the block's last.
+pub const RETIRED: u32 = 23;
+/// The block of an erase has readers.
+pub const PINNED: u32 = 24;
+/// The block of an erase isn't drained.
+pub const STALE: u32 = 25;
+/// An erased block is the broom's spare.
+pub const KEPT: u32 = 26;
+
+// The code of what a sector was.
+pub(crate) fn code_of(was: Was) -> u32
+    ensures { result ≡ was_code was }
+{
+    match was {
+        Was::Empty => DONE,
+        Was::Written => WRITTEN,
+    }
+}
+
+// The code of a fault of a geometry.
+pub(crate) fn code_of_fault(fault: GeometryFault) -> u32
+    ensures code { result ≡ fault_code fault }
+    ensures over { 100 < result }
+{
+    match fault {
+        GeometryFault::Luns => 101,
+        GeometryFault::Blocks => 102,
+        GeometryFault::Pages => 103,
+        GeometryFault::Words => 104,
+        GeometryFault::Sectors => 105,
+        GeometryFault::Endurance => 106,
+        GeometryFault::Passes => 107,
+        GeometryFault::TooManyWords => 108,
+        GeometryFault::TooFewBlocks => 109,
+    }
+}

@@ -1,0 +1,33 @@
+//! The calls of C: a device for one thread, and a device that threads share, behind handles of two words.
+#![tactic(auto)]
+
+mod codes;
+mod handle;
+mod holder_calls;
+mod host_calls;
+mod layer;
+mod one;
+mod opening;
+mod pointed;
+mod reports;
+mod seat;
+mod seats;
+mod shared;
+mod slot;
+mod sweeper_calls;
+
+pub use handle::Handle;
+pub use one::{
+    mintlintel_one_block, mintlintel_one_close, mintlintel_one_counts, mintlintel_one_numbers,
+    mintlintel_one_open, mintlintel_one_read, mintlintel_one_trim, mintlintel_one_write,
+    mintlintel_one_write_new,
+};
+pub use opening::mintlintel_shared_open;
+pub use reports::{BlockReport, NumbersReport, PageReport, Totals};
+pub use seat::{Holder, Host, Seat, Sweeper};
+pub use shared::{
+    mintlintel_broom_drain, mintlintel_broom_erase, mintlintel_host_copy, mintlintel_host_held,
+    mintlintel_host_hold, mintlintel_host_read, mintlintel_host_release, mintlintel_host_trim,
+    mintlintel_host_word, mintlintel_host_write, mintlintel_host_write_new, mintlintel_seat_close,
+    mintlintel_seat_numbers,
+};

@@ -1,0 +1,260 @@
+//! The opening of a shared device: a seat for each handle, or none at all.
+ghost use Rattle.std.specs.Prelude.{◌≡◌, ◌≢◌, ◌<◌, ◌==◌, ℕ, All, true, false, nat_eq, not, length, if◌then◌else◌};
+ghost use Rattle.std.specs.Arc.{arc_value};
+ghost use Rattle.geometry.specs.Geometry.{hosts_of, brooms_of, numbers_of};
+ghost use Rattle.geometry.specs.Limits.{numbers};
+ghost use Rattle.host.specs.Ready.{IsReady};
+ghost use Rattle.volume.specs.Brooms.{IsBroomReady};
+ghost use Rattle.volume.specs.Volume.{flash_of};
+ghost use Rattle.exports.specs.Codes.{fault_code};
+ghost use Rattle.exports.specs.Handles.{seat_of};
+ghost use Rattle.exports.specs.Opening.{IsClosed, EachAt, IsFirstPass, IsFirstBroom, IsPassIn, IsBroomIn, IsFreshHost, IsFreshBroom, AreFresh, capped, shared_open_code, shared_fault_code};
+
+use crate::codes::{ALREADY_OPEN, DONE, NO_MEMORY, WRONG_COUNTS, code_of_fault};
+use crate::handle::Handle;
+use crate::seat::{Host, Seat, Sweeper};
+use std::alloc::Global;
+use std::sync::Arc;
+use volume::{Broom, Geometry, GeometryFault, Pass, Volume};
+
+// Closes these handles.
+fn close_all(alloc: Global, handles: &mut [Handle])
+    ensures closed { All IsClosed handles.new }
+    ensures count { length handles.new ≡ length handles.old }
+{
+    for handle in handles.iter_mut() {
+        handle.take(alloc);
+    }
+}
+
+// Gives these passes up.
+fn retire_passes(volume: &Volume, passes: Vec<Pass>)
+    requires { All (IsReady (flash_of volume.now)) passes.items }
+{
+    let mut passes = passes;
+    while let Some(pass) = passes.pop() {
+        volume.retire(pass);
+    }
+    passes.destroy_empty();
+}
+
+// Gives these brooms up.
+fn retire_brooms(volume: &Volume, brooms: Vec<Broom>)
+    requires { All (IsBroomReady volume.now) brooms.items }
+{
+    let mut brooms = brooms;
+    while let Some(broom) = brooms.pop() {
+        volume.retire_broom(broom);
+    }
+    brooms.destroy_empty();
+}
+
+// A pass into a closed handle. Without memory it is given up, and the handle stays closed.
+fn seat_host(alloc: Global, volume: &Arc<Volume, Global>, pass: Pass, handle: &mut Handle) -> bool
+    requires pass { IsReady (flash_of (arc_value volume.now)) pass }
+    requires closed { IsClosed handle.old }
+    ensures seated { result ≡ true → IsPassIn (arc_value volume.now) pass (seat_of handle.new) }
+    ensures closed { result ≡ false → IsClosed handle.new }
+{
+    let Ok(volume) = volume.clone() else {
+        volume.retire(pass);
+        return false;
+    };
+    handle.fill(alloc, Seat::Host(Host { volume, pass }))
+}
+
+// A broom into a closed handle. Without memory it is given up, and the handle stays closed.
+fn seat_broom(
+    alloc: Global,
+    volume: &Arc<Volume, Global>,
+    broom: Broom,
+    handle: &mut Handle,
+) -> bool
+    requires broom { IsBroomReady (arc_value volume.now) broom }
+    requires closed { IsClosed handle.old }
+    ensures seated { result ≡ true → IsBroomIn (arc_value volume.now) broom (seat_of handle.new) }
+    ensures closed { result ≡ false → IsClosed handle.new }
+{
+    let Ok(volume) = volume.clone() else {
+        volume.retire_broom(broom);
+        return false;
+    };
+    handle.fill(alloc, Seat::Sweeper(Sweeper { volume, broom }))
+}
+
+// A pass into each of these handles, pass t into handle t. Without memory all stay closed, and the passes are given up.
+fn seat_hosts(
+    alloc: Global,
+    volume: &Arc<Volume, Global>,
+    passes: Vec<Pass>,
+    handles: &mut [Handle],
+) -> bool
+    requires passes { All (IsReady (flash_of (arc_value volume.now))) passes.items }
+    requires first { EachAt (IsFirstPass (arc_value volume.now)) passes.items }
+    requires count { length passes.items ≡ length handles.old }
+    requires closed { All IsClosed handles.old }
+    ensures seated { result ≡ true → EachAt (IsFreshHost (arc_value volume.now)) handles.new }
+    ensures closed { result ≡ false → All IsClosed handles.new }
+    ensures count { length handles.new ≡ length handles.old }
+{
+    let mut passes = passes;
+    while let Some(pass) = passes.pop() {
+        let at = passes.len();
+        if !seat_host(alloc, volume, pass, &mut handles[at]) {
+            retire_passes(volume, passes);
+            close_all(alloc, handles);
+            return false;
+        }
+    }
+    passes.destroy_empty();
+    true
+}
+
+// A broom into each of these handles, broom i into handle i. Without memory all stay closed, and the brooms are given up.
+fn seat_brooms(
+    alloc: Global,
+    volume: &Arc<Volume, Global>,
+    brooms: Vec<Broom>,
+    handles: &mut [Handle],
+) -> bool
+    requires brooms { All (IsBroomReady (arc_value volume.now)) brooms.items }
+    requires first { EachAt (IsFirstBroom (arc_value volume.now)) brooms.items }
+    requires count { length brooms.items ≡ length handles.old }
+    requires closed { All IsClosed handles.old }
+    ensures seated { result ≡ true → EachAt (IsFreshBroom (arc_value volume.now)) handles.new }
+    ensures closed { result ≡ false → All IsClosed handles.new }
+    ensures count { length handles.new ≡ length handles.old }
+{
+    let mut brooms = brooms;
+    while let Some(broom) = brooms.pop() {
+        let at = brooms.len();
+        if !seat_broom(alloc, volume, broom, &mut handles[at]) {
+            retire_brooms(volume, brooms);
+            close_all(alloc, handles);
+            return false;
+        }
+    }
+    brooms.destroy_empty();
+    true
+}
+
+// A new device's seats into these handles. Without memory all stay closed.
+fn deal(alloc: Global, geometry: &Geometry, hosts: &mut [Handle], brooms: &mut [Handle]) -> bool
+    requires some { 0 < hosts_of geometry.now }
+    requires hosts { hosts_of geometry.now ≡ length hosts.old }
+    requires brooms { brooms_of geometry.now ≡ length brooms.old }
+    requires closed_hosts { All IsClosed hosts.old }
+    requires closed_brooms { All IsClosed brooms.old }
+    ensures fresh { result ≡ true → AreFresh (numbers_of geometry.now) hosts.new brooms.new }
+    ensures closed_hosts { result ≡ false → All IsClosed hosts.new }
+    ensures closed_brooms { result ≡ false → All IsClosed brooms.new }
+{
+    let Ok((volume, passes, sweepers)) = Volume::open(alloc, geometry) else {
+        return false;
+    };
+    let volume = match Arc::new(alloc, volume) {
+        Ok(volume) => volume,
+        Err(failed) => {
+            retire_brooms(&failed.value, sweepers);
+            retire_passes(&failed.value, passes);
+            return false;
+        }
+    };
+    if !seat_hosts(alloc, &volume, passes, hosts) {
+        retire_brooms(&volume, sweepers);
+        return false;
+    }
+    if !seat_brooms(alloc, &volume, sweepers, brooms) {
+        close_all(alloc, hosts);
+        return false;
+    }
+    true
+}
+
+// Whether all of these handles are closed.
+fn are_closed(handles: &[Handle]) -> bool
+    ensures closed { result ≡ true → All IsClosed handles.now }
+    ensures open { result ≡ false → ¬ All IsClosed handles.now }
+{
+    for handle in handles.iter() {
+        if handle.is_open() {
+            return false;
+        }
+    }
+    true
+}
+
+// The code of a fault of a shared device's numbers.
+fn code_of_shared_fault(hosts: u32, fault: GeometryFault) -> u32
+    ensures code { result ≡ shared_fault_code hosts fault }
+    ensures over { 100 < result }
+{
+    let code = code_of_fault(fault);
+    if hosts == 0 && code > WRONG_COUNTS {
+        WRONG_COUNTS
+    } else {
+        code
+    }
+}
+
+/// Opens a device of these numbers, with a seat for each handle, and every sector empty.
+#[unsafe(no_mangle)]
+#[allow(clippy::too_many_arguments)]
+pub extern "C" fn mintlintel_shared_open(
+    alloc: Global,
+    hosts: &mut [Handle],
+    brooms: &mut [Handle],
+    luns: u32,
+    blocks: u32,
+    pages: u32,
+    words: u32,
+    sectors: u32,
+    endurance: u32,
+) -> u32
+    ensures code { result ≡ shared_open_code (not (nat_eq result 8)) (numbers luns blocks pages words sectors endurance (capped 501 (length hosts.old)) (capped 33 (length brooms.old))) (not (nat_eq result 6)) }
+    ensures closed { result ≢ 8 → All IsClosed hosts.old × All IsClosed brooms.old }
+    ensures open { result ≡ 8 → ¬ (All IsClosed hosts.old × All IsClosed brooms.old) }
+    ensures fresh { result ≡ 0 → AreFresh (numbers luns blocks pages words sectors endurance (length hosts.old) (length brooms.old)) hosts.new brooms.new }
+    ensures closed_hosts { result ≡ 6 → All IsClosed hosts.new }
+    ensures closed_brooms { result ≡ 6 → All IsClosed brooms.new }
+    ensures same_hosts { result ≢ 0 → result ≢ 6 → hosts.new ≡ hosts.old }
+    ensures same_brooms { result ≢ 0 → result ≢ 6 → brooms.new ≡ brooms.old }
+{
+    if !are_closed(hosts) || !are_closed(brooms) {
+        return ALREADY_OPEN;
+    }
+    let host_count = capped_count(hosts.len(), 501);
+    let broom_count = capped_count(brooms.len(), 33);
+    let geometry = match Geometry::new(
+        luns,
+        blocks,
+        pages,
+        words,
+        sectors,
+        endurance,
+        host_count,
+        broom_count,
+    ) {
+        Ok(geometry) => geometry,
+        Err(fault) => return code_of_shared_fault(host_count, fault),
+    };
+    if host_count == 0 {
+        return WRONG_COUNTS;
+    }
+    if deal(alloc, &geometry, hosts, brooms) {
+        DONE
+    } else {
+        NO_MEMORY
+    }
+}
+
+// A count of handles, or the bound that it is over.
+fn capped_count(count: usize, most: u32) -> u32
+    ensures { result ≡ capped most count }
+{
+    if count <= most as usize {
+        count as u32
+    } else {
+        most
+    }
+}

@@ -1,0 +1,41 @@
+//! What a device reports of itself, in structs of C.
+
+/// The pages programmed for writes, the pages relocated and the erase commands.
+#[repr(C)]
+#[derive(Clone, Copy, Debug, PartialEq, Eq)]
+pub struct Totals {
+    pub programs: u64,
+    pub copies: u64,
+    pub erases: u64,
+}
+
+/// A block: its erase commands, its live pages, and 1 if it is retired.
+#[repr(C)]
+#[derive(Clone, Copy, Debug, PartialEq, Eq)]
+pub struct BlockReport {
+    pub erases: u32,
+    pub live: u32,
+    pub retired: u32,
+}
+
+/// The numbers that a device was made by.
+#[repr(C)]
+#[derive(Clone, Copy, Debug, PartialEq, Eq)]
+pub struct NumbersReport {
+    pub luns: u32,
+    pub blocks: u32,
+    pub pages: u32,
+    pub words: u32,
+    pub sectors: u32,
+    pub endurance: u32,
+    pub hosts: u32,
+    pub brooms: u32,
+}
+
+/// Where a held page stands: its block, in this generation of the block.
+#[repr(C)]
+#[derive(Clone, Copy, Debug, PartialEq, Eq)]
+pub struct PageReport {
+    pub block: u32,
+    pub generation: u32,
+}

@@ -1,0 +1,44 @@
+//! The step by which a broom without a spare takes one.
+ghost use Rattle.std.specs.Prelude.{◌≡◌, ◌<◌, None};
+ghost use Rattle.geometry.specs.Geometry.{blocks_of};
+ghost use Rattle.flash_table.specs.Flash.{IsBroomOf, broom_view, own_blocks, geometry_of};
+ghost use Rattle.flash_table.specs.Spares.{SpareTold};
+
+use crate::broom_seat::{BroomBlocks, BroomSeat};
+use crate::flash::Flash;
+use crate::pass::OpenBlock;
+use crate::steps::generation_if_free;
+use flash_rule::Take;
+use geometry::{TAKEN, pin_at};
+
+impl Flash {
+    /// Takes a block as the broom's spare if it is free, and says whether it did.
+    pub fn take_spare(&self, broom: &mut BroomSeat, block: u32) -> bool
+        requires broom { IsBroomOf self.now broom.old }
+        requires no_spare { (own_blocks broom.old).spare ≡ None }
+        requires block { block < blocks_of (geometry_of self.now) }
+        ensures told { SpareTold (broom_view broom.old) (own_blocks broom.old) block result (broom_view broom.new) (own_blocks broom.new) }
+        ensures broom { IsBroomOf self.now broom.new }
+    {
+        let word = pin_at(&self.geometry, block);
+        let found = self
+            .table
+            .shared
+            .fetch_or::<Take>(&mut broom.seat, word, TAKEN);
+        match generation_if_free(found) {
+            Some(generation) => {
+                broom.blocks = BroomBlocks {
+                    destination: broom.blocks.destination,
+                    spare: Some(OpenBlock {
+                        block,
+                        generation,
+                        written: 0,
+                    }),
+                    reclaiming: broom.blocks.reclaiming,
+                };
+                true
+            }
+            None => false,
+        }
+    }
+}

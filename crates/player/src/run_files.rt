@@ -1,0 +1,69 @@
+ghost use Rattle.std.specs.Prelude.{◌≡◌, ◌≤◌, length};
+ghost use Rattle.player.specs.Telling.{file_name, file_text};
+
+use trace::{OpenFault, Watched};
+
+/// The files that a run writes beside its answers, where the command line names them.
+#[derive(Drop)]
+pub struct RunFiles<F> {
+    /// The wear of each block after the run.
+    pub wear: Watched<F>,
+}
+
+/// One of the files that a run writes beside its answers.
+#[derive(Clone, Copy, Debug, PartialEq, Eq)]
+pub enum RunFile {
+    Wear,
+}
+
+/// Why a file of a run was not written.
+#[derive(Clone, Copy, Debug, PartialEq, Eq)]
+pub enum FileStop {
+    /// Workers are asked for, which don't write it.
+    NotWithWorkers,
+    /// It could not be opened.
+    NotOpened,
+    /// It is the file of the trace, of the answers, or another file of the run.
+    NotItsOwn,
+    /// It could not be written.
+    Failed,
+}
+
+impl RunFile {
+    /// The name, as it is printed.
+    pub fn name(self) -> &'static str
+        ensures name { result.now ≡ file_name self }
+        ensures short { length result.now ≤ 11 }
+    {
+        match self {
+            RunFile::Wear => "wear",
+        }
+    }
+}
+
+impl FileStop {
+    ghost use Rattle.player.specs.Session.{stop_of_open};
+
+    /// The reason, as it is printed behind the file's name.
+    pub fn text(self) -> &'static str
+        ensures text { result.now ≡ file_text self }
+        ensures short { length result.now ≤ 24 }
+    {
+        match self {
+            FileStop::NotWithWorkers => ": not with workers",
+            FileStop::NotOpened => ": not opened",
+            FileStop::NotItsOwn => ": not a file of its own",
+            FileStop::Failed => ": failed",
+        }
+    }
+
+    // Why a file that was not opened is not written.
+    pub(crate) fn of_open(fault: OpenFault) -> FileStop
+        ensures { result ≡ stop_of_open fault }
+    {
+        match fault {
+            OpenFault::Refused => FileStop::NotOpened,
+            OpenFault::InUse => FileStop::NotItsOwn,
+        }
+    }
+}

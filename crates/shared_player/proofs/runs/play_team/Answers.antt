@@ -1,0 +1,10 @@
+use Rattle.std.proofs.Common.{All, List, sym, subst}
+use Rattle.shared_player.specs.declared.post.Post.{Post}
+use Rattle.shared_player.specs.Runs.{IsIdle}
+use Rattle.shared_player.proofs.Turning.{idles_played}
+use Rattle.shared_player.proofs.runs.play_team.Goals as goal
+
+pub returns-then-have_no_line-clause-played : goal.returns-then-have_no_line-clause-played
+returns-then-have_no_line-clause-played g c =
+    let posts = c.args.team.posts.items in
+    idles_played c.args.patience posts (subst (All IsIdle) c.deref.ensures.value (c.have_no_line.ensures c.if-have_no_line.true))

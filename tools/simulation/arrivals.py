@@ -1,0 +1,108 @@
+"""Arrival times: a line for each line of a trace, in microseconds with at most three digits behind the point. Within the tools they are
+whole nanoseconds."""
+
+import math
+import random
+import re
+
+from .faults import Fault, LineFault
+from .lines import shown
+
+NANOSECONDS = 1_000
+CHUNK = 1 << 20
+LINES = re.compile(rb"(?:\d{1,12}(?:\.\d{1,3})?\n)*")
+LINE = re.compile(rb"\d{1,12}(?:\.\d{1,3})?")
+
+
+class ArrivalsWriter:
+    """Writes the arrival of each line of a trace, at the times that an iterator gives."""
+
+    def __init__(self, sink, times):
+        self._sink = sink
+        self._times = iter(times)
+        self._waiting = []
+
+    def put(self):
+        self._waiting.append(b"%d.%03d\n" % divmod(next(self._times), NANOSECONDS))
+        if len(self._waiting) == 4096:
+            self.flush()
+
+    def flush(self):
+        self._sink.write(b"".join(self._waiting))
+        self._sink.flush()
+        self._waiting.clear()
+
+
+class Clock:
+    """The time of the request whose lines are being written, from that of the first one on."""
+
+    def __init__(self):
+        self._first = self._now = None
+        self._line = 0
+
+    def __iter__(self):
+        return self
+
+    def __next__(self) -> int:
+        return self._now - self._first
+
+    def turn(self, request):
+        if self._now is not None and request.time < self._now:
+            raise LineFault(request.line, f"its time lies before that of line {self._line:,}: sort the log by time first")
+        self._first = request.time if self._first is None else self._first
+        self._now, self._line = request.time, request.line
+
+
+def made(options):
+    """Times without end: one after the other at the interval, or exponential at the rate, from the seed. The sectors that the seed
+    makes are the same with arrivals and without."""
+    if options.interval is not None:
+        step = options.interval * NANOSECONDS
+        return (round(number * step) for number in _from_zero())
+    return _exponential(random.Random(f"arrivals {options.seed}"), 1_000_000_000 / options.rate)
+
+
+def _from_zero():
+    number = 0
+    while True:
+        yield number
+        number += 1
+
+
+def _exponential(seeded, mean):
+    now = 0.0
+    while True:
+        now -= math.log(1 - seeded.random()) * mean
+        yield round(now)
+
+
+def read_arrivals(source):
+    """The times, each not before the one in front of it."""
+    import numpy
+
+    parts, line, rest = [], 0, b""
+    while piece := source.read(CHUNK):
+        whole, mark, rest = (rest + piece).replace(b"\r\n", b"\n").rpartition(b"\n")
+        parts.append(_times(numpy, whole + mark, line))
+        line += len(parts[-1])
+    if rest:
+        parts.append(_times(numpy, rest + b"\n", line))
+    times = numpy.concatenate(parts) if parts else numpy.zeros(0, dtype=numpy.int64)
+    backwards = numpy.flatnonzero(times[1:] < times[:-1])
+    if len(backwards):
+        raise LineFault(int(backwards[0]) + 2, "an arrival before that of the line in front of it")
+    return times
+
+
+def _times(numpy, text, before):
+    lines = text.split(b"\n")[:-1]
+    if not LINES.fullmatch(text):
+        number, line = next((number, line) for number, line in enumerate(lines, before + 1) if not LINE.fullmatch(line))
+        raise LineFault(number, f"{shown(line)} is no time in microseconds, with at most 12 digits and 3 behind the point")
+    return numpy.rint(numpy.array(list(map(float, lines))) * NANOSECONDS).astype(numpy.int64)
+
+
+def check_length(times, lines):
+    if len(times) != lines:
+        at = min(len(times), lines) + 1
+        raise Fault(f"line {at:,}: there are {len(times):,} arrivals, and {lines:,} answers: they are of two traces", 3)

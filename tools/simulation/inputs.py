@@ -1,0 +1,84 @@
+"""Inputs of the tools: files or standard input, as they are or compressed by gzip or zstd."""
+
+import contextlib
+import gzip
+import io
+import shutil
+import subprocess
+import sys
+import threading
+import zlib
+
+from .faults import BROKEN, Fault
+
+GZIP, ZSTD = b"\x1f\x8b", b"\x28\xb5\x2f\xfd"
+OTHERS = {b"BZh": "bzip2", b"\xfd7zXZ": "xz", b"PK\x03\x04": "zip"}
+AT_ONCE = 1 << 20
+
+
+def name_of(path) -> str:
+    return "standard input" if path == "-" else str(path)
+
+
+@contextlib.contextmanager
+def opened(path):
+    """The bytes of a file, or of standard input for `-`, as they were before they were compressed."""
+    with contextlib.ExitStack() as stack:
+        source = sys.stdin.buffer if path == "-" else stack.enter_context(open(path, "rb"))
+        yield stack.enter_context(_plain(source, name_of(path)))
+
+
+@contextlib.contextmanager
+def _plain(source, name):
+    if not hasattr(source, "peek"):
+        source = io.BufferedReader(source)
+    begin = source.peek(8)[:8]
+    for mark, kind in OTHERS.items():
+        if begin.startswith(mark):
+            raise Fault(f"{name} is compressed by {kind}, which isn't read here: decompress it first (gzip and zstd are read)", BROKEN)
+    if begin.startswith(GZIP):
+        with _told_as_broken(name):
+            yield io.BufferedReader(gzip.GzipFile(fileobj=source), AT_ONCE)
+    elif begin.startswith(ZSTD):
+        with _zstd(source, name) as plain:
+            yield plain
+    else:
+        yield source
+
+
+@contextlib.contextmanager
+def _told_as_broken(name):
+    try:
+        yield
+    except (gzip.BadGzipFile, EOFError, zlib.error) as error:
+        raise Fault(f"{name} is no whole gzip file: {error}", BROKEN)
+
+
+@contextlib.contextmanager
+def _zstd(source, name):
+    """Debian's zstd decompresses, and what it says is told."""
+    if shutil.which("zstd") is None:
+        raise Fault(f"{name} is compressed by zstd, which isn't installed; this installs it: apt-get install zstd")
+    with subprocess.Popen(["zstd", "-dcq"], stdin=subprocess.PIPE, stdout=subprocess.PIPE, stderr=subprocess.PIPE) as run:
+        feeder = threading.Thread(target=_feed, args=(source, run.stdin), daemon=True)
+        feeder.start()
+        ended = False
+        try:
+            yield run.stdout
+        finally:
+            ended = not run.stdout.read(1)
+            run.stdout.close()
+            feeder.join()
+            errors = run.stderr.read().decode("utf-8", "replace").strip()
+            run.wait()
+            # What the reader said of the text that was cut off gives way to the reason.
+            if ended and run.returncode != 0:
+                raise Fault(f"{name} is no whole zstd file: {errors}", BROKEN)
+
+
+def _feed(source, sink):
+    # Where the reader has enough, zstd ends first.
+    with contextlib.suppress(BrokenPipeError):
+        shutil.copyfileobj(source, sink, AT_ONCE)
+    with contextlib.suppress(BrokenPipeError):
+        sink.close()

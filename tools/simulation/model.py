@@ -1,0 +1,178 @@
+"""A model of the layer for one thread, written from its description and not from the program: blocks are taken from the lowest,
+the last block is the spare, and where no block is left the closed block with the fewest live pages is copied into the spare."""
+
+import csv
+import io
+import itertools
+import re
+from dataclasses import dataclass, field
+
+from .faults import ARGUMENTS, BROKEN, Fault, LineFault
+
+# What docs/FORMATS.md says of traces and devices.
+LONGEST_TRACE, WORKERS, WORDS = 268_435_456, 500, 16_777_216
+OPS = ("read", "write", "new", "trim", "meet")
+RANGES = {"luns": (1, 8), "blocks": (3, 4096), "pages": (1, 16384), "words": (1, 512), "sectors": (1, 1_048_576), "endurance": (1, 1_000_000)}
+BYTE_ORDER_MARK = b"\xef\xbb\xbf"
+
+
+@dataclass
+class Block:
+    """The sectors for which its pages were programmed, in order, and how many of the pages are live."""
+
+    written: list = field(default_factory=list)
+    live: int = 0
+    erases: int = 0
+    retired: bool = False
+
+
+@dataclass
+class Collection:
+    line: int
+    victim: int
+    copied: int
+    copybacks: int
+    erases: int
+    outcome: str
+
+
+class Model:
+    def __init__(self, luns, blocks, pages, words, sectors, endurance):
+        self.pages, self.words, self.sectors, self.endurance = pages, words, sectors, endurance
+        self.blocks_of_a_lun = blocks // luns
+        self.blocks = [Block() for _ in range(blocks)]
+        self.unused = list(range(blocks - 1))
+        self.spare = blocks - 1
+        self.open = None
+        self.closed = set()
+        self.places = [None] * sectors
+        self.data = {}
+        self.programs = self.copies = 0
+        self.collections = []
+
+    def answer(self, line, op, sector, data):
+        """What a line answers."""
+        if op == "meet":
+            return "met"
+        was = "empty" if self.places[sector] is None else "written"
+        if op == "read":
+            return self.data[sector].ljust(16 * self.words, "0").lower() if was == "written" else "empty"
+        if op == "trim":
+            self._forget(sector)
+            return was
+        if op == "new" and was == "written":
+            return was
+        if not self._finds_a_page(line):
+            return "worn"
+        self._program(self.open, sector)
+        self.programs += 1
+        self.data[sector] = data
+        if len(self.blocks[self.open].written) == self.pages:
+            self.closed.add(self.open)
+            self.open = None
+        return was
+
+    def _forget(self, sector):
+        if self.places[sector] is not None:
+            self.blocks[self.places[sector][0]].live -= 1
+        self.places[sector] = None
+
+    def _program(self, block, sector):
+        self._forget(sector)
+        self.places[sector] = block, len(self.blocks[block].written)
+        self.blocks[block].written.append(sector)
+        self.blocks[block].live += 1
+
+    def _finds_a_page(self, line):
+        if self.open is None and self.unused:
+            self.open = self.unused.pop(0)
+        elif self.open is None and self.spare is not None:
+            self._collect(line)
+        return self.open is not None
+
+    def _collect(self, line):
+        victim = min(self.closed, key=lambda number: (self.blocks[number].live, number))
+        block, into = self.blocks[victim], self.spare
+        alive = [sector for page, sector in enumerate(block.written) if self.places[sector] == (victim, page)]
+        for sector in alive:
+            self._program(into, sector)
+        self.copies += len(alive)
+        block.erases += 1
+        block.written = []
+        block.retired = block.erases == self.endurance
+        one_lun = victim // self.blocks_of_a_lun == into // self.blocks_of_a_lun
+        outcome = "retired" if block.retired else "freed"
+        self.collections.append(Collection(line, victim, len(alive), len(alive) if one_lun else 0, block.erases, outcome))
+        self.closed.remove(victim)
+        self.open = into
+        self.spare = None if block.retired else victim
+
+    def play(self, trace):
+        """The answers of a trace, line by line, as text. The whole trace is checked first: one with a fault has no answers."""
+        for _ in self.commands(trace):
+            pass
+        for line, (op, sector, data) in enumerate(self.commands(trace), 1):
+            yield f"{line},{op},{sector},{self.answer(line, op, sector, data)}\n"
+        yield self.end()
+
+    def commands(self, trace):
+        """The op, sector and data of each record of a trace."""
+        csv.field_size_limit(LONGEST_TRACE)
+        text = io.TextIOWrapper(io.BytesIO(trace.removeprefix(BYTE_ORDER_MARK)), encoding="latin-1", newline="")
+        for line, record in enumerate((record for record in csv.reader(text) if record), 1):
+            if kind := self._fault_of(record):
+                raise LineFault(line, kind)
+            yield record[1], int(record[2]), record[3]
+
+    def _fault_of(self, record):
+        """The first rule that a record breaks, or None."""
+        if len(record) != 4:
+            return "Fields"
+        worker, op, sector, data = record
+        if not _is_number(worker, WORKERS):
+            return "Worker"
+        if op not in OPS:
+            return "Op"
+        if not _is_number(sector, self.sectors):
+            return "Sector"
+        if op in ("write", "new"):
+            if not re.fullmatch("([0-9a-fA-F]{2})*", data):
+                return "Hex"
+            return "TooLong" if len(data) > 16 * self.words else None
+        return "Unused" if data or op == "meet" and (int(worker), int(sector)) != (0, 0) else None
+
+    def end(self):
+        return f"end,{self.programs},{self.copies},{sum(block.erases for block in self.blocks)}\n"
+
+    def wear(self):
+        rows = (f"{number},{block.erases},{block.live},{int(block.retired)}\n" for number, block in enumerate(self.blocks))
+        return "block,erases,live,retired\n" + "".join(rows)
+
+    def log(self):
+        rows = (f"{c.line},{c.victim},{c.copied},{c.copybacks},{c.erases},{c.outcome}\n" for c in self.collections)
+        return "line,victim,copied,copybacks,erases,outcome\n" + "".join(rows)
+
+
+def _is_number(text, above):
+    return re.fullmatch("[0-9]{1,7}", text) is not None and int(text) < above
+
+
+def check(device):
+    """Refuses numbers that make no device."""
+    luns, blocks, pages, words, sectors, _ = (device[name] for name in RANGES)
+    for name, (least, most) in RANGES.items():
+        if not least <= device[name] <= most or name == "blocks" and blocks % luns:
+            raise Fault(f"geometry: {name.capitalize()}", ARGUMENTS)
+    if sectors + blocks + blocks * pages * (words + 1) > WORDS:
+        raise Fault("geometry: TooManyWords", ARGUMENTS)
+    if sectors >= (blocks - 1) * pages:
+        raise Fault("geometry: TooFewBlocks", ARGUMENTS)
+
+
+def log_of(device, trace, answers):
+    """The log of a run with these answers, given line by line: the model has to answer the same, byte for byte."""
+    played = Model(**device)
+    for number, (line, told) in enumerate(itertools.zip_longest(played.play(trace), answers), 1):
+        if line is None or line.encode() != told:
+            raise Fault(f"line {number:,} of the answers: the model answers otherwise, so it has no log of this run", BROKEN)
+    return played.log()

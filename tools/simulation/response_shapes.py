@@ -1,0 +1,52 @@
+"""The shapes of response times that pictures and tables show: how they are distributed, and how they run over time."""
+
+from dataclasses import dataclass
+
+from .response import MICROSECOND, SECOND
+
+# So many points a curve has at most, and so many parts a run.
+POINTS, PARTS = 300, 200
+
+
+def tail(times) -> list:
+    """Points (time, share): the share of lines whose response is longer than the time, in microseconds. Lines that take no time have no
+    place on a logarithmic axis, but count in the shares."""
+    import numpy
+
+    ordered = numpy.sort(times)
+    count = len(ordered)
+    if not count or ordered[-1] == 0:
+        return []
+    # Ranks from the shortest to the longest, close together at the long end.
+    longer = numpy.unique(numpy.rint(numpy.geomspace(1, count, POINTS)).astype(numpy.int64))[::-1] - 1
+    values = ordered[count - 1 - longer]
+    # Of equal times the last one tells how many lines are longer.
+    shares = (count - numpy.searchsorted(ordered, values, side="right")) / count
+    points = {float(value) / MICROSECOND: float(share) for value, share in zip(values, shares) if value > 0}
+    return sorted(points.items())
+
+
+@dataclass
+class Part:
+    """Some lines of a run: when the first arrived in seconds, or its number without arrivals; their mean and longest response in
+    microseconds; and their collections."""
+
+    place: float
+    mean: float
+    longest: float
+    collections: int
+
+
+def over_time(told, first_line=1) -> list:
+    """A run in parts of as many lines as can be each. Meets are left out."""
+    import numpy
+
+    lines = numpy.flatnonzero(told.of("all"))
+    response = told.response()
+    parts = []
+    for some in numpy.array_split(lines, min(PARTS, len(lines))) if len(lines) else ():
+        times = response[some]
+        place = float(told.arrival[some[0]] - told.arrival[0]) / SECOND if told.timed else float(some[0] + first_line)
+        mean, longest = float(times.mean()) / MICROSECOND, float(times.max()) / MICROSECOND
+        parts.append(Part(place, mean, longest, int(told.collects[some].sum())))
+    return parts

@@ -1,0 +1,30 @@
+"""What a report says of the device and the trace of a run."""
+
+import pathlib
+
+from . import collected, device
+from .faults import BROKEN, Fault
+
+
+def title_of(options, blocks) -> str:
+    """The device as far as it is known, and the trace."""
+    if device.is_named(options):
+        played_on = device.shown(device.numbers_of(options))
+    else:
+        played_on = f"{len(blocks):,} blocks" if blocks else ""
+    trace = pathlib.Path(options.trace).name if options.trace else ""
+    return " · ".join(text for text in (played_on, trace) if text)
+
+
+def check_device(options, answers, blocks, log):
+    """A device that the options name is the one that the files are of, as far as they tell."""
+    if not device.is_named(options):
+        return
+    numbers = device.numbers_of(options)
+    if blocks is not None and len(blocks) != numbers["blocks"]:
+        raise Fault(f"the wear file has {len(blocks):,} blocks, and the device that the options name {numbers['blocks']:,}", BROKEN)
+    if answers.page_bytes not in (None, 8 * numbers["words"]):
+        raise Fault(f"the reads show pages of {answers.page_bytes:,} bytes, and the device that the options name has {8 * numbers['words']:,}", BROKEN)
+    if isinstance(log, collected.Collections) and len(log):
+        if max(log.victims) >= numbers["blocks"] or max(log.copied) >= numbers["pages"] or max(log.erases) > numbers["endurance"]:
+            raise Fault("the log has a victim that the device that the options name doesn't have", BROKEN)

@@ -1,0 +1,117 @@
+"""The model against rows by hand, and against the program: the same answers, the same wear, the same faults."""
+
+import io
+import pathlib
+import random
+import subprocess
+import tempfile
+import unittest
+
+from simulation import device, faults, model
+from tests.tools import TOP, Run
+
+HEAD = "line,victim,copied,copybacks,erases,outcome\n"
+LONG = "".join(f"0,write,{sector},\n" for sector in (0, 1, 2, 0, 2, 0, 1, 2, 0, 1, 2, 0))
+
+
+def played(trace, words):
+    """What the program made of a trace: its status, answers, faults and wear."""
+    with tempfile.TemporaryDirectory() as folder:
+        wear = pathlib.Path(folder) / "wear"
+        done = subprocess.run([device.LAUNCHER, *words, "--wear", wear], input=trace, capture_output=True)
+        # What the launcher says of the build is no fault of the trace.
+        told = "".join(line for line in done.stderr.decode().splitlines(keepends=True) if not line.startswith("flashplay: "))
+        return done.returncode, done.stdout.decode(), told, wear.read_text() if wear.exists() else ""
+
+
+class Rows(unittest.TestCase):
+    """Rows that were worked out by hand; the answers are those of the program."""
+
+    def tells(self, words, trace, rows):
+        with tempfile.TemporaryDirectory() as folder:
+            wear, log = (pathlib.Path(folder) / name for name in ("wear", "log"))
+            done = Run("model", *words.split(), "--wear", wear, "--collections", log, given=trace.encode())
+            self.assertEqual(log.read_text(), HEAD + rows)
+            self.assertEqual((done.status, done.text, done.errors, wear.read_text()), played(trace.encode(), words.split()))
+
+    def test_the_collection_of_the_example_is_that_of_its_fifth_line(self):
+        # Blocks 0 and 1 are full; sectors 0 and 2 are written anew, so block 0 has sector 1 alone.
+        trace = (TOP / "examples/collection.csv").read_text()
+        self.tells("--blocks 3 --pages 2 --words 1 --sectors 3 --endurance 10", trace, "5,0,1,1,1,freed\n")
+
+    def test_a_run_without_a_collection_tells_the_names_alone(self):
+        self.tells("--blocks 3 --pages 2 --words 1 --sectors 3", "0,write,0,\n0,read,0,\n", "")
+
+    def test_a_copy_to_another_lun_is_no_copyback_and_a_later_one_within_the_lun_is(self):
+        # LUN 0 has blocks 0 and 1, LUN 1 blocks 2 and 3, the spare. Line 7: block 0 has sector 0 dead and 1 live; it goes to block 3
+        # of the other LUN, and block 0 is the spare. Line 8 fills block 3. Line 9: block 1 has sector 2 dead and 3 live, and goes to 0.
+        trace = "".join(f"0,write,{sector},\n" for sector in (0, 1, 2, 3, 0, 2, 4, 4, 4))
+        self.tells("--luns 2 --blocks 4 --pages 2 --words 1 --sectors 5", trace, "7,0,1,0,1,freed\n8,1,1,1,1,freed\n9,3,1,0,1,freed\n")
+
+    def test_the_erase_that_fails_retires_the_victim_and_is_the_last(self):
+        self.tells("--blocks 3 --pages 2 --words 1 --sectors 3 --endurance 1", LONG, "5,0,1,1,1,retired\n")
+
+
+class AsTheProgram(unittest.TestCase):
+    def test_random_traces_have_the_same_answers_and_wear(self):
+        seeded = random.Random(17)
+        for number in range(60):
+            numbers, trace = random_run(seeded)
+            counted = model.Model(**numbers)
+            answers = "".join(counted.play(trace.encode()))
+            with self.subTest(number=number, device=numbers):
+                self.assertEqual(played(trace.encode(), device.words_of(numbers)), (0, answers, "", counted.wear()))
+
+    def test_odd_traces_mean_the_same_and_have_the_same_faults(self):
+        words = "--blocks 3 --pages 2 --words 1 --sectors 3 --endurance 10".split()
+        records = [
+            b"", b'007,"read",002,', b"0,write,0,aBcD\n0,read,0,", b'0,write,0,"41', b'0,"re"ad,2,', b'0,"read\n",2,', b"\xef\xbb\xbf0,meet,0,\r\n\r\n0,read,0,\r0,trim,1,",
+            b"worker,op,sector,data", b'0,re"ad,2,', b"0,read,2", b"0,read,2,,", b"500,read,0,", b"00000000,read,0,", b" 0,read,0,", b"0,READ,0,", b"0,read,-1,",
+            b"0,read,3,", b"0,write,0,4", b"0,new,0,4g", b"0,write,0,010203040506070809", b"0,read,0,41", b"1,meet,0,", b"0,meet,1,", b"0,meet,0,00",
+            b"\xff,read,0,", b'""', b"0,write,0,\n0,read,9,\n0,nop,0,\n",
+        ]
+        for record in records:
+            with self.subTest(record):
+                status, answers, told, _ = played(record, words)
+                done = Run("model", *words, given=record)
+                self.assertEqual((done.status, done.text, done.errors.removeprefix("model: ")), (status, answers, told))
+
+    def test_numbers_that_make_no_device_are_refused_alike(self):
+        for words in (
+            "--luns 0", "--luns 9", "--luns 3", "--blocks 2", "--blocks 4097", "--pages 0", "--pages 16385", "--words 513", "--sectors 0", "--sectors 1048577",
+            "--endurance 0", "--endurance 1000001", "--blocks 4096 --words 512", "--sectors 4032", "--luns 9 --blocks 2",
+        ):
+            with self.subTest(words):
+                status, answers, told, _ = played(b"", words.split())
+                done = Run("model", *words.split())
+                self.assertEqual((done.status, done.text, done.errors.removeprefix("model: ")), (status, answers, told))
+                self.assertEqual(status, 2)
+
+
+class LogOf(unittest.TestCase):
+    numbers = {"luns": 1, "blocks": 3, "pages": 2, "words": 1, "sectors": 3, "endurance": 10}
+    trace, answers = ((TOP / f"examples/collection.{kind}").read_bytes() for kind in ("csv", "out"))
+
+    def test_answers_that_are_not_the_models_have_no_log(self):
+        self.assertEqual(model.log_of(self.numbers, self.trace, io.BytesIO(self.answers)), HEAD + "5,0,1,1,1,freed\n")
+        lines = self.answers.splitlines(keepends=True)
+        for line, other in [(3, self.answers.replace(b"3,write,2,empty", b"3,write,2,written")), (10, b"".join(lines[:-1])), (11, self.answers + b"end\n")]:
+            with self.assertRaisesRegex(faults.Fault, f"line {line} of the answers"):
+                model.log_of(self.numbers, self.trace, io.BytesIO(other))
+
+
+def random_run(seeded):
+    """A small device, and a trace that fills it and wears it out at times."""
+    luns, pages = seeded.choice((1, 1, 2, 4)), seeded.choice((1, 2, 3, 8))
+    blocks = luns * seeded.randint(2 if luns > 1 else 3, 6)
+    sectors = seeded.randint(1, (blocks - 1) * pages - 1)
+    numbers = {"luns": luns, "blocks": blocks, "pages": pages, "words": 1, "sectors": sectors, "endurance": seeded.choice((1, 3, 1000))}
+    ops = seeded.choices(("write", "new", "read", "trim", "meet"), (70, 5, 15, 10, 1), k=seeded.randint(0, 600))
+    return numbers, "".join(line_of(op, seeded, sectors) for op in ops)
+
+
+def line_of(op, seeded, sectors):
+    if op == "meet":
+        return "0,meet,0,\n"
+    data = f"{seeded.getrandbits(32):08X}" if op in ("write", "new") else ""
+    return f"0,{op},{seeded.randrange(sectors)},{data}\n"

@@ -1,0 +1,168 @@
+"""The page of a run, as headless Chromium shows it at three widths: each picture is drawn, nothing overlaps, nothing is cut off, nothing is
+fetched, and nothing logs an error."""
+
+import html
+import json
+import re
+import subprocess
+import unittest
+
+from simulation import model
+from tests.packages import needs
+from tests.test_report import InARoom
+from tests.tools import TOOLS, TOP, Run, make
+
+DEVICE = {"luns": 2, "blocks": 16, "pages": 16, "words": 1, "sectors": 180, "endurance": 1000}
+WIDTHS = (340, 800, 1400)
+SECTIONS = ("amplification", "victims", "wear", "response", "over-time")
+# Loads the page in frames of several widths, looks at each, and writes what is found into the document.
+LOOK = """
+<!DOCTYPE html><html><body><pre id="found"></pre><script>
+const page = PAGE;
+const found = [];
+const inside = (a, b) => a.left < b.right - 1 && b.left < a.right - 1 && a.top < b.bottom - 1 && b.top < a.bottom - 1;
+function look(width, frame) {
+  const doc = frame.contentDocument, view = frame.contentWindow;
+  const told = {width, errors: frame.errors, pictures: [], overlaps: [], cut: [], fetched: view.performance.getEntriesByType("resource").map(e => e.name)};
+  told.wide = doc.documentElement.scrollWidth > width;
+  told.links = [...doc.querySelectorAll('a[href^="#"]')].filter(a => !doc.getElementById(a.getAttribute("href").slice(1))).length;
+  const ids = [...doc.querySelectorAll("[id]")].map(e => e.id);
+  told.twice = ids.filter((id, i) => ids.indexOf(id) != i);
+  for (const svg of doc.querySelectorAll("figure svg")) {
+    const box = svg.getBoundingClientRect();
+    const drawn = [...svg.querySelectorAll("path")].filter(p => { const b = p.getBoundingClientRect(); return b.width + b.height > 5; }).length;
+    const texts = [...svg.querySelectorAll("text")].filter(t => t.textContent.trim());
+    const smallest = Math.min(...texts.map(t => t.getBoundingClientRect().height));
+    told.pictures.push({width: box.width, height: box.height, drawn, texts: texts.length, smallest});
+    const boxes = texts.map(t => [t.textContent, t.getBoundingClientRect()]);
+    boxes.forEach(([name, a], i) => {
+      if (a.left < box.left - 1 || a.right > box.right + 1 || a.top < box.top - 1 || a.bottom > box.bottom + 1) told.cut.push(name);
+      boxes.slice(i + 1).forEach(([other, b]) => { if (inside(a, b)) told.overlaps.push(name + " / " + other); });
+    });
+  }
+  const blocks = [...doc.querySelectorAll("h1, h2, p, pre, figure, .scrolled")].filter(e => !e.parentElement.closest("figure, .scrolled"));
+  blocks.forEach((a, i) => blocks.slice(i + 1).forEach(b => {
+    if (inside(a.getBoundingClientRect(), b.getBoundingClientRect())) told.overlaps.push(a.tagName + " / " + b.tagName);
+  }));
+  for (const e of blocks) if (e.getBoundingClientRect().right > width + 1) told.cut.push(e.tagName);
+  found.push(told);
+}
+async function all() {
+  for (const width of WIDTHS) {
+    const frame = document.createElement("iframe");
+    frame.errors = [];
+    frame.style = `width:${width}px;height:900px;border:0`;
+    const loaded = new Promise(done => frame.onload = done);
+    frame.srcdoc = page;
+    document.body.append(frame);
+    frame.contentWindow.onerror = text => frame.errors.push(String(text));
+    await loaded;
+    look(width, frame);
+  }
+  document.getElementById("found").textContent = JSON.stringify(found);
+}
+all();
+</script></body></html>
+"""
+
+
+def luminance(colour):
+    """The relative luminance of WCAG 2."""
+    parts = [int(colour[place : place + 2], 16) / 255 for place in (1, 3, 5)]
+    return sum(weight * (part / 12.92 if part <= 0.03928 else ((part + 0.055) / 1.055) ** 2.4) for weight, part in zip((0.2126, 0.7152, 0.0722), parts))
+
+
+def contrast(one, other):
+    lighter, darker = sorted((luminance(one), luminance(other)), reverse=True)
+    return (lighter + 0.05) / (darker + 0.05)
+
+
+class Colours(unittest.TestCase):
+    def test_light_dark_and_on_paper_texts_and_lines_stand_out(self):
+        """WCAG 2 asks for a contrast of 4.5 for texts and of 3 for graphics."""
+        style = (TOOLS / "simulation/page.css").read_text()
+        schemes = [dict(re.findall(r"--(\w+): (#\w{6})", block)) for block in re.findall(r":root \{(.*?)\}", style, re.DOTALL)]
+        self.assertEqual(len(schemes), 3)
+        for scheme in schemes:
+            for name, least in (("ink", 4.5), ("link", 4.5), ("blue", 3), ("gold", 3), ("red", 3)):
+                with self.subTest(name, scheme=scheme):
+                    self.assertGreater(contrast(scheme[name], scheme["paper"]), least)
+            self.assertGreater(contrast(scheme["ink"], scheme["soft"]), 4.5)
+
+
+@needs("matplotlib", "numpy", "chromium")
+class Shown(InARoom):
+    def page_of_a_run(self):
+        arrivals, trace = self.room / "arrivals", self.room / "zipf.csv"
+        words = ("zipf", "--sectors", "180", "--lines", "6000", "--reads", "30", "--trims", "2", "--fill", "--seed", "3")
+        made = make(*words, "--rate", "500", "--arrivals", arrivals)
+        played = model.Model(**DEVICE)
+        answers = self.file("answers", "".join(played.play(made.bytes)).encode())
+        wear, log = self.file("wear", played.wear().encode()), self.file("log", played.log().encode())
+        files = ("--wear", wear, "--collections", log, "--arrivals", arrivals, "--trace", trace)
+        device = [word for name, number in DEVICE.items() for word in (f"--{name}", number)]
+        page = self.room / "page.html"
+        part = TOP / "examples/parts/dftl_large_block.toml"
+        line = "tools/trace make zipf <fast> & \"quoted\""
+        done = Run("report", answers, *files, *device, "--part", part, "--page", page, "--made-by", line)
+        self.assertEqual((done.status, done.errors), (0, ""))
+        return page.read_text(), line
+
+    def look_at(self, page):
+        looked = LOOK.replace("PAGE", json.dumps(page).replace("</", "<\\/")).replace("WIDTHS", json.dumps(WIDTHS))
+        file = self.file("look.html", looked.encode())
+        words = ["--headless", "--no-sandbox", "--disable-gpu", "--disable-dev-shm-usage", "--no-first-run", f"--user-data-dir={self.room}/chromium"]
+        words += ["--enable-logging=stderr", "--virtual-time-budget=20000", "--host-resolver-rules=MAP * ~NOTFOUND", "--dump-dom", f"file://{file}"]
+        done = subprocess.run(["chromium", *words], capture_output=True, text=True, timeout=120)
+        logged = [line for line in done.stderr.splitlines() if "CONSOLE" in line]
+        self.assertEqual(logged, [])
+        found = re.search(r'<pre id="found">(.*?)</pre>', done.stdout, re.DOTALL)
+        self.assertTrue(found and found[1], done.stderr)
+        return json.loads(html.unescape(found[1]))
+
+    def test_at_three_widths_all_is_drawn_and_nothing_overlaps(self):
+        page, _ = self.page_of_a_run()
+        found = self.look_at(page)
+        self.assertEqual([told["width"] for told in found], list(WIDTHS))
+        for told in found:
+            with self.subTest(width=told["width"]):
+                self.assertEqual((told["errors"], told["fetched"], told["overlaps"], told["cut"], told["twice"]), ([], [], [], [], []))
+                self.assertEqual((told["wide"], told["links"], len(told["pictures"])), (False, 0, len(SECTIONS)))
+                for picture in told["pictures"]:
+                    self.assertGreater(min(picture["width"], picture["height"]), 250)
+                    self.assertGreater(picture["drawn"], 3)
+                    self.assertGreater(picture["texts"], 5)
+                    self.assertGreater(picture["smallest"], 8)
+
+    def test_what_a_browser_would_find_wrong_is_found(self):
+        """The look itself: an error, a picture that isn't drawn, texts over each other and a name that occurs twice."""
+        broken = '<svg viewBox="0 0 300 300" width="300"><text x="9" y="30">one</text><text x="12" y="32">two</text></svg>'
+        body = f'<h1 id="a">A</h1><p id="a" style="width:2000px;margin-top:-2em">B</p><figure>{broken}</figure><script>throw new Error("x")</script>'
+        page = f"<!DOCTYPE html><html><body>{body}</body></html>"
+        with self.assertRaises(AssertionError):
+            self.look_at(page)
+        for told in self.look_at(page.replace('throw new Error("x")', "")):
+            self.assertEqual((told["twice"], told["pictures"][0]["drawn"], told["wide"]), (["a"], 0, True))
+            self.assertEqual(sorted(told["overlaps"]), ["H1 / P", "one / two"])
+
+    def test_it_needs_nothing_else_and_tells_what_was_played(self):
+        page, line = self.page_of_a_run()
+        self.assertEqual(re.findall(r'(?:src|href)="(?!#|data:,)[^"]*"|url\((?!#)[^)]*\)|@import|<script', page), [])
+        self.assertIn(html.escape(line), page)
+        device = "--luns 2 --blocks 16 --pages 16 --words 1 --sectors 180 --endurance 1000"
+        for start in (f"./flashplay {device} --wear {self.room}/wear &lt; ", f"tools/model {device} --collections {self.room}/log &lt; "):
+            self.assertIn(start, page)
+        self.assertIn("2 LUNs, 16 blocks of 16 pages, 180 sectors (70.3 %) · zipf.csv", page)
+        for section in SECTIONS:
+            told = f'<title id="{section}-title">[^<]+</title><desc id="{section}-text">[^<]+</desc>'
+            self.assertRegex(page, f'<svg[^>]* role="img" aria-labelledby="{section}-title {section}-text">{told}')
+            self.assertIn(f'<a href="#{section}-table">', page)
+            self.assertIn(f'<table id="{section}-table">', page)
+        for media in ("prefers-color-scheme: dark", "@media print"):
+            self.assertIn(media, page)
+
+    def test_a_page_shows_what_is_known(self):
+        page = self.room / "page.html"
+        self.assertEqual(Run("report", TOP / "examples/collection.out", "--page", page).status, 0)
+        self.assertNotIn("<svg", page.read_text())
+        self.assertIn("1.200 (5 pages written, 1 copied)", page.read_text())
