@@ -20,7 +20,7 @@ class NotAPage(MintlintelError):
 
 
 class WornOut(MintlintelError):
-    """One thread: no page is left for a write, and none can be won."""
+    """One thread: no page is left for a write, and none can be reclaimed."""
 
 
 class OutOfMemory(MintlintelError, MemoryError):
