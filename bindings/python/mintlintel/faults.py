@@ -24,7 +24,7 @@ class WornOut(MintlintelError):
 
 
 class OutOfMemory(MintlintelError, MemoryError):
-    """The heap has no room for the device."""
+    """There is no memory for the device."""
 
 
 class NoBlock(MintlintelError):
