@@ -1,22 +1,22 @@
 /* Mintlintel: a flash translation layer, proved up to these calls.
  *
- * Two kinds of device. `struct mintlintel_one` is a device for one thread, which collects by itself inside a write.
+ * There are two kinds of device. `struct mintlintel_one` is a device for one thread, which collects garbage inside a write.
  * `struct mintlintel_seat` is one place at a device that threads share: a host, which reads and writes, or a broom, which
- * drains and erases. docs/LINKING.md has a chapter on each call.
+ * drains and erases. docs/LINKING.md describes each call.
  *
  * What the caller owes, and nothing checks:
- *  - A handle begins as all zero bytes, as `= {0}` makes it. From then on only these calls write it, and nobody copies its
- *    bytes: a copy would be a second handle of the same memory. It may be moved as a whole, if the old place is not used again.
- *  - One call at a time on a handle. A handle may go from one thread to another, in an order that a lock, a join or a
- *    sequentially consistent atomic makes. Handles of one shared device may be used at the same time.
- *  - A pointer is not null, and what it points to is there for the whole call and not changed meanwhile: a handle, a struct or a
- *    number for its type, and a buffer for as many bytes as its length says. A buffer of no bytes needs a pointer that is not null too.
- *    What is passed to one call as two arguments does not overlap.
- *  - malloc, realloc and free are of one allocator, which aligns a block to each power of two up to 16 that divides its size.
- *  - No call is made from a signal handler, nor in the forked child of a process with threads.
+ *  - A handle begins as all zero bytes, as with `= {0}`. After that only these calls write to it, and its bytes are never
+ *    copied: a copy would be a second handle of the same memory. It may be moved as a whole, if the old place is not used again.
+ *  - There is only one call at a time on a handle. A handle may pass from one thread to another if a lock, a join or a
+ *    sequentially consistent atomic orders the two uses. Handles of one shared device may be used at the same time.
+ *  - A pointer is not null, and what it points to exists for the whole call and doesn't change during it: a handle, a struct or a
+ *    number of its type, and a buffer of as many bytes as its length says. A buffer of no bytes also needs a pointer that is not null.
+ *    The memory of two arguments of one call does not overlap.
+ *  - malloc, realloc and free belong to one allocator, which aligns a block to each power of two up to 16 that divides its size.
+ *  - There is no call from a signal handler, or in the forked child of a process with threads.
  * A handle that is not closed keeps its memory.
  *
- * A call that is refused, with any code but 0, 1 and 26, leaves the device as it was, but for what its line says. */
+ * A refused call, with any code except 0, 1 and 26, doesn't change the device, except as the call's comment says. */
 #ifndef MINTLINTEL_H
 #define MINTLINTEL_H
 
@@ -27,7 +27,7 @@
 extern "C" {
 #endif
 
-/* The answer of a call. */
+/* What a call returns. */
 enum mintlintel_code {
     MINTLINTEL_EMPTY = 0,           /* the sector was empty */
     MINTLINTEL_DONE = 0,            /* the call is done */
@@ -35,17 +35,17 @@ enum mintlintel_code {
     MINTLINTEL_CLOSED = 2,          /* the handle is closed */
     MINTLINTEL_NO_SECTOR = 3,       /* the device has no such sector */
     MINTLINTEL_NOT_A_PAGE = 4,      /* the buffer is not as long as a page */
-    MINTLINTEL_WORN_OUT = 5,        /* one thread: no page is left for a write, and none can be won */
-    MINTLINTEL_NO_MEMORY = 6,       /* the heap has no room for the device */
+    MINTLINTEL_WORN_OUT = 5,        /* one thread: no page is left for a write, and none can be reclaimed */
+    MINTLINTEL_NO_MEMORY = 6,       /* there is no memory for the device */
     MINTLINTEL_NO_BLOCK = 7,        /* shared: no block is free for a write; let a broom erase, and try again */
     MINTLINTEL_ALREADY_OPEN = 8,    /* the handle, or one of the handles, is open already */
     MINTLINTEL_WRONG_KIND = 9,      /* the handle is of another kind: see the kinds of a seat below */
     MINTLINTEL_NO_SUCH_BLOCK = 10,  /* the device has no such block, or a page no such word */
     MINTLINTEL_NOTHING_TO_GAIN = 20, /* a drain: no block is closed, or the best one is all live */
     MINTLINTEL_NO_SPARE = 21,       /* a drain: the broom has no block to copy to; erase something */
-    MINTLINTEL_LOST = 22,           /* a drain: the block's state changed meanwhile; try again */
+    MINTLINTEL_LOST = 22,           /* a drain: the block's state changed during the call; try again */
     MINTLINTEL_RETIRED = 23,        /* an erase: done, and it was the block's last */
-    MINTLINTEL_PINNED = 24,         /* an erase: somebody reads the block; try again later */
+    MINTLINTEL_PINNED = 24,         /* an erase: a host reads the block; try again later */
     MINTLINTEL_STALE = 25,          /* an erase: the block isn't drained; forget it */
     MINTLINTEL_KEPT = 26,           /* an erase: done, and the broom keeps the block as its spare */
     MINTLINTEL_BAD_LUNS = 101,      /* luns: 1 to 8 */
@@ -94,7 +94,7 @@ static inline const char *mintlintel_code_name(uint32_t code)
     }
 }
 
-/* The numbers that a device was made by. A device for one thread has no hosts and no brooms. */
+/* The numbers that a device was made with. A device for one thread has no hosts and no brooms. */
 struct mintlintel_numbers { uint32_t luns, blocks, pages, words, sectors, endurance, hosts, brooms; };
 
 /* ---- A device for one thread ---- */
@@ -108,7 +108,7 @@ struct mintlintel_totals { uint64_t programs, copies, erases; };
 /* A block's erase commands, its live pages, and 1 if it is retired. */
 struct mintlintel_block { uint32_t erases, live, retired; };
 
-/* Opens a device of these numbers, every sector empty. 0, 6, 8, or the first fault of the numbers, 101 to 109; 8 comes before the
+/* Opens a device with these numbers and every sector empty. 0, 6, 8, or the first fault of the numbers, 101 to 109; 8 comes before the
  * faults, and 6 after them. */
 uint32_t mintlintel_one_open(struct mintlintel_one *handle, uint32_t luns, uint32_t blocks, uint32_t pages, uint32_t words,
                              uint32_t sectors, uint32_t endurance);
@@ -116,13 +116,13 @@ uint32_t mintlintel_one_open(struct mintlintel_one *handle, uint32_t luns, uint3
 /* Closes the device and frees its memory. A closed handle stays closed. */
 void mintlintel_one_close(struct mintlintel_one *handle);
 
-/* Reads a sector into `out`, of 8 times words bytes: 1 with the page in `out`; 0 for an empty sector, and 2, 3 or 4, with `out` as it was. */
+/* Reads a sector into `out`, of 8 times words bytes: 1 with the page in `out`; 0 for an empty sector, and 2, 3 or 4, with `out` unchanged. */
 uint32_t mintlintel_one_read(struct mintlintel_one *handle, uint32_t sector, uint8_t *out, size_t bytes);
 
 /* Writes a page to a sector: 0 or 1 for what the sector was; 2, 3, 4 or 5. */
 uint32_t mintlintel_one_write(struct mintlintel_one *handle, uint32_t sector, const uint8_t *bytes, size_t count);
 
-/* Writes a page to a sector that is empty: 0 if it wrote, 1 if the sector was written and has stayed so; 2, 3, 4 or 5. */
+/* Writes a page to a sector that is empty: 0 if it wrote, 1 if the sector was written and didn't change; 2, 3, 4 or 5. */
 uint32_t mintlintel_one_write_new(struct mintlintel_one *handle, uint32_t sector, const uint8_t *bytes, size_t count);
 
 /* Empties a sector: 0 or 1 for what it was; 2 or 3. */

@@ -28,7 +28,7 @@ class Block(NamedTuple):
 
 
 class Device:
-    """A device with every sector empty; a page has 8 times `words` bytes. It collects by itself, inside the write that finds no page."""
+    """A device with every sector empty; a page has 8 times `words` bytes. It collects garbage inside the write that finds no page."""
 
     def __init__(self, *, blocks: int, pages: int, words: int, sectors: int, endurance: int, luns: int = 1) -> None:
         self._lock = threading.Lock()
@@ -44,22 +44,22 @@ class Device:
         return bytes(page) if self.read_into(sector, page) else None
 
     def read_into(self, sector: int, buffer: object) -> bool:
-        """Reads a sector into a writable buffer of one page. An empty sector leaves the buffer as it was, and the answer is False."""
+        """Reads a sector into a writable buffer of one page. An empty sector leaves the buffer unchanged; then it returns False."""
         with bytes_of(buffer, writable=True) as (start, length), self._lock:
             return checked(LIBRARY.mintlintel_one_read(self._handle, _number(sector), start, length))
 
     def write(self, sector: int, page: object) -> bool:
-        """Writes a page, any buffer of its bytes. The answer is whether the sector was written."""
+        """Writes a page, any buffer of its bytes. Returns whether the sector was written."""
         with bytes_of(page) as (start, length), self._lock:
             return checked(LIBRARY.mintlintel_one_write(self._handle, _number(sector), start, length))
 
     def write_new(self, sector: int, page: object) -> bool:
-        """Writes a page to a sector if it is empty. The answer is whether the sector was written before, and has stayed so."""
+        """Writes a page to a sector if it is empty. Returns whether the sector was written before and so is unchanged."""
         with bytes_of(page) as (start, length), self._lock:
             return checked(LIBRARY.mintlintel_one_write_new(self._handle, _number(sector), start, length))
 
     def trim(self, sector: int) -> bool:
-        """Empties a sector. The answer is whether it was written."""
+        """Empties a sector. Returns whether it was written."""
         with self._lock:
             return checked(LIBRARY.mintlintel_one_trim(self._handle, _number(sector)))
 
@@ -71,7 +71,7 @@ class Device:
         return Counts(totals.programs, totals.copies, totals.erases)
 
     def block(self, block: int) -> Block:
-        """What a block has had so far."""
+        """The counts of a block so far."""
         report = _library.Block()
         with self._lock:
             checked(LIBRARY.mintlintel_one_block(self._handle, _number(block), report))

@@ -20,11 +20,11 @@ class NotAPage(MintlintelError):
 
 
 class WornOut(MintlintelError):
-    """One thread: no page is left for a write, and none can be won."""
+    """One thread: no page is left for a write, and none can be reclaimed."""
 
 
 class OutOfMemory(MintlintelError, MemoryError):
-    """The heap has no room for the device."""
+    """There is no memory for the device."""
 
 
 class NoBlock(MintlintelError):

@@ -14,7 +14,7 @@ from .faults import BadNumbers, checked
 
 
 class Page(NamedTuple):
-    """Where a held page stands: its block, in this generation of the block."""
+    """Where a held page is: its block, in this generation of the block."""
 
     block: int
     generation: int
@@ -52,7 +52,7 @@ class _Seat:
         self.page_bytes = page_bytes
 
     def close(self) -> None:
-        """Gives the seat up. The device goes with its last one."""
+        """Gives the seat up. The last one frees the device."""
         with self._lock:
             LIBRARY.mintlintel_seat_close(self._handle)
 
@@ -75,27 +75,27 @@ class Host(_Seat):
         return bytes(page) if self.read_into(sector, page) else None
 
     def read_into(self, sector: int, buffer: object) -> bool:
-        """Reads a sector into a writable buffer of one page. An empty sector leaves the buffer as it was, and the answer is False."""
+        """Reads a sector into a writable buffer of one page. An empty sector leaves the buffer unchanged; then it returns False."""
         with bytes_of(buffer, writable=True) as (start, length), self._lock:
             return checked(LIBRARY.mintlintel_host_read(self._handle, _number(sector), start, length))
 
     def write(self, sector: int, page: object) -> bool:
-        """Writes a page, any buffer of its bytes. The answer is whether the sector was written."""
+        """Writes a page, any buffer of its bytes. Returns whether the sector was written."""
         with bytes_of(page) as (start, length), self._lock:
             return checked(LIBRARY.mintlintel_host_write(self._handle, _number(sector), start, length))
 
     def write_new(self, sector: int, page: object) -> bool:
-        """Writes a page to a sector if it is empty. The answer is whether the sector was written before, and has stayed so."""
+        """Writes a page to a sector if it is empty. Returns whether the sector was written before and so is unchanged."""
         with bytes_of(page) as (start, length), self._lock:
             return checked(LIBRARY.mintlintel_host_write_new(self._handle, _number(sector), start, length))
 
     def trim(self, sector: int) -> bool:
-        """Empties a sector. The answer is whether it was written."""
+        """Empties a sector. Returns whether it was written."""
         with self._lock:
             return checked(LIBRARY.mintlintel_host_trim(self._handle, _number(sector)))
 
     def hold(self, sector: int) -> Optional[Held]:
-        """Holds the page that has the sector's value, up to its release, or None for an empty sector. Meanwhile the host makes no other call."""
+        """Holds the page that has the sector's value, up to its release, or None for an empty sector. Until then the host makes no other call."""
         with self._lock:
             return Held(self) if checked(LIBRARY.mintlintel_host_hold(self._handle, _number(sector))) else None
 
@@ -125,7 +125,7 @@ class Held:
         return word.value
 
     def page(self) -> Page:
-        """Where the page stands."""
+        """Where the page is."""
         page = _library.Page()
         with self._host._lock:
             checked(LIBRARY.mintlintel_host_held(self._host._handle, page))
@@ -166,7 +166,7 @@ class Broom(_Seat):
 
 
 class SharedDevice:
-    """A device with every sector empty, its hosts and its brooms. It goes with the last of them."""
+    """A device with every sector empty, its hosts and its brooms. The last of them frees it."""
 
     def __init__(self, *, hosts: int, brooms: int, blocks: int, pages: int, words: int, sectors: int, endurance: int, luns: int = 1) -> None:
         if hosts > 500 or brooms > 32:

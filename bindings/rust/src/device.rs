@@ -18,7 +18,7 @@ pub struct Block {
     pub retired: bool,
 }
 
-/// A device for one thread. It collects by itself, inside the write that finds no page. It may go to another thread, and is closed
+/// A device for one thread. It collects garbage inside the write that finds no page. It may go to another thread, and is closed
 /// when it is dropped.
 ///
 /// ```
@@ -57,22 +57,22 @@ impl Device {
         Ok(Device { handle })
     }
 
-    /// Reads a sector into a buffer of one page. An empty sector, and a fault, leave the buffer as it was.
+    /// Reads a sector into a buffer of one page. An empty sector, and a fault, leave the buffer unchanged.
     pub fn read(&mut self, sector: u32, out: &mut [u8]) -> Result<Was, Fault> {
         Was::of(unsafe { raw::mintlintel_one_read(&mut self.handle, sector, out.as_mut_ptr(), out.len()) })
     }
 
-    /// Writes a page to a sector. The answer is what the sector was.
+    /// Writes a page to a sector. Returns what the sector was.
     pub fn write(&mut self, sector: u32, page: &[u8]) -> Result<Was, Fault> {
         Was::of(unsafe { raw::mintlintel_one_write(&mut self.handle, sector, page.as_ptr(), page.len()) })
     }
 
-    /// Writes a page to a sector if it is empty. `Written` says that it was not, and has stayed as it was.
+    /// Writes a page to a sector if it is empty. `Written` says that it was not empty and is unchanged.
     pub fn write_new(&mut self, sector: u32, page: &[u8]) -> Result<Was, Fault> {
         Was::of(unsafe { raw::mintlintel_one_write_new(&mut self.handle, sector, page.as_ptr(), page.len()) })
     }
 
-    /// Empties a sector. The answer is what it was.
+    /// Empties a sector. Returns what it was.
     pub fn trim(&mut self, sector: u32) -> Result<Was, Fault> {
         Was::of(unsafe { raw::mintlintel_one_trim(&mut self.handle, sector) })
     }
@@ -85,7 +85,7 @@ impl Device {
         Ok(Counts { programs, copies, erases })
     }
 
-    /// What a block has had so far.
+    /// The counts of a block so far.
     pub fn block(&mut self, block: u32) -> Result<Block, Fault> {
         let mut report = raw::Block::default();
         Fault::check(unsafe { raw::mintlintel_one_block(&mut self.handle, block, &mut report) })?;
@@ -96,7 +96,7 @@ impl Device {
         })
     }
 
-    /// The numbers that the device was made by.
+    /// The numbers that the device was made with.
     pub fn geometry(&mut self) -> Result<Geometry, Fault> {
         let mut numbers = Numbers::default();
         Fault::check(unsafe { raw::mintlintel_one_numbers(&mut self.handle, &mut numbers) })?;

@@ -67,7 +67,7 @@ pub enum Fault {
     NoSector,
     /// The buffer is not as long as a page.
     NotAPage,
-    /// One thread: no page is left for a write, and none can be won.
+    /// One thread: no page is left for a write, and none can be reclaimed.
     WornOut,
     /// Shared: every block was found taken. Let a broom erase, and try again.
     NoBlock,

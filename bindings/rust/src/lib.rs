@@ -24,7 +24,7 @@ pub use shared::{Broom, Drain, Erase, Held, Host, PagePlace, SharedDevice};
 
 use raw::Numbers;
 
-/// The numbers of a device. A page has eight bytes a word.
+/// The numbers of a device. A page has eight bytes for each word.
 #[derive(Clone, Copy, Debug, PartialEq, Eq)]
 pub struct Geometry {
     pub luns: u32,

@@ -30,7 +30,7 @@ impl Drop for Seat {
     }
 }
 
-/// The hosts and the brooms of a new device. The device goes with the last of them.
+/// The hosts and the brooms of a new device. The last of them frees the device.
 ///
 /// ```
 /// # use mintlintel::{Geometry, SharedDevice, Was};
@@ -85,12 +85,12 @@ pub struct Host {
 }
 
 impl Host {
-    /// Reads a sector into a buffer of one page. An empty sector, and a fault, leave the buffer as it was.
+    /// Reads a sector into a buffer of one page. An empty sector, and a fault, leave the buffer unchanged.
     pub fn read(&mut self, sector: u32, out: &mut [u8]) -> Result<Was, Fault> {
         Was::of(unsafe { raw::mintlintel_host_read(&mut self.seat.handle, sector, out.as_mut_ptr(), out.len()) })
     }
 
-    /// Writes a page to a sector. The answer is what the sector was.
+    /// Writes a page to a sector. Returns what the sector was.
     pub fn write(&mut self, sector: u32, page: &[u8]) -> Result<Was, Fault> {
         Was::of(unsafe { raw::mintlintel_host_write(&mut self.seat.handle, sector, page.as_ptr(), page.len()) })
     }
@@ -100,7 +100,7 @@ impl Host {
         Was::of(unsafe { raw::mintlintel_host_write_new(&mut self.seat.handle, sector, page.as_ptr(), page.len()) })
     }
 
-    /// Empties a sector. The answer is what it was.
+    /// Empties a sector. Returns what it was.
     pub fn trim(&mut self, sector: u32) -> Result<Was, Fault> {
         Was::of(unsafe { raw::mintlintel_host_trim(&mut self.seat.handle, sector) })
     }
