@@ -71,6 +71,8 @@ module _ (v v' w : View) (n : ℕ) (pass : is_pass v.role ≡ true) (pass' : is_
         apart = apart;
         programs = disjoint_sym u w last.programs;
         once = (met.programmed_once.0, last.programmed_once.0);
+        heard = copied;
+        told = again_copied;
         before = (
           (λ c had of. let grown = met.newer c (ap (λ (x : View). x.older) looked.changed ∙ had) (sym (ap name_of of)) in (grown.programs, grown.erases)),
           λ c had of.

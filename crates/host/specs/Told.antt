@@ -9,6 +9,7 @@ use Rattle.geometry.specs.declared.pin_word.Phase.TheVariants.{Open, Closed}
 use Rattle.flash_rule.specs.declared.facts.Owned.{Owned}
 use Rattle.flash_rule.specs.declared.facts.Pin.TheVariants.{Clear, Candidate}
 use Rattle.flash_rule.specs.declared.view.View.{View}
+use Rattle.flash_rule.specs.Seats.{carried}
 use Rattle.flash_rule.specs.Views.{sum_of}
 use Rattle.flash_rule.specs.Plays.{Disjoint, Once, GoesOnFrom, next_page}
 use Rattle.host.specs.declared.writing_new.NewFault.{NewFault}
@@ -76,7 +77,7 @@ was_found (Err fault.Written) = Some was.Written
 was_found (Err fault.NoBlock) = None
 
 -- Two passes that met: each has seen what both had seen, and the second one what the first has; they have programmed no page both,
--- and none of them one page twice. What either had heard of the other before begins what that one has programmed and erased
+-- and none of them one page twice. Each has heard what the other one has done, and what it had heard of the other before begins that
 pub record MetTold (v v' x x' : View) : Type 0 where
   pub first : x ≡ record v { seen = x.seen; looks = v.looks + 1; pin = x.pin; known = x.known; copy = x.copy; older = v.copy }
   pub second : x' ≡ record v' { seen = x'.seen; looks = v'.looks + 1; pin = x'.pin; known = x'.known; copy = x'.copy; older = v'.copy }
@@ -86,4 +87,6 @@ pub record MetTold (v v' x x' : View) : Type 0 where
   pub apart : ¬ (v.role ≡ v'.role)
   pub programs : Disjoint x.programs x'.programs
   pub once : Once x.programs × Once x'.programs
+  pub heard : x.copy ≡ Some (carried v')
+  pub told : x'.copy ≡ Some (carried x)
   pub before : GoesOnFrom v v' × GoesOnFrom v' v
