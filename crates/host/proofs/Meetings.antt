@@ -2,6 +2,7 @@
 use Rattle.std.proofs.Common.{◌≡◌, ℕ, ◌+◌, ◌++◌, true, false, List, [], Option, Some, None, is_some, sym, refl, ap, ◌∙◌, subst}
 use Rattle.std.proofs.lemmas.List.{append-nil}
 use Rattle.geometry.specs.History.{Begins}
+use Rattle.geometry.specs.declared.map_word.MapWord.{MapWord}
 use Rattle.flash_rule.specs.declared.facts.Name.{Name}
 use Rattle.flash_rule.specs.declared.facts.Role.{Role}
 use Rattle.flash_rule.specs.declared.facts.Role.TheVariants.{Player}
@@ -10,7 +11,7 @@ use Rattle.flash_rule.specs.declared.carried.Carried.{Carried}
 use Rattle.flash_rule.specs.declared.view.View.{View}
 use Rattle.flash_rule.specs.Views.{is_pass}
 use Rattle.flash_rule.specs.Seats.{name_of, carried, lender, lent_note, host_of, giver, given_note, home}
-use Rattle.flash_rule.specs.Plays.{Met, Looked, Disjoint}
+use Rattle.flash_rule.specs.Plays.{Met, Looked, Disjoint, Spared}
 use Rattle.flash_rule.proofs.Still.{pass_of}
 use Rattle.flash_table.specs.declared.flash.Flash.{Flash}
 use Rattle.flash_table.specs.declared.pass.Pass.{Pass}
@@ -18,7 +19,7 @@ use Rattle.flash_table.specs.declared.pass.OpenBlock.{OpenBlock}
 use Rattle.flash_table.specs.Owning.{owned_list, closed_list}
 use Rattle.flash_table.specs.Flash.{view_of, opened_of}
 use Rattle.host.specs.Ready.{IsRested}
-use Rattle.host.specs.Told.{MetTold}
+use Rattle.host.specs.Told.{MetHolding, MetTold}
 
 -- a pass's role is that of its name
 pub named : (r : Role) → is_pass r ≡ true → r ≡ Player (name_of r)
@@ -79,6 +80,42 @@ module _ (v v' w : View) (n : ℕ) (pass : is_pass v.role ≡ true) (pass' : is_
               let grown = last.newer c (ap (λ (x : View). x.older) again.changed ∙ had) (sym (ap name_of (role ∙ of))) in
               let stays = looked.changed in
               (subst (Begins c.programs) (ap (λ (x : View). x.programs) stays) grown.programs, subst (Begins c.erases) (ap (λ (x : View). x.erases) stays) grown.erases),
+        );
+      }
+
+-- a pass that holds a page, v, has read a word of it with the note of another pass, x
+module _ (v x : View) (page : MapWord) (pass : is_pass v.role ≡ true) (pass' : is_pass x.role ≡ true) (spared : Spared (host_of v (lent_note x)) page (carried x)) where
+  pub holds_guest : (name : Name) × ((host_of v (lent_note x)).guest ≡ Some name) × (¬ ((host_of v (lent_note x)).role ≡ Player name))
+  holds_guest = (name_of x.role, refl, spared.other)
+
+  pub holds_given : (note : View) → note ≡ given_note (host_of v (lent_note x))
+      → (name : Name) × (c : Carried) × ((lender x).role ≡ Player name) × (note.guest ≡ Some name) × (note.copy ≡ Some c) × (¬ ((lender x).role ≡ Player c.of))
+  holds_given note is = (
+    name_of x.role,
+    carried v,
+    named x.role pass',
+    ap (λ (y : View). y.guest) is,
+    ap (λ (y : View). y.copy) is,
+    λ same. spared.other (named v.role pass ∙ (sym same ∙ named x.role pass')),
+  )
+
+  -- and the other one has looked with what came back
+  pub met_holding : (y : View) (n : ℕ) → v.guest ≡ None → x.whole ≡ true → Looked (home (lender x) (given_note (host_of v (lent_note x)))) 0 n y
+      → MetHolding v x page (giver (host_of v (lent_note x))) y
+  met_holding y n alone whole looked =
+      let met : Met y (carried v) = looked.met (carried v) refl in
+      record {
+        holder = λ i. record v { copy = Some (carried x); older = v.copy; guest = sym alone i };
+        other = looked.changed ∙ (λ i. record x { seen = y.seen; looks = x.looks + 1; pin = y.pin; known = y.known; copy = Some (carried v); older = x.copy; whole = sym whole i });
+        later = looked.later;
+        brought = met.seen;
+        apart = λ same. spared.other (same ∙ named x.role pass');
+        spared = spared.erases;
+        programs = spared.programs;
+        once = spared.programmed_once;
+        before = (
+          (λ c had of. let grown = spared.newer c had (sym (ap name_of of)) in (grown.programs, grown.erases)),
+          λ c had of. let grown = met.newer c (ap (λ (z : View). z.older) looked.changed ∙ had) (sym (ap name_of of)) in (grown.programs, grown.erases),
         );
       }
 

@@ -1,11 +1,12 @@
 -- What the calls of a host tell of what its pass knows, before and after.
-use Rattle.std.specs.Prelude.{◌≡◌, ℕ, ◌+◌, ◌*◌, ◌<◌, ◌≤◌, List, [], ◌∷◌, ◌++◌, Option, None, Some, Result, Ok, Err, Bool, MatchBool}
+use Rattle.std.specs.Prelude.{◌≡◌, ℕ, ◌+◌, ◌*◌, ◌<◌, ◌≤◌, List, [], ◌∷◌, ◌++◌, Option, None, Some, Result, Ok, Err, Bool, MatchBool, slice_get}
 use Rattle.std.specs.List.{range_with_len}
 use Rattle.geometry.specs.History.{Call, Write, WriteNew, was as was_at, Begins}
 use Rattle.geometry.specs.declared.answer.Was.{Was}
 use Rattle.geometry.specs.declared.answer.Was.TheVariants as was
 use Rattle.geometry.specs.declared.map_word.MapWord.{MapWord}
 use Rattle.geometry.specs.declared.pin_word.Phase.TheVariants.{Open, Closed}
+use Rattle.flash_rule.specs.declared.facts.Cycle.{Cycle}
 use Rattle.flash_rule.specs.declared.facts.Owned.{Owned}
 use Rattle.flash_rule.specs.declared.facts.Pin.TheVariants.{Clear, Candidate}
 use Rattle.flash_rule.specs.declared.view.View.{View}
@@ -90,3 +91,17 @@ pub record MetTold (v v' x x' : View) : Type 0 where
   pub heard : x.copy ≡ Some (carried v')
   pub told : x'.copy ≡ Some (carried x)
   pub before : GoesOnFrom v v' × GoesOnFrom v' v
+
+-- A pass that holds a page, and another one, met: the other one has looked once, and has seen all that the holder had. It has erased the page's
+-- block in earlier generations only, they have programmed no page both, and none of them one page twice. Each has heard what the other one
+-- has done, and what it had heard of the other before begins that; the holder has changed in nothing else
+pub record MetHolding (v x : View) (page : MapWord) (w y : View) : Type 0 where
+  pub holder : w ≡ record v { copy = Some (carried x); older = v.copy }
+  pub other : y ≡ record x { seen = y.seen; looks = x.looks + 1; pin = y.pin; known = y.known; copy = Some (carried v); older = x.copy }
+  pub later : Begins x.seen y.seen
+  pub brought : Begins v.seen y.seen
+  pub apart : ¬ (v.role ≡ x.role)
+  pub spared : (k : ℕ) (c : Cycle) → slice_get x.erases k ≡ Some c → c.block ≡ page.block → c.generation < page.generation
+  pub programs : Disjoint v.programs x.programs
+  pub once : Once v.programs × Once x.programs
+  pub before : GoesOnFrom v x × GoesOnFrom x v

@@ -9,7 +9,7 @@ mod writing;
 mod writing_new;
 
 pub use holding::{Held, Holding, copy_into, hold, release, word};
-pub use meeting::{meet, retire};
+pub use meeting::{meet, meet_holding, retire};
 pub use reading::{ReadDone, look, read, read_gated};
 pub use writing::{NoBlock, trim, write, write_gated};
 pub use writing_new::{NewFault, write_new, write_new_gated};

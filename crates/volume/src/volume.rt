@@ -46,7 +46,7 @@ impl Volume {
     ghost use Rattle.broom.specs.Handing.{DrainNextOneTold, DrainOneTold, EraseOneTold, HandsNothing, IsBelow, LeftAt, aside_of, place_of};
     ghost use Rattle.broom.specs.Ready.{view_of_broom, blocks_of_broom};
     ghost use Rattle.host.specs.Ready.{IsReady};
-    ghost use Rattle.host.specs.Told.{Searched, Wrote, WroteNew, Refused, MetTold, was_found};
+    ghost use Rattle.host.specs.Told.{Searched, Wrote, WroteNew, Refused, MetHolding, MetTold, was_found};
     ghost use Rattle.host.specs.declared.writing_new.NewFault.TheVariants as fault;
     ghost use Rattle.host.specs.Holding.{Holds, Found, pass_of, page_of};
     ghost use Rattle.volume.specs.Correct.{Does, Read, Look, Write, WriteNew, Trim, Found as Got, IsWritten, Replaced};
@@ -323,6 +323,20 @@ impl Volume {
         let (mut pass, page, generation) = held.parts();
         broom::stand(&self.flash, &mut pass, page, generation, broom);
         Held::from_parts(pass, page, generation)
+    }
+
+    /// Ties what the pass of a hold, and another pass, have done and seen. It changes no answer, and the hold's pass sees no more of the
+    /// history than before.
+    pub fn meet_holding(&self, held: Held, other: &mut Pass) -> Held
+        requires held { (value : List ℕ) × Holds (flash_of self.now) held value }
+        requires other { IsReady (flash_of self.now) other.old }
+        ensures undisturbed { IsUndisturbed (flash_of self.now) held (Some (carried (view_of other.old))) result }
+        ensures told { MetHolding (view_of (pass_of held)) (view_of other.old) (page_of held) (view_of (pass_of result)) (view_of other.new) }
+        ensures opened { opened_of (pass_of result) ≡ opened_of (pass_of held) }
+        ensures other { IsReady (flash_of self.now) other.new }
+        ensures other_opened { opened_of other.new ≡ opened_of other.old }
+    {
+        host::meet_holding(&self.flash, held, other)
     }
 
     /// Gives a pass up. The block that it has open, full or not, is closed.
