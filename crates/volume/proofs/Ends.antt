@@ -1,6 +1,5 @@
 -- What the meetings of one pass with all others, before and after it reads, tell of the sectors that it has read.
 use Rattle.std.proofs.Common.{◌≡◌, ℕ, zero, suc, ◌<◌, All, List, [], ◌∷◌, ◌++◌, Option, None, Some, length, slice_get, get_or, sym, refl, ap, ◌∙◌, subst, arith}
-use Rattle.std.proofs.lemmas.List.Elements.{All-cons, All-head, All-tail, All-nil}
 use Rattle.std.proofs.lemmas.Option.{slice_get_within, get_or_from_slice_get}
 use Rattle.geometry.specs.Geometry.{sectors_of, hosts_of}
 use Rattle.geometry.specs.History.{Call, after, held, Begins}
@@ -10,7 +9,7 @@ use Rattle.geometry.proofs.Histories.{Begins-trans}
 use Rattle.flash_rule.specs.declared.facts.Name.TheVariants.{Pass as APass}
 use Rattle.flash_rule.specs.declared.facts.Role.TheVariants.{Player}
 use Rattle.flash_rule.specs.declared.view.View.{View}
-use Rattle.flash_rule.specs.Views.{AreOfHosts, caller, calls_of}
+use Rattle.flash_rule.specs.Views.{AreOfHosts, calls_of}
 use Rattle.flash_rule.proofs.Histories.{callers_before, squeezed}
 use Rattle.flash_rule.proofs.Owning.{some_same}
 use Rattle.flash_table.specs.declared.flash.Flash.{Flash}

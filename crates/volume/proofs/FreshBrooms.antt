@@ -1,11 +1,10 @@
 -- The brooms of a new device are ready.
-use Rattle.std.proofs.Common.{◌≡◌, ℕ, ◌+◌, ◌<◌, All, List, [], ◌∷◌, ◌++◌, Option, None, Some, IfSome, length, map, slice_get, get_or, sym, refl, ap, ◌∙◌, subst, arith, append_assoc}
+use Rattle.std.proofs.Common.{◌≡◌, ℕ, ◌<◌, All, List, [], ◌∷◌, ◌++◌, Option, None, Some, IfSome, length, map, slice_get, get_or, sym, refl, ap, ◌∙◌, subst, arith, append_assoc}
 use Rattle.std.specs.Option.{option_map}
 use Rattle.std.proofs.lemmas.List.{map_push, length-map, length_push}
 use Rattle.std.proofs.lemmas.Option.{slice_get-get_or, slice_get-map}
 use Rattle.std.proofs.lemmas.List.Elements.{All-nil, All-same, All-push, All-pop, All-head, All-rest}
-use Rattle.geometry.specs.Geometry.{numbers_of, brooms_of, hosts_of}
-use Rattle.geometry.specs.Limits.{Numbers}
+use Rattle.geometry.specs.Geometry.{brooms_of, hosts_of}
 use Rattle.flash_rule.specs.declared.view.View.{View}
 use Rattle.flash_rule.specs.Views.{caller}
 use Rattle.flash_rule.proofs.Owning.{some_same, none_some}
@@ -15,8 +14,7 @@ use Rattle.erase_queue.specs.Queue.{limit_of, IsNewPass}
 use Rattle.flash_table.specs.declared.flash.Flash.{Flash}
 use Rattle.flash_table.specs.declared.broom_seat.BroomBlocks.{BroomBlocks}
 use Rattle.flash_table.specs.declared.broom_seat.BroomSeat.{BroomSeat}
-use Rattle.flash_table.specs.declared.pass.OpenBlock.{OpenBlock}
-use Rattle.flash_table.specs.Flash.{IsBroomOf, broom_view, own_blocks, geometry_of, device, first_broom, first_blocks, spare_of}
+use Rattle.flash_table.specs.Flash.{IsBroomOf, broom_view, own_blocks, geometry_of, device, first_broom, first_blocks}
 use Rattle.broom.specs.declared.broom.Broom.{Broom}
 use Rattle.broom.specs.Handing.{IsQueued, place_of, aside_of}
 use Rattle.broom.specs.Ready.{HasNoMarks, IsRested, IsReady, HasRoom, view_of_broom, blocks_of_broom}

@@ -6,3 +6,4 @@ pub mod Looks
 pub mod Sweeps
 pub mod Ends
 pub mod Queued
+pub mod ArrayLeft

@@ -1,5 +1,6 @@
 -- What public contracts rest on.
 pub mod Correct
+pub mod LeavesArray
 pub mod Undisturbed
 pub mod Volume
 pub mod Brooms

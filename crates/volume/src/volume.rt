@@ -24,6 +24,7 @@ pub struct Volume {
 }
 
 impl Volume {
+    ghost use Rattle.volume.specs.LeavesArray.{LeavesArray};
     ghost use Rattle.std.specs.Prelude.{ℕ, ◌<◌, All, List, None, Some, Err, IfOk, IfSome, OnErr, is_some, length, slice_get};
     ghost use Rattle.geometry.specs.Geometry.{brooms_of, hosts_of, sectors_of, words_of, page_bytes_of};
     ghost use Rattle.geometry.specs.History as call;
@@ -297,6 +298,8 @@ impl Volume {
         ensures told { BroomsMet (view_of_broom first.old) (view_of_broom second.old) (view_of_broom first.new) (view_of_broom second.new) }
         ensures first { IsBroomReady self.now first.new }
         ensures second { IsBroomReady self.now second.new }
+        ensures first_array { LeavesArray (view_of_broom first.old) (view_of_broom first.new) }
+        ensures second_array { LeavesArray (view_of_broom second.old) (view_of_broom second.new) }
         ensures first_blocks { blocks_of_broom first.new ≡ blocks_of_broom first.old }
         ensures second_blocks { blocks_of_broom second.new ≡ blocks_of_broom second.old }
         ensures first_queue { HandsNothing first.old first.new }
@@ -355,6 +358,7 @@ impl Volume {
         ensures told { DrainTold broom.old result broom.new }
         ensures left { SurveyLeft broom.old result broom.new }
         ensures ready { IsBroomReady self.now broom.new }
+        ensures array { LeavesArray (view_of_broom broom.old) (view_of_broom broom.new) }
         ensures queue { HandsNothing broom.old broom.new }
         ensures block { IsBelow (blocks_of (geometry_of (flash_of self.now))) result }
     {
@@ -368,6 +372,7 @@ impl Volume {
         requires { IsBroomReady self.now broom.old }
         ensures told { NextTold broom.old result broom.new }
         ensures ready { IsBroomReady self.now broom.new }
+        ensures array { LeavesArray (view_of_broom broom.old) (view_of_broom broom.new) }
         ensures queue { HandsNothing broom.old broom.new }
         ensures block { IsBelow (blocks_of (geometry_of (flash_of self.now))) result }
     {
@@ -382,6 +387,7 @@ impl Volume {
         ensures told { EraseTold broom.old block result broom.new }
         ensures marks { Unmarks broom.old block broom.new }
         ensures ready { IsBroomReady self.now broom.new }
+        ensures array { LeavesArray (view_of_broom broom.old) (view_of_broom broom.new) }
         ensures queue { HandsNothing broom.old broom.new }
     {
         broom::erase(&self.flash, broom, block, gate)
@@ -393,6 +399,7 @@ impl Volume {
         requires { IsBroomReady self.now broom.old }
         ensures told { RestockTold broom.old result broom.new }
         ensures ready { IsBroomReady self.now broom.new }
+        ensures array { LeavesArray (view_of_broom broom.old) (view_of_broom broom.new) }
         ensures queue { HandsNothing broom.old broom.new }
         ensures survey { KeepsSurvey broom.old broom.new }
     {
@@ -405,6 +412,7 @@ impl Volume {
         requires { IsBroomReady self.now broom.old }
         ensures told { DrainOneTold (limit_of (queue_of self.now)) broom.old result broom.new }
         ensures ready { IsBroomReady self.now broom.new }
+        ensures array { LeavesArray (view_of_broom broom.old) (view_of_broom broom.new) }
     {
         broom::drain_one(&self.flash, &self.queue, rt, broom, gate)
     }
@@ -414,6 +422,7 @@ impl Volume {
         requires { IsBroomReady self.now broom.old }
         ensures told { DrainNextOneTold (limit_of (queue_of self.now)) broom.old result broom.new }
         ensures ready { IsBroomReady self.now broom.new }
+        ensures array { LeavesArray (view_of_broom broom.old) (view_of_broom broom.new) }
     {
         broom::drain_next_one(&self.flash, &self.queue, rt, broom, gate)
     }
@@ -423,6 +432,7 @@ impl Volume {
         requires { IsBroomReady self.now broom.old }
         ensures told { EraseOneTold (limit_of (queue_of self.now)) broom.old result broom.new }
         ensures ready { IsBroomReady self.now broom.new }
+        ensures array { LeavesArray (view_of_broom broom.old) (view_of_broom broom.new) }
     {
         broom::erase_one(&self.flash, &self.queue, rt, broom, gate)
     }
@@ -432,6 +442,7 @@ impl Volume {
     pub fn fold(&self, rt: &impl Wait, broom: Broom) -> Folded
         requires { IsBroomReady self.now broom }
         ensures view { folded_view result ≡ closed_broom (view_of_broom broom) (blocks_of_broom broom) }
+        ensures array { LeavesArray (view_of_broom broom) (folded_view result) }
         ensures place { LeftAt (limit_of (queue_of self.now)) broom (folded_place result) }
     {
         broom::fold(&self.flash, &self.queue, rt, broom)

@@ -1,4 +1,4 @@
-use Rattle.std.proofs.Common.{ℕ, ◌<◌, All, sym, ap, ◌∙◌, subst}
+use Rattle.std.proofs.Common.{◌<◌, All, sym, ap, ◌∙◌, subst}
 use Rattle.geometry.specs.Geometry.{hosts_of, brooms_of}
 use Rattle.geometry.specs.declared.geometry.Geometry.{Geometry}
 use Rattle.host.specs.Ready.{IsReady}
