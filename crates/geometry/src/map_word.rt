@@ -1,5 +1,5 @@
 //! The word of a sector in the shared table: which page holds the sector's data.
-ghost use Rattle.std.specs.Prelude.{◌≡◌, ◌<◌, IfSome, IfNone};
+ghost use Rattle.std.specs.Prelude.{◌≡◌, ◌<◌, IfSome, IfNone, Some};
 ghost use Rattle.geometry.specs.Geometry.{numbers_of};
 ghost use Rattle.geometry.specs.MapWords.{FitsMap, IsPageOf, map_word};
 ghost use Rattle.geometry.specs.declared.map_word.MapWord.{MapWord};
@@ -46,6 +46,7 @@ impl MapWord {
     pub fn unpack(word: u64) -> Option<MapWord>
         ensures some { IfSome result (λ page. FitsMap page × (map_word page ≡ word)) }
         ensures none { IfNone result (word < MAPPED) }
+        ensures undoes { (m : MapWord) → FitsMap m → map_word m ≡ word → result ≡ Some m }
     {
         if word < MAPPED {
             return None;

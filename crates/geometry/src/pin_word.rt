@@ -1,5 +1,5 @@
 //! The word of a block in the shared table: who reads it, and in which state it is.
-ghost use Rattle.std.specs.Prelude.{◌≡◌, ◌≢◌, ◌<◌, IfSome, IfNone};
+ghost use Rattle.std.specs.Prelude.{◌≡◌, ◌≢◌, ◌<◌, IfSome, IfNone, Some};
 ghost use Rattle.geometry.specs.declared.pin_word.PinWord.{PinWord};
 ghost use Rattle.geometry.specs.Geometry.{numbers_of};
 ghost use Rattle.geometry.specs.PinWords.{FitsPin, IsStateOf, phase_bits, pin_word, freed_added, kept_added};
@@ -122,6 +122,7 @@ impl PinWord {
     pub fn unpack(word: u64) -> Option<PinWord>
         ensures some { IfSome result (λ pin. FitsPin pin × (pin_word pin ≡ word)) }
         ensures none { IfNone result ((pin : _) → FitsPin pin → pin_word pin ≢ word) }
+        ensures undoes { (pin : _) → FitsPin pin → pin_word pin ≡ word → result ≡ Some pin }
     {
         let phase = Phase::of_bits(word % PAGE_WRITTEN - word % READERS)?;
         let written = (word % GENERATION / PAGE_WRITTEN) as u32;
