@@ -5,8 +5,8 @@
 //   REFUSE_THREAD=K      the K-th start of a thread
 //   MOST=N               a read gives, and a write takes, N bytes at most; with SEED=S from 1 to N at random
 //   AFTER_WRITE=W        allocations are counted from the W-th write to standard output, and only until the next one
-//   REPORT=FILE          gets the numbers of allocations, of reads and writes, of writes to files, of threads, and of writes to
-//                        standard error at the end
+//   REPORT=FILE          gets the numbers of allocations, of reads and writes, of writes to files, of threads, of writes to standard
+//                        error, and of yields at the end
 #define _GNU_SOURCE
 #include <dlfcn.h>
 #include <errno.h>
@@ -20,7 +20,7 @@
 extern void *__libc_malloc(size_t size);
 extern void *__libc_realloc(void *old, size_t size);
 
-static long allocations, reads, writes, file_writes, threads, tellings;
+static long allocations, reads, writes, file_writes, threads, tellings, yields;
 
 static long number(const char *name) {
     const char *text = getenv(name);
@@ -73,6 +73,11 @@ int pthread_create(pthread_t *thread, const pthread_attr_t *how, void *(*start)(
     return real(thread, how, start, argument);
 }
 
+int sched_yield(void) {
+    __atomic_fetch_add(&yields, 1, __ATOMIC_SEQ_CST);
+    return syscall(SYS_sched_yield);
+}
+
 ssize_t read(int file, void *bytes, size_t length) {
     if (file == 0) {
         if (is_refused(&reads, "REFUSE_READ"))
@@ -107,8 +112,8 @@ __attribute__((destructor)) static void report(void) {
     int file = path ? open(path, O_WRONLY | O_CREAT | O_TRUNC, 0644) : -1;
     if (file < 0)
         return;
-    char text[128];
-    int length = snprintf(text, sizeof text, "%ld %ld %ld %ld %ld %ld\n", allocations, reads, writes, file_writes, threads, tellings);
+    char text[160];
+    int length = snprintf(text, sizeof text, "%ld %ld %ld %ld %ld %ld %ld\n", allocations, reads, writes, file_writes, threads, tellings, yields);
     syscall(SYS_write, file, text, length);
     close(file);
 }

@@ -7,4 +7,5 @@ pub mod Told
 pub mod Texts
 pub mod Merging
 pub mod Runs
+pub mod Chains
 pub mod Planning

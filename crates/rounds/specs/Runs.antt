@@ -7,7 +7,8 @@ use Rattle.lines.specs.Lines.{Said}
 use Rattle.rounds.specs.Meetings.{AreTied, HavePlayed, WereSwept}
 use Rattle.rounds.specs.Told.{worker_of, sector_of, calls_in, is_right, AreAnswered}
 use Rattle.rounds.specs.Texts.{lines_text, IsTextOfSome}
-use Rattle.rounds.specs.Merging.{is_meet, merge, rows_after, AreSameFor, AreDisjointCommands}
+use Rattle.rounds.specs.Merging.{is_meet, merge, rows_after, rounds_of, AreSameFor, AreDisjointCommands, IsDisjointTrace}
+use Rattle.rounds.specs.Rows.{AreRounds}
 
 -- A round of commands at disjoint sectors was played behind others: the answers before it stay, each pass has played its worker's commands, and the passes have met
 pub record RoundOfRun (hosts n : ℕ) (first last : List Call) (before played after : ℕ → View) (done cs : List Command) (rows others : ℕ → List Said) : Type 0 where
@@ -34,6 +35,10 @@ RunGoesOn =
 -- A meeting adds a line and no call
 abbrev pub MeetingGoesOn : Type 0
 MeetingGoesOn = (n : ℕ) (h : List Call) (done : List Command) (c : Command) (rows : ℕ → List Said) → is_meet c.op ≡ true → AreAnswered n h (merge done rows) → AreAnswered n h (merge (done ++ c ∷ []) rows)
+
+-- Where all rounds are disjoint, the lines of all rounds, each round answered between two histories, are answered in order
+abbrev pub RoundsGoOn : Type 0
+RoundsGoOn = (n hosts : ℕ) (h : List Call) (commands : List Command) (rows : ℕ → List Said) → AreRounds n hosts [] (rounds_of commands) rows h → IsDisjointTrace commands → AreAnswered n h (merge commands rows)
 
 -- Once all commands are answered so, their lines are as text the answers of the trace, with the writes turned away at some set of lines
 abbrev pub RunIsText : Type 0

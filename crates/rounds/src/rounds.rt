@@ -1,6 +1,6 @@
 ghost use Rattle.rounds.specs.Told.{RoundsAreInOrder};
 ghost use Rattle.rounds.specs.Texts.{OrderIsText};
-ghost use Rattle.rounds.specs.Runs.{RunBegins, RunGoesOn, MeetingGoesOn, RunIsText};
+ghost use Rattle.rounds.specs.Runs.{RunBegins, RunGoesOn, MeetingGoesOn, RoundsGoOn, RunIsText};
 
 /// Lines that workers play at once, at disjoint sectors, are answered as one after another.
 pub fn rounds_are_answered_in_order()
@@ -13,5 +13,6 @@ pub fn runs_are_answered_in_order()
     ensures begins { RunBegins }
     ensures round { RunGoesOn }
     ensures meeting { MeetingGoesOn }
+    ensures disjoint { RoundsGoOn }
     ensures text { RunIsText }
 {}

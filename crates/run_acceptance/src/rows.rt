@@ -113,6 +113,20 @@ fn each_read_finds_a_value_that_was_written(rt: HostRuntime) -> Result<(), Fail>
     Ok(())
 }
 
+// The second of these three rounds isn't disjoint. Which of its two writes is the later one depends on the schedule, and all workers read that one in the third round.
+#[test]
+fn a_later_round_reads_what_an_earlier_one_left(rt: HostRuntime) -> Result<(), Fail> {
+    let trace =
+        b"0,write,0,41\n0,meet,0,\n0,write,0,42\n1,write,0,43\n0,meet,0,\n0,read,0,\n1,read,0,\n2,read,0,\n".as_slice();
+    for _ in 0..40 {
+        let told = answers_of(&rt, &small(8, 3, 1)?, trace, 1000000)?;
+        let first = told.as_str() == "empty written C | written C | C | ";
+        let second = told.as_str() == "empty written B | written B | B | ";
+        expect(&rt, first || second, &told);
+    }
+    Ok(())
+}
+
 // How many lines were done.
 fn count_done(row: &[Answer]) -> usize {
     row.iter()

@@ -1,5 +1,5 @@
 -- A round of a run: what each worker did in it, and what stands answered behind it.
-use Rattle.std.proofs.Common.{◌≡◌, ℕ, zero, suc, ◌+◌, ◌-◌, ◌<◌, ◌≤◌, All, Bool, true, false, List, [], ◌∷◌, ◌++◌, length, take, drop, refl, sym, ap, ◌∙◌, subst, arith, append_assoc, append-nil, length-append, ne_eqb}
+use Rattle.std.proofs.Common.{◌≡◌, ℕ, ◌+◌, ◌-◌, ◌<◌, ◌≤◌, All, Bool, true, false, List, [], ◌∷◌, ◌++◌, length, take, refl, sym, ap, ◌∙◌, subst, arith, append_assoc, append-nil, length-append, ne_eqb}
 use Rattle.std.specs.Prelude.{if◌then◌else◌, not, ◌&&◌, ◌==◌}
 use Rattle.std.specs.List.{slice_range}
 use Rattle.std.proofs.lemmas.List.{length-drop}
@@ -10,21 +10,21 @@ use Rattle.geometry.specs.History.{Call, Begins}
 use Rattle.geometry.proofs.Histories.{Begins-refl, Begins-trans}
 use Rattle.flash_rule.specs.declared.view.View.{View}
 use Rattle.trace.specs.declared.commands.Command.{Command}
-use Rattle.lines.specs.Lines.{Said, calls_made, is_full}
-use Rattle.lines.specs.Playing.{Plays, Played, LinesFound, calls_done, writes_done, one_done}
+use Rattle.lines.specs.Lines.{Said, calls_made}
+use Rattle.lines.specs.Playing.{Plays, Played, LinesFound, calls_done, writes_done}
 use Rattle.playing.proofs.Lines.{found-append}
 use Rattle.volume.specs.Closing.{HasLooked}
 use Rattle.rounds.specs.Lines.{made, lines_of}
 use Rattle.rounds.specs.Lines as worked
 use Rattle.rounds.specs.Meetings.{HavePlayed}
-use Rattle.rounds.specs.Told.{Line, worker_of, sector_of, calls_in, is_right, line, told, AreAnswered}
-use Rattle.rounds.specs.Merging.{is_meet, is_line_of, lines_for, line_count, merge, rows_after, HaveNoMeeting, AreDisjointCommands, rounds_of}
+use Rattle.rounds.specs.Told.{worker_of, sector_of, calls_in, is_right, line, told}
+use Rattle.rounds.specs.Merging.{is_meet, is_line_of, lines_for, line_count, merge, rows_after, HaveNoMeeting, rounds_of}
 use Rattle.rounds.specs.Plans.{meetings_from}
 use Rattle.rounds.proofs.Told.{plays_told, calls_told}
-use Rattle.rounds.proofs.Merging.{lines_of-merge}
-use Rattle.rounds.proofs.Runs.{meeting_goes_on}
+use Rattle.rounds.proofs.Chains.{nobody_of}
+use Rattle.rounds.proofs.Merging.{lines_of-merge, rounds_of-meet, rounds_of-last}
 use Rattle.shared_player.specs.Runs.{HasRun}
-use Rattle.shared_player.proofs.Walking.{FirstRound, StandsBehind, ends_from, lines_for-append, disjoint_first, disjoint_last}
+use Rattle.shared_player.proofs.Walking.{StandsBehind, ends_from}
 
 -- what a worker did in a round, behind these commands: its earlier answers stay
 pub record WorkerRound (t patience : ℕ) (done cs : List Command) (old new : List Said) (v w : View) : Type 0 where
@@ -171,6 +171,15 @@ pub left_is : (at : ℕ) (rest : List Command) (ends : List ℕ) → ends ≡ en
 left_is at rest [] is = absurd (some_end at rest [] is refl)
 left_is at rest (e ∷ ends) is = sym is
 
+-- which rounds of a trace are over: all but those of the commands that are left, and where no end is left, all
+abbrev pub Closed : List Command → List (List Command) → List Command → List ℕ → Type 0
+Closed trace closed rest [] = rounds_of trace ≡ closed
+Closed trace closed rest (e ∷ ends) = rounds_of trace ≡ closed ++ rounds_of rest
+
+pub closed_is : (trace : List Command) (closed : List (List Command)) (rest : List Command) (at : ℕ) (ends : List ℕ) → ends ≡ ends_from at rest → rounds_of trace ≡ closed ++ rounds_of rest → Closed trace closed rest ends
+closed_is trace closed rest at [] is whole = absurd (some_end at rest [] is refl)
+closed_is trace closed rest at (e ∷ ends) is whole = whole
+
 -- what stands behind a round: its meeting, if there is one, and the rest
 pub record Next (done cs tail : List Command) (ends : List ℕ) : Type 0 where
   pub meeting : List Command
@@ -178,14 +187,7 @@ pub record Next (done cs tail : List Command) (ends : List ℕ) : Type 0 where
   pub whole : tail ≡ meeting ++ rest
   pub nobody : (t : ℕ) → lines_for t meeting ≡ []
   pub left : Left (length (done ++ (cs ++ meeting))) rest ends
-  pub disjoint : All AreDisjointCommands (rounds_of (cs ++ tail)) → AreDisjointCommands cs × All AreDisjointCommands (rounds_of rest)
-  pub answered : (n : ℕ) (h : List Call) (rows : ℕ → List Said) → AreAnswered n h (merge (done ++ cs) rows) → AreAnswered n h (merge (done ++ (cs ++ meeting)) rows)
-
-none_disjoint : All AreDisjointCommands (rounds_of [])
-none_disjoint = All-cons AreDisjointCommands [] [] (All-nil _) (All-nil AreDisjointCommands)
-
-nobody_of : (t : ℕ) (c : Command) → is_meet c.op ≡ true → lines_for t (c ∷ []) ≡ []
-nobody_of t c meet = ap (λ b. if (not b && (c.worker == t)) then c ∷ [] else []) meet
+  pub closed : (trace : List Command) (closed : List (List Command)) → rounds_of trace ≡ closed ++ rounds_of (cs ++ tail) → Closed trace (closed ++ cs ∷ []) rest ends
 
 pub next_part : (done cs tail : List Command) (end : ℕ) (ends : List ℕ) → HaveNoMeeting cs → end ≡ length done + length cs → StandsBehind end tail ends → Next done cs tail ends
 next_part done cs [] end ends plain last behind = record {
@@ -194,8 +196,8 @@ next_part done cs [] end ends plain last behind = record {
   whole = refl;
   nobody = λ t. refl;
   left = subst (Left (length (done ++ (cs ++ []))) []) (sym behind) refl;
-  disjoint = λ all. (disjoint_last cs [] plain refl all, none_disjoint);
-  answered = λ n h rows a. subst (λ l. AreAnswered n h (merge (done ++ l) rows)) (sym (append-nil cs)) a;
+  closed = λ trace closed whole.
+      subst (Closed trace (closed ++ cs ∷ []) []) (sym behind) (whole ∙ ap (λ l. closed ++ l) (ap rounds_of (append-nil cs) ∙ rounds_of-last cs plain));
 }
 next_part done cs (c ∷ rest) end ends plain last behind =
     let long = length-append done (cs ++ c ∷ []) in
@@ -207,6 +209,7 @@ next_part done cs (c ∷ rest) end ends plain last behind =
       whole = refl;
       nobody = λ t. nobody_of t c behind.0;
       left = left_is (length (done ++ (cs ++ c ∷ []))) rest ends (behind.1 ∙ ap (λ k. ends_from k rest) at);
-      disjoint = λ all. disjoint_first cs (c ∷ rest) plain c rest refl behind.0 all;
-      answered = λ n h rows a. subst (λ l. AreAnswered n h (merge l rows)) (append_assoc done cs (c ∷ [])) (meeting_goes_on n h (done ++ cs) c rows behind.0 a);
+      closed = λ trace closed whole.
+          closed_is trace (closed ++ cs ∷ []) rest (length (done ++ (cs ++ c ∷ []))) ends (behind.1 ∙ ap (λ k. ends_from k rest) at)
+          (whole ∙ (ap (λ l. closed ++ l) (rounds_of-meet cs c rest plain behind.0) ∙ sym (append_assoc closed (cs ∷ []) (rounds_of rest))));
     }

@@ -1,7 +1,6 @@
 -- The state of a run between two rounds: where it begins, one round more, and its end.
-use Rattle.std.proofs.Common.{◌≡◌, ℕ, zero, suc, ◌+◌, ◌-◌, ◌<◌, ◌≤◌, All, List, [], ◌∷◌, ◌++◌, map, length, get_or, take, drop, refl, sym, ap, ◌∙◌, subst, arith, append_assoc, append-nil, length-append, zero-add, ne_eqb}
-use Rattle.std.specs.Prelude.{if◌then◌else◌, not, ◌&&◌, ◌==◌}
-use Rattle.std.specs.Arc.{arc_value}
+use Rattle.std.proofs.Common.{◌≡◌, ℕ, ◌+◌, ◌-◌, ◌<◌, ◌≤◌, All, List, [], ◌∷◌, ◌++◌, map, length, get_or, take, drop, refl, sym, ap, ◌∙◌, subst, arith, append_assoc, append-nil, length-append, zero-add, ne_eqb}
+use Rattle.std.specs.Prelude.{if◌then◌else◌, not, ◌==◌}
 use Rattle.std.specs.List.{slice_range}
 use Rattle.std.proofs.Math.Seq.{drop-append_seam, take-append_seam, take-length}
 use Rattle.std.proofs.lemmas.List.{get_or-map, get_or_past, get_or_append_left, get_or-append-add, length-map, take_all, take-take, take-append-drop, drop-take}
@@ -19,7 +18,7 @@ use Rattle.flash_table.specs.declared.pass.Pass.{Pass}
 use Rattle.flash_table.specs.Flash.{view_of, device, geometry_of, first_view}
 use Rattle.trace.specs.declared.commands.Command.{Command}
 use Rattle.lines.specs.Lines.{Said}
-use Rattle.lines.specs.Playing.{Played, Plays, calls_done}
+use Rattle.lines.specs.Playing.{Played, Plays}
 use Rattle.playing.specs.Playable.{added, lines_at}
 use Rattle.volume.specs.declared.volume.Volume.{Volume}
 use Rattle.volume.specs.Closing.{HasLooked}
@@ -27,24 +26,21 @@ use Rattle.volume.specs.Volume.{flash_of}
 use Rattle.lines.specs.Answers.{said_in}
 use Rattle.lines.specs.declared.answers.Answers.{Answers}
 use Rattle.rounds.specs.Meetings.{AreTied, WereSwept}
-use Rattle.rounds.specs.Merging.{is_meet, lines_for, line_count, merge, AreDisjointCommands, IsDisjointTrace, rounds_of}
+use Rattle.rounds.specs.Merging.{is_meet, lines_for, line_count, rows_after, rounds_of}
 use Rattle.rounds.specs.Plans.{places_from, places_for, meetings_from}
-use Rattle.rounds.specs.Rows.{AreAtOneHistory}
-use Rattle.rounds.specs.Runs.{RoundOfRun}
-use Rattle.rounds.specs.Told.{AreAnswered}
-use Rattle.rounds.specs.Texts.{lines_text, IsTextOfSome}
+use Rattle.rounds.specs.Rows.{RoundAnswered, AreRounds}
 use Rattle.rounds.proofs.Meetings.{tied_again}
 use Rattle.rounds.proofs.Planning.{places_from-append}
-use Rattle.rounds.proofs.Runs.{run_begins, run_goes_on, run_is_text}
+use Rattle.rounds.proofs.Chains.{flat, flat-append, lines_for-append, line_count-append, rows_count, round_answered, rounds_same, rounds_push, rounds_go_on}
+use Rattle.rounds.proofs.Runs.{run_is_text}
 use Rattle.shared_player.specs.declared.post.Post.{Post}
-use Rattle.shared_player.specs.Meetings.{IsAt, Rest, passes_of, rest_of, views_of}
+use Rattle.shared_player.specs.Meetings.{Rest, passes_of, rest_of, views_of}
 use Rattle.shared_player.specs.Posts.{HasPlayed, answered, round_lines}
-use Rattle.shared_player.specs.Turns.{HavePlayed}
-use Rattle.shared_player.specs.Runs.{IsTurned, AreTurned, RoundPlayed, AreManned, IsDealt, HasBegun, HasEnded, HasRun, answers_of, denied_by, rows_of}
+use Rattle.shared_player.specs.Runs.{IsTurned, RoundPlayed, AreManned, IsDealt, HasBegun, HasEnded, HasRun, answers_of, denied_by, rows_of}
 use Rattle.shared_player.proofs.Sweeping.{ready_at}
-use Rattle.shared_player.proofs.Turning.{played_long, played_at, manned_turned, manned_played, rests_long, rest_at, role_turned}
-use Rattle.shared_player.proofs.Walking.{count_places, lines_for-append, line_count-append, places_low, places_high, lines_there, past_is, ends_from, FirstRound, first_round}
-use Rattle.shared_player.proofs.Going.{WorkerRound, run_more, plays_to, round_played, Left, left_is, Next, next_part}
+use Rattle.shared_player.proofs.Turning.{played_long, played_at, rests_long, rest_at, role_turned}
+use Rattle.shared_player.proofs.Walking.{count_places, places_low, places_high, lines_there, past_is, FirstRound, first_round}
+use Rattle.shared_player.proofs.Going.{WorkerRound, run_more, plays_to, round_played, Left, left_is, Closed, closed_is, Next, next_part}
 use Rattle.shared_player.proofs.Going as going
 
 -- a part in the midst of a list
@@ -174,10 +170,13 @@ pub record RunState (volume : Volume) (patience : ℕ) (trace : List Command) (b
   pub dealt : (t : ℕ) (p : Post) → t < length posts → IsDealt trace t (get_or posts t p)
   pub cursor : (t : ℕ) (p : Post) → t < length posts → IsBehind t done (get_or posts t p)
   pub each : (t : ℕ) → t < length posts → HasRun t patience (denied_by volume before t) (lines_for t done) (take (line_count t done) (rows_of posts t)) (views_of volume (passes_of posts) t)
-  pub told : AreAtOneHistory (sectors_of (geometry_of (flash_of volume))) (length posts) done (λ t. take (line_count t done) (rows_of posts t))
-  pub order : IsDisjointTrace trace
-      → All AreDisjointCommands (rounds_of rest)
-      × ((h : List Call) × AreTied (length posts) h (views_of volume (passes_of posts)) × AreAnswered (sectors_of (geometry_of (flash_of volume))) h (merge done (rows_of posts)))
+  pub history : List Call
+  pub tied : AreTied (length posts) history (views_of volume (passes_of posts))
+  pub plays : (t : ℕ) → t < length posts → Plays (sectors_of (geometry_of (flash_of volume))) t [] (lines_for t done) (take (line_count t done) (rows_of posts t)) history
+  pub closed : List (List Command)
+  pub rounds : Closed trace closed rest ends
+  pub counts : (t : ℕ) → line_count t (flat closed) ≡ line_count t done
+  pub order : AreRounds (sectors_of (geometry_of (flash_of volume))) (length posts) [] closed (rows_of posts) history
 
 -- the run begins
 pub state_begins : (volume : Volume) (patience : ℕ) (trace : List Command) (ends : List ℕ) (posts : List Post) → HasBegun volume trace ends posts → RunState volume patience trace posts ends posts
@@ -185,26 +184,27 @@ state_begins volume patience trace ends posts b = record {
   done = [];
   rest = trace;
   whole = refl;
-  left = left_is 0 trace ends (b.rounds ∙ ap (λ k. meetings_from 0 trace ++ k ∷ []) (sym (zero-add (length trace))));
+  left = left_is 0 trace ends (ends_begin trace ends b.rounds);
   workers = b.workers;
   sectors = b.sectors;
   dealt = b.dealt;
   cursor = λ t p low. record { to = (b.none t p low).0; all = ap (λ (l : List Said). length l) (b.none t p low).1 };
   each = λ t low. let new = b.new t low in going.run_begins t patience (views_of volume (passes_of posts) t) new.0 new.1 new.2;
-  told = record { history = []; callers = All-nil (λ c. caller c < length posts); calls = λ t low. refl; plays = λ t low. Begins-refl [] };
-  order = λ apart. (
-    apart,
-    (
-      [],
-      record {
-        callers = All-nil (λ c. caller c < length posts);
-        later = λ t low. subst (λ h. Begins [] h) (sym (b.new t low).0) (Begins-refl []);
-        own = λ t low. sym (b.new t low).1;
-      },
-      run_begins (sectors_of (geometry_of (flash_of volume))) (rows_of posts),
-    ),
-  );
+  history = [];
+  tied = record {
+    callers = All-nil (λ c. caller c < length posts);
+    later = λ t low. subst (λ h. Begins [] h) (sym (b.new t low).0) (Begins-refl []);
+    own = λ t low. sym (b.new t low).1;
+  };
+  plays = λ t low. Begins-refl [];
+  closed = [];
+  rounds = closed_is trace [] trace 0 ends (ends_begin trace ends b.rounds) refl;
+  counts = λ t. refl;
+  order = refl;
 }
+  where
+    ends_begin : (trace : List Command) (ends : List ℕ) → ends ≡ meetings_from 0 trace ++ length trace ∷ [] → ends ≡ meetings_from 0 trace ++ (0 + length trace) ∷ []
+    ends_begin trace ends are = are ∙ ap (λ k. meetings_from 0 trace ++ k ∷ []) (sym (zero-add (length trace)))
 
 -- one round more
 module _ (volume : Volume) (patience : ℕ) (trace : List Command) (begun : List Post) (end : ℕ) (ends : List ℕ) (posts back : List Post) (manned : AreManned volume posts) (round : RoundPlayed volume patience end posts back)
@@ -322,16 +322,6 @@ module _ (volume : Volume) (patience : ℕ) (trace : List Command) (begun : List
       plays_to t patience (denied_by volume begun t) (lines_for t state.done) (lines_for t cs) (take a (rows_of posts t)) (slice_range (rows_of back t) a b) (before t) (played t) round.met.history (state.each t low) (worker_here t x low).played (swept.brought t low) in
       subst (λ (y : ℕ × List Command × List Said). Plays y.0 t [] y.1 y.2 round.met.history) (λ i. (sectors_here t x low i, sym (lines_more t) i, answers_more t low i)) plays
 
-  told_here : AreAtOneHistory n (length back) (state.done ++ (cs ++ next.meeting)) (λ t. take (line_count t (state.done ++ (cs ++ next.meeting))) (rows_of back t))
-  told_here =
-      let tied = tied_again (length posts) round.met.history played after swept in
-      record {
-        history = round.met.history;
-        callers = subst (λ k. All (λ c. caller c < k) round.met.history) (sym long_back) swept.callers;
-        calls = λ t low. let here : t < length posts = omega (arith, long_back) in tied.own t here ∙ (run_here t here).mine;
-        plays = λ t low. plays_here t (omega (arith, long_back));
-      }
-
   kept_here : (t : ℕ) → take (line_count t state.done) (rows_of posts t) ≡ take (line_count t state.done) (rows_of back t)
   kept_here t =
       dite (dec_lt t (length posts))
@@ -340,24 +330,23 @@ module _ (volume : Volume) (patience : ℕ) (trace : List Command) (begun : List
       let one = row_past posts t (omega arith) in
       let two = row_past back t (omega (arith, long_back)) in ap (take (line_count t state.done)) (one ∙ sym two))
 
-  order_here : IsDisjointTrace trace
-      → All AreDisjointCommands (rounds_of next.rest)
-      × ((h : List Call) × AreTied (length back) h after × AreAnswered n h (merge (state.done ++ (cs ++ next.meeting)) (rows_of back)))
-  order_here apart =
-      let o = state.order apart in
-      let two = next.disjoint (subst (λ l. All AreDisjointCommands (rounds_of l)) first.whole o.0) in
-      let r : RoundOfRun (length posts) n o.1.0 round.met.history before played after state.done cs (rows_of posts) (rows_of back) = record {
-        some = manned.some;
-        workers = all_part (λ c. c.worker < length posts) state.done cs first.tail (subst (λ l. All (λ c. c.worker < length posts) l) whole_now state.workers);
-        sectors = all_part (λ c. c.sector < n) state.done cs first.tail (subst (λ l. All (λ c. c.sector < n) l) whole_now state.sectors);
-        disjoint = two.0;
-        tied = o.1.1;
-        kept = kept_here;
-        play = round_played (length posts) n patience state.done cs (rows_of posts) (rows_of back) before played first.plain (λ t low. sectors_here t x low) (λ t low. worker_here t x low);
-        swept = swept;
-      } in
-      let go = run_goes_on (length posts) n o.1.0 round.met.history before played after state.done cs (rows_of posts) (rows_of back) r o.1.2 in
-      (two.1, (round.met.history, subst (λ k. AreTied k round.met.history after) (sym long_back) go.0, next.answered n round.met.history (rows_of back) go.1))
+  round_here : RoundAnswered n (length posts) state.history cs (rows_after state.done (rows_of back)) round.met.history
+  round_here =
+      round_answered (length posts) n state.history round.met.history before played after cs (rows_after state.done (rows_of back)) manned.some
+      (all_part (λ c. c.worker < length posts) state.done cs first.tail (subst (λ l. All (λ c. c.worker < length posts) l) whole_now state.workers))
+      (all_part (λ c. c.sector < n) state.done cs first.tail (subst (λ l. All (λ c. c.sector < n) l) whole_now state.sectors)) state.tied
+      (round_played (length posts) n patience state.done cs (rows_of posts) (rows_of back) before played first.plain (λ t low. sectors_here t x low) (λ t low. worker_here t x low)) swept
+
+  order_here : AreRounds n (length posts) [] (state.closed ++ cs ∷ []) (rows_of back) round.met.history
+  order_here =
+      rounds_push n (length posts) [] state.closed (rows_of back) state.history cs round.met.history
+      (rounds_same n (length posts) [] state.closed (rows_of posts) (rows_of back) state.history
+      (λ t. subst (λ k. take k (rows_of posts t) ≡ take k (rows_of back t)) (sym (state.counts t)) (kept_here t)) state.order)
+      (subst (λ r. RoundAnswered n (length posts) state.history cs r round.met.history) (sym (rows_count (flat state.closed) state.done (rows_of back) state.counts)) round_here)
+
+  counts_here : (t : ℕ) → line_count t (flat (state.closed ++ cs ∷ [])) ≡ line_count t (state.done ++ (cs ++ next.meeting))
+  counts_here t =
+      ap (line_count t) (flat-append state.closed cs) ∙ (line_count-append t (flat state.closed) cs ∙ (ap (λ k. k + line_count t cs) (state.counts t) ∙ sym (count_more t)))
 
   pub state_next : RunState volume patience trace begun ends back
   state_next = record {
@@ -370,8 +359,13 @@ module _ (volume : Volume) (patience : ℕ) (trace : List Command) (begun : List
     dealt = λ t p low. dealt_here t p (omega (arith, long_back));
     cursor = λ t p low. let here = cursor_here t p (omega (arith, long_back)) in record { to = here.0 ∙ sym (count_more t); all = here.1 ∙ sym (count_more t) };
     each = λ t low. run_here t (omega (arith, long_back));
-    told = told_here;
-    order = order_here;
+    history = round.met.history;
+    tied = subst (λ k. AreTied k round.met.history after) (sym long_back) (tied_again (length posts) round.met.history played after swept);
+    plays = λ t low. plays_here t (omega (arith, long_back));
+    closed = state.closed ++ cs ∷ [];
+    rounds = next.closed trace state.closed (state.rounds ∙ ap (λ l. state.closed ++ rounds_of l) first.whole);
+    counts = counts_here;
+    order = subst (λ k. AreRounds n k [] (state.closed ++ cs ∷ []) (rows_of back) round.met.history) (sym long_back) order_here;
   }
 
 -- a worker that isn't there has no line
@@ -386,12 +380,19 @@ none_past hosts t (c ∷ cs) all past =
 -- the run's end, once no end of a round is left
 pub state_ends : (volume : Volume) (patience : ℕ) (trace : List Command) (begun posts : List Post) → AreManned volume posts → RunState volume patience trace begun [] posts → HasEnded volume patience trace begun posts
 state_ends volume patience trace begun posts manned state =
+    let n = sectors_of (geometry_of (flash_of volume)) in
+    let h = state.history in
     let all : state.done ≡ trace = sym (append-nil state.done) ∙ (ap (λ l. state.done ++ l) (sym state.left) ∙ sym state.whole) in
     let long : (t : ℕ) → t < length posts → length (rows_of posts t) ≡ line_count t trace = λ t low.
     let p = some_post posts manned.some in
     ap (λ (l : List Said). length l) (row_at posts t p low) ∙ ((state.cursor t p low).all ∙ ap (line_count t) all) in
     let row_end : (t : ℕ) → t < length posts → take (line_count t trace) (rows_of posts t) ≡ rows_of posts t = λ t low.
     take_all (line_count t trace) (rows_of posts t) (omega (arith, long t low)) in
+    let row_now : (t : ℕ) → t < length posts → take (line_count t state.done) (rows_of posts t) ≡ rows_of posts t = λ t low.
+    ap (λ l. take (line_count t l) (rows_of posts t)) all ∙ row_end t low in
+    let run : (t : ℕ) → t < length posts → HasRun t patience (denied_by volume begun t) (lines_for t trace) (rows_of posts t) (views_of volume (passes_of posts) t) = λ t low.
+    subst (λ (x : List Command × List Said). HasRun t patience (denied_by volume begun t) (lines_for t x.0) x.1 (views_of volume (passes_of posts) t)) (λ i. (all i, row_now t low i)) (state.each t low) in
+    let rounds : AreRounds n (length posts) [] (rounds_of trace) (rows_of posts) h = subst (λ rs. AreRounds n (length posts) [] rs (rows_of posts) h) (sym state.rounds) state.order in
     record {
       count = λ t.
           dite (dec_lt t (length posts))
@@ -399,18 +400,13 @@ state_ends volume patience trace begun posts manned state =
           omega (arith, long t low))
           (λ past. let none = none_past (length posts) t trace state.workers (omega arith) in omega (arith, none));
       dealt = state.dealt;
-      told =
-          let now = subst (λ l. AreAtOneHistory (sectors_of (geometry_of (flash_of volume))) (length posts) l (λ t. take (line_count t l) (rows_of posts t))) all state.told in
-          record {
-            history = now.history;
-            callers = now.callers;
-            calls = λ t low. now.calls t low ∙ ap (calls_done t (lines_for t trace)) (row_end t low);
-            plays = λ t low. subst (λ l. Plays (sectors_of (geometry_of (flash_of volume))) t [] (lines_for t trace) l now.history) (row_end t low) (now.plays t low);
-          };
-      each = λ t low.
-          let run = subst (λ l. HasRun t patience (denied_by volume begun t) (lines_for t l) (take (line_count t l) (rows_of posts t)) (views_of volume (passes_of posts) t)) all (state.each t low) in
-          subst (λ l. HasRun t patience (denied_by volume begun t) (lines_for t trace) l (views_of volume (passes_of posts) t)) (row_end t low) run;
-      text = λ apart.
-          let o = (state.order apart).1 in
-          run_is_text (sectors_of (geometry_of (flash_of volume))) o.0 trace (rows_of posts) (subst (λ l. AreAnswered (sectors_of (geometry_of (flash_of volume))) o.0 (merge l (rows_of posts))) all o.2);
+      told = record {
+        history = h;
+        callers = state.tied.callers;
+        calls = λ t low. state.tied.own t low ∙ (run t low).mine;
+        plays = λ t low. subst (λ (x : List Command × List Said). Plays n t [] (lines_for t x.0) x.1 h) (λ i. (all i, row_now t low i)) (state.plays t low);
+        rounds = rounds;
+      };
+      each = run;
+      text = λ apart. run_is_text n h trace (rows_of posts) (rounds_go_on n (length posts) h trace (rows_of posts) rounds apart);
     }

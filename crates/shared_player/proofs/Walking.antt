@@ -1,19 +1,15 @@
 -- A round's lines: where they stand in their workers' rows, and which commands stand before and behind them.
-use Rattle.std.proofs.Common.{◌≡◌, ℕ, zero, suc, ◌+◌, ◌-◌, ◌<◌, ◌≤◌, All, Bool, true, false, List, [], ◌∷◌, ◌++◌, Some, get_or, length, take, drop, map, refl, sym, ap, ◌∙◌, subst, arith, append_assoc, append-nil, add-zero}
-use Rattle.std.specs.Prelude.{slice_get, if◌then◌else◌, slice_index}
-use Rattle.std.specs.List.{slice_range, filter}
+use Rattle.std.proofs.Common.{◌≡◌, ℕ, suc, ◌+◌, ◌-◌, ◌<◌, ◌≤◌, All, Bool, true, false, List, [], ◌∷◌, ◌++◌, get_or, length, drop, refl, sym, ap, ◌∙◌, subst, arith, append_assoc, add-zero}
+use Rattle.std.specs.Prelude.{if◌then◌else◌}
 use Rattle.std.proofs.Math.Seq.{get_or-append_seam, get_or-append_right}
 use Rattle.std.proofs.lemmas.List.{length-append, get_or_append_left, get_or-append-add}
-use Rattle.std.proofs.lemmas.List.Elements.{All-nil, All-cons, All-head, All-tail}
+use Rattle.std.proofs.lemmas.List.Elements.{All-nil, All-cons}
 use mathlib.Core.Logic.{dite}
 use native.Mathlib.Decide.{dec_lt}
 use Rattle.trace.specs.declared.commands.Command.{Command}
-use Rattle.lines.specs.Lines.{Said}
 use Rattle.playing.specs.Playable.{lines_at, no_line}
-use Rattle.rounds.specs.Merging.{is_meet, is_line_of, lines_for, line_count, HaveNoMeeting, AreDisjointCommands, rounds_of, in_first_round}
-use Rattle.rounds.specs.Plans.{places_from, places_for, meetings_from, ends_of}
-use Rattle.rounds.proofs.Planning.{places_from-append}
-use Rattle.rounds.proofs.Merging.{rounds_of-meet, rounds_of-last}
+use Rattle.rounds.specs.Merging.{is_meet, is_line_of, lines_for, line_count, HaveNoMeeting}
+use Rattle.rounds.specs.Plans.{places_from, meetings_from}
 
 -- as many places as lines
 pub count_places : (k t : ℕ) (cs : List Command) → length (places_from k t cs) ≡ line_count t cs
@@ -23,18 +19,6 @@ count_places k t (c ∷ cs) = go (is_line_of t c) (count_places (k + 1) t cs)
     go : (b : Bool) → length (places_from (k + 1) t cs) ≡ line_count t cs → length (if b then k ∷ places_from (k + 1) t cs else places_from (k + 1) t cs) ≡ length (if b then c ∷ lines_for t cs else lines_for t cs)
     go true rest = ap suc rest
     go false rest = rest
-
--- lines in two parts
-pub lines_for-append : (t : ℕ) (cs ds : List Command) → lines_for t (cs ++ ds) ≡ lines_for t cs ++ lines_for t ds
-lines_for-append t [] ds = refl
-lines_for-append t (c ∷ cs) ds = go (is_line_of t c) (lines_for-append t cs ds)
-  where
-    go : (b : Bool) → lines_for t (cs ++ ds) ≡ lines_for t cs ++ lines_for t ds → (if b then c ∷ lines_for t (cs ++ ds) else lines_for t (cs ++ ds)) ≡ (if b then c ∷ lines_for t cs else lines_for t cs) ++ lines_for t ds
-    go true rest = ap (λ l. c ∷ l) rest
-    go false rest = rest
-
-pub line_count-append : (t : ℕ) (cs ds : List Command) → line_count t (cs ++ ds) ≡ line_count t cs + line_count t ds
-line_count-append t cs ds = ap (λ (l : List Command). length l) (lines_for-append t cs ds) ∙ length-append (lines_for t cs) (lines_for t ds)
 
 -- the places of commands that begin at one stand from there on, and before their end
 pub places_low : (k t : ℕ) (cs : List Command) (e : ℕ) → e ≡ k + length cs → All (λ p. p < e) (places_from k t cs)
@@ -160,16 +144,3 @@ first_round at (c ∷ cs) end ends is = go (first_round (at + 1) cs end ends) (i
     go next false plain e =
         let on : at + suc (length cs) ≡ (at + 1) + length cs = omega arith in
         line_first at c cs end ends plain (next (ap (λ k. meetings_from (at + 1) cs ++ k ∷ []) (sym on) ∙ e))
-
--- the first round of a trace that is disjoint is disjoint, and so are the rounds behind it
-pub disjoint_first : (round tail : List Command) → HaveNoMeeting round → (c : Command) (rest : List Command) → tail ≡ c ∷ rest → is_meet c.op ≡ true → All AreDisjointCommands (rounds_of (round ++ tail))
-    → AreDisjointCommands round × All AreDisjointCommands (rounds_of rest)
-disjoint_first round tail plain c rest is meet all =
-    let rounds : rounds_of (round ++ tail) ≡ round ∷ rounds_of rest = ap (λ l. rounds_of (round ++ l)) is ∙ rounds_of-meet round c rest plain meet in
-    let each = subst (λ l. All AreDisjointCommands l) rounds all in
-    (All-head AreDisjointCommands round (rounds_of rest) each, All-tail AreDisjointCommands round (rounds_of rest) each)
-
-pub disjoint_last : (round tail : List Command) → HaveNoMeeting round → tail ≡ [] → All AreDisjointCommands (rounds_of (round ++ tail)) → AreDisjointCommands round
-disjoint_last round tail plain is all =
-    let rounds : rounds_of (round ++ tail) ≡ round ∷ [] = ap (λ l. rounds_of (round ++ l)) is ∙ (ap rounds_of (append-nil round) ∙ rounds_of-last round plain) in
-    All-head AreDisjointCommands round [] (subst (λ l. All AreDisjointCommands l) rounds all)
