@@ -9,3 +9,4 @@ pub mod Lent
 pub mod Dealt
 pub mod Openings
 pub mod Ended
+pub mod Swept

@@ -4,8 +4,10 @@ pub mod Posts
 pub mod Meetings
 pub mod Runs
 pub mod Commands
+pub mod Collecting
 -- Internal: the threads of a round.
 pub mod Turns
+pub mod BroomThreads
 -- Internal: the opening of a run.
 pub mod Dealing
 pub mod Shares

@@ -1,4 +1,8 @@
 //! What a broom does beside the workers of a round.
+ghost use Rattle.std.specs.Prelude.{[], ◌∷◌};
+ghost use Rattle.shared_player.specs.declared.broom_answer.BroomAnswer.TheVariants as by;
+ghost use Rattle.shared_player.specs.Collecting.{HasSwept, HasSweptBy};
+
 use crate::sweeper::Sweeper;
 use broom::{Drain, Erase};
 use flash_table::Gate;
@@ -38,24 +42,34 @@ fn has_erased(erase: Erase) -> bool {
 }
 
 impl Sweeper {
-    fn drain<G: Gate>(&mut self, rt: &impl Wait, gate: &mut G) -> Drain {
+    fn drain<G: Gate>(&mut self, rt: &impl Wait, gate: &mut G) -> Drain
+        ensures { HasSweptBy self.old (by.Drain result ∷ []) self.new }
+    {
         self.volume.drain_one(rt, &mut self.broom, gate)
     }
 
-    fn drain_next<G: Gate>(&mut self, rt: &impl Wait, gate: &mut G) -> Drain {
+    fn drain_next<G: Gate>(&mut self, rt: &impl Wait, gate: &mut G) -> Drain
+        ensures { HasSweptBy self.old (by.DrainNext result ∷ []) self.new }
+    {
         self.volume.drain_next_one(rt, &mut self.broom, gate)
     }
 
-    fn erase<G: Gate>(&mut self, rt: &impl Wait, gate: &mut G) -> Erase {
+    fn erase<G: Gate>(&mut self, rt: &impl Wait, gate: &mut G) -> Erase
+        ensures { HasSweptBy self.old (by.Erase result ∷ []) self.new }
+    {
         self.volume.erase_one(rt, &mut self.broom, gate)
     }
 
-    fn restock(&mut self) -> bool {
+    fn restock(&mut self) -> bool
+        ensures { HasSweptBy self.old (by.Restock result ∷ []) self.new }
+    {
         self.volume.restock(&mut self.broom)
     }
 
     // What follows a drain: an erase, and a restock where neither left a spare. The answer is whether anything was gained.
-    fn follow<G: Gate>(&mut self, drain: Drain, rt: &impl Wait, gate: &mut G) -> bool {
+    fn follow<G: Gate>(&mut self, drain: Drain, rt: &impl Wait, gate: &mut G) -> bool
+        ensures { HasSwept self.old self.new }
+    {
         let erase = self.erase(rt, gate);
         let gained = has_drained(drain) || has_erased(erase);
         if drain == Drain::NoSpare {
@@ -66,7 +80,9 @@ impl Sweeper {
 
     // A drain by a new survey, and drains by that one as long as it gives some, each with an erase. The answer is whether anything was
     // gained.
-    fn turn<G: Gate>(&mut self, rt: &impl Wait, stop: &AtomicBool, gate: &mut G) -> bool {
+    fn turn<G: Gate>(&mut self, rt: &impl Wait, stop: &AtomicBool, gate: &mut G) -> bool
+        ensures { HasSwept self.old self.new }
+    {
         let mut drain = self.drain(rt, gate);
         let mut gained = self.follow(drain, rt, gate);
         for _ in 1..self.drains {
@@ -96,12 +112,15 @@ fn rest(clock: &impl Clock, micros: u64, longest: u64) -> u64 {
 }
 
 // Takes turns until the flag is set, and rests where a turn has gained nothing.
+#[tactic(auto, using(crate::proofs::Swept::swept_none))]
 pub(crate) fn sweep<R: Wait + Clock, G: Gate>(
     rt: &R,
     sweeper: Sweeper,
     stop: &AtomicBool,
     gate: &mut G,
-) -> Sweeper {
+) -> Sweeper
+    ensures { HasSwept sweeper result }
+{
     let mut sweeper = sweeper;
     let longest = sweeper.longest_sleep();
     let mut micros = 0;

@@ -1,6 +1,8 @@
 //! Playing a trace on a shared device by many workers at once: each is a thread with a pass of its own, and brooms collect garbage beside them.
 #![tactic(auto)]
 
+mod broom_answer;
+mod broom_thread;
 mod collecting;
 mod commands;
 mod dealing;
@@ -16,6 +18,8 @@ mod team;
 mod turns;
 mod unseated;
 
+pub use broom_answer::BroomAnswer;
+pub use broom_thread::{BroomThread, SweepOf};
 pub use commands::play_commands;
 pub use leaving::{fold_sweepers, hand_out};
 pub use meetings::sweep_posts;

@@ -1,5 +1,6 @@
 //! A run over all rounds of a trace.
-ghost use Rattle.std.specs.Prelude.{◌≡◌, ◌+◌, All, IfOk, length, map, true};
+ghost use Rattle.std.specs.Prelude.{◌≡◌, ◌+◌, All, IfOk, Ok, length, map, true};
+ghost use Rattle.shared_player.specs.Collecting.{HaveSwept};
 ghost use Rattle.shared_player.specs.Meetings.{AreSeated, PassesMet, passes_of, rest_of};
 ghost use Rattle.shared_player.specs.Runs.{IsTurned, AreTurned, IsIdle, RoundPlayed, AreManned, EndsRun};
 ghost use Rattle.shared_player.specs.Turns.{HavePlayed};
@@ -33,7 +34,8 @@ fn turn_all(posts: &mut [Post], end: usize)
 
 // Whether no post has a line in the round.
 fn have_no_line(posts: &[Post]) -> bool
-    ensures { result ≡ true → All IsIdle posts.now }
+    ensures idle { result ≡ true → All IsIdle posts.now }
+    ensures busy { All IsIdle posts.now → result ≡ true }
 {
     for post in posts {
         if post.answers.len() < post.to {
@@ -51,8 +53,9 @@ fn play_team<R: Threads + Wait + Clock + Sync, G: Gate + Send>(
     gates: &mut [G],
 ) -> Result<Team, NoShift>
     requires gates { length team.posts.items + length team.sweepers.items ≡ length gates.old }
+    ensures idle { All IsIdle team.posts.items → result ≡ Ok team }
     ensures played { IfOk result (λ back. HavePlayed patience team.posts.items back.posts.items) }
-    ensures swept { IfOk result (λ back. length back.sweepers.items ≡ length team.sweepers.items) }
+    ensures swept { IfOk result (λ back. HaveSwept team.sweepers.items back.sweepers.items) }
 {
     if have_no_line(&team.posts) {
         return Ok(team);
@@ -74,7 +77,7 @@ pub fn play_round<R: Threads + Wait + Clock + Sync, G: Gate + Send>(
     ensures played { IfOk result (λ back. RoundPlayed volume.now patience end team.posts.items back.posts.items) }
     ensures manned { IfOk result (λ back. AreManned volume.now back.posts.items) }
     ensures count { IfOk result (λ back. length back.posts.items ≡ length team.posts.items) }
-    ensures sweepers { IfOk result (λ back. length back.sweepers.items ≡ length team.sweepers.items) }
+    ensures swept { IfOk result (λ back. HaveSwept team.sweepers.items back.sweepers.items) }
 {
     let mut team = team;
     turn_all(&mut team.posts, end);
@@ -96,6 +99,7 @@ pub fn play_rounds<R: Threads + Wait + Clock + Sync, G: Gate + Send>(
     requires manned { AreManned volume.now team.posts.items }
     ensures run { IfOk result (λ back. EndsRun volume.now patience ends.now team.posts.items back.posts.items) }
     ensures manned { IfOk result (λ back. AreManned volume.now back.posts.items) }
+    ensures swept { IfOk result (λ back. HaveSwept team.sweepers.items back.sweepers.items) }
 {
     let mut team = team;
     for i in 0..ends.len() {

@@ -1,10 +1,12 @@
 //! The workers and the brooms of a run, and the threads of a round: brooms and workers start, the workers are joined, and then the brooms are told
 //! to stop.
-ghost use Rattle.std.specs.Prelude.{◌≡◌, ◌+◌, ◌≤◌, IfOk, OnOk, length, map};
+ghost use Rattle.std.specs.Prelude.{◌≡◌, ◌+◌, ◌≤◌, ◌++◌, IfOk, OnOk, length, map};
 ghost use Rattle.std.specs.VecDeque.{deque_capacity, deque_len};
+ghost use Rattle.shared_player.specs.Collecting.{HaveSwept};
+ghost use Rattle.shared_player.specs.BroomThreads.{given_to};
 ghost use Rattle.shared_player.specs.Turns.{asked, HaveGone, HaveSetOut, HaveTurned, HavePlayed};
 
-use crate::collecting::sweep;
+use crate::broom_thread::{BroomThread, join_sweeper, start_sweeper};
 use crate::post::Post;
 use crate::starts::NoShift;
 use crate::sweeper::Sweeper;
@@ -14,7 +16,7 @@ use std::alloc::{AllocError, Global};
 use std::collections::VecDeque;
 use std::sync::Wait;
 use std::sync::atomic::{AtomicBool, Ordering};
-use std::thread::{self, JoinHandle, Scope, Threads};
+use std::thread::{self, Scope, Threads};
 use std::time::Clock;
 
 /// The workers and the brooms of a run, and the room for the handles of their threads, which is taken once.
@@ -23,7 +25,7 @@ pub struct Team {
     pub posts: Vec<Post>,
     pub sweepers: Vec<Sweeper>,
     pub turns: VecDeque<Turn>,
-    pub sweeping: VecDeque<JoinHandle<Sweeper>>,
+    pub sweeping: VecDeque<BroomThread>,
     pub ghost posts_room: { length posts.items ≤ deque_capacity turns },
     pub ghost sweepers_room: { length sweepers.items ≤ deque_capacity sweeping },
     pub ghost no_turn: { deque_len turns ≡ 0 },
@@ -64,11 +66,11 @@ fn start_sweepers<'s, E, R: Threads + Wait + Clock + Sync, G: Gate + Send>(
     sweepers: &mut VecDeque<Sweeper>,
     stop: &'s AtomicBool,
     gates: &'s mut [G],
-    sweeping: &mut VecDeque<JoinHandle<Sweeper>>,
+    sweeping: &mut VecDeque<BroomThread>,
 ) -> Result<(), NoShift>
     requires gates { deque_len sweepers.old ≡ length gates.old }
     requires room { deque_len sweeping.old + deque_len sweepers.old ≤ deque_capacity sweeping.old }
-    ensures started { OnOk result (deque_len sweeping.new ≡ deque_len sweeping.old + deque_len sweepers.old) }
+    ensures started { OnOk result (map given_to sweeping.new.items ≡ map given_to sweeping.old.items ++ sweepers.old.items) }
     ensures none { OnOk result (deque_len sweepers.new ≡ 0) }
     ensures gone { HaveGone sweepers.old sweepers.new sweeping.old sweeping.new }
 {
@@ -76,10 +78,7 @@ fn start_sweepers<'s, E, R: Threads + Wait + Clock + Sync, G: Gate + Send>(
         let Some(sweeper) = sweepers.pop_front() else {
             unreachable!()
         };
-        match scope.spawn(move || sweep(rt, sweeper, stop, gate)) {
-            Ok(handle) => sweeping.push_back_reserved(handle),
-            Err(_refused) => return Err(NoShift::Threads),
-        }
+        sweeping.push_back_reserved(start_sweeper(scope, rt, sweeper, stop, gate)?);
     }
     Ok(())
 }
@@ -127,16 +126,16 @@ fn join_posts<R: Threads>(
 // Joins the brooms, in order.
 fn join_sweepers<R: Threads>(
     rt: &R,
-    sweeping: &mut VecDeque<JoinHandle<Sweeper>>,
+    sweeping: &mut VecDeque<BroomThread>,
     sweepers: &mut VecDeque<Sweeper>,
 )
     requires { deque_len sweepers.old + deque_len sweeping.old ≤ deque_capacity sweepers.old }
-    ensures swept { deque_len sweepers.new ≡ deque_len sweepers.old + deque_len sweeping.old }
+    ensures swept { deque_len sweepers.old ≡ 0 → HaveSwept (map given_to sweeping.old.items) sweepers.new.items }
     ensures none { deque_len sweeping.new ≡ 0 }
     ensures gone { HaveGone sweeping.old sweeping.new sweepers.old sweepers.new }
 {
-    while let Some(handle) = sweeping.pop_front() {
-        sweepers.push_back_reserved(handle.join(rt));
+    while let Some(next) = sweeping.pop_front() {
+        sweepers.push_back_reserved(join_sweeper(rt, next));
     }
 }
 
@@ -149,7 +148,7 @@ fn run_all<'s, E, R: Threads + Wait + Clock + Sync, G: Gate + Send>(
     requires posts { length round.team.posts.items ≡ length round.post_gates.now }
     requires sweepers { length round.team.sweepers.items ≡ length round.sweeper_gates.now }
     ensures played { IfOk result (λ team. HavePlayed round.entry.patience round.entry.team.posts.items team.posts.items) }
-    ensures swept { IfOk result (λ team. length team.sweepers.items ≡ length round.entry.team.sweepers.items) }
+    ensures swept { IfOk result (λ team. HaveSwept round.entry.team.sweepers.items team.sweepers.items) }
 {
     let Round {
         team,
@@ -190,7 +189,7 @@ fn shift<'a, R: Threads + Wait + Clock + Sync, G: Gate + Send>(
     requires posts { length round.team.posts.items ≡ length round.post_gates.now }
     requires sweepers { length round.team.sweepers.items ≡ length round.sweeper_gates.now }
     ensures played { IfOk result (λ team. HavePlayed round.entry.patience round.entry.team.posts.items team.posts.items) }
-    ensures swept { IfOk result (λ team. length team.sweepers.items ≡ length round.entry.team.sweepers.items) }
+    ensures swept { IfOk result (λ team. HaveSwept round.entry.team.sweepers.items team.sweepers.items) }
 {
     thread::scope(
         thread::scope_env(),
@@ -199,7 +198,7 @@ fn shift<'a, R: Threads + Wait + Clock + Sync, G: Gate + Send>(
             requires posts { length round.team.posts.items ≡ length round.post_gates.now }
             requires sweepers { length round.team.sweepers.items ≡ length round.sweeper_gates.now }
             ensures played { IfOk result (λ team. HavePlayed round.entry.patience round.entry.team.posts.items team.posts.items) }
-            ensures swept { IfOk result (λ team. length team.sweepers.items ≡ length round.entry.team.sweepers.items) }
+            ensures swept { IfOk result (λ team. HaveSwept round.entry.team.sweepers.items team.sweepers.items) }
         { run_all(scope, rt, round) },
     )
 }
@@ -214,7 +213,7 @@ pub fn play_posts<R: Threads + Wait + Clock + Sync, G: Gate + Send>(
 ) -> Result<Team, NoShift>
     requires gates { length team.posts.items + length team.sweepers.items ≡ length gates.old }
     ensures played { IfOk result (λ r. HavePlayed patience team.posts.items r.posts.items) }
-    ensures swept { IfOk result (λ r. length r.sweepers.items ≡ length team.sweepers.items) }
+    ensures swept { IfOk result (λ r. HaveSwept team.sweepers.items r.sweepers.items) }
 {
     let stop = AtomicBool::new(false);
     let (post_gates, sweeper_gates) = gates.split_at_mut(team.posts.len());

@@ -2,6 +2,7 @@ use Rattle.std.proofs.Common.{◌≡◌, ◌<◌, ◌≤◌, ◌+◌, ◌∷◌,
 use Rattle.std.proofs.Math.Seq.{drop-cons}
 use Rattle.std.proofs.lemmas.List.{drop_all}
 use Rattle.shared_player.proofs.Looping.{RunState, state_begins, state_next, state_ends}
+use Rattle.shared_player.proofs.Swept.{all_swept_none, all_swept_then, swept_long}
 use Rattle.shared_player.proofs.runs.play_rounds.Goals as goal
 
 pub loop-i-init : goal.loop-i-init
@@ -9,6 +10,7 @@ loop-i-init g c = record {
   manned = c.requires.manned;
   gates = c.requires.gates;
   run = λ trace begun. state_begins c.args.volume.now c.args.patience trace c.args.ends.now c.args.team.posts.items begun;
+  swept = all_swept_none c.args.team.sweepers.items;
 }
 
 pub loop-i-preserved : goal.loop-i-preserved
@@ -24,11 +26,12 @@ loop-i-preserved g c =
       manned = c.in_ok-team.ensures.manned;
       gates =
           (let posts = c.in_ok-team.ensures.count in
-          let sweepers = c.in_ok-team.ensures.sweepers in
+          let sweepers = swept_long c.loop-i.team.sweepers.items c.in_ok-team.team.sweepers.items c.in_ok-team.ensures.swept in
           let gates = c.loop-i.invariant.gates in omega arith);
       run = λ trace begun.
           state_next volume c.args.patience trace c.args.team.posts.items (get_or ends i 0) (drop (i + 1) ends) here back c.loop-i.invariant.manned c.in_ok-team.ensures.played
           (subst (λ l. RunState volume c.args.patience trace c.args.team.posts.items l here) split (c.loop-i.invariant.run trace begun));
+      swept = all_swept_then c.args.team.sweepers.items c.loop-i.team.sweepers.items c.in_ok-team.team.sweepers.items c.loop-i.invariant.swept c.in_ok-team.ensures.swept;
     }
 
 pub returns-clause-run : goal.returns-clause-run

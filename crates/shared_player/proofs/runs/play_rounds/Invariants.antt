@@ -1,5 +1,6 @@
 use Rattle.std.proofs.Common.{◌≡◌, ◌+◌, List, length, drop}
 use Rattle.trace.specs.declared.commands.Command.{Command}
+use Rattle.shared_player.specs.Collecting.{HaveSwept}
 use Rattle.shared_player.specs.Runs.{AreManned, HasBegun}
 use Rattle.shared_player.proofs.Looping.{RunState}
 use Rattle.shared_player.proofs.runs.play_rounds.Given as goal
@@ -9,4 +10,5 @@ invariant-loop-i g l = record {
   manned : AreManned l.volume l.team.posts.items;
   gates : length l.team.posts.items + length l.team.sweepers.items ≡ length l.fn.gates;
   run : (trace : List Command) → HasBegun l.volume trace l.ends l.fn.team.posts.items → RunState l.volume l.patience trace l.fn.team.posts.items (drop l.i l.ends) l.team.posts.items;
+  swept : HaveSwept l.fn.team.sweepers.items l.team.sweepers.items;
 }

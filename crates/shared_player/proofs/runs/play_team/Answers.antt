@@ -2,9 +2,13 @@ use Rattle.std.proofs.Common.{All, List, sym, subst}
 use Rattle.shared_player.specs.declared.post.Post.{Post}
 use Rattle.shared_player.specs.Runs.{IsIdle}
 use Rattle.shared_player.proofs.Turning.{idles_played}
+use Rattle.shared_player.proofs.Swept.{all_swept_none}
 use Rattle.shared_player.proofs.runs.play_team.Goals as goal
 
 pub returns-then-have_no_line-clause-played : goal.returns-then-have_no_line-clause-played
 returns-then-have_no_line-clause-played g c =
     let posts = c.args.team.posts.items in
-    idles_played c.args.patience posts (subst (All IsIdle) c.deref.ensures.value (c.have_no_line.ensures c.if-have_no_line.true))
+    idles_played c.args.patience posts (subst (All IsIdle) c.deref.ensures.value (c.have_no_line.ensures.idle c.if-have_no_line.true))
+
+pub returns-then-have_no_line-clause-swept : goal.returns-then-have_no_line-clause-swept
+returns-then-have_no_line-clause-swept g c = all_swept_none c.args.team.sweepers.items
