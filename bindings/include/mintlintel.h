@@ -16,6 +16,10 @@
  *  - There is no call from a signal handler, or in the forked child of a process with threads.
  * A handle that is not closed keeps its memory.
  *
+ * The calls of all hosts of a shared device stand in one order, which has the calls of each handle in their order: they are sequentially
+ * consistent, and not claimed to be linearizable. There is no mintlintel_host_meet, which would tie what two hosts have seen, since nothing
+ * shows that two handles are of one device, and no mintlintel_broom_block, since loading a block's state spoils the broom's last survey.
+ *
  * A refused call, with any code except 0, 1 and 26, doesn't change the device, except as the call's comment says. */
 #ifndef MINTLINTEL_H
 #define MINTLINTEL_H
@@ -43,7 +47,7 @@ enum mintlintel_code {
     MINTLINTEL_NO_SUCH_BLOCK = 10,  /* the device has no such block, or a page no such word */
     MINTLINTEL_NOTHING_TO_GAIN = 20, /* a drain: no block is closed, or the best one is all live */
     MINTLINTEL_NO_SPARE = 21,       /* a drain: the broom has no block to copy to; a restock: no block is free; erase something */
-    MINTLINTEL_LOST = 22,           /* a drain: the block's state changed during the call; try again */
+    MINTLINTEL_LOST = 22,           /* a drain: the block's state changed since it was loaded; try again */
     MINTLINTEL_RETIRED = 23,        /* an erase: done, and it was the block's last */
     MINTLINTEL_PINNED = 24,         /* an erase: a host reads the block; try again later */
     MINTLINTEL_STALE = 25,          /* an erase: the block isn't drained; forget it */
