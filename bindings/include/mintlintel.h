@@ -10,11 +10,15 @@
  *  - There is only one call at a time on a handle. A handle may pass from one thread to another if a lock, a join or a
  *    sequentially consistent atomic orders the two uses. Handles of one shared device may be used at the same time.
  *  - A pointer is not null, and what it points to exists for the whole call and doesn't change during it: a handle, a struct or a
- *    number of its type, and a buffer of as many bytes as its length says. A buffer of no bytes also needs a pointer that is not null.
- *    The memory of two arguments of one call does not overlap.
+ *    number of its type, and a buffer of as many bytes as its length says. A buffer of no bytes and an array of no handles also need a
+ *    pointer that is not null. The memory of two arguments of one call does not overlap.
  *  - malloc, realloc and free belong to one allocator, which aligns a block to each power of two up to 16 that divides its size.
  *  - There is no call from a signal handler, or in the forked child of a process with threads.
  * A handle that is not closed keeps its memory.
+ *
+ * The calls of all hosts of a shared device stand in one order, which has the calls of each handle in their order: they are sequentially
+ * consistent, and not claimed to be linearizable. There is no mintlintel_host_meet, which would tie what two hosts have seen, since nothing
+ * shows that two handles are of one device, and no mintlintel_broom_block, since loading a block's state spoils the broom's last survey.
  *
  * A refused call, with any code except 0, 1 and 26, doesn't change the device, except as the call's comment says. */
 #ifndef MINTLINTEL_H
@@ -42,8 +46,8 @@ enum mintlintel_code {
     MINTLINTEL_WRONG_KIND = 9,      /* the handle is of another kind: see the kinds of a seat below */
     MINTLINTEL_NO_SUCH_BLOCK = 10,  /* the device has no such block, or a page no such word */
     MINTLINTEL_NOTHING_TO_GAIN = 20, /* a drain: no block is closed, or the best one is all live */
-    MINTLINTEL_NO_SPARE = 21,       /* a drain: the broom has no block to copy to; erase something */
-    MINTLINTEL_LOST = 22,           /* a drain: the block's state changed during the call; try again */
+    MINTLINTEL_NO_SPARE = 21,       /* a drain: the broom has no block to copy to; a restock: no block is free; erase something */
+    MINTLINTEL_LOST = 22,           /* a drain: the block's state changed since it was loaded; try again */
     MINTLINTEL_RETIRED = 23,        /* an erase: done, and it was the block's last */
     MINTLINTEL_PINNED = 24,         /* an erase: a host reads the block; try again later */
     MINTLINTEL_STALE = 25,          /* an erase: the block isn't drained; forget it */
@@ -170,6 +174,9 @@ uint32_t mintlintel_host_write_new(struct mintlintel_seat *handle, uint32_t sect
 /* Empties a sector: 0 or 1 for what it was; 2, 3 or 9. */
 uint32_t mintlintel_host_trim(struct mintlintel_seat *handle, uint32_t sector);
 
+/* Whether a sector is written, by one look at its entry in the map; no page is read: 0 empty, 1 written; 2, 3 or 9. */
+uint32_t mintlintel_host_look(struct mintlintel_seat *handle, uint32_t sector);
+
 /* Holds the page that has the sector's value: 1 if it is held from now on, up to the release; 0 if the sector is empty; 2, 3 or 9. The block of
  * a held page is not erased. A host that holds answers 9 to every call but those of the next four lines, seat_numbers and seat_close. */
 uint32_t mintlintel_host_hold(struct mintlintel_seat *handle, uint32_t sector);
@@ -190,8 +197,16 @@ uint32_t mintlintel_host_release(struct mintlintel_seat *handle);
  * block is to be erased; 2, 9, 20, 21 or 22, with both as they were. */
 uint32_t mintlintel_broom_drain(struct mintlintel_seat *handle, uint32_t *block, uint32_t *moved);
 
+/* Drains the next block by the survey that this broom's last drain made, without a new survey: of the blocks that were closed then, and that the
+ * broom has neither drained nor found changed nor erased since, the one with the fewest live pages then. The codes are those of a drain, with
+ * `block` and `moved` as they were unless it returns 0: 20 if no such block is left (as before the broom's first drain) or it was all live. */
+uint32_t mintlintel_broom_drain_next(struct mintlintel_seat *handle, uint32_t *block, uint32_t *moved);
+
 /* Erases a drained block: 0 if it is free, 26 if the broom keeps it as its spare, 23 if it was the block's last erase; 2, 9, 10, 24 or 25. */
 uint32_t mintlintel_broom_erase(struct mintlintel_seat *handle, uint32_t block);
+
+/* Makes a free block the spare of a broom that has none: 0 if the broom has a spare now; 2, 9, or 21 if it has none and no block is free. */
+uint32_t mintlintel_broom_restock(struct mintlintel_seat *handle);
 
 #ifdef __cplusplus
 }

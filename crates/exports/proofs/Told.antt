@@ -1,8 +1,12 @@
--- What a code tells of a sector, and what a handle has of what its seat has.
-use Rattle.std.proofs.Common.{◌≡◌, Option, Some, refl, sym, subst}
+-- What a code tells of a sector or of a drain, and what a handle has of what its seat has.
+use Rattle.std.proofs.Common.{◌≡◌, ◌≢◌, Option, Some, refl, sym, subst}
 use Rattle.geometry.specs.declared.answer.Was.{Was}
 use Rattle.geometry.specs.declared.answer.Was.TheVariants as was
 use Rattle.exports.specs.Codes.{was_code}
+use Rattle.broom.specs.declared.broom.Broom.{Broom}
+use Rattle.broom.specs.declared.answer.Drain.{Drain}
+use Rattle.broom.specs.declared.answer.Drain.TheVariants as drain
+use Rattle.broom.specs.Told.{DrainTold, NextTold}
 use Rattle.flash_table.specs.declared.pass.Pass.{Pass}
 use Rattle.volume.specs.declared.volume.Volume.{Volume}
 use Rattle.exports.specs.Shared.{was_by, OnHandle, HostCalled, host_volume}
@@ -14,6 +18,18 @@ use Rattle.exports.specs.declared.seat.Seat.{Seat}
 pub was_back : (w : Was) → was_by (was_code w) ≡ w
 was_back was.Empty = refl
 was_back was.Written = refl
+
+-- a drain does not find the queue full
+pub drain_has_room : (before : Broom) (answer : Drain) (after : Broom) → DrainTold before answer after → answer ≢ drain.QueueFull
+drain_has_room before answer after told is = subst (λ (a : Drain). DrainTold before a after) is told
+
+-- nor does one by the last survey
+pub next_has_room : (before : Broom) (answer : Drain) (after : Broom) → NextTold before answer after → answer ≢ drain.QueueFull
+next_has_room before answer after told is = subst (λ (a : Drain). NextTold before a after) is told
+
+-- what holds of a drain's answer holds of the answer that its code says
+pub as_said : (P : Drain → Type 0) (answer said : Drain) → answer ≢ drain.QueueFull → (answer ≢ drain.QueueFull → said ≡ answer) → P answer → P said
+as_said P answer said room same holds = subst P (sym (same room)) holds
 
 -- what holds of the seats before and after holds of the handle that had and has them
 pub on_open : (says : Seat → Seat → Type 0) (before after : Option Seat) (x y : Seat) → Some x ≡ before → after ≡ Some y → says x y → OnHandle before says after

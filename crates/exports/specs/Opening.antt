@@ -6,8 +6,8 @@ use Rattle.geometry.specs.declared.fault.GeometryFault.{GeometryFault}
 use Rattle.flash_table.specs.declared.pass.Pass.{Pass}
 use Rattle.flash_table.specs.Flash.{view_of, device, first_view}
 use Rattle.broom.specs.declared.broom.Broom.{Broom}
-use Rattle.volume.specs.Brooms.{IsUnused}
-use Rattle.volume.specs.Volume.{flash_of}
+use Rattle.volume.specs.Brooms.{IsFresh, IsUnused}
+use Rattle.volume.specs.Volume.{flash_of, queue_of}
 use Rattle.volume.specs.declared.volume.Volume.{Volume}
 use Rattle.exports.specs.declared.handle.Handle.{Handle}
 use Rattle.exports.specs.declared.seat.Seat.{Seat}
@@ -63,9 +63,9 @@ EachAt {X} P xs = (k : ℕ) (x : X) → k < length xs → P k (slice_index_or xs
 abbrev pub IsFirstPass : Volume → ℕ → Pass → Type 0
 IsFirstPass v t p = view_of p ≡ first_view (device (flash_of v)) t
 
--- broom i of a device has done nothing yet
+-- broom i of a device has done nothing yet: it has made no survey, and set nothing aside
 abbrev pub IsFirstBroom : Volume → ℕ → Broom → Type 0
-IsFirstBroom v i b = IsUnused (flash_of v) i b
+IsFirstBroom v i b = IsUnused (flash_of v) i b × IsFresh (flash_of v) (queue_of v) b
 
 -- a handle has pass t of this device, which has done nothing yet
 abbrev pub IsFreshHost : Volume → ℕ → Handle → Type 0

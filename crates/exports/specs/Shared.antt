@@ -1,6 +1,6 @@
 -- A seat at a shared device, as its caller sees it. For each call one total function gives the code that has to come, and says between
 -- which passes or brooms the clauses of the device's own call hold.
-use Rattle.std.specs.Prelude.{◌≡◌, ℕ, ◌==◌, true, false, nat_le, if◌then◌else◌, List, [], length, Option, None, Some}
+use Rattle.std.specs.Prelude.{◌≡◌, ℕ, ◌==◌, Bool, true, false, nat_le, if◌then◌else◌, List, [], length, Option, None, Some, is_some}
 use Rattle.std.specs.Arc.{arc_value}
 use Rattle.geometry.specs.declared.geometry.Geometry.{Geometry}
 use Rattle.geometry.specs.Geometry.{sectors_of, blocks_of}
@@ -26,7 +26,7 @@ use Rattle.exports.specs.declared.seat.Sweeper.{Sweeper}
 use Rattle.exports.specs.declared.seat.Seat.{Seat}
 use Rattle.exports.specs.declared.seat.Seat.TheVariants as seat
 use Rattle.exports.specs.declared.reports.NumbersReport.{NumbersReport}
-use Rattle.exports.specs.Codes.{was_code}
+use Rattle.exports.specs.Codes.{was_code, as_number}
 use Rattle.exports.specs.One.{by_place, page_over, reported}
 
 -- the numbers of a volume
@@ -90,6 +90,10 @@ read_code s n seen x = if_host x 9 (λ h. by_place (numbers_of (host_volume h)) 
 abbrev pub read_buffer : ℕ → List ℕ → List Call → Seat → List ℕ
 read_buffer s out seen x = if_host x out (λ h. by_place (numbers_of (host_volume h)) s (length out) out out (page_over (sector_after h seen s) out))
 
+-- the code of a look, by what its pass has seen in the end: whether the sector is written
+abbrev pub look_code : ℕ → List Call → Seat → ℕ
+look_code s seen x = if_host x 9 (λ h. if nat_le (sectors_of (numbers_of (host_volume h))) s then 3 else as_number (is_some (sector_after h seen s)))
+
 -- the code of a write that its checks have let through: 0 and 1 for what the sector was, and else 7
 abbrev pub block_found : ℕ → ℕ
 block_found n = if nat_le n 1 then n else 7
@@ -105,6 +109,10 @@ trim_code s result x = if_host x 9 (λ h. if nat_le (sectors_of (numbers_of (hos
 -- what a read got, by its code
 abbrev pub got_by : ℕ → Got
 got_by n = if n == 0 then got.Empty else got.Data
+
+-- whether a sector is written, by the code of a look
+abbrev pub written_by : ℕ → Bool
+written_by n = n == 1
 
 -- what a sector was, by the code of a call
 abbrev pub was_by : ℕ → Was
@@ -127,6 +135,14 @@ erase_by n block =
 abbrev pub erase_code : ℕ → ℕ → Seat → ℕ
 erase_code b result x = if_sweeper x 9 (λ s. if nat_le (blocks_of (numbers_of (sweeper_volume s))) b then 10 else
     (if result == 0 then 0 else (if result == 26 then 26 else (if result == 23 then 23 else (if result == 24 then 24 else 25)))))
+
+-- whether a broom has a spare, by the code of a restock
+abbrev pub stocked_by : ℕ → Bool
+stocked_by n = n == 0
+
+-- the code of a restock: 0 and 21 for its two answers
+abbrev pub restock_code : ℕ → Seat → ℕ
+restock_code result x = if_sweeper x 9 (λ s. if result == 0 then 0 else 21)
 
 -- a seat is a host at this one's device, and this holds of the device and of its pass before and after
 abbrev pub GoesOnAs : Host → (Volume → Pass → Pass → Type 0) → Seat → Type 0

@@ -19,18 +19,18 @@ pub const WORN_OUT: u32 = 5;
 /// The heap has no room for the device.
 pub const NO_MEMORY: u32 = 6;
 /// No block is free for a write.
-pub const NO_FREE_BLOCK: u32 = 7;
+pub const NO_BLOCK: u32 = 7;
 /// A handle is open already.
 pub const ALREADY_OPEN: u32 = 8;
 /// The handle is of another kind.
 pub const WRONG_KIND: u32 = 9;
 /// The device has no such block, or a page no such word.
-pub const NO_BLOCK: u32 = 10;
+pub const NO_SUCH_BLOCK: u32 = 10;
 /// A device has too many hosts or brooms, or a shared one no host.
-pub const WRONG_COUNTS: u32 = 107;
+pub const BAD_SEATS: u32 = 107;
 /// A drain has nothing to gain.
 pub const NOTHING_TO_GAIN: u32 = 20;
-/// A broom has no spare to drain into.
+/// A broom has no spare to drain into, or a restock finds no block for one.
 pub const NO_SPARE: u32 = 21;
 /// The state of a drain's block changed meanwhile.
 pub const LOST: u32 = 22;

@@ -9,7 +9,7 @@ ghost use Rattle.volume.specs.Volume.{flash_of};
 ghost use Rattle.exports.specs.Holds.{held_value};
 ghost use Rattle.exports.specs.Shared.{numbers_of, holder_volume};
 
-use crate::codes::{DONE, NO_BLOCK, NOT_A_PAGE, WRITTEN};
+use crate::codes::{DONE, NO_SUCH_BLOCK, NOT_A_PAGE, WRITTEN};
 use crate::seat::Holder;
 
 impl Holder {
@@ -39,7 +39,7 @@ impl Holder {
         ensures undisturbed { result ≡ 0 → IsUndisturbed (flash_of (holder_volume self.old)) self.old.held (view_of (pass_of self.old.held)).copy self.new.held }
     {
         if i >= self.volume.geometry().words() {
-            return NO_BLOCK;
+            return NO_SUCH_BLOCK;
         }
         *out = self.volume.word(&mut self.held, i);
         DONE

@@ -1,17 +1,17 @@
 //! The calls of a host, by codes.
-ghost use Rattle.std.specs.Prelude.{◌≡◌, ◌<◌, ◌≤◌, ℕ, if◌then◌else◌, nat_le, length};
+ghost use Rattle.std.specs.Prelude.{◌≡◌, ◌<◌, ◌≤◌, ℕ, if◌then◌else◌, is_some, nat_le, length};
 ghost use Rattle.geometry.specs.Geometry.{sectors_of};
 ghost use Rattle.geometry.specs.History as call;
 ghost use Rattle.geometry.specs.Sectors.{was_of};
-ghost use Rattle.flash_table.specs.Flash.{view_of};
+ghost use Rattle.flash_table.specs.Flash.{view_of, opened_of};
 ghost use Rattle.flash_table.specs.Steps.{HasCalled, HasNumber};
 ghost use Rattle.host.specs.Told.{Searched, Wrote, WroteNew, Refused};
-ghost use Rattle.volume.specs.Correct.{Does, Read, Write, WriteNew, Trim, Found, Replaced};
-ghost use Rattle.exports.specs.Codes.{was_code};
+ghost use Rattle.volume.specs.Correct.{Does, Read, Look, Write, WriteNew, Trim, Found, IsWritten, Replaced};
+ghost use Rattle.exports.specs.Codes.{was_code, as_number};
 ghost use Rattle.exports.specs.One.{by_place, page_over};
-ghost use Rattle.exports.specs.Shared.{numbers_of, host_volume, sector_after, block_found, got_by, was_by};
+ghost use Rattle.exports.specs.Shared.{numbers_of, host_volume, sector_after, block_found, got_by, written_by, was_by};
 
-use crate::codes::{DONE, NO_FREE_BLOCK, NO_SECTOR, NOT_A_PAGE, WRITTEN, code_of};
+use crate::codes::{DONE, NO_BLOCK, NO_SECTOR, NOT_A_PAGE, WRITTEN, code_of};
 use crate::seat::Host;
 use volume::{Got, NewFault};
 
@@ -38,6 +38,25 @@ impl Host {
         }
     }
 
+    // Whether a sector is written, by one look.
+    pub(crate) fn look(&mut self, sector: u32) -> u32
+        ensures device { self.new.volume ≡ self.old.volume }
+        ensures code { result ≡ if nat_le (sectors_of (numbers_of (host_volume self.old))) sector then 3 else as_number (is_some (sector_after self.old (view_of self.new.pass).seen sector)) }
+        ensures correct { result ≤ 1 → Does (host_volume self.old) self.old.pass (Look sector) (IsWritten (written_by result)) self.new.pass }
+        ensures told { result ≤ 1 → Searched (view_of self.old.pass) 1 (view_of self.new.pass) }
+        ensures opened { opened_of self.new.pass ≡ opened_of self.old.pass }
+        ensures same { 1 < result → self.new.pass ≡ self.old.pass }
+    {
+        if sector >= self.volume.geometry().sectors() {
+            return NO_SECTOR;
+        }
+        if self.volume.look(&mut self.pass, sector) {
+            WRITTEN
+        } else {
+            DONE
+        }
+    }
+
     // Writes bytes to a sector, and answers what it was.
     pub(crate) fn write(&mut self, sector: u32, bytes: &[u8]) -> u32
         ensures device { self.new.volume ≡ self.old.volume }
@@ -57,7 +76,7 @@ impl Host {
         }
         match self.volume.write(&mut self.pass, sector, bytes) {
             Ok(was) => code_of(was),
-            Err(_) => NO_FREE_BLOCK,
+            Err(_) => NO_BLOCK,
         }
     }
 
@@ -81,7 +100,7 @@ impl Host {
         match self.volume.write_new(&mut self.pass, sector, bytes) {
             Ok(()) => DONE,
             Err(NewFault::Written) => WRITTEN,
-            Err(NewFault::NoBlock) => NO_FREE_BLOCK,
+            Err(NewFault::NoBlock) => NO_BLOCK,
         }
     }
 

@@ -4,7 +4,9 @@ ghost use Rattle.geometry.specs.Limits.{numbers};
 ghost use Rattle.exports.specs.Handles.{seat_of};
 ghost use Rattle.exports.specs.One.{state_in, state_of, on_state, code_on, filled_on, write_on, write_new_on, trim_on, read_on, buffer_on, totals_on, reported, block_on, report_on, open_code, IsFreshIn};
 
-use crate::codes::{ALREADY_OPEN, CLOSED, DONE, NO_BLOCK, NO_MEMORY, WRONG_KIND, code_of_fault};
+use crate::codes::{
+    ALREADY_OPEN, CLOSED, DONE, NO_MEMORY, NO_SUCH_BLOCK, WRONG_KIND, code_of_fault,
+};
 use crate::handle::Handle;
 use crate::layer;
 use crate::reports::{BlockReport, NumbersReport, Totals};
@@ -239,7 +241,7 @@ fn report(seat: &Seat, block: u32, out: &mut BlockReport) -> u32
         return WRONG_KIND;
     };
     if block >= layer.geometry().blocks() {
-        return NO_BLOCK;
+        return NO_SUCH_BLOCK;
     }
     *out = layer::block(layer, block);
     DONE

@@ -10,7 +10,7 @@ ghost use Rattle.exports.specs.Codes.{fault_code};
 ghost use Rattle.exports.specs.Handles.{seat_of};
 ghost use Rattle.exports.specs.Opening.{IsClosed, EachAt, IsFirstPass, IsFirstBroom, IsPassIn, IsBroomIn, IsFreshHost, IsFreshBroom, AreFresh, capped, shared_open_code, shared_fault_code};
 
-use crate::codes::{ALREADY_OPEN, DONE, NO_MEMORY, WRONG_COUNTS, code_of_fault};
+use crate::codes::{ALREADY_OPEN, BAD_SEATS, DONE, NO_MEMORY, code_of_fault};
 use crate::handle::Handle;
 use crate::seat::{Host, Seat, Sweeper};
 use std::alloc::Global;
@@ -190,8 +190,8 @@ fn code_of_shared_fault(hosts: u32, fault: GeometryFault) -> u32
     ensures over { 100 < result }
 {
     let code = code_of_fault(fault);
-    if hosts == 0 && code > WRONG_COUNTS {
-        WRONG_COUNTS
+    if hosts == 0 && code > BAD_SEATS {
+        BAD_SEATS
     } else {
         code
     }
@@ -239,7 +239,7 @@ pub extern "C" fn mintlintel_shared_open(
         Err(fault) => return code_of_shared_fault(host_count, fault),
     };
     if host_count == 0 {
-        return WRONG_COUNTS;
+        return BAD_SEATS;
     }
     if deal(alloc, &geometry, hosts, brooms) {
         DONE

@@ -2,18 +2,19 @@
 ghost use Rattle.std.specs.Prelude.{◌≡◌, ◌≢◌, ◌<◌, ◌≤◌, ℕ, length};
 ghost use Rattle.geometry.specs.Geometry.{blocks_of};
 ghost use Rattle.geometry.specs.History as call;
-ghost use Rattle.flash_table.specs.Flash.{view_of};
+ghost use Rattle.flash_table.specs.Flash.{view_of, opened_of};
 ghost use Rattle.flash_table.specs.Steps.{HasCalled, HasNumber};
 ghost use Rattle.host.specs.Told.{Searched, Wrote, WroteNew, Refused};
-ghost use Rattle.broom.specs.Told.{DrainTold};
+ghost use Rattle.broom.specs.Told.{DrainTold, NextTold, SurveyLeft, KeepsSurvey, Unmarks};
 ghost use Rattle.broom.specs.Erasing.{EraseTold};
 ghost use Rattle.broom.specs.Handing.{HandsNothing, IsBelow};
+ghost use Rattle.broom.specs.Restocking.{RestockTold};
 ghost use Rattle.host.specs.Holding.{pass_of, page_of};
 ghost use Rattle.volume.specs.Volume.{flash_of};
 ghost use Rattle.volume.specs.Undisturbed.{IsUndisturbed};
 ghost use Rattle.exports.specs.Holding.{hold_code, HoldCalled, HolderCalled, ReleaseCalled, copy_code, copied, word_code, word_read, page_report, if_holder};
-ghost use Rattle.volume.specs.Correct.{Does, Read, Write, WriteNew, Trim, Found, Replaced};
-ghost use Rattle.exports.specs.Shared.{numbers_of, seen_in, HostCalled, BroomCalled, read_code, read_buffer, write_code, trim_code, got_by, was_by, drain_code, drain_by, erase_code, erase_by, numbers_code, numbers_report};
+ghost use Rattle.volume.specs.Correct.{Does, Read, Look, Write, WriteNew, Trim, Found, IsWritten, Replaced};
+ghost use Rattle.exports.specs.Shared.{numbers_of, seen_in, HostCalled, BroomCalled, read_code, read_buffer, look_code, write_code, trim_code, got_by, written_by, was_by, drain_code, drain_by, erase_code, erase_by, restock_code, stocked_by, numbers_code, numbers_report};
 
 use crate::codes::{DONE, WRONG_KIND};
 use crate::layer;
@@ -43,6 +44,19 @@ pub(crate) fn read(seat: &mut Seat, sector: u32, out: &mut [u8]) -> u32
 {
     match seat {
         Seat::Host(host) => host.read(sector, out),
+        _ => WRONG_KIND,
+    }
+}
+
+pub(crate) fn look(seat: &mut Seat, sector: u32) -> u32
+    ensures code { result ≡ look_code sector (seen_in seat.new) seat.old }
+    ensures correct { HostCalled seat.old (λ v p q. result ≤ 1 → Does v p (Look sector) (IsWritten (written_by result)) q) seat.new }
+    ensures told { HostCalled seat.old (λ v p q. result ≤ 1 → Searched (view_of p) 1 (view_of q)) seat.new }
+    ensures opened { HostCalled seat.old (λ v p q. opened_of q ≡ opened_of p) seat.new }
+    ensures same { HostCalled seat.old (λ v p q. 1 < result → q ≡ p) seat.new }
+{
+    match seat {
+        Seat::Host(host) => host.look(sector),
         _ => WRONG_KIND,
     }
 }
@@ -88,6 +102,7 @@ pub(crate) fn trim(seat: &mut Seat, sector: u32) -> u32
 pub(crate) fn drain(seat: &mut Seat, block: &mut u32, moved: &mut u32) -> u32
     ensures code { result ≡ drain_code result seat.old }
     ensures told { BroomCalled seat.old (λ v b c. DrainTold b (drain_by result block.new moved.new) c) seat.new }
+    ensures left { BroomCalled seat.old (λ v b c. SurveyLeft b (drain_by result block.new moved.new) c) seat.new }
     ensures queue { BroomCalled seat.old (λ v b c. HandsNothing b c) seat.new }
     ensures below { BroomCalled seat.old (λ v b c. IsBelow (blocks_of (numbers_of v)) (drain_by result block.new moved.new)) seat.new }
     ensures block { result ≢ 0 → block.new ≡ block.old }
@@ -99,14 +114,41 @@ pub(crate) fn drain(seat: &mut Seat, block: &mut u32, moved: &mut u32) -> u32
     }
 }
 
+pub(crate) fn drain_next(seat: &mut Seat, block: &mut u32, moved: &mut u32) -> u32
+    ensures code { result ≡ drain_code result seat.old }
+    ensures told { BroomCalled seat.old (λ v b c. NextTold b (drain_by result block.new moved.new) c) seat.new }
+    ensures queue { BroomCalled seat.old (λ v b c. HandsNothing b c) seat.new }
+    ensures below { BroomCalled seat.old (λ v b c. IsBelow (blocks_of (numbers_of v)) (drain_by result block.new moved.new)) seat.new }
+    ensures block { result ≢ 0 → block.new ≡ block.old }
+    ensures moved { result ≢ 0 → moved.new ≡ moved.old }
+{
+    match seat {
+        Seat::Sweeper(sweeper) => sweeper.drain_next(block, moved),
+        _ => WRONG_KIND,
+    }
+}
+
 pub(crate) fn erase(seat: &mut Seat, block: u32) -> u32
     ensures code { result ≡ erase_code block result seat.old }
     ensures told { BroomCalled seat.old (λ v b c. result ≢ 10 → EraseTold b block (erase_by result block) c) seat.new }
+    ensures marks { BroomCalled seat.old (λ v b c. result ≢ 10 → Unmarks b block c) seat.new }
     ensures queue { BroomCalled seat.old (λ v b c. result ≢ 10 → HandsNothing b c) seat.new }
     ensures same { BroomCalled seat.old (λ v b c. result ≡ 10 → c ≡ b) seat.new }
 {
     match seat {
         Seat::Sweeper(sweeper) => sweeper.erase(block),
+        _ => WRONG_KIND,
+    }
+}
+
+pub(crate) fn restock(seat: &mut Seat) -> u32
+    ensures code { result ≡ restock_code result seat.old }
+    ensures told { BroomCalled seat.old (λ v b c. RestockTold b (stocked_by result) c) seat.new }
+    ensures queue { BroomCalled seat.old (λ v b c. HandsNothing b c) seat.new }
+    ensures survey { BroomCalled seat.old (λ v b c. KeepsSurvey b c) seat.new }
+{
+    match seat {
+        Seat::Sweeper(sweeper) => sweeper.restock(),
         _ => WRONG_KIND,
     }
 }

@@ -2,19 +2,20 @@
 ghost use Rattle.std.specs.Prelude.{◌≡◌, ◌≢◌, ◌<◌, ◌≤◌, ℕ, None, length};
 ghost use Rattle.geometry.specs.Geometry.{blocks_of};
 ghost use Rattle.geometry.specs.History as call;
-ghost use Rattle.flash_table.specs.Flash.{view_of};
+ghost use Rattle.flash_table.specs.Flash.{view_of, opened_of};
 ghost use Rattle.flash_table.specs.Steps.{HasCalled, HasNumber};
 ghost use Rattle.host.specs.Told.{Searched, Wrote, WroteNew, Refused};
-ghost use Rattle.broom.specs.Told.{DrainTold};
+ghost use Rattle.broom.specs.Told.{DrainTold, NextTold, SurveyLeft, KeepsSurvey, Unmarks};
 ghost use Rattle.broom.specs.Erasing.{EraseTold};
 ghost use Rattle.broom.specs.Handing.{HandsNothing, IsBelow};
+ghost use Rattle.broom.specs.Restocking.{RestockTold};
 ghost use Rattle.host.specs.Holding.{pass_of, page_of};
 ghost use Rattle.volume.specs.Volume.{flash_of};
 ghost use Rattle.volume.specs.Undisturbed.{IsUndisturbed};
 ghost use Rattle.exports.specs.Holding.{hold_code, HoldCalled, HolderCalled, ReleaseCalled, copy_code, copied, word_code, word_read, page_report, if_holder};
-ghost use Rattle.volume.specs.Correct.{Does, Read, Write, WriteNew, Trim, Found, Replaced};
+ghost use Rattle.volume.specs.Correct.{Does, Read, Look, Write, WriteNew, Trim, Found, IsWritten, Replaced};
 ghost use Rattle.exports.specs.Handles.{seat_of};
-ghost use Rattle.exports.specs.Shared.{numbers_of, on_handle, seen_of, OnHandle, HostCalled, BroomCalled, read_code, read_buffer, write_code, trim_code, got_by, was_by, drain_code, drain_by, erase_code, erase_by, numbers_code, numbers_report};
+ghost use Rattle.exports.specs.Shared.{numbers_of, on_handle, seen_of, OnHandle, HostCalled, BroomCalled, read_code, read_buffer, look_code, write_code, trim_code, got_by, written_by, was_by, drain_code, drain_by, erase_code, erase_by, restock_code, stocked_by, numbers_code, numbers_report};
 
 use crate::codes::CLOSED;
 use crate::handle::Handle;
@@ -68,6 +69,24 @@ pub extern "C" fn mintlintel_host_read(
         return CLOSED;
     };
     let code = seats::read(&mut seat, sector, out);
+    handle.put(seat);
+    code
+}
+
+/// Whether a sector is written, by one look at its map word. No page is read.
+#[unsafe(no_mangle)]
+#[tactic(auto, using(crate::proofs::Told::on_open))]
+pub extern "C" fn mintlintel_host_look(alloc: Global, handle: &mut Handle, sector: u32) -> u32
+    ensures code { result ≡ on_handle (seat_of handle.old) 2 (look_code sector (seen_of (seat_of handle.new))) }
+    ensures correct { OnHandle (seat_of handle.old) (λ x y. HostCalled x (λ v p q. result ≤ 1 → Does v p (Look sector) (IsWritten (written_by result)) q) y) (seat_of handle.new) }
+    ensures told { OnHandle (seat_of handle.old) (λ x y. HostCalled x (λ v p q. result ≤ 1 → Searched (view_of p) 1 (view_of q)) y) (seat_of handle.new) }
+    ensures opened { OnHandle (seat_of handle.old) (λ x y. HostCalled x (λ v p q. opened_of q ≡ opened_of p) y) (seat_of handle.new) }
+    ensures same { OnHandle (seat_of handle.old) (λ x y. HostCalled x (λ v p q. 1 < result → q ≡ p) y) (seat_of handle.new) }
+{
+    let Some(mut seat) = handle.take(alloc) else {
+        return CLOSED;
+    };
+    let code = seats::look(&mut seat, sector);
     handle.put(seat);
     code
 }
@@ -232,6 +251,7 @@ pub extern "C" fn mintlintel_broom_drain(
 ) -> u32
     ensures code { result ≡ on_handle (seat_of handle.old) 2 (drain_code result) }
     ensures told { OnHandle (seat_of handle.old) (λ x y. BroomCalled x (λ v b c. DrainTold b (drain_by result block.new moved.new) c) y) (seat_of handle.new) }
+    ensures left { OnHandle (seat_of handle.old) (λ x y. BroomCalled x (λ v b c. SurveyLeft b (drain_by result block.new moved.new) c) y) (seat_of handle.new) }
     ensures queue { OnHandle (seat_of handle.old) (λ x y. BroomCalled x (λ v b c. HandsNothing b c) y) (seat_of handle.new) }
     ensures below { OnHandle (seat_of handle.old) (λ x y. BroomCalled x (λ v b c. IsBelow (blocks_of (numbers_of v)) (drain_by result block.new moved.new)) y) (seat_of handle.new) }
     ensures block { result ≢ 0 → block.new ≡ block.old }
@@ -245,11 +265,35 @@ pub extern "C" fn mintlintel_broom_drain(
     code
 }
 
+/// Drains the next block by the survey that the broom made last. With 0 its number and how many pages moved are handed out.
+#[unsafe(no_mangle)]
+pub extern "C" fn mintlintel_broom_drain_next(
+    alloc: Global,
+    handle: &mut Handle,
+    block: &mut u32,
+    moved: &mut u32,
+) -> u32
+    ensures code { result ≡ on_handle (seat_of handle.old) 2 (drain_code result) }
+    ensures told { OnHandle (seat_of handle.old) (λ x y. BroomCalled x (λ v b c. NextTold b (drain_by result block.new moved.new) c) y) (seat_of handle.new) }
+    ensures queue { OnHandle (seat_of handle.old) (λ x y. BroomCalled x (λ v b c. HandsNothing b c) y) (seat_of handle.new) }
+    ensures below { OnHandle (seat_of handle.old) (λ x y. BroomCalled x (λ v b c. IsBelow (blocks_of (numbers_of v)) (drain_by result block.new moved.new)) y) (seat_of handle.new) }
+    ensures block { result ≢ 0 → block.new ≡ block.old }
+    ensures moved { result ≢ 0 → moved.new ≡ moved.old }
+{
+    let Some(mut seat) = handle.take(alloc) else {
+        return CLOSED;
+    };
+    let code = seats::drain_next(&mut seat, block, moved);
+    handle.put(seat);
+    code
+}
+
 /// Erases a drained block that nobody reads.
 #[unsafe(no_mangle)]
 pub extern "C" fn mintlintel_broom_erase(alloc: Global, handle: &mut Handle, block: u32) -> u32
     ensures code { result ≡ on_handle (seat_of handle.old) 2 (erase_code block result) }
     ensures told { OnHandle (seat_of handle.old) (λ x y. BroomCalled x (λ v b c. result ≢ 10 → EraseTold b block (erase_by result block) c) y) (seat_of handle.new) }
+    ensures marks { OnHandle (seat_of handle.old) (λ x y. BroomCalled x (λ v b c. result ≢ 10 → Unmarks b block c) y) (seat_of handle.new) }
     ensures queue { OnHandle (seat_of handle.old) (λ x y. BroomCalled x (λ v b c. result ≢ 10 → HandsNothing b c) y) (seat_of handle.new) }
     ensures same { OnHandle (seat_of handle.old) (λ x y. BroomCalled x (λ v b c. result ≡ 10 → c ≡ b) y) (seat_of handle.new) }
 {
@@ -257,6 +301,22 @@ pub extern "C" fn mintlintel_broom_erase(alloc: Global, handle: &mut Handle, blo
         return CLOSED;
     };
     let code = seats::erase(&mut seat, block);
+    handle.put(seat);
+    code
+}
+
+/// Makes a free block the spare of a broom that has none.
+#[unsafe(no_mangle)]
+pub extern "C" fn mintlintel_broom_restock(alloc: Global, handle: &mut Handle) -> u32
+    ensures code { result ≡ on_handle (seat_of handle.old) 2 (restock_code result) }
+    ensures told { OnHandle (seat_of handle.old) (λ x y. BroomCalled x (λ v b c. RestockTold b (stocked_by result) c) y) (seat_of handle.new) }
+    ensures queue { OnHandle (seat_of handle.old) (λ x y. BroomCalled x (λ v b c. HandsNothing b c) y) (seat_of handle.new) }
+    ensures survey { OnHandle (seat_of handle.old) (λ x y. BroomCalled x (λ v b c. KeepsSurvey b c) y) (seat_of handle.new) }
+{
+    let Some(mut seat) = handle.take(alloc) else {
+        return CLOSED;
+    };
+    let code = seats::restock(&mut seat);
     handle.put(seat);
     code
 }

@@ -1,0 +1,18 @@
+use Rattle.std.proofs.Common.{subst}
+use Rattle.geometry.specs.Geometry.{blocks_of}
+use Rattle.broom.specs.Told.{NextTold}
+use Rattle.broom.specs.Handing.{IsBelow}
+use Rattle.volume.specs.declared.volume.Volume.{Volume}
+use Rattle.exports.specs.Shared.{numbers_of, sweeper_volume}
+use Rattle.exports.proofs.Told.{as_said, next_has_room}
+use Rattle.exports.proofs.seat.Sweeper.drain_next.Goals as goal
+
+pub returns-clause-told : goal.returns-clause-told
+returns-clause-told c =
+    let told = c.drain_next-answer.ensures.told in
+    as_said (λ a. NextTold c.args.self.now.broom a c.drain_next-answer.new.broom) _ _ (next_has_room _ _ _ told) c.hand_out.ensures.answer told
+
+pub returns-clause-below : goal.returns-clause-below
+returns-clause-below c =
+    let below = subst (λ (v : Volume). IsBelow (blocks_of (numbers_of v)) c.drain_next-answer.result) c.deref.ensures c.drain_next-answer.ensures.block in
+    as_said (IsBelow (blocks_of (numbers_of (sweeper_volume c.args.self.now)))) _ _ (next_has_room _ _ _ c.drain_next-answer.ensures.told) c.hand_out.ensures.answer below
