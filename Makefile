@@ -19,7 +19,7 @@ install: all
 	install -m 755 -s $(PROGRAM) $(LIB)/flashplay
 	install -m 755 tools/trace tools/report tools/sweep tools/model $(LIB)/tools
 	install -m 644 tools/simulation/*.py tools/simulation/*.css $(LIB)/tools/simulation
-	ln -sf ../lib/mintlintel/flashplay $(BIN)/flashplay
+	install -m 755 tools/flashplay $(BIN)/flashplay
 	for tool in trace report sweep model; do ln -sf ../lib/mintlintel/tools/$$tool $(BIN)/flashplay-$$tool; done
 	.ci/manual $(PROGRAM) $(VERSION) > $(MAN)/flashplay.1
 	install -m 644 README.md CHANGELOG.md CONTRIBUTING.md $(DOC)
@@ -27,7 +27,8 @@ install: all
 	install -d $(DOC)/examples/parts
 	install -m 644 examples/*.csv examples/*.args examples/*.out $(DOC)/examples
 	install -m 644 examples/parts/*.toml $(DOC)/examples/parts
-	{ git describe --always --abbrev=40 --dirty --exclude='*'; rt version; } > $(DOC)/BUILT_FROM
+	commit=$$(git describe --always --abbrev=40 --dirty --exclude='*') && version=$$(rt version) && \
+	  printf 'commit %s\nproved with %s\n' "$$commit" "$$version" > $(LIB)/BUILT_FROM
 	if [ -e bindings/Makefile ]; then $(MAKE) -C bindings install DESTDIR=$(abspath $(DESTDIR)) PREFIX=$(PREFIX); fi
 
 dist: all
