@@ -194,18 +194,18 @@ class Parts(InARoom):
 
     def test_times_that_no_part_has_are_named(self):
         for text, told in [
-            (self.good.replace("copyback = 220", "copyback = 0"), "the copyback 0 takes no time; a part without one leaves it out"),
-            (self.good.replace("read = 25", "read = -1"), "the read -1 is no time in microseconds"),
-            (self.good.replace("read = 25", "read = 0"), "the read 0 takes no time"),
-            (self.good.replace("transfer = 0", "transfer = -0.5"), "the transfer -0.5 is no time"),
-            (self.good.replace("erase = 1500", "erase = inf"), "the erase inf is no time"),
-            (self.good.replace("erase = 1500", "erase = nan"), "the erase nan is no time"),
-            (self.good.replace("erase = 1500", 'erase = "1500"'), "the erase '1500' is no time"),
-            (self.good.replace("erase = 1500", "erase = true"), "the erase True is no time"),
+            (self.good.replace("copyback = 220", "copyback = 0"), "the copyback 0 is less than a nanosecond; leave it out for a part without it"),
+            (self.good.replace("read = 25", "read = -1"), "the read -1 isn't a time in microseconds"),
+            (self.good.replace("read = 25", "read = 0"), "the read 0 is less than a nanosecond"),
+            (self.good.replace("transfer = 0", "transfer = -0.5"), "the transfer -0.5 isn't a time"),
+            (self.good.replace("erase = 1500", "erase = inf"), "the erase inf isn't a time"),
+            (self.good.replace("erase = 1500", "erase = nan"), "the erase nan isn't a time"),
+            (self.good.replace("erase = 1500", 'erase = "1500"'), "the erase '1500' isn't a time"),
+            (self.good.replace("erase = 1500", "erase = true"), "the erase True isn't a time"),
             (self.good.replace("program = 200.5\n", ""), "the time 'program' is missing"),
-            (self.good + "tPROG = 3\n", "'tPROG' is no key of a part"),
-            (self.good + "read = 3\n", "is no TOML file"),
-            ("\x00", "is no TOML file"),
+            (self.good + "tPROG = 3\n", "'tPROG' isn't a key of a part"),
+            (self.good + "read = 3\n", "isn't a TOML file"),
+            ("\x00", "isn't a TOML file"),
         ]:
             with self.subTest(told), self.assertRaises(faults.Fault) as caught:
                 self.read(text)
