@@ -7,6 +7,7 @@ import os
 import subprocess
 import sysconfig
 import tarfile
+import time
 import zipfile
 from pathlib import Path
 
@@ -34,9 +35,13 @@ def build_wheel(wheel_directory, config_settings=None, metadata_directory=None):
     files[f"{described}/WHEEL"] = f"Wheel-Version: 1.0\nGenerator: packing\nRoot-Is-Purelib: false\nTag: {TAG}\n".encode()
     record = "".join(f"{path},sha256={digest(data)},{len(data)}\n" for path, data in files.items())
     files[f"{described}/RECORD"] = (record + f"{described}/RECORD,,\n").encode()
-    with zipfile.ZipFile(Path(wheel_directory) / name, "w", zipfile.ZIP_DEFLATED) as wheel:
+    # The same files make the same wheel: their time is SOURCE_DATE_EPOCH, or else the first that a zip file can have.
+    made = time.gmtime(max(int(os.environ.get("SOURCE_DATE_EPOCH", "0")), 315_532_800))[:6]
+    with zipfile.ZipFile(Path(wheel_directory) / name, "w") as wheel:
         for path, data in files.items():
-            wheel.writestr(path, data)
+            entry = zipfile.ZipInfo(path, made)
+            entry.external_attr = 0o644 << 16
+            wheel.writestr(entry, data, zipfile.ZIP_DEFLATED)
     return name
 
 

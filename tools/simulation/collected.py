@@ -70,13 +70,13 @@ def _collections(lines) -> Collections:
 def _add(log: Collections, number: int, line: bytes):
     parts = line.split(b",")
     if len(parts) != 6:
-        raise LineFault(number, f"a collection has 6 fields, and this line {len(parts)}")
+        raise LineFault(number, f"a collection has 6 fields, and this line has {len(parts)}")
     *parts, outcome = parts
     cause, victim, copied, copybacks, erases = (number_in(text, number, name) for text, name in zip(parts, HEAD.decode().split(",")))
     if log.retired:
-        raise LineFault(number, "a collection behind the one that retired its victim: no spare was left for it")
+        raise LineFault(number, "a collection after the one that retired its victim, which left no spare")
     if log.lines and cause <= log.lines[-1]:
-        raise LineFault(number, f"a collection at line {cause:,} of the trace behind one at line {log.lines[-1]:,}")
+        raise LineFault(number, f"a collection at line {cause:,} of the trace after one at line {log.lines[-1]:,}")
     if copybacks > copied or not erases:
         raise LineFault(number, "more copybacks than copies" if erases else "a victim that wasn't erased")
     if outcome not in (FREED, RETIRED):
@@ -92,10 +92,10 @@ def _add(log: Collections, number: int, line: bytes):
 def _broom(number: int, line: bytes, wanted: int) -> Broom:
     parts = line.split(b",")
     if len(parts) != 1 + len(COUNTS):
-        raise LineFault(number, f"a broom has {1 + len(COUNTS)} fields, and this line {len(parts)}")
+        raise LineFault(number, f"a broom's line has {1 + len(COUNTS)} fields, and this one has {len(parts)}")
     broom, *counts = (number_in(text, number, name) for text, name in zip(parts, BROOMS_HEAD.decode().split(",")))
     if broom != wanted:
-        raise LineFault(number, f"broom {wanted} is wanted here")
+        raise LineFault(number, f"this line should be that of broom {wanted}")
     told = Broom(*counts)
     if told.moved > told.programmed:
         raise LineFault(number, "more pages moved than programmed")
@@ -110,7 +110,7 @@ def check(log: Collections, answers):
         raise Fault(f"the log has {erased:,} erases and {copied:,} copies, and the answers {totals}: they are of two runs", BROKEN)
     for number, line in enumerate(log.lines, 2):
         if not answers.quiet and not answers.programs_at(line):
-            raise Fault(f"line {number} of the log: line {line:,} of the answers is no write that was done: they are of two runs", BROKEN)
+            raise Fault(f"line {number} of the log: line {line:,} of the answers isn't a write that was done: they are of two runs", BROKEN)
 
 
 def _total(number) -> str:

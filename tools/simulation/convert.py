@@ -14,10 +14,10 @@ def add_options(parser):
     parser.add_argument("--page-bytes", type=positive, required=True, metavar="N", help="bytes of a page, which is a sector of the trace")
     parser.add_argument("--sectors", type=positive, required=True, metavar="N", help="sectors of the device")
     past = parser.add_mutually_exclusive_group()
-    past.add_argument("--wrap", action="store_true", help="fold what lies past the device into it, by the page's number modulo the sectors")
+    past.add_argument("--wrap", action="store_true", help="map pages beyond the device into it, by the page's number modulo the sectors")
     past.add_argument("--dense", action="store_true", help="number the pages in the order in which a read or a write first touches them")
-    parser.add_argument("--device", metavar="NAME", help="take one device: a file of an iolog, HOST_DISK of MSR, MAJOR,MINOR of blkparse")
-    parser.add_argument("--action", choices=("Q", "D", "C"), default="D", help="blkparse: where a request is taken: queued, issued (the default) or complete")
+    parser.add_argument("--device", metavar="NAME", help="convert one device: a file of an iolog, HOST_DISK of MSR, MAJOR,MINOR of blkparse")
+    parser.add_argument("--action", choices=("Q", "D", "C"), default="D", help="blkparse: when a request counts: queued, issued (the default) or complete")
     parser.add_argument("--lines", type=positive, metavar="N", help="end the trace after N lines")
     parser.add_argument("--quiet", action="store_true", help="no summary on standard error")
 
@@ -76,4 +76,4 @@ def summary(counts, lines):
 def check_wanted(options, counts):
     """A device that no request names is a mistake of the caller, and no empty trace."""
     if options.device and not counts["requests"]:
-        raise Fault(f"no request of the device {options.device}")
+        raise Fault(f"no request is of the device {options.device}")

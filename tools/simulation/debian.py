@@ -18,4 +18,4 @@ def want(module: str, what: str):
     if os.path.exists(PYTHON) and os.path.realpath(sys.executable) != os.path.realpath(PYTHON):
         sys.stdout.flush()
         os.execv(PYTHON, [PYTHON, *sys.argv])
-    raise Fault(f"{what} need {module}, which isn't installed; this installs it: apt-get install {PACKAGES[module]}")
+    raise Fault(f"{what} need {module}, which isn't installed: apt-get install {PACKAGES[module]}")

@@ -35,7 +35,7 @@ def _plain(source, name):
     begin = source.peek(8)[:8]
     for mark, kind in OTHERS.items():
         if begin.startswith(mark):
-            raise Fault(f"{name} is compressed by {kind}, which isn't read here: decompress it first (gzip and zstd are read)", BROKEN)
+            raise Fault(f"{name} is compressed by {kind}, which the tools don't read: decompress it first (they read gzip and zstd)", BROKEN)
     if begin.startswith(GZIP):
         with _told_as_broken(name):
             yield io.BufferedReader(gzip.GzipFile(fileobj=source), AT_ONCE)
@@ -51,14 +51,14 @@ def _told_as_broken(name):
     try:
         yield
     except (gzip.BadGzipFile, EOFError, zlib.error) as error:
-        raise Fault(f"{name} is no whole gzip file: {error}", BROKEN)
+        raise Fault(f"{name} isn't a complete gzip file: {error}", BROKEN)
 
 
 @contextlib.contextmanager
 def _zstd(source, name):
     """Debian's zstd decompresses, and what it says is told."""
     if shutil.which("zstd") is None:
-        raise Fault(f"{name} is compressed by zstd, which isn't installed; this installs it: apt-get install zstd")
+        raise Fault(f"{name} is compressed by zstd, which isn't installed: apt-get install zstd")
     with subprocess.Popen(["zstd", "-dcq"], stdin=subprocess.PIPE, stdout=subprocess.PIPE, stderr=subprocess.PIPE) as run:
         feeder = threading.Thread(target=_feed, args=(source, run.stdin), daemon=True)
         feeder.start()
@@ -73,7 +73,7 @@ def _zstd(source, name):
             run.wait()
             # What the reader said of the text that was cut off gives way to the reason.
             if ended and run.returncode != 0:
-                raise Fault(f"{name} is no whole zstd file: {errors}", BROKEN)
+                raise Fault(f"{name} isn't a complete zstd file: {errors}", BROKEN)
 
 
 def _feed(source, sink):

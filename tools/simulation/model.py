@@ -174,5 +174,5 @@ def log_of(device, trace, answers):
     played = Model(**device)
     for number, (line, told) in enumerate(itertools.zip_longest(played.play(trace), answers), 1):
         if line is None or line.encode() != told:
-            raise Fault(f"line {number:,} of the answers: the model answers otherwise, so it has no log of this run", BROKEN)
+            raise Fault(f"line {number:,} of the answers: the model's answer differs, so it has no log of this run", BROKEN)
     return played.log()

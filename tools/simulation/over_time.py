@@ -23,7 +23,7 @@ class Piece:
 def in_pieces(answers, log, count: int) -> list:
     """The run in so many pieces, of as many lines as can be each."""
     if answers.quiet:
-        raise Fault("the answers are their last line alone, so it isn't known when pages were written", ARGUMENTS)
+        raise Fault("the answers have only their last line, so it isn't known when pages were written", ARGUMENTS)
     ends = sorted({answers.lines * piece // count for piece in range(1, count + 1)} - {0})
     pieces, line, place = [], 0, 0
     for end in ends:

@@ -49,7 +49,7 @@ def add_options(parser):
     parser.add_argument("--part", metavar="FILE", help="a TOML file with the times of a part")
     for name in TIMES:
         what = "of a block" if name == "erase" else "of a page over the bus" if name == "transfer" else "of a page"
-        parser.add_argument(f"--{name}-time", type=float, metavar="US", help=f"the {name} {what}, in microseconds; in place of the file's")
+        parser.add_argument(f"--{name}-time", type=float, metavar="US", help=f"the {name} {what}, in microseconds; replaces the one of the file")
 
 
 def is_named(options) -> bool:
@@ -79,7 +79,7 @@ def read_part(path) -> dict:
         try:
             return tomllib.loads(source.read().decode())
         except (tomllib.TOMLDecodeError, UnicodeDecodeError) as error:
-            raise Fault(f"{path} is no TOML file: {error}", BROKEN)
+            raise Fault(f"{path} isn't a TOML file: {error}", BROKEN)
 
 
 def part_in(told: dict, where) -> Part:
@@ -87,10 +87,10 @@ def part_in(told: dict, where) -> Part:
     status = ARGUMENTS if where == "the part" else BROKEN
     unknown = sorted(set(told) - {*TIMES, *TEXTS})
     if unknown:
-        raise Fault(f"{where}: {unknown[0]!r} is no key of a part; its times are {', '.join(TIMES)}, in microseconds", status)
+        raise Fault(f"{where}: {unknown[0]!r} isn't a key of a part; the times are {', '.join(TIMES)}, in microseconds", status)
     missing = [name for name in TIMES if name not in told and name not in OPTIONAL]
     if missing:
-        raise Fault(f"{where}: the time {missing[0]!r} is missing; a data sheet has it, and there is no default", status)
+        raise Fault(f"{where}: the time {missing[0]!r} is missing: data sheets have it, and there is no default", status)
     times = {name: _nanoseconds(name, told[name], where, status) for name in TIMES if name in told}
     return Part(str(told.get("name", "")), **times)
 
@@ -98,9 +98,9 @@ def part_in(told: dict, where) -> Part:
 def _nanoseconds(name, time, where, status) -> int:
     is_number = isinstance(time, (int, float)) and not isinstance(time, bool)
     if not is_number or not 0 <= time <= LONGEST:
-        raise Fault(f"{where}: the {name} {time!r} is no time in microseconds from 0 to {LONGEST:,.0f}", status)
+        raise Fault(f"{where}: the {name} {time!r} isn't a time in microseconds from 0 to {LONGEST:,.0f}", status)
     rounded = round(time * NANOSECONDS)
     if rounded == 0 and name not in MAY_BE_ZERO:
-        hint = "; a part without one leaves it out" if name in OPTIONAL else ""
-        raise Fault(f"{where}: the {name} {time!r} takes no time{hint}", status)
+        hint = "; leave it out for a part without it" if name in OPTIONAL else ""
+        raise Fault(f"{where}: the {name} {time!r} is less than a nanosecond{hint}", status)
     return rounded

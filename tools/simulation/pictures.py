@@ -25,7 +25,7 @@ def want():
 def check_name(path):
     """A picture's name says what it is."""
     if pathlib.Path(path).suffix.lower() not in FORMATS:
-        raise Fault(f"a picture's name ends with {' or '.join(FORMATS)}, and not as {path}", ARGUMENTS)
+        raise Fault(f"the name of a picture ends with {' or '.join(FORMATS)}: {path}", ARGUMENTS)
 
 
 def new_axes(across, up, title="", size=SIZE):

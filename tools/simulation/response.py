@@ -54,10 +54,10 @@ def respond(answers, log, of_part, times=None, speed=1.0, first_line=1) -> Respo
     import numpy
 
     if answers.quiet:
-        raise Fault("the answers are their last line alone, so what the lines did isn't known", ARGUMENTS)
+        raise Fault("the answers have only their last line, so it isn't known what the lines did", ARGUMENTS)
     kind = numpy.frombuffer(answers.kinds, dtype=numpy.uint8)
     if first_line > max(1, len(kind)):
-        raise Fault(f"line {first_line:,} lies behind the last of the answers' {len(kind):,} lines", ARGUMENTS)
+        raise Fault(f"line {first_line:,} comes after the last of the answers' {len(kind):,} lines", ARGUMENTS)
     collection = _collection_times(numpy, len(kind), log, of_part)
     service = collection + _own_times(numpy, kind, of_part)
     if times is None:
@@ -160,7 +160,7 @@ def _division(told: Response, page_bytes, requests) -> dict:
     }
     busy = sum(times.values())
     if busy != int(told.service.sum()):
-        raise Fault("the times of the lines aren't those of the totals", BROKEN)
+        raise Fault("the times of the lines don't add up to those of the totals", BROKEN)
     times |= {"rest": whole - busy - _owed(told)}
     out = {f"time_{name}_us": time / MICROSECOND for name, time in times.items()}
     out |= {"time_whole_us": sum(times.values()) / MICROSECOND, "load": _load(told, busy)}

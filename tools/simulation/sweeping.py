@@ -139,7 +139,7 @@ def want_parallel():
     except FileNotFoundError:
         told = ""
     if not told.startswith("GNU parallel"):
-        raise Fault("a sweep needs GNU parallel, which isn't installed; this installs it: apt-get install parallel")
+        raise Fault("a sweep needs GNU parallel, which isn't installed: apt-get install parallel")
 
 
 # What a sweep leaves in its folder.
@@ -158,9 +158,9 @@ def begin(options, points):
         options.out.mkdir(parents=True, exist_ok=True)
         plan.write_text(told)
     elif not options.resume:
-        raise Fault(f"{options.out} has a sweep already; --resume goes on with it, and --force begins anew")
+        raise Fault(f"{options.out} has a sweep already; --resume continues it, and --force starts again")
     elif plan.read_text() != told:
-        raise Fault(f"the sweep in {options.out} is another one: go on with it by the same options, take another folder, or begin anew by --force")
+        raise Fault(f"the sweep in {options.out} is another one: continue it with the same options, name another folder, or start again with --force")
 
 
 @dataclass
@@ -174,7 +174,7 @@ class File:
         for path in (self.path, pathlib.Path(self.path.name)):
             if path.is_file() and sum_of(path) == self.sum:
                 return path
-        raise Fault(f"{self.path} is not the file with which the sweep began")
+        raise Fault(f"{self.path} has changed since the sweep began")
 
 
 def sum_of(path):

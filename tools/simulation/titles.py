@@ -22,9 +22,9 @@ def check_device(options, answers, blocks, log):
         return
     numbers = device.numbers_of(options)
     if blocks is not None and len(blocks) != numbers["blocks"]:
-        raise Fault(f"the wear file has {len(blocks):,} blocks, and the device that the options name {numbers['blocks']:,}", BROKEN)
+        raise Fault(f"the wear file has {len(blocks):,} blocks, and the device of the options has {numbers['blocks']:,}", BROKEN)
     if answers.page_bytes not in (None, 8 * numbers["words"]):
-        raise Fault(f"the reads show pages of {answers.page_bytes:,} bytes, and the device that the options name has {8 * numbers['words']:,}", BROKEN)
+        raise Fault(f"the reads show pages of {answers.page_bytes:,} bytes, and the device of the options has {8 * numbers['words']:,}", BROKEN)
     if isinstance(log, collected.Collections) and len(log):
         if max(log.victims) >= numbers["blocks"] or max(log.copied) >= numbers["pages"] or max(log.erases) > numbers["endurance"]:
-            raise Fault("the log has a victim that the device that the options name doesn't have", BROKEN)
+            raise Fault("the log has a victim that the device of the options can't have", BROKEN)

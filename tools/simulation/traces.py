@@ -34,7 +34,7 @@ class TraceWriter:
 
     def _put(self, line):
         if self._bytes + len(line) > MOST_BYTES:
-            raise Fault(f"the trace would have more than {MOST_BYTES:,} bytes, the most that flashplay takes; --lines ends it earlier")
+            raise Fault(f"the trace would have more than {MOST_BYTES:,} bytes, the most that flashplay reads; --lines limits its length")
         self._bytes += len(line)
         self.lines += 1
         if self._arrivals:

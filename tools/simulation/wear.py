@@ -24,7 +24,7 @@ def read_wear(source):
         raise LineFault(number, f"a wear file begins with `{HEAD.decode()}`")
     blocks = [_block(number, line, number - 2) for number, line in lines]
     if not blocks:
-        raise Fault("the wear file has no block", BROKEN)
+        raise Fault("the wear file has no blocks", BROKEN)
     return blocks
 
 

@@ -13,6 +13,7 @@ PROGRAMS = {
     "rsync": "rsync",
     "zstd": "zstd",
     "chromium": "chromium",
+    "pdftotext": "poppler-utils",
 }
 MODULES = {"numpy": "python3-numpy", "matplotlib": "python3-matplotlib"}
 ALL = (*PROGRAMS.values(), *MODULES.values())

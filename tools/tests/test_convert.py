@@ -118,7 +118,7 @@ class Places(unittest.TestCase):
         self.assertIn("line 2: the log names a second device, a_1 beside a_0", refused.errors)
         self.assertEqual(convert("msr", log, "--device", "a_1").lines, ["0,write,0,00000001"])
         self.assertEqual(convert("msr", log, "--dense").lines, ["0,read,0,", "0,write,1,00000002"])
-        self.assertEqual(convert("msr", log, "--device", "b_0").errors, "trace: no request of the device b_0\n")
+        self.assertEqual(convert("msr", log, "--device", "b_0").errors, "trace: no request is of the device b_0\n")
 
     def test_the_data_may_be_zeros_and_the_trace_cut_short(self):
         done = convert("msr", self.log, "--data", "zeros", "--lines", "2")
@@ -179,17 +179,17 @@ class Compressed(unittest.TestCase):
 
     def test_a_log_in_gzip_is_read_and_a_broken_one_is_named(self):
         self.assertEqual(convert("msr", gzip.compress(self.log)).lines, convert("msr", self.log).lines)
-        self.refuses(gzip.compress(self.log)[:40], "standard input is no whole gzip file")
+        self.refuses(gzip.compress(self.log)[:40], "standard input isn't a complete gzip file")
 
     @needs("zstd")
     def test_a_log_in_zstd_is_read_and_a_broken_one_is_named(self):
         packed = subprocess.run(["zstd", "-qc"], input=self.log, capture_output=True, check=True).stdout
         self.assertEqual(convert("msr", packed).lines, convert("msr", self.log).lines)
         self.assertEqual(convert("msr", packed, "--lines", "1").lines, ["0,write,0,00000001"])
-        self.refuses(packed[:40], "standard input is no whole zstd file")
+        self.refuses(packed[:40], "standard input isn't a complete zstd file")
 
     def test_another_compression_is_named(self):
-        self.refuses(b"BZh91AY&SY", "compressed by bzip2, which isn't read here: decompress it first")
+        self.refuses(b"BZh91AY&SY", "compressed by bzip2, which the tools don't read: decompress it first")
 
 
 class Memory(unittest.TestCase):

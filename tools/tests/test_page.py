@@ -1,5 +1,5 @@
-"""The page of a run, as headless Chromium shows it at three widths: each picture is drawn, nothing overlaps, nothing is cut off, nothing is
-fetched, and nothing logs an error."""
+"""The page of a run, as headless Chromium shows it at three widths, in light and dark, and prints it: each picture is drawn, nothing
+overlaps, nothing is cut off, nothing is fetched, and nothing logs an error."""
 
 import html
 import json
@@ -66,6 +66,35 @@ all();
 """
 
 
+# Writes into the document which scheme the browser prefers, and the colours that the page and its pictures have then.
+COLOURS = """
+<pre id="found"></pre><script>
+const style = e => getComputedStyle(e), of = (list, name) => [...new Set([...list].map(e => style(e)[name]))];
+const pictures = [...document.querySelectorAll("figure svg")].map(svg => {
+  const shapes = [...svg.querySelectorAll("path, use")].filter(e => !e.closest("defs"));
+  const filled = shapes.filter(e => e.tagName == "path" || e.style.fill);
+  return {texts: of(svg.querySelectorAll("text"), "fill"), shapes: [...of(filled, "fill"), ...of(shapes, "stroke")]};
+});
+const dark = matchMedia("(prefers-color-scheme: dark)").matches;
+const told = {dark, paper: style(document.body).backgroundColor, ink: style(document.body).color, pictures};
+document.getElementById("found").textContent = JSON.stringify(told);
+</script></body>
+"""
+LIGHT, DARK = "--blink-settings=preferredColorScheme=1", "--blink-settings=preferredColorScheme=0"
+
+
+def schemes():
+    """The colours of the page by light, by dark and on paper, by their names."""
+    style = (TOOLS / "simulation/page.css").read_text()
+    return [dict(re.findall(r"--(\w+): (#\w{6})", block)) for block in re.findall(r":root \{(.*?)\}", style, re.DOTALL)]
+
+
+def in_digits(colour):
+    """A colour as a style sheet writes it; `none` for no colour."""
+    parts = re.fullmatch(r"rgb\((\d+), (\d+), (\d+)\)", colour)
+    return "#" + "".join(f"{int(part):02x}" for part in parts.groups()) if parts else colour
+
+
 def luminance(colour):
     """The relative luminance of WCAG 2."""
     parts = [int(colour[place : place + 2], 16) / 255 for place in (1, 3, 5)]
@@ -80,10 +109,8 @@ def contrast(one, other):
 class Colours(unittest.TestCase):
     def test_light_dark_and_on_paper_texts_and_lines_stand_out(self):
         """WCAG 2 asks for a contrast of 4.5 for texts and of 3 for graphics."""
-        style = (TOOLS / "simulation/page.css").read_text()
-        schemes = [dict(re.findall(r"--(\w+): (#\w{6})", block)) for block in re.findall(r":root \{(.*?)\}", style, re.DOTALL)]
-        self.assertEqual(len(schemes), 3)
-        for scheme in schemes:
+        self.assertEqual(len(schemes()), 3)
+        for scheme in schemes():
             for name, least in (("ink", 4.5), ("link", 4.5), ("blue", 3), ("gold", 3), ("red", 3)):
                 with self.subTest(name, scheme=scheme):
                     self.assertGreater(contrast(scheme[name], scheme["paper"]), least)
@@ -108,17 +135,61 @@ class Shown(InARoom):
         self.assertEqual((done.status, done.errors), (0, ""))
         return page.read_text(), line
 
-    def look_at(self, page):
-        looked = LOOK.replace("PAGE", json.dumps(page).replace("</", "<\\/")).replace("WIDTHS", json.dumps(WIDTHS))
-        file = self.file("look.html", looked.encode())
-        words = ["--headless", "--no-sandbox", "--disable-gpu", "--disable-dev-shm-usage", "--no-first-run", f"--user-data-dir={self.room}/chromium"]
-        words += ["--enable-logging=stderr", "--virtual-time-budget=20000", "--host-resolver-rules=MAP * ~NOTFOUND", "--dump-dom", f"file://{file}"]
+    def browse(self, page, *words):
+        """What Chromium writes of a page, which may log nothing."""
+        file = self.file("look.html", page.encode())
+        words = ["--headless", "--no-sandbox", "--disable-gpu", "--disable-dev-shm-usage", "--no-first-run", f"--user-data-dir={self.room}/chromium", *words]
+        words += ["--enable-logging=stderr", "--virtual-time-budget=20000", "--host-resolver-rules=MAP * ~NOTFOUND", f"file://{file}"]
         done = subprocess.run(["chromium", *words], capture_output=True, text=True, timeout=120)
         logged = [line for line in done.stderr.splitlines() if "CONSOLE" in line]
         self.assertEqual(logged, [])
+        return done
+
+    def found_in(self, page, *words):
+        """What a script of the page has found."""
+        done = self.browse(page, "--dump-dom", *words)
         found = re.search(r'<pre id="found">(.*?)</pre>', done.stdout, re.DOTALL)
         self.assertTrue(found and found[1], done.stderr)
         return json.loads(html.unescape(found[1]))
+
+    def look_at(self, page):
+        return self.found_in(LOOK.replace("PAGE", json.dumps(page).replace("</", "<\\/")).replace("WIDTHS", json.dumps(WIDTHS)))
+
+    def check_colours(self, page, is_dark):
+        """The page and its pictures have the colours of the scheme, and no others; each text stands out."""
+        told = self.found_in(page.replace("</body>", COLOURS), DARK if is_dark else LIGHT)
+        scheme = schemes()[is_dark]
+        self.assertEqual((told["dark"], in_digits(told["paper"]), in_digits(told["ink"])), (is_dark, scheme["paper"], scheme["ink"]))
+        self.assertEqual(len(told["pictures"]), len(SECTIONS))
+        for picture in told["pictures"]:
+            self.assertEqual([in_digits(colour) for colour in picture["texts"]], [scheme["ink"]])
+            shapes = {in_digits(colour) for colour in picture["shapes"]} - {"none"}
+            self.assertEqual(shapes - set(scheme.values()), set())
+            self.assertTrue(shapes & {scheme["blue"], scheme["gold"], scheme["red"]})
+
+    def check_paper(self, page):
+        """The page as it is printed where dark is preferred: dark on white, with nothing beyond the margins, and each picture beside its head."""
+        from matplotlib import pyplot
+
+        printed = self.room / "printed.pdf"
+        self.browse(page, DARK, "--no-pdf-header-footer", f"--print-to-pdf={printed}")
+        text = subprocess.run(["pdftotext", "-layout", printed, "-"], capture_output=True, text=True, check=True).stdout
+        sheets = [" ".join(sheet.split()) for sheet in text.split("\f")[:-1]]
+        whole = " ".join(sheets)
+        for cell in re.findall(r"<t[hd][^>]*>([^<]+)</t[hd]>", page):
+            self.assertIn(" ".join(html.unescape(cell).split()), whole)
+        subprocess.run(["pdftoppm", "-r", "50", "-png", printed, self.room / "sheet"], check=True)
+        pixels = [pyplot.imread(path)[..., :3] for path in sorted(self.room.glob("sheet-*.png"))]
+        self.assertEqual(len(pixels), len(sheets))
+        blue = [int(schemes()[2]["blue"][place : place + 2], 16) / 255 for place in (1, 3, 5)]
+        for head, caption in re.findall(r"<h2>([^<]+)</h2>\n?<figure>.*?<figcaption>(\S+ \S+ \S+)", page, re.DOTALL):
+            beside = [sheet for sheet, told in enumerate(sheets) if head in told and caption in told]
+            self.assertTrue(beside, head)
+            self.assertTrue(any((abs(pixels[sheet] - blue).max(axis=2) < 0.1).sum() > 20 for sheet in beside), head)
+        for sheet in pixels:
+            edges = (sheet[:10], sheet[-10:], sheet[:, :10], sheet[:, -10:])
+            self.assertTrue(all((edge == 1).all() for edge in edges))
+            self.assertGreater((sheet.min(axis=2) > 0.9).mean(), 0.5)
 
     def test_at_three_widths_all_is_drawn_and_nothing_overlaps(self):
         page, _ = self.page_of_a_run()
@@ -133,6 +204,23 @@ class Shown(InARoom):
                     self.assertGreater(picture["drawn"], 3)
                     self.assertGreater(picture["texts"], 5)
                     self.assertGreater(picture["smallest"], 8)
+
+    def test_in_light_and_dark_the_page_and_its_pictures_change_their_colours(self):
+        page, _ = self.page_of_a_run()
+        for is_dark in (False, True):
+            with self.subTest(is_dark=is_dark):
+                self.check_colours(page, is_dark)
+        for wrong in (page.replace("var(--gold)", "#966f00"), page.replace("(prefers-color-scheme: dark)", "(prefers-color-scheme: no)")):
+            with self.assertRaises(AssertionError):
+                self.check_colours(wrong, True)
+
+    @needs("pdftotext")
+    def test_on_paper_all_is_there_dark_on_white_and_each_picture_is_beside_its_head(self):
+        page, _ = self.page_of_a_run()
+        self.check_paper(page)
+        for style in ("main { width: 90rem !important; max-width: none !important }", "section { background: #16181b }", "figcaption { break-before: page }", "table { display: none }"):
+            with self.subTest(style), self.assertRaises(AssertionError):
+                self.check_paper(page.replace("</style>", f"@media print {{ {style} }}</style>"))
 
     def test_what_a_browser_would_find_wrong_is_found(self):
         """The look itself: an error, a picture that isn't drawn, texts over each other and a name that occurs twice."""
@@ -158,8 +246,6 @@ class Shown(InARoom):
             self.assertRegex(page, f'<svg[^>]* role="img" aria-labelledby="{section}-title {section}-text">{told}')
             self.assertIn(f'<a href="#{section}-table">', page)
             self.assertIn(f'<table id="{section}-table">', page)
-        for media in ("prefers-color-scheme: dark", "@media print"):
-            self.assertIn(media, page)
 
     def test_a_page_shows_what_is_known(self):
         page = self.room / "page.html"

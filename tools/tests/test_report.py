@@ -157,16 +157,16 @@ class OfCollections(InARoom):
         for text, told in [
             (head, "the log has 0 erases and 0 copies, and the answers 1 and 1: they are of two runs"),
             (LOG.replace(b"5,0,1,1", b"5,0,0,0"), "the log has 1 erases and 0 copies, and the answers 1 and 1"),
-            (LOG.replace(b"5,0,1,1", b"6,0,1,1"), "line 2 of the log: line 6 of the answers is no write that was done"),
+            (LOG.replace(b"5,0,1,1", b"6,0,1,1"), "line 2 of the log: line 6 of the answers isn't a write that was done"),
             (LOG.replace(b"line,", b"lines,"), "line 1: a log of collections begins with"),
-            (head + b"5,0,1,1,1\n", "line 2: a collection has 6 fields, and this line 5"),
+            (head + b"5,0,1,1,1\n", "line 2: a collection has 6 fields, and this line has 5"),
             (head + b"5,0,1,2,1,freed\n", "line 2: more copybacks than copies"),
             (head + b"5,0,1,1,0,freed\n", "line 2: a victim that wasn't erased"),
             (head + b"5,0,1,1,1,lost\n", "line 2: 'lost' is neither freed nor retired"),
-            (head + row + row, "line 3: a collection at line 5 of the trace behind one at line 5"),
-            (head + b"5,0,1,1,1,retired\n6,0,1,1,1,freed\n", "line 3: a collection behind the one that retired its victim"),
+            (head + row + row, "line 3: a collection at line 5 of the trace after one at line 5"),
+            (head + b"5,0,1,1,1,retired\n6,0,1,1,1,freed\n", "line 3: a collection after the one that retired its victim"),
             (BROOMS.replace(b"\n1,1,2", b"\n1,1,3"), "line 3: more pages moved than programmed"),
-            (BROOMS.replace(b"\n1,", b"\n2,"), "line 3: broom 1 is wanted here"),
+            (BROOMS.replace(b"\n1,", b"\n2,"), "line 3: this line should be that of broom 1"),
         ]:
             with self.subTest(told):
                 done = Run("report", COLLECTION, "--collections", self.file("log", text))
@@ -178,9 +178,9 @@ class OfCollections(InARoom):
         device = (TOP / "examples/collection.args").read_text().split()
         self.assertEqual(Run("report", COLLECTION, *files, *device).status, 0)
         for words, told in [
-            (("--blocks", "4"), "the wear file has 3 blocks, and the device that the options name 4"),
-            (("--words", "2"), "the reads show pages of 8 bytes, and the device that the options name has 16"),
-            (("--pages", "1"), "the log has a victim that the device that the options name doesn't have"),
+            (("--blocks", "4"), "the wear file has 3 blocks, and the device of the options has 4"),
+            (("--words", "2"), "the reads show pages of 8 bytes, and the device of the options has 16"),
+            (("--pages", "1"), "the log has a victim that the device of the options can't have"),
         ]:
             with self.subTest(words):
                 done = Run("report", COLLECTION, *files, *device, *words)

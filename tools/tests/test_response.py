@@ -5,6 +5,7 @@ import os
 import random
 import subprocess
 import sys
+import time
 import unittest
 
 from simulation import faults, model, part
@@ -193,18 +194,18 @@ class Parts(InARoom):
 
     def test_times_that_no_part_has_are_named(self):
         for text, told in [
-            (self.good.replace("copyback = 220", "copyback = 0"), "the copyback 0 takes no time; a part without one leaves it out"),
-            (self.good.replace("read = 25", "read = -1"), "the read -1 is no time in microseconds"),
-            (self.good.replace("read = 25", "read = 0"), "the read 0 takes no time"),
-            (self.good.replace("transfer = 0", "transfer = -0.5"), "the transfer -0.5 is no time"),
-            (self.good.replace("erase = 1500", "erase = inf"), "the erase inf is no time"),
-            (self.good.replace("erase = 1500", "erase = nan"), "the erase nan is no time"),
-            (self.good.replace("erase = 1500", 'erase = "1500"'), "the erase '1500' is no time"),
-            (self.good.replace("erase = 1500", "erase = true"), "the erase True is no time"),
+            (self.good.replace("copyback = 220", "copyback = 0"), "the copyback 0 is less than a nanosecond; leave it out for a part without it"),
+            (self.good.replace("read = 25", "read = -1"), "the read -1 isn't a time in microseconds"),
+            (self.good.replace("read = 25", "read = 0"), "the read 0 is less than a nanosecond"),
+            (self.good.replace("transfer = 0", "transfer = -0.5"), "the transfer -0.5 isn't a time"),
+            (self.good.replace("erase = 1500", "erase = inf"), "the erase inf isn't a time"),
+            (self.good.replace("erase = 1500", "erase = nan"), "the erase nan isn't a time"),
+            (self.good.replace("erase = 1500", 'erase = "1500"'), "the erase '1500' isn't a time"),
+            (self.good.replace("erase = 1500", "erase = true"), "the erase True isn't a time"),
             (self.good.replace("program = 200.5\n", ""), "the time 'program' is missing"),
-            (self.good + "tPROG = 3\n", "'tPROG' is no key of a part"),
-            (self.good + "read = 3\n", "is no TOML file"),
-            ("\x00", "is no TOML file"),
+            (self.good + "tPROG = 3\n", "'tPROG' isn't a key of a part"),
+            (self.good + "read = 3\n", "isn't a TOML file"),
+            ("\x00", "isn't a TOML file"),
         ]:
             with self.subTest(told), self.assertRaises(faults.Fault) as caught:
                 self.read(text)
@@ -315,27 +316,46 @@ def answer_of(line):
 
 @needs("numpy")
 class Large(InARoom):
-    def test_five_million_lines_take_a_minute_and_one_and_a_half_gigabytes_at_most(self):
+    COUNT = 5_000_000
+
+    def setUp(self):
         import numpy
 
-        count = 5_000_000
-        lines = numpy.arange(1, count + 1)
+        super().setUp()
+        lines = numpy.arange(1, self.COUNT + 1)
         with open(self.room / "answers", "wb") as sink:
-            for first in range(1, count + 1, 100_000):
+            for first in range(1, self.COUNT + 1, 100_000):
                 sink.write(b"".join(map(answer_of, range(first, first + 100_000))))
             writes = int((lines % 3 > 0).sum())
             collections = lines[lines % 64 == 1]
             collections = collections[collections % 3 > 0]
             sink.write(b"end,%d,%d,%d\n" % (writes, 40 * len(collections), len(collections)))
         self.file("log", LOG_HEAD.encode() + b"".join(b"%d,%d,40,20,1,freed\n" % (line, line % 4096) for line in collections.tolist()))
-        self.file("arrivals", b"".join(b"%d.%03d\n" % (line * 900, line % 1000) for line in range(1, count + 1)))
-        words = [TOOLS / "report", self.room / "answers", "--json", "--collections", self.room / "log", "--arrivals", self.room / "arrivals", *map(str, TIMES)]
+        self.file("arrivals", b"".join(b"%d.%03d\n" % (line * 900, line % 1000) for line in range(1, self.COUNT + 1)))
+
+    def report(self, *words):
+        """What a report takes at most: a minute and one and a half gigabytes. If the machine has more to do than processors, the minute is of
+        processor time, and longer by that on the clock."""
+        files = ("--collections", self.room / "log", "--arrivals", self.room / "arrivals")
+        call = [sys.executable, TOOLS / "report", self.room / "answers", "--json", *files, *map(str, TIMES), *words]
+        begun = time.monotonic()
         with open(self.room / "out", "wb") as sink:
-            process = subprocess.Popen([sys.executable, *words], stdout=sink)
+            process = subprocess.Popen(call, stdout=sink)
             _, status, usage = os.wait4(process.pid, 0)
+        passed = time.monotonic() - begun
         process.returncode = os.waitstatus_to_exitcode(status)
         self.assertEqual(process.returncode, 0)
-        self.assertEqual(json.loads((self.room / "out").read_text())["response_all_count"], count)
-        seconds, gigabytes = usage.ru_utime + usage.ru_stime, usage.ru_maxrss / 1_000_000
-        self.assertLess(seconds, 60)
-        self.assertLess(gigabytes, 1.5)
+        self.assertEqual(json.loads((self.room / "out").read_text())["response_all_count"], self.COUNT)
+        self.assertLess(usage.ru_utime + usage.ru_stime, 60)
+        self.assertLess(passed, 60 * max(1, os.getloadavg()[0] / os.cpu_count()))
+        self.assertLess(usage.ru_maxrss / 1_000_000, 1.5)
+
+    def test_five_million_lines_take_a_minute_and_one_and_a_half_gigabytes_at_most(self):
+        self.report()
+
+    @needs("matplotlib")
+    def test_the_page_of_five_million_lines_takes_no_more(self):
+        self.report("--page", self.room / "page.html")
+        page = (self.room / "page.html").read_text()
+        self.assertEqual(page.count("<svg"), 4)
+        self.assertLess(len(page), 1_000_000)

@@ -1,5 +1,7 @@
+import html
 import pathlib
 import re
+import shlex
 import subprocess
 import tempfile
 import unittest
@@ -21,7 +23,8 @@ SMALLER = {
 
 class Pages(unittest.TestCase):
     def play(self, page, smaller):
-        """Plays the lines of a page at the top of what looks like a clone; answers what they told, and the pictures and pages."""
+        """Plays the lines of a page at the top of what looks like a clone. Returns these lines, what they wrote, and the text of each picture
+        and HTML page by its name."""
         lines = re.search(r"```sh\n(.*?)```", (TOP / "docs" / page).read_text(), re.DOTALL)[1]
         for words, fewer in smaller.items():
             self.assertIn(words, lines)
@@ -32,17 +35,24 @@ class Pages(unittest.TestCase):
                 (pathlib.Path(room) / name).symlink_to(TOP / name)
             done = subprocess.run(["bash", "-euc", lines], cwd=room, capture_output=True, text=True, stdin=subprocess.DEVNULL)
             self.assertEqual(done.returncode, 0, done.stderr)
-            drawn = [name for name in lines.split("\nls ")[1].split() if "<svg" in (pathlib.Path(room) / name).read_text()]
-        return done.stdout, drawn
+            drawn = {name: (pathlib.Path(room) / name).read_text() for name in lines.split("\nls ")[1].split()}
+        self.assertEqual([name for name, text in drawn.items() if "<svg" not in text], [])
+        return lines.splitlines(), done.stdout, drawn
 
     @needs("fio", "parallel", "matplotlib")
     def test_the_lines_from_a_fio_job_to_a_plot_work_as_written(self):
-        told, drawn = self.play("SIMULATING.md", {})
+        _, told, drawn = self.play("SIMULATING.md", {})
         self.assertIn("write amplification  ", told)
         self.assertEqual(len(drawn), 4)
+        for name in ("out/wear.svg", "out/over_time.svg", "out/victims.svg"):
+            self.assertIn("64 blocks of 64 pages, 3,072 sectors (75 %) · job.csv", drawn[name])
 
     @needs("parallel", "matplotlib", "numpy")
     def test_the_lines_of_the_experiment_on_response_times_work_on_a_smaller_device(self):
-        told, drawn = self.play("RESPONSE.md", SMALLER)
+        lines, told, drawn = self.play("RESPONSE.md", SMALLER)
         self.assertIn("response of writes   ", told)
         self.assertEqual(len(drawn), 4)
+        shown = html.unescape(re.search(r"<pre><code>(.*?)</code>", drawn["out/response.html"], re.DOTALL)[1]).splitlines()
+        self.assertEqual([line.split()[0] for line in shown], ["tools/trace", "./flashplay", "tools/model", "tools/report"])
+        self.assertIn(shown[0], lines)
+        self.assertIn(shown[3], [shlex.join(shlex.split(line)) for line in lines if line.startswith("tools/report")])

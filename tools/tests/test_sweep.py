@@ -116,7 +116,7 @@ class Swept(unittest.TestCase):
         trace.write_text("0,write,1,\n")
         self.assertIn("is another one", Run("sweep", *words, "--resume").errors)
         point = Run("sweep", "--trace", trace, "--trace-sum", "0" * 64, "--point", "blocks=8")
-        self.assertEqual((point.status, point.errors), (1, f"sweep: {trace} is not the file with which the sweep began\n"))
+        self.assertEqual((point.status, point.errors), (1, f"sweep: {trace} has changed since the sweep began\n"))
 
     def test_an_interrupt_says_how_to_go_on(self):
         words = ["--out", self.out, "--make", "uniform --fill", "--rounds", "200", *SMALL, "--pages", "256", "--utilisation", "50:90:1", "--jobs", "1"]
