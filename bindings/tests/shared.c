@@ -350,13 +350,13 @@ int main(int count, char **words)
     refused_calls();
     run_all(threads, sweeps);
     tell("one that lasts", threads, sweeps, &host, &broom);
-    CHECK(host.writes > 0 && host.reads > 0 && host.holds > 0 && host.no_block > 0 && host.given_up == 0 && broom.moved > 0);
+    CHECK(host.writes > 0 && host.reads > 0 && host.holds > 0 && host.given_up == 0 && broom.moved > 0);
     CHECK(broom.drains[MINTLINTEL_DONE] > 0 && broom.drains[MINTLINTEL_LOST] > 0);
     CHECK(broom.erases[MINTLINTEL_DONE] > 0 && broom.erases[MINTLINTEL_KEPT] > 0 && broom.erases[MINTLINTEL_PINNED] > 0);
-    most_tries = 20;
+    most_tries = 4;
     CHECK(mintlintel_shared_open(hosts, HOSTS, brooms, BROOMS, 1, BLOCKS, PAGES, WORDS, SECTORS, 8) == MINTLINTEL_DONE);
     run_all(threads, sweeps);
     tell("one that wears out", threads, sweeps, &host, &broom);
-    CHECK(host.given_up > 0 && broom.erases[MINTLINTEL_RETIRED] > 0);
+    CHECK(host.no_block > 0 && host.given_up > 0 && broom.erases[MINTLINTEL_RETIRED] > 0);
     return 0;
 }
