@@ -201,6 +201,45 @@ static void looks(void)
     CHECK(mintlintel_host_look(first, 0) == MINTLINTEL_CLOSED);
 }
 
+/* The two structs of a handle have the same two words. A call through a pointer of the other type finds a handle of another kind: it returns 9,
+ * or 8 for an open, and changes nothing. */
+static void through_the_other_type(void)
+{
+    struct mintlintel_one device = {0}, *seat = (struct mintlintel_one *)first;
+    struct mintlintel_seat *one = (struct mintlintel_seat *)&device, none[1] = {{0}};
+    uint8_t page[PAGE] = {5}, kept[PAGE] = {5};
+    struct mintlintel_totals totals = {1, 2, 3}, totals_kept = totals;
+    struct mintlintel_block report = {1, 2, 3}, report_kept = report;
+    struct mintlintel_numbers numbers = {1, 2, 3, 4, 5, 6, 7, 8}, numbers_kept = numbers;
+    struct mintlintel_page place = {1, 2}, place_kept = place;
+    uint32_t block = 77, moved = 78;
+    uint64_t word = 79;
+    begin();
+    CHECK(mintlintel_one_open(&device, 1, BLOCKS, PAGES, WORDS, SECTORS, ENDURANCE) == MINTLINTEL_DONE);
+    CHECK(written(first, 0, 1) == MINTLINTEL_EMPTY && mintlintel_one_write(&device, 1, page, PAGE) == MINTLINTEL_EMPTY);
+    CHECK(mintlintel_one_open(seat, 1, BLOCKS, PAGES, WORDS, SECTORS, ENDURANCE) == MINTLINTEL_ALREADY_OPEN);
+    CHECK(mintlintel_one_read(seat, 0, page, PAGE) == MINTLINTEL_WRONG_KIND && mintlintel_one_write(seat, 0, page, PAGE) == MINTLINTEL_WRONG_KIND);
+    CHECK(mintlintel_one_write_new(seat, 1, page, PAGE) == MINTLINTEL_WRONG_KIND && mintlintel_one_trim(seat, 0) == MINTLINTEL_WRONG_KIND);
+    CHECK(mintlintel_one_counts(seat, &totals) == MINTLINTEL_WRONG_KIND && mintlintel_one_block(seat, 0, &report) == MINTLINTEL_WRONG_KIND);
+    CHECK(mintlintel_one_numbers(seat, &numbers) == MINTLINTEL_WRONG_KIND && mintlintel_seat_numbers(one, &numbers) == MINTLINTEL_WRONG_KIND);
+    CHECK(mintlintel_shared_open(one, 1, none, 1, 1, BLOCKS, PAGES, WORDS, SECTORS, ENDURANCE) == MINTLINTEL_ALREADY_OPEN);
+    CHECK(mintlintel_host_read(one, 1, page, PAGE) == MINTLINTEL_WRONG_KIND && mintlintel_host_write(one, 1, page, PAGE) == MINTLINTEL_WRONG_KIND);
+    CHECK(mintlintel_host_write_new(one, 0, page, PAGE) == MINTLINTEL_WRONG_KIND && mintlintel_host_trim(one, 1) == MINTLINTEL_WRONG_KIND);
+    CHECK(mintlintel_host_look(one, 1) == MINTLINTEL_WRONG_KIND && mintlintel_host_hold(one, 1) == MINTLINTEL_WRONG_KIND);
+    CHECK(mintlintel_host_copy(one, page, PAGE) == MINTLINTEL_WRONG_KIND && mintlintel_host_word(one, 0, &word) == MINTLINTEL_WRONG_KIND);
+    CHECK(mintlintel_host_held(one, &place) == MINTLINTEL_WRONG_KIND && mintlintel_host_release(one) == MINTLINTEL_WRONG_KIND);
+    CHECK(mintlintel_broom_drain(one, &block, &moved) == MINTLINTEL_WRONG_KIND);
+    CHECK(mintlintel_broom_drain_next(one, &block, &moved) == MINTLINTEL_WRONG_KIND);
+    CHECK(mintlintel_broom_erase(one, 0) == MINTLINTEL_WRONG_KIND && mintlintel_broom_restock(one) == MINTLINTEL_WRONG_KIND);
+    CHECK(memcmp(page, kept, PAGE) == 0 && memcmp(&totals, &totals_kept, sizeof totals) == 0 && memcmp(&report, &report_kept, sizeof report) == 0);
+    CHECK(memcmp(&numbers, &numbers_kept, sizeof numbers) == 0 && memcmp(&place, &place_kept, sizeof place) == 0);
+    CHECK(block == 77 && moved == 78 && word == 79 && none[0].is_open == 0);
+    reads(first, 0, 1);
+    CHECK(mintlintel_one_counts(&device, &totals) == MINTLINTEL_DONE && totals.programs == 1);
+    mintlintel_one_close(&device);
+    end();
+}
+
 int main(void)
 {
     closed_host_gives_its_open_block_up();
@@ -211,6 +250,7 @@ int main(void)
     spare();
     by_the_last_survey();
     looks();
+    through_the_other_type();
     puts("seats: what a closed seat leaves, and each answer of a broom");
     return 0;
 }
