@@ -1,6 +1,6 @@
 /* Four hosts and two brooms at one device, each in a thread of its own, and again at one that wears out. A page names its writer, its sector
- * and the writer's count. Every read is whole, a page that is held stays, and no thread reads a value again that it has seen gone. Under ThreadSanitizer each handle is announced as written before a call,
- * so that two threads in one handle are reported. */
+ * and the writer's count. Every read is whole, a page that is held stays, and no thread reads a value again that it has seen gone. Under
+ * ThreadSanitizer each handle is announced as written before a call, so that two threads in one handle are reported. */
 #include "testing.h"
 #include <pthread.h>
 #include <sched.h>

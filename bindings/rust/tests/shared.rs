@@ -167,6 +167,8 @@ fn a_broom_without_a_spare_finds_none_on_a_full_device() -> Result<(), Fault> {
     Ok(())
 }
 
+type Call = fn(&mut Host, &mut [u8]) -> Result<Was, Fault>;
+
 /// A `Held` that is forgotten is released by the host's next call, whichever that is.
 #[test]
 fn a_forgotten_page_is_released() -> Result<(), Fault> {
@@ -174,7 +176,7 @@ fn a_forgotten_page_is_released() -> Result<(), Fault> {
     let host = &mut device.hosts[0];
     let mut out = [0; 16];
     host.write(5, &page(0, 5, 1))?;
-    let calls: [fn(&mut Host, &mut [u8]) -> Result<Was, Fault>; 6] = [
+    let calls: [Call; 6] = [
         |host, out| host.read(5, out),
         |host, _| host.look(5),
         |host, _| host.write(5, &page(0, 5, 2)),
