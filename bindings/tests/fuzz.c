@@ -1,18 +1,37 @@
 /* Sequences of calls, made of libFuzzer's bytes: on a device for one thread, and on two hosts and a broom of a shared one, with sectors,
- * lengths, blocks and kinds that are wrong and handles that are closed among them. A plain model says what each call has to answer. */
-#include "testing.h"
+ * lengths, blocks and kinds that are wrong and handles that are closed among them. The models say what each call has to return. */
+#include "models.h"
 
-enum { SECTORS = 6, WORDS = 2, PAGE = 8 * WORDS, BLOCKS = 10, PAGES = 2, ENDURANCE = 4, SEATS = 3, BROOM = 2 };
-enum kind { CLOSED, HOST, HOLDER, SWEEPER };
+/* The calls that return a code, and how often each of them returned which. */
+enum call {
+    CALL_one_open, CALL_one_read, CALL_one_write, CALL_one_write_new, CALL_one_trim, CALL_one_counts, CALL_one_block, CALL_shared_open,
+    CALL_seat_numbers, CALL_host_read, CALL_host_write, CALL_host_write_new, CALL_host_trim, CALL_host_look, CALL_host_hold, CALL_host_copy,
+    CALL_host_word, CALL_host_held, CALL_host_release, CALL_broom_drain, CALL_broom_drain_next, CALL_broom_erase, CALL_broom_restock, CALLS
+};
+enum { CODES = 128 };
+#define CALL(name, ...) note(CALL_##name, mintlintel_##name(__VA_ARGS__))
 
-/* a device's sectors: the byte of each one's page, or -1 for an empty one */
-struct array { int value[SECTORS]; };
-struct model { struct array one, shared; enum kind kinds[SEATS]; int held[SEATS]; struct mintlintel_page places[SEATS]; int drained[BLOCKS]; int one_is_open; };
+static uint64_t met[CALLS][CODES];
+
+static uint32_t note(enum call call, uint32_t code)
+{
+    CHECK(code < CODES);
+    met[call][code]++;
+    return code;
+}
+
+enum { SEATS = HOSTS + BROOMS, SWEEP = HOSTS };
+enum kind { CLOSED, HOST, HOLDER, BROOM };
+
 struct input { const uint8_t *bytes; size_t left; };
 
 static struct mintlintel_one one;
 static struct mintlintel_seat seats[SEATS];
-static struct model m;
+static struct one_model o;
+static struct shared_model m;
+static int one_is_open, held_value[HOSTS];
+static enum kind kinds[SEATS];
+static struct mintlintel_page held_page[HOSTS];
 
 static uint32_t next(struct input *in)
 {
@@ -22,12 +41,6 @@ static uint32_t next(struct input *in)
     return *in->bytes++;
 }
 
-static void empty(struct array *a)
-{
-    for (int i = 0; i < SECTORS; i++)
-        a->value[i] = -1;
-}
-
 /* a length that is a page's, or one of a few that aren't */
 static size_t length_by(uint32_t byte)
 {
@@ -35,123 +48,121 @@ static size_t length_by(uint32_t byte)
     return lengths[byte % 8];
 }
 
-/* what a checked call answers before the device is asked, or 0 */
+/* what a checked call returns before the device is asked, or 0 */
 static uint32_t refused(uint32_t sector, size_t length)
 {
     return sector >= SECTORS ? MINTLINTEL_NO_SECTOR : length != PAGE ? MINTLINTEL_NOT_A_PAGE : 0;
 }
 
-static void read_buffer(const struct array *a, uint32_t wanted, uint32_t code, uint32_t sector, const uint8_t *out)
+/* All of a buffer: a page of this byte, or as it was. */
+static void has_page(const uint8_t *out, int is_there, int value)
 {
-    CHECK(code == (wanted ? wanted : (uint32_t)(a->value[sector] >= 0)));
-    int byte = code == MINTLINTEL_WRITTEN ? a->value[sector] : 0xa5;
     for (int i = 0; i < PAGE + 1; i++)
-        CHECK(out[i] == (i < PAGE ? byte : 0xa5));
+        CHECK(out[i] == (is_there && i < PAGE ? value : 0xa5));
 }
 
-/* A write of this kind has answered this. A device may say that it has no page left: then nothing has changed. */
-static void wrote(struct array *a, uint32_t wanted, uint32_t code, uint32_t sector, int byte, int only_new, uint32_t full)
+/* The totals and each block are those of the model. */
+static void one_as_model(void)
 {
-    if (wanted) {
-        CHECK(code == wanted);
+    struct mintlintel_totals totals = {7, 7, 7}, kept = totals;
+    struct mintlintel_block block = {7, 7, 7}, same = block;
+    if (!one_is_open) {
+        CHECK(CALL(one_counts, &one, &totals) == MINTLINTEL_CLOSED && memcmp(&totals, &kept, sizeof totals) == 0);
+        CHECK(CALL(one_block, &one, 0, &block) == MINTLINTEL_CLOSED && memcmp(&block, &same, sizeof block) == 0);
         return;
     }
-    uint32_t was = a->value[sector] >= 0;
-    if (code == full)
-        return;
-    CHECK(code == was);
-    if (!only_new || !was)
-        a->value[sector] = byte;
+    CHECK(CALL(one_counts, &one, &totals) == 0 && memcmp(&totals, &o.totals, sizeof totals) == 0);
+    CHECK(CALL(one_block, &one, BLOCKS, &block) == MINTLINTEL_NO_SUCH_BLOCK && memcmp(&block, &same, sizeof block) == 0);
+    for (uint32_t b = 0; b < BLOCKS; b++) {
+        CHECK(CALL(one_block, &one, b, &block) == 0);
+        CHECK(block.erases == o.blocks[b].erases && block.live == (uint32_t)o.blocks[b].live);
+        CHECK(block.retired == (block.erases == ENDURANCE));
+    }
 }
 
 static void one_call(struct input *in)
 {
     uint8_t page[PAGE + 1], out[PAGE + 1];
-    uint32_t call = next(in), sector = next(in) % (SECTORS + 2), byte = next(in), closed = m.one_is_open ? 0 : MINTLINTEL_CLOSED;
+    uint32_t call = next(in) % 8, sector = next(in) % (SECTORS + 2), byte = next(in), closed = one_is_open ? 0 : MINTLINTEL_CLOSED, code;
     size_t length = length_by(byte >> 5);
-    uint32_t wanted = closed ? closed : refused(sector, length);
+    uint32_t with_page = closed ? closed : refused(sector, length), without = closed ? closed : refused(sector, PAGE);
     memset(page, (int)byte, sizeof page);
     memset(out, 0xa5, sizeof out);
-    struct mintlintel_totals before = {0, 0, 0}, after = {0, 0, 0};
-    CHECK(mintlintel_one_counts(&one, &before) == closed);
-    uint32_t code;
-    switch (call % 8) {
-    case 0: case 1:
-        read_buffer(&m.one, wanted, mintlintel_one_read(&one, sector, out, length), sector, out);
-        break;
-    case 2: case 3:
-        code = mintlintel_one_write(&one, sector, page, length);
-        wrote(&m.one, wanted, code, sector, (int)byte, 0, MINTLINTEL_WORN_OUT);
-        CHECK(mintlintel_one_counts(&one, &after) == closed && after.programs == before.programs + (code <= 1));
-        return;
-    case 4:
-        code = mintlintel_one_write_new(&one, sector, page, length);
-        wrote(&m.one, wanted, code, sector, (int)byte, 1, MINTLINTEL_WORN_OUT);
-        CHECK(mintlintel_one_counts(&one, &after) == closed && after.programs == before.programs + (code == 0));
-        return;
-    case 5:
-        wanted = closed ? closed : refused(sector, PAGE);
-        code = mintlintel_one_trim(&one, sector);
-        CHECK(code == (wanted ? wanted : (uint32_t)(m.one.value[sector] >= 0)));
-        if (!wanted)
-            m.one.value[sector] = -1;
-        break;
-    case 6:
-        code = mintlintel_one_open(&one, 1, byte < 64 ? 0 : BLOCKS, PAGES, WORDS, SECTORS, ENDURANCE);
-        CHECK(code == (m.one_is_open ? (uint32_t)MINTLINTEL_ALREADY_OPEN : byte < 64 ? (uint32_t)MINTLINTEL_BAD_BLOCKS : 0));
+    if (call < 2) {
+        code = CALL(one_read, &one, sector, out, length);
+        CHECK(code == (with_page ? with_page : one_was(&o, sector)));
+        has_page(out, code == MINTLINTEL_WRITTEN, sector < SECTORS ? o.value[sector] : 0);
+    } else if (call < 4) {
+        code = CALL(one_write, &one, sector, page, length);
+        CHECK(code == (with_page ? with_page : one_write(&o, sector, (int)byte, 0)));
+    } else if (call == 4) {
+        code = CALL(one_write_new, &one, sector, page, length);
+        CHECK(code == (with_page ? with_page : one_write(&o, sector, (int)byte, 1)));
+    } else if (call == 5) {
+        code = CALL(one_trim, &one, sector);
+        CHECK(code == (without ? without : one_trim(&o, sector)));
+    } else if (call == 6) {
+        code = CALL(one_open, &one, 1, byte < 64 ? 0 : BLOCKS, PAGES, WORDS, SECTORS, ENDURANCE);
+        CHECK(code == (one_is_open ? (uint32_t)MINTLINTEL_ALREADY_OPEN : byte < 64 ? (uint32_t)MINTLINTEL_BAD_BLOCKS : 0));
         if (code == 0)
-            empty(&m.one);
-        m.one_is_open |= code == 0;
-        break;
-    default:
+            one_begin(&o);
+        one_is_open |= code == 0;
+    } else if (byte < 8) {
         mintlintel_one_close(&one);
-        m.one_is_open = 0;
-        return;
+        one_is_open = 0;
     }
-    uint32_t open_now = m.one_is_open ? 0 : MINTLINTEL_CLOSED;
-    CHECK(mintlintel_one_counts(&one, &after) == open_now);
-    CHECK(memcmp(&before, &after, sizeof before) == 0);
+    one_as_model();
 }
 
 /* the code of a seat that is of another kind than a call wants, or 0 */
 static uint32_t unfit(uint32_t seat, enum kind wanted)
 {
-    return m.kinds[seat] == CLOSED ? MINTLINTEL_CLOSED : m.kinds[seat] != wanted ? MINTLINTEL_WRONG_KIND : 0;
+    return kinds[seat] == CLOSED ? MINTLINTEL_CLOSED : kinds[seat] != wanted ? MINTLINTEL_WRONG_KIND : 0;
+}
+
+static void hold_call(uint32_t seat, uint32_t sector, uint32_t wanted)
+{
+    struct mintlintel_page page = {77, 78};
+    uint32_t code = CALL(host_hold, &seats[seat], sector);
+    CHECK(code == (wanted ? wanted : shared_hold(&m, (int)seat, sector, &held_page[seat])));
+    if (code == MINTLINTEL_WRITTEN) {
+        kinds[seat] = HOLDER;
+        held_value[seat] = m.value[sector];
+        CHECK(CALL(host_held, &seats[seat], &page) == 0 && memcmp(&page, &held_page[seat], sizeof page) == 0);
+    }
 }
 
 static void host_call(uint32_t call, uint32_t seat, struct input *in)
 {
     uint8_t page[PAGE + 1], out[PAGE + 1];
-    uint32_t sector = next(in) % (SECTORS + 2), byte = next(in);
+    uint32_t sector = next(in) % (SECTORS + 2), byte = next(in), unfit_code = unfit(seat, HOST), code;
     size_t length = length_by(byte >> 5);
-    uint32_t wanted = unfit(seat, HOST), code;
-    uint32_t with_page = wanted ? wanted : refused(sector, length), without = wanted ? wanted : refused(sector, PAGE);
+    uint32_t with_page = unfit_code ? unfit_code : refused(sector, length), without = unfit_code ? unfit_code : refused(sector, PAGE);
     memset(page, (int)byte, sizeof page);
     memset(out, 0xa5, sizeof out);
     switch (call) {
     case 0:
-        read_buffer(&m.shared, with_page, mintlintel_host_read(&seats[seat], sector, out, length), sector, out);
+        code = CALL(host_read, &seats[seat], sector, out, length);
+        CHECK(code == (with_page ? with_page : shared_was(&m, sector)));
+        has_page(out, code == MINTLINTEL_WRITTEN, sector < SECTORS ? m.value[sector] : 0);
         break;
-    case 1:
-        wrote(&m.shared, with_page, mintlintel_host_write(&seats[seat], sector, page, length), sector, (int)byte, 0, MINTLINTEL_NO_BLOCK);
-        break;
-    case 2:
-        wrote(&m.shared, with_page, mintlintel_host_write_new(&seats[seat], sector, page, length), sector, (int)byte, 1, MINTLINTEL_NO_BLOCK);
+    case 1: case 2:
+        code = CALL(host_write, &seats[seat], sector, page, length);
+        CHECK(code == (with_page ? with_page : shared_write(&m, (int)seat, sector, (int)byte, 0)));
         break;
     case 3:
-        code = mintlintel_host_trim(&seats[seat], sector);
-        CHECK(code == (without ? without : (uint32_t)(m.shared.value[sector] >= 0)));
-        if (!without)
-            m.shared.value[sector] = -1;
+        code = CALL(host_write_new, &seats[seat], sector, page, length);
+        CHECK(code == (with_page ? with_page : shared_write(&m, (int)seat, sector, (int)byte, 1)));
+        break;
+    case 4:
+        code = CALL(host_trim, &seats[seat], sector);
+        CHECK(code == (without ? without : shared_trim(&m, sector)));
+        break;
+    case 5:
+        CHECK(CALL(host_look, &seats[seat], sector) == (without ? without : shared_was(&m, sector)));
         break;
     default:
-        code = mintlintel_host_hold(&seats[seat], sector);
-        CHECK(code == (without ? without : (uint32_t)(m.shared.value[sector] >= 0)));
-        if (code == MINTLINTEL_WRITTEN) {
-            m.kinds[seat] = HOLDER;
-            m.held[seat] = m.shared.value[sector];
-            CHECK(mintlintel_host_held(&seats[seat], &m.places[seat]) == 0 && m.places[seat].block < BLOCKS);
-        }
+        hold_call(seat, sector, without);
     }
 }
 
@@ -159,123 +170,133 @@ static void holder_call(uint32_t call, uint32_t seat, struct input *in)
 {
     uint8_t out[PAGE + 1];
     uint32_t byte = next(in), wanted = unfit(seat, HOLDER);
+    int value = seat < HOSTS ? held_value[seat] : 0;
     size_t length = length_by(byte >> 5);
     uint64_t word = 77, whole = 0;
-    struct mintlintel_page place = {77, 78};
+    struct mintlintel_page place = {77, 78}, expected = place;
     memset(out, 0xa5, sizeof out);
-    memset(&whole, m.held[seat], sizeof whole);
+    memset(&whole, value, sizeof whole);
     switch (call) {
     case 0:
         wanted = wanted ? wanted : length == PAGE ? MINTLINTEL_WRITTEN : MINTLINTEL_NOT_A_PAGE;
-        CHECK(mintlintel_host_copy(&seats[seat], out, length) == wanted);
-        for (int i = 0; i < PAGE + 1; i++)
-            CHECK(out[i] == (i < PAGE && wanted == MINTLINTEL_WRITTEN ? m.held[seat] : 0xa5));
+        CHECK(CALL(host_copy, &seats[seat], out, length) == wanted);
+        has_page(out, wanted == MINTLINTEL_WRITTEN, value);
         break;
     case 1:
         wanted = wanted ? wanted : byte % 3 < WORDS ? 0 : MINTLINTEL_NO_SUCH_BLOCK;
-        CHECK(mintlintel_host_word(&seats[seat], byte % 3, &word) == wanted && word == (wanted ? 77 : whole));
+        CHECK(CALL(host_word, &seats[seat], byte % 3, &word) == wanted && word == (wanted ? 77 : whole));
         break;
     case 2:
-        CHECK(mintlintel_host_held(&seats[seat], &place) == wanted);
-        CHECK(place.block == (wanted ? 77 : m.places[seat].block) && place.generation == (wanted ? 78 : m.places[seat].generation));
+        if (!wanted)
+            expected = held_page[seat];
+        CHECK(CALL(host_held, &seats[seat], &place) == wanted && memcmp(&place, &expected, sizeof place) == 0);
         break;
     default:
-        CHECK(mintlintel_host_release(&seats[seat]) == wanted);
-        if (wanted == 0)
-            m.kinds[seat] = HOST;
+        CHECK(CALL(host_release, &seats[seat]) == wanted);
+        if (wanted == 0) {
+            shared_release(&m, (int)seat);
+            kinds[seat] = HOST;
+        }
     }
 }
 
-static int is_held(uint32_t block)
+/* a block's number, or one that no block has; of each other byte the lowest drained block, if there is one */
+static uint32_t block_by(uint32_t byte)
 {
-    for (int seat = 0; seat < SEATS; seat++)
-        if (m.kinds[seat] == HOLDER && m.places[seat].block == block)
-            return 1;
-    return 0;
+    for (uint32_t block = 0; block < BLOCKS && byte % 2 == 0; block++)
+        if (m.blocks[block].state.phase == DRAINED)
+            return block;
+    return byte / 2 % (BLOCKS + 1);
 }
 
 static void broom_call(uint32_t call, uint32_t seat, struct input *in)
 {
-    uint32_t block = next(in) % (BLOCKS + 1), moved = 78, wanted = unfit(seat, SWEEPER), code;
-    if (call == 0) {
-        block = 77;
-        code = mintlintel_broom_drain(&seats[seat], &block, &moved);
-        if (code == 0) {
-            CHECK(wanted == 0 && block < BLOCKS && !m.drained[block] && moved <= PAGES);
-            m.drained[block] = 1;
-        } else {
-            CHECK(code == wanted || (wanted == 0 && (code == MINTLINTEL_NOTHING_TO_GAIN || code == MINTLINTEL_NO_SPARE)));
-            CHECK(block == 77 && moved == 78);
-        }
-        return;
-    }
-    code = mintlintel_broom_erase(&seats[seat], block);
-    if (wanted || block >= BLOCKS) {
-        CHECK(code == (wanted ? wanted : (uint32_t)MINTLINTEL_NO_SUCH_BLOCK));
-    } else if (!m.drained[block]) {
-        CHECK(code == MINTLINTEL_STALE);
-    } else if (is_held(block)) {
-        CHECK(code == MINTLINTEL_PINNED);
+    uint32_t number = block_by(next(in)), wanted = unfit(seat, BROOM), code;
+    uint32_t block = 77, moved = 78, model_block = 77, model_moved = 78;
+    if (call < 3) {
+        code = call < 2 ? CALL(broom_drain, &seats[seat], &block, &moved) : CALL(broom_drain_next, &seats[seat], &block, &moved);
+        CHECK(code == (wanted ? wanted : shared_drain(&m, 0, call < 2, &model_block, &model_moved)));
+        CHECK(block == model_block && moved == model_moved);
+    } else if (call < 5) {
+        wanted = wanted ? wanted : number >= BLOCKS ? MINTLINTEL_NO_SUCH_BLOCK : 0;
+        code = CALL(broom_erase, &seats[seat], number);
+        CHECK(code == (wanted ? wanted : shared_erase(&m, 0, number)));
     } else {
-        CHECK(code == MINTLINTEL_DONE || code == MINTLINTEL_KEPT || code == MINTLINTEL_RETIRED);
-        m.drained[block] = 0;
+        code = CALL(broom_restock, &seats[seat]);
+        CHECK(code == (wanted ? wanted : shared_restock(&m, 0)));
     }
+}
+
+static void begin_shared(void)
+{
+    shared_begin(&m);
+    for (int seat = 0; seat < SEATS; seat++)
+        kinds[seat] = seat < HOSTS ? HOST : BROOM;
+}
+
+static void close_seat(uint32_t seat)
+{
+    mintlintel_seat_close(&seats[seat]);
+    if (kinds[seat] == BROOM)
+        shared_close_broom(&m, 0);
+    else if (kinds[seat] != CLOSED)
+        shared_close_host(&m, (int)seat);
+    kinds[seat] = CLOSED;
 }
 
 /* Opens a device for all seats, or fails as it must; or closes one. */
 static void seat_call(uint32_t call, uint32_t seat, struct input *in)
 {
-    struct mintlintel_numbers numbers = {7, 7, 7, 7, 7, 7, 7, 7};
-    uint32_t byte = next(in), any = 0, code;
+    struct mintlintel_numbers numbers = {7, 7, 7, 7, 7, 7, 7, 7}, wanted = {1, BLOCKS, PAGES, WORDS, SECTORS, ENDURANCE, HOSTS, BROOMS};
+    uint32_t byte = next(in), any = 0, code, hosts = byte < 32 ? 0 : HOSTS;
     switch (call) {
     case 0:
-        for (int i = 0; i < SEATS; i++)
-            any |= m.kinds[i] != CLOSED;
-        code = mintlintel_shared_open(seats, byte < 32 ? 0 : BROOM, &seats[BROOM], 1, 1, BLOCKS, PAGES, byte < 64 ? 0 : WORDS, SECTORS, ENDURANCE);
-        if (byte < 32)
-            any = m.kinds[BROOM] != CLOSED;
+        for (uint32_t i = hosts > 0 ? 0 : HOSTS; i < SEATS; i++)
+            any |= kinds[i] != CLOSED;
+        code = CALL(shared_open, seats, hosts, &seats[SWEEP], BROOMS, 1, BLOCKS, PAGES, byte < 64 ? 0 : WORDS, SECTORS, ENDURANCE);
         CHECK(code == (any ? (uint32_t)MINTLINTEL_ALREADY_OPEN : byte < 64 ? (uint32_t)MINTLINTEL_BAD_WORDS : 0));
-        if (code == 0) {
-            empty(&m.shared);
-            memset(m.drained, 0, sizeof m.drained);
-            m.kinds[0] = m.kinds[1] = HOST;
-            m.kinds[BROOM] = SWEEPER;
-        }
+        if (code == 0)
+            begin_shared();
         break;
     case 1:
-        mintlintel_seat_close(&seats[seat]);
-        m.kinds[seat] = CLOSED;
+        if (byte < 32)
+            close_seat(seat);
         break;
     default:
-        code = mintlintel_seat_numbers(&seats[seat], &numbers);
-        CHECK(code == (m.kinds[seat] == CLOSED ? (uint32_t)MINTLINTEL_CLOSED : 0));
-        CHECK(numbers.brooms == (code ? 7 : 1) && numbers.hosts == (code ? 7 : 2) && numbers.endurance == (code ? 7 : ENDURANCE));
+        code = CALL(seat_numbers, &seats[seat], &numbers);
+        CHECK(code == (kinds[seat] == CLOSED ? (uint32_t)MINTLINTEL_CLOSED : 0));
+        CHECK(code ? numbers.luns == 7 && numbers.brooms == 7 : memcmp(&numbers, &wanted, sizeof numbers) == 0);
     }
 }
 
 static void shared_call(struct input *in)
 {
-    uint32_t call = next(in) % 16, seat = next(in) % SEATS;
-    if (call < 6)
-        host_call(call % 5, seat, in);
-    else if (call < 10)
-        holder_call(call - 6, seat, in);
+    uint32_t call = next(in) % 24, seat = next(in) % SEATS;
+    if (call < 9)
+        host_call(call % 7, seat, in);
     else if (call < 13)
-        broom_call(call % 2, seat, in);
+        holder_call(call - 9, seat, in);
+    else if (call < 19)
+        broom_call(call - 13, seat, in);
+    else if (call < 21)
+        broom_call(call - 18, SWEEP, in);
     else
-        seat_call(call - 13, seat, in);
+        seat_call(call - 21, seat, in);
 }
 
-/* Each sector reads as the model has it, by each host. */
-static void as_model(void)
+/* Each sector reads as the models have it, by each host. */
+static void as_models(void)
 {
     uint8_t out[PAGE + 1];
     for (uint32_t sector = 0; sector < SECTORS; sector++) {
         memset(out, 0xa5, sizeof out);
-        read_buffer(&m.one, m.one_is_open ? 0 : MINTLINTEL_CLOSED, mintlintel_one_read(&one, sector, out, PAGE), sector, out);
+        CHECK(CALL(one_read, &one, sector, out, PAGE) == (one_is_open ? one_was(&o, sector) : (uint32_t)MINTLINTEL_CLOSED));
+        has_page(out, one_is_open && one_was(&o, sector), o.value[sector]);
         for (uint32_t seat = 0; seat < SEATS; seat++) {
+            uint32_t wanted = unfit(seat, HOST);
             memset(out, 0xa5, sizeof out);
-            read_buffer(&m.shared, unfit(seat, HOST), mintlintel_host_read(&seats[seat], sector, out, PAGE), sector, out);
+            CHECK(CALL(host_read, &seats[seat], sector, out, PAGE) == (wanted ? wanted : shared_was(&m, sector)));
+            has_page(out, !wanted && shared_was(&m, sector), m.value[sector]);
         }
     }
 }
@@ -283,21 +304,18 @@ static void as_model(void)
 int LLVMFuzzerTestOneInput(const uint8_t *bytes, size_t size)
 {
     struct input in = {bytes, size};
-    memset(&m, 0, sizeof m);
-    CHECK(mintlintel_one_open(&one, 1, BLOCKS, PAGES, WORDS, SECTORS, ENDURANCE) == 0);
-    CHECK(mintlintel_shared_open(seats, BROOM, &seats[BROOM], 1, 1, BLOCKS, PAGES, WORDS, SECTORS, ENDURANCE) == 0);
-    m.one_is_open = 1;
-    m.kinds[0] = m.kinds[1] = HOST;
-    m.kinds[BROOM] = SWEEPER;
-    empty(&m.one);
-    empty(&m.shared);
+    CHECK(CALL(one_open, &one, 1, BLOCKS, PAGES, WORDS, SECTORS, ENDURANCE) == 0);
+    CHECK(CALL(shared_open, seats, HOSTS, &seats[SWEEP], BROOMS, 1, BLOCKS, PAGES, WORDS, SECTORS, ENDURANCE) == 0);
+    one_is_open = 1;
+    one_begin(&o);
+    begin_shared();
     while (in.left > 0) {
         if (next(&in) % 3 == 0)
             one_call(&in);
         else
             shared_call(&in);
     }
-    as_model();
+    as_models();
     mintlintel_one_close(&one);
     for (int seat = 0; seat < SEATS; seat++)
         mintlintel_seat_close(&seats[seat]);

@@ -1,7 +1,7 @@
 /* A device for one thread against an array: a million calls, each code met, and a refused call changes nothing. */
 #include "testing.h"
 
-enum { WORDS = 2, PAGE = 8 * WORDS, MOST_SECTORS = 60, MOST_CODE = 128 };
+enum { WORDS = 2, PAGE = 8 * WORDS, MOST_SECTORS = 60, MOST_BLOCKS = 12, MOST_CODE = 128 };
 enum call { OPEN, READ, WRITE, WRITE_NEW, TRIM, COUNTS, BLOCK, NUMBERS, CALLS };
 
 /* What the device has to hold: for each sector the number of its last write, 0 for none. */
@@ -44,6 +44,18 @@ static void read_as_shadow(struct shadow *s, uint32_t sector)
     CHECK(memcmp(out, wanted, PAGE) == 0);
 }
 
+/* each block of a device, as it reports it */
+struct blocks { struct mintlintel_block of[MOST_BLOCKS]; };
+
+static struct blocks blocks(struct shadow *s)
+{
+    struct blocks all;
+    memset(&all, 0, sizeof all);
+    for (uint32_t b = 0; b < s->numbers.blocks; b++)
+        CHECK(note(BLOCK, mintlintel_one_block(&s->device, b, &all.of[b])) == MINTLINTEL_DONE);
+    return all;
+}
+
 static struct mintlintel_totals totals(struct shadow *s)
 {
     struct mintlintel_totals t = {9, 9, 9};
@@ -80,6 +92,7 @@ static int write_once(struct shadow *s, uint32_t sector, uint32_t number, int on
 {
     uint8_t page[PAGE];
     struct mintlintel_totals before = totals(s);
+    struct blocks blocks_before = blocks(s);
     fill(page, sector, number);
     uint32_t was = s->written[sector] != 0;
     uint32_t code = only_new ? note(WRITE_NEW, mintlintel_one_write_new(&s->device, sector, page, PAGE))
@@ -88,7 +101,8 @@ static int write_once(struct shadow *s, uint32_t sector, uint32_t number, int on
     if (code == MINTLINTEL_WORN_OUT || (only_new && was)) {
         CHECK(code == MINTLINTEL_WORN_OUT || code == MINTLINTEL_WRITTEN);
         CHECK(!(only_new && was) || code == MINTLINTEL_WRITTEN);
-        CHECK(memcmp(&before, &after, sizeof before) == 0);
+        struct blocks blocks_after = blocks(s);
+        CHECK(memcmp(&before, &after, sizeof before) == 0 && memcmp(&blocks_before, &blocks_after, sizeof blocks_before) == 0);
         read_as_shadow(s, sector);
         return code == MINTLINTEL_WORN_OUT;
     }
@@ -112,6 +126,7 @@ static void refuse_once(struct shadow *s, uint32_t sector, uint32_t drawn_number
     memset(page, 0x5a, sizeof page);
     memcpy(kept, page, sizeof page);
     struct mintlintel_totals before = totals(s);
+    struct blocks blocks_before = blocks(s);
     uint32_t far = s->numbers.sectors + drawn_number % 3 * 1000000000u, short_by = drawn_number % PAGE;
     size_t wrong = drawn_number % 2 ? short_by : PAGE + 1;
     struct mintlintel_block block = {7, 7, 7}, same = block;
@@ -125,7 +140,8 @@ static void refuse_once(struct shadow *s, uint32_t sector, uint32_t drawn_number
     CHECK(note(BLOCK, mintlintel_one_block(&s->device, s->numbers.blocks + drawn_number % 3, &block)) == MINTLINTEL_NO_SUCH_BLOCK);
     CHECK(note(OPEN, mintlintel_one_open(&s->device, 0, 0, 0, 0, 0, 0)) == MINTLINTEL_ALREADY_OPEN);
     struct mintlintel_totals after = totals(s);
-    CHECK(memcmp(&before, &after, sizeof before) == 0);
+    struct blocks blocks_after = blocks(s);
+    CHECK(memcmp(&before, &after, sizeof before) == 0 && memcmp(&blocks_before, &blocks_after, sizeof blocks_before) == 0);
     CHECK(memcmp(page, kept, sizeof page) == 0 && memcmp(&block, &same, sizeof block) == 0);
     read_as_shadow(s, sector);
 }

@@ -1,6 +1,6 @@
-/* Four hosts and two brooms at one device, each in a thread of its own. A page names its writer, its sector and the writer's count. Every read is
- * whole, and no thread reads a value again that it has seen gone. Under ThreadSanitizer each handle is announced as written before a call,
- * so that two threads in one handle are reported. */
+/* Four hosts and two brooms at one device, each in a thread of its own, and again at one that wears out. A page names its writer, its sector
+ * and the writer's count. Every read is whole, a page that is held stays, and no thread reads a value again that it has seen gone. Under
+ * ThreadSanitizer each handle is announced as written before a call, so that two threads in one handle are reported. */
 #include "testing.h"
 #include <pthread.h>
 #include <sched.h>
@@ -21,8 +21,12 @@ static long rounds = 20000;
 
 /* what a thread has seen of a sector: the value that it saw last, and each writer's highest count */
 struct sight { uint32_t writer, count, highest[HOSTS]; };
-struct thread { uint32_t number; long writes, reads, no_block; struct sight sights[SECTORS]; };
-struct sweep { uint32_t number; long drained, moved, erased, kept, pinned, other; };
+struct thread { uint32_t number; long writes, reads, holds, no_block, given_up; struct sight sights[SECTORS]; };
+/* what a broom's calls returned, by code */
+struct sweep { uint32_t number; long moved, drains[32], erases[32]; };
+
+/* how often a write is tried again that finds no block; none is given up where blocks don't wear out */
+static long most_tries;
 
 static void fill(uint8_t *page, uint32_t writer, uint32_t sector, uint32_t count)
 {
@@ -59,11 +63,15 @@ static void write_once(struct thread *t, uint32_t sector, uint32_t count, int on
     struct mintlintel_seat *host = &hosts[t->number];
     uint32_t code;
     fill(page, t->number, sector, count);
-    for (;;) {
+    for (long tries = 0;; tries++) {
         code = only_new ? mintlintel_host_write_new(AT(host), sector, page, PAGE) : mintlintel_host_write(AT(host), sector, page, PAGE);
         if (code != MINTLINTEL_NO_BLOCK)
             break;
         t->no_block++;
+        if (most_tries > 0 && tries == most_tries) {
+            t->given_up++;
+            return;
+        }
         sched_yield();
     }
     CHECK(code <= MINTLINTEL_WRITTEN);
@@ -81,6 +89,32 @@ static void read_once(struct thread *t, uint32_t sector)
     seen(t, sector, code, page);
 }
 
+/* A sector's page is held while others overwrite it: each copy and each word of it is the same, and it stays in its place. */
+static void hold_once(struct thread *t, uint32_t sector)
+{
+    struct mintlintel_seat *host = &hosts[t->number];
+    struct mintlintel_page place, now;
+    uint8_t page[PAGE], again[PAGE];
+    uint64_t word;
+    uint32_t code = mintlintel_host_hold(AT(host), sector);
+    CHECK(code <= MINTLINTEL_WRITTEN);
+    if (code == MINTLINTEL_EMPTY) {
+        seen(t, sector, code, NULL);
+        return;
+    }
+    CHECK(mintlintel_host_copy(AT(host), page, PAGE) == MINTLINTEL_WRITTEN);
+    CHECK(mintlintel_host_held(AT(host), &place) == MINTLINTEL_DONE && place.block < BLOCKS);
+    seen(t, sector, MINTLINTEL_WRITTEN, page);
+    sched_yield();
+    for (int i = 0; i < 4; i++) {
+        CHECK(mintlintel_host_copy(AT(host), again, PAGE) == MINTLINTEL_WRITTEN && memcmp(page, again, PAGE) == 0);
+        CHECK(mintlintel_host_word(AT(host), WORDS - 1, &word) == MINTLINTEL_DONE && memcmp(&word, page + PAGE - 8, 8) == 0);
+        CHECK(mintlintel_host_held(AT(host), &now) == MINTLINTEL_DONE && memcmp(&place, &now, sizeof now) == 0);
+    }
+    CHECK(mintlintel_host_release(AT(host)) == MINTLINTEL_DONE);
+    t->holds++;
+}
+
 static void *run_host(void *argument)
 {
     struct thread *t = argument;
@@ -94,6 +128,10 @@ static void *run_host(void *argument)
         } else if (kind == 8) {
             CHECK(mintlintel_host_trim(AT(&hosts[t->number]), sector) <= MINTLINTEL_WRITTEN);
             seen(t, sector, MINTLINTEL_EMPTY, NULL);
+        } else if (kind == 9) {
+            hold_once(t, sector);
+        } else if (kind == 10) {
+            CHECK(mintlintel_host_look(AT(&hosts[t->number]), sector) <= MINTLINTEL_WRITTEN);
         } else {
             read_once(t, sector);
         }
@@ -102,50 +140,87 @@ static void *run_host(void *argument)
     return NULL;
 }
 
+/* Drains by a survey, and then twice by the same one; each block that is drained is erased, or put off while it is read. */
 static void *run_broom(void *argument)
 {
     struct sweep *s = argument;
     struct mintlintel_seat *broom = &brooms[s->number];
-    while (atomic_load(&hosts_left) > 0) {
-        uint32_t block, moved, code;
-        if (mintlintel_broom_drain(AT(broom), &block, &moved) != MINTLINTEL_DONE) {
-            s->other++;
+    for (long turn = 0; atomic_load(&hosts_left) > 0; turn++) {
+        uint32_t block = BLOCKS, moved = PAGES, code;
+        code = turn % 3 == 0 ? mintlintel_broom_drain(AT(broom), &block, &moved) : mintlintel_broom_drain_next(AT(broom), &block, &moved);
+        CHECK(code == MINTLINTEL_DONE || code == MINTLINTEL_NOTHING_TO_GAIN || code == MINTLINTEL_NO_SPARE || code == MINTLINTEL_LOST);
+        s->drains[code]++;
+        if (code != MINTLINTEL_DONE) {
+            CHECK(block == BLOCKS && moved == PAGES);
+            code = mintlintel_broom_restock(AT(broom));
+            CHECK(code == MINTLINTEL_DONE || code == MINTLINTEL_NO_SPARE);
             sched_yield();
             continue;
         }
-        s->drained++;
+        CHECK(block < BLOCKS && moved <= PAGES);
         s->moved += moved;
-        while ((code = mintlintel_broom_erase(AT(broom), block)) == MINTLINTEL_PINNED)
-            s->pinned++;
-        CHECK(code == MINTLINTEL_DONE || code == MINTLINTEL_KEPT);
-        s->erased++;
-        s->kept += code == MINTLINTEL_KEPT;
+        while ((code = mintlintel_broom_erase(AT(broom), block)) == MINTLINTEL_PINNED) {
+            s->erases[code]++;
+            sched_yield();
+        }
+        CHECK(code == MINTLINTEL_DONE || code == MINTLINTEL_KEPT || code == MINTLINTEL_RETIRED);
+        s->erases[code]++;
     }
     return NULL;
+}
+
+/* each sector's page, and where it stands */
+struct shown { uint32_t code; uint8_t page[PAGE]; struct mintlintel_page place; };
+
+static void show(struct shown *sectors)
+{
+    memset(sectors, 0, SECTORS * sizeof *sectors);
+    for (uint32_t sector = 0; sector < SECTORS; sector++) {
+        struct shown *at = &sectors[sector];
+        at->code = mintlintel_host_hold(&hosts[0], sector);
+        if (at->code == MINTLINTEL_WRITTEN) {
+            CHECK(mintlintel_host_copy(&hosts[0], at->page, PAGE) == MINTLINTEL_WRITTEN);
+            CHECK(mintlintel_host_held(&hosts[0], &at->place) == MINTLINTEL_DONE && mintlintel_host_release(&hosts[0]) == MINTLINTEL_DONE);
+        }
+    }
 }
 
 /* A call for another kind of seat answers 9 and changes nothing; so do wrong sectors, lengths and blocks by their codes. */
 static void refused_calls(void)
 {
+    static struct shown before[SECTORS], after[SECTORS];
     uint8_t page[PAGE] = {5}, kept[PAGE] = {5};
     uint32_t block = 77, moved = 78;
+    for (uint32_t sector = 0; sector < PAGES / 2; sector++)
+        CHECK(mintlintel_host_write(&hosts[sector % HOSTS], sector, page, PAGE) == MINTLINTEL_EMPTY);
+    show(before);
     CHECK(mintlintel_host_read(&brooms[0], SECTORS, page, 1) == MINTLINTEL_WRONG_KIND);
     CHECK(mintlintel_host_write(&brooms[0], 0, page, PAGE) == MINTLINTEL_WRONG_KIND);
     CHECK(mintlintel_host_write_new(&brooms[0], 0, page, PAGE) == MINTLINTEL_WRONG_KIND);
     CHECK(mintlintel_host_trim(&brooms[0], 0) == MINTLINTEL_WRONG_KIND);
     CHECK(mintlintel_broom_drain(&hosts[0], &block, &moved) == MINTLINTEL_WRONG_KIND);
+    CHECK(mintlintel_broom_drain_next(&hosts[0], &block, &moved) == MINTLINTEL_WRONG_KIND);
     CHECK(mintlintel_broom_erase(&hosts[0], 0) == MINTLINTEL_WRONG_KIND);
+    CHECK(mintlintel_broom_restock(&hosts[0]) == MINTLINTEL_WRONG_KIND);
+    CHECK(mintlintel_host_look(&brooms[0], 0) == MINTLINTEL_WRONG_KIND && mintlintel_host_hold(&brooms[0], 0) == MINTLINTEL_WRONG_KIND);
+    CHECK(mintlintel_host_release(&brooms[0]) == MINTLINTEL_WRONG_KIND && mintlintel_host_release(&hosts[0]) == MINTLINTEL_WRONG_KIND);
     CHECK(mintlintel_host_read(&hosts[0], SECTORS, page, 1) == MINTLINTEL_NO_SECTOR);
     CHECK(mintlintel_host_read(&hosts[0], 0, page, 1) == MINTLINTEL_NOT_A_PAGE);
     CHECK(mintlintel_host_write(&hosts[0], SECTORS, page, PAGE) == MINTLINTEL_NO_SECTOR);
     CHECK(mintlintel_host_write(&hosts[0], 0, page, PAGE - 1) == MINTLINTEL_NOT_A_PAGE);
     CHECK(mintlintel_host_write_new(&hosts[0], SECTORS, page, PAGE) == MINTLINTEL_NO_SECTOR);
     CHECK(mintlintel_host_write_new(&hosts[0], 0, page, PAGE - 1) == MINTLINTEL_NOT_A_PAGE);
-    CHECK(mintlintel_host_trim(&hosts[0], SECTORS) == MINTLINTEL_NO_SECTOR);
+    CHECK(mintlintel_host_trim(&hosts[0], SECTORS) == MINTLINTEL_NO_SECTOR && mintlintel_host_look(&hosts[0], SECTORS) == MINTLINTEL_NO_SECTOR);
+    CHECK(mintlintel_host_hold(&hosts[0], SECTORS) == MINTLINTEL_NO_SECTOR);
     CHECK(mintlintel_broom_erase(&brooms[0], BLOCKS) == MINTLINTEL_NO_SUCH_BLOCK);
     CHECK(mintlintel_broom_erase(&brooms[0], 0) == MINTLINTEL_STALE);
     CHECK(mintlintel_broom_drain(&brooms[0], &block, &moved) == MINTLINTEL_NOTHING_TO_GAIN);
+    CHECK(mintlintel_broom_drain_next(&brooms[0], &block, &moved) == MINTLINTEL_NOTHING_TO_GAIN);
     CHECK(block == 77 && moved == 78 && memcmp(page, kept, PAGE) == 0);
+    show(after);
+    CHECK(memcmp(before, after, sizeof before) == 0);
+    for (uint32_t sector = 0; sector < PAGES / 2; sector++)
+        CHECK(mintlintel_host_trim(&hosts[0], sector) == MINTLINTEL_WRITTEN);
     CHECK(mintlintel_shared_open(hosts, HOSTS, brooms, BROOMS, 0, 0, 0, 0, 0, 0) == MINTLINTEL_ALREADY_OPEN);
     struct mintlintel_numbers n, wanted = {1, BLOCKS, PAGES, WORDS, SECTORS, 1000000, HOSTS, BROOMS};
     CHECK(mintlintel_seat_numbers(&hosts[1], &n) == MINTLINTEL_DONE && memcmp(&n, &wanted, sizeof n) == 0);
@@ -183,6 +258,8 @@ static void closed_seat(void)
     CHECK(mintlintel_host_copy(&closed, page, PAGE) == MINTLINTEL_CLOSED && mintlintel_host_word(&closed, 0, &word) == MINTLINTEL_CLOSED);
     CHECK(mintlintel_host_held(&closed, &place) == MINTLINTEL_CLOSED && mintlintel_host_release(&closed) == MINTLINTEL_CLOSED);
     CHECK(mintlintel_broom_drain(&closed, &block, &moved) == MINTLINTEL_CLOSED && mintlintel_broom_erase(&closed, 0) == MINTLINTEL_CLOSED);
+    CHECK(mintlintel_host_look(&closed, 0) == MINTLINTEL_CLOSED && mintlintel_broom_restock(&closed) == MINTLINTEL_CLOSED);
+    CHECK(mintlintel_broom_drain_next(&closed, &block, &moved) == MINTLINTEL_CLOSED);
     CHECK(mintlintel_seat_numbers(&closed, &n) == MINTLINTEL_CLOSED);
     mintlintel_seat_close(&closed);
     CHECK(block == 77 && moved == 78 && word == 79 && place.block == 80 && place.generation == 81 && n.luns == 82);
@@ -208,17 +285,12 @@ static void counts_at_fault(void)
         mintlintel_seat_close(&few[i]);
 }
 
-int main(int count, char **words)
+/* All threads at the open device, until each host has made its calls. */
+static void run_all(struct thread *threads, struct sweep *sweeps)
 {
-    static struct thread threads[HOSTS];
-    static struct sweep sweeps[BROOMS];
     pthread_t host_threads[HOSTS], broom_threads[BROOMS];
-    if (count > 1)
-        rounds = atol(words[1]);
-    closed_seat();
-    counts_at_fault();
-    CHECK(mintlintel_shared_open(hosts, HOSTS, brooms, BROOMS, 1, BLOCKS, PAGES, WORDS, SECTORS, 1000000) == MINTLINTEL_DONE);
-    refused_calls();
+    memset(threads, 0, HOSTS * sizeof *threads);
+    memset(sweeps, 0, BROOMS * sizeof *sweeps);
     atomic_store(&hosts_left, HOSTS);
     for (uint32_t i = 0; i < BROOMS; i++) {
         sweeps[i].number = i;
@@ -235,21 +307,56 @@ int main(int count, char **words)
     for (int i = 0; i < BROOMS; i++)
         pthread_join(broom_threads[i], NULL);
     all_agree(threads);
-    long writes = 0, reads = 0, no_block = 0, moved = 0, erased = 0, pinned = 0;
-    for (int i = 0; i < HOSTS; i++) {
-        writes += threads[i].writes;
-        reads += threads[i].reads;
-        no_block += threads[i].no_block;
+    for (int i = 0; i < HOSTS; i++)
         mintlintel_seat_close(AT(&hosts[i]));
+    for (int i = 0; i < BROOMS; i++)
+        mintlintel_seat_close(AT(&brooms[i]));
+}
+
+/* What all threads did, in one of each. */
+static void tell(const char *device, const struct thread *threads, const struct sweep *sweeps, struct thread *host, struct sweep *broom)
+{
+    memset(host, 0, sizeof *host);
+    memset(broom, 0, sizeof *broom);
+    for (int i = 0; i < HOSTS; i++) {
+        host->writes += threads[i].writes;
+        host->reads += threads[i].reads;
+        host->holds += threads[i].holds;
+        host->no_block += threads[i].no_block;
+        host->given_up += threads[i].given_up;
     }
     for (int i = 0; i < BROOMS; i++) {
-        moved += sweeps[i].moved;
-        erased += sweeps[i].erased;
-        pinned += sweeps[i].pinned;
-        mintlintel_seat_close(AT(&brooms[i]));
+        broom->moved += sweeps[i].moved;
+        for (int code = 0; code < 32; code++) {
+            broom->drains[code] += sweeps[i].drains[code];
+            broom->erases[code] += sweeps[i].erases[code];
+        }
     }
-    CHECK(writes > 0 && reads > 0 && erased > 0 && moved > 0);
-    printf("shared: %ld writes, %ld reads, %ld refused for want of a block; %ld pages moved, %ld blocks erased, %ld erases put off for readers\n",
-           writes, reads, no_block, moved, erased, pinned);
+    const long *d = broom->drains, *e = broom->erases;
+    printf("shared: %s: %ld writes, %ld reads, %ld holds, %ld times no block, %ld writes given up; %ld pages moved; drains: %ld done, %ld with "
+           "nothing to gain, %ld without a spare, %ld lost; erases: %ld free, %ld kept, %ld retired, %ld put off\n", device, host->writes, host->reads,
+           host->holds, host->no_block, host->given_up, broom->moved, d[0], d[20], d[21], d[22], e[0], e[26], e[23], e[24]);
+}
+
+int main(int count, char **words)
+{
+    static struct thread threads[HOSTS], host;
+    static struct sweep sweeps[BROOMS], broom;
+    if (count > 1)
+        rounds = atol(words[1]);
+    closed_seat();
+    counts_at_fault();
+    CHECK(mintlintel_shared_open(hosts, HOSTS, brooms, BROOMS, 1, BLOCKS, PAGES, WORDS, SECTORS, 1000000) == MINTLINTEL_DONE);
+    refused_calls();
+    run_all(threads, sweeps);
+    tell("one that lasts", threads, sweeps, &host, &broom);
+    CHECK(host.writes > 0 && host.reads > 0 && host.holds > 0 && host.given_up == 0 && broom.moved > 0);
+    CHECK(broom.drains[MINTLINTEL_DONE] > 0 && broom.drains[MINTLINTEL_LOST] > 0);
+    CHECK(broom.erases[MINTLINTEL_DONE] > 0 && broom.erases[MINTLINTEL_KEPT] > 0 && broom.erases[MINTLINTEL_PINNED] > 0);
+    most_tries = 4;
+    CHECK(mintlintel_shared_open(hosts, HOSTS, brooms, BROOMS, 1, BLOCKS, PAGES, WORDS, SECTORS, 8) == MINTLINTEL_DONE);
+    run_all(threads, sweeps);
+    tell("one that wears out", threads, sweeps, &host, &broom);
+    CHECK(host.no_block > 0 && host.given_up > 0 && broom.erases[MINTLINTEL_RETIRED] > 0);
     return 0;
 }

@@ -1,50 +1,15 @@
-#!/usr/bin/env python3
-"""replay fio|msr|blkparse --page-bytes N --sectors N < log: plays a trace of any length on a device for one thread, and tells its
-counts after each 100,000 requests. The readers are those of tools/simulation; `tools/trace convert --help` tells their options."""
-
-import argparse
+# replay.py fio|msr|blkparse LOG: plays a log of any length, and prints the counts after each 10,000 requests and at the end
 import sys
-from pathlib import Path
-
 import mintlintel
+sys.path.insert(0, "tools")
+from simulation import blkparse, fio, msr
+from simulation.lines import numbered_lines
 
-sys.path.insert(0, str(Path(__file__).resolve().parents[3] / "tools"))
-from simulation import convert  # noqa: E402
-
-
-class Player:
-    """Plays each sector of a request, and tells the counts now and then."""
-
-    def __init__(self, device):
-        self.lines, self._device, self._page = 0, device, bytearray(device.page_bytes)
-
-    def _played(self, call, *words):
-        call(*words)
-        self.lines += 1
-        if self.lines % 100_000 == 0:
-            print(self.lines, *self._device.counts(), flush=True)
-
-    def read(self, sector):
-        self._played(self._device.read_into, sector, self._page)
-
-    def write(self, sector):
-        self._played(self._device.write, sector, self._page)
-
-    def trim(self, sector):
-        self._played(self._device.trim, sector)
-
-
-def main():
-    parser = argparse.ArgumentParser(description=__doc__)
-    convert.add_options(parser)
-    parser.add_argument("--blocks", type=int, default=1000, help="blocks of the device")
-    parser.add_argument("--pages", type=int, default=64, help="pages of a block")
-    options = parser.parse_args()
-    numbers = {"blocks": options.blocks, "pages": options.pages, "words": options.page_bytes // 8, "sectors": options.sectors}
-    with mintlintel.Device(**numbers, endurance=1_000_000) as device:
-        player = Player(device)
-        convert.convert(options, sys.stdin.buffer, player)
-        print(player.lines, *device.counts())
-
-
-main()
+readers = {"fio": fio.requests, "msr": msr.requests, "blkparse": lambda lines: blkparse.requests(lines, b"D")}
+device = mintlintel.Device(blocks=64, pages=64, words=512, sectors=3500, endurance=1_000_000)
+with device, open(sys.argv[2], "rb") as log:
+    number, requests = 0, readers[sys.argv[1]](numbered_lines(log))
+    for number, request in enumerate(mintlintel.replay(device, requests, wrap=True), 1):
+        if number % 10_000 == 0:
+            print(number, *device.counts())
+    print(number, *device.counts())

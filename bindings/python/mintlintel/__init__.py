@@ -8,11 +8,16 @@ False
 b'a page'
 """
 
-from .device import Block, Counts, Device
-from .faults import BadNumbers, Closed, MintlintelError, NoBlock, NoSuchBlock, NoSuchSector, NotAPage, OutOfMemory, WornOut, WrongKind
+from .buffers import Buffer, WritableBuffer
+from .device import Block, Counts, Device, Numbers
+from .faults import (
+    BadNumbers, Closed, MintlintelError, NoBlock, NoSuchBlock, NoSuchSector, NotAPage, OutOfMemory, Released, WornOut, WrongKind,
+)
+from .replaying import Request, replay
 from .shared import Broom, Drain, Drained, Erase, Held, Host, Page, SharedDevice
 
 __all__ = [
-    "BadNumbers", "Block", "Broom", "Closed", "Counts", "Device", "Drain", "Drained", "Erase", "Held", "Host", "MintlintelError",
-    "NoBlock", "NoSuchBlock", "NoSuchSector", "NotAPage", "OutOfMemory", "Page", "SharedDevice", "WornOut", "WrongKind",
+    "BadNumbers", "Block", "Broom", "Buffer", "Closed", "Counts", "Device", "Drain", "Drained", "Erase", "Held", "Host",
+    "MintlintelError", "NoBlock", "NoSuchBlock", "NoSuchSector", "NotAPage", "Numbers", "OutOfMemory", "Page", "Released", "Request",
+    "SharedDevice", "WornOut", "WritableBuffer", "WrongKind", "replay",
 ]

@@ -1,11 +1,10 @@
-"""The calls of C, and buffers for them without a copy."""
+"""The calls of C."""
 
 from __future__ import annotations
 
 import ctypes
-from contextlib import contextmanager
+import operator
 from pathlib import Path
-from typing import Iterator
 
 LIBRARY = ctypes.CDLL(str(Path(__file__).resolve().parent / "libmintlintel.so"))
 
@@ -52,13 +51,16 @@ _CALLS = {
     "host_write": [_HANDLE, _U32, _BYTES, _SIZE],
     "host_write_new": [_HANDLE, _U32, _BYTES, _SIZE],
     "host_trim": [_HANDLE, _U32],
+    "host_look": [_HANDLE, _U32],
     "host_hold": [_HANDLE, _U32],
     "host_copy": [_HANDLE, _BYTES, _SIZE],
     "host_word": [_HANDLE, _U32, ctypes.POINTER(ctypes.c_uint64)],
     "host_held": [_HANDLE, ctypes.POINTER(Page)],
     "host_release": [_HANDLE],
     "broom_drain": [_HANDLE, ctypes.POINTER(_U32), ctypes.POINTER(_U32)],
+    "broom_drain_next": [_HANDLE, ctypes.POINTER(_U32), ctypes.POINTER(_U32)],
     "broom_erase": [_HANDLE, _U32],
+    "broom_restock": [_HANDLE],
 }
 
 for _name, _arguments in _CALLS.items():
@@ -67,30 +69,8 @@ for _name, _arguments in _CALLS.items():
     _call.restype = None if _name.endswith("_close") else _U32
 
 
-class _PyBuffer(ctypes.Structure):
-    """A `Py_buffer` of the stable ABI."""
-
-    _fields_ = [
-        ("buf", ctypes.c_void_p), ("obj", ctypes.c_void_p), ("len", ctypes.c_ssize_t), ("itemsize", ctypes.c_ssize_t),
-        ("readonly", ctypes.c_int), ("ndim", ctypes.c_int), ("format", ctypes.c_char_p), ("shape", ctypes.c_void_p),
-        ("strides", ctypes.c_void_p), ("suboffsets", ctypes.c_void_p), ("internal", ctypes.c_void_p),
-    ]
-
-
-_GET, _RELEASE = ctypes.pythonapi.PyObject_GetBuffer, ctypes.pythonapi.PyBuffer_Release
-_GET.argtypes = [ctypes.py_object, ctypes.POINTER(_PyBuffer), ctypes.c_int]
-_RELEASE.argtypes = [ctypes.POINTER(_PyBuffer)]
-_RELEASE.restype = None
-_SIMPLE, _WRITABLE = 0, 1
-
-
-@contextmanager
-def bytes_of(buffer: object, writable: bool = False) -> Iterator[tuple[int, int]]:
-    """The address and the length of the bytes of any contiguous buffer (bytes, bytearray, memoryview, an array of numpy), not copied."""
-    view = _PyBuffer()
-    _GET(buffer, ctypes.byref(view), _WRITABLE if writable else _SIMPLE)
-    try:
-        # A buffer of no bytes may be at null, which the library is never given.
-        yield view.buf or ctypes.addressof(view), view.len
-    finally:
-        _RELEASE(ctypes.byref(view))
+def number(value: int) -> int:
+    """A number for C: one that has no 32 bits is passed as the largest that has, which is past each limit. ctypes would pass the rest
+    of a division by 2 to the 32."""
+    whole = operator.index(value)
+    return whole if 0 <= whole < 2**32 else 2**32 - 1

@@ -7,8 +7,26 @@ import threading
 from typing import NamedTuple, Optional
 
 from . import _library
-from ._library import LIBRARY, bytes_of
+from ._library import LIBRARY, number
+from .buffers import Buffer, WritableBuffer, bytes_of, new_bytes
 from .faults import checked
+
+
+class Numbers(NamedTuple):
+    """The numbers that a device was made with. A device for one thread has no hosts and no brooms."""
+
+    luns: int
+    blocks: int
+    pages: int
+    words: int
+    sectors: int
+    endurance: int
+    hosts: int
+    brooms: int
+
+    @classmethod
+    def of(cls, report: _library.Numbers) -> Numbers:
+        return cls(*(getattr(report, name) for name in cls._fields))
 
 
 class Counts(NamedTuple):
@@ -33,6 +51,7 @@ class Device:
     def __init__(self, *, blocks: int, pages: int, words: int, sectors: int, endurance: int, luns: int = 1) -> None:
         self._lock = threading.Lock()
         self._handle = _library.Handle()
+        luns, blocks, pages, words, sectors, endurance = map(number, (luns, blocks, pages, words, sectors, endurance))
         checked(LIBRARY.mintlintel_one_open(self._handle, luns, blocks, pages, words, sectors, endurance))
         self.page_bytes = 8 * words
         self.sectors = sectors
@@ -40,28 +59,30 @@ class Device:
 
     def read(self, sector: int) -> Optional[bytes]:
         """The page of a sector, or None for an empty one."""
-        page = bytearray(self.page_bytes)
-        return bytes(page) if self.read_into(sector, page) else None
+        page, start = new_bytes(self.page_bytes)
+        with self._lock:
+            written = checked(LIBRARY.mintlintel_one_read(self._handle, number(sector), start, self.page_bytes))
+        return page if written else None
 
-    def read_into(self, sector: int, buffer: object) -> bool:
+    def read_into(self, sector: int, buffer: WritableBuffer) -> bool:
         """Reads a sector into a writable buffer of one page. An empty sector leaves the buffer unchanged; then it returns False."""
         with bytes_of(buffer, writable=True) as (start, length), self._lock:
-            return checked(LIBRARY.mintlintel_one_read(self._handle, _number(sector), start, length))
+            return checked(LIBRARY.mintlintel_one_read(self._handle, number(sector), start, length))
 
-    def write(self, sector: int, page: object) -> bool:
+    def write(self, sector: int, page: Buffer) -> bool:
         """Writes a page, any buffer of its bytes. Returns whether the sector was written."""
         with bytes_of(page) as (start, length), self._lock:
-            return checked(LIBRARY.mintlintel_one_write(self._handle, _number(sector), start, length))
+            return checked(LIBRARY.mintlintel_one_write(self._handle, number(sector), start, length))
 
-    def write_new(self, sector: int, page: object) -> bool:
+    def write_new(self, sector: int, page: Buffer) -> bool:
         """Writes a page to a sector if it is empty. Returns whether the sector was written before and so is unchanged."""
         with bytes_of(page) as (start, length), self._lock:
-            return checked(LIBRARY.mintlintel_one_write_new(self._handle, _number(sector), start, length))
+            return checked(LIBRARY.mintlintel_one_write_new(self._handle, number(sector), start, length))
 
     def trim(self, sector: int) -> bool:
         """Empties a sector. Returns whether it was written."""
         with self._lock:
-            return checked(LIBRARY.mintlintel_one_trim(self._handle, _number(sector)))
+            return checked(LIBRARY.mintlintel_one_trim(self._handle, number(sector)))
 
     def counts(self) -> Counts:
         """The totals so far."""
@@ -74,8 +95,15 @@ class Device:
         """The counts of a block so far."""
         report = _library.Block()
         with self._lock:
-            checked(LIBRARY.mintlintel_one_block(self._handle, _number(block), report))
+            checked(LIBRARY.mintlintel_one_block(self._handle, number(block), report))
         return Block(report.erases, report.live, bool(report.retired))
+
+    def numbers(self) -> Numbers:
+        """The numbers that the device was made with."""
+        report = _library.Numbers()
+        with self._lock:
+            checked(LIBRARY.mintlintel_one_numbers(self._handle, report))
+        return Numbers.of(report)
 
     def close(self) -> None:
         """Frees the device. A closed one stays closed."""
@@ -91,8 +119,3 @@ class Device:
     def __del__(self) -> None:
         if hasattr(self, "_handle"):
             LIBRARY.mintlintel_one_close(self._handle)
-
-
-def _number(number: int) -> int:
-    """A number that C sees as it is: ctypes would take it modulo 2 to the 32."""
-    return number if 0 <= number < 2**32 else 2**32 - 1

@@ -35,6 +35,10 @@ class WrongKind(MintlintelError):
     """The host holds a page, or holds none."""
 
 
+class Released(WrongKind):
+    """The page of this `Held` is released."""
+
+
 class NoSuchBlock(MintlintelError):
     """The device has no such block, or a page no such word."""
 
@@ -52,15 +56,15 @@ _FAULTS = {
     7: (NoBlock, "no block is free"),
     9: (WrongKind, "the host holds a page, or none"),
     10: (NoSuchBlock, "no such block or word"),
-    101: (BadNumbers, "luns out of range"),
-    102: (BadNumbers, "blocks out of range"),
-    103: (BadNumbers, "pages out of range"),
-    104: (BadNumbers, "words out of range"),
-    105: (BadNumbers, "sectors out of range"),
-    106: (BadNumbers, "endurance out of range"),
-    107: (BadNumbers, "hosts or brooms out of range"),
-    108: (BadNumbers, "too many words"),
-    109: (BadNumbers, "too few blocks"),
+    101: (BadNumbers, "luns out of range: 1 to 8"),
+    102: (BadNumbers, "blocks out of range: 3 to 4096, and a multiple of luns"),
+    103: (BadNumbers, "pages out of range: 1 to 16384 of a block"),
+    104: (BadNumbers, "words out of range: 1 to 512 of a page"),
+    105: (BadNumbers, "sectors out of range: 1 to 1048576"),
+    106: (BadNumbers, "endurance out of range: 1 to 1000000 erases of a block"),
+    107: (BadNumbers, "hosts or brooms out of range: 1 to 500 hosts, and up to 32 brooms"),
+    108: (BadNumbers, "too many words: all pages and tables together may have 16777216"),
+    109: (BadNumbers, "too few blocks: the sectors leave no room to collect"),
 }
 
 

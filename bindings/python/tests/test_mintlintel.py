@@ -4,6 +4,7 @@ import array
 import doctest
 import random
 import threading
+import types
 import unittest
 
 import mintlintel
@@ -14,6 +15,10 @@ SHARED = {"blocks": 40, "pages": 8, "words": 2, "sectors": 200, "endurance": 1_0
 
 def page(number):
     return number.to_bytes(16, "little")
+
+
+def request(op, offset, length):
+    return types.SimpleNamespace(op=op, offset=offset, length=length)
 
 
 class OneThread(unittest.TestCase):
@@ -62,6 +67,45 @@ class OneThread(unittest.TestCase):
         with self.assertRaisesRegex(mintlintel.Closed, "closed"):
             device.read(0)
 
+    def test_a_number_that_has_no_32_bits_is_refused(self):
+        for name, text in [("luns", "luns"), ("blocks", "blocks"), ("pages", "pages"), ("words", "words"), ("sectors", "sectors"), ("endurance", "endurance")]:
+            for number in (2**32 + NUMBERS.get(name, 1), 2**64 + 1, -1, -(2**32) + 1):
+                for opened in (lambda: mintlintel.Device(**{**NUMBERS, name: number}), lambda: mintlintel.SharedDevice(hosts=1, brooms=1, **{**SHARED, name: number})):
+                    with self.assertRaisesRegex(mintlintel.BadNumbers, f"^{text} out of range: "):
+                        opened()
+        with self.assertRaises(TypeError):
+            mintlintel.Device(**{**NUMBERS, "blocks": 12.0})
+
+    def test_its_numbers(self):
+        with mintlintel.Device(**NUMBERS) as device:
+            self.assertEqual(device.numbers(), mintlintel.Numbers(luns=1, hosts=0, brooms=0, **NUMBERS))
+        with self.assertRaises(mintlintel.Closed):
+            device.numbers()
+
+    def test_what_is_read_is_read_anew(self):
+        with mintlintel.Device(**NUMBERS) as device:
+            device.write(0, page(1))
+            first = device.read(0)
+            device.write(0, page(2))
+            self.assertEqual((first, device.read(0), type(first)), (page(1), page(2), bytes))
+            self.assertEqual((hash(first), len({first, page(1)})), (hash(page(1)), 1))
+
+    def test_a_replay_plays_the_pages_of_each_request(self):
+        log = [request("write", 0, 40), "a line without data", request("trim", 8, 32), request("read", 0, 64), request("write", 16 * 60, 16)]
+        with mintlintel.Device(**NUMBERS) as device:
+            played = mintlintel.replay(device, log)
+            self.assertIs(next(played), log[0])
+            self.assertEqual(device.counts().programs, 3)
+            self.assertIs(next(played), log[2])
+            self.assertEqual([device.read(sector) is None for sector in range(4)], [False, True, False, True])
+            self.assertIs(next(played), log[3])
+            with self.assertRaises(mintlintel.NoSuchSector):
+                next(played)
+            self.assertEqual([it.op for it in mintlintel.replay(device, log[4:], wrap=True)], ["write"])
+            self.assertEqual(device.counts().programs, 4)
+            with self.assertRaisesRegex(ValueError, "flush"):
+                list(mintlintel.replay(device, [request("flush", 0, 1)]))
+
     def test_a_worn_out_device_still_reads(self):
         with mintlintel.Device(blocks=3, pages=1, words=2, sectors=1, endurance=1) as device:
             last = None
@@ -101,8 +145,9 @@ class OneThread(unittest.TestCase):
             self.assertEqual([device.read(sector) for sector in (0, 25, 59)], [page(0), page(20), page(40)])
 
     def test_the_examples_of_the_documents(self):
-        failures, tried = doctest.testmod(mintlintel)
-        self.assertEqual((failures, tried > 0), (0, True))
+        for module in (mintlintel, mintlintel.replaying):
+            failures, tried = doctest.testmod(module, extraglobs={"Device": mintlintel.Device})
+            self.assertEqual((failures, tried > 0), (0, True))
 
 
 class Shared(unittest.TestCase):
@@ -162,6 +207,88 @@ class Shared(unittest.TestCase):
             with self.assertRaises(mintlintel.WrongKind):
                 held.read()
 
+    def test_a_page_that_is_released_is_never_another(self):
+        with mintlintel.SharedDevice(hosts=1, brooms=0, **SHARED) as device:
+            host = device.hosts[0]
+            host.write(5, page(5))
+            host.write(6, page(6))
+            stale = host.hold(5)
+            stale.release()
+            with host.hold(6) as held:
+                for call in (stale.read, stale.page, stale.release, lambda: stale.word(0), lambda: stale.read_into(bytearray(16))):
+                    with self.assertRaises(mintlintel.Released):
+                        call()
+                with stale:
+                    pass
+                self.assertEqual(held.read(), page(6))
+            with host.hold(6) as held:
+                held.release()
+                with self.assertRaises(mintlintel.Released):
+                    held.release()
+                self.assertEqual(host.read(6), page(6))
+            with host.hold(6) as held:
+                host.close()
+                with self.assertRaises(mintlintel.Closed):
+                    held.read()
+
+    def test_a_page_that_is_dropped_is_released_by_the_next_call(self):
+        with mintlintel.SharedDevice(hosts=1, brooms=0, **SHARED) as device:
+            host = device.hosts[0]
+            host.write(5, page(5))
+            calls = [
+                lambda: host.read(5), lambda: host.look(5), lambda: host.read_into(5, bytearray(16)), lambda: host.write(5, page(5)), lambda: host.write_new(5, page(5)),
+                lambda: host.hold(5) is not None, lambda: host.trim(5),
+            ]
+            for call in calls:
+                host.hold(5)
+                self.assertTrue(call())
+
+    def test_a_broom_drains_by_its_last_survey_and_restocks(self):
+        Drain, Drained = mintlintel.Drain, mintlintel.Drained
+        with mintlintel.SharedDevice(hosts=2, brooms=1, **SHARED) as device:
+            reader, writer = device.hosts
+            broom = device.brooms[0]
+            self.assertEqual((broom.drain_next(), broom.restock()), (Drain.NOTHING_TO_GAIN, True))
+            # Block 0 gets eight pages of one sector, and each of the next two blocks has live pages of others.
+            for sector in [0] * 8 + [1] * 7 + [2] + [3] * 5 + [4, 5, 6]:
+                writer.write(sector, page(sector))
+            self.assertEqual((reader.look(6), reader.look(7)), (True, False))
+            with self.assertRaises(mintlintel.NoSuchSector):
+                reader.look(200)
+            writer.trim(0)
+            self.assertEqual(broom.drain(), Drained(block=0, moved=0))
+            self.assertEqual(broom.drain_next(), Drained(block=1, moved=2))
+            self.assertIs(broom.drain_next(), Drain.NO_SPARE)
+            self.assertTrue(broom.restock())
+            with reader.hold(6):
+                self.assertIs(broom.drain_next(), Drain.LOST)
+                self.assertIs(broom.drain_next(), Drain.NOTHING_TO_GAIN)
+            self.assertEqual(broom.drain(), Drained(block=2, moved=4))
+
+    def test_a_broom_without_a_spare_finds_none_on_a_full_device(self):
+        with mintlintel.SharedDevice(hosts=1, brooms=1, **SHARED) as device:
+            host, broom = device.hosts[0], device.brooms[0]
+            for sector in [0] * 7 + [1]:
+                host.write(sector, page(sector))
+            self.assertEqual(broom.drain(), mintlintel.Drained(block=0, moved=2))
+            with self.assertRaises(mintlintel.NoBlock):
+                while True:
+                    host.write(9, page(9))
+            self.assertIs(broom.drain(), mintlintel.Drain.NO_SPARE)
+            self.assertFalse(broom.restock())
+            self.assertIs(broom.erase(0), mintlintel.Erase.KEPT)
+            self.assertTrue(broom.restock())
+
+    def test_the_numbers_of_its_seats(self):
+        wanted = mintlintel.Numbers(luns=1, hosts=2, brooms=1, **SHARED)
+        with mintlintel.SharedDevice(hosts=2, brooms=1, **SHARED) as device:
+            self.assertEqual([seat.numbers() for seat in [*device.hosts, *device.brooms]], [wanted] * 3)
+            device.hosts[0].write(5, page(5))
+            with device.hosts[0].hold(5):
+                self.assertEqual(device.hosts[0].numbers(), wanted)
+        with self.assertRaises(mintlintel.Closed):
+            device.hosts[0].numbers()
+
     def test_each_answer_of_a_broom_has_a_name(self):
         with mintlintel.SharedDevice(hosts=1, brooms=1, **SHARED) as device:
             broom = device.brooms[0]
@@ -172,9 +299,11 @@ class Shared(unittest.TestCase):
             broom.close()
             with self.assertRaises(mintlintel.Closed):
                 broom.drain()
-        for counts in ((0, 0), (501, 0), (1, 33)):
-            with self.assertRaises(mintlintel.BadNumbers):
+        for counts in ((0, 0), (501, 0), (1, 33), (-1, 0), (1, -1), (2**32 + 1, 1), (2**64 + 1, 1), (1, 2**32 + 1)):
+            with self.assertRaisesRegex(mintlintel.BadNumbers, "hosts or brooms"):
                 mintlintel.SharedDevice(hosts=counts[0], brooms=counts[1], **SHARED)
+        with self.assertRaisesRegex(mintlintel.BadNumbers, "luns"):
+            mintlintel.SharedDevice(hosts=501, brooms=33, **{**SHARED, "luns": 0})
 
 
 def run(*jobs):

@@ -1,8 +1,19 @@
 //! A device for one thread.
-use crate::raw::{self, Handle, Numbers, Totals};
+use crate::raw::{self, Handle, Totals};
 use crate::{Fault, Geometry, OpenFault, Was};
 
 /// Pages programmed for writes, pages relocated, and erase commands.
+///
+/// ```
+/// # use mintlintel::{Counts, Device, Geometry};
+/// # fn main() -> Result<(), Box<dyn std::error::Error>> {
+/// # let geometry = Geometry { blocks: 8, pages: 4, words: 1, sectors: 20, endurance: 1000, ..Geometry::ONE_LUN };
+/// let mut device = Device::open(geometry)?;
+/// device.write(3, &[1; 8])?;
+/// assert_eq!(device.counts()?, Counts { programs: 1, copies: 0, erases: 0 });
+/// # Ok(())
+/// # }
+/// ```
 #[derive(Clone, Copy, Debug, PartialEq, Eq)]
 pub struct Counts {
     pub programs: u64,
@@ -11,6 +22,18 @@ pub struct Counts {
 }
 
 /// A block's erase commands, its live pages, and whether it is retired.
+///
+/// ```
+/// # use mintlintel::{Block, Device, Geometry};
+/// # fn main() -> Result<(), Box<dyn std::error::Error>> {
+/// # let geometry = Geometry { blocks: 8, pages: 4, words: 1, sectors: 20, endurance: 1000, ..Geometry::ONE_LUN };
+/// let mut device = Device::open(geometry)?;
+/// device.write(3, &[1; 8])?;
+/// let live: u32 = (0..8).map(|number| device.block(number).map(|block| block.live)).sum::<Result<u32, _>>()?;
+/// assert_eq!(live, 1);
+/// # Ok(())
+/// # }
+/// ```
 #[derive(Clone, Copy, Debug, PartialEq, Eq)]
 pub struct Block {
     pub erases: u32,
@@ -32,6 +55,13 @@ pub struct Block {
 /// assert_eq!(device.counts()?.programs, 1000);
 /// # Ok(())
 /// # }
+/// ```
+///
+/// Two threads can't share one:
+///
+/// ```compile_fail,E0277
+/// fn is_shared<T: Sync>() {}
+/// is_shared::<mintlintel::Device>();
 /// ```
 #[derive(Debug)]
 pub struct Device {
@@ -58,21 +88,75 @@ impl Device {
     }
 
     /// Reads a sector into a buffer of one page. An empty sector, and a fault, leave the buffer unchanged.
+    ///
+    /// ```
+    /// # use mintlintel::{Device, Fault, Geometry, Was};
+    /// # fn main() -> Result<(), Box<dyn std::error::Error>> {
+    /// # let geometry = Geometry { blocks: 8, pages: 4, words: 1, sectors: 20, endurance: 1000, ..Geometry::ONE_LUN };
+    /// # let mut device = Device::open(geometry)?;
+    /// let mut page = [9; 8];
+    /// assert_eq!(device.read(3, &mut page), Ok(Was::Empty));
+    /// assert_eq!(page, [9; 8]);
+    /// device.write(3, &[1; 8])?;
+    /// assert_eq!(device.read(3, &mut page), Ok(Was::Written));
+    /// assert_eq!(page, [1; 8]);
+    /// assert_eq!(device.read(20, &mut page), Err(Fault::NoSector));
+    /// assert_eq!(device.read(3, &mut page[..7]), Err(Fault::NotAPage));
+    /// # Ok(())
+    /// # }
+    /// ```
     pub fn read(&mut self, sector: u32, out: &mut [u8]) -> Result<Was, Fault> {
         Was::of(unsafe { raw::mintlintel_one_read(&mut self.handle, sector, out.as_mut_ptr(), out.len()) })
     }
 
     /// Writes a page to a sector. Returns what the sector was.
+    ///
+    /// ```
+    /// # use mintlintel::{Device, Fault, Geometry, Was};
+    /// # fn main() -> Result<(), Box<dyn std::error::Error>> {
+    /// # let geometry = Geometry { blocks: 8, pages: 4, words: 1, sectors: 20, endurance: 1000, ..Geometry::ONE_LUN };
+    /// # let mut device = Device::open(geometry)?;
+    /// assert_eq!(device.write(3, &[1; 8]), Ok(Was::Empty));
+    /// assert_eq!(device.write(3, &[2; 8]), Ok(Was::Written));
+    /// # Ok(())
+    /// # }
+    /// ```
     pub fn write(&mut self, sector: u32, page: &[u8]) -> Result<Was, Fault> {
         Was::of(unsafe { raw::mintlintel_one_write(&mut self.handle, sector, page.as_ptr(), page.len()) })
     }
 
     /// Writes a page to a sector if it is empty. `Written` says that it was not empty and is unchanged.
+    ///
+    /// ```
+    /// # use mintlintel::{Device, Fault, Geometry, Was};
+    /// # fn main() -> Result<(), Box<dyn std::error::Error>> {
+    /// # let geometry = Geometry { blocks: 8, pages: 4, words: 1, sectors: 20, endurance: 1000, ..Geometry::ONE_LUN };
+    /// # let mut device = Device::open(geometry)?;
+    /// assert_eq!(device.write_new(3, &[1; 8]), Ok(Was::Empty));
+    /// assert_eq!(device.write_new(3, &[2; 8]), Ok(Was::Written));
+    /// let mut page = [0; 8];
+    /// device.read(3, &mut page)?;
+    /// assert_eq!(page, [1; 8]);
+    /// # Ok(())
+    /// # }
+    /// ```
     pub fn write_new(&mut self, sector: u32, page: &[u8]) -> Result<Was, Fault> {
         Was::of(unsafe { raw::mintlintel_one_write_new(&mut self.handle, sector, page.as_ptr(), page.len()) })
     }
 
     /// Empties a sector. Returns what it was.
+    ///
+    /// ```
+    /// # use mintlintel::{Device, Fault, Geometry, Was};
+    /// # fn main() -> Result<(), Box<dyn std::error::Error>> {
+    /// # let geometry = Geometry { blocks: 8, pages: 4, words: 1, sectors: 20, endurance: 1000, ..Geometry::ONE_LUN };
+    /// # let mut device = Device::open(geometry)?;
+    /// device.write(3, &[1; 8])?;
+    /// assert_eq!(device.trim(3), Ok(Was::Written));
+    /// assert_eq!(device.trim(3), Ok(Was::Empty));
+    /// # Ok(())
+    /// # }
+    /// ```
     pub fn trim(&mut self, sector: u32) -> Result<Was, Fault> {
         Was::of(unsafe { raw::mintlintel_one_trim(&mut self.handle, sector) })
     }
@@ -86,6 +170,16 @@ impl Device {
     }
 
     /// The counts of a block so far.
+    ///
+    /// ```
+    /// # use mintlintel::{Device, Fault, Geometry, Was};
+    /// # fn main() -> Result<(), Box<dyn std::error::Error>> {
+    /// # let geometry = Geometry { blocks: 8, pages: 4, words: 1, sectors: 20, endurance: 1000, ..Geometry::ONE_LUN };
+    /// # let mut device = Device::open(geometry)?;
+    /// assert_eq!(device.block(8), Err(Fault::NoSuchBlock));
+    /// # Ok(())
+    /// # }
+    /// ```
     pub fn block(&mut self, block: u32) -> Result<Block, Fault> {
         let mut report = raw::Block::default();
         Fault::check(unsafe { raw::mintlintel_one_block(&mut self.handle, block, &mut report) })?;
@@ -97,8 +191,18 @@ impl Device {
     }
 
     /// The numbers that the device was made with.
+    ///
+    /// ```
+    /// # use mintlintel::{Device, Fault, Geometry, Was};
+    /// # fn main() -> Result<(), Box<dyn std::error::Error>> {
+    /// # let geometry = Geometry { blocks: 8, pages: 4, words: 1, sectors: 20, endurance: 1000, ..Geometry::ONE_LUN };
+    /// # let mut device = Device::open(geometry)?;
+    /// assert_eq!(device.geometry()?, geometry);
+    /// # Ok(())
+    /// # }
+    /// ```
     pub fn geometry(&mut self) -> Result<Geometry, Fault> {
-        let mut numbers = Numbers::default();
+        let mut numbers = raw::Numbers::default();
         Fault::check(unsafe { raw::mintlintel_one_numbers(&mut self.handle, &mut numbers) })?;
         Ok(Geometry::of(&numbers))
     }

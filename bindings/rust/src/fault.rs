@@ -3,6 +3,16 @@ use std::error::Error;
 use std::fmt::{self, Display, Formatter};
 
 /// Why a device was not opened: a number is out of range, or there is no memory.
+///
+/// ```
+/// # use mintlintel::{Device, Geometry, OpenFault};
+/// let numbers = Geometry { blocks: 8, pages: 4, words: 1, sectors: 32, endurance: 1000, ..Geometry::ONE_LUN };
+/// match Device::open(numbers) {
+///     Err(OpenFault::TooFewBlocks) => println!("32 pages leave no room to collect 32 sectors"),
+///     other => panic!("{other:?}"),
+/// }
+/// assert_eq!(OpenFault::TooFewBlocks.to_string(), "too few blocks");
+/// ```
 #[derive(Clone, Copy, Debug, PartialEq, Eq)]
 #[non_exhaustive]
 pub enum OpenFault {
@@ -60,6 +70,18 @@ impl Display for OpenFault {
 impl Error for OpenFault {}
 
 /// Why a call on an open device did nothing.
+///
+/// ```
+/// # use mintlintel::{Device, Fault, Geometry};
+/// # fn main() -> Result<(), Box<dyn std::error::Error>> {
+/// let numbers = Geometry { blocks: 3, pages: 1, words: 1, sectors: 1, endurance: 1, ..Geometry::ONE_LUN };
+/// let mut device = Device::open(numbers)?;
+/// while device.write(0, &[1; 8]).is_ok() {}
+/// assert_eq!(device.write(0, &[1; 8]), Err(Fault::WornOut));
+/// assert_eq!(Fault::WornOut.to_string(), "worn out");
+/// # Ok(())
+/// # }
+/// ```
 #[derive(Clone, Copy, Debug, PartialEq, Eq)]
 #[non_exhaustive]
 pub enum Fault {

@@ -13,18 +13,26 @@
 //! # Ok(())
 //! # }
 //! ```
+mod broom;
 mod device;
 mod fault;
+mod host;
 mod raw;
 mod shared;
 
+pub use broom::{Broom, Drain, Erase};
 pub use device::{Block, Counts, Device};
 pub use fault::{Fault, OpenFault};
-pub use shared::{Broom, Drain, Erase, Held, Host, PagePlace, SharedDevice};
-
-use raw::Numbers;
+pub use host::{Held, Host, PagePlace};
+pub use shared::SharedDevice;
 
 /// The numbers of a device. A page has eight bytes for each word.
+///
+/// ```
+/// # use mintlintel::Geometry;
+/// let geometry = Geometry { blocks: 24, pages: 64, words: 64, sectors: 1000, endurance: 1000, ..Geometry::ONE_LUN };
+/// assert_eq!((geometry.luns, geometry.page_bytes()), (1, 512));
+/// ```
 #[derive(Clone, Copy, Debug, PartialEq, Eq)]
 pub struct Geometry {
     pub luns: u32,
@@ -56,7 +64,7 @@ impl Geometry {
         8 * self.words as usize
     }
 
-    fn of(numbers: &Numbers) -> Geometry {
+    fn of(numbers: &raw::Numbers) -> Geometry {
         Geometry {
             luns: numbers.luns,
             blocks: numbers.blocks,
@@ -68,7 +76,38 @@ impl Geometry {
     }
 }
 
+/// The numbers of a shared device: its geometry, and how many hosts and brooms it was opened for.
+///
+/// ```
+/// # use mintlintel::{Geometry, Numbers, SharedDevice};
+/// # fn main() -> Result<(), Box<dyn std::error::Error>> {
+/// let geometry = Geometry { blocks: 24, pages: 8, words: 1, sectors: 100, endurance: 1000, ..Geometry::ONE_LUN };
+/// let mut device = SharedDevice::open(geometry, 2, 1)?;
+/// assert_eq!(device.brooms[0].numbers()?, Numbers { geometry, hosts: 2, brooms: 1 });
+/// # Ok(())
+/// # }
+/// ```
+#[derive(Clone, Copy, Debug, PartialEq, Eq)]
+pub struct Numbers {
+    pub geometry: Geometry,
+    pub hosts: u32,
+    pub brooms: u32,
+}
+
 /// What a sector was before a call, or what a read found.
+///
+/// ```
+/// # use mintlintel::{Device, Geometry, Was};
+/// # fn main() -> Result<(), Box<dyn std::error::Error>> {
+/// # let geometry = Geometry { blocks: 8, pages: 4, words: 1, sectors: 20, endurance: 1000, ..Geometry::ONE_LUN };
+/// let mut device = Device::open(geometry)?;
+/// match device.read(3, &mut [0; 8])? {
+///     Was::Empty => println!("nothing was written to sector 3, or it was trimmed"),
+///     Was::Written => println!("the buffer has the page"),
+/// }
+/// # Ok(())
+/// # }
+/// ```
 #[derive(Clone, Copy, Debug, PartialEq, Eq)]
 pub enum Was {
     Empty,

@@ -73,11 +73,14 @@ extern "C" {
     pub fn mintlintel_host_write(h: *mut Handle, sector: u32, bytes: *const u8, count: usize) -> u32;
     pub fn mintlintel_host_write_new(h: *mut Handle, sector: u32, bytes: *const u8, count: usize) -> u32;
     pub fn mintlintel_host_trim(h: *mut Handle, sector: u32) -> u32;
+    pub fn mintlintel_host_look(h: *mut Handle, sector: u32) -> u32;
     pub fn mintlintel_host_hold(h: *mut Handle, sector: u32) -> u32;
     pub fn mintlintel_host_copy(h: *mut Handle, out: *mut u8, bytes: usize) -> u32;
     pub fn mintlintel_host_word(h: *mut Handle, i: u32, word: *mut u64) -> u32;
     pub fn mintlintel_host_held(h: *mut Handle, page: *mut Page) -> u32;
     pub fn mintlintel_host_release(h: *mut Handle) -> u32;
     pub fn mintlintel_broom_drain(h: *mut Handle, block: *mut u32, moved: *mut u32) -> u32;
+    pub fn mintlintel_broom_drain_next(h: *mut Handle, block: *mut u32, moved: *mut u32) -> u32;
     pub fn mintlintel_broom_erase(h: *mut Handle, block: u32) -> u32;
+    pub fn mintlintel_broom_restock(h: *mut Handle) -> u32;
 }

@@ -1,5 +1,6 @@
 //! A shared device, its hosts and a broom in threads of their own.
-use mintlintel::{Broom, Drain, Erase, Fault, Geometry, Host, OpenFault, SharedDevice, Was};
+use mintlintel::{Broom, Drain, Erase, Fault, Geometry, Held, Host, Numbers, OpenFault, SharedDevice, Was};
+use std::mem;
 use std::sync::atomic::{AtomicUsize, Ordering};
 use std::thread;
 
@@ -68,7 +69,7 @@ fn hosts_read_what_they_wrote_beside_a_broom() {
 #[test]
 fn a_held_page_stays() -> Result<(), Fault> {
     let mut device = SharedDevice::open(GEOMETRY, 2, 1).expect("it opens");
-    let [reader, writer] = &mut device.hosts[..] else { unreachable!() };
+    let (mut reader, mut writer) = (device.hosts.remove(0), device.hosts.remove(0));
     assert!(reader.hold(5)?.is_none());
     writer.write(5, &page(1, 5, 1))?;
     let mut held = reader.hold(5)?.expect("sector 5 is written");
@@ -112,7 +113,83 @@ fn each_refusal_says_why() -> Result<(), Fault> {
     assert_eq!(device.brooms[0].drain()?, Drain::NothingToGain);
     assert_eq!(device.brooms[0].erase(0)?, Erase::Stale);
     assert_eq!(device.brooms[0].erase(40), Err(Fault::NoSuchBlock));
-    assert_eq!(device.hosts[0].geometry()?, GEOMETRY);
+    let numbers = Numbers { geometry: GEOMETRY, hosts: 1, brooms: 1 };
+    assert_eq!((device.hosts[0].numbers()?, device.brooms[0].numbers()?), (numbers, numbers));
+    assert_eq!((device.hosts[0].geometry()?, device.brooms[0].geometry()?), (GEOMETRY, GEOMETRY));
+    Ok(())
+}
+
+#[test]
+fn a_fault_of_the_geometry_comes_before_too_many_seats() {
+    let no_pages = Geometry { pages: 0, ..GEOMETRY };
+    assert_eq!(SharedDevice::open(no_pages, usize::MAX, usize::MAX).err(), Some(OpenFault::Pages));
+    assert_eq!(SharedDevice::open(GEOMETRY, usize::MAX, 0).err(), Some(OpenFault::Seats));
+    assert_eq!(SharedDevice::open(GEOMETRY, 1, usize::MAX).err(), Some(OpenFault::Seats));
+}
+
+#[test]
+fn a_broom_drains_by_its_last_survey_and_restocks() -> Result<(), Fault> {
+    let mut device = SharedDevice::open(GEOMETRY, 2, 1).expect("it opens");
+    let (mut reader, mut writer) = (device.hosts.remove(0), device.hosts.remove(0));
+    let broom = &mut device.brooms[0];
+    assert_eq!((broom.drain_next()?, broom.restock()?), (Drain::NothingToGain, true));
+    // Block 0 gets eight pages of one sector, and each of the next two blocks has live pages of others.
+    for sector in [0, 0, 0, 0, 0, 0, 0, 0, 1, 1, 1, 1, 1, 1, 1, 2, 3, 3, 3, 3, 3, 4, 5, 6] {
+        writer.write(sector, &page(0, sector, 0))?;
+    }
+    assert_eq!((reader.look(6)?, reader.look(7)?, reader.look(200)), (Was::Written, Was::Empty, Err(Fault::NoSector)));
+    writer.trim(0)?;
+    assert_eq!(broom.drain()?, Drain::Drained { block: 0, moved: 0 });
+    assert_eq!(broom.drain_next()?, Drain::Drained { block: 1, moved: 2 });
+    assert_eq!(broom.drain_next()?, Drain::NoSpare);
+    assert!(broom.restock()?);
+    let held = reader.hold(6)?.expect("sector 6 is written");
+    assert_eq!(broom.drain_next()?, Drain::Lost);
+    assert_eq!(broom.drain_next()?, Drain::NothingToGain);
+    drop(held);
+    assert_eq!(broom.drain()?, Drain::Drained { block: 2, moved: 4 });
+    Ok(())
+}
+
+#[test]
+fn a_broom_without_a_spare_finds_none_on_a_full_device() -> Result<(), Fault> {
+    let mut device = SharedDevice::open(GEOMETRY, 1, 1).expect("it opens");
+    let (host, broom) = (&mut device.hosts[0], &mut device.brooms[0]);
+    for sector in [0, 0, 0, 0, 0, 0, 0, 1] {
+        host.write(sector, &page(0, sector, 0))?;
+    }
+    assert_eq!(broom.drain()?, Drain::Drained { block: 0, moved: 2 });
+    while host.write(9, &page(0, 9, 0)).is_ok() {}
+    assert_eq!(host.write(9, &page(0, 9, 0)), Err(Fault::NoBlock));
+    assert_eq!((broom.drain()?, broom.restock()?), (Drain::NoSpare, false));
+    assert_eq!(broom.erase(0)?, Erase::Erased { kept: true });
+    assert!(broom.restock()?);
+    Ok(())
+}
+
+type Call = fn(&mut Host, &mut [u8]) -> Result<Was, Fault>;
+
+/// A `Held` that is forgotten is released by the host's next call, whichever that is.
+#[test]
+fn a_forgotten_page_is_released() -> Result<(), Fault> {
+    let mut device = SharedDevice::open(GEOMETRY, 1, 0).expect("it opens");
+    let host = &mut device.hosts[0];
+    let mut out = [0; 16];
+    host.write(5, &page(0, 5, 1))?;
+    let calls: [Call; 6] = [
+        |host, out| host.read(5, out),
+        |host, _| host.look(5),
+        |host, _| host.write(5, &page(0, 5, 2)),
+        |host, _| host.write_new(5, &page(0, 5, 3)),
+        |host, _| host.hold(5).map(|held| if held.is_some() { Was::Written } else { Was::Empty }),
+        |host, _| host.trim(5),
+    ];
+    for call in calls {
+        mem::forget(host.hold(5)?);
+        assert_eq!(call(host, &mut out)?, Was::Written);
+        assert_eq!(host.numbers()?.hosts, 1);
+    }
+    assert!(host.hold(5)?.is_none());
     Ok(())
 }
 
@@ -123,4 +200,5 @@ fn the_types_may_go_to_another_thread() {
     goes::<SharedDevice>();
     goes::<Host>();
     goes::<Broom>();
+    goes::<Held>();
 }

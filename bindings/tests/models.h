@@ -1,0 +1,309 @@
+/* What each call has to return, while one thread calls: two models, written from the descriptions of docs/ARCHITECTURE.md and not from the
+ * library. They say of each block where its pages went, so that no call may return a code that only sounds right. */
+#ifndef MODELS_H
+#define MODELS_H
+
+#include "testing.h"
+
+enum { SECTORS = 6, WORDS = 2, PAGE = 8 * WORDS, BLOCKS = 10, PAGES = 2, ENDURANCE = 4, HOSTS = 2, BROOMS = 1, NONE = -1 };
+
+/* a page's place, or block NONE for an empty sector */
+struct place { int block, page; };
+
+/* ---- A device for one thread ---- */
+
+struct one_block { int programmed, live, stamps[PAGES]; uint32_t erases; };
+
+/* Blocks are opened from the lowest, and the last one is the spare. Without a block, the one with the fewest live pages is copied into the
+ * spare, and erased. `value` is the byte of a sector's page. */
+struct one_model {
+    struct one_block blocks[BLOCKS];
+    struct place places[SECTORS];
+    int value[SECTORS], opened, spare, unused;
+    struct mintlintel_totals totals;
+};
+
+static inline void one_begin(struct one_model *m)
+{
+    memset(m, 0, sizeof *m);
+    m->opened = NONE;
+    m->spare = BLOCKS - 1;
+    for (int sector = 0; sector < SECTORS; sector++)
+        m->places[sector].block = NONE;
+}
+
+static inline uint32_t one_was(const struct one_model *m, uint32_t sector)
+{
+    return m->places[sector].block != NONE;
+}
+
+static inline void one_forget(struct one_model *m, uint32_t sector)
+{
+    if (one_was(m, sector))
+        m->blocks[m->places[sector].block].live--;
+    m->places[sector].block = NONE;
+}
+
+static inline void one_program(struct one_model *m, int block, uint32_t sector)
+{
+    struct one_block *b = &m->blocks[block];
+    one_forget(m, sector);
+    m->places[sector] = (struct place){block, b->programmed};
+    b->stamps[b->programmed++] = (int)sector;
+    b->live++;
+}
+
+static inline void one_collect(struct one_model *m)
+{
+    int victim = NONE;
+    for (int block = 0; block < BLOCKS; block++)
+        if (block != m->spare && (victim == NONE || m->blocks[block].live < m->blocks[victim].live))
+            victim = block;
+    struct one_block *b = &m->blocks[victim];
+    for (int page = 0; page < PAGES; page++) {
+        struct place at = m->places[b->stamps[page]];
+        if (at.block == victim && at.page == page) {
+            one_program(m, m->spare, (uint32_t)b->stamps[page]);
+            m->totals.copies++;
+        }
+    }
+    b->programmed = 0;
+    m->opened = m->spare;
+    m->spare = ++b->erases == ENDURANCE ? NONE : victim;
+    m->totals.erases++;
+}
+
+static inline uint32_t one_write(struct one_model *m, uint32_t sector, int value, int only_new)
+{
+    uint32_t was = one_was(m, sector);
+    if (only_new && was)
+        return MINTLINTEL_WRITTEN;
+    if (m->opened == NONE && m->unused < BLOCKS - 1)
+        m->opened = m->unused++;
+    else if (m->opened == NONE && m->spare != NONE)
+        one_collect(m);
+    if (m->opened == NONE)
+        return MINTLINTEL_WORN_OUT;
+    one_program(m, m->opened, sector);
+    m->value[sector] = value;
+    m->totals.programs++;
+    if (m->blocks[m->opened].programmed == PAGES)
+        m->opened = NONE;
+    return was;
+}
+
+static inline uint32_t one_trim(struct one_model *m, uint32_t sector)
+{
+    uint32_t was = one_was(m, sector);
+    one_forget(m, sector);
+    return was;
+}
+
+/* ---- A shared device ---- */
+
+enum phase { FREE, OPENED, FULL, DRAINED, RETIRED };
+struct state { enum phase phase; int readers; uint32_t generation; };
+struct shared_block { struct state state; int programmed, stamps[PAGES]; };
+/* the blocks that were full at a broom's last survey, as they were then, and how many of their pages were live */
+struct survey { int marked[BLOCKS], live[BLOCKS]; struct state states[BLOCKS]; };
+struct broom_model { int spare, destination; struct survey survey; };
+
+struct shared_model {
+    struct shared_block blocks[BLOCKS];
+    struct place places[SECTORS];
+    int value[SECTORS], opened[HOSTS], holds[HOSTS];
+    struct broom_model brooms[BROOMS];
+};
+
+static inline void shared_begin(struct shared_model *m)
+{
+    memset(m, 0, sizeof *m);
+    for (int sector = 0; sector < SECTORS; sector++)
+        m->places[sector].block = NONE;
+    for (int host = 0; host < HOSTS; host++)
+        m->opened[host] = m->holds[host] = NONE;
+    for (int broom = 0; broom < BROOMS; broom++) {
+        m->brooms[broom].destination = NONE;
+        m->brooms[broom].spare = BLOCKS - BROOMS + broom;
+        m->blocks[BLOCKS - BROOMS + broom].state.phase = OPENED;
+    }
+}
+
+static inline uint32_t shared_was(const struct shared_model *m, uint32_t sector)
+{
+    return m->places[sector].block != NONE;
+}
+
+/* Opens the lowest free block, or NONE. */
+static inline int lowest_free(struct shared_model *m)
+{
+    for (int block = 0; block < BLOCKS; block++)
+        if (m->blocks[block].state.phase == FREE) {
+            m->blocks[block].state.phase = OPENED;
+            return block;
+        }
+    return NONE;
+}
+
+/* Programs the next page of an open block, which is full and open no more after its last one. */
+static inline struct place shared_program(struct shared_model *m, int *opened, uint32_t sector)
+{
+    struct shared_block *b = &m->blocks[*opened];
+    struct place at = {*opened, b->programmed};
+    b->stamps[b->programmed++] = (int)sector;
+    if (b->programmed == PAGES) {
+        b->state.phase = FULL;
+        *opened = NONE;
+    }
+    return at;
+}
+
+static inline uint32_t shared_write(struct shared_model *m, int host, uint32_t sector, int value, int only_new)
+{
+    if (m->opened[host] == NONE)
+        m->opened[host] = lowest_free(m);
+    if (m->opened[host] == NONE)
+        return MINTLINTEL_NO_BLOCK;
+    struct place at = shared_program(m, &m->opened[host], sector);
+    uint32_t was = shared_was(m, sector);
+    if (!only_new || !was) {
+        m->places[sector] = at;
+        m->value[sector] = value;
+    }
+    return was;
+}
+
+static inline uint32_t shared_trim(struct shared_model *m, uint32_t sector)
+{
+    uint32_t was = shared_was(m, sector);
+    m->places[sector].block = NONE;
+    return was;
+}
+
+static inline uint32_t shared_hold(struct shared_model *m, int host, uint32_t sector, struct mintlintel_page *page)
+{
+    if (!shared_was(m, sector))
+        return MINTLINTEL_EMPTY;
+    struct state *state = &m->blocks[m->places[sector].block].state;
+    state->readers++;
+    m->holds[host] = m->places[sector].block;
+    *page = (struct mintlintel_page){(uint32_t)m->holds[host], state->generation};
+    return MINTLINTEL_WRITTEN;
+}
+
+static inline void shared_release(struct shared_model *m, int host)
+{
+    if (m->holds[host] != NONE)
+        m->blocks[m->holds[host]].state.readers--;
+    m->holds[host] = NONE;
+}
+
+static inline int is_live(const struct shared_model *m, int block, int page)
+{
+    struct place at = m->places[m->blocks[block].stamps[page]];
+    return at.block == block && at.page == page;
+}
+
+static inline void make_survey(const struct shared_model *m, struct survey *s)
+{
+    for (int block = 0; block < BLOCKS; block++) {
+        s->states[block] = m->blocks[block].state;
+        s->marked[block] = m->blocks[block].state.phase == FULL;
+        s->live[block] = 0;
+        for (int page = 0; page < m->blocks[block].programmed; page++)
+            s->live[block] += is_live(m, block, page);
+    }
+}
+
+/* Moves a page that is live to the destination, which is the spare where there is none yet. */
+static inline void move_page(struct shared_model *m, struct broom_model *b, int block, int page)
+{
+    uint32_t sector = (uint32_t)m->blocks[block].stamps[page];
+    if (b->destination == NONE) {
+        b->destination = b->spare;
+        b->spare = NONE;
+    }
+    m->places[sector] = shared_program(m, &b->destination, sector);
+}
+
+/* A drain: by a new survey, or by the last one. */
+static inline uint32_t shared_drain(struct shared_model *m, int broom, int anew, uint32_t *block, uint32_t *moved)
+{
+    struct broom_model *b = &m->brooms[broom];
+    struct survey *s = &b->survey;
+    int victim = NONE;
+    if (b->spare == NONE)
+        return MINTLINTEL_NO_SPARE;
+    if (anew)
+        make_survey(m, s);
+    for (int i = 0; i < BLOCKS; i++)
+        if (s->marked[i] && (victim == NONE || s->live[i] < s->live[victim]))
+            victim = i;
+    if (victim == NONE || s->live[victim] == PAGES)
+        return MINTLINTEL_NOTHING_TO_GAIN;
+    s->marked[victim] = 0;
+    struct state *now = &m->blocks[victim].state, *then = &s->states[victim];
+    if (now->phase != then->phase || now->readers != then->readers || now->generation != then->generation)
+        return MINTLINTEL_LOST;
+    *block = (uint32_t)victim;
+    *moved = 0;
+    for (int page = 0; page < m->blocks[victim].programmed; page++)
+        if (is_live(m, victim, page)) {
+            move_page(m, b, victim, page);
+            ++*moved;
+        }
+    now->phase = DRAINED;
+    return MINTLINTEL_DONE;
+}
+
+static inline uint32_t shared_erase(struct shared_model *m, int broom, uint32_t block)
+{
+    struct shared_block *b = &m->blocks[block];
+    m->brooms[broom].survey.marked[block] = 0;
+    if (b->state.phase != DRAINED)
+        return MINTLINTEL_STALE;
+    if (b->state.readers > 0)
+        return MINTLINTEL_PINNED;
+    b->programmed = 0;
+    b->state.generation++;
+    if (b->state.generation == ENDURANCE) {
+        b->state.phase = RETIRED;
+        return MINTLINTEL_RETIRED;
+    }
+    if (m->brooms[broom].spare == NONE) {
+        b->state.phase = OPENED;
+        m->brooms[broom].spare = (int)block;
+        return MINTLINTEL_KEPT;
+    }
+    b->state.phase = FREE;
+    return MINTLINTEL_DONE;
+}
+
+static inline uint32_t shared_restock(struct shared_model *m, int broom)
+{
+    if (m->brooms[broom].spare == NONE)
+        m->brooms[broom].spare = lowest_free(m);
+    return m->brooms[broom].spare == NONE ? MINTLINTEL_NO_SPARE : MINTLINTEL_DONE;
+}
+
+/* A block that a seat has open is full for the others once the seat is given up. */
+static inline void give_up(struct shared_model *m, int *opened)
+{
+    if (*opened != NONE)
+        m->blocks[*opened].state.phase = FULL;
+    *opened = NONE;
+}
+
+static inline void shared_close_host(struct shared_model *m, int host)
+{
+    shared_release(m, host);
+    give_up(m, &m->opened[host]);
+}
+
+static inline void shared_close_broom(struct shared_model *m, int broom)
+{
+    give_up(m, &m->brooms[broom].destination);
+    give_up(m, &m->brooms[broom].spare);
+}
+
+#endif

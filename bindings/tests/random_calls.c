@@ -1,0 +1,43 @@
+/* The fuzzer's calls by random bytes, the same in each run: each call has returned each of its codes, and no other one. */
+#include "fuzz.c"
+
+/* The codes of each call, but for 6 of an open, and 22 of a drain, which needs another thread. */
+static const char *codes_of[CALLS] = {
+    [CALL_one_open] = "0 8 102", [CALL_one_read] = "0 1 2 3 4", [CALL_one_write] = "0 1 2 3 4 5", [CALL_one_write_new] = "0 1 2 3 4 5",
+    [CALL_one_trim] = "0 1 2 3", [CALL_one_counts] = "0 2", [CALL_one_block] = "0 2 10", [CALL_shared_open] = "0 8 104",
+    [CALL_seat_numbers] = "0 2", [CALL_host_read] = "0 1 2 3 4 9", [CALL_host_write] = "0 1 2 3 4 7 9",
+    [CALL_host_write_new] = "0 1 2 3 4 7 9", [CALL_host_trim] = "0 1 2 3 9", [CALL_host_look] = "0 1 2 3 9", [CALL_host_hold] = "0 1 2 3 9",
+    [CALL_host_copy] = "1 2 4 9", [CALL_host_word] = "0 2 9 10", [CALL_host_held] = "0 2 9", [CALL_host_release] = "0 2 9",
+    [CALL_broom_drain] = "0 2 9 20 21", [CALL_broom_drain_next] = "0 2 9 20 21 22", [CALL_broom_erase] = "0 2 9 10 23 24 25 26",
+    [CALL_broom_restock] = "0 2 9 21",
+};
+
+static int is_named(const char *codes, uint32_t code)
+{
+    char *end;
+    for (const char *at = codes; *at; at = end)
+        if (strtoul(at, &end, 10) == code)
+            return 1;
+    return 0;
+}
+
+int main(void)
+{
+    static uint8_t bytes[40000];
+    uint64_t state = 88172645463325252u, calls = 0;
+    for (int round = 0; round < 200; round++) {
+        for (size_t i = 0; i < sizeof bytes; i++)
+            bytes[i] = (uint8_t)drawn(&state);
+        LLVMFuzzerTestOneInput(bytes, sizeof bytes);
+    }
+    for (uint32_t call = 0; call < CALLS; call++)
+        for (uint32_t code = 0; code < CODES; code++) {
+            calls += met[call][code];
+            if ((met[call][code] > 0) != is_named(codes_of[call], code)) {
+                fprintf(stderr, "call %u returned code %u %llu times\n", call, code, (unsigned long long)met[call][code]);
+                return 1;
+            }
+        }
+    printf("random_calls: %llu calls as the models return, and each code met\n", (unsigned long long)calls);
+    return 0;
+}
