@@ -11,7 +11,12 @@ from running import HERE, fio, want
 
 
 def has_fuse(shop):
-    return not shop.options.without_fuse and os.access("/dev/fuse", os.R_OK | os.W_OK)
+    """Whether the kernel has FUSE. Where CI=true it has to, and a run without it tests less and says so."""
+    if shop.options.without_fuse:
+        return False
+    has_it = os.access("/dev/fuse", os.R_OK | os.W_OK)
+    want(has_it or os.environ.get("CI") != "true", "/dev/fuse isn't there, or isn't ours, and CI=true")
+    return has_it
 
 
 def wait_for(is_so, what):
