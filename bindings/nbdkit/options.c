@@ -123,7 +123,7 @@ int options_set(struct options *options, const char *key, const char *value) {
         uint32_t least, most, *number;
     } numbers[] = {
         {"luns", 1, MAX_LUNS, &options->luns},
-        {"blocks", 1, UINT32_MAX, &options->blocks}, // the library refuses too few and too many, and the refusal tells bytes
+        {"blocks", 1, UINT32_MAX, &options->blocks}, // the library has the limits, and its refusal is told in bytes
         {"pages", 1, MAX_PAGES, &options->pages},
         {"sectors", 1, UINT32_MAX, &options->sectors}, // its limit is told in bytes, once the page is known
         {"endurance", 1, MAX_ENDURANCE, &options->endurance},
@@ -155,8 +155,8 @@ static int refuse_size(int64_t size, int64_t page) {
 }
 
 static int refuse_sectors(int64_t sectors, int64_t page) {
-    nbdkit_error("sectors=%" PRIi64 ": with pages of %" PRIi64 " bytes these are %" PRIi64 " bytes, and a device has at most %" PRIi64
-                 " bytes, which are %d sectors",
+    nbdkit_error("sectors=%" PRIi64 ": with pages of %" PRIi64 " bytes these are %" PRIi64
+                 " bytes, and a device has at most %" PRIi64 " bytes, which are %d sectors",
                  sectors, page, sectors * page, MAX_SECTORS * page, MAX_SECTORS);
     return -1;
 }
@@ -217,8 +217,8 @@ static int choose_marks(struct options *options) {
     if (options->high == 0 && options->low <= options->blocks)
         options->high = within(options->low + (uint64_t) within(spare / 4, 1, 8), 1, options->blocks);
     if (options->low > options->blocks || options->high > options->blocks) {
-        nbdkit_error("low=%" PRIu32 " or high=%" PRIu32 ": the device has %" PRIu32 " blocks, and no more can be free", options->low,
-                     options->high, options->blocks);
+        nbdkit_error("low=%" PRIu32 " or high=%" PRIu32 ": the device has %" PRIu32 " blocks, and no more can be free",
+                     options->low, options->high, options->blocks);
         return -1;
     }
     if (options->high >= options->low)

@@ -159,11 +159,11 @@ static struct host *take_any(struct stock *stock) {
     struct host *host = take_any_idle(stock);
     while (!host) {
         stock->waiting_for_any++;
-        atomic_fetch_add(&stock->listeners, 1);
+        atomic_fetch_add(&stock->waiting, 1);
         host = take_any_idle(stock);
         if (!host)
             pthread_cond_wait(&stock->for_any, &stock->mutex);
-        atomic_fetch_sub(&stock->listeners, 1);
+        atomic_fetch_sub(&stock->waiting, 1);
         stock->waiting_for_any--;
         if (!host)
             host = take_any_idle(stock);
@@ -190,7 +190,7 @@ static struct host *take_with_room(struct stock *stock) {
 static void tell(struct stock *stock, int has_room) {
     if (stock->waiting_for_any > 0)
         pthread_cond_signal(&stock->for_any);
-    if (stock->listening > 0)
+    if (atomic_load(&stock->listening) > 0 && !is_fruitless(stock))
         pthread_cond_broadcast(&stock->for_broom);
     if (stock->waiting_to_write == 0)
         return;
@@ -256,22 +256,20 @@ static int is_wanted(struct stock *stock, uint32_t broom) {
 
 // Waits for a mark of free blocks, or, where the broom has found nothing, for a change.
 static void rest(struct stock *stock, uint32_t broom) {
-    int listens = stock->is_collecting;
-    stock->listening += listens;
-    atomic_fetch_add(&stock->listeners, listens);
+    uint32_t listens = (uint32_t) stock->is_collecting;
+    atomic_fetch_add(&stock->listening, listens);
     if (!is_wanted(stock, broom))
         pthread_cond_wait(&stock->for_broom, &stock->mutex);
-    atomic_fetch_sub(&stock->listeners, listens);
-    stock->listening -= listens;
+    atomic_fetch_sub(&stock->listening, listens);
 }
 
 // ---- The mutex is not held from here on.
 
-// Puts a handle back, and tells those who wait, if there are any.
-static void put_and_tell(struct stock *stock, struct host *host) {
+// Puts a handle back, and tells those who wait, if there are any; brooms only where something has changed.
+static void put_and_tell(struct stock *stock, struct host *host, int has_changed) {
     int has_room = host->room > 0;
     put_idle(stock, host);
-    if (atomic_load(&stock->listeners) == 0)
+    if (atomic_load(&stock->waiting) == 0 && !(has_changed && atomic_load(&stock->listening) > 0))
         return;
     pthread_mutex_lock(&stock->mutex);
     tell(stock, has_room);
@@ -289,20 +287,20 @@ struct host *stock_take(struct stock *stock) {
 }
 
 void stock_give(struct stock *stock, struct host *host) {
-    put_and_tell(stock, host);
+    put_and_tell(stock, host, 0);
 }
 
 struct host *stock_yield(struct stock *stock, struct host *host) {
-    if (atomic_load(&stock->listeners) == 0)
+    if (atomic_load(&stock->waiting) == 0)
         return host;
     pthread_mutex_lock(&stock->mutex);
     int is_of_use = host->room > 0 || may_open(stock);
     if (stock->waiting_for_any > 0 || (stock->waiting_to_write > 0 && is_of_use)) {
         give(stock, host);
         stock->waiting_for_any++;
-        atomic_fetch_add(&stock->listeners, 1);
+        atomic_fetch_add(&stock->waiting, 1);
         wait_at_most(&stock->for_any, &stock->mutex, TURN_MS);
-        atomic_fetch_sub(&stock->listeners, 1);
+        atomic_fetch_sub(&stock->waiting, 1);
         stock->waiting_for_any--;
         host = take_any(stock);
     }
@@ -315,7 +313,7 @@ struct host *stock_take_to_write(struct stock *stock, struct attempt *attempt) {
     if (host)
         return host;
     pthread_mutex_lock(&stock->mutex);
-    atomic_fetch_add(&stock->listeners, 1);
+    atomic_fetch_add(&stock->waiting, 1);
     host = take_with_room(stock);
     while (!host) {
         attempt->is_last = has_waited_in_vain(stock, attempt);
@@ -325,7 +323,7 @@ struct host *stock_take_to_write(struct stock *stock, struct attempt *attempt) {
         if (!host && attempt->is_last)
             host = take_any(stock);
     }
-    atomic_fetch_sub(&stock->listeners, 1);
+    atomic_fetch_sub(&stock->waiting, 1);
     pthread_mutex_unlock(&stock->mutex);
     return host;
 }
@@ -334,7 +332,7 @@ void stock_give_written(struct stock *stock, struct host *host, const struct att
     count_change(stock);
     if (host->room > 1 && attempt->began == 0) {
         host->room--;
-        put_and_tell(stock, host);
+        put_and_tell(stock, host, 1);
         return;
     }
     pthread_mutex_lock(&stock->mutex);
@@ -372,9 +370,9 @@ void stock_give_refused(struct stock *stock, struct host *host, struct attempt *
         stock->gave_up++;
     } else {
         stock->waiting_to_write++;
-        atomic_fetch_add(&stock->listeners, 1);
+        atomic_fetch_add(&stock->waiting, 1);
         wait_at_most(&stock->for_write, &stock->mutex, 1);
-        atomic_fetch_sub(&stock->listeners, 1);
+        atomic_fetch_sub(&stock->waiting, 1);
         stock->waiting_to_write--;
     }
     pthread_mutex_unlock(&stock->mutex);
@@ -382,7 +380,7 @@ void stock_give_refused(struct stock *stock, struct host *host, struct attempt *
 
 void stock_give_trimmed(struct stock *stock, struct host *host) {
     count_change(stock);
-    put_and_tell(stock, host);
+    put_and_tell(stock, host, 1);
 }
 
 // A broom that found nothing looks again a little later, unless a write waits for it.

@@ -6,9 +6,9 @@
 // The library doesn't count its free blocks, so the stock does. The count tells who has to wait, and when brooms may rest; that
 // a write is done or refused is said by the library alone.
 //
-// A request that finds a handle takes and gives it back without the mutex. Whoever has to wait counts itself as a listener, and
-// looks once more before it waits; whoever gives back or changes something looks for listeners afterwards. All these steps are in
-// one order, so one of the two sees the other.
+// A request that finds a handle takes and gives it back without the mutex. Who has to wait counts itself first, and looks once
+// more before it waits; who gives a handle back, or changes something, looks afterwards whether somebody waits. All these steps
+// are in one order, so one of the two sees the other.
 #ifndef NBDKIT_STOCK_H
 #define NBDKIT_STOCK_H
 
@@ -44,9 +44,9 @@ struct idle {
 };
 
 struct stock {
-    struct idle roomy, roomless;          // idle handles with room in an open block, and without
-    _Alignas(64) _Atomic uint64_t changes; // what was done so far, from 1 on: after each a broom may find what it didn't find before
-    _Atomic uint32_t listeners;           // requests that wait, and brooms that wait for a change
+    struct idle roomy, roomless;           // idle handles with room in an open block, and without
+    _Alignas(64) _Atomic uint64_t changes; // what was done so far, from 1 on: after each a broom may find something new
+    _Atomic uint32_t waiting, listening;   // requests that wait, and brooms that wait for a change
 
     _Alignas(64) pthread_mutex_t mutex; // of all fields below that change
     pthread_cond_t for_any, for_write, for_broom;
@@ -57,10 +57,10 @@ struct stock {
     int32_t free_count;  // free blocks that no handle is about to take; below 0 while a block was taken that isn't counted yet
     int32_t spareless;   // brooms that have lost their spare
     uint32_t waiting_for_any, waiting_to_write;
-    uint32_t starving;           // writes that wait while no block is free
-    uint32_t listening, pausing; // brooms that wait for a change, and those that looked in vain a moment ago
-    uint64_t *fruitless_at;      // of each broom, the changes that it knew as it last found nothing to do, or 0
-    uint64_t freed_at;           // when a block last came free
+    uint32_t starving;      // writes that wait while no block is free
+    uint32_t pausing;       // brooms that looked in vain a moment ago
+    uint64_t *fruitless_at; // of each broom, the changes that it knew as it last found nothing to do, or 0
+    uint64_t freed_at;      // when a block last came free
     int is_collecting, is_stopping;
     int is_gathering; // writes wait until some blocks are free, since one at a time wakes a thread for each page
     uint64_t waits, waited_ns, gave_up, miscounts;

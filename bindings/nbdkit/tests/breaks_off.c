@@ -1,6 +1,7 @@
 // breaks_off URI OFFSET SIZE SEED: four connections write pieces of 1 to 16 pages, with 16 requests of each in flight, and their
-// sockets are shut down for sending in mid-write; and so again for some rounds. Each page names its sector and the round that wrote it in each of its words. In
-// the end each page has to be one round's as a whole: of the last write that was answered, or of one that was broken off.
+// sockets are shut down for sending in mid-write; and so again for some rounds. Each page names its sector and the round that wrote
+// it in each of its words. In the end each page has to be one round's as a whole: of the last write that was answered, or of one
+// that was broken off.
 #include <poll.h>
 #include <string.h>
 #include <sys/socket.h>
@@ -22,7 +23,8 @@ struct connection {
 };
 
 static uint64_t offset;
-static uint32_t *answered, *broken; // of each page: the round whose write was answered last, and the rounds that were broken off, a bit each
+// Of each page: the round whose write was answered last, and the rounds whose writes were broken off, a bit each.
+static uint32_t *answered, *broken;
 
 static void fill(uint32_t *page, uint32_t sector, uint32_t round) {
     for (int i = 0; i < NUMBERS; i++) {
@@ -149,6 +151,7 @@ int main(int count, char **words) {
         old += broken[sector] != 0 && page[1] == answered[sector];
     }
     nbd_close(nbd);
-    printf("%d rounds, %d requests broken off; of their pages %u new, %u old; wrong pages %u\n", ROUNDS, broken_off, fresh, old, wrong);
+    printf("%d rounds, %d requests broken off; of their pages %u new, %u old; wrong pages %u\n", ROUNDS, broken_off, fresh, old,
+           wrong);
     return wrong > 0 || broken_off == 0;
 }

@@ -4,12 +4,11 @@ import functools
 import os
 import random
 import re
-import subprocess
 import time
 
 import faults
 import files
-from running import HERE, Failure, Server, copying, fio, kibibytes, loaded, want
+from running import HERE, Server, copying, fio, kibibytes, loaded, want
 
 ZIPF = {"norandommap": 1, "random_distribution": "zipf:0.9"}
 UNALIGNED = {"bsrange": "512-20k", "bs_unaligned": 1, "blockalign": 512, "serialize_overlap": 1}
@@ -249,7 +248,7 @@ def worn_out(shop):
             told.append(f"{pattern}, {brooms} broom{'s' * (brooms > 1)}: {share(counts)}, nine in ten refused within {most} ms")
     for brooms in shop.scaled((1,), (1, 2)):
         for pattern in ("random", "zipf:1.2"):
-            told.append(f"fio's {pattern}, {brooms} brooms: {share(worn_out_by_fio(shop, brooms, pattern))}")
+            told.append(f"fio's {pattern}, {brooms} broom{'s' * (brooms > 1)}: {share(worn_out_by_fio(shop, brooms, pattern))}")
     return "; ".join(told)
 
 

@@ -230,7 +230,7 @@ static void many_requests(void) {
     }
     for (int i = 0; i < 8; i++)
         pthread_join(users[i].thread, NULL);
-    want(stock.listeners == 0 && stock.waiting_for_any == 0 && stock.waiting_to_write == 0, "somebody still waits");
+    want(stock.waiting == 0 && stock.waiting_for_any == 0 && stock.waiting_to_write == 0, "somebody still waits");
     want((stock.roomy.words[0] | stock.roomless.words[0]) == 7, "a handle is lost");
     uint32_t written = 8 * 20000 / 3, used = 100000 - (uint32_t) stock.free_count;
     want(2 * used >= written && 2 * used <= written + 16, "the count of free blocks isn't that of the writes");

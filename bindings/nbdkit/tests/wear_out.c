@@ -1,6 +1,6 @@
 // wear_out URI uniform|zipf: four connections write pages of sectors of their own, over and over, until each was refused 20
-// times. Then each trims a sector before each write, until 20 more were refused. A refusal is ENOSPC; in the end every page has to be
-// as its last write or trim that was answered left it.
+// times. Then each trims a sector before each write, until 20 more were refused. A refusal is ENOSPC; in the end every page has
+// to be as its last write or trim that was answered left it.
 #include <errno.h>
 #include <math.h>
 #include <pthread.h>
