@@ -99,7 +99,6 @@ static int erase_drained(struct broom *broom) {
 
 // Drains the best block of the survey that the broom keeps, and of a new one where that has none.
 static uint32_t drain_one(struct broom *broom, uint32_t *block, uint32_t *moved) {
-#ifdef MINTLINTEL_HAS_DRAIN_NEXT
     if (broom->drains_of_survey > 0 && broom->drains_of_survey < DRAINS_OF_A_SURVEY) {
         uint32_t code = mintlintel_broom_drain_next(announced(broom->seat), block, moved);
         if (code != MINTLINTEL_NOTHING_TO_GAIN) {
@@ -107,24 +106,24 @@ static uint32_t drain_one(struct broom *broom, uint32_t *block, uint32_t *moved)
             return code;
         }
     }
-#endif
     broom->drains_of_survey = 1;
     return mintlintel_broom_drain(announced(broom->seat), block, moved);
 }
 
-// A broom without a spare can't drain. It takes a free block as its spare, if the library has the call and there is one.
+// A broom without a spare can't drain. It takes a free block as its spare, if there is one.
 static int restock(struct broom *broom) {
     set_spareless(broom, 1);
-#ifdef MINTLINTEL_HAS_RESTOCK
-    if (stock_reserve(broom->all->stock)) {
-        if (mintlintel_broom_restock(announced(broom->seat)) == MINTLINTEL_DONE) {
-            tally_add(&broom->restocks, 1);
-            set_spareless(broom, 0);
-            return 1;
-        }
-        stock_add_free(broom->all->stock);
+    if (!stock_reserve(broom->all->stock))
+        return 0;
+    uint32_t code = mintlintel_broom_restock(announced(broom->seat));
+    if (code == MINTLINTEL_DONE) {
+        tally_add(&broom->restocks, 1);
+        set_spareless(broom, 0);
+        return 1;
     }
-#endif
+    stock_unreserve(broom->all->stock);
+    if (code != MINTLINTEL_NO_SPARE)
+        fail(broom, "restock", code);
     return 0;
 }
 

@@ -55,9 +55,9 @@ static struct broom_counts counts_of_brooms(const struct brooms *brooms) {
 static struct stock_counts counts_of_stock(struct stock *stock) {
     pthread_mutex_lock(&stock->mutex);
     struct stock_counts counts = {
-        .free = stock->free_count,
+        .free = stock->free_count > 0 ? (uint64_t) stock->free_count : 0,
         .open = stock->open_count,
-        .spareless = stock->spareless,
+        .spareless = (uint64_t) stock->spareless,
         .waits = stock->waits,
         .waited_ns = stock->waited_ns,
         .gave_up = stock->gave_up,
@@ -128,19 +128,6 @@ static struct block_counts *counts_of_blocks(const struct brooms *brooms, uint64
     return blocks;
 }
 
-#ifdef MINTLINTEL_HAS_BLOCK
-// How many blocks the library has in another generation than their erases say, once the brooms have ended.
-static void print_wrong_generations(FILE *file, struct device *device, const struct block_counts *blocks) {
-    uint32_t wrong = 0;
-    for (uint32_t i = 0; i < device->brooms.blocks; i++) {
-        struct mintlintel_state state = {0};
-        uint32_t code = mintlintel_broom_block(announced(&device->broom_seats[0]), i, &state);
-        wrong += code != MINTLINTEL_DONE || state.generation + blocks[i].is_retired != blocks[i].erases;
-    }
-    fprintf(file, "wrong_generations,%" PRIu32 "\n", wrong);
-}
-#endif
-
 static int print_all(FILE *file, struct device *device) {
     uint64_t erases, retired;
     struct block_counts *blocks = counts_of_blocks(&device->brooms, &erases, &retired);
@@ -149,10 +136,6 @@ static int print_all(FILE *file, struct device *device) {
     fprintf(file, "name,number\n");
     print_numbers(file, &device->options);
     print_counts(file, device, erases, retired);
-#ifdef MINTLINTEL_HAS_BLOCK
-    if (device->has_ended && device->brooms.count > 0)
-        print_wrong_generations(file, device, blocks);
-#endif
     fprintf(file, "block,erases,retired\n");
     for (uint32_t i = 0; i < device->brooms.blocks; i++)
         fprintf(file, "%" PRIu32 ",%" PRIu32 ",%" PRIu32 "\n", i, blocks[i].erases, blocks[i].is_retired);
@@ -202,6 +185,19 @@ static void *write_at_signals(void *argument) {
     while (sigwait(&signals, &signal) == 0 && !atomic_load(&device->is_stopping))
         counts_write(device);
     return NULL;
+}
+
+static void ignore(int signal) {
+    (void) signal;
+}
+
+// By default the signal would end the process.
+int counts_mind_signals(void) {
+    struct sigaction action = {.sa_handler = ignore, .sa_flags = SA_RESTART};
+    if (sigaction(SIGUSR1, &action, NULL) == 0)
+        return 0;
+    nbdkit_error("SIGUSR1: %s", strerror(errno));
+    return -1;
 }
 
 // All threads of the server start behind this one, so none of them is interrupted by the signal.

@@ -4,6 +4,9 @@
 
 #include "device.h"
 
+// From here on SIGUSR1 does no harm, and what comes before the thread is there writes nothing: 0, or -1 with an error told.
+int counts_mind_signals(void);
+
 // Starts the thread that writes the file at each SIGUSR1: 0, or -1 with an error told.
 int counts_start(struct device *device);
 

@@ -62,7 +62,6 @@ void device_stop(struct device *device) {
     stock_stop(&device->stock);
     brooms_join(&device->brooms);
     counts_stop(device);
-    device->has_ended = 1;
 }
 
 void device_close(struct device *device) {

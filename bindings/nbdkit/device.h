@@ -21,7 +21,7 @@ struct device {
     _Atomic int has_told_full;
     pthread_t counter; // writes the counts at each SIGUSR1
     _Atomic int has_counter, is_stopping;
-    int is_open, has_ended; // the seats are open; the brooms have ended
+    int is_open; // the seats are open
 };
 
 // 0, or -1 with an error told.
@@ -37,6 +37,6 @@ int device_zero(struct device *device, uint32_t count, uint64_t offset, int may_
 int device_trim(struct device *device, uint32_t count, uint64_t offset);
 
 // Whether a sector is empty: 1 or 0, or -1 with an error set and told. A handle is taken for a run of such looks.
-int device_is_empty(struct device *device, struct host *host, uint32_t sector);
+int device_is_empty(struct host *host, uint32_t sector);
 
 #endif

@@ -17,7 +17,6 @@ enum {
     MAX_PAGES = 16384,
     MAX_SECTORS = 1048576,
     MAX_ENDURANCE = 1000000,
-    MAX_HOSTS = 500,
     MAX_BROOMS = 32,
     MAX_TABLE_WORDS = 16777216,
     MAX_SPARE = 10000,
@@ -124,9 +123,9 @@ int options_set(struct options *options, const char *key, const char *value) {
         uint32_t least, most, *number;
     } numbers[] = {
         {"luns", 1, MAX_LUNS, &options->luns},
-        {"blocks", 3, MAX_BLOCKS, &options->blocks},
+        {"blocks", 1, UINT32_MAX, &options->blocks}, // the library has the limits, and its refusal is told in bytes
         {"pages", 1, MAX_PAGES, &options->pages},
-        {"sectors", 1, MAX_SECTORS, &options->sectors},
+        {"sectors", 1, UINT32_MAX, &options->sectors}, // its limit is told in bytes, once the page is known
         {"endurance", 1, MAX_ENDURANCE, &options->endurance},
         {"hosts", 1, MAX_HOSTS, &options->hosts},
         {"brooms", 0, MAX_BROOMS, &options->brooms},
@@ -149,22 +148,33 @@ int options_set(struct options *options, const char *key, const char *value) {
     return -1;
 }
 
+static int refuse_size(int64_t size, int64_t page) {
+    nbdkit_error("size=%" PRIi64 ": with pages of %" PRIi64 " bytes it is at most %" PRIi64 " bytes, which are %d sectors", size,
+                 page, MAX_SECTORS * page, MAX_SECTORS);
+    return -1;
+}
+
+static int refuse_sectors(int64_t sectors, int64_t page) {
+    nbdkit_error("sectors=%" PRIi64 ": with pages of %" PRIi64 " bytes these are %" PRIi64
+                 " bytes, and a device has at most %" PRIi64 " bytes, which are %d sectors",
+                 sectors, page, sectors * page, MAX_SECTORS * page, MAX_SECTORS);
+    return -1;
+}
+
 static int choose_sectors(struct options *options) {
     if (options->sectors && options->size != -1) {
         nbdkit_error("size= and sectors= say the same: give one of them");
         return -1;
     }
+    int64_t page = options->page;
     if (options->sectors)
-        return 0;
-    int64_t size = options->size == -1 ? 96 << 20 : options->size, page = options->page;
+        return options->sectors <= MAX_SECTORS ? 0 : refuse_sectors(options->sectors, page);
+    int64_t size = options->size == -1 ? 96 << 20 : options->size;
+    if (size > MAX_SECTORS * page)
+        return refuse_size(size, page);
     if (size % page != 0) {
         nbdkit_error("size=%" PRIi64 ": it is a multiple of the page's %" PRIi64 " bytes; %" PRIi64 " and %" PRIi64 " are",
                      size, page, size / page * page, (size / page + 1) * page);
-        return -1;
-    }
-    if (size / page > MAX_SECTORS) {
-        nbdkit_error("size=%" PRIi64 ": with pages of %" PRIi64 " bytes it is at most %" PRIi64 " bytes, which are %d sectors",
-                     size, page, MAX_SECTORS * page, MAX_SECTORS);
         return -1;
     }
     options->sectors = (uint32_t) (size / page);
@@ -201,10 +211,16 @@ static uint32_t within(uint64_t number, uint32_t least, uint32_t most) {
 static int choose_marks(struct options *options) {
     uint64_t used = (options->sectors + (uint64_t) options->pages - 1) / options->pages + kept_blocks(options);
     uint64_t spare = options->blocks > used ? options->blocks - used : 0;
+    uint32_t most = 8 + 2 * options->brooms;
     if (options->low == 0)
-        options->low = within(spare / 4, 1, 4 + 2 * options->brooms);
-    if (options->high == 0)
-        options->high = options->low + within(spare / 4, 1, 4);
+        options->low = within(spare / 4, 1, options->high ? within(options->high, 1, most) : most);
+    if (options->high == 0 && options->low <= options->blocks)
+        options->high = within(options->low + (uint64_t) within(spare / 4, 1, 8), 1, options->blocks);
+    if (options->low > options->blocks || options->high > options->blocks) {
+        nbdkit_error("low=%" PRIu32 " or high=%" PRIu32 ": the device has %" PRIu32 " blocks, and no more can be free",
+                     options->low, options->high, options->blocks);
+        return -1;
+    }
     if (options->high >= options->low)
         return 0;
     nbdkit_error("high=%" PRIu32 " is below low=%" PRIu32, options->high, options->low);
@@ -243,9 +259,9 @@ void options_tell_refusal(const struct options *options, uint32_t code) {
     uint64_t block = (uint64_t) options->pages * options->page;
     switch (code) {
     case MINTLINTEL_BAD_BLOCKS:
-        nbdkit_error("%" PRIu32 " blocks of %" PRIu64 " bytes: a device has 3 to %d, and a multiple of luns=%" PRIu32
-                     "; with more pages= a block has more bytes",
-                     options->blocks, block, MAX_BLOCKS, options->luns);
+        nbdkit_error("%" PRIu32 " blocks of %" PRIu64 " bytes: a device has 3 to %d, at most %" PRIu64
+                     " bytes, and a multiple of luns=%" PRIu32 "; with more pages= a block has more bytes",
+                     options->blocks, block, MAX_BLOCKS, MAX_BLOCKS * block, options->luns);
         break;
     case MINTLINTEL_TOO_MANY_WORDS:
         tell_too_much_memory(options);

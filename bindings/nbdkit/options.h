@@ -4,7 +4,7 @@
 
 #include <stdint.h>
 
-enum { MAX_PAGE_BYTES = 4096 };
+enum { MAX_PAGE_BYTES = 4096, MAX_HOSTS = 500 };
 
 struct options {
     uint32_t page; // bytes of a page, which is a sector

@@ -11,6 +11,8 @@
 
 #define THREAD_MODEL NBDKIT_THREAD_MODEL_PARALLEL
 
+enum { LOOKS_OF_A_TURN = 256 };
+
 static struct device device;
 
 static void load(void) {
@@ -32,10 +34,6 @@ static int config_complete(void) {
 
 static void dump_plugin(void) {
     printf("mintlintel_max_page=%d\n", MAX_PAGE_BYTES);
-    printf("mintlintel_restock=%s\n", HAS_RESTOCK ? "yes" : "no");
-    printf("mintlintel_drain_next=%s\n", HAS_DRAIN_NEXT ? "yes" : "no");
-    printf("mintlintel_look=%s\n", HAS_LOOK ? "yes" : "no");
-    printf("mintlintel_block=%s\n", HAS_BLOCK ? "yes" : "no");
 }
 
 static int64_t get_size(void *handle) {
@@ -46,7 +44,7 @@ static int64_t get_size(void *handle) {
 static int get_ready(void) {
     if (device_open(&device) == -1)
         return -1;
-    if (device.options.stats && counts_write(&device) == -1)
+    if (device.options.stats && (counts_mind_signals() == -1 || counts_write(&device) == -1))
         return -1;
     fprintf(stderr,
             "mintlintel: %" PRIi64 " bytes, in %" PRIu64
@@ -132,12 +130,25 @@ static int add_extent(struct nbdkit_extents *extents, uint64_t offset, uint64_t 
     return nbdkit_add_extent(extents, offset, length, is_empty ? NBDKIT_EXTENT_HOLE | NBDKIT_EXTENT_ZERO : 0);
 }
 
+// The handle that a request for the map looks with, and how many looks it has done.
+struct looks {
+    struct host *host;
+    uint32_t done;
+};
+
+// Whether the sector at an offset is empty. A long request lets others have its handle after some looks.
+static int look(struct looks *looks, uint64_t offset) {
+    if (++looks->done % LOOKS_OF_A_TURN == 0)
+        looks->host = stock_yield(&device.stock, looks->host);
+    return device_is_empty(looks->host, (uint32_t) (offset / device.options.page));
+}
+
 // The runs of empty and of written sectors from an offset on, up to an end, or the first of them.
-static int add_extents(struct host *host, uint64_t offset, uint64_t end, int wants_one, struct nbdkit_extents *extents) {
+static int add_extents(struct looks *looks, uint64_t offset, uint64_t end, int wants_one, struct nbdkit_extents *extents) {
     uint64_t page = device.options.page, begin = offset / page * page;
-    int was_empty = device_is_empty(&device, host, (uint32_t) (begin / page));
+    int was_empty = look(looks, begin);
     for (uint64_t at = begin + page; was_empty != -1 && at < end; at += page) {
-        int is_empty = device_is_empty(&device, host, (uint32_t) (at / page));
+        int is_empty = look(looks, at);
         if (is_empty == was_empty)
             continue;
         if (is_empty == -1 || add_extent(extents, begin, at - begin, was_empty) == -1)
@@ -152,9 +163,9 @@ static int add_extents(struct host *host, uint64_t offset, uint64_t end, int wan
 
 static int extents_request(void *handle, uint32_t count, uint64_t offset, uint32_t flags, struct nbdkit_extents *extents) {
     (void) handle;
-    struct host *host = stock_take(&device.stock);
-    int result = add_extents(host, offset, offset + count, (flags & NBDKIT_FLAG_REQ_ONE) != 0, extents);
-    stock_give(&device.stock, host);
+    struct looks looks = {.host = stock_take(&device.stock)};
+    int result = add_extents(&looks, offset, offset + count, (flags & NBDKIT_FLAG_REQ_ONE) != 0, extents);
+    stock_give(&device.stock, looks.host);
     return result;
 }
 

@@ -8,6 +8,9 @@
 
 #include "device.h"
 
+// A long read lets others have its handle after so many pages.
+enum { PAGES_OF_A_TURN = 16 };
+
 // What is left of a request, and the part of it that lies in one sector.
 struct range {
     uint64_t offset;
@@ -50,20 +53,22 @@ static int fail_full(struct device *device) {
     return -1;
 }
 
-// A sector's page, with zeros where it is empty.
-static int load(struct device *device, struct host *host, uint32_t sector, uint8_t *page) {
+// A sector's page, with zeros where it is empty. `is_empty` is set as well, or -1 is returned with an error set and told.
+static int load(struct device *device, struct host *host, uint32_t sector, uint8_t *page, int *is_empty) {
     uint32_t code = mintlintel_host_read(announced(host->seat), sector, page, device->options.page);
     tally_add(&host->reads, 1);
-    if (code == MINTLINTEL_EMPTY)
+    *is_empty = code == MINTLINTEL_EMPTY;
+    if (*is_empty)
         memset(page, 0, device->options.page);
     return code <= MINTLINTEL_WRITTEN ? 0 : fail("read", code);
 }
 
 static int read_piece(struct device *device, struct host *host, const struct piece *piece, uint8_t *to) {
+    int is_empty;
     if (is_whole(device, piece))
-        return load(device, host, piece->sector, to);
+        return load(device, host, piece->sector, to, &is_empty);
     uint8_t page[MAX_PAGE_BYTES];
-    if (load(device, host, piece->sector, page) == -1)
+    if (load(device, host, piece->sector, page, &is_empty) == -1)
         return -1;
     memcpy(to, page + piece->at, piece->count);
     return 0;
@@ -74,9 +79,11 @@ int device_read(struct device *device, uint8_t *to, uint32_t count, uint64_t off
     struct piece piece;
     struct host *host = stock_take(&device->stock);
     int result = 0;
-    while (result == 0 && next_piece(&range, &piece)) {
+    for (uint32_t done = 1; result == 0 && next_piece(&range, &piece); done++) {
         result = read_piece(device, host, &piece, to);
         to += piece.count;
+        if (done % PAGES_OF_A_TURN == 0)
+            host = stock_yield(&device->stock, host);
     }
     stock_give(&device->stock, host);
     return result;
@@ -102,14 +109,16 @@ static int store(struct device *device, uint32_t sector, const uint8_t *page) {
     }
 }
 
-// Puts bytes, or zeros where there are none, into a part of a sector whose lock is held.
-static int change(struct device *device, const struct piece *piece, const uint8_t *from) {
+// Puts bytes, or zeros where there are none, into a part of a sector whose lock is held. Zeros leave an empty sector empty if
+// they may trim.
+static int change(struct device *device, const struct piece *piece, const uint8_t *from, int may_trim) {
     uint8_t page[MAX_PAGE_BYTES];
+    int is_empty;
     struct host *host = stock_take(&device->stock);
-    int result = load(device, host, piece->sector, page);
+    int result = load(device, host, piece->sector, page, &is_empty);
     stock_give(&device->stock, host);
-    if (result == -1)
-        return -1;
+    if (result == -1 || (is_empty && !from && may_trim))
+        return result;
     if (from)
         memcpy(page + piece->at, from, piece->count);
     else
@@ -123,7 +132,7 @@ int device_write(struct device *device, const uint8_t *from, uint32_t count, uin
     int result = 0;
     while (result == 0 && next_piece(&range, &piece)) {
         lock_sector(&device->locks, piece.sector);
-        result = is_whole(device, &piece) ? store(device, piece.sector, from) : change(device, &piece, from);
+        result = is_whole(device, &piece) ? store(device, piece.sector, from) : change(device, &piece, from, 0);
         unlock_sector(&device->locks, piece.sector);
         from += piece.count;
     }
@@ -142,7 +151,7 @@ static int drop(struct device *device, uint32_t sector) {
 static int zero_piece(struct device *device, const struct piece *piece, int may_trim) {
     static const uint8_t zeros[MAX_PAGE_BYTES];
     if (!is_whole(device, piece))
-        return change(device, piece, NULL);
+        return change(device, piece, NULL, may_trim);
     return may_trim ? drop(device, piece->sector) : store(device, piece->sector, zeros);
 }
 
@@ -162,13 +171,7 @@ int device_trim(struct device *device, uint32_t count, uint64_t offset) {
     return device_zero(device, count, offset, 1);
 }
 
-int device_is_empty(struct device *device, struct host *host, uint32_t sector) {
-#ifdef MINTLINTEL_HAS_LOOK
-    (void) device;
+int device_is_empty(struct host *host, uint32_t sector) {
     uint32_t code = mintlintel_host_look(announced(host->seat), sector);
-#else
-    uint8_t page[MAX_PAGE_BYTES];
-    uint32_t code = mintlintel_host_read(announced(host->seat), sector, page, device->options.page);
-#endif
     return code <= MINTLINTEL_WRITTEN ? code == MINTLINTEL_EMPTY : fail("look", code);
 }

@@ -9,6 +9,8 @@ enum {
     LOOK_AGAIN_MS = 10, // a waiting write looks again by itself
     PAUSE_MS = 2,       // a broom that found nothing, and for which nobody waits
     MAX_WAITS = 10,     // a write waits no longer than so many times the wait, even if blocks do come free
+    TURN_MS = 1,        // a long request that lets others have its handle takes one again
+    MAX_BATCH = 8,      // free blocks that waiting writes wait for, if brooms can win as many
 };
 
 static uint64_t now(void) {
@@ -17,11 +19,11 @@ static uint64_t now(void) {
     return (uint64_t) time.tv_sec * 1000000000 + (uint64_t) time.tv_nsec;
 }
 
-// Waits for a signal, or until some milliseconds have gone.
-static void wait_at_most(pthread_cond_t *signal, pthread_mutex_t *mutex, uint32_t milliseconds) {
+// Waits for a signal, or until some milliseconds have gone: then 0.
+static int wait_at_most(pthread_cond_t *signal, pthread_mutex_t *mutex, uint32_t milliseconds) {
     uint64_t end = now() + milliseconds * (uint64_t) 1000000;
     struct timespec time = {.tv_sec = (time_t) (end / 1000000000), .tv_nsec = (long) (end % 1000000000)};
-    pthread_cond_timedwait(signal, mutex, &time);
+    return pthread_cond_timedwait(signal, mutex, &time) == 0;
 }
 
 static void begin_signals(struct stock *stock) {
@@ -35,6 +37,8 @@ static void begin_signals(struct stock *stock) {
     pthread_condattr_destroy(&monotonic);
 }
 
+static void put_idle(struct stock *stock, struct host *host);
+
 int stock_begin(struct stock *stock, const struct options *options, struct mintlintel_seat *seats) {
     uint32_t hosts = options->hosts;
     *stock = (struct stock){
@@ -43,33 +47,29 @@ int stock_begin(struct stock *stock, const struct options *options, struct mintl
         .pages = options->pages,
         .low = options->low,
         .high = options->high,
+        .batch = options->low < MAX_BATCH ? options->low : MAX_BATCH,
         .wait_ns = options->wait * (uint64_t) 1000000,
-        .roomless_count = hosts,
         .changes = 1,
-        .free_count = options->blocks - options->brooms, // each broom begins with a spare
+        .free_count = (int32_t) (options->blocks - options->brooms), // each broom begins with a spare
     };
-    stock->is_collecting = stock->free_count < stock->low;
+    stock->is_collecting = stock->free_count < (int32_t) stock->low;
     begin_signals(stock);
     stock->hosts = aligned_alloc(_Alignof(struct host), hosts * sizeof *stock->hosts);
-    stock->roomy = calloc(hosts, sizeof *stock->roomy);
-    stock->roomless = calloc(hosts, sizeof *stock->roomless);
     stock->fruitless_at = calloc(options->brooms + 1, sizeof *stock->fruitless_at);
-    if (!stock->hosts || !stock->roomy || !stock->roomless || !stock->fruitless_at) {
+    if (!stock->hosts || !stock->fruitless_at) {
         nbdkit_error("there is no memory for the handles");
         stock_end(stock);
         return -1;
     }
     for (uint32_t i = 0; i < hosts; i++) {
         stock->hosts[i] = (struct host){.seat = &seats[i]};
-        stock->roomless[hosts - 1 - i] = &stock->hosts[i];
+        put_idle(stock, &stock->hosts[i]);
     }
     return 0;
 }
 
 void stock_end(struct stock *stock) {
     free(stock->hosts);
-    free(stock->roomy);
-    free(stock->roomless);
     free(stock->fruitless_at);
     pthread_cond_destroy(&stock->for_any);
     pthread_cond_destroy(&stock->for_write);
@@ -77,80 +77,138 @@ void stock_end(struct stock *stock) {
     pthread_mutex_destroy(&stock->mutex);
 }
 
+// ---- Idle handles, with or without the mutex.
+
+static void put_idle(struct stock *stock, struct host *host) {
+    uint32_t number = (uint32_t) (host - stock->hosts);
+    struct idle *idle = host->room > 0 ? &stock->roomy : &stock->roomless;
+    atomic_fetch_or(&idle->words[number / HOSTS_OF_A_WORD], (uint64_t) 1 << number % HOSTS_OF_A_WORD);
+}
+
+// The handle of the lowest number, so that few blocks are open. NULL where none is idle.
+static struct host *take_idle(struct stock *stock, struct idle *idle) {
+    for (uint32_t at = 0; at * HOSTS_OF_A_WORD < stock->host_count; at++) {
+        uint64_t bits = atomic_load(&idle->words[at]);
+        while (bits != 0) {
+            uint64_t bit = bits & -bits;
+            bits = atomic_fetch_and(&idle->words[at], ~bit);
+            if (bits & bit)
+                return &stock->hosts[at * HOSTS_OF_A_WORD + (uint32_t) __builtin_ctzll(bit)];
+        }
+    }
+    return NULL;
+}
+
+static struct host *take_any_idle(struct stock *stock) {
+    struct host *host = take_idle(stock, &stock->roomless);
+    return host ? host : take_idle(stock, &stock->roomy);
+}
+
 // ---- The mutex is held from here to the next line of this form.
 
-// Blocks that hosts leave to brooms without a spare: with its spare a broom wins back many.
-static uint32_t kept_for_brooms(const struct stock *stock) {
-    return HAS_RESTOCK ? stock->spareless : 0;
+// Free blocks for hosts: they leave one to each broom without a spare, since with its spare a broom wins back many.
+static int32_t blocks_for_hosts(const struct stock *stock) {
+    return stock->free_count - stock->spareless;
 }
 
 static int lacks_block(const struct stock *stock) {
-    return stock->free_count <= kept_for_brooms(stock);
+    return blocks_for_hosts(stock) <= 0;
+}
+
+static int may_open(const struct stock *stock) {
+    return !lacks_block(stock) && !stock->is_gathering;
 }
 
 // Whether each broom has looked in vain since the last change.
-static int is_fruitless(const struct stock *stock) {
+static int is_fruitless(struct stock *stock) {
+    uint64_t changes = atomic_load(&stock->changes);
     for (uint32_t broom = 0; broom < stock->broom_count; broom++)
-        if (stock->fruitless_at[broom] != stock->changes)
+        if (stock->fruitless_at[broom] != changes)
             return 0;
     return 1;
 }
 
 // Whether no write can be done until somebody trims.
-static int is_hopeless(const struct stock *stock) {
+static int is_hopeless(struct stock *stock) {
     return lacks_block(stock) && stock->open_count == 0 && is_fruitless(stock);
 }
 
-static void take_free(struct stock *stock) {
-    stock->free_count--;
-    if (stock->free_count >= stock->low || stock->is_collecting)
-        return;
-    stock->is_collecting = 1;
-    pthread_cond_broadcast(&stock->for_broom);
+// The free blocks, or the brooms without a spare, have changed in number.
+static void mind_marks(struct stock *stock) {
+    int32_t blocks = blocks_for_hosts(stock);
+    int was_collecting = stock->is_collecting;
+    if (blocks < (int32_t) stock->low)
+        stock->is_collecting = 1;
+    if (blocks >= (int32_t) stock->high)
+        stock->is_collecting = 0;
+    if (stock->is_collecting != was_collecting)
+        pthread_cond_broadcast(&stock->for_broom);
+    if (blocks >= (int32_t) stock->batch)
+        stock->is_gathering = 0;
+    if (stock->waiting_to_write > 0 && may_open(stock))
+        pthread_cond_broadcast(&stock->for_write);
+}
+
+static void stop_gathering(struct stock *stock) {
+    stock->is_gathering = 0;
+    if (stock->waiting_to_write > 0)
+        pthread_cond_broadcast(&stock->for_write);
 }
 
 static struct host *take_any(struct stock *stock) {
-    while (stock->roomless_count == 0 && stock->roomy_count == 0) {
+    struct host *host = take_any_idle(stock);
+    while (!host) {
         stock->waiting_for_any++;
-        pthread_cond_wait(&stock->for_any, &stock->mutex);
+        atomic_fetch_add(&stock->waiting, 1);
+        host = take_any_idle(stock);
+        if (!host)
+            pthread_cond_wait(&stock->for_any, &stock->mutex);
+        atomic_fetch_sub(&stock->waiting, 1);
         stock->waiting_for_any--;
+        if (!host)
+            host = take_any_idle(stock);
     }
-    return stock->roomless_count > 0 ? stock->roomless[--stock->roomless_count] : stock->roomy[--stock->roomy_count];
+    return host;
 }
 
 // A handle with room, or one that may take a free block; NULL where neither is there. No block is opened before it is needed.
 static struct host *take_with_room(struct stock *stock) {
-    if (stock->roomy_count > 0)
-        return stock->roomy[--stock->roomy_count];
-    if (stock->roomless_count == 0 || lacks_block(stock))
+    struct host *host = take_idle(stock, &stock->roomy);
+    if (host || !may_open(stock))
+        return host;
+    host = take_idle(stock, &stock->roomless);
+    if (!host)
         return NULL;
-    struct host *host = stock->roomless[--stock->roomless_count];
     host->room = stock->pages;
     stock->open_count++;
-    take_free(stock);
+    stock->free_count--;
+    mind_marks(stock);
     return host;
 }
 
-static void give(struct stock *stock, struct host *host) {
-    if (host->room > 0)
-        stock->roomy[stock->roomy_count++] = host;
-    else
-        stock->roomless[stock->roomless_count++] = host;
+// Tells those who wait that a handle is idle, or that something has changed.
+static void tell(struct stock *stock, int has_room) {
     if (stock->waiting_for_any > 0)
         pthread_cond_signal(&stock->for_any);
+    if (atomic_load(&stock->listening) > 0 && !is_fruitless(stock))
+        pthread_cond_broadcast(&stock->for_broom);
     if (stock->waiting_to_write == 0)
         return;
-    if (host->room > 0 || !lacks_block(stock))
+    if (has_room || may_open(stock))
         pthread_cond_signal(&stock->for_write);
     else if (is_hopeless(stock))
         pthread_cond_broadcast(&stock->for_write);
 }
 
-// Something was done behind which a broom that found nothing may find something: a write or a trim, or a block came free.
+static void give(struct stock *stock, struct host *host) {
+    int has_room = host->room > 0;
+    put_idle(stock, host);
+    tell(stock, has_room);
+}
+
+// Something was done after which a broom that found nothing may find something: a write or a trim, or a block came free.
 static void count_change(struct stock *stock) {
-    stock->changes++;
-    if (stock->resting > 0 && stock->is_collecting)
-        pthread_cond_broadcast(&stock->for_broom);
+    atomic_fetch_add(&stock->changes, 1);
 }
 
 // Whether a write has waited as long as a write may, whatever came free meanwhile.
@@ -158,7 +216,7 @@ static int is_over(const struct stock *stock, const struct attempt *attempt) {
     return attempt->began != 0 && now() - attempt->began >= MAX_WAITS * stock->wait_ns;
 }
 
-static int has_waited_in_vain(const struct stock *stock, const struct attempt *attempt) {
+static int has_waited_in_vain(struct stock *stock, const struct attempt *attempt) {
     if (stock->is_stopping || is_hopeless(stock) || is_over(stock, attempt))
         return 1;
     if (attempt->began == 0 || !lacks_block(stock))
@@ -173,13 +231,17 @@ static void wait_to_write(struct stock *stock, struct attempt *attempt) {
         attempt->began = now();
         stock->waits++;
     }
+    if (lacks && stock->batch > 1)
+        stock->is_gathering = 1;
     stock->waiting_to_write++;
     stock->starving += lacks;
     if (lacks && stock->pausing > 0)
         pthread_cond_broadcast(&stock->for_broom);
-    wait_at_most(&stock->for_write, &stock->mutex, LOOK_AGAIN_MS);
+    int was_told = wait_at_most(&stock->for_write, &stock->mutex, LOOK_AGAIN_MS);
     stock->waiting_to_write--;
     stock->starving -= lacks;
+    if (!was_told)
+        stop_gathering(stock);
 }
 
 static void end_attempt(struct stock *stock, const struct attempt *attempt) {
@@ -188,28 +250,71 @@ static void end_attempt(struct stock *stock, const struct attempt *attempt) {
 }
 
 // Whether a broom has work: something may have changed since it last found nothing.
-static int is_wanted(const struct stock *stock, uint32_t broom) {
-    return stock->is_collecting && stock->fruitless_at[broom] != stock->changes;
+static int is_wanted(struct stock *stock, uint32_t broom) {
+    return stock->is_collecting && stock->fruitless_at[broom] != atomic_load(&stock->changes);
+}
+
+// Waits for a mark of free blocks, or, where the broom has found nothing, for a change.
+static void rest(struct stock *stock, uint32_t broom) {
+    uint32_t listens = (uint32_t) stock->is_collecting;
+    atomic_fetch_add(&stock->listening, listens);
+    if (!is_wanted(stock, broom))
+        pthread_cond_wait(&stock->for_broom, &stock->mutex);
+    atomic_fetch_sub(&stock->listening, listens);
 }
 
 // ---- The mutex is not held from here on.
 
-struct host *stock_take(struct stock *stock) {
+// Puts a handle back, and tells those who wait, if there are any; brooms only where something has changed.
+static void put_and_tell(struct stock *stock, struct host *host, int has_changed) {
+    int has_room = host->room > 0;
+    put_idle(stock, host);
+    if (atomic_load(&stock->waiting) == 0 && !(has_changed && atomic_load(&stock->listening) > 0))
+        return;
     pthread_mutex_lock(&stock->mutex);
-    struct host *host = take_any(stock);
+    tell(stock, has_room);
+    pthread_mutex_unlock(&stock->mutex);
+}
+
+struct host *stock_take(struct stock *stock) {
+    struct host *host = take_any_idle(stock);
+    if (host)
+        return host;
+    pthread_mutex_lock(&stock->mutex);
+    host = take_any(stock);
     pthread_mutex_unlock(&stock->mutex);
     return host;
 }
 
 void stock_give(struct stock *stock, struct host *host) {
+    put_and_tell(stock, host, 0);
+}
+
+struct host *stock_yield(struct stock *stock, struct host *host) {
+    if (atomic_load(&stock->waiting) == 0)
+        return host;
     pthread_mutex_lock(&stock->mutex);
-    give(stock, host);
+    int is_of_use = host->room > 0 || may_open(stock);
+    if (stock->waiting_for_any > 0 || (stock->waiting_to_write > 0 && is_of_use)) {
+        give(stock, host);
+        stock->waiting_for_any++;
+        atomic_fetch_add(&stock->waiting, 1);
+        wait_at_most(&stock->for_any, &stock->mutex, TURN_MS);
+        atomic_fetch_sub(&stock->waiting, 1);
+        stock->waiting_for_any--;
+        host = take_any(stock);
+    }
     pthread_mutex_unlock(&stock->mutex);
+    return host;
 }
 
 struct host *stock_take_to_write(struct stock *stock, struct attempt *attempt) {
+    struct host *host = take_idle(stock, &stock->roomy);
+    if (host)
+        return host;
     pthread_mutex_lock(&stock->mutex);
-    struct host *host = take_with_room(stock);
+    atomic_fetch_add(&stock->waiting, 1);
+    host = take_with_room(stock);
     while (!host) {
         attempt->is_last = has_waited_in_vain(stock, attempt);
         if (!attempt->is_last)
@@ -218,21 +323,29 @@ struct host *stock_take_to_write(struct stock *stock, struct attempt *attempt) {
         if (!host && attempt->is_last)
             host = take_any(stock);
     }
+    atomic_fetch_sub(&stock->waiting, 1);
     pthread_mutex_unlock(&stock->mutex);
     return host;
 }
 
 void stock_give_written(struct stock *stock, struct host *host, const struct attempt *attempt) {
+    count_change(stock);
+    if (host->room > 1 && attempt->began == 0) {
+        host->room--;
+        put_and_tell(stock, host, 1);
+        return;
+    }
     pthread_mutex_lock(&stock->mutex);
-    if (host->room == 0) { // a block was there after all
+    if (host->room == 0) { // a block was there that isn't counted yet
         host->room = stock->pages;
         stock->open_count++;
+        stock->free_count--;
         stock->miscounts++;
+        mind_marks(stock);
     }
     if (--host->room == 0)
         stock->open_count--;
     end_attempt(stock, attempt);
-    count_change(stock);
     give(stock, host);
     pthread_mutex_unlock(&stock->mutex);
 }
@@ -247,23 +360,27 @@ void stock_give_refused(struct stock *stock, struct host *host, struct attempt *
         host->room = 0;
         stock->open_count--;
         stock->miscounts++;
+        mind_marks(stock);
     }
+    // With nothing open, and nothing to gain for any broom, none can be there, whatever the count says.
+    attempt->is_last |= is_over(stock, attempt) || (stock->open_count == 0 && is_fruitless(stock));
     give(stock, host);
-    attempt->is_last |= is_over(stock, attempt);
     if (attempt->is_last) {
         end_attempt(stock, attempt);
         stock->gave_up++;
     } else {
+        stock->waiting_to_write++;
+        atomic_fetch_add(&stock->waiting, 1);
         wait_at_most(&stock->for_write, &stock->mutex, 1);
+        atomic_fetch_sub(&stock->waiting, 1);
+        stock->waiting_to_write--;
     }
     pthread_mutex_unlock(&stock->mutex);
 }
 
 void stock_give_trimmed(struct stock *stock, struct host *host) {
-    pthread_mutex_lock(&stock->mutex);
     count_change(stock);
-    give(stock, host);
-    pthread_mutex_unlock(&stock->mutex);
+    put_and_tell(stock, host, 1);
 }
 
 // A broom that found nothing looks again a little later, unless a write waits for it.
@@ -279,12 +396,9 @@ int stock_begin_round(struct stock *stock, uint32_t broom, uint64_t *known) {
     pthread_mutex_lock(&stock->mutex);
     if (stock->fruitless_at[broom] != 0)
         pause_broom(stock);
-    while (!stock->is_stopping && !is_wanted(stock, broom)) {
-        stock->resting++;
-        pthread_cond_wait(&stock->for_broom, &stock->mutex);
-        stock->resting--;
-    }
-    *known = stock->changes;
+    while (!stock->is_stopping && !is_wanted(stock, broom))
+        rest(stock, broom);
+    *known = atomic_load(&stock->changes);
     int goes_on = !stock->is_stopping;
     pthread_mutex_unlock(&stock->mutex);
     return goes_on;
@@ -293,8 +407,8 @@ int stock_begin_round(struct stock *stock, uint32_t broom, uint64_t *known) {
 void stock_end_round(struct stock *stock, uint32_t broom, uint64_t known, int was_fruitless) {
     pthread_mutex_lock(&stock->mutex);
     stock->fruitless_at[broom] = was_fruitless ? known : 0;
-    if (stock->waiting_to_write > 0 && is_hopeless(stock))
-        pthread_cond_broadcast(&stock->for_write);
+    if (was_fruitless && (stock->is_gathering || is_hopeless(stock)))
+        stop_gathering(stock);
     pthread_mutex_unlock(&stock->mutex);
 }
 
@@ -302,28 +416,34 @@ void stock_add_free(struct stock *stock) {
     pthread_mutex_lock(&stock->mutex);
     stock->free_count++;
     stock->freed_at = now();
-    if (stock->free_count >= stock->high)
-        stock->is_collecting = 0;
-    if (stock->spareless > 0) // a broom may take it as its spare
+    if (stock->spareless > 0) { // a broom may take it as its spare
         count_change(stock);
-    if (stock->waiting_to_write > 0 && !lacks_block(stock))
-        pthread_cond_signal(&stock->for_write);
+        pthread_cond_broadcast(&stock->for_broom);
+    }
+    mind_marks(stock);
     pthread_mutex_unlock(&stock->mutex);
 }
 
 void stock_count_spare(struct stock *stock, int was_lost) {
     pthread_mutex_lock(&stock->mutex);
     stock->spareless += was_lost ? 1 : -1;
+    mind_marks(stock);
     pthread_mutex_unlock(&stock->mutex);
 }
 
 int stock_reserve(struct stock *stock) {
     pthread_mutex_lock(&stock->mutex);
     int has_one = stock->free_count > 0;
-    if (has_one)
-        take_free(stock);
+    stock->free_count -= has_one;
     pthread_mutex_unlock(&stock->mutex);
     return has_one;
+}
+
+void stock_unreserve(struct stock *stock) {
+    pthread_mutex_lock(&stock->mutex);
+    stock->free_count++;
+    mind_marks(stock);
+    pthread_mutex_unlock(&stock->mutex);
 }
 
 void stock_stop(struct stock *stock) {

@@ -5,6 +5,10 @@
 //
 // The library doesn't count its free blocks, so the stock does. The count tells who has to wait, and when brooms may rest; that
 // a write is done or refused is said by the library alone.
+//
+// A request that finds a handle takes and gives it back without the mutex. Who has to wait counts itself first, and looks once
+// more before it waits; who gives a handle back, or changes something, looks afterwards whether somebody waits. All these steps
+// are in one order, so one of the two sees the other.
 #ifndef NBDKIT_STOCK_H
 #define NBDKIT_STOCK_H
 
@@ -26,31 +30,39 @@ static inline uint64_t tally_of(tally *count) {
     return atomic_load_explicit(count, memory_order_relaxed);
 }
 
-// A host's handle.
+// A host's handle. Only who has taken it uses it.
 struct host {
     _Alignas(64) struct mintlintel_seat *seat;
     uint32_t room; // pages that are left in its open block
     tally reads, writes, trims, refusals;
 };
 
+// Idle handles: the bit of each is set.
+enum { HOSTS_OF_A_WORD = 64, IDLE_WORDS = (MAX_HOSTS + HOSTS_OF_A_WORD - 1) / HOSTS_OF_A_WORD };
+struct idle {
+    _Alignas(64) _Atomic uint64_t words[IDLE_WORDS];
+};
+
 struct stock {
-    pthread_mutex_t mutex; // of all fields that change
+    struct idle roomy, roomless;           // idle handles with room in an open block, and without
+    _Alignas(64) _Atomic uint64_t changes; // what was done so far, from 1 on: after each a broom may find something new
+    _Atomic uint32_t waiting, listening;   // requests that wait, and brooms that wait for a change
+
+    _Alignas(64) pthread_mutex_t mutex; // of all fields below that change
     pthread_cond_t for_any, for_write, for_broom;
     struct host *hosts;
-    uint32_t host_count, broom_count, pages, low, high;
+    uint32_t host_count, broom_count, pages, low, high, batch;
     uint64_t wait_ns;
-    struct host **roomy, **roomless; // idle handles with room in an open block, and without; the one given back last is on top
-    uint32_t roomy_count, roomless_count;
     uint32_t open_count; // handles with room, idle or not
-    uint32_t free_count; // free blocks that no handle is about to take
-    uint32_t spareless;  // brooms that have lost their spare
+    int32_t free_count;  // free blocks that no handle is about to take; below 0 while a block was taken that isn't counted yet
+    int32_t spareless;   // brooms that have lost their spare
     uint32_t waiting_for_any, waiting_to_write;
-    uint32_t starving;         // writes that wait while no block is free
-    uint32_t resting, pausing; // brooms that wait for work, and those that looked in vain a moment ago
-    uint64_t changes;          // what was done so far, from 1 on: behind each a broom may find what it didn't find before
-    uint64_t *fruitless_at;    // of each broom, the changes that it knew as it last found nothing to do, or 0
-    uint64_t freed_at;         // when a block last came free
+    uint32_t starving;      // writes that wait while no block is free
+    uint32_t pausing;       // brooms that looked in vain a moment ago
+    uint64_t *fruitless_at; // of each broom, the changes that it knew as it last found nothing to do, or 0
+    uint64_t freed_at;      // when a block last came free
     int is_collecting, is_stopping;
+    int is_gathering; // writes wait until some blocks are free, since one at a time wakes a thread for each page
     uint64_t waits, waited_ns, gave_up, miscounts;
 };
 
@@ -61,6 +73,9 @@ void stock_end(struct stock *stock);
 // A handle to read or trim with.
 struct host *stock_take(struct stock *stock);
 void stock_give(struct stock *stock, struct host *host);
+
+// A handle for the rest of a long request: if another request waits for a handle, it is served first.
+struct host *stock_yield(struct stock *stock, struct host *host);
 
 // A write's way to a handle.
 struct attempt {
@@ -80,11 +95,13 @@ void stock_give_trimmed(struct stock *stock, struct host *host);
 int stock_begin_round(struct stock *stock, uint32_t broom, uint64_t *known);
 void stock_end_round(struct stock *stock, uint32_t broom, uint64_t known, int was_fruitless);
 
-// A block was erased and is free; a broom has lost its spare, or has one again; a free block is set aside for a broom, if there
-// is one.
+// A block was erased and is free; a broom has lost its spare, or has one again.
 void stock_add_free(struct stock *stock);
 void stock_count_spare(struct stock *stock, int was_lost);
+
+// A free block is set aside for a broom, if there is one; the library had none for it, so none was taken.
 int stock_reserve(struct stock *stock);
+void stock_unreserve(struct stock *stock);
 
 // Brooms and writers wait no longer.
 void stock_stop(struct stock *stock);

@@ -12,6 +12,11 @@ REFUSED = [
     (["size=1000000"], "a multiple of the page's 4096 bytes; 999424 and 1003520 are"),
     (["size=0"], "size=0: it is 1 to"),
     (["size=lots"], "size"),
+    (["size=9223372036854775807"], "at most 4294967296 bytes, which are 1048576 sectors"),
+    (["sectors=1048577"], "these are 4294971392 bytes, and a device has at most 4294967296 bytes, which are 1048576 sectors"),
+    (["sectors=1048577", "page=8"], "these are 8388616 bytes, and a device has at most 8388608 bytes"),
+    (["sectors=100", "blocks=5000"], "5000 blocks of 262144 bytes: a device has 3 to 4096, at most 1073741824 bytes"),
+    (["sectors=100", "blocks=2"], "2 blocks of 262144 bytes: a device has 3 to 4096"),
     (["size=8G"], "at most 4294967296 bytes, which are 1048576 sectors"),
     (["size=16M", "page=8"], "at most 8388608 bytes, which are 1048576 sectors"),
     (["size=128M"], "and may take 134217728: make size= or spare= less"),
@@ -27,7 +32,9 @@ REFUSED = [
     (["hosts=0"], "hosts=0: it is 1 to 500"),
     (["brooms=33"], "brooms=33: it is 0 to 32"),
     (["low=9", "high=3"], "high=3 is below low=9"),
-    (["blocks=50", "luns=4"], "50 blocks of 262144 bytes: a device has 3 to 4096, and a multiple of luns=4"),
+    (["low=70", "sectors=2400", "blocks=60"], "low=70 or high=0: the device has 60 blocks"),
+    (["high=61", "sectors=2400", "blocks=60"], "high=61: the device has 60 blocks"),
+    (["blocks=50", "luns=4"], "50 blocks of 262144 bytes: a device has 3 to 4096, at most 1073741824 bytes, and a multiple of luns=4"),
     (["size=64M", "pages=1"], "blocks of 4096 bytes: a device has 3 to 4096"),
     (["sectors=2400", "blocks=40", "hosts=4"], "40 blocks have 10485760 bytes; 4 handles and 1 brooms keep 1572864 bytes of them (6 blocks), which leaves 8912896 for the 9830400 bytes"),
     (["nonsense=1"], "unknown parameter 'nonsense'"),
@@ -78,6 +85,8 @@ def refused_in_turn(shop, name, texts):
 def refused_resources(shop):
     memory = refused_in_turn(shop, "REFUSE_ALLOCATION", ("no memory", "Cannot allocate memory"))
     threads = refused_in_turn(shop, "REFUSE_THREAD", ("no thread for",))
+    signalled, told = start(shop, ["size=4M", f"stats={shop.folder}/counts"], {"LD_PRELOAD": str(shop.client("refuse.so")), "SIGNAL_AT_RENAME": "1"})
+    want(signalled is None, f"SIGUSR1 just after the first counts ended the server with status {signalled}: {told}")
     server = Server(shop, "size=4M")
     shutil.rmtree(server.stats.parent)  # the counts can't be written at the end: that is told, and the server ends well
     server.process.terminate()

@@ -1,16 +1,14 @@
 """The parts of the check, in their order. Each gives a text on what it did, or raises Failure."""
 
-import contextlib
 import functools
+import os
 import random
 import re
-import signal
-import subprocess
 import time
 
 import faults
 import files
-from running import HERE, Failure, Server, end_fio, fio, kibibytes, want
+from running import HERE, Server, copying, fio, kibibytes, loaded, want
 
 ZIPF = {"norandommap": 1, "random_distribution": "zipf:0.9"}
 UNALIGNED = {"bsrange": "512-20k", "bs_unaligned": 1, "blockalign": 512, "serialize_overlap": 1}
@@ -24,7 +22,7 @@ def build(shop):
     clients = HERE / "out/clients"
     clients.mkdir(parents=True, exist_ok=True)
     strict = ["gcc", "-std=gnu11", "-O2", "-Wall", "-Wextra", "-Werror"]
-    for name in ("overlap", "wear_out", "dies"):
+    for name in ("overlap", "wear_out", "breaks_off"):
         shop.run([*strict, HERE / f"tests/{name}.c", "-o", clients / name, "-lnbd", "-pthread", "-lm"], 60)
     shop.run([*strict, "-fPIC", "-shared", HERE / "tests/refuse.c", "-o", clients / "refuse.so", "-ldl"], 60)
     return "plain and under two sanitizers"
@@ -93,7 +91,9 @@ def mixed_sizes_by_four(shop, server):
 
 @on_aged
 def trims_and_writes(shop, server):
-    fio(shop, server, "trimwrite", rw="trimwrite", bs="4k", size="48m", iodepth=16, io_size=f"{shop.scaled(48, 96)}m")
+    fio(shop, server, "trimwrite", rw="trimwrite", bs="4k", size="48m", iodepth=16, io_size=f"{shop.scaled(96, 192)}m", verify="crc32c", do_verify=0,
+        serialize_overlap=1)
+    fio(shop, server, "read", rw="read", bs="4k", size="48m", iodepth=16, verify="crc32c")
     fio(shop, server, "again", rw="randwrite", bs="4k", size="48m", iodepth=16, io_size="40m", verify="crc32c")
 
 
@@ -123,18 +123,6 @@ def by_qemu_img(shop, server):
     shop.run(["qemu-img", "compare", "-f", "raw", "-F", "raw", image, server.uri])
 
 
-@contextlib.contextmanager
-def loaded(shop, server):
-    """Random writes to the last 8 MiB meanwhile, so that brooms collect beside a quiet client."""
-    load = shop.start(["fio", "--name=load", "--thread", "--ioengine=nbd", f"--uri={server.uri}", "--rw=randwrite", "--bs=4k", "--offset=40m", "--size=8m", "--iodepth=4",
-                       "--time_based", "--runtime=60", "--norandommap"], shop.folder / "load")
-    copies = server.counts().copies
-    server.wait_until(lambda: server.counts().copies > copies, 30, "copy anything under it")
-    yield
-    end_fio(shop, load, shop.folder / "load")
-    server.settle()
-
-
 @on_aged
 def by_qemu_io(shop, server):
     """Unaligned writes, discards and zeros; a discard zeroes parts of pages too."""
@@ -152,7 +140,7 @@ def by_qemu_io(shop, server):
 @on_aged
 def a_map_of_holes(shop, server):
     """The holes are the sectors that were trimmed, and no others."""
-    shop.run(["qemu-io", "-f", "raw", "-c", "write -P 1 0 48M", "-c", "discard 4M 1M", "-c", "discard 6M 4k", "-c", "write 4200k 4k", server.uri])
+    shop.run(["qemu-io", "-f", "raw", "-c", "write -P 1 0 48M", "-c", "discard 4M 1M", "-c", "discard 6M 4k", "-c", "write 4200k 4k", "-c", "discard 4400500 5000", "-c", "write -z -u 4500100 50", server.uri])
     holes, others = [], []
     with loaded(shop, server):
         printed = shop.run(["nbdinfo", "--map", server.uri])
@@ -170,9 +158,21 @@ def a_map_of_holes(shop, server):
 def overlaps(shop):
     server = Server(shop, "size=8M", "spare=4", "hosts=4")
     fio(shop, server, "age", rw="randwrite", bs="4k", size="8m", iodepth=16, io_size="32m", randrepeat=0, **ZIPF)
-    printed = shop.run([shop.client("overlap"), server.uri, shop.scaled(10_000, 100_000)])
-    want(server.stop().copies > 0, "nothing was copied under it")
+    with loaded(shop, server, "2m", "6m"), copying(server, "overlap"):
+        printed = shop.run([shop.client("overlap"), server.uri, shop.scaled(10_000, 100_000)], shop.scaled(60, 300))
+    server.stop()
     return printed.strip()
+
+
+def stock_by_itself(shop):
+    """The counts of free blocks, and who waits for whom, over a library that says what each test wants."""
+    source, include = shop.source(), f"-I{os.environ.get('INCLUDE', HERE.parent / 'include')}"
+    for kind in ("address", "thread"):
+        program = shop.folder / f"stock_{kind}"
+        shop.run(["gcc", "-std=gnu11", "-O2", "-g", "-Wall", "-Wextra", "-Werror", f"-fsanitize={kind}", include, HERE / "tests/stock.c", source / "stock.c", source / "brooms.c",
+                  "-o", program, "-pthread"])
+        shop.run([*(("setarch", "-R") if kind == "thread" else ()), program], 70)
+    return "under both sanitizers"
 
 
 def handles(shop):
@@ -180,39 +180,36 @@ def handles(shop):
     told = []
     for hosts in (2, 4, 16, 64):
         server = Server(shop, "size=16M", "spare=3", f"hosts={hosts}", "brooms=1")
-        fio(shop, server, f"hosts{hosts}", rw="randwrite", size="4m", offset_increment="4m", numjobs=4, iodepth=16, io_size=f"{shop.scaled(8, 100)}m",
-            verify="crc32c", **(UNALIGNED | {"bsrange": "512-8k"}), **ZIPF)
+        with copying(server, f"{hosts} handles"):
+            fio(shop, server, f"hosts{hosts}", rw="randwrite", size="4m", offset_increment="4m", numjobs=4, iodepth=16, io_size=f"{shop.scaled(8, 100)}m",
+                verify="crc32c", **(UNALIGNED | {"bsrange": "512-8k"}), **ZIPF)
         counts = server.stop()
-        want(counts.copies > 0 and counts.no_space == 0, f"with {hosts} handles: {counts.numbers}")
         want(100 * counts.miscounts <= counts.erases, f"with {hosts} handles the free blocks were miscounted: {counts.numbers}")
         told.append(f"{hosts} handles: {counts.handles_that_wrote} wrote, {counts.waits} waits for a block")
     return "; ".join(told)
 
 
-def killed_clients(shop, brooms=1):
-    """Programs are killed in mid-write, over and over, beside one that checks a half of its own.
-
-    Here nbdkit has one thread for each connection. With more, nbdkit 1.32 ends by an assertion of its own, with any plugin, if a connection breaks under two answers at once. To the plugin it is
-    the same: it doesn't know of connections, and each program has four."""
-    server = Server(shop, *AGED, f"brooms={brooms}", threads=1)
+def broken_clients(shop, brooms=1):
+    """Connections are shut down in mid-write, over and over, beside a client that checks a half of its own. What they wrote to the other
+    half is old or new, page by page."""
+    server = Server(shop, *AGED, f"brooms={brooms}")
     age(shop, server)
-    before, half = server.counts(), kibibytes(shop, server) // 2
+    half = kibibytes(shop, server) // 2
     own = shop.start(["fio", "--name=own", "--thread", "--ioengine=nbd", f"--uri={server.uri}", "--rw=randwrite", "--bs=4k", "--numjobs=4", f"--size={half // 4}k",
-                      f"--offset_increment={half // 4}k", "--iodepth=16", f"--io_size={shop.scaled(15, 75)}m", "--norandommap", "--random_distribution=zipf:0.9",
+                      f"--offset_increment={half // 4}k", "--iodepth=16", f"--io_size={shop.scaled(40, 150)}m", "--norandommap", "--random_distribution=zipf:0.9",
                       "--serialize_overlap=1", "--verify=crc32c", "--verify_fatal=1"], shop.folder / "own")
-    kills = beside = 0
-    while kills < shop.scaled(20, 200) or own.poll() is None:
-        shop.run([shop.client("dies"), server.uri, half * 1024, half * 1024, kills], 120, status=-signal.SIGKILL)
-        kills += 1
-        beside += own.poll() is None
-    want(own.wait(60) == 0, (shop.folder / "own").read_text()[-2000:])
-    want(beside > 0, "the client beside was done before any was killed")
-    server.settle()
+    rounds = beside = 0
+    with copying(server, "broken clients"):
+        while rounds < shop.scaled(2, 8) or own.poll() is None:
+            told = shop.run([shop.client("breaks_off"), server.uri, half * 1024, half * 1024, rounds], 120)
+            rounds += 1
+            beside += own.poll() is None
+        want(own.wait(60) == 0, (shop.folder / "own").read_text()[-2000:])
+        want(beside > 0, "the client beside was done before any was broken off")
+        server.settle()
     fio(shop, server, "whole", rw="randwrite", bs="4k", size="48m", io_size="10m", iodepth=16, verify="crc32c")
-    after = server.stop()
-    want(after.copies > before.copies, "nothing was copied under it")
-    want(after.no_space == 0, "a write found no space")
-    return f"{kills} programs killed, {beside} of them beside a client that checks"
+    server.stop()
+    return f"{rounds} programs, {beside} of them beside a client that checks; the last: {told.strip()}"
 
 
 def other_pages(shop):
@@ -221,9 +218,10 @@ def other_pages(shop):
         server = Server(shop, f"page={page}", f"size={size}", f"pages={pages}", "spare=8", "hosts=3")
         info = shop.run(["nbdinfo", server.uri])
         want((f"block_size_preferred: {page}" in info) == preferred, info)
-        fio(shop, server, "odd", rw="randwrite", size=size, bsrange="512-6k", bs_unaligned=1, blockalign=512, iodepth=16, serialize_overlap=1, io_size="12m",
-            verify="crc32c", **ZIPF)
-        want(server.stop().copies > 0, f"nothing was copied with pages of {page} bytes")
+        with copying(server, f"pages of {page} bytes"):
+            fio(shop, server, "odd", rw="randwrite", size=size, bsrange="512-6k", bs_unaligned=1, blockalign=512, iodepth=16, serialize_overlap=1, io_size="12m",
+                verify="crc32c", **ZIPF)
+        server.stop()
     return "8, 1000 and 512 bytes"
 
 
@@ -240,24 +238,31 @@ def worn_out(shop):
     """Until the device is worn out: refusals are ENOSPC and come at once, and each page that was answered is there."""
     told = []
     for brooms in (1, 2):
-        for pattern in ("uniform", "skewed"):
+        for pattern in ("uniform", "zipf"):
             server = Server(shop, "sectors=2400", "blocks=60", "hosts=4", f"brooms={brooms}", "endurance=20")
             printed = shop.run([shop.client("wear_out"), server.uri, pattern])
-            late = float(re.search(r"at most ([\d.]+) ms", printed)[1])
-            want(late < 1000, f"a refusal took {late} ms")
-            told.append(f"{pattern}, {brooms} brooms: {share(server.stop())}, refused within {late} ms")
+            most, longest = map(float, re.search(r"nine in ten refused within ([\d.]+) ms, all within ([\d.]+) ms", printed).groups())
+            want(most < 100 and longest < 1000, f"a refusal isn't at once: {printed}")
+            counts = server.stop()
+            want(counts.copies > 0, "nothing was copied under it")
+            told.append(f"{pattern}, {brooms} broom{'s' * (brooms > 1)}: {share(counts)}, nine in ten refused within {most} ms")
     for brooms in shop.scaled((1,), (1, 2)):
         for pattern in ("random", "zipf:1.2"):
-            told.append(f"fio's {pattern}, {brooms} brooms: {share(worn_out_by_fio(shop, brooms, pattern))}")
+            told.append(f"fio's {pattern}, {brooms} broom{'s' * (brooms > 1)}: {share(worn_out_by_fio(shop, brooms, pattern))}")
     return "; ".join(told)
 
 
 def worn_out_by_fio(shop, brooms, pattern):
+    """fio is refused, and then finds in each page what it wrote there."""
     server = Server(shop, "sectors=2400", "blocks=60", "hosts=4", f"brooms={brooms}", "endurance=10")
+    fio(shop, server, "fill", rw="write", bs="4k", size="9600k", iodepth=4, verify="crc32c", do_verify=0)
     printed = shop.run(["fio", "--name=wear", "--thread", "--ioengine=nbd", f"--uri={server.uri}", "--rw=randwrite", "--bs=4k", "--size=9600k", "--iodepth=4",
-                        "--io_size=2g", "--norandommap", f"--random_distribution={pattern}"], status=1)
+                        "--io_size=2g", "--norandommap", f"--random_distribution={pattern}", "--verify=crc32c", "--do_verify=0", "--serialize_overlap=1"], status=1)
     want("No space left on device" in printed, printed[-2000:])
-    return server.stop()
+    fio(shop, server, "read", rw="read", bs="4k", size="9600k", iodepth=4, verify="crc32c")
+    counts = server.stop()
+    want(counts.no_space > 0 and counts.copies > 0, f"it isn't worn out: {counts.numbers}")
+    return counts
 
 
 def share(counts):
@@ -268,25 +273,28 @@ def share(counts):
 def sanitized(shop, kind):
     """All kinds of requests on a plugin under a sanitizer, and counts that are written meanwhile."""
     server = Server(shop, "size=8M", "spare=4", "hosts=3", "brooms=2", kind=kind)
-    load = shop.start(["fio", "--name=load", "--thread", "--ioengine=nbd", f"--uri={server.uri}", "--rw=randwrite", "--bsrange=512-16k", "--bs_unaligned=1", "--blockalign=512",
-                       "--size=2m", "--offset_increment=2m", "--numjobs=4", "--iodepth=16", f"--io_size={shop.scaled(12, 100)}m", "--norandommap",
-                       "--random_distribution=zipf:0.9", "--serialize_overlap=1", "--verify=crc32c", "--verify_fatal=1"], shop.folder / "load")
-    while load.poll() is None:
-        server.counts()
-        time.sleep(0.1)
+    with copying(server, "fio"):
+        load = shop.start(["fio", "--name=load", "--thread", "--ioengine=nbd", f"--uri={server.uri}", "--rw=randwrite", "--bsrange=512-16k", "--bs_unaligned=1", "--blockalign=512",
+                           "--size=2m", "--offset_increment=2m", "--numjobs=4", "--iodepth=16", f"--io_size={shop.scaled(12, 100)}m", "--norandommap",
+                           "--random_distribution=zipf:0.9", "--serialize_overlap=1", "--verify=crc32c", "--verify_fatal=1"], shop.folder / "load")
+        while load.poll() is None:
+            server.counts()
+            time.sleep(0.1)
     want(load.returncode == 0, (shop.folder / "load").read_text()[-2000:])
-    shop.run([shop.client("overlap"), server.uri, shop.scaled(1000, 20_000)])
-    shop.run(["qemu-io", "-f", "raw", "-c", "discard 10000 3M", "-c", "write -z 100 9999", "-c", "write -z -u 5000 1M", "-c", "map", server.uri])
-    shop.run(["nbdinfo", "--map", server.uri])
-    want(server.stop().copies > 0, "nothing was copied under it")
+    with loaded(shop, server, "6m", "2m"), copying(server, "the others"):
+        shop.run([shop.client("overlap"), server.uri, shop.scaled(1000, 20_000)])
+        shop.run(["qemu-io", "-f", "raw", "-c", "discard 10000 3M", "-c", "write -z 100 9999", "-c", "write -z -u 5000 1M", "-c", "map", server.uri])
+        shop.run(["nbdinfo", "--map", server.uri])
+    server.stop()
     server = Server(shop, "sectors=2400", "blocks=60", "hosts=4", "brooms=2", "endurance=6", kind=kind)
     shop.run([shop.client("wear_out"), server.uri, "uniform"])
-    server.stop()
+    want(server.stop().copies > 0, "nothing was copied under it")
     return ""
 
 
 # The parts that have to refuse wrong plugins.
-REFUSING = {part.__name__: part for part in (overlaps, handles, resting_brooms, worn_out, by_qemu_io, a_map_of_holes, mixed_sizes, there_and_back)}
+REFUSING = {part.__name__: part for part in (overlaps, handles, resting_brooms, worn_out, by_qemu_io, a_map_of_holes, mixed_sizes, there_and_back, stock_by_itself)}
+REFUSING["refused_resources"] = faults.refused_resources
 REFUSING |= {f"{kind}_sanitizer": functools.partial(sanitized, kind=kind) for kind in ("address", "thread")}
 
 
@@ -295,10 +303,10 @@ def chosen(options):
     brooms = (1, 2) if options.long else (1,)
     on_device = {"fio's crc32c of four jobs": checksums, "fio's md5 of mixed sizes": mixed_sizes, "fio's mixed sizes of four jobs": mixed_sizes_by_four,
                  "fio's trims and writes": trims_and_writes, "16 connections": sixteen_connections, "nbdcopy there and back": there_and_back,
-                 "qemu-img's convert and compare": by_qemu_img, "qemu-io unaligned": by_qemu_io, "a map of holes": a_map_of_holes, "killed clients": killed_clients,
+                 "qemu-img's convert and compare": by_qemu_img, "qemu-io unaligned": by_qemu_io, "a map of holes": a_map_of_holes, "clients that break off": broken_clients,
                  "files in a file system": on_aged(files.a_file_system), "a database in a file system": on_aged(files.a_database)}
     parts = {"what is refused": faults.refused_words, "no memory, no thread, no file": faults.refused_resources, "help and page": faults.help_and_page, "the page's lines": files.the_page,
-             "parts and whole pages at once": overlaps, "2, 4, 16 and 64 handles": handles, "pages of other sizes": other_pages, "brooms that rest": resting_brooms, "a device that wears out": worn_out}
+             "stock by itself": stock_by_itself, "parts and whole pages at once": overlaps, "2, 4, 16 and 64 handles": handles, "pages of other sizes": other_pages, "brooms that rest": resting_brooms, "a device that wears out": worn_out}
     parts |= {f"{name}, {count} broom{'s' * (count > 1)}": functools.partial(part, brooms=count) for count in brooms for name, part in on_device.items()}
     parts |= {f"{sanitizer}Sanitizer": functools.partial(sanitized, kind=sanitizer.lower()) for sanitizer in ("Address", "Thread")}
     if options.long:

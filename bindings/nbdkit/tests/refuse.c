@@ -1,9 +1,12 @@
 // Stands between the plugin and the C library (LD_PRELOAD), and refuses the K-th allocation, or start of a thread, that the
-// plugin asks for by itself: REFUSE_ALLOCATION=K, REFUSE_THREAD=K. What the server asks for isn't counted.
+// plugin asks for by itself: REFUSE_ALLOCATION=K, REFUSE_THREAD=K. What the server asks for isn't counted. SIGNAL_AT_RENAME=1 sends
+// the process SIGUSR1 as soon as a file is in its place.
 #define _GNU_SOURCE
 #include <dlfcn.h>
 #include <errno.h>
 #include <pthread.h>
+#include <signal.h>
+#include <stdio.h>
 #include <stdlib.h>
 #include <string.h>
 
@@ -43,6 +46,16 @@ void *realloc(void *old, size_t size) {
 
 void *aligned_alloc(size_t alignment, size_t size) {
     return has_no_memory(__builtin_return_address(0)) ? NULL : __libc_memalign(alignment, size);
+}
+
+int rename(const char *old, const char *new) {
+    static int (*real)(const char *, const char *);
+    if (!real)
+        real = (int (*)(const char *, const char *)) dlsym(RTLD_NEXT, "rename");
+    int result = real(old, new);
+    if (getenv("SIGNAL_AT_RENAME"))
+        raise(SIGUSR1);
+    return result;
 }
 
 int pthread_create(pthread_t *thread, const pthread_attr_t *how, void *(*start)(void *), void *argument) {

@@ -7,7 +7,6 @@ import re
 import shutil
 import signal
 import subprocess
-import sys
 import tempfile
 import time
 
@@ -23,6 +22,11 @@ def is_clean(status, told):
     if REPORTS.search(told) or any("nbdkit-mintlintel-plugin" in stack or "unknown module" in stack for stack in leaks):
         return False
     return status == 0 or bool(leaks)
+
+
+def slowness():
+    """How many times longer everything may take: as many threads as are ready for each processor."""
+    return max(1, os.getloadavg()[0] / os.cpu_count())
 
 
 class Failure(Exception):
@@ -42,6 +46,7 @@ class Shop:
         self.started, self.mounted, self.kept = [], [], []
         self.aged = self.wrong = None
         self.copies = 0
+        self.slow = slowness()
 
     def scaled(self, short, long):
         return long if self.options.long else short
@@ -50,8 +55,17 @@ class Shop:
         """The plugin of a kind of build, or the wrong one that is being tried."""
         return self.wrong or HERE / "out" / kind / "nbdkit-mintlintel-plugin.so"
 
+    def source(self):
+        """The folder of the plugin's source, or of the wrong one's."""
+        return self.wrong.parents[1] if self.wrong else HERE
+
     def client(self, name):
         return HERE / "out" / "clients" / name
+
+    def limit(self, seconds):
+        """From now on so many seconds are left, and more on a busy machine."""
+        self.slow = slowness()
+        signal.alarm(round(seconds * self.slow))
 
     def start(self, words, log, **more):
         """Starts a program in a session of its own, with its output in a log."""
@@ -62,7 +76,8 @@ class Shop:
         return process
 
     def run(self, words, seconds=60, given=None, status=0):
-        """Runs a program to its end, and gives what it printed."""
+        """Runs a program to its end, and gives what it printed. On a busy machine it has more time."""
+        seconds *= self.slow
         words = [str(word) for word in words]
         process = subprocess.Popen(words, stdin=subprocess.PIPE, stdout=subprocess.PIPE, stderr=subprocess.STDOUT,
                                    start_new_session=True, cwd=self.folder)
@@ -123,7 +138,7 @@ def end_fio(shop, process, log):
     want(process.poll() is None, log.read_text()[-2000:])
     process.send_signal(signal.SIGINT)
     try:
-        process.wait(60)
+        process.wait(60 * shop.slow)
     except subprocess.TimeoutExpired:
         raise Failure("fio didn't end by a signal within 60 s") from None
     shop.started.remove(process)
@@ -137,9 +152,9 @@ def out_of_time(number, frame):
 def workshop(seconds, options):
     for number in (signal.SIGALRM, signal.SIGTERM, signal.SIGHUP):
         signal.signal(number, out_of_time)
-    signal.alarm(seconds)
     folder = pathlib.Path(tempfile.mkdtemp(prefix="nbdkit-"))
     shop = Shop(folder, options)
+    shop.limit(seconds)
     try:
         yield shop
     finally:
@@ -175,7 +190,6 @@ class Counts:
         want(sum(self.erases_of) == self.erases, "the blocks' erases aren't the erases")
         want(sum(self.retired_of) == self.retired_blocks, "the blocks that are marked aren't those that are retired")
         want(len(self.erases_of) == self.blocks, "not each block has a line")
-        want(self.numbers.get("wrong_generations", 0) == 0, "the library has blocks in other generations")
 
     @property
     def amplification(self):
@@ -186,7 +200,7 @@ class Server:
     """An nbdkit with the plugin, on a unix socket. `kind` is that of the build: plain, or under a sanitizer. `threads` are those of a connection."""
 
     def __init__(self, shop, *words, kind="", threads=16):
-        self.shop, self.seen = shop, 0
+        self.shop, self.seen, self.kind = shop, 0, kind
         folder = pathlib.Path(tempfile.mkdtemp(dir=shop.folder))
         self.socket, self.log, self.stats, pid = (folder / name for name in ("socket", "log", "stats", "pid"))
         self.uri = f"nbd+unix:///?socket={self.socket}"
@@ -204,7 +218,7 @@ class Server:
         shop.run(["nbdinfo", "--size", self.uri], 20)
 
     def wait_until(self, is_so, seconds, what):
-        end = time.monotonic() + seconds
+        end = time.monotonic() + seconds * self.shop.slow
         while not is_so():
             told = self.log.read_text(errors="replace")[-3000:]
             want(self.process.poll() is None, f"the server ended with status {self.process.returncode} and didn't {what}:\n{told}")
@@ -212,8 +226,8 @@ class Server:
             time.sleep(0.005)
 
     def settle(self):
-        """Waits until no connection is left, so that all is done that a killed client had sent: each has a thread of its own, beside that of the server, of the counts, and of each broom."""
-        others = 2 + self.counts().brooms
+        """Waits until no connection is left, so that all is done that a killed client had sent: each has a thread of its own, beside that of the server, of the counts, of each broom, and of ThreadSanitizer."""
+        others = 2 + self.counts().brooms + (self.kind == "thread")
         self.wait_until(lambda: len(os.listdir(f"/proc/{self.process.pid}/task")) <= others, 60, "end its connections")
 
     def counts(self):
@@ -240,8 +254,32 @@ class Server:
         return self.take(Counts(self.stats))
 
 
-def fio(shop, server, name, seconds=60, **options):
+@contextlib.contextmanager
+def copying(server, what):
+    """Pages have to be copied while this is done, and no write may be refused."""
+    before = server.counts()
+    yield
+    after = server.counts()
+    want(after.copies > before.copies, f"{what}: nothing was copied under it")
+    want(after.no_space == before.no_space, f"{what}: a write found no space")
+
+
+@contextlib.contextmanager
+def loaded(shop, server, offset="40m", size="8m"):
+    """Random writes to a part of the device meanwhile, so that brooms collect beside a quiet client."""
+    log = shop.folder / "background"
+    load = shop.start(["fio", "--name=load", "--thread", "--ioengine=nbd", f"--uri={server.uri}", "--rw=randwrite", "--bs=4k", f"--offset={offset}", f"--size={size}",
+                       "--iodepth=4", "--time_based", "--runtime=600", "--norandommap"], log)
+    copies = server.counts().copies
+    server.wait_until(lambda: server.counts().copies > copies, 30, "copy anything under it")
+    yield
+    end_fio(shop, load, log)
+    server.settle()
+
+
+def fio(shop, server, name, seconds=None, **options):
     """Runs fio's own check of what it wrote. The size is shared out between the jobs."""
+    seconds = seconds or shop.scaled(60, 300)
     call = ["fio", f"--name={name}", "--thread", "--ioengine=nbd", f"--uri={server.uri}", "--group_reporting", "--verify_fatal=1",
             *(f"--{option}={value}" for option, value in options.items())]
     return shop.run(call, seconds)

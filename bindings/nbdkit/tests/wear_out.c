@@ -1,5 +1,6 @@
-// wear_out URI uniform|skewed: four connections write pages of sectors of their own, over and over, until each was refused 20
-// times. A refusal is ENOSPC; then every page has to be as its last write that was answered left it.
+// wear_out URI uniform|zipf: four connections write pages of sectors of their own, over and over, until each was refused 20
+// times. Then each trims a sector before each write, until 20 more were refused. A refusal is ENOSPC; in the end every page has
+// to be as its last write or trim that was answered left it.
 #include <errno.h>
 #include <math.h>
 #include <pthread.h>
@@ -7,15 +8,17 @@
 
 #include "client.h"
 
-enum { WRITERS = 4, REFUSALS = 20, NUMBERS = PAGE / 8 };
+enum { WRITERS = 4, REFUSALS = 20, TRIMMED_REFUSALS = 40, NUMBERS = PAGE / 8 };
+#define SKEW 1.2
 
 struct writer {
     pthread_t thread;
     const char *uri;
     uint32_t me, sectors, *last;
-    int is_skewed, wrong_errors;
+    const double *share; // of each own sector: how likely it or one before it is drawn
+    int wrong_errors;
     uint64_t answered;
-    double longest_refusal;
+    double refusals[TRIMMED_REFUSALS]; // how long each took
 };
 
 // A page names its sector and the number of its write in each of its 512 words.
@@ -29,8 +32,21 @@ static void fill(uint32_t *page, uint32_t sector, uint32_t number) {
 static uint32_t draw(struct writer *writer, struct drand48_data *random) {
     double from_0_to_1;
     drand48_r(random, &from_0_to_1);
-    double share = writer->is_skewed ? pow(from_0_to_1, 4) : from_0_to_1;
-    return (uint32_t) (share * (writer->sectors / WRITERS)) * WRITERS + writer->me;
+    uint32_t low = 0, high = writer->sectors / WRITERS - 1;
+    while (low < high) {
+        uint32_t middle = (low + high) / 2;
+        if (writer->share[middle] < from_0_to_1)
+            low = middle + 1;
+        else
+            high = middle;
+    }
+    return low * WRITERS + writer->me;
+}
+
+static void trim(struct writer *writer, struct nbd_handle *nbd, uint32_t sector) {
+    if (nbd_trim(nbd, PAGE, (uint64_t) sector * PAGE, 0) == -1)
+        end("trim");
+    writer->last[sector] = 0;
 }
 
 static void *write_until_refused(void *argument) {
@@ -39,7 +55,9 @@ static void *write_until_refused(void *argument) {
     struct drand48_data random;
     srand48_r(writer->me + 1, &random);
     uint32_t page[2 * NUMBERS];
-    for (uint32_t number = 1, refusals = 0; refusals < REFUSALS; number++) {
+    for (uint32_t number = 1, refusals = 0; refusals < TRIMMED_REFUSALS; number++) {
+        if (refusals >= REFUSALS)
+            trim(writer, nbd, draw(writer, &random));
         uint32_t sector = number <= writer->sectors / WRITERS ? (number - 1) * WRITERS + writer->me : draw(writer, &random);
         fill(page, sector, number);
         double began = seconds();
@@ -48,11 +66,8 @@ static void *write_until_refused(void *argument) {
             writer->answered++;
             continue;
         }
-        refusals++;
+        writer->refusals[refusals++] = seconds() - began;
         writer->wrong_errors += nbd_get_errno() != ENOSPC;
-        double took = seconds() - began;
-        if (took > writer->longest_refusal)
-            writer->longest_refusal = took;
     }
     nbd_close(nbd);
     return NULL;
@@ -71,6 +86,21 @@ static uint32_t wrong_pages(const char *uri, uint32_t sectors, const uint32_t *l
     return wrong;
 }
 
+// How likely the first sectors are drawn: all alike, or each by the SKEWth power of its place.
+static double *shares(uint32_t sectors, int is_zipf) {
+    double *share = calloc(sectors, sizeof *share), sum = 0;
+    for (uint32_t i = 0; i < sectors; i++)
+        share[i] = sum += is_zipf ? 1 / pow(i + 1, SKEW) : 1;
+    for (uint32_t i = 0; i < sectors; i++)
+        share[i] /= sum;
+    return share;
+}
+
+static int by_size(const void *one, const void *other) {
+    double first = *(const double *) one, second = *(const double *) other;
+    return (first > second) - (first < second);
+}
+
 int main(int count, char **words) {
     if (count != 3)
         return 2;
@@ -78,25 +108,28 @@ int main(int count, char **words) {
     uint32_t sectors = (uint32_t) (nbd_get_size(nbd) / PAGE);
     nbd_close(nbd);
     uint32_t *last = calloc(sectors, sizeof *last);
+    double *share = shares(sectors / WRITERS, strcmp(words[2], "zipf") == 0);
     struct writer writers[WRITERS];
     for (uint32_t i = 0; i < WRITERS; i++) {
-        writers[i] = (struct writer){
-            .uri = words[1], .me = i, .sectors = sectors, .last = last, .is_skewed = strcmp(words[2], "skewed") == 0};
+        writers[i] = (struct writer){.uri = words[1], .me = i, .sectors = sectors, .last = last, .share = share};
         if (pthread_create(&writers[i].thread, NULL, write_until_refused, &writers[i]))
             end("thread");
     }
     uint64_t answered = 0;
     int wrong_errors = 0;
-    double longest = 0;
+    double refusals[WRITERS * TRIMMED_REFUSALS];
     for (int i = 0; i < WRITERS; i++) {
         pthread_join(writers[i].thread, NULL);
         answered += writers[i].answered;
         wrong_errors += writers[i].wrong_errors;
-        longest = fmax(longest, writers[i].longest_refusal);
+        memcpy(refusals + i * TRIMMED_REFUSALS, writers[i].refusals, sizeof writers[i].refusals);
     }
     uint32_t wrong = wrong_pages(words[1], sectors, last);
-    printf("answered %lu, refused in at most %.1f ms, other errors %d, wrong pages %u\n", (unsigned long) answered,
-           longest * 1e3, wrong_errors, wrong);
+    qsort(refusals, WRITERS * TRIMMED_REFUSALS, sizeof *refusals, by_size);
+    printf("answered %lu, nine in ten refused within %.1f ms, all within %.1f ms, other errors %d, wrong pages %u\n",
+           (unsigned long) answered, refusals[WRITERS * TRIMMED_REFUSALS * 9 / 10] * 1e3,
+           refusals[WRITERS * TRIMMED_REFUSALS - 1] * 1e3, wrong_errors, wrong);
     free(last);
+    free(share);
     return wrong_errors || wrong;
 }
