@@ -1,4 +1,4 @@
-"""The model against rows by hand, and against the program: the same answers, the same wear, the same faults."""
+"""The model against rows by hand, and against the program: the same answers, the same wear, the same log, the same faults."""
 
 import io
 import pathlib
@@ -15,13 +15,13 @@ LONG = "".join(f"0,write,{sector},\n" for sector in (0, 1, 2, 0, 2, 0, 1, 2, 0, 
 
 
 def played(trace, words):
-    """What the program made of a trace: its status, answers, faults and wear."""
+    """What the program made of a trace: its status, answers, faults, wear and log of collections."""
     with tempfile.TemporaryDirectory() as folder:
-        wear = pathlib.Path(folder) / "wear"
-        done = subprocess.run([device.LAUNCHER, *words, "--wear", wear], input=trace, capture_output=True)
+        wear, log = (pathlib.Path(folder) / name for name in ("wear", "log"))
+        done = subprocess.run([device.LAUNCHER, *words, "--wear", wear, "--collections", log], input=trace, capture_output=True)
         # What the launcher says of the build is no fault of the trace.
         told = "".join(line for line in done.stderr.decode().splitlines(keepends=True) if not line.startswith("flashplay: "))
-        return done.returncode, done.stdout.decode(), told, wear.read_text() if wear.exists() else ""
+        return done.returncode, done.stdout.decode(), told, *(file.read_text() if file.exists() else "" for file in (wear, log))
 
 
 class Rows(unittest.TestCase):
@@ -32,7 +32,7 @@ class Rows(unittest.TestCase):
             wear, log = (pathlib.Path(folder) / name for name in ("wear", "log"))
             done = Run("model", *words.split(), "--wear", wear, "--collections", log, given=trace.encode())
             self.assertEqual(log.read_text(), HEAD + rows)
-            self.assertEqual((done.status, done.text, done.errors, wear.read_text()), played(trace.encode(), words.split()))
+            self.assertEqual((done.status, done.text, done.errors, wear.read_text(), log.read_text()), played(trace.encode(), words.split()))
 
     def test_the_collection_of_the_example_is_that_of_its_fifth_line(self):
         # Blocks 0 and 1 are full; sectors 0 and 2 are written anew, so block 0 has sector 1 alone.
@@ -53,14 +53,14 @@ class Rows(unittest.TestCase):
 
 
 class AsTheProgram(unittest.TestCase):
-    def test_random_traces_have_the_same_answers_and_wear(self):
+    def test_random_traces_have_the_same_answers_wear_and_log(self):
         seeded = random.Random(17)
         for number in range(60):
             numbers, trace = random_run(seeded)
             counted = model.Model(**numbers)
             answers = "".join(counted.play(trace.encode()))
             with self.subTest(number=number, device=numbers):
-                self.assertEqual(played(trace.encode(), device.words_of(numbers)), (0, answers, "", counted.wear()))
+                self.assertEqual(played(trace.encode(), device.words_of(numbers)), (0, answers, "", counted.wear(), counted.log()))
 
     def test_odd_traces_mean_the_same_and_have_the_same_faults(self):
         words = "--blocks 3 --pages 2 --words 1 --sectors 3 --endurance 10".split()
@@ -72,7 +72,7 @@ class AsTheProgram(unittest.TestCase):
         ]
         for record in records:
             with self.subTest(record):
-                status, answers, told, _ = played(record, words)
+                status, answers, told, *_ = played(record, words)
                 done = Run("model", *words, given=record)
                 self.assertEqual((done.status, done.text, done.errors.removeprefix("model: ")), (status, answers, told))
 
@@ -82,7 +82,7 @@ class AsTheProgram(unittest.TestCase):
             "--endurance 0", "--endurance 1000001", "--blocks 4096 --words 512", "--sectors 4032", "--luns 9 --blocks 2",
         ):
             with self.subTest(words):
-                status, answers, told, _ = played(b"", words.split())
+                status, answers, told, *_ = played(b"", words.split())
                 done = Run("model", *words.split())
                 self.assertEqual((done.status, done.text, done.errors.removeprefix("model: ")), (status, answers, told))
                 self.assertEqual(status, 2)

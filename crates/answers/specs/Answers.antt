@@ -83,6 +83,21 @@ abbrev pub wear_line : ℕ → ℕ → ℕ → Bool → List ℕ
 wear_line block erases live retired =
     decimal block ++ codes "," ++ decimal erases ++ codes "," ++ decimal live ++ codes "," ++ decimal (if retired then 1 else 0) ++ codes "\n"
 
+-- the names of what is told of each collection
+abbrev pub collection_names : List ℕ
+collection_names = codes "line,victim,copied,copybacks,erases,outcome\n"
+
+-- what becomes of a victim: it is free for the next collection, or retired
+abbrev pub outcome_text : Bool → List ℕ
+outcome_text retired = if retired then codes "retired" else codes "freed"
+
+-- the line of a collection: the line of the trace that it is for, its victim, the pages copied, how many of these by
+-- copyback, the victim's erases after it, and what becomes of the victim
+abbrev pub collection_line : ℕ → ℕ → ℕ → ℕ → ℕ → Bool → List ℕ
+collection_line line victim copied copybacks erases retired =
+    decimal line ++ codes "," ++ decimal victim ++ codes "," ++ decimal copied ++ codes "," ++ decimal copybacks ++ codes "," ++ decimal erases ++ codes ","
+    ++ outcome_text retired ++ codes "\n"
+
 -- the last line of a run of several threads
 abbrev pub end_text : List ℕ
 end_text = codes "end\n"

@@ -1,7 +1,7 @@
 //! The lines of a run's output, put into a buffer; each says where it ends.
 ghost use Rattle.std.specs.Prelude.{◌≡◌, ◌+◌, ◌*◌, ◌≤◌, ◌++◌, codes, length};
 ghost use Rattle.hex.specs.Hex.{encode_lower};
-ghost use Rattle.answers.specs.Answers.{end_text, line_text, totals_text, wear_line, wear_names};
+ghost use Rattle.answers.specs.Answers.{collection_line, collection_names, end_text, line_text, totals_text, wear_line, wear_names};
 ghost use Rattle.answers.specs.Placed.{Placed};
 ghost use Rattle.answers.specs.Replies.{reply_text};
 ghost use Rattle.answers.specs.declared.reply.Reply.TheVariants as replies;
@@ -9,11 +9,14 @@ ghost use Rattle.answers.specs.declared.reply.Reply.TheVariants as replies;
 use crate::numbering::Numbering;
 use crate::reply::Reply;
 use crate::text::{SHORT_BYTES, put_number, put_page, put_short};
-use crate::words::{BLOCK_ERASES, END, END_COMMA, LIVE_RETIRED, op_word, reply_word};
+use crate::words::{
+    BLOCK_ERASES, COPIED_COPYBACKS, END, END_COMMA, ERASES_OUTCOME, LINE_VICTIM, LIVE_RETIRED,
+    op_word, outcome_word, reply_word,
+};
 use trace::Op;
 
 /// The most bytes of a line beside those of its page, with what is stored behind them.
-pub const LINE_BYTES: usize = 96;
+pub const LINE_BYTES: usize = 128;
 
 /// How many bytes of output are handed on at once.
 pub const PIECE_BYTES: usize = 65_536;
@@ -99,4 +102,36 @@ pub fn put_wear(
     let second = put_number(buffer, first, u64::from(erases), b',');
     let third = put_number(buffer, second, u64::from(live), b',');
     put_number(buffer, third, u64::from(retired), b'\n')
+}
+
+/// Puts the names of what is told of each
+pub fn put_collection_names(buffer: &mut [u8], at: usize) -> usize
+    requires { at + LINE_BYTES ≤ length buffer.old }
+    ensures { Placed buffer.old buffer.new at collection_names result }
+{
+    let first = put_short(buffer, at, &LINE_VICTIM);
+    let second = put_short(buffer, first, &COPIED_COPYBACKS);
+    put_short(buffer, second, &ERASES_OUTCOME)
+}
+
+/// Puts the line of a
+pub fn put_collection(
+    buffer: &mut [u8],
+    at: usize,
+    line: u64,
+    victim: u32,
+    copied: u32,
+    copybacks: u32,
+    erases: u32,
+    retired: bool,
+) -> usize
+    requires { at + LINE_BYTES ≤ length buffer.old }
+    ensures { Placed buffer.old buffer.new at (collection_line line victim copied copybacks erases retired) result }
+{
+    let first = put_number(buffer, at, line, b',');
+    let second = put_number(buffer, first, u64::from(victim), b',');
+    let third = put_number(buffer, second, u64::from(copied), b',');
+    let fourth = put_number(buffer, third, u64::from(copybacks), b',');
+    let fifth = put_number(buffer, fourth, u64::from(erases), b',');
+    put_short(buffer, fifth, outcome_word(retired))
 }

@@ -3,7 +3,7 @@ ghost use Rattle.std.specs.Io.KnownBytes.{Appends};
 ghost use Rattle.geometry.specs.Geometry.{page_bytes_of};
 ghost use Rattle.hex.specs.Hex.{encode_lower};
 ghost use Rattle.trace.specs.Watched.{failures_of, inner_of};
-ghost use Rattle.answers.specs.Answers.{end_text, line_text, totals_text, wear_line, wear_names};
+ghost use Rattle.answers.specs.Answers.{collection_line, collection_names, end_text, line_text, totals_text, wear_line, wear_names};
 ghost use Rattle.answers.specs.Delivery.{AppendsBeginning, IsUnderWay};
 ghost use Rattle.answers.specs.Lines.{page_digits_of, waiting_of};
 ghost use Rattle.answers.specs.Replies.{reply_text};
@@ -12,7 +12,8 @@ ghost use Rattle.answers.specs.declared.reply.Reply.TheVariants as replies;
 
 use crate::delivery::{OutputFailed, send};
 use crate::line::{
-    LINE_BYTES, PIECE_BYTES, put_end, put_line, put_totals, put_wear, put_wear_names,
+    LINE_BYTES, PIECE_BYTES, put_collection, put_collection_names, put_end, put_line, put_totals,
+    put_wear, put_wear_names,
 };
 use crate::lines::Lines;
 use crate::numbering::Numbering;
@@ -90,6 +91,42 @@ impl Lines {
         ensures page { page_digits_of self.new ≡ page_digits_of self.old }
     {
         self.used = put_wear(&mut self.buffer, self.used, block, erases, live, retired);
+    }
+
+    /// Adds the names of what is told of each collection.
+    pub fn collection_names(&mut self)
+        requires room { length (waiting_of self.old) ≤ PIECE_BYTES }
+        ensures waiting { waiting_of self.new ≡ waiting_of self.old ++ collection_names }
+        ensures page { page_digits_of self.new ≡ page_digits_of self.old }
+    {
+        self.used = put_collection_names(&mut self.buffer, self.used);
+    }
+
+    /// Adds the line of a collection: the line of the trace that it is for, its victim, its copies, how many of them are
+    /// copybacks, the victim's erases, and whether it is retired.
+    pub fn collection(
+        &mut self,
+        line: u64,
+        victim: u32,
+        copied: u32,
+        copybacks: u32,
+        erases: u32,
+        retired: bool,
+    )
+        requires room { length (waiting_of self.old) ≤ PIECE_BYTES }
+        ensures waiting { waiting_of self.new ≡ waiting_of self.old ++ collection_line line victim copied copybacks erases retired }
+        ensures page { page_digits_of self.new ≡ page_digits_of self.old }
+    {
+        self.used = put_collection(
+            &mut self.buffer,
+            self.used,
+            line,
+            victim,
+            copied,
+            copybacks,
+            erases,
+            retired,
+        );
     }
 
     /// Hands on the lines that wait.

@@ -1,6 +1,7 @@
 //! The words of the lines, each with the byte behind it.
 ghost use Rattle.std.specs.Prelude.{◌≡◌, ◌≤◌, [], ◌++◌, codes};
 ghost use Rattle.trace.specs.Trace.{name_of};
+ghost use Rattle.answers.specs.Answers.{outcome_text};
 ghost use Rattle.answers.specs.Placed.{short_of};
 ghost use Rattle.answers.specs.Replies.{reply_text};
 
@@ -82,6 +83,39 @@ pub(crate) static LIVE_RETIRED: Short = Short {
     bytes: *b"live,retired\n\0\0\0",
     len: 13,
 };
+
+pub(crate) static LINE_VICTIM: Short = Short {
+    bytes: *b"line,victim,\0\0\0\0",
+    len: 12,
+};
+
+pub(crate) static COPIED_COPYBACKS: Short = Short {
+    bytes: *b"copied,copybacks",
+    len: 16,
+};
+
+pub(crate) static ERASES_OUTCOME: Short = Short {
+    bytes: *b",erases,outcome\n",
+    len: 16,
+};
+
+static FREED: Short = Short {
+    bytes: *b"freed\n\0\0\0\0\0\0\0\0\0\0",
+    len: 6,
+};
+
+static RETIRED: Short = Short {
+    bytes: *b"retired\n\0\0\0\0\0\0\0\0",
+    len: 8,
+};
+
+/// What becomes of a collection's victim.
+pub(crate) fn outcome_word(retired: bool) -> &'static Short
+    ensures text { short_of result.now ≡ outcome_text retired ++ codes "\n" }
+    ensures short { result.now.len ≤ SHORT_BYTES }
+{
+    if retired { &RETIRED } else { &FREED }
+}
 
 /// The op's name.
 #[inline(always)]

@@ -4,7 +4,7 @@
 
 mod out_file;
 
-use out_file::OutFile;
+use out_file::{OutFile, Place};
 use player::{RunFiles, Stop, Watched, read_words, session, tell};
 use std::io::Write;
 use std::process::ExitCode;
@@ -37,8 +37,10 @@ fn play<T: Threads + Wait + Clock + Sync, E: Write>(
     }
     let mut input = Watched::new(rt.stdin());
     let mut output = Watched::new(rt.stdout());
+    let opened = Place::new(None);
     let mut files = RunFiles {
-        wear: Watched::new(OutFile::new(rt)),
+        collections: Watched::new(OutFile::new(rt, &opened)),
+        wear: Watched::new(OutFile::new(rt, &opened)),
     };
     Ok(session(
         threads,

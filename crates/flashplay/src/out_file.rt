@@ -1,13 +1,19 @@
 use player::{NamedFile, OpenFault};
+use std::cell::Cell;
 use std::fs::{self, File, Metadata, OpenOptions};
 use std::io;
 use std::io::Write;
 use std::os::unix::fs::{FileTypeExt, MetadataExt};
 
+/// Where the run's file stands that was opened last, by its device and its number there.
+pub type Place = Cell<Option<(u64, u64)>>;
+
 /// A file that a run writes beside its answers. What stood in it goes when its first bytes are written.
 #[derive(Drop)]
 pub struct OutFile<'a> {
     runtime: &'a HostRuntime,
+    // That of another file of the run, until this one is opened.
+    other: &'a Place,
     file: Option<File>,
     // Whether bytes of another run may stand in it.
     is_old: bool,
@@ -15,9 +21,10 @@ pub struct OutFile<'a> {
 
 impl<'a> OutFile<'a> {
     /// A file that is not open.
-    pub fn new(runtime: &'a HostRuntime) -> OutFile<'a> {
+    pub fn new(runtime: &'a HostRuntime, other: &'a Place) -> OutFile<'a> {
         OutFile {
             runtime,
+            other,
             file: None,
             is_old: false,
         }
@@ -27,9 +34,12 @@ impl<'a> OutFile<'a> {
 impl NamedFile for OutFile<'_> {
     fn open(&mut self, name: &str) -> Result<(), OpenFault> {
         let (file, found) = open(self.runtime, name).map_err(|_| OpenFault::Refused)?;
-        if is_in_use(self.runtime, &found) {
+        let place = Some((found.dev(), found.ino()));
+        let is_shared = self.other.get() == place && !found.file_type().is_char_device();
+        if is_shared || is_in_use(self.runtime, &found) {
             return Err(OpenFault::InUse);
         }
+        self.other.set(place);
         self.file = Some(file);
         self.is_old = found.is_file();
         Ok(())

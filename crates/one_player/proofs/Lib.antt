@@ -1,2 +1,4 @@
 mod Plays
 pub mod WearTexts
+pub mod LogTexts
+pub mod Made

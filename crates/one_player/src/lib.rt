@@ -2,8 +2,12 @@
 #![tactic(auto)]
 
 mod desk;
+mod files;
+mod log;
+mod logged;
 mod one_thread;
 mod perform;
 mod wear;
 
-pub use one_thread::{run, run_with_wear};
+pub use files::{RunFiles, Wanted, Written};
+pub use one_thread::{run, run_with_files};

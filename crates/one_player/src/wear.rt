@@ -3,20 +3,39 @@ ghost use Rattle.ftl_one.specs.OneFtl.{geometry_of, stock_of};
 ghost use Rattle.trace.specs.Watched.{failures_of};
 ghost use Rattle.answers.specs.Lines.{waiting_of};
 ghost use Rattle.answers.specs.Streams.{Sends, SendsBeginning, over};
+ghost use Rattle.one_player.specs.Files.{EndsText};
 ghost use Rattle.one_player.specs.Wear.{wear_text};
 
 use crate::desk::Desk;
+use crate::log::Log;
 use answers::OutputFailed;
 use ftl_one::OneFtl;
 use std::io::Write;
 use trace::Watched;
 
-/// A device after its run, and the desk, on which no line waits.
+/// A device after its run, the desk, on which no line waits, and the log of its collections.
 #[derive(Drop)]
 pub struct Played {
     pub ftl: OneFtl,
     pub desk: Desk,
+    pub log: Log,
     pub ghost sent: { waiting_of desk.lines ≡ [] },
+}
+
+/// Writes the wear of each block of a device, where it is wanted.
+pub fn tell_wear_if<V: Write>(
+    wanted: bool,
+    ftl: &OneFtl,
+    desk: &mut Desk,
+    wear: &mut Watched<V>,
+) -> Result<(), OutputFailed>
+    requires lines { waiting_of desk.old.lines ≡ [] }
+    ensures { EndsText wanted (wear_text (geometry_of ftl.now) (stock_of ftl.now)) (over V.contents wear.old wear.new) result }
+{
+    if !wanted {
+        return Ok(());
+    }
+    tell_wear(ftl, desk, wear)
 }
 
 /// Writes the wear of each block of a device.

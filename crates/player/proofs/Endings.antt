@@ -1,17 +1,20 @@
 -- How a session ends, by how its run did.
-use Rattle.std.proofs.Common.{◌≡◌, ◌≢◌, ◌∙◌, ℕ, List, None, Some, Bor, Option, refl, inl, inr, ap, subst, sym}
-use Rattle.std.specs.Prelude.{Result, Ok, Err, OnErr, OnOk, is_some}
+use Rattle.std.proofs.Common.{◌≡◌, ◌≢◌, ◌∙◌, ℕ, Bool, true, false, List, None, Some, Option, refl, inl, inr, ap, subst, sym}
+use Rattle.std.specs.Prelude.{⊤, MatchOption, Result, Ok, Err, OnErr, OnOk, is_some, option_map}
 use Rattle.geometry.specs.declared.geometry.Geometry.{Geometry}
 use Rattle.trace.specs.declared.named_file.OpenFault.{OpenFault}
 use Rattle.trace.specs.declared.named_file.OpenFault.TheVariants as open_fault
-use Rattle.answers.specs.Outcome.{ExplainsRun}
-use Rattle.answers.specs.Streams.{Passage, Stream, Tells}
+use Rattle.answers.specs.Streams.{Passage, Stream}
+use Rattle.answers.specs.declared.delivery.OutputFailed.{OutputFailed}
 use Rattle.answers.specs.declared.fault.RunFault.{RunFault}
+use Rattle.answers.specs.declared.fault.RunFault.TheVariants as run
 use Rattle.clap.specs.Words.{HasKind, IsAmong, Kinds, Text, kind_of}
 use Rattle.clap.specs.declared.error.Error.{Error}
 use Rattle.clap.specs.declared.error.kind.ErrorKind.{ErrorKind}
 use Rattle.clap.specs.declared.error.kind.ErrorKind.TheVariants as kind
 use Rattle.player.specs.CommandLine.{faults_given}
+use Rattle.one_player.specs.Collections.{IsLogOf}
+use Rattle.one_player.specs.Files.{EndsFile, LeavesLog}
 use Rattle.one_player.specs.Wear.{IsWearOf}
 use Rattle.player.specs.declared.command_line.Options.{Options}
 use Rattle.player.specs.declared.run_files.FileStop.{FileStop}
@@ -19,69 +22,129 @@ use Rattle.player.specs.declared.run_files.FileStop.TheVariants as file_stop
 use Rattle.player.specs.declared.run_files.RunFile.TheVariants as run_file
 use Rattle.player.specs.declared.stop.Stop.{Stop}
 use Rattle.player.specs.declared.stop.Stop.TheVariants as stop
-use Rattle.player.specs.Session.{Answered, AnswersClap, AreUntouched, AsksClap, EndsWithWear, Explains, ExplainsWear, Filing, Filings, HasFailedToOpen, IsDescribed, IsIdle, IsOpenedForWear, LosesWearOf, PlaysAlone, TellsWear, stop_of_open}
-use Rattle.player.proofs.RunTexts.{one_text, one_why}
+use Rattle.player.specs.Session.{Answered, AnswersClap, AreUntouched, AsksClap, EndsOn, Explains, Filing, Filings, IsDescribed, IsIdle, IsOpened, IsUntouched, LeavesFiles, LosesFile, LosesOn, OpensFiles, PlaysOn, TellsFile, TellsFiles, name_given, outcome_of, stop_of_open}
 
--- where no file is named, nothing is told
-pub none_told : (geo : Geometry) (given : Options) (input : Stream) (wear : Filing) → given.wear ≡ None → wear.stream.after ≡ wear.stream.before → TellsWear geo given input wear
-none_told geo given input wear is untouched = rw is untouched
+-- what two claims come to, by how a file was written
+abbrev pub ByEnd : Result (Unit {0}) OutputFailed → Type 0 → Type 0 → Type 0
+ByEnd (Ok _) told lost = told
+ByEnd (Err _) told lost = lost
 
--- where a file is named, the wear is told
-some_told : (geo : Geometry) (given : Options) (input : Stream) (wear : Filing) (name : Bor Text) → given.wear ≡ Some name → wear.is_opened_as name.now → wear.stream.after.failures ≡ wear.stream.before.failures → Tells (IsWearOf geo) input wear.stream → TellsWear geo given input wear
-some_told geo given input wear name is opened unfailed text = rw is (opened, unfailed, text)
+is_some_map : {X Y : Type 0} (f : X → Y) (o : Option X) → is_some o ≡ is_some (option_map f o)
+is_some_map f None = refl
+is_some_map f (Some x) = refl
 
-opened_for : (given : Options) (wear : Filing) (name : Bor Text) → given.wear ≡ Some name → wear.is_opened_as name.now → IsOpenedForWear given wear
-opened_for given wear name is opened = rw is opened
+by_end : (asked : Option Text) (IsTextOf : List ℕ → List ℕ → Type 0) (input : Stream) (is_opened_as : Text → Type 0) (old new : Stream) (r : Result (Unit {0}) OutputFailed)
+    → MatchOption asked ⊤ (λ name. is_opened_as name) → EndsFile (is_some asked) IsTextOf input (record { before = old; after = new }) r
+    → ByEnd r (TellsFile asked IsTextOf input (record { is_opened_as = is_opened_as; stream = record { before = old; after = new } }))
+    (LosesFile asked IsTextOf input (record { is_opened_as = is_opened_as; stream = record { before = old; after = new } }))
+by_end None IsTextOf input is_opened_as old new (Ok _) opened same = same
+by_end None IsTextOf input is_opened_as old new (Err _) opened never = absurd never
+by_end (Some name) IsTextOf input is_opened_as old new (Ok _) opened (unfailed, tells) = (opened, unfailed, tells)
+by_end (Some name) IsTextOf input is_opened_as old new (Err _) opened (failed, part) = (opened, failed, part)
 
--- what one thread played is the answer of the session
-abbrev answered_alone : (words : List Text) (geo : Geometry) (device : IsDescribed words geo) (input output : Passage) → PlaysAlone geo input output → Answered words input output
-answered_alone words geo device input output plays = record {
+-- a file that was opened by its name
+pub opened_some : {X : Type 0} (f : X → Text) (o : Option X) (x : X) (file : Filing) → o ≡ Some x → file.is_opened_as (f x) → IsUntouched file → IsOpened (option_map f o) file
+opened_some {X} f o x file is opened same = (subst (λ (q : Option X). MatchOption (option_map f q) ⊤ (λ name. file.is_opened_as name)) (sym is) opened, same)
+
+-- a file that was opened, and then written where it is named
+pub file_ended : {X : Type 0} (f : X → Text) (o : Option X) (wanted : Bool) (IsTextOf : List ℕ → List ℕ → Type 0) (input : Stream) (is_opened_as : Text → Type 0) (old mid new : Stream) (r : Result (Unit {0}) OutputFailed)
+    → IsOpened (option_map f o) (record { is_opened_as = is_opened_as; stream = record { before = old; after = mid } }) → wanted ≡ is_some o
+    → EndsFile wanted IsTextOf input (record { before = mid; after = new }) r
+    → ByEnd r (TellsFile (option_map f o) IsTextOf input (record { is_opened_as = is_opened_as; stream = record { before = old; after = new } }))
+    (LosesFile (option_map f o) IsTextOf input (record { is_opened_as = is_opened_as; stream = record { before = old; after = new } }))
+file_ended f o wanted IsTextOf input is_opened_as old mid new r (opened, same) asked ends =
+    by_end (option_map f o) IsTextOf input is_opened_as old new r opened
+    (subst (λ (s : Stream). EndsFile (is_some (option_map f o)) IsTextOf input (record { before = s; after = new }) r) same
+    (subst (λ w. EndsFile w IsTextOf input (record { before = mid; after = new }) r) (asked ∙ is_some_map f o) ends))
+
+-- a run ends by how its log and its wear were written
+pub run_ended : (c w : Result (Unit {0}) OutputFailed) (geo : Geometry) (given : Options) (input output : Passage) (files : Filings) → PlaysOn geo given.patience input output
+    → ByEnd c (TellsFile (name_given run_file.Collections given) (IsLogOf geo) input.before files.collections) (LosesFile (name_given run_file.Collections given) (IsLogOf geo) input.before files.collections)
+    → ByEnd w (TellsFile (name_given run_file.Wear given) (IsWearOf geo) input.before files.wear) (LosesFile (name_given run_file.Wear given) (IsWearOf geo) input.before files.wear)
+    → EndsOn (outcome_of c w) geo given input output files
+run_ended (Err _) (Ok _) geo given input output files plays lost told = (plays, (lost, inl told))
+run_ended (Err _) (Err _) geo given input output files plays lost also = (plays, (lost, inr also))
+run_ended (Ok _) (Err _) geo given input output files plays told lost = (plays, (lost, told))
+run_ended (Ok _) (Ok _) geo given input output files plays collections wear = (plays, record { wear = wear; collections = collections })
+
+-- a run that stopped leaves its files, which were opened
+pub files_left : (found : RunFault) (wanted : Bool) (geo : Geometry) (given : Options) (input : Stream) (files : Filings) (mid_wear mid_log : Stream)
+    → mid_wear ≡ files.wear.stream.before → mid_log ≡ files.collections.stream.before → wanted ≡ is_some given.collections → files.wear.stream.after ≡ mid_wear
+    → LeavesLog found wanted geo input (record { before = mid_log; after = files.collections.stream.after }) → LeavesFiles found geo given input files
+files_left found wanted geo given input files mid_wear mid_log same_wear same_log asked no_wear left = (
+  no_wear ∙ same_wear,
+  subst (λ w. LeavesLog found w geo input files.collections.stream) asked
+      (subst (λ (s : Stream). LeavesLog found wanted geo input (record { before = s; after = files.collections.stream.after })) same_log left),
+)
+
+-- and where none is named there is nothing to leave
+pub nothing_left : (found : RunFault) (geo : Geometry) (given : Options) (input : Stream) (files : Filings) → is_some given.collections ≡ false → AreUntouched files → LeavesFiles found geo given input files
+nothing_left found geo given input files none (wear, same) =
+    (wear, subst (λ w. LeavesLog found w geo input files.collections.stream) (sym none) (untouched found))
+  where
+    untouched : (fault : RunFault) → LeavesLog fault false geo input files.collections.stream
+    untouched (run.Trace why) = same
+    untouched run.Memory = same
+    untouched run.Threads = same
+    untouched run.Output = same
+
+unnamed : {X : Type 0} (f : X → Text) (o : Option X) (IsTextOf : List ℕ → List ℕ → Type 0) (input : Stream) (file : Filing) → is_some o ≡ false → IsUntouched file → TellsFile (option_map f o) IsTextOf input file
+unnamed f None IsTextOf input file none same = same
+unnamed f (Some x) IsTextOf input file none same = cc
+
+pub nothing_told : (geo : Geometry) (given : Options) (input : Stream) (files : Filings) → is_some given.wear ≡ false → is_some given.collections ≡ false → AreUntouched files → TellsFiles geo given input files
+nothing_told geo given input files no_wear no_log (wear, log) = record {
+  wear = unnamed (λ name. name.now) given.wear (IsWearOf geo) input files.wear no_wear wear;
+  collections = unnamed (λ name. name.now) given.collections (IsLogOf geo) input files.collections no_log log;
+}
+
+pub is_named : {X : Type 0} (f : X → Text) (o : Option X) → is_some o ≡ true → is_some (option_map f o) ≡ true
+is_named f o some = sym (is_some_map f o) ∙ some
+
+-- a run whose files were not opened
+pub not_opened : (s : Stop) (geo : Geometry) (given : Options) (input output : Passage) (files : Filings) → OpensFiles (Err s) given files → IsIdle input output → EndsOn (Err s) geo given input output files
+not_opened (stop.Arguments text) geo given input output files never idle = absurd never
+not_opened (stop.Encoding place) geo given input output files never idle = absurd never
+not_opened (stop.Geometry found) geo given input output files never idle = absurd never
+not_opened (stop.Run found) geo given input output files never idle = absurd never
+not_opened stop.Help geo given input output files never idle = absurd never
+not_opened stop.Memory geo given input output files never idle = absurd never
+not_opened (stop.File file why) geo given input output files (fault, is, asked, fails) idle =
+    subst (λ (w : FileStop). LosesOn file w geo given input output files) (sym is) (by fault)
+  where
+    by : (f : OpenFault) → LosesOn file (stop_of_open f) geo given input output files
+    by open_fault.Refused = (asked, idle, fails)
+    by open_fault.InUse = (asked, idle, fails)
+
+-- what was played on the described device is the answer of the session
+abbrev answered_on : (words : List Text) (geo : Geometry) (device : IsDescribed words geo) (input output : Passage) → PlaysOn geo device.given.patience input output → Answered words input output
+answered_on words geo device input output plays = record {
   geo = geo;
   device = device;
   end = plays.end;
-  text = one_text device.given.patience geo _ _ _ plays.alone plays.text;
+  text = plays.text;
   input_unfailed = plays.input_unfailed;
   output_unfailed = plays.output_unfailed;
 }
 
-file_from_wear : (words : List Text) (geo : Geometry) (device : IsDescribed words geo) (name : Bor Text) (input output : Passage) (wear : Filing) (why : FileStop) → device.given.wear ≡ Some name
-    → LosesWearOf why geo name.now input output wear → ExplainsWear why words input output wear
-file_from_wear words geo device name input output wear file_stop.NotWithWorkers is (shared, idle, same) =
-    ((record { geo = geo; device = device; asked = ap is_some is }, shared), idle, same)
-file_from_wear words geo device name input output wear file_stop.NotOpened is (idle, failed) =
-    (record { geo = geo; device = device; asked = ap is_some is }, idle, failed)
-file_from_wear words geo device name input output wear file_stop.NotItsOwn is (idle, failed) =
-    (record { geo = geo; device = device; asked = ap is_some is }, idle, failed)
-file_from_wear words geo device name input output wear file_stop.Failed is (plays, opened, failed, part) = record {
-  answered = answered_alone words geo device input output plays;
-  opened = opened_for device.given wear name is opened;
-  failed = failed;
-  part = part;
-}
-
--- a run with wear ends the session as it ended itself
-pub from_wear : (words : List Text) (geo : Geometry) (device : IsDescribed words geo) (name : Bor Text) (input output : Passage) (wear : Filing) → device.given.wear ≡ Some name
-    → (r : Result (Unit {0}) Stop) → EndsWithWear r geo name.now input output wear → Explains r words input output (record { wear = wear })
-from_wear words geo device name input output wear is (Ok x) (plays, opened, unfailed, text) = inl (record {
-  answered = answered_alone words geo device input output plays;
-  told = some_told geo device.given input.before wear name is opened unfailed text;
-})
-from_wear words geo device name input output wear is (Err (stop.Arguments error)) never = absurd never
-from_wear words geo device name input output wear is (Err (stop.Encoding place)) never = absurd never
-from_wear words geo device name input output wear is (Err (stop.Geometry found)) never = absurd never
-from_wear words geo device name input output wear is (Err (stop.Run found)) (alone, why, same) =
-    (record { geo = geo; device = device; why = one_why device.given.patience geo found input output alone why }, same)
-from_wear words geo device name input output wear is (Err stop.Help) never = absurd never
-from_wear words geo device name input output wear is (Err stop.Memory) never = absurd never
-from_wear words geo device name input output wear is (Err (stop.File run_file.Wear why)) told =
-    file_from_wear words geo device name input output wear why is told
-
--- a file that was not opened
-pub not_opened : (fault : OpenFault) (why : FileStop) (geo : Geometry) (name : Text) (input output : Passage) (wear : Filing) → why ≡ stop_of_open fault → IsIdle input output → HasFailedToOpen wear.stream → LosesWearOf why geo name input output wear
-not_opened open_fault.Refused why geo name input output wear is idle failed =
-    subst (λ (w : FileStop). LosesWearOf w geo name input output wear) (sym is) (idle, failed)
-not_opened open_fault.InUse why geo name input output wear is idle failed =
-    subst (λ (w : FileStop). LosesWearOf w geo name input output wear) (sym is) (idle, failed)
+-- a run on the device ends the session as it ended itself
+pub from_run : (words : List Text) (geo : Geometry) (device : IsDescribed words geo) (input output : Passage) (files : Filings) (r : Result (Unit {0}) Stop)
+    → EndsOn r geo device.given input output files → Explains r words input output files
+from_run words geo device input output files (Ok x) (plays, told) = inl (record { answered = answered_on words geo device input output plays; told = told })
+from_run words geo device input output files (Err (stop.Arguments error)) never = absurd never
+from_run words geo device input output files (Err (stop.Encoding place)) never = absurd never
+from_run words geo device input output files (Err (stop.Geometry found)) never = absurd never
+from_run words geo device input output files (Err (stop.Run found)) (why, left) = record { geo = geo; device = device; why = why; left = left }
+from_run words geo device input output files (Err stop.Help) never = absurd never
+from_run words geo device input output files (Err stop.Memory) never = absurd never
+from_run words geo device input output files (Err (stop.File file file_stop.NotWithWorkers)) (shared, asked, idle, same) =
+    ((record { geo = geo; device = device; asked = asked }, shared), idle, same)
+from_run words geo device input output files (Err (stop.File file file_stop.NotOpened)) (asked, idle, fails) =
+    (record { geo = geo; device = device; asked = asked }, idle, fails)
+from_run words geo device input output files (Err (stop.File file file_stop.NotItsOwn)) (asked, idle, fails) =
+    (record { geo = geo; device = device; asked = asked }, idle, fails)
+from_run words geo device input output files (Err (stop.File file file_stop.Failed)) (plays, lost) =
+    record { answered = answered_on words geo device input output plays; lost = lost }
 
 pub same_stream : (a b : Stream) → a.failures ≡ b.failures → a.bytes ≡ b.bytes → a ≡ b
 same_stream a b p q =

@@ -1,6 +1,6 @@
 -- What a run tells, by whether its device has hosts.
 use Rattle.std.proofs.Common.{◌≡◌, ◌≢◌, ℕ, zero, suc, List, Option, refl, sym, subst}
-use Rattle.std.specs.Prelude.{IfErr, IfSome, OnOk, Result, Ok, Err}
+use Rattle.std.specs.Prelude.{IfSome}
 use Rattle.geometry.specs.Geometry.{hosts_of}
 use Rattle.geometry.specs.declared.geometry.Geometry.{Geometry}
 use Rattle.answers.specs.Delivery.{AppendsText}
@@ -23,18 +23,18 @@ one_why patience geo run.Threads input output none why = why
 one_why patience geo run.Output input output none (reads, failed, part) =
     (reads, failed, subst (λ h. TellsPart (IsTextBy h patience geo) input.before output) (sym none) part)
 
--- the same of a run's result
-pub text_if_ok : {T E : Type 0} (result : Result T E) (patience : ℕ) (geo : Geometry) (input : Stream) (output : Passage)
-    → hosts_of geo ≡ 0 → OnOk result (Tells (IsTextOf geo) input output) → OnOk result (Tells (IsTextFor patience geo) input output)
-text_if_ok result patience geo input output none text = subst (λ h. OnOk result (Tells (IsTextBy h patience geo) input output)) (sym none) text
-
-pub why_if_err : {T : Type 0} (result : Result T RunFault) (patience : ℕ) (geo : Geometry) (input output : Passage)
-    → hosts_of geo ≡ 0 → IfErr result (ExplainsRun IsTextOf geo input output) → IfErr result (ExplainsRun (IsTextFor patience) geo input output)
-why_if_err (Ok x) patience geo input output none why = tt
-why_if_err (Err fault) patience geo input output none why = one_why patience geo fault input output none why
-
 -- with hosts it is that of their workers
-pub shared_if_ok : {T E : Type 0} (result : Result T E) (hosts patience : ℕ) (geo : Geometry) (input : Stream) (output : Passage)
-    → hosts ≢ 0 → OnOk result (Tells (IsSharedTextOf patience geo) input output) → OnOk result (Tells (IsTextBy hosts patience geo) input output)
-shared_if_ok result zero patience geo input output some text = absurd (some refl)
-shared_if_ok result (suc others) patience geo input output some text = text
+pub shared_text : (hosts patience : ℕ) (geo : Geometry) (input : Stream) (output : Passage) → hosts ≢ 0 → Tells (IsSharedTextOf patience geo) input output → Tells (IsTextBy hosts patience geo) input output
+shared_text zero patience geo input output some text = absurd (some refl)
+shared_text (suc others) patience geo input output some text = text
+
+shared_part : (hosts patience : ℕ) (geo : Geometry) (input : Stream) (output : Passage) → hosts ≢ 0 → TellsPart (IsSharedTextOf patience geo) input output → TellsPart (IsTextBy hosts patience geo) input output
+shared_part zero patience geo input output some part = absurd (some refl)
+shared_part (suc others) patience geo input output some part = part
+
+pub shared_why : (patience : ℕ) (geo : Geometry) (fault : RunFault) (input output : Passage) → hosts_of geo ≢ 0 → ExplainsRun (IsSharedTextOf patience) geo input output fault → ExplainsRun (IsTextFor patience) geo input output fault
+shared_why patience geo (run.Trace found) input output some why = why
+shared_why patience geo run.Memory input output some why = why
+shared_why patience geo run.Threads input output some why = why
+shared_why patience geo run.Output input output some (reads, failed, part) =
+    (reads, failed, shared_part (hosts_of geo) patience geo input.before output some part)

@@ -61,9 +61,9 @@ with_numbers =
 abbrev pub with_threads : App → App
 with_threads app = with_rule (with_rule (with_rule (with_rule app (option_rule (codes "workers") (codes "0"))) (option_rule (codes "brooms") (codes "0"))) patience_rule) drains_rule
 
--- the program's command line: the numbers of a device, the threads of a run, and the file of the wear
+-- the program's command line: the numbers of a device, the threads of a run, and the files of a run
 abbrev pub flashplay : App
-flashplay = with_rule (with_threads with_numbers) (file_rule (codes "wear"))
+flashplay = with_rule (with_rule (with_threads with_numbers) (file_rule (codes "wear"))) (file_rule (codes "collections"))
 
 -- what clap finds for each option in the words of a command line, the defaults included
 unfoldable pub rows_given : List Text → List Row
@@ -86,7 +86,7 @@ IsNumberIn text default number =
 abbrev pub IsNumberOf : List Row → Text → ℕ → ℕ → Type 0
 IsNumberOf rows name default number = MatchOption (one_of name rows) (number ≡ default) (λ text. IsNumberIn text default number)
 
--- each number is the one that the matches give to its option, and so is the name of the file
+-- each number is the one that the matches give to its option, and so is the name of each file
 pub record AreOptionsOf (rows : List Row) (given : Options) : Type 0 where
   pub luns : IsNumberOf rows (codes "luns") LUNS given.luns
   pub blocks : IsNumberOf rows (codes "blocks") BLOCKS given.blocks
@@ -99,6 +99,7 @@ pub record AreOptionsOf (rows : List Row) (given : Options) : Type 0 where
   pub patience : IsNumberOf rows (codes "patience") PATIENCE given.patience
   pub drains : IsNumberOf rows (codes "drains") DRAINS given.drains
   pub wear : option_map (λ name. name.now) given.wear ≡ first_of (codes "wear") rows
+  pub collections : option_map (λ name. name.now) given.collections ≡ first_of (codes "collections") rows
 
 -- the numbers of the device that the options describe: it has a host for each worker
 abbrev pub numbers_given : Options → Numbers

@@ -1,5 +1,5 @@
 -- How a session of the program ends.
-use Rattle.std.specs.Prelude.{◌≡◌, ◌≢◌, ◌⊎◌, ℕ, zero, suc, List, [], true, MatchOption, IfSome, Option, Some, is_some, Result, Ok, Err}
+use Rattle.std.specs.Prelude.{◌≡◌, ◌≢◌, ◌⊎◌, ⊤, ℕ, zero, suc, List, [], true, MatchOption, IfSome, Option, Some, is_some, option_map, Result, Ok, Err}
 use Rattle.std.specs.Io.KnownBytes.{IsAtEnd}
 use Rattle.clap.specs.Words.{IsAmong, Text, kind_of}
 use Rattle.clap.specs.declared.error.Error.{Error}
@@ -19,8 +19,12 @@ use Rattle.trace.specs.declared.watched.Watched.{Watched}
 use Rattle.answers.specs.Streams.{Passage, Sends, SendsBeginning, Stream, Tells, TellsPart, over, stream_of}
 use Rattle.answers.specs.declared.fault.RunFault.{RunFault}
 use Rattle.answers.specs.declared.fault.RunFault.TheVariants as run
+use Rattle.answers.specs.declared.delivery.OutputFailed.{OutputFailed}
+use Rattle.one_player.specs.Collections.{IsLogOf}
+use Rattle.one_player.specs.Files.{LeavesLog}
 use Rattle.one_player.specs.Playing.{IsTextOf}
 use Rattle.one_player.specs.Wear.{IsWearOf}
+use Rattle.one_player.specs.declared.files.RunFiles.{RunFiles}
 use Rattle.shared_run.specs.Texts.{IsTextOf as IsSharedTextOf}
 use Rattle.player.specs.CommandLine.{AreOptionsOf, faults_given, numbers_given, rows_given}
 use Rattle.player.specs.Telling.{TellsEnding}
@@ -29,7 +33,6 @@ use Rattle.player.specs.declared.run_files.FileStop.{FileStop}
 use Rattle.player.specs.declared.run_files.FileStop.TheVariants as file_stop
 use Rattle.player.specs.declared.run_files.RunFile.{RunFile}
 use Rattle.player.specs.declared.run_files.RunFile.TheVariants as run_file
-use Rattle.player.specs.declared.run_files.RunFiles.{RunFiles}
 use Rattle.player.specs.declared.stop.Stop.{Stop}
 use Rattle.player.specs.declared.stop.Stop.TheVariants as stop
 
@@ -114,6 +117,7 @@ pub record Filing : Type 1 where
 -- What a clause sees of the files that a run writes beside its answers
 pub record Filings : Type 1 where
   pub wear : Filing
+  pub collections : Filing
 
 -- a file over a session, with the functions that tell its name and its bytes
 abbrev pub filing : {F : Type 0} → (F → Option Text) → (F → Option (List ℕ)) → Watched F → Watched F → Filing
@@ -121,80 +125,135 @@ filing name_in contents old new = record { is_opened_as = IsOpenedAs name_in con
 
 -- the files of a run over a session
 abbrev pub filings : {F : Type 0} → (F → Option Text) → (F → Option (List ℕ)) → RunFiles F → RunFiles F → Filings
-filings name_in contents old new = record { wear = filing name_in contents old.wear new.wear }
+filings name_in contents old new = record {
+  wear = filing name_in contents old.wear new.wear;
+  collections = filing name_in contents old.collections new.collections;
+}
+
+-- nothing was written to a file, and no call of it failed
+abbrev pub IsUntouched : Filing → Type 0
+IsUntouched file = file.stream.after ≡ file.stream.before
 
 -- nothing was written to the files, and no call of theirs failed
 abbrev pub AreUntouched : Filings → Type 0
-AreUntouched files = files.wear.stream.after ≡ files.wear.stream.before
+AreUntouched files = IsUntouched files.wear × IsUntouched files.collections
 
 -- nothing was written to a file, but a call of it failed
 abbrev pub HasFailedToOpen : Passage → Type 0
 HasFailedToOpen stream = (stream.after.bytes ≡ stream.before.bytes) × (stream.after.failures ≢ stream.before.failures)
 
--- the wear is told where the options name a file for it, which was opened by that name: that of the device after the
--- trace, and no call failed. Else nothing is told
-abbrev pub TellsWear : Geometry → Options → Stream → Filing → Type 0
-TellsWear geo given input wear =
-    MatchOption given.wear (wear.stream.after ≡ wear.stream.before)
-    (λ name. wear.is_opened_as name.now × (wear.stream.after.failures ≡ wear.stream.before.failures) × Tells (IsWearOf geo) input wear.stream)
+-- one of the files could not be opened, and the other is untouched
+abbrev pub FailsToOpen : RunFile → Filings → Type 0
+FailsToOpen run_file.Wear files = HasFailedToOpen files.wear.stream × IsUntouched files.collections
+FailsToOpen run_file.Collections files = HasFailedToOpen files.collections.stream × IsUntouched files.wear
 
--- the trace was played, and the wear told as the options want it
+-- the name that the options give to a file, if they give one
+abbrev pub name_given : RunFile → Options → Option Text
+name_given run_file.Wear given = option_map (λ name. name.now) given.wear
+name_given run_file.Collections given = option_map (λ name. name.now) given.collections
+
+-- a file is told where the options name it: it was opened by that name, what was written to it is right for the bytes of
+-- the trace, and no call failed. Else nothing is told
+abbrev pub TellsFile : Option Text → (List ℕ → List ℕ → Type 0) → Stream → Filing → Type 0
+TellsFile asked IsTextOf input file =
+    MatchOption asked (IsUntouched file)
+    (λ name. file.is_opened_as name × (file.stream.after.failures ≡ file.stream.before.failures) × Tells IsTextOf input file.stream)
+
+-- a file that the options name was opened by that name, and then failed: a beginning is told
+abbrev pub LosesFile : Option Text → (List ℕ → List ℕ → Type 0) → Stream → Filing → Type 0
+LosesFile asked IsTextOf input file =
+    MatchOption asked ⊥
+    (λ name. file.is_opened_as name × (file.stream.after.failures ≢ file.stream.before.failures) × TellsPart IsTextOf input file.stream)
+
+-- the files are told as the options want them: the wear of the device after the trace, and the log of its collections
+pub record TellsFiles (geo : Geometry) (given : Options) (input : Stream) (files : Filings) : Type 0 where
+  pub wear : TellsFile (name_given run_file.Wear given) (IsWearOf geo) input files.wear
+  pub collections : TellsFile (name_given run_file.Collections given) (IsLogOf geo) input files.collections
+
+-- this file failed as it was written. Where both did it is the log, which is written first
+abbrev pub LosesOne : RunFile → Geometry → Options → Stream → Filings → Type 0
+LosesOne run_file.Wear geo given input files =
+    LosesFile (name_given run_file.Wear given) (IsWearOf geo) input files.wear
+    × TellsFile (name_given run_file.Collections given) (IsLogOf geo) input files.collections
+LosesOne run_file.Collections geo given input files =
+    LosesFile (name_given run_file.Collections given) (IsLogOf geo) input files.collections
+    × (TellsFile (name_given run_file.Wear given) (IsWearOf geo) input files.wear
+    ⊎ LosesFile (name_given run_file.Wear given) (IsWearOf geo) input files.wear)
+
+-- what a run that stopped leaves in its files: a beginning of the log where the answers could not be written, and else nothing
+abbrev pub LeavesFiles : RunFault → Geometry → Options → Stream → Filings → Type 0
+LeavesFiles found geo given input files =
+    IsUntouched files.wear × LeavesLog found (is_some given.collections) geo input files.collections.stream
+
+-- the trace was played, and the files told as the options want them
 pub record Played (words : List Text) (input output : Passage) (files : Filings) : Type 0 where
   pub answered : Answered words input output
-  pub told : TellsWear answered.geo answered.device.given input.before files.wear
+  pub told : TellsFiles answered.geo answered.device.given input.before files
 
--- the options name a file, which was opened by that name
-abbrev pub IsOpenedForWear : Options → Filing → Type 0
-IsOpenedForWear given wear = MatchOption given.wear ⊥ (λ name. wear.is_opened_as name.now)
-
--- the trace was played, and the file for the wear could not be written: a beginning of the wear is told
-pub record LosesWear (words : List Text) (input output : Passage) (wear : Filing) : Type 0 where
+-- the trace was played, and this file could not be written
+pub record Lost (file : RunFile) (words : List Text) (input output : Passage) (files : Filings) : Type 0 where
   pub answered : Answered words input output
-  pub opened : IsOpenedForWear answered.device.given wear
-  pub failed : wear.stream.after.failures ≢ wear.stream.before.failures
-  pub part : TellsPart (IsWearOf answered.geo) input.before wear.stream
+  pub lost : LosesOne file answered.geo answered.device.given input.before files
 
--- the words describe a device, and name a file for the wear
-pub record NamesWear (words : List Text) : Type 0 where
+-- the words describe a device, and name this file
+pub record NamesFile (words : List Text) (file : RunFile) : Type 0 where
   pub geo : Geometry
   pub device : IsDescribed words geo
-  pub asked : is_some device.given.wear ≡ true
+  pub asked : is_some (name_given file device.given) ≡ true
 
 -- nothing was read, and nothing written to the output
 abbrev pub IsIdle : Passage → Passage → Type 0
 IsIdle input output = (input.after ≡ input.before) × (output.after ≡ output.before)
 
--- one thread played the trace
-pub record PlaysAlone (geo : Geometry) (input output : Passage) : Type 0 where
-  pub alone : hosts_of geo ≡ 0
+-- the trace was played on a device: the input was read to its end, the text of all its bytes was written, and no call failed
+pub record PlaysOn (geo : Geometry) (patience : ℕ) (input output : Passage) : Type 0 where
   pub end : IsAtEnd input.after.bytes
-  pub text : Tells (IsTextOf geo) input.before output
+  pub text : Tells (IsTextFor patience geo) input.before output
   pub input_unfailed : input.after.failures ≡ input.before.failures
   pub output_unfailed : output.after.failures ≡ output.before.failures
 
--- why the wear of a run is not told, on a device
-abbrev pub LosesWearOf : FileStop → Geometry → Text → Passage → Passage → Filing → Type 0
-LosesWearOf file_stop.NotWithWorkers geo name input output wear =
-    (hosts_of geo ≢ 0) × IsIdle input output × (wear.stream.after ≡ wear.stream.before)
-LosesWearOf file_stop.NotOpened geo name input output wear = IsIdle input output × HasFailedToOpen wear.stream
-LosesWearOf file_stop.NotItsOwn geo name input output wear = IsIdle input output × HasFailedToOpen wear.stream
-LosesWearOf file_stop.Failed geo name input output wear =
-    PlaysAlone geo input output × wear.is_opened_as name × (wear.stream.after.failures ≢ wear.stream.before.failures)
-    × TellsPart (IsWearOf geo) input.before wear.stream
+-- why a file of a run on a device is not told
+abbrev pub LosesOn : RunFile → FileStop → Geometry → Options → Passage → Passage → Filings → Type 0
+LosesOn file file_stop.NotWithWorkers geo given input output files =
+    (hosts_of geo ≢ 0) × (is_some (name_given file given) ≡ true) × IsIdle input output × AreUntouched files
+LosesOn file file_stop.NotOpened geo given input output files = (is_some (name_given file given) ≡ true) × IsIdle input output × FailsToOpen file files
+LosesOn file file_stop.NotItsOwn geo given input output files = (is_some (name_given file given) ≡ true) × IsIdle input output × FailsToOpen file files
+LosesOn file file_stop.Failed geo given input output files =
+    PlaysOn geo given.patience input output × LosesOne file geo given input.before files
 
--- how a run by one thread that tells its wear ended, by the name of the file
-abbrev pub EndsWithWear : Result (Unit {0}) Stop → Geometry → Text → Passage → Passage → Filing → Type 0
-EndsWithWear (Ok _) geo name input output wear =
-    PlaysAlone geo input output × wear.is_opened_as name
-    × (wear.stream.after.failures ≡ wear.stream.before.failures) × Tells (IsWearOf geo) input.before wear.stream
-EndsWithWear (Err (stop.Arguments text)) geo name input output wear = ⊥
-EndsWithWear (Err (stop.Encoding place)) geo name input output wear = ⊥
-EndsWithWear (Err (stop.Geometry found)) geo name input output wear = ⊥
-EndsWithWear (Err (stop.Run found)) geo name input output wear =
-    (hosts_of geo ≡ 0) × ExplainsRun IsTextOf geo input output found × (wear.stream.after ≡ wear.stream.before)
-EndsWithWear (Err stop.Help) geo name input output wear = ⊥
-EndsWithWear (Err stop.Memory) geo name input output wear = ⊥
-EndsWithWear (Err (stop.File run_file.Wear why)) geo name input output wear = LosesWearOf why geo name input output wear
+-- how a run on a device ended, by the options
+abbrev pub EndsOn : Result (Unit {0}) Stop → Geometry → Options → Passage → Passage → Filings → Type 0
+EndsOn (Ok _) geo given input output files = PlaysOn geo given.patience input output × TellsFiles geo given input.before files
+EndsOn (Err (stop.Arguments text)) geo given input output files = ⊥
+EndsOn (Err (stop.Encoding place)) geo given input output files = ⊥
+EndsOn (Err (stop.Geometry found)) geo given input output files = ⊥
+EndsOn (Err (stop.Run found)) geo given input output files =
+    ExplainsRun (IsTextFor given.patience) geo input output found × LeavesFiles found geo given input.before files
+EndsOn (Err stop.Help) geo given input output files = ⊥
+EndsOn (Err stop.Memory) geo given input output files = ⊥
+EndsOn (Err (stop.File file why)) geo given input output files = LosesOn file why geo given input output files
+
+-- a file that the options name was opened by that name, and no byte of it changed
+abbrev pub IsOpened : Option Text → Filing → Type 0
+IsOpened asked file = MatchOption asked ⊤ (λ name. file.is_opened_as name) × IsUntouched file
+
+-- the files that the options name were opened, or one of them was not
+abbrev pub OpensFiles : Result (Unit {0}) Stop → Options → Filings → Type 0
+OpensFiles (Ok _) given files = IsOpened (name_given run_file.Wear given) files.wear × IsOpened (name_given run_file.Collections given) files.collections
+OpensFiles (Err (stop.Arguments text)) given files = ⊥
+OpensFiles (Err (stop.Encoding place)) given files = ⊥
+OpensFiles (Err (stop.Geometry found)) given files = ⊥
+OpensFiles (Err (stop.Run found)) given files = ⊥
+OpensFiles (Err stop.Help) given files = ⊥
+OpensFiles (Err stop.Memory) given files = ⊥
+OpensFiles (Err (stop.File file why)) given files =
+    (fault : OpenFault) × (why ≡ stop_of_open fault) × (is_some (name_given file given) ≡ true) × FailsToOpen file files
+
+-- how a run ends by how its log and its wear were written: the first one that failed is told
+abbrev pub outcome_of : Result (Unit {0}) OutputFailed → Result (Unit {0}) OutputFailed → Result (Unit {0}) Stop
+outcome_of (Err _) wear = Err (stop.File run_file.Collections file_stop.Failed)
+outcome_of (Ok _) (Err _) = Err (stop.File run_file.Wear file_stop.Failed)
+outcome_of (Ok done) (Ok _) = Ok done
 
 -- the words ask for help or for the version, which clap counts among its faults
 abbrev pub AsksClap : ErrorKind → Type 0
@@ -211,10 +270,11 @@ pub record Helped (words : List Text) (input output : Passage) : Type 0 where
   pub unfailed : output.after.failures ≡ output.before.failures
 
 -- a run on the described device stopped
-pub record Stopped (words : List Text) (found : RunFault) (input output : Passage) : Type 0 where
+pub record Stopped (words : List Text) (found : RunFault) (input output : Passage) (files : Filings) : Type 0 where
   pub geo : Geometry
   pub device : IsDescribed words geo
   pub why : ExplainsRun (IsTextFor device.given.patience) geo input output found
+  pub left : LeavesFiles found geo device.given input.before files
 
 -- some of a text went out, and then the writer failed
 pub record AppendsSome (output : Passage) : Type 0 where
@@ -222,20 +282,13 @@ pub record AppendsSome (output : Passage) : Type 0 where
   pub part : SendsBeginning output text
   pub failed : output.after.failures ≢ output.before.failures
 
--- why the file of the wear was not written: workers are asked for, it was not opened, or it failed as it was written
-abbrev pub ExplainsWear : FileStop → List Text → Passage → Passage → Filing → Type 0
-ExplainsWear file_stop.NotWithWorkers words input output wear =
-    ((named : NamesWear words) × (hosts_of named.geo ≢ 0)) × IsIdle input output × (wear.stream.after ≡ wear.stream.before)
-ExplainsWear file_stop.NotOpened words input output wear =
-    NamesWear words × IsIdle input output × HasFailedToOpen wear.stream
-ExplainsWear file_stop.NotItsOwn words input output wear =
-    NamesWear words × IsIdle input output × HasFailedToOpen wear.stream
-ExplainsWear file_stop.Failed words input output wear =
-    LosesWear words input output wear
-
--- why a file of a run was not written
+-- why a file of a run was not written: workers are asked for, it was not opened, or it failed as it was written
 abbrev pub ExplainsFile : RunFile → FileStop → List Text → Passage → Passage → Filings → Type 0
-ExplainsFile run_file.Wear why words input output files = ExplainsWear why words input output files.wear
+ExplainsFile file file_stop.NotWithWorkers words input output files =
+    ((named : NamesFile words file) × (hosts_of named.geo ≢ 0)) × IsIdle input output × AreUntouched files
+ExplainsFile file file_stop.NotOpened words input output files = NamesFile words file × IsIdle input output × FailsToOpen file files
+ExplainsFile file file_stop.NotItsOwn words input output files = NamesFile words file × IsIdle input output × FailsToOpen file files
+ExplainsFile file file_stop.Failed words input output files = Lost file words input output files
 
 -- clap finds a fault in the words, which asks neither for help nor for the version
 pub record IsRefused (words : List Text) : Type 0 where
@@ -250,7 +303,7 @@ pub record AsksForText (words : List Text) : Type 0 where
   pub is_request : AsksClap (kind_of error)
 
 -- why a session stopped. Nothing is on the output but after `Output` of a run, `Help` and `Failed` of a file, nothing was
--- read but by a run, and nothing is told in a file but with its `Failed`
+-- read but by a run, and nothing is told in a file but after `Output` of a run and with the `Failed` of a file
 abbrev pub ExplainsStop : Stop → List Text → Passage → Passage → Filings → Type 0
 ExplainsStop (stop.Arguments text) words input output files =
     IsRefused words × IsIdle input output × AreUntouched files
@@ -258,7 +311,7 @@ ExplainsStop (stop.Encoding place) words input output files = ⊥
 ExplainsStop (stop.Geometry found) words input output files =
     DescribesNone words found × IsIdle input output × AreUntouched files
 ExplainsStop (stop.Run found) words input output files =
-    Stopped words found input output × AreUntouched files
+    Stopped words found input output files
 ExplainsStop stop.Help words input output files =
     AsksForText words × (input.after ≡ input.before) × AppendsSome output × AreUntouched files
 ExplainsStop stop.Memory words input output files =

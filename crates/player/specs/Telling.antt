@@ -13,6 +13,7 @@ use Rattle.player.specs.declared.stop.Stop.TheVariants as stop
 -- the name of a file of a run
 abbrev pub file_name : RunFile → List ℕ
 file_name run_file.Wear = codes "wear"
+file_name run_file.Collections = codes "collections"
 
 -- why a file of a run was not written
 abbrev pub file_text : FileStop → List ℕ

@@ -39,6 +39,7 @@ fn options_in<'a>(matches: &ArgMatches<'a>) -> Options<'a>
         patience: number(matches, "patience", PATIENCE),
         drains: number(matches, "drains", DRAINS),
         wear: matches.get_str("wear"),
+        collections: matches.get_str("collections"),
     }
 }
 
@@ -129,11 +130,17 @@ const NUMBERS: [NumberOption; 10] = [
 fn flashplay<'a>(alloc: Global) -> Result<Command<'a>, AllocError>
     ensures { IfOk result (λ command. app_of command ≡ flashplay) }
 {
-    number_options(alloc)?.arg(file(
-        alloc,
-        "wear",
-        "Writes each block's erases and live pages to this file after the run",
-    ))
+    number_options(alloc)?
+        .arg(file(
+            alloc,
+            "wear",
+            "Writes each block's erases and live pages to this file after the run",
+        ))?
+        .arg(file(
+            alloc,
+            "collections",
+            "Writes a line for each collection to this file, as they are made",
+        ))
 }
 
 // The command with the options of whole numbers.

@@ -34,4 +34,6 @@ pub struct Options<'a> {
     pub drains: u32,
     /// The file for the wear of each block.
     pub wear: Option<&'a str>,
+    /// The file for the collections, as they are made.
+    pub collections: Option<&'a str>,
 }

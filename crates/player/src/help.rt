@@ -37,8 +37,8 @@ Faults, on standard error:
                     of the LUNs; Passes: too many workers or brooms, or brooms without workers; TooManyWords: the device is
                     too large; TooFewBlocks: too many sectors for the blocks: give more blocks or fewer sectors
   output: failed    standard output could not be written: a full disk, or a closed pipe
-  wear: ...         not opened: nothing was played; not a file of its own: it is the trace or the answers; not with workers;
-                    failed: the answers are whole, and the file is not
+  wear: ..., collections: ...    not opened: nothing was played; not a file of its own: it is the trace, the answers or the
+                    other file; not with workers; failed: the answers are whole, and the file is not
   memory: refused, line 0: Memory, threads: refused    the system gave no more of it: a smaller device, or fewer workers
 
 docs/FORMATS.md says more.";

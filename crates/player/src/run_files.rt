@@ -1,19 +1,13 @@
 ghost use Rattle.std.specs.Prelude.{◌≡◌, ◌≤◌, length};
 ghost use Rattle.player.specs.Telling.{file_name, file_text};
 
-use trace::{OpenFault, Watched};
-
-/// The files that a run writes beside its answers, where the command line names them.
-#[derive(Drop)]
-pub struct RunFiles<F> {
-    /// The wear of each block after the run.
-    pub wear: Watched<F>,
-}
+use trace::OpenFault;
 
 /// One of the files that a run writes beside its answers.
 #[derive(Clone, Copy, Debug, PartialEq, Eq)]
 pub enum RunFile {
     Wear,
+    Collections,
 }
 
 /// Why a file of a run was not written.
@@ -37,6 +31,7 @@ impl RunFile {
     {
         match self {
             RunFile::Wear => "wear",
+            RunFile::Collections => "collections",
         }
     }
 }

@@ -1,22 +1,20 @@
-ghost use Rattle.std.specs.Prelude.{◌≡◌, Some, map, IfErr, IfOk, OnOk};
-ghost use Rattle.std.specs.Io.KnownBytes.{IsAtEnd};
-ghost use Rattle.geometry.specs.Geometry.{numbers_of};
+ghost use Rattle.std.specs.Prelude.{◌≡◌, ◌≢◌, Some, is_some, map, option_map, true, IfErr, IfOk, OnErr, OnOk};
+ghost use Rattle.geometry.specs.Geometry.{hosts_of, numbers_of};
 ghost use Rattle.geometry.specs.Limits.{first_fault};
-ghost use Rattle.trace.specs.Watched.{failures_of, inner_of};
-ghost use Rattle.answers.specs.Outcome.{ExplainsRun};
-ghost use Rattle.answers.specs.Streams.{Tells, over, stream_of};
+ghost use Rattle.trace.specs.declared.named_file.OpenFault.{OpenFault};
+ghost use Rattle.answers.specs.Streams.{over, stream_of};
 ghost use Rattle.player.specs.CommandLine.{numbers_given};
-ghost use Rattle.player.specs.Session.{AnswersClap, EndsSession, EndsWithWear, Explains, IsTextFor, filing, filings};
+ghost use Rattle.player.specs.Session.{AnswersClap, EndsOn, EndsSession, Explains, HasFailedToOpen, IsOpened, OpensFiles, filing, filings, outcome_of, stop_of_open};
 
 use crate::arguments::options;
 use crate::command_line::Options;
-use crate::run_files::{FileStop, RunFile, RunFiles};
+use crate::run_files::{FileStop, RunFile};
 use crate::stop::Stop;
 use crate::telling::tell;
-use answers::{OutputFailed, RunFault, send};
+use answers::{OutputFailed, send};
 use clap::error::ErrorKind;
 use geometry::{DeviceNumbers, Geometry, GeometryFault};
-use one_player::{run, run_with_wear};
+use one_player::{RunFiles, Wanted, run_with_files};
 use shared_run::run_by_workers;
 use std::alloc::Global;
 use std::io::{Read, Write};
@@ -82,71 +80,112 @@ fn attempt<'a, T: Threads + Wait + Clock + Sync, R: Read, W: Write, F: NamedFile
         Ok(geometry) => geometry,
         Err(fault) => return Err(Stop::Geometry(fault)),
     };
-    match given.wear {
-        None => match play(
-            rt,
-            alloc,
-            reader,
-            writer,
-            &geometry,
-            given.patience,
-            given.drains,
-        ) {
-            Ok(()) => Ok(()),
-            Err(fault) => Err(Stop::Run(fault)),
-        },
-        Some(name) => play_with_wear(alloc, name, reader, writer, &mut files.wear, &geometry),
+    match geometry.hosts() {
+        0 => play_alone(alloc, given, reader, writer, files, &geometry),
+        _ => play_shared(rt, alloc, given, reader, writer, files, &geometry),
     }
 }
 
-// Opens the file of the wear, plays the trace by one thread, and then tells the wear in the file.
-fn play_with_wear<R: Read, W: Write, F: NamedFile>(
+// Plays the trace by one thread, and writes the files that the options name. They are opened before the trace is read.
+fn play_alone<R: Read, W: Write, F: NamedFile>(
     alloc: Global,
-    name: &str,
+    given: Options<'_>,
     reader: &mut Watched<R>,
     writer: &mut Watched<W>,
-    file: &mut Watched<F>,
+    files: &mut RunFiles<F>,
     geometry: &Geometry,
 ) -> Result<(), Stop>
-    ensures { EndsWithWear result geometry.now name.now
+    requires { hosts_of geometry.now ≡ 0 }
+    ensures { EndsOn result geometry.now given.entry
         (over R.remaining reader.old reader.new)
         (over W.contents writer.old writer.new)
-        (filing F.opened_as F.contents file.old file.new) }
+        (filings F.opened_as F.contents files.old files.new) }
 {
-    if geometry.hosts() > 0 {
-        return Err(Stop::File(RunFile::Wear, FileStop::NotWithWorkers));
+    if let Err(stop) = open_files(given, files) {
+        return Err(stop);
     }
-    match file.open(name) {
-        Ok(()) => {}
-        Err(fault) => return Err(Stop::File(RunFile::Wear, FileStop::of_open(fault))),
-    }
-    match run_with_wear(alloc, reader, writer, file, geometry) {
-        Ok(Ok(())) => Ok(()),
-        Ok(Err(OutputFailed)) => Err(Stop::File(RunFile::Wear, FileStop::Failed)),
+    let wanted = Wanted {
+        collections: given.collections.is_some(),
+        wear: given.wear.is_some(),
+    };
+    match run_with_files(alloc, reader, writer, wanted, files, geometry) {
+        Ok(written) => outcome(written.collections, written.wear),
         Err(fault) => Err(Stop::Run(fault)),
     }
 }
 
-// Plays the trace on its device: by a worker for each of its hosts, and by one thread where it has none.
-fn play<T: Threads + Wait + Clock + Sync, R: Read, W: Write>(
+// Plays the trace by a worker for each host of the device. Workers write no files.
+fn play_shared<T: Threads + Wait + Clock + Sync, R: Read, W: Write, F: NamedFile>(
     rt: &T,
     alloc: Global,
+    given: Options<'_>,
     reader: &mut Watched<R>,
     writer: &mut Watched<W>,
+    files: &mut RunFiles<F>,
     geometry: &Geometry,
-    patience: u32,
-    drains: u32,
-) -> Result<(), RunFault>
-    ensures end { OnOk result (IsAtEnd (R.remaining (inner_of reader.new))) }
-    ensures text { OnOk result (Tells (IsTextFor patience geometry.now) (stream_of R.remaining reader.old) (over W.contents writer.old writer.new)) }
-    ensures reader_unfailed { OnOk result (failures_of reader.new ≡ failures_of reader.old) }
-    ensures writer_unfailed { OnOk result (failures_of writer.new ≡ failures_of writer.old) }
-    ensures why { IfErr result (ExplainsRun (IsTextFor patience) geometry.now (over R.remaining reader.old reader.new) (over W.contents writer.old writer.new)) }
+) -> Result<(), Stop>
+    requires { hosts_of geometry.now ≢ 0 }
+    ensures { EndsOn result geometry.now given.entry
+        (over R.remaining reader.old reader.new)
+        (over W.contents writer.old writer.new)
+        (filings F.opened_as F.contents files.old files.new) }
 {
-    match geometry.hosts() {
-        0 => run(alloc, reader, writer, geometry),
-        _ => run_by_workers(rt, alloc, reader, writer, geometry, patience, drains),
+    if given.wear.is_some() {
+        return Err(Stop::File(RunFile::Wear, FileStop::NotWithWorkers));
     }
+    if given.collections.is_some() {
+        return Err(Stop::File(RunFile::Collections, FileStop::NotWithWorkers));
+    }
+    let (patience, drains) = (given.patience, given.drains);
+    match run_by_workers(rt, alloc, reader, writer, geometry, patience, drains) {
+        Ok(()) => Ok(()),
+        Err(fault) => Err(Stop::Run(fault)),
+    }
+}
+
+// Opens the files that the options name.
+fn open_files<F: NamedFile>(given: Options<'_>, files: &mut RunFiles<F>) -> Result<(), Stop>
+    ensures { OpensFiles result given.entry (filings F.opened_as F.contents files.old files.new) }
+{
+    if let Err(why) = open_file(given.wear, &mut files.wear) {
+        return Err(Stop::File(RunFile::Wear, why));
+    }
+    if let Err(why) = open_file(given.collections, &mut files.collections) {
+        return Err(Stop::File(RunFile::Collections, why));
+    }
+    Ok(())
+}
+
+// Opens a file, where it is named.
+fn open_file<F: NamedFile>(name: Option<&str>, file: &mut Watched<F>) -> Result<(), FileStop>
+    ensures opened { OnOk result (IsOpened (option_map (λ n. n.now) name.entry) (filing F.opened_as F.contents file.old file.new)) }
+    ensures why { IfErr result (λ why. (fault : OpenFault) × (why ≡ stop_of_open fault)) }
+    ensures asked { OnErr result (is_some (option_map (λ n. n.now) name.entry) ≡ true) }
+    ensures unopened { OnErr result (HasFailedToOpen (over F.contents file.old file.new)) }
+{
+    let Some(name) = name else {
+        return Ok(());
+    };
+    match file.open(name) {
+        Ok(()) => Ok(()),
+        Err(fault) => Err(FileStop::of_open(fault)),
+    }
+}
+
+// How a run ends, by how its log and its wear were written.
+fn outcome(
+    collections: Result<(), OutputFailed>,
+    wear: Result<(), OutputFailed>,
+) -> Result<(), Stop>
+    ensures { result ≡ outcome_of collections wear }
+{
+    if let Err(OutputFailed) = collections {
+        return Err(Stop::File(RunFile::Collections, FileStop::Failed));
+    }
+    if let Err(OutputFailed) = wear {
+        return Err(Stop::File(RunFile::Wear, FileStop::Failed));
+    }
+    Ok(())
 }
 
 // The device of these numbers, with a host for each worker.

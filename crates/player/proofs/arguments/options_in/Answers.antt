@@ -16,4 +16,5 @@ returns c = record {
   patience = c.number-9.ensures;
   drains = c.number-10.ensures;
   wear = c.get_str.ensures ∙ first_value-rows (found_of c.args.matches.now) (codes "wear");
+  collections = c.get_str-2.ensures ∙ first_value-rows (found_of c.args.matches.now) (codes "collections");
 }

@@ -1,0 +1,25 @@
+use answers::OutputFailed;
+use trace::Watched;
+
+/// The files that a run writes beside its answers.
+#[derive(Drop)]
+pub struct RunFiles<F> {
+    /// The collections, as they are made.
+    pub collections: Watched<F>,
+    /// The wear of each block after the run.
+    pub wear: Watched<F>,
+}
+
+/// Which files a run is to write.
+#[derive(Clone, Copy, Debug, PartialEq, Eq)]
+pub struct Wanted {
+    pub collections: bool,
+    pub wear: bool,
+}
+
+/// Whether each wanted file was written whole. `Ok` where it isn't wanted.
+#[derive(Clone, Copy, Debug, PartialEq, Eq)]
+pub struct Written {
+    pub collections: Result<(), OutputFailed>,
+    pub wear: Result<(), OutputFailed>,
+}

@@ -1,0 +1,64 @@
+use Rattle.std.proofs.Common.{refl, subst, sym}
+use Rattle.std.specs.Prelude.{Result}
+use Rattle.answers.specs.Streams.{over, stream_of}
+use Rattle.one_player.specs.Collections.{IsLogOf}
+use Rattle.one_player.specs.Wear.{IsWearOf}
+use Rattle.player.specs.Session.{EndsOn, IsOpenedAs, filings}
+use Rattle.player.specs.declared.stop.Stop.{Stop}
+use Rattle.player.proofs.Endings.{file_ended, files_left, not_opened, run_ended}
+use Rattle.player.proofs.RunTexts.{one_text, one_why}
+use Rattle.player.proofs.sessions.play_alone.Goals as goal
+
+pub returns-in-Err : goal.returns-in-Err
+returns-in-Err g c =
+    not_opened c.in-Err.stop c.args.geometry.now c.args.given
+    (over g.R.Read.remaining c.args.reader.now c.args.reader.now)
+    (over g.W.Write.contents c.args.writer.now c.args.writer.now)
+    (filings g.F.NamedFile.opened_as g.F.Write.contents c.args.files.now c.open_files.new.files)
+    c.in-Err.ensures (refl, refl)
+
+pub returns-in-Ok : goal.returns-in-Ok
+returns-in-Ok g c =
+    let geo = c.args.geometry.now in
+    let given = c.args.given in
+    let opens = c.in_default.ensures in
+    let told = c.in-Ok.ensures in
+    let start = stream_of g.R.Read.remaining c.args.reader.now in
+    let input = over g.R.Read.remaining c.args.reader.now c.run_with_files.new.reader in
+    let output = over g.W.Write.contents c.args.writer.now c.run_with_files.new.writer in
+    let files = filings g.F.NamedFile.opened_as g.F.Write.contents c.args.files.now c.run_with_files.new.files in
+    let stream = stream_of g.F.Write.contents in
+    let old = c.args.files.now in
+    let mid = c.open_files.new.files in
+    let new = c.run_with_files.new.files in
+    let log = file_ended (λ n. n.now) given.collections c.is_some.result (IsLogOf geo) start (IsOpenedAs g.F.NamedFile.opened_as g.F.Write.contents old.collections)
+    (stream old.collections) (stream mid.collections) (stream new.collections) c.in-Ok.written.collections opens.1 c.is_some.ensures told.collections in
+    let wear = file_ended (λ n. n.now) given.wear c.is_some-2.result (IsWearOf geo) start (IsOpenedAs g.F.NamedFile.opened_as g.F.Write.contents old.wear)
+    (stream old.wear) (stream mid.wear) (stream new.wear) c.in-Ok.written.wear opens.0 c.is_some-2.ensures told.wear in
+    subst (λ (r : Result (Unit {0}) Stop). EndsOn r geo given input output files) (sym c.outcome.ensures)
+    (run_ended c.in-Ok.written.collections c.in-Ok.written.wear geo given input output files
+    (record {
+      end = told.end;
+      text = one_text given.patience geo _ _ _ c.requires told.text;
+      input_unfailed = told.reader_unfailed;
+      output_unfailed = told.writer_unfailed;
+    })
+    log wear)
+
+pub returns-in-Err-run_with_files : goal.returns-in-Err-run_with_files
+returns-in-Err-run_with_files g c =
+    let geo = c.args.geometry.now in
+    let given = c.args.given in
+    let opens = c.in_default.ensures in
+    let told = c.in-Err-run_with_files.ensures in
+    let fault = c.in-Err-run_with_files.fault in
+    let stream = stream_of g.F.Write.contents in
+    let mid = c.open_files.new.files in (
+      one_why given.patience geo fault
+          (over g.R.Read.remaining c.args.reader.now c.run_with_files.new.reader)
+          (over g.W.Write.contents c.args.writer.now c.run_with_files.new.writer)
+          c.requires told.why,
+      files_left fault c.is_some.result geo given (stream_of g.R.Read.remaining c.args.reader.now)
+          (filings g.F.NamedFile.opened_as g.F.Write.contents c.args.files.now c.run_with_files.new.files)
+          (stream mid.wear) (stream mid.collections) opens.0.1 opens.1.1 c.is_some.ensures told.no_wear told.log_left,
+    )
