@@ -4,7 +4,7 @@ use std::io;
 use std::io::Write;
 use std::os::unix::fs::{FileTypeExt, MetadataExt};
 
-/// A file that a run writes beside its answers. What stood in it goes when its first bytes are written.
+/// A file that a run writes in addition to its answers. It is emptied when its first bytes are written.
 #[derive(Drop)]
 pub struct OutFile<'a> {
     runtime: &'a HostRuntime,

@@ -23,7 +23,7 @@ use trace::{Commands, Watched};
 
 /// Plays a trace on a device for one thread, and writes its answers and the totals.
 ///
-/// The whole trace is read and checked before the first command, and all memory is taken before the
+/// The whole trace is read and checked before the first command, and all memory is allocated before the
 /// first byte is written.
 pub fn run<R: Read, W: Write>(
     alloc: Global,
@@ -48,8 +48,8 @@ pub fn run<R: Read, W: Write>(
     }
 }
 
-/// Plays a trace as `run` does, and then writes the wear of the device to `wear`: a line of names, and a line for each block.
-/// The inner answer says whether that was written; the answers of the trace are whole in both cases.
+/// Plays a trace as `run` does, and then writes the wear of the device to `wear`: a header line, and a line for each block.
+/// The inner result says whether that was written; the answers of the trace are complete in both cases.
 pub fn run_with_wear<R: Read, W: Write, V: Write>(
     alloc: Global,
     reader: &mut Watched<R>,

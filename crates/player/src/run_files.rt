@@ -3,14 +3,14 @@ ghost use Rattle.player.specs.Telling.{file_name, file_text};
 
 use trace::{OpenFault, Watched};
 
-/// The files that a run writes beside its answers, where the command line names them.
+/// The files that a run writes in addition to its answers, if the command line names them.
 #[derive(Drop)]
 pub struct RunFiles<F> {
     /// The wear of each block after the run.
     pub wear: Watched<F>,
 }
 
-/// One of the files that a run writes beside its answers.
+/// One of the files that a run writes in addition to its answers.
 #[derive(Clone, Copy, Debug, PartialEq, Eq)]
 pub enum RunFile {
     Wear,
@@ -19,7 +19,7 @@ pub enum RunFile {
 /// Why a file of a run was not written.
 #[derive(Clone, Copy, Debug, PartialEq, Eq)]
 pub enum FileStop {
-    /// Workers are asked for, which don't write it.
+    /// The run is by workers, which don't write it.
     NotWithWorkers,
     /// It could not be opened.
     NotOpened,
@@ -44,7 +44,7 @@ impl RunFile {
 impl FileStop {
     ghost use Rattle.player.specs.Session.{stop_of_open};
 
-    /// The reason, as it is printed behind the file's name.
+    /// The reason, as it is printed after the file's name.
     pub fn text(self) -> &'static str
         ensures text { result.now ≡ file_text self }
         ensures short { length result.now ≤ 24 }
