@@ -2,6 +2,8 @@
 //! sector, a pin word for each block, and the words of all pages, each page's with a stamp behind them.
 //!
 //! Built with `--cfg tuned` the words of pages need no order of their own, and a block is looked at before it is taken.
+//! Built with `--cfg counted` a broom prints, on standard error and at the end of each round, how many of its surveys gave a drain, how many
+//! blocks it drained, and how many pages it programmed. Built with `--cfg without_restock` a broom that has lost its spare takes no new one.
 
 use crate::layer::Geometry;
 use std::collections::VecDeque;
@@ -171,6 +173,15 @@ pub struct Broom {
     ranking: Vec<u64>,
     next: usize,
     is_ranked: bool,
+    done: Done,
+}
+
+/// What a broom has done; it is kept only with `--cfg counted`.
+#[derive(Clone, Copy, Default)]
+struct Done {
+    surveys: u64,
+    drains: u64,
+    programs: u64,
 }
 
 /// What a drain did.
@@ -187,7 +198,7 @@ impl Broom {
         let spare = Open { block: spare as u64, generation: 0, written: 0 };
         let [pins, counts] = [vec![0; table.blocks], vec![0; table.blocks]];
         let (marked, ranking) = (vec![false; table.blocks], Vec::with_capacity(table.blocks));
-        Broom { destination: None, spare: Some(spare), pins, counts, marked, ranking, next: 0, is_ranked: false }
+        Broom { destination: None, spare: Some(spare), pins, counts, marked, ranking, next: 0, is_ranked: false, done: Done::default() }
     }
 
     /// Drains and erases in turns until the flag is set, and rests where a turn has gained nothing.
@@ -201,16 +212,25 @@ impl Broom {
                 micros = rest(micros, longest);
             }
         }
+        if cfg!(counted) {
+            let Done { surveys, drains, programs } = self.done;
+            eprintln!("broom {surveys} {drains} {programs}");
+        }
     }
 
     /// A drain by a new survey, and more by that one while it gives some, each with an erase; whether anything was gained.
     fn turn(&mut self, table: &Table, stop: &AtomicBool, drains: u32) -> bool {
         let mut gained = false;
+        let before = self.done.drains;
         for i in 0..drains {
             let drain = self.drain(table, i == 0);
             gained |= drain == Drain::Drained;
+            if cfg!(counted) {
+                self.done.drains += u64::from(drain == Drain::Drained);
+                self.done.surveys += u64::from(self.done.drains == before + 1 && drain == Drain::Drained);
+            }
             gained |= self.erase(table);
-            if drain == Drain::NoSpare {
+            if drain == Drain::NoSpare && !cfg!(without_restock) {
                 gained |= self.restock(table);
             }
             if matches!(drain, Drain::NothingToGain | Drain::NoSpare) || stop.load(SeqCst) {
@@ -305,6 +325,9 @@ impl Broom {
         self.destination = self.destination.or_else(|| self.spare.take());
         let words = page.iter().map(|word| word.load(PAGE_WORD));
         let copy = table.fill(&mut self.destination, sector as u32, words).expect("a destination");
+        if cfg!(counted) {
+            self.done.programs += 1;
+        }
         let _ = table.words[sector as usize].compare_exchange(word, copy, SeqCst, SeqCst);
         table.close_if_full(&mut self.destination);
     }

@@ -219,7 +219,7 @@ def play_all(options, points):
     try:
         done = subprocess.run([*words, call], input=text, text=True, stdout=subprocess.DEVNULL, stderr=None if options.bar else subprocess.PIPE)
     except KeyboardInterrupt:
-        raise KeyboardInterrupt(f"interrupted; the same call with --resume goes on with the sweep in {options.out}")
+        raise KeyboardInterrupt(f"interrupted; the same call with --resume continues the sweep in {options.out}")
     return done.stderr or ""
 
 

@@ -52,7 +52,7 @@ class CountsOfABlockDevice(unittest.TestCase):
 
     def test_files_of_a_run_are_refused_beside_them(self):
         done = report(counts(), "--wear", "wear.csv")
-        self.assertEqual((done.status, "no use for --wear" in done.errors), (2, True), done.errors)
+        self.assertEqual((done.status, "use --wear" in done.errors), (2, True), done.errors)
 
     @needs("matplotlib")
     def test_the_erases_are_drawn(self):

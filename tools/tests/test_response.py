@@ -140,7 +140,7 @@ class Queues(Timed):
                 self.assertEqual(Run("report", *files, *words).status, 2)
         self.assertEqual(Run("report", files[0], *TIMES).status, 2)
         quiet = Run("report", self.file("quiet", b"end,3,1,1\n"), *files[1:], *TIMES)
-        self.assertIn("the answers are their last line alone", quiet.errors)
+        self.assertIn("the answers have only their last line", quiet.errors)
 
 
 @needs("numpy")

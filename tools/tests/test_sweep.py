@@ -127,7 +127,7 @@ class Swept(unittest.TestCase):
             os.killpg(run.pid, signal.SIGINT)
             told = run.stderr.read()
         self.assertEqual(run.returncode, 130)
-        self.assertIn(f"sweep: interrupted; the same call with --resume goes on with the sweep in {self.out}\n", told)
+        self.assertIn(f"sweep: interrupted; the same call with --resume continues the sweep in {self.out}\n", told)
 
     @needs("ssh", "sshd", "rsync")
     def test_other_machines_are_handed_the_trace(self):

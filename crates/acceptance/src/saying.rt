@@ -4,7 +4,7 @@ use std::fmt::{Debug, Display};
 use std::process::Abort;
 use std::test::Fail;
 
-/// Ends the test with the row where it doesn't hold.
+/// Ends the test with the row if it doesn't hold.
 pub(crate) fn expect(rt: &impl Abort, holds: bool, row: &impl Debug) {
     assert!(rt; holds, "{row:?}");
 }

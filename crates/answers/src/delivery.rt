@@ -6,11 +6,11 @@ ghost use Rattle.answers.specs.Delivery.{AppendsBeginning};
 use std::io::Write;
 use trace::Watched;
 
-/// The writer failed: a call answered an error, or took nothing.
+/// The writer failed: a call returned an error, or accepted no byte.
 #[derive(Clone, Copy, Debug, PartialEq, Eq)]
 pub struct OutputFailed;
 
-/// Writes all of these bytes, by as many calls as the writer wants.
+/// Writes all of these bytes, with as many calls as the writer needs.
 pub fn send<W: Write>(writer: &mut Watched<W>, bytes: &[u8]) -> Result<(), OutputFailed>
     ensures sent { OnOk result (Appends (W.contents (inner_of writer.old)) (W.contents (inner_of writer.new)) bytes.now) }
     ensures unfailed { OnOk result (failures_of writer.new ≡ failures_of writer.old) }

@@ -5,7 +5,7 @@ use std::error::Error;
 use std::fmt;
 use trace::TraceFault;
 
-/// Why a run gave no whole output.
+/// Why the output of a run is missing or incomplete.
 #[derive(Clone, Copy, Debug, PartialEq, Eq)]
 pub enum RunFault {
     /// The trace could not be read, or has a fault.
@@ -14,7 +14,7 @@ pub enum RunFault {
     Memory,
     /// A thread could not be started.
     Threads,
-    /// The writer failed; a beginning of the output went out.
+    /// The writer failed; a beginning of the output was written.
     Output,
 }
 

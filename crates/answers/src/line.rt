@@ -15,13 +15,13 @@ use crate::words::{
 };
 use trace::Op;
 
-/// The most bytes of a line beside those of its page, with what is stored behind them.
+/// The most bytes of a line without those of its page, but with the bytes that are stored after its end.
 pub const LINE_BYTES: usize = 128;
 
-/// How many bytes of output are handed on at once.
+/// How many bytes of output have to wait before they are written.
 pub const PIECE_BYTES: usize = 65_536;
 
-/// Puts an answer line. A reply of a page tells these bytes.
+/// Puts an answer line. `page` is the value that a read found.
 #[inline(always)]
 pub fn put_line(
     numbering: &mut Numbering,
@@ -77,7 +77,7 @@ pub fn put_totals(buffer: &mut [u8], at: usize, programs: u64, copies: u64, eras
     put_number(buffer, third, erases, b'\n')
 }
 
-/// Puts the names of what is told of each block.
+/// Puts the header line of the wear.
 pub fn put_wear_names(buffer: &mut [u8], at: usize) -> usize
     requires { at + LINE_BYTES ≤ length buffer.old }
     ensures { Placed buffer.old buffer.new at wear_names result }
@@ -86,7 +86,7 @@ pub fn put_wear_names(buffer: &mut [u8], at: usize) -> usize
     put_short(buffer, middle, &LIVE_RETIRED)
 }
 
-/// Puts the line of a block.
+/// Puts a block's line of the wear.
 pub fn put_wear(
     buffer: &mut [u8],
     at: usize,

@@ -3,7 +3,7 @@ ghost use Rattle.answers.specs.declared.line.TheConstants.{LINE_BYTES, PIECE_BYT
 
 use crate::numbering::Numbering;
 
-/// The lines that wait to be written: the first bytes of a buffer. All their room is taken at the start.
+/// The lines that wait to be written: the first bytes of a buffer, which is allocated once.
 #[derive(Drop)]
 pub struct Lines {
     pub(crate) buffer: Vec<u8>,

@@ -6,10 +6,10 @@ ghost use Rattle.answers.specs.declared.text.TheConstants.{SHORT_BYTES};
 
 use crate::text::{NUMBER_BYTES, SHORT_BYTES, Short, put_first, put_four, put_number, put_short};
 
-/// So many numbers have the same digits before their last four.
+/// How many numbers have the same digits before their last four.
 const STEP: u64 = 10_000;
 
-/// A number from here on is put without what is kept.
+/// The first number for which the stored digits aren't used.
 const LONG: u64 = 100_000_000;
 
 /// The digits before the last four of the numbers from one on.
@@ -33,7 +33,7 @@ impl Numbering {
         }
     }
 
-    /// Puts a number in decimal digits, and a comma behind it; where they end.
+    /// Puts a number in decimal digits, and a comma after it. Returns the index after both.
     #[inline(always)]
     pub(crate) fn put(&mut self, buffer: &mut [u8], at: usize, number: u64) -> usize
         requires { at + NUMBER_BYTES + 1 ≤ length buffer.old }

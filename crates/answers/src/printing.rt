@@ -24,7 +24,7 @@ use std::io::Write;
 use trace::{Op, Watched};
 
 impl Lines {
-    /// No line waits yet. The lines are those of a device of this geometry.
+    /// An empty buffer for the lines of a device of this geometry.
     pub fn new(alloc: Global, geometry: &Geometry) -> Result<Lines, AllocError>
         ensures page { IfOk result (λ lines. page_digits_of lines ≡ 2 * page_bytes_of geometry.now) }
         ensures waiting { IfOk result (λ lines. waiting_of lines ≡ []) }
@@ -38,7 +38,7 @@ impl Lines {
         })
     }
 
-    /// Adds an answer line. A reply of a page tells these bytes.
+    /// Adds an answer line. `page` is the value that a read found.
     pub fn answer(&mut self, line: u64, op: Op, sector: u32, reply: Reply, page: &[u8])
         requires page { reply ≡ replies.Page → page_digits_of self.old ≡ 2 * length page.now }
         requires room { length (waiting_of self.old) ≤ PIECE_BYTES }
@@ -57,7 +57,7 @@ impl Lines {
         );
     }
 
-    /// Adds the last line of a run of several threads.
+    /// Adds the last line of a run by several threads.
     pub fn end(&mut self)
         requires room { length (waiting_of self.old) ≤ PIECE_BYTES }
         ensures waiting { waiting_of self.new ≡ waiting_of self.old ++ end_text }
@@ -66,7 +66,7 @@ impl Lines {
         self.used = put_end(&mut self.buffer, self.used);
     }
 
-    /// Adds the last line of a run of one thread, with its totals.
+    /// Adds the last line of a run by one thread, with its totals.
     pub fn totals(&mut self, programs: u64, copies: u64, erases: u64)
         requires room { length (waiting_of self.old) ≤ PIECE_BYTES }
         ensures waiting { waiting_of self.new ≡ waiting_of self.old ++ totals_text programs copies erases }
@@ -75,7 +75,7 @@ impl Lines {
         self.used = put_totals(&mut self.buffer, self.used, programs, copies, erases);
     }
 
-    /// Adds the names of what is told of each block.
+    /// Adds the header line of the wear.
     pub fn wear_names(&mut self)
         requires room { length (waiting_of self.old) ≤ PIECE_BYTES }
         ensures waiting { waiting_of self.new ≡ waiting_of self.old ++ wear_names }
@@ -84,7 +84,7 @@ impl Lines {
         self.used = put_wear_names(&mut self.buffer, self.used);
     }
 
-    /// Adds the line of a block: its erases, its live pages, and whether it is retired.
+    /// Adds a block's line of the wear: its erases, its live pages, and whether it is retired.
     pub fn wear(&mut self, block: u32, erases: u32, live: u32, retired: bool)
         requires room { length (waiting_of self.old) ≤ PIECE_BYTES }
         ensures waiting { waiting_of self.new ≡ waiting_of self.old ++ wear_line block erases live retired }
@@ -129,7 +129,7 @@ impl Lines {
         );
     }
 
-    /// Hands on the lines that wait.
+    /// Writes the lines that wait.
     pub fn hand_on<W: Write>(&mut self, writer: &mut Watched<W>) -> Result<(), OutputFailed>
         ensures sent { OnOk result (Appends (W.contents (inner_of writer.old)) (W.contents (inner_of writer.new)) (waiting_of self.old)) }
         ensures empty { OnOk result (waiting_of self.new ≡ []) }
@@ -143,7 +143,7 @@ impl Lines {
         Ok(())
     }
 
-    /// Hands on the lines that wait, if they are many: there is room for another line then.
+    /// Writes the lines that wait if there are many, so that there is room for another line.
     pub fn make_room<W: Write>(&mut self, writer: &mut Watched<W>) -> Result<(), OutputFailed>
         ensures moved { OnOk result (IsUnderWay (W.contents (inner_of writer.old)) (W.contents (inner_of writer.new)) (waiting_of self.new) (waiting_of self.old)) }
         ensures room { OnOk result (length (waiting_of self.new) ≤ PIECE_BYTES) }

@@ -11,7 +11,7 @@ use std::alloc::Global;
 use std::io::Read;
 use trace::{Commands, TraceFault, Watched, load, parse_owned};
 
-/// Reads a whole trace, and gives its commands for this device.
+/// Reads a whole trace, and returns its commands for this device.
 pub fn read_commands<R: Read>(
     alloc: Global,
     reader: &mut Watched<R>,

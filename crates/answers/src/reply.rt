@@ -3,14 +3,14 @@ ghost use Rattle.answers.specs.Replies.{reply_of};
 
 use geometry::Was;
 
-/// The answer of a command. `Page` is the value that a read found.
+/// The answer to a command. `Page` is the value that a read found.
 #[derive(Clone, Copy, Debug, PartialEq, Eq)]
 pub enum Reply {
     Empty,
     Written,
-    /// A write found no room, as the device is worn out.
+    /// A write found no page, since the device is worn out.
     Worn,
-    /// A write found no room in as many tries as it may make.
+    /// A write found no free block in as many tries as it may make.
     Full,
     Met,
     Page,

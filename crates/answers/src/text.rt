@@ -6,7 +6,7 @@ ghost use Rattle.answers.specs.Placed.{Placed, four_digits, short_of, two_digits
 use crate::encoding::encode;
 use std::simd::prelude::*;
 
-/// A short text is stored in so many bytes at once.
+/// How many bytes are stored at once for a short text.
 pub(crate) const SHORT_BYTES: usize = 16;
 
 /// The most digits of a number.
@@ -16,7 +16,7 @@ pub(crate) const NUMBER_BYTES: usize = 20;
 static PAIRS: [u8; 200] =
     *b"00010203040506070809101112131415161718192021222324252627282930313233343536373839404142434445464748495051525354555657585960616263646566676869707172737475767778798081828384858687888990919293949596979899";
 
-/// A short text and its length. The bytes behind it don't count.
+/// A short text and its length. The bytes after it don't count.
 #[derive(Drop)]
 pub(crate) struct Short {
     pub(crate) bytes: [u8; SHORT_BYTES],
@@ -30,7 +30,7 @@ struct Filled {
     count: usize,
 }
 
-/// Puts a short text; where it ends.
+/// Puts a short text. Returns the index after it.
 #[inline(always)]
 pub(crate) fn put_short(buffer: &mut [u8], at: usize, text: &Short) -> usize
     requires room { at + SHORT_BYTES ≤ length buffer.old }
@@ -42,7 +42,7 @@ pub(crate) fn put_short(buffer: &mut [u8], at: usize, text: &Short) -> usize
     at + text.len
 }
 
-/// Puts the digits of a page; where they end.
+/// Puts the digits of a page. Returns the index after them.
 #[inline(always)]
 pub(crate) fn put_page(buffer: &mut [u8], at: usize, page: &[u8]) -> usize
     requires { at + 2 * length page.now ≤ length buffer.old }
@@ -54,7 +54,7 @@ pub(crate) fn put_page(buffer: &mut [u8], at: usize, page: &[u8]) -> usize
     end
 }
 
-/// Puts a number in decimal digits, and a byte behind it; where they end.
+/// Puts a number in decimal digits, and a byte after it. Returns the index after both.
 #[inline(always)]
 pub(crate) fn put_number(buffer: &mut [u8], at: usize, number: u64, end: u8) -> usize
     requires { at + NUMBER_BYTES + 1 ≤ length buffer.old }
@@ -84,7 +84,7 @@ fn put_digits(buffer: &mut [u8], at: usize, number: u64) -> usize
     put_long(buffer, at, number)
 }
 
-/// Puts the digits of a number that has at most four; where they end.
+/// Puts the digits of a number that has at most four. Returns the index after them.
 #[inline(always)]
 pub(crate) fn put_first(buffer: &mut [u8], at: usize, number: u32) -> usize
     requires { (number < 10000) × (at + 4 ≤ length buffer.old) }

@@ -132,7 +132,7 @@ pub(crate) fn op_word(op: Op) -> &'static Short
     }
 }
 
-/// The reply, or what is left of it behind the digits of its page.
+/// The text of a reply, or what comes after the digits of its page.
 #[inline(always)]
 pub(crate) fn reply_word(reply: Reply) -> &'static Short
     ensures text { short_of result.now ≡ reply_text reply [] ++ codes "\n" }

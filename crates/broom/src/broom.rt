@@ -8,8 +8,8 @@ use flash_table::BroomSeat;
 use geometry::{Geometry, Phase, PinWord};
 use std::alloc::{AllocError, Global};
 
-/// A broom's seat, with the room for its survey: for each block its state as loaded, the number of its live pages, and whether it is
-/// closed. Blocks that it has drained go to the queue by its place there, and one for which the queue had no room is set aside.
+/// A broom's seat, with the room for its survey: for each block its state as loaded, the number of its live pages, and whether it is closed. The
+/// broom puts the blocks that it has drained into the queue, and sets one aside if the queue has no room for it.
 pub struct Broom {
     pub(crate) seat: BroomSeat,
     pub(crate) states: Vec<PinWord>,
@@ -42,8 +42,8 @@ impl Broom {
     ghost use Rattle.broom.specs.Ready.{HasNoMarks, IsRested, IsReady, IsSameSeat, view_of_broom, blocks_of_broom};
     ghost use Rattle.broom.specs.Handing.{place_of, aside_of};
 
-    /// A broom with the room for its surveys of a device of this geometry, and nothing set aside. `Err` is out of memory, and gives the
-    /// seat and the place back.
+    /// A broom with room for its surveys of a device of this geometry, and nothing set aside. If memory runs out, `Err` returns the seat and the
+    /// queue's pass.
     pub fn new(
         alloc: Global,
         seat: BroomSeat,

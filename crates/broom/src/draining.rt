@@ -13,8 +13,8 @@ use crate::relocation::relocate;
 use crate::survey::{choose, choose_next};
 use flash_table::{Flash, Gate, Point};
 
-/// Surveys the device, claims the closed block with the fewest live pages, and moves those out of it. It stops at its gate before the
-/// claim, and before each exchange of a map word.
+/// Surveys the device, claims the closed block with the fewest live pages, and moves these out of it. It calls its gate before the claim, and
+/// before each exchange of a map word.
 pub fn drain<G: Gate>(flash: &Flash, broom: &mut Broom, gate: &mut G) -> Drain
     requires { IsReady flash.now broom.old }
     ensures told { DrainTold broom.old result broom.new }
@@ -32,8 +32,8 @@ pub fn drain<G: Gate>(flash: &Flash, broom: &mut Broom, gate: &mut G) -> Drain
     drain_marked(flash, broom, block, gate)
 }
 
-/// Claims the next block by the survey that the broom made last, and moves its live pages out of it: of the blocks that were closed then,
-/// and that the broom has neither drained nor loaded since, the one with the fewest live pages. It stops at its gate as `drain` does.
+/// Claims the next block by the survey that the broom made last, and moves its live pages out of it: of the blocks that were closed then, and that
+/// the broom has neither drained nor loaded since, the one with the fewest live pages. It calls its gate where `drain` does.
 pub fn drain_next<G: Gate>(flash: &Flash, broom: &mut Broom, gate: &mut G) -> Drain
     requires { IsReady flash.now broom.old }
     ensures told { NextTold broom.old result broom.new }

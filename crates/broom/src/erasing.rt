@@ -16,7 +16,7 @@ use crate::broom::Broom;
 use flash_table::{BroomSeat, Flash, Gate, Point};
 use geometry::Phase;
 
-/// Erases a drained block that nobody reads. It stops at its gate once the block's state is loaded, before the block is condemned.
+/// Erases a drained block that nobody reads. It calls its gate after it has loaded the block's state, before it condemns the block.
 pub fn erase<G: Gate>(flash: &Flash, broom: &mut Broom, block: u32, gate: &mut G) -> Erase
     requires broom { IsReady flash.now broom.old }
     requires block { block < blocks_of (geometry_of flash.now) }

@@ -23,8 +23,8 @@ pub struct Folded {
     place: QueuePass,
 }
 
-/// Gives a broom up. The block that it copies to, full or not, and its spare are closed. A block that is set aside is put into the queue;
-/// where that is full, it stays drained and nobody erases it.
+/// Gives a broom up. Its destination, full or not, and its spare are closed. A block that is set aside is put into the queue; if the queue is full,
+/// the block stays drained, and nobody erases it.
 #[tactic(auto, using(crate::proofs::Keeping::still_at))]
 pub fn fold(flash: &Flash, queue: &EraseQueue, rt: &impl Wait, broom: Broom) -> Folded
     requires ready { IsReady flash.now broom }
@@ -37,7 +37,7 @@ pub fn fold(flash: &Flash, queue: &EraseQueue, rt: &impl Wait, broom: Broom) -> 
     retire_broom(flash, broom)
 }
 
-/// Gives up a broom that has set nothing aside, as one that was just made.
+/// Gives up a broom that has set nothing aside, such as one that was just made.
 pub fn fold_new(flash: &Flash, broom: Broom) -> Folded
     requires ready { IsReady flash.now broom }
     requires aside { aside_of broom ≡ None }
@@ -47,8 +47,8 @@ pub fn fold_new(flash: &Flash, broom: Broom) -> Folded
     retire_broom(flash, broom)
 }
 
-/// Gives a broom up without its queue, and so waits for nobody. The block that it copies to and its spare are closed. A block that is set
-/// aside stays drained, and nobody erases it.
+/// Gives a broom up without using the queue, so it doesn't wait. Its destination and its spare are closed. A block that is set aside stays drained,
+/// and nobody erases it.
 pub fn retire_broom(flash: &Flash, broom: Broom) -> Folded
     requires { IsReady flash.now broom }
     ensures view { folded_view result ≡ closed_broom (view_of_broom broom) (blocks_of_broom broom) }

@@ -11,7 +11,7 @@ use crate::broom::Broom;
 use flash_table::{Flash, Pass};
 use geometry::{MapWord, PageAddr};
 
-/// Ties what two brooms have done and seen: by one look of the first, and then one of the second. It changes no answer.
+/// Each of two brooms learns what the other has done and seen: the first makes one look, and then the second makes one. It changes no answer.
 pub fn meet_brooms(flash: &Flash, first: &mut Broom, second: &mut Broom)
     requires first { IsReady flash.now first.old }
     requires second { IsReady flash.now second.old }
@@ -33,8 +33,8 @@ pub fn meet_brooms(flash: &Flash, first: &mut Broom, second: &mut Broom)
     flash.broom_look(&mut second.seat, 0);
 }
 
-/// Ties what a broom has done to a page that a pass has pinned, and what the pass has seen to the broom: by one word of the page, and then
-/// one look of the broom. It changes no answer.
+/// A pass with a pinned page learns what a broom has done, and the broom what the pass has seen: the pass loads one word of the page, and then the
+/// broom makes one look. It changes no answer.
 pub fn stand(flash: &Flash, pass: &mut Pass, page: PageAddr, generation: u32, broom: &mut Broom)
     requires pass { (value : List ℕ) × IsPinned flash.now pass.old (page_in page generation) value }
     requires broom { IsReady flash.now broom.old }

@@ -9,7 +9,7 @@ ghost use Rattle.broom.specs.Restocking.{RestockTold, SearchTold};
 use crate::broom::Broom;
 use flash_table::{BroomSeat, Flash};
 
-/// Makes the lowest free block the spare of a broom that has none, and says whether the broom has a spare now.
+/// If a broom has no spare, makes the lowest free block its spare. Returns whether the broom has a spare now.
 pub fn restock(flash: &Flash, broom: &mut Broom) -> bool
     requires broom { IsReady flash.now broom.old }
     ensures told { RestockTold broom.old result broom.new }

@@ -15,8 +15,8 @@ use erase_queue::EraseQueue;
 use flash_table::{Flash, Gate};
 use std::sync::Wait;
 
-/// A drain whose block goes to the queue, or is set aside where the queue is full. What is set aside already is put first, and where it
-/// finds no room nothing is drained.
+/// Drains a block and puts it into the queue, or sets it aside if the queue is full. A block that is already set aside is put first; if there is no
+/// room for it, nothing is drained.
 #[tactic(auto, using(crate::proofs::Keeping::still_at, crate::proofs::Keeping::still_queued))]
 pub fn drain_one<G: Gate>(
     flash: &Flash,
@@ -43,7 +43,7 @@ pub fn drain_one<G: Gate>(
     Drain::Drained { block, copied }
 }
 
-/// A drain by the survey that the broom made last, whose block goes on as that of `drain_one` does.
+/// Drains the next block by the survey that the broom made last, and puts it into the queue or sets it aside as `drain_one` does.
 #[tactic(auto, using(crate::proofs::Keeping::still_at, crate::proofs::Keeping::still_queued))]
 pub fn drain_next_one<G: Gate>(
     flash: &Flash,
@@ -70,7 +70,8 @@ pub fn drain_next_one<G: Gate>(
     Drain::Drained { block, copied }
 }
 
-/// An erase of the block that is set aside, or else of the queue's first. A block that has readers is put back, at the queue's end.
+/// Erases the block that is set aside or, if there is none, the first one of the queue. A block that has readers is put back at the end of the
+/// queue.
 #[tactic(auto, using(crate::proofs::Keeping::still_at, crate::proofs::Keeping::still_queued))]
 pub fn erase_one<G: Gate>(
     flash: &Flash,

@@ -35,8 +35,8 @@ impl Delivery {
         })
     }
 
-    /// Writes the line of each command in the order of the trace, and then the last line. Each worker's answers stand in a row of its own, in the
-    /// order of its lines.
+    /// Writes the line of each command in the order of the trace, and then the last line. Each row of answers is that of one worker, in the order
+    /// of its lines.
     pub fn deliver<W: Write>(
         self,
         commands: &Commands,

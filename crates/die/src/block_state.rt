@@ -1,4 +1,4 @@
-/// What a die keeps of a block beside its pages.
+/// What a die stores for a block in addition to its pages.
 #[derive(Clone, Copy)]
 pub struct BlockState {
     /// How many pages are programmed, which is also the page to be programmed next.

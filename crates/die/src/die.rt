@@ -12,7 +12,7 @@ pub const ERASED_BYTE: u8 = 0xff;
 /// The stamp of an erased page.
 pub const ERASED_STAMP: u64 = u64::MAX;
 
-/// The dies of a device, as one row of blocks.
+/// The dies of a device, as one list of blocks.
 #[derive(Drop)]
 pub struct Die {
     geometry: Geometry,
@@ -54,7 +54,7 @@ impl Die {
         })
     }
 
-    /// The numbers that the die was made by.
+    /// The numbers that the die was made with.
     pub fn geometry(&self) -> Geometry
         ensures { result ≡ geometry_of self.now }
     {
@@ -71,8 +71,7 @@ impl Die {
         at.block as usize * self.geometry.pages() as usize + at.page as usize
     }
 
-    /// ONFI 4.0, Read: the main bytes into `out`, and the stamp. A page that isn't programmed shows
-    /// ones in every bit.
+    /// ONFI 4.0, Read: copies the main bytes into `out`, and returns the stamp. In a page that isn't programmed every bit is one.
     pub fn read(&self, at: PageAddr, out: &mut [u8]) -> u64
         requires usable { IsUsable self.now at.block }
         requires room { length out.old ≡ page_bytes_of (geometry_of self.now) }
@@ -88,7 +87,7 @@ impl Die {
         u64::from(self.stamps[place])
     }
 
-    /// The main bytes of a programmed page, where they stand.
+    /// The main bytes of a programmed page, without a copy.
     pub fn page(&self, at: PageAddr) -> &[u8]
         requires { IsProgrammed self.now at }
         ensures value { result.now ≡ (page_at (page_bytes_of (geometry_of self.now)) (block_of self.now at.block) at.page).value }
@@ -97,7 +96,7 @@ impl Die {
         lend_page(&self.bytes, self.geometry.page_bytes(), self.place_of(at))
     }
 
-    /// ONFI 4.0, Read with a column address in the spare bytes: the stamp of a programmed page alone.
+    /// ONFI 4.0, Read with a column address in the spare bytes: only the stamp of a programmed page.
     pub fn stamp(&self, at: PageAddr) -> u64
         requires { IsProgrammed self.now at }
         ensures { result ≡ (page_at (page_bytes_of (geometry_of self.now)) (block_of self.now at.block) at.page).stamp }
@@ -105,8 +104,8 @@ impl Die {
         u64::from(self.stamps[self.place_of(at)])
     }
 
-    /// ONFI 4.0, Page Program: the page holds the bytes and the stamp. The status is 0, for only an
-    /// erase can fail here; the pages of a block are programmed in order, each once between two erases.
+    /// ONFI 4.0, Page Program: the page gets the bytes and the stamp. The status is 0, since only an erase can fail here. The pages of a block are
+    /// programmed in order, each once between two erases.
     pub fn program(&mut self, at: PageAddr, bytes: &[u8], stamp: u32) -> u8
         requires next { IsNext self.old at }
         requires size { length bytes.now ≡ page_bytes_of (geometry_of self.old) }
@@ -122,8 +121,7 @@ impl Die {
         0
     }
 
-    /// ONFI 4.0, Copyback Read and Copyback Program: `to` holds the main bytes and the stamp of `from`,
-    /// on the same LUN. The status is 0.
+    /// ONFI 4.0, Copyback Read and Copyback Program: `to` gets the main bytes and the stamp of `from`, on the same LUN. The status is 0.
     pub fn copyback(&mut self, from: PageAddr, to: PageAddr) -> u8
         requires source { IsProgrammed self.old from }
         requires next { IsNext self.old to }
@@ -144,8 +142,8 @@ impl Die {
         0
     }
 
-    /// ONFI 4.0, Block Erase: no page of the block is programmed. The status is 0, or 1 (FAIL) for the
-    /// last erase of the block's endurance, which retires it.
+    /// ONFI 4.0, Block Erase: afterwards no page of the block is programmed. The status is 0, or 1 (FAIL) for the last erase of the block's
+    /// endurance, which retires it.
     pub fn erase(&mut self, block: u32) -> u8
         requires { IsUsable self.old block }
         ensures status { result ≡ (if (block_of self.old block).erases + 1 == endurance_of (geometry_of self.old) then 1 else 0) }

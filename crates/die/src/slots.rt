@@ -1,7 +1,7 @@
 ghost use Rattle.std.specs.Prelude.{◌≡◌, ℕ, ◌≢◌, ◌+◌, ◌*◌, ◌≤◌, length};
 ghost use Rattle.die.specs.Slots.{slot, PutsSlot};
 
-/// Copies the page at a place out of the bytes of all pages.
+/// Copies the page at an index out of the bytes of all pages.
 pub fn get_page(bytes: &[u8], place: usize, out: &mut [u8])
     requires { (place + 1) * length out.old ≤ length bytes.now }
     ensures { out.new ≡ slot (length out.old) bytes.now place }
@@ -10,7 +10,7 @@ pub fn get_page(bytes: &[u8], place: usize, out: &mut [u8])
     out.copy_from_slice(&bytes[start..start + out.len()]);
 }
 
-/// The page at a place among the bytes of all pages.
+/// The page at an index, among the bytes of all pages.
 pub fn lend_page(bytes: &[u8], page_bytes: usize, place: usize) -> &[u8]
     requires { (place + 1) * page_bytes ≤ length bytes.now }
     ensures value { result.now ≡ slot page_bytes bytes.now place }
@@ -20,7 +20,7 @@ pub fn lend_page(bytes: &[u8], page_bytes: usize, place: usize) -> &[u8]
     &bytes[start..start + page_bytes]
 }
 
-/// Copies a page into its place among the bytes of all pages.
+/// Copies a page to an index, among the bytes of all pages.
 pub fn put_page(bytes: &mut [u8], place: usize, page: &[u8])
     requires { (place + 1) * length page.now ≤ length bytes.old }
     ensures { PutsSlot (length page.now) bytes.old bytes.new place page.now }
@@ -29,7 +29,7 @@ pub fn put_page(bytes: &mut [u8], place: usize, page: &[u8])
     bytes[start..start + page.len()].copy_from_slice(page);
 }
 
-/// Copies a page from its place over another place, both among the bytes of all pages.
+/// Copies a page from one index to another, among the bytes of all pages.
 pub fn move_page(bytes: &mut [u8], page_bytes: usize, from: usize, to: usize)
     requires from_within { (from + 1) * page_bytes ≤ length bytes.old }
     requires to_within { (to + 1) * page_bytes ≤ length bytes.old }

@@ -4,7 +4,7 @@ ghost use Rattle.erase_queue.specs.Queue.{fulls_of, empties_of, one_more};
 use crate::sight::Sight;
 use crossbeam_queue::Pass;
 
-/// What a broom puts and takes numbers by. It counts the refusals.
+/// A broom's right to put numbers and to take them. It counts the refusals.
 #[derive(Drop)]
 pub struct QueuePass {
     pub(crate) port: Pass<usize, Sight>,

@@ -31,7 +31,7 @@ fn fix_limit(numbers: &Numbers, first: &mut Pass<usize, Sight>, limit: usize)
 }
 
 impl EraseQueue {
-    /// A queue with room for so many numbers, which are below that limit, and a pass for each broom. No other call takes memory.
+    /// A queue with room for `limit` numbers, all below the limit, and a pass for each broom. No other call takes memory.
     #[tactic(auto, using(crate::proofs::Course::begins))]
     pub fn new(
         alloc: Global,
@@ -52,14 +52,14 @@ impl EraseQueue {
         Ok((EraseQueue { numbers }, passes))
     }
 
-    /// What the numbers are below, and how many of them there is room for.
+    /// All numbers are below it, and there is room for as many.
     pub fn limit(&self) -> usize
         ensures { result ≡ limit_of self.now }
     {
         self.numbers.capacity()
     }
 
-    /// Puts a number behind the others. The answer is false where there was no room for it.
+    /// Puts a number after all others. Returns false if there was no room for it.
     pub fn put(&self, rt: &impl Wait, pass: &mut QueuePass, block: usize) -> bool
         requires block { block < limit_of self.now }
         requires pass { IsPassOf self.now pass.old }
@@ -85,7 +85,7 @@ impl EraseQueue {
         pushed.is_ok()
     }
 
-    /// Takes the number that has stood there longest.
+    /// Takes the number that was put first.
     #[tactic(auto, using(crate::proofs::Course::puts, crate::proofs::Course::takes, crate::proofs::Course::learns))]
     pub fn take(&self, rt: &impl Wait, pass: &mut QueuePass) -> Option<usize>
         requires { IsPassOf self.now pass.old }

@@ -18,7 +18,7 @@ impl Protocol<usize, Sight> for InOrder {
 /// The numbers of a queue.
 pub type Numbers = RuledArrayQueue<usize, Sight, InOrder>;
 
-/// One number more may be put.
+/// One more number may be put.
 pub struct CountUp;
 
 impl Split<Sight> for CountUp {

@@ -7,7 +7,7 @@ use std::marker::Model;
 
 /// What a pass is for.
 pub enum Role {
-    /// It fixes what the numbers are below.
+    /// It sets the limit of the numbers.
     Counter,
     /// It hands out the passes.
     Dealer,
@@ -21,13 +21,13 @@ pub enum Role {
 #[derive(Drop)]
 pub struct Sight {
     pub ghost role: { Role },
-    /// What the numbers of its queue are below.
+    /// The limit of the numbers of its queue.
     pub ghost limit: { ℕ },
     /// The numbers that were put, as far as it has seen.
     pub ghost puts: { List ℕ },
-    /// How many of them it knows to be taken.
+    /// How many of them it knows were taken.
     pub ghost takes: { ℕ },
-    /// The places, in the list of all puts and in that of all takes, of its own.
+    /// The indices of its own puts in the list of all puts, and of its own takes in the list of all takes.
     pub ghost own_puts: { List ℕ },
     pub ghost own_takes: { List ℕ },
 }

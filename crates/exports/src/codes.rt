@@ -4,7 +4,7 @@ ghost use Rattle.exports.specs.Codes.{was_code, fault_code};
 
 use geometry::{GeometryFault, Was};
 
-/// The call is done, or the sector was empty.
+/// The call succeeded; for a call that reports what the sector was: it was empty.
 pub const DONE: u32 = 0;
 /// The sector was written.
 pub const WRITTEN: u32 = 1;
@@ -14,7 +14,7 @@ pub const CLOSED: u32 = 2;
 pub const NO_SECTOR: u32 = 3;
 /// The buffer is not as long as a page.
 pub const NOT_A_PAGE: u32 = 4;
-/// No page is left for a write, and none can be won.
+/// No page is left for a write, and none can be reclaimed.
 pub const WORN_OUT: u32 = 5;
 /// The heap has no room for the device.
 pub const NO_MEMORY: u32 = 6;

@@ -76,7 +76,7 @@ pub extern "C" fn mintlintel_one_read(
     code
 }
 
-/// Writes a page of bytes to a sector, and answers what the sector was.
+/// Writes a page of bytes to a sector, and returns what the sector was.
 #[unsafe(no_mangle)]
 pub extern "C" fn mintlintel_one_write(
     alloc: Global,
@@ -114,7 +114,7 @@ pub extern "C" fn mintlintel_one_write_new(
     code
 }
 
-/// Empties a sector, and answers what it was.
+/// Empties a sector, and returns what it was.
 #[unsafe(no_mangle)]
 pub extern "C" fn mintlintel_one_trim(alloc: Global, handle: &mut Handle, sector: u32) -> u32
     ensures code { result ≡ (on_state (state_of handle.old) (trim_on sector)).code }
@@ -163,7 +163,7 @@ pub extern "C" fn mintlintel_one_block(
     code
 }
 
-/// The numbers that the device was made by.
+/// The numbers that the device was made with.
 #[unsafe(no_mangle)]
 pub extern "C" fn mintlintel_one_numbers(
     alloc: Global,

@@ -18,7 +18,7 @@ pub struct BlockReport {
     pub retired: u32,
 }
 
-/// The numbers that a device was made by.
+/// The numbers that a device was made with.
 #[repr(C)]
 #[derive(Clone, Copy, Debug, PartialEq, Eq)]
 pub struct NumbersReport {
@@ -32,7 +32,7 @@ pub struct NumbersReport {
     pub brooms: u32,
 }
 
-/// Where a held page stands: its block, in this generation of the block.
+/// The address of a held page: its block, and the generation of the block.
 #[repr(C)]
 #[derive(Clone, Copy, Debug, PartialEq, Eq)]
 pub struct PageReport {

@@ -12,7 +12,7 @@ use std::alloc::Global;
 use std::sync::Arc;
 use volume::{Broom, Held, Holding, Pass, Volume};
 
-/// A pass, beside the device that it is of.
+/// A pass, with its device.
 pub struct Host {
     pub(crate) volume: Arc<Volume, Global>,
     pub(crate) pass: Pass,
@@ -49,7 +49,7 @@ impl Host {
     }
 }
 
-/// A pass that holds a page, beside the device that it is of.
+/// A pass that holds a page, with its device.
 pub struct Holder {
     pub(crate) volume: Arc<Volume, Global>,
     pub(crate) held: Held,
@@ -78,7 +78,7 @@ impl Holder {
     }
 }
 
-/// A broom, beside the device that it is of.
+/// A broom, with its device.
 pub struct Sweeper {
     pub(crate) volume: Arc<Volume, Global>,
     pub(crate) broom: Broom,
@@ -93,8 +93,8 @@ impl Drop for Sweeper {
     }
 }
 
-/// What an open handle has: a device for one thread, or a pass, a hold or a broom of a shared one. `Away` stands in its place while
-/// a call makes a hold of a pass, or a pass of a hold.
+/// What an open handle has: a device for one thread, or a pass, a hold or a broom of a shared one. It is `Away` while a call makes a hold of a
+/// pass, or a pass of a hold.
 #[derive(Drop)]
 pub enum Seat {
     One(OneFtl),

@@ -31,7 +31,7 @@ pub extern "C" fn mintlintel_seat_close(alloc: Global, handle: &mut Handle)
     let _seat = handle.take(alloc);
 }
 
-/// The numbers that the device was made by.
+/// The numbers that the device was made with.
 #[unsafe(no_mangle)]
 pub extern "C" fn mintlintel_seat_numbers(
     alloc: Global,
@@ -91,7 +91,7 @@ pub extern "C" fn mintlintel_host_look(alloc: Global, handle: &mut Handle, secto
     code
 }
 
-/// Writes a page of bytes to a sector, and answers what the sector was.
+/// Writes a page of bytes to a sector, and returns what the sector was.
 #[unsafe(no_mangle)]
 pub extern "C" fn mintlintel_host_write(
     alloc: Global,
@@ -135,7 +135,7 @@ pub extern "C" fn mintlintel_host_write_new(
     code
 }
 
-/// Empties a sector, and answers what it was.
+/// Empties a sector, and returns what it was.
 #[unsafe(no_mangle)]
 pub extern "C" fn mintlintel_host_trim(alloc: Global, handle: &mut Handle, sector: u32) -> u32
     ensures code { result ≡ on_handle (seat_of handle.old) 2 (trim_code sector result) }
@@ -166,7 +166,7 @@ pub extern "C" fn mintlintel_host_hold(alloc: Global, handle: &mut Handle, secto
     code
 }
 
-/// The page that is held, into a buffer of one page.
+/// Copies the page that is held into a buffer of one page.
 #[unsafe(no_mangle)]
 #[tactic(auto, using(crate::proofs::Told::on_open))]
 pub extern "C" fn mintlintel_host_copy(alloc: Global, handle: &mut Handle, out: &mut [u8]) -> u32
@@ -207,7 +207,7 @@ pub extern "C" fn mintlintel_host_word(
     code
 }
 
-/// Where the page that is held stands.
+/// The address of the page that is held.
 #[unsafe(no_mangle)]
 pub extern "C" fn mintlintel_host_held(
     alloc: Global,

@@ -8,7 +8,7 @@ use crate::seat::Seat;
 use std::alloc::Global;
 use std::marker::Model;
 
-/// A seat behind a pointer, or none. It is not `Drop`, so that no seat is lost.
+/// A pointer to a seat, or none. It is not `Drop`, so that no seat is lost.
 #[repr(C)]
 pub struct Slot {
     at: *mut u8,

@@ -25,7 +25,7 @@ impl Play<(), View> for GetSource {
     ghost then = { source_told };
 }
 
-/// A broom exchanges a map word of the page that it relocates for that of its copy.
+/// A broom exchanges the map word of the page that it relocates for that of the copy.
 pub struct MoveTo;
 
 impl Play<(), View> for MoveTo {

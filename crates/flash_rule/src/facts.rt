@@ -16,7 +16,7 @@ pub enum Role {
     Player(Name),
     /// It carries copies of a player's lists to another one.
     Note,
-    /// It was joined into another seat, and makes no step.
+    /// It was joined into another seat, and makes no more steps.
     Gone,
 }
 

@@ -1,8 +1,8 @@
 //! What each step on a pin word has to make of it.
 ghost use Rattle.flash_rule.specs.Forced.{TakeSets, PinAdds, UnpinTakesOff, CountAdds, CloseAdds, ClaimExchanges, DrainAdds, CondemnExchanges, FreeAdds, KeepAdds, RetireAdds, AdditionsDiffer};
 
-/// Whatever operation a step makes on a pin word, and however it is proved: where the rule allows it, and the step tells its seat what
-/// its play says, the word is left as these laws say.
+/// The laws of the steps on pin words: whatever operation a step makes, and however it is proved, if the rule allows it and its seat learns what
+/// its play says, these laws determine the word after it.
 pub fn pin_words_are_forced()
     ensures takes { TakeSets }
     ensures pins { PinAdds }

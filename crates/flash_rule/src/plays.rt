@@ -75,7 +75,7 @@ impl Play<(), View> for AddReader {
     ghost then = { pin_told };
 }
 
-/// A pass takes its reader off a block.
+/// A pass removes its reader from a block.
 pub struct RemoveReader;
 
 impl Play<(), View> for RemoveReader {
@@ -100,7 +100,7 @@ impl Split<View> for DealBroom {
     ghost right = { new_broom };
 }
 
-/// A player's badge and copies of its lists go with a note.
+/// A seat puts its badge and copies of its lists into a note.
 pub struct Lend;
 
 impl Split<View> for Lend {
@@ -109,7 +109,7 @@ impl Split<View> for Lend {
     ghost right = { lent_note };
 }
 
-/// A player takes in another one's note.
+/// A seat takes in the note of another seat.
 pub struct TakeIn;
 
 impl Join<View> for TakeIn {
@@ -118,7 +118,7 @@ impl Join<View> for TakeIn {
     ghost spent = { gone };
 }
 
-/// The other's badge goes back with copies of this player's lists.
+/// A seat returns the other's badge with copies of its own lists.
 pub struct GiveBack;
 
 impl Split<View> for GiveBack {
@@ -127,7 +127,7 @@ impl Split<View> for GiveBack {
     ghost right = { given_note };
 }
 
-/// A player takes in its own badge, with copies of the other's lists.
+/// A seat takes its own badge back, with copies of the other's lists.
 pub struct ComeHome;
 
 impl Join<View> for ComeHome {

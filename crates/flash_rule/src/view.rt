@@ -16,7 +16,7 @@ ghost use Rattle.flash_rule.specs.declared.carried.Carried.{Carried};
 
 use std::marker::Model;
 
-/// What a seat knows. A role leaves the fields that it doesn't use empty.
+/// What a seat knows. The fields that its role doesn't use are empty.
 #[derive(Drop)]
 pub struct View {
     pub ghost role: { Role },
@@ -52,19 +52,19 @@ pub struct View {
     pub ghost moves: { ℕ },
     /// The victims that were drained.
     pub ghost drains: { List Cycle },
-    /// The blocks that were given up, each as it was left.
+    /// The blocks that were given up, each in its last state.
     pub ghost ceded: { List Owned },
-    /// The blocks found with readers, and those found in no drained state.
+    /// The blocks that were found with readers, and those that were found not drained.
     pub ghost busy: { List ℕ },
     pub ghost stale: { List ℕ },
     /// How many passes and how many brooms the dealer has handed out.
     pub ghost passes: { ℕ },
     pub ghost brooms: { ℕ },
-    /// The player's badge is with its own seat.
+    /// Whether the seat has its own badge.
     pub ghost whole: { Bool },
-    /// The player whose badge is here beside the seat's own.
+    /// The seat whose badge this seat has in addition to its own.
     pub ghost guest: { Option Name },
-    /// The copies that were taken in last, and those that were here before them.
+    /// The copies that were taken in last, and those before them.
     pub ghost copy: { Option Carried },
     pub ghost older: { Option Carried },
 }

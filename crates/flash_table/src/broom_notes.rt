@@ -54,7 +54,7 @@ impl Flash {
         Note { seat }
     }
 
-    /// The broom that has lent its badge has it back, with what the other one has seen, programmed and erased.
+    /// Returns the badge to the broom that has lent it, with what the other one has seen, programmed and erased.
     pub fn broom_come_home(&self, broom: &mut BroomSeat, note: Note)
         requires broom { IsBroomOf self.now broom.old }
         requires note { IsNoteOf self.now note }

@@ -20,17 +20,17 @@ pub enum Reclaiming {
     Erasing(ReclaimedBlock),
 }
 
-/// The blocks of a broom's own.
+/// The blocks that a broom owns.
 #[derive(Clone, Copy)]
 pub struct BroomBlocks {
     /// The block that live pages are copied to.
     pub destination: Option<OpenBlock>,
-    /// The block that is to be the next destination.
+    /// The next destination.
     pub spare: Option<OpenBlock>,
     pub reclaiming: Reclaiming,
 }
 
-/// A broom's seat at the table. It crosses threads, and has the blocks of its own.
+/// A broom's seat at the table, with the blocks that it owns. It can be moved to another thread.
 pub struct BroomSeat {
     pub(crate) seat: Seat<(), View>,
     pub(crate) blocks: BroomBlocks,
@@ -47,14 +47,14 @@ impl BroomSeat {
     ghost use Rattle.flash_table.specs.declared.flash.Flash.{Flash};
     ghost use Rattle.flash_table.specs.Flash.{IsBroomOf, broom_view, own_blocks};
 
-    /// The blocks of the broom's own.
+    /// The blocks that the broom owns.
     pub fn blocks(&self) -> BroomBlocks
         ensures { result ≡ own_blocks self.now }
     {
         self.blocks
     }
 
-    /// The spare is the destination from now on.
+    /// Makes the spare the destination.
     pub fn use_spare(&mut self)
         requires { (own_blocks self.old).destination ≡ None }
         ensures blocks { own_blocks self.new ≡ record (own_blocks self.old) { destination = (own_blocks self.old).spare; spare = None } }

@@ -18,7 +18,7 @@ use flash_rule::{Close, Count, PutWord};
 use geometry::{NEXT_PHASE, PAGE_WRITTEN, pin_at};
 
 impl Flash {
-    /// Puts word `i` of the first page not written of the destination, whose words begin at `start`; after the data words comes the stamp.
+    /// Stores word `i` of the destination's first page that isn't written, whose words begin at `start`. The stamp comes after the data words.
     pub fn put_copy_word(&self, broom: &mut BroomSeat, start: usize, i: u32, word: u64)
         requires broom { IsBroomOf self.now broom.old }
         requires next { IsNextWord (geometry_of self.now) (broom_view broom.old) (own_blocks broom.old).destination i }
@@ -33,7 +33,7 @@ impl Flash {
             .store::<PutWord>(&mut broom.seat, place, word);
     }
 
-    /// Counts the page of the destination that was filled: from now on it is programmed.
+    /// Counts the page of the destination that was filled; from now on it is programmed.
     pub fn count_copy(&self, broom: &mut BroomSeat)
         requires broom { IsBroomOf self.now broom.old }
         requires filled { IsFilled (geometry_of self.now) (broom_view broom.old) (own_blocks broom.old).destination }

@@ -16,7 +16,7 @@ use flash_rule::{Condemn, FreeBlock, KeepBlock, RetireBlock, Wipe};
 use geometry::{ERASED, NEXT_PHASE, PageAddr, PinWord, freed, kept, page_word_at, pin_at};
 
 impl Flash {
-    /// Condemns a drained block if it is as expected, and says whether it did: then it is the broom's to erase.
+    /// Condemns a drained block if its state is the expected one. Returns whether it did; then the broom owns the block and may erase it.
     pub fn condemn(&self, broom: &mut BroomSeat, block: u32, expected: PinWord) -> bool
         requires broom { IsBroomOf self.now broom.old }
         requires rested { (own_blocks broom.old).reclaiming ≡ reclaiming.Nothing }
@@ -42,7 +42,7 @@ impl Flash {
         true
     }
 
-    /// Sets word `i` of the block that the broom erases to all ones; the words before it are wiped. A page's stamp stands behind its data words.
+    /// Sets word `i` of the block that the broom erases to all ones, after the words before it. A page's stamp comes after its data words.
     pub fn wipe(&self, broom: &mut BroomSeat, i: u32)
         requires broom { IsBroomOf self.now broom.old }
         requires erasing { (o : ReclaimedBlock) × IsErasing self.now broom.old o }
@@ -65,7 +65,7 @@ impl Flash {
             .store::<Wipe>(&mut broom.seat, place, ERASED);
     }
 
-    /// Gives up the wiped block, which is free in its next generation.
+    /// Gives up the wiped block; it is free, in its next generation.
     pub fn free_block(&self, broom: &mut BroomSeat)
         requires broom { IsBroomOf self.now broom.old }
         requires wiped { (o : ReclaimedBlock) × CanLiveOn self.now broom.old o }
@@ -83,7 +83,7 @@ impl Flash {
         broom.blocks.reclaiming = Reclaiming::Nothing;
     }
 
-    /// Keeps the wiped block as the spare, which is empty and in its next generation.
+    /// Keeps the wiped block as the spare, empty and in its next generation.
     pub fn keep_block(&self, broom: &mut BroomSeat)
         requires broom { IsBroomOf self.now broom.old }
         requires wiped { (o : ReclaimedBlock) × CanLiveOn self.now broom.old o }
@@ -112,7 +112,7 @@ impl Flash {
         };
     }
 
-    /// Gives up the block for good: it was erased as often as it can be.
+    /// Retires the block: it was erased as often as it can be.
     pub fn retire_block(&self, broom: &mut BroomSeat)
         requires broom { IsBroomOf self.now broom.old }
         requires last { (o : ReclaimedBlock) × IsLastErase self.now broom.old o }

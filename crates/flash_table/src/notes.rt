@@ -53,7 +53,7 @@ impl Flash {
         Note { seat }
     }
 
-    /// The pass that has lent its badge has it back, with what the other one has seen and programmed.
+    /// Returns the badge to the pass that has lent it, with what the other one has seen and programmed.
     pub fn come_home(&self, pass: &mut Pass, note: Note)
         requires pass { IsPassOf self.now pass.old }
         requires note { IsNoteOf self.now note }

@@ -46,7 +46,7 @@ fn blocks_with_spare(block: u32) -> BroomBlocks
 }
 
 impl Flash {
-    /// A device with its hosts' passes, pass t with number t, and its brooms' seats, each with a spare. `Err` is out of memory.
+    /// A device with its hosts' passes, pass t with number t, and its brooms' seats, each with a spare. `Err` means out of memory.
     pub fn open(
         alloc: Global,
         geometry: &Geometry,

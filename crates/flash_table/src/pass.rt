@@ -9,7 +9,7 @@ pub struct OpenBlock {
     pub written: u32,
 }
 
-/// A host's seat at the table. It crosses threads, and has the block that it writes into.
+/// A host's seat at the table, with the block that it writes into. It can be moved to another thread.
 pub struct Pass {
     pub(crate) seat: Seat<(), View>,
     pub(crate) opened: Option<OpenBlock>,
@@ -17,7 +17,7 @@ pub struct Pass {
     ghost owns: { seat.me.0.owns ≡ owned_list opened },
 }
 
-/// A note on its way from one pass or broom to another. It is to be taken in.
+/// A note from one pass or broom to another, which has to take it in.
 pub struct Note {
     pub(crate) seat: Seat<(), View>,
     ghost bare: { seat.me.1 ≡ [] },

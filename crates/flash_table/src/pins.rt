@@ -35,7 +35,7 @@ fn finds_intact(word: u64, generation: u32) -> bool
 }
 
 impl Flash {
-    /// Pins the block of the page that a look has named. It is false where the block isn't any more as it was at the look.
+    /// Pins the block of the page that a look has named. Returns false if the block was erased since the look, is being erased, or is retired.
     pub fn pin(&self, pass: &mut Pass, page: MapWord) -> bool
         requires pass { IsPassOf self.now pass.old }
         requires candidate { (value : List ℕ) × ((view_of pass.old).pin ≡ pin.Candidate page value) }
@@ -52,7 +52,7 @@ impl Flash {
         finds_intact(found, page.generation)
     }
 
-    /// Takes the pin off its block.
+    /// Removes the pin from its block.
     pub fn unpin(&self, pass: &mut Pass, block: u32)
         requires pass { IsPassOf self.now pass.old }
         requires pinned { IsOn (view_of pass.old).pin block }
@@ -67,7 +67,7 @@ impl Flash {
             .fetch_sub::<RemoveReader>(&mut pass.seat, word, READER);
     }
 
-    /// The place in the table at which a page's words begin.
+    /// The index in the table at which a page's words begin.
     pub fn page_start(&self, page: MapWord) -> usize
         requires block { page.block < blocks_of (geometry_of self.now) }
         requires page { page.page < pages_of (geometry_of self.now) }

@@ -34,7 +34,7 @@ impl Flash {
         state
     }
 
-    /// Makes a closed block the broom's victim, if its state is still this one, and says whether it did.
+    /// Makes a closed block the broom's victim if its state is still this one. Returns whether it did.
     pub fn claim(&self, broom: &mut BroomSeat, block: u32, state: PinWord) -> bool
         requires broom { IsBroomOf self.now broom.old }
         requires block { block < blocks_of (geometry_of self.now) }
@@ -63,7 +63,7 @@ impl Flash {
         true
     }
 
-    /// Gives up the victim, all of whose counted pages are dead.
+    /// Gives up the victim after all its counted pages are dead.
     pub fn drain(&self, broom: &mut BroomSeat)
         requires broom { IsBroomOf self.now broom.old }
         requires cleared { IsCleared (geometry_of self.now) (broom_view broom.old) (own_blocks broom.old) }

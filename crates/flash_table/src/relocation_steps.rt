@@ -69,7 +69,7 @@ impl Flash {
         self.table.shared.load::<GetSource>(&mut broom.seat, place)
     }
 
-    /// Names a copy as the sector's page, if its map word still names the page that was copied, and says whether it did.
+    /// Makes the copy the sector's page if its map word still names the page that was copied. Returns whether it did.
     pub fn move_to(&self, broom: &mut BroomSeat, sector: u32, from: MapWord, to: MapWord) -> bool
         requires broom { IsBroomOf self.now broom.old }
         requires sector { sector < sectors_of (geometry_of self.now) }

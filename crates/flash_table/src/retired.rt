@@ -19,7 +19,7 @@ impl Pass {
     ghost use Rattle.flash_table.specs.Flash.{view_of, opened_of};
     ghost use Rattle.flash_table.specs.Leaving.{retired_view};
 
-    /// Gives the pass up. It has no block open and nothing pinned, so that nobody ever waits for it.
+    /// Gives the pass up. It has no open block and nothing pinned, so no block is kept from the others.
     pub fn leave(self) -> Retired
         requires closed { opened_of self ≡ None }
         requires unpinned { is_unpinned (view_of self).pin ≡ true }

@@ -19,7 +19,7 @@ impl BroomSeat {
     ghost use Rattle.flash_table.specs.Leaving.{retired_broom_view};
     ghost use Rattle.flash_table.specs.declared.broom_seat.Reclaiming.TheVariants as reclaiming;
 
-    /// Gives the broom up. It has no block of its own, so that none is lost to the others.
+    /// Gives the broom up. It owns no block, so none is lost to the others.
     pub fn leave(self) -> RetiredBroom
         requires destination { (own_blocks self).destination ≡ None }
         requires spare { (own_blocks self).spare ≡ None }

@@ -12,7 +12,7 @@ use flash_rule::Take;
 use geometry::{TAKEN, pin_at};
 
 impl Flash {
-    /// Takes a block as the broom's spare if it is free, and says whether it did.
+    /// Takes a block as the broom's spare if it is free. Returns whether it did.
     pub fn take_spare(&self, broom: &mut BroomSeat, block: u32) -> bool
         requires broom { IsBroomOf self.now broom.old }
         requires no_spare { (own_blocks broom.old).spare ≡ None }

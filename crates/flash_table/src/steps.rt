@@ -64,7 +64,7 @@ impl Flash {
         MapWord::unpack(found)
     }
 
-    /// Names a page that the pass has filled and counted as the sector's. The answer is what the sector was.
+    /// Makes a page that the pass has filled and counted the sector's page. Returns what the sector was.
     pub fn place_write(&self, pass: &mut Pass, sector: u32, page: MapWord) -> Was
         requires pass { IsPassOf self.now pass.old }
         requires sector { sector < sectors_of (geometry_of self.now) }
@@ -82,7 +82,7 @@ impl Flash {
         was_by(found)
     }
 
-    /// Names a page that the pass has filled and counted as the sector's, if no page is named. The answer is what the sector was.
+    /// Makes a page that the pass has filled and counted the sector's page if the sector is empty. Returns what the sector was.
     pub fn place_new(&self, pass: &mut Pass, sector: u32, page: MapWord) -> Was
         requires pass { IsPassOf self.now pass.old }
         requires sector { sector < sectors_of (geometry_of self.now) }
@@ -100,7 +100,7 @@ impl Flash {
         was_by(found)
     }
 
-    /// Empties the sector. The answer is what it was.
+    /// Empties the sector. Returns what it was.
     pub fn place_trim(&self, pass: &mut Pass, sector: u32) -> Was
         requires pass { IsPassOf self.now pass.old }
         requires sector { sector < sectors_of (geometry_of self.now) }
@@ -115,7 +115,7 @@ impl Flash {
         was_by(found)
     }
 
-    /// Takes a block if it is free, and says whether it did.
+    /// Takes a block if it is free. Returns whether it did.
     pub fn take(&self, pass: &mut Pass, block: u32) -> bool
         requires pass { IsPassOf self.now pass.old }
         requires nothing_open { opened_of pass.old ≡ None }
@@ -141,7 +141,7 @@ impl Flash {
         }
     }
 
-    /// Puts word `i` of the first page not written of the open block, whose words begin at `start`; after the data words comes the stamp.
+    /// Stores word `i` of the open block's first page that isn't written, whose words begin at `start`. The stamp comes after the data words.
     pub fn put_word(&self, pass: &mut Pass, start: usize, i: u32, word: u64)
         requires pass { IsPassOf self.now pass.old }
         requires next { IsNextWord (geometry_of self.now) (view_of pass.old) (opened_of pass.old) i }
@@ -156,7 +156,7 @@ impl Flash {
             .store::<PutWord>(&mut pass.seat, place, word);
     }
 
-    /// Counts the page that was filled: from now on it is programmed.
+    /// Counts the page that was filled; from now on it is programmed.
     pub fn count(&self, pass: &mut Pass)
         requires pass { IsPassOf self.now pass.old }
         requires filled { IsFilled (geometry_of self.now) (view_of pass.old) (opened_of pass.old) }

@@ -8,7 +8,7 @@ use std::os::unix::fs::{FileTypeExt, MetadataExt};
 /// Where the run's file stands that was opened last, by its device and its number there.
 pub type Place = Cell<Option<(u64, u64)>>;
 
-/// A file that a run writes beside its answers. What stood in it goes when its first bytes are written.
+/// A file that a run writes in addition to its answers. It is emptied when its first bytes are written.
 #[derive(Drop)]
 pub struct OutFile<'a> {
     runtime: &'a HostRuntime,

@@ -3,11 +3,11 @@
 pub struct Collection {
     /// The block that is erased.
     pub victim: u32,
-    /// Its live pages; each of them is copied.
+    /// The number of its live pages; each of them is copied.
     pub copied: u32,
     /// How many of the copies are copybacks within one LUN.
     pub copybacks: u32,
-    /// The victim's erase commands, this one included.
+    /// The victim's erase commands, including this one.
     pub erases: u32,
     /// Whether the erase fails, which retires the victim.
     pub retired: bool,

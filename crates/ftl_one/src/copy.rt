@@ -7,7 +7,7 @@ ghost use Rattle.ftl_one.specs.Copying.{copybacks_after};
 use die::Die;
 use geometry::PageAddr;
 
-/// Copies a sector's page: by copyback on its own LUN, and else by a read and a program through `page`.
+/// Copies a sector's page: by copyback on its own LUN, and otherwise by a read and a program through `page`.
 pub fn copy_page(
     die: &mut Die,
     page: &mut [u8],

@@ -14,7 +14,7 @@ use geometry::{Geometry, Got, Was};
 use std::alloc::{AllocError, Global};
 use thiserror::Error;
 
-/// No page is left for a write, and none can be won.
+/// No page is left for a write, and none can be reclaimed.
 #[derive(Clone, Copy, Debug, PartialEq, Eq, Error)]
 #[error("no page is left to write")]
 pub struct WornOut;
@@ -22,10 +22,10 @@ pub struct WornOut;
 /// Why a write of an empty sector changed nothing.
 #[derive(Clone, Copy, Debug, PartialEq, Eq, Error)]
 pub enum NewOneFault {
-    /// No page is left for a write, and none can be won.
+    /// No page is left for a write, and none can be reclaimed.
     #[error("no page is left to write")]
     WornOut,
-    /// The sector was written already.
+    /// The sector was already written.
     #[error("the sector is written")]
     Written,
 }
@@ -38,7 +38,7 @@ pub struct Counts {
     pub erases: u64,
 }
 
-/// The layer: each sector has its current page, and blocks are collected as pages run out.
+/// The layer: each sector has its current page, and blocks are collected when pages run out.
 #[derive(Drop)]
 pub struct OneFtl {
     store: Store,
@@ -93,7 +93,7 @@ impl OneFtl {
         })
     }
 
-    /// The numbers that the layer was made by: how many sectors it has, and the size of a page.
+    /// The numbers that the layer was made with: how many sectors it has, and the size of a page.
     pub fn geometry(&self) -> Geometry
         ensures value { result ≡ geometry_of self.now }
         ensures sectors { length (array_of self.now) ≡ sectors_of (geometry_of self.now) }
@@ -110,7 +110,7 @@ impl OneFtl {
         self.store.read(sector, out)
     }
 
-    /// The page of a sector where it stands, or none for an empty sector.
+    /// The page of a sector, without a copy, or none for an empty sector.
     pub fn page(&self, sector: u32) -> Option<&[u8]>
         requires { sector < sectors_of (geometry_of self.now) }
         ensures some { IfSome result (λ page. sector_at (array_of self.now) sector ≡ Some page.now) }
@@ -120,7 +120,7 @@ impl OneFtl {
         self.store.page(sector)
     }
 
-    /// Writes a sector, and answers what it was.
+    /// Writes a sector, and returns what it was.
     pub fn write(&mut self, sector: u32, bytes: &[u8]) -> Result<Was, WornOut>
         requires sector { sector < sectors_of (geometry_of self.old) }
         requires page { length bytes.now ≡ page_bytes_of (geometry_of self.old) }
@@ -152,7 +152,7 @@ impl OneFtl {
         Ok(self.write_into(block, sector, bytes))
     }
 
-    /// Writes a sector if it is empty. Where it is written, nothing is programmed.
+    /// Writes a sector if it is empty; otherwise nothing is programmed.
     pub fn write_new(&mut self, sector: u32, bytes: &[u8]) -> Result<(), NewOneFault>
         requires sector { sector < sectors_of (geometry_of self.old) }
         requires page { length bytes.now ≡ page_bytes_of (geometry_of self.old) }
@@ -181,7 +181,7 @@ impl OneFtl {
         }
     }
 
-    /// Empties a sector, and answers what it was.
+    /// Empties a sector, and returns what it was.
     pub fn trim(&mut self, sector: u32) -> Was
         requires sector { sector < sectors_of (geometry_of self.old) }
         ensures geometry { geometry_of self.new ≡ geometry_of self.old }
@@ -201,7 +201,7 @@ impl OneFtl {
         self.counts
     }
 
-    /// How many erase commands a block has had, the one that failed included.
+    /// How many erase commands a block has had, including the one that failed.
     pub fn erases(&self, block: u32) -> u32
         requires { block < blocks_of (geometry_of self.now) }
         ensures { result ≡ (block_at (stock_of self.now) block).erases }
@@ -217,7 +217,7 @@ impl OneFtl {
         u32::from(self.store.live()[block as usize])
     }
 
-    /// The collection that the next write makes that programs a page, if it needs one: the open block is full, and no block is free.
+    /// The collection that the next programmed page needs. It needs one if the open block is full and no block is free.
     pub fn collection_due(&self) -> Option<Collection>
         ensures { result ≡ collection_due (geometry_of self.now) (stock_of self.now) }
     {

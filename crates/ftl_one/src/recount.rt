@@ -3,7 +3,7 @@ ghost use Rattle.ftl_one.specs.Entries.{Recounts};
 
 use geometry::PageAddr;
 
-/// Counts one page as dead and one as live, where there are such.
+/// Counts one page as dead and one as live, if there are such.
 pub fn recount(counts: &mut [u16], dead: Option<PageAddr>, live: Option<PageAddr>)
     requires dead_within { IfSome dead (λ at. at.block < length counts.old) }
     requires counted { IfSome dead (λ at. 0 < slice_index counts.old at.block) }

@@ -6,7 +6,7 @@ ghost use Rattle.ftl_one.specs.declared.role.Role.TheVariants.{Open, Spare, Reti
 
 use crate::role::Role;
 
-/// Makes the spare the open block and the victim the spare, or retires the victim where its erase has failed.
+/// Makes the spare the open block and the victim the spare, or retires the victim if its erase has failed.
 pub fn hand_over(roles: &mut [Role], spare: u32, victim: u32, failed: bool)
     requires spare { spare < length roles.old }
     requires victim { victim < length roles.old }
@@ -30,7 +30,7 @@ fn first_free(roles: &[Role]) -> Option<usize>
     roles.iter().position(|role| matches!(role, Role::Free))
 }
 
-/// The lowest free block, where none below the given one is free.
+/// The lowest free block, if none below the given one is free.
 pub fn lowest_free(roles: &[Role], from: usize) -> Option<usize>
     requires within { from ≤ length roles.now }
     requires none_below { (b : ℕ) → b < from → is_free (role_in roles.now b) ≡ false }

@@ -89,7 +89,7 @@ impl Store {
         Some(self.die.page(at))
     }
 
-    /// What a sector is.
+    /// Whether a sector is written.
     pub fn was(&self, sector: u32) -> Was
         requires { sector < sectors_of (geometry_of self.now) }
         ensures { result ≡ was_of (sector_at (array_of self.now) sector) }
@@ -97,7 +97,7 @@ impl Store {
         answer_of(self.current[sector as usize].page())
     }
 
-    /// Empties a sector, and answers what it was.
+    /// Empties a sector, and returns what it was.
     pub fn forget(&mut self, sector: u32) -> Was
         requires { sector < sectors_of (geometry_of self.old) }
         ensures answer { result ≡ was_of (sector_at (array_of self.old) sector) }
@@ -111,7 +111,7 @@ impl Store {
         answer_of(was)
     }
 
-    /// Programs the next page of a block for a sector, and answers what the sector was.
+    /// Programs the next page of a block for a sector, and returns what the sector was.
     pub fn put(&mut self, block: u32, sector: u32, bytes: &[u8]) -> Was
         requires room { HasRoom self.old block }
         requires sector { sector < sectors_of (geometry_of self.old) }
@@ -178,7 +178,7 @@ impl Store {
         recount(&mut self.live, Some(source), Some(to));
     }
 
-    /// Copies the live pages of a block behind those of another, in their order, and answers how many.
+    /// Copies the live pages of a block to the end of another, in their order, and returns how many.
     pub fn clear(&mut self, victim: u32, spare: u32) -> u32
         requires victim { victim < blocks_of (geometry_of self.old) }
         requires usable { retired_of self.old victim ≡ false }
@@ -202,7 +202,7 @@ impl Store {
         copies
     }
 
-    /// Erases a block that has no live page, and answers whether the erase has failed.
+    /// Erases a block that has no live page, and returns whether the erase has failed.
     pub fn erase(&mut self, block: u32) -> bool
         requires block { block < blocks_of (geometry_of self.old) }
         requires usable { retired_of self.old block ≡ false }

@@ -1,4 +1,4 @@
-/// What a read found. With `Data` the caller's buffer holds the sector's value.
+/// What a read found. With `Data` the caller's buffer has the sector's value.
 #[derive(Clone, Copy, Debug, PartialEq, Eq)]
 pub enum Got {
     Empty,

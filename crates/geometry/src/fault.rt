@@ -4,7 +4,7 @@ ghost use Rattle.geometry.specs.Faults.{fault_name};
 use std::error::Error;
 use std::fmt;
 
-/// Why eight numbers make no device. The first that applies is answered, in the order here.
+/// Why eight numbers make no device: the first fault that applies, in this order.
 #[derive(Clone, Copy, Debug, PartialEq, Eq)]
 pub enum GeometryFault {
     /// The LUNs are out of range.
@@ -23,7 +23,7 @@ pub enum GeometryFault {
     Passes,
     /// The table of all words would be too large.
     TooManyWords,
-    /// The blocks leave too little room for the sectors beside what collection needs.
+    /// The blocks have too little room for the sectors and for what collection needs.
     TooFewBlocks,
 }
 

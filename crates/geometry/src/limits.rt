@@ -14,11 +14,11 @@ pub const MAX_SECTORS: u32 = 1_048_576;
 pub const MAX_ENDURANCE: u32 = 1_000_000;
 /// The most host passes. With none the device is for one thread.
 pub const MAX_HOSTS: u32 = 500;
-/// The most brooms, which collect garbage beside the hosts.
+/// The most brooms, which collect garbage while hosts read and write.
 pub const MAX_BROOMS: u32 = 32;
 /// The most words of a shared device's table: one a sector, one a block, and each page's words and stamp.
 pub const MAX_TABLE_WORDS: u64 = 16_777_216;
 /// How many bytes a word has.
 pub const WORD_BYTES: u32 = 8;
-/// A trace for one thread may name this many workers, whose numbers are ignored.
+/// How many workers a trace for one thread may name; their numbers are ignored.
 pub const LONE_WORKERS: u32 = 500;

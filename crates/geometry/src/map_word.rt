@@ -16,7 +16,7 @@ const MAP_PAGES: u64 = 0x1_0000;
 pub const MAP_BLOCKS: u64 = 0x1_0000;
 /// Generations are below this: a block is erased at most 1,000,000 times.
 pub const MAP_GENERATIONS: u64 = 0x8000_0000;
-/// One block further. Blocks have bits 16 to 31.
+/// One more block. Blocks have bits 16 to 31.
 pub const MAP_BLOCK: u64 = MAP_PAGES;
 /// One more generation. The generation has bits 32 to 62.
 pub const MAP_GENERATION: u64 = MAP_BLOCKS * MAP_BLOCK;
@@ -42,7 +42,7 @@ impl MapWord {
             + self.page as u64
     }
 
-    /// `None` where bit 63 is clear.
+    /// Returns `None` if bit 63 is clear.
     pub fn unpack(word: u64) -> Option<MapWord>
         ensures some { IfSome result (λ page. FitsMap page × (map_word page ≡ word)) }
         ensures none { IfNone result (word < MAPPED) }
@@ -59,7 +59,7 @@ impl MapWord {
     }
 }
 
-/// A map word names one page, so that `unpack` undoes `pack`.
+/// Different fields have different map words, so `unpack` is the inverse of `pack`.
 pub fn map_word_names_one_page()
     ensures { (m n : MapWord) → FitsMap m → FitsMap n → map_word m ≡ map_word n → m ≡ n }
 {}
@@ -71,7 +71,7 @@ pub fn every_page_fits(geometry: &Geometry)
     let _geometry = *geometry;
 }
 
-/// For people who debug: `block 2 page 3 generation 1`.
+/// For debugging: `block 2 page 3 generation 1`.
 impl Display for MapWord {
     fn fmt<W: fmt::Write>(&self, f: &mut Formatter<W>) -> fmt::Result {
         write!(

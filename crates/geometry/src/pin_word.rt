@@ -19,13 +19,13 @@ pub const PAGES_WRITTEN: u64 = 0x1_0000;
 /// Generations are below this: a block is erased at most 1,000,000 times.
 pub const GENERATIONS: u64 = 0x1_0000_0000;
 
-/// One reader more.
+/// One more reader.
 pub const READER: u64 = 1;
-/// Bit 12: somebody has taken the block since it was free.
+/// Bit 12: the block was taken since it was free.
 pub const TAKEN: u64 = READERS;
-/// From a taken block's phase to the next one. Phases have bits 13 to 15.
+/// The step from a taken block's phase to the next one. Phases have bits 13 to 15.
 pub const NEXT_PHASE: u64 = 2 * TAKEN;
-/// One page written more. Pages written have bits 16 to 31.
+/// One more page written. Pages written have bits 16 to 31.
 pub const PAGE_WRITTEN: u64 = PHASES * NEXT_PHASE;
 /// One generation more. The generation has bits 32 to 63.
 pub const GENERATION: u64 = PAGES_WRITTEN * PAGE_WRITTEN;
@@ -45,26 +45,26 @@ const ERASING: u64 = DRAINED + NEXT_PHASE;
 
 const RETIRED: u64 = ERASING + NEXT_PHASE;
 
-/// What a block goes through between two erases.
+/// The phases of a block between two erases.
 #[derive(Clone, Copy, PartialEq, Eq, Debug)]
 pub enum Phase {
-    /// Nobody's, and erased.
+    /// Erased; nobody owns it.
     Free,
     /// Its owner programs it.
     Open,
-    /// Nobody's, with pages to read.
+    /// It has pages to read; nobody owns it.
     Closed,
     /// Its owner moves the live pages away.
     Victim,
-    /// Nobody's, with no live page.
+    /// It has no live page; nobody owns it.
     Drained,
     /// Its owner erases it.
     Erasing,
-    /// Nobody's, for good.
+    /// Never used again; nobody owns it.
     Retired,
 }
 
-/// The state of a block, as its word has it.
+/// The state of a block, as its pin word encodes it.
 #[derive(Clone, Copy, PartialEq, Eq, Debug)]
 pub struct PinWord {
     pub readers: u32,
@@ -118,7 +118,7 @@ impl PinWord {
             + self.generation as u64 * GENERATION
     }
 
-    /// `None` for a word that is no state of a block.
+    /// Returns `None` for a word that is no state of a block.
     pub fn unpack(word: u64) -> Option<PinWord>
         ensures some { IfSome result (λ pin. FitsPin pin × (pin_word pin ≡ word)) }
         ensures none { IfNone result ((pin : _) → FitsPin pin → pin_word pin ≢ word) }
@@ -138,7 +138,7 @@ impl PinWord {
     }
 }
 
-/// A pin word tells one state, so that `unpack` undoes `pack`.
+/// Different states have different pin words, so `unpack` is the inverse of `pack`.
 pub fn pin_word_tells_one_state()
     ensures { (p q : PinWord) → FitsPin p → FitsPin q → pin_word p ≡ pin_word q → p ≡ q }
 {}
@@ -150,7 +150,7 @@ pub fn every_state_fits(geometry: &Geometry)
     let _geometry = *geometry;
 }
 
-/// What the owner of an erased block with so many pages written adds to make it free, one generation on.
+/// What the owner of an erased block with `written` pages written adds to make it free, in its next generation.
 pub fn freed(written: u32) -> u64
     requires { written < PAGES_WRITTEN }
     ensures { result ≡ freed_added written }
@@ -158,7 +158,7 @@ pub fn freed(written: u32) -> u64
     GENERATION - ERASING - written as u64 * PAGE_WRITTEN
 }
 
-/// What the owner of an erased block with so many pages written adds to keep it open, one generation on.
+/// What the owner of an erased block with `written` pages written adds to keep it open, in its next generation.
 pub fn kept(written: u32) -> u64
     requires { written < PAGES_WRITTEN }
     ensures { result ≡ kept_added written }
@@ -181,7 +181,7 @@ impl Display for Phase {
     }
 }
 
-/// For people who debug: `closed, 2 written, generation 5, 2 readers`.
+/// For debugging: `closed, 2 written, generation 5, 2 readers`.
 impl Display for PinWord {
     fn fmt<W: fmt::Write>(&self, f: &mut Formatter<W>) -> fmt::Result {
         write!(

@@ -7,10 +7,10 @@ ghost use Rattle.geometry.specs.TableOrder.{pin_index, page_index};
 use crate::geometry::Geometry;
 use crate::page_addr::PageAddr;
 
-/// A page word that nobody has written since the last erase.
+/// A page word that was not written since the last erase.
 pub const ERASED: u64 = 0xffff_ffff_ffff_ffff;
 
-/// The place of a block's pin word.
+/// The index of a block's pin word in the table.
 pub fn pin_at(geometry: &Geometry, block: u32) -> usize
     requires { block < blocks_of geometry.now }
     ensures { result ≡ pin_index (numbers_of geometry.now) block }
@@ -18,7 +18,7 @@ pub fn pin_at(geometry: &Geometry, block: u32) -> usize
     geometry.sectors() as usize + block as usize
 }
 
-/// The place of word `i` of a page; after its data words comes its stamp.
+/// The index of word `i` of a page in the table. The stamp comes after the data words.
 pub fn page_word_at(geometry: &Geometry, addr: PageAddr, i: u32) -> usize
     requires block { addr.block < blocks_of geometry.now }
     requires page { addr.page < pages_of geometry.now }
@@ -32,7 +32,7 @@ pub fn page_word_at(geometry: &Geometry, addr: PageAddr, i: u32) -> usize
         + i as usize
 }
 
-/// The words of the table.
+/// How many words the table has.
 pub fn table_size(geometry: &Geometry) -> usize
     ensures { result ≡ table_words_of (blocks_of geometry.now) (pages_of geometry.now) (words_of geometry.now) (sectors_of geometry.now) }
 {

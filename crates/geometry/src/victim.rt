@@ -1,8 +1,8 @@
 ghost use Rattle.std.specs.Prelude.{◌≡◌, ℕ, ◌<◌, length, IfSome, IfNone};
 ghost use Rattle.geometry.specs.Greedy.{greedy_of, IsClosed, IsGreedy, is_better_than};
 
-/// The block to be collected: of the closed blocks the one with the least count, the lowest on a tie.
-/// The counts and the marks stand in the order of the blocks.
+/// The block to collect: of the closed blocks the one with the smallest count, and the lowest of several. The counts and the marks are in the order
+/// of the blocks.
 pub fn greedy(counts: &[u32], closed: &[bool]) -> Option<usize>
     requires { length counts.now ≡ length closed.now }
     ensures value { result ≡ greedy_of counts.now closed.now }

@@ -40,14 +40,14 @@ impl Held {
         self.page.generation
     }
 
-    /// The pass that pins.
+    /// The pass that has pinned it.
     pub fn pass(&self) -> &Pass
         ensures { result.now ≡ pass_of self.now }
     {
         &self.pass
     }
 
-    /// The pass, and the page that it pins in this generation of its block.
+    /// The pass, and the page that it has pinned, with the generation of its block.
     pub fn parts(self) -> (Pass, PageAddr, u32)
         ensures pass { result.0 ≡ pass_of self }
         ensures page { result.1 ≡ addr_of (page_of self) }
@@ -61,7 +61,7 @@ impl Held {
         (pass, addr, page.generation)
     }
 
-    /// A hold of its parts.
+    /// A hold made from its parts.
     pub fn from_parts(pass: Pass, page: PageAddr, generation: u32) -> Held
         requires { (value : List ℕ) × ((view_of pass).pin ≡ pin.Accepted (page_in page generation) value) }
         ensures pass { pass_of result ≡ pass }
@@ -76,7 +76,7 @@ impl Held {
     }
 }
 
-/// Pins the page that holds a sector's value.
+/// Pins the page that has a sector's value.
 pub fn hold(flash: &Flash, pass: Pass, sector: u32) -> Holding
     requires pass { IsReady flash.now pass }
     requires sector { sector < sectors_of (geometry_of flash.now) }
@@ -89,7 +89,7 @@ pub fn hold(flash: &Flash, pass: Pass, sector: u32) -> Holding
     }
 }
 
-/// The value that is held, into a buffer of one page.
+/// Copies the value that is held into a buffer of one page.
 pub fn copy_into(flash: &Flash, held: &mut Held, out: &mut [u8])
     requires held { (value : List ℕ) × Holds flash.now held.old value }
     requires page { length out.old ≡ page_bytes_of (geometry_of flash.now) }
@@ -114,7 +114,7 @@ pub fn word(flash: &Flash, held: &mut Held, i: u32) -> u64
     flash.get_word(&mut held.pass, held.page, start, i)
 }
 
-/// Takes the pin off, and gives the pass back.
+/// Removes the pin, and returns the pass.
 pub fn release(flash: &Flash, held: Held) -> Pass
     requires held { (value : List ℕ) × Holds flash.now held value }
     ensures told { view_of result ≡ record (view_of (pass_of held)) { pin = pin.Clear } }

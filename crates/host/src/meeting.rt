@@ -10,7 +10,7 @@ ghost use Rattle.host.specs.Told.{MetHolding, MetTold};
 use crate::holding::Held;
 use flash_table::{Flash, Pass, Retired};
 
-/// Ties what two passes have seen: by one look of the first, and then one of the second. It changes no answer.
+/// Each of two passes learns what the other has seen: the first makes one look, and then the second makes one. It changes no answer.
 pub fn meet(flash: &Flash, first: &mut Pass, second: &mut Pass)
     requires first { IsReady flash.now first.old }
     requires second { IsReady flash.now second.old }
@@ -51,7 +51,7 @@ pub fn meet_holding(flash: &Flash, held: Held, other: &mut Pass) -> Held
     Held { pass, page }
 }
 
-/// Gives a pass up. The block that it has open, full or not, is closed.
+/// Gives a pass up. Its open block, full or not, is closed.
 pub fn retire(flash: &Flash, pass: Pass) -> Retired
     requires { IsReady flash.now pass }
     ensures { retired_view result ≡ closed_pass (view_of pass) (opened_of pass) }

@@ -11,7 +11,7 @@ use crate::searching::{read_page, search};
 use flash_table::{Flash, Gate, NoGate, Pass, Point};
 use geometry::Got;
 
-/// What a read found, and how many times it looked.
+/// What a read found, and how many looks it made.
 #[derive(Clone, Copy, Debug, PartialEq, Eq)]
 pub struct ReadDone {
     pub got: Got,
@@ -31,7 +31,7 @@ pub fn read(flash: &Flash, pass: &mut Pass, sector: u32, out: &mut [u8]) -> Read
     read_gated(flash, pass, sector, out, &mut NoGate)
 }
 
-/// A read that stops at its gate after each look, and after its pin.
+/// A read that calls its gate after each look, and after its pin.
 pub fn read_gated<G: Gate>(
     flash: &Flash,
     pass: &mut Pass,

@@ -19,7 +19,7 @@ use thiserror::Error;
 #[error("every block is taken")]
 pub struct NoBlock;
 
-/// Writes a page of bytes to a sector. The answer is what the sector was.
+/// Writes a page of bytes to a sector. Returns what the sector was.
 pub fn write(flash: &Flash, pass: &mut Pass, sector: u32, bytes: &[u8]) -> Result<Was, NoBlock>
     requires pass { IsReady flash.now pass.old }
     requires sector { sector < sectors_of (geometry_of flash.now) }
@@ -31,7 +31,7 @@ pub fn write(flash: &Flash, pass: &mut Pass, sector: u32, bytes: &[u8]) -> Resul
     write_gated(flash, pass, sector, bytes, &mut NoGate)
 }
 
-/// A write that stops at its gate once its page is counted, before the sector's map word is swapped.
+/// A write that calls its gate after its page was counted, before the sector's map word is swapped.
 pub fn write_gated<G: Gate>(
     flash: &Flash,
     pass: &mut Pass,
@@ -55,7 +55,7 @@ pub fn write_gated<G: Gate>(
     Ok(was)
 }
 
-/// Empties a sector. The answer is what it was.
+/// Empties a sector. Returns what it was.
 pub fn trim(flash: &Flash, pass: &mut Pass, sector: u32) -> Was
     requires pass { IsReady flash.now pass.old }
     requires sector { sector < sectors_of (geometry_of flash.now) }

@@ -18,13 +18,13 @@ pub enum NewFault {
     /// The pass had no open block, and every block was found taken.
     #[error("every block is taken")]
     NoBlock,
-    /// The sector was written already.
+    /// The sector was already written.
     #[error("the sector is written")]
     Written,
 }
 
-/// Writes a page of bytes to a sector if it is empty. The page is programmed before the sector is looked at, so `NoBlock` comes before
-/// `Written`, and after `Written` the page that was programmed is dead.
+/// Writes a page of bytes to a sector if it is empty. The page is programmed before the sector is tested, so `NoBlock` is returned rather than
+/// `Written` if both apply. After `Written` that page is dead.
 pub fn write_new(flash: &Flash, pass: &mut Pass, sector: u32, bytes: &[u8]) -> Result<(), NewFault>
     requires pass { IsReady flash.now pass.old }
     requires sector { sector < sectors_of (geometry_of flash.now) }
@@ -36,7 +36,7 @@ pub fn write_new(flash: &Flash, pass: &mut Pass, sector: u32, bytes: &[u8]) -> R
     write_new_gated(flash, pass, sector, bytes, &mut NoGate)
 }
 
-/// A write of an empty sector that stops at its gate once its page is counted, before the sector's map word is exchanged.
+/// A write of an empty sector that calls its gate after its page was counted, before the sector's map word is exchanged.
 pub fn write_new_gated<G: Gate>(
     flash: &Flash,
     pass: &mut Pass,

@@ -3,8 +3,7 @@ ghost use Rattle.lines.specs.Lines.{kind_of};
 
 use geometry::Was;
 
-/// What a line was answered. With `Page` a read found the value that stands in its answer's page; with `Met` a round has ended; with `Full` a write
-/// found no block.
+/// The kind of a line's answer. `Page`: a read found the value in the answer's page; `Met`: a round has ended; `Full`: a write found no block.
 #[derive(Clone, Copy, Debug, PartialEq, Eq)]
 pub enum Kind {
     Empty,
@@ -15,7 +14,7 @@ pub enum Kind {
 }
 
 impl Kind {
-    /// The answer of a write or a trim that was done.
+    /// The answer to a write or a trim that was done.
     pub fn of_was(was: Was) -> Kind
         ensures { result ≡ kind_of was }
     {
@@ -26,7 +25,7 @@ impl Kind {
     }
 }
 
-/// The place for a line's answer. The page is a buffer for what a read finds.
+/// A line's answer. The page is a buffer for what a read finds.
 #[derive(Drop)]
 pub struct Answer {
     pub kind: Kind,

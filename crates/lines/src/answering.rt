@@ -17,7 +17,7 @@ impl Cursor {
 }
 
 impl Answers {
-    /// No answer yet, and room for those of so many lines, of which so many are reads. A page has so many bytes.
+    /// An empty list with room for the answers of `lines` lines, `reads` of which are reads of a page.
     pub fn with_room(
         alloc: Global,
         page_bytes: usize,
@@ -42,7 +42,7 @@ impl Answers {
         self.kinds.len()
     }
 
-    /// Adds an answer. Its page is kept if it tells one.
+    /// Adds an answer, with its page if it has one.
     pub fn push(&mut self, kind: Kind, page: &[u8])
         requires space { HasSpace self.old 1 (bytes_of (page_size_of self.old) kind) }
         requires page { kind ≡ kinds.Page → length page.now ≡ page_size_of self.old }
@@ -58,7 +58,7 @@ impl Answers {
         }
     }
 
-    /// The answer at a cursor, which goes on to the next one. Where it tells no page, there is none.
+    /// The answer at a cursor, which moves on to the next one. The page is empty if the answer has none.
     pub fn next(&self, cursor: &mut Cursor) -> (Kind, &[u8])
         requires there { place_of cursor.old < length (said_in self.now) }
         requires at { IsCursorOf self.now cursor.old }

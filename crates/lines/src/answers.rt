@@ -3,7 +3,7 @@ ghost use Rattle.lines.specs.Pages.{bytes_in};
 
 use crate::answer::Kind;
 
-/// Answers of lines, one after another: the kind of each, and side by side the pages that reads have found.
+/// The answers of lines in order: the kind of each, and the pages that reads have found, one after another.
 #[derive(Drop)]
 pub struct Answers {
     pub(crate) page_bytes: usize,
@@ -12,7 +12,7 @@ pub struct Answers {
     pub ghost whole: { length pages.items ≡ bytes_in page_bytes kinds.items },
 }
 
-/// A place among answers: how many stand before it, and where its page begins if it has one.
+/// A place among answers: how many are before it, and where its page begins if it has one.
 #[derive(Clone, Copy)]
 pub struct Cursor {
     pub(crate) line: usize,

@@ -85,7 +85,7 @@ impl Desk {
             .totals(counts.programs, counts.copies, counts.erases);
     }
 
-    /// Adds the names of what is told of each block.
+    /// Adds the header line of the wear.
     pub fn wear_names(&mut self)
         requires room { length (waiting_of self.old.lines) ≤ PIECE_BYTES }
         ensures lines { waiting_of self.new.lines ≡ waiting_of self.old.lines ++ wear_names }
@@ -93,7 +93,7 @@ impl Desk {
         self.lines.wear_names();
     }
 
-    /// Adds the line of a block.
+    /// Adds a block's line of the wear.
     pub fn wear(&mut self, ftl: &OneFtl, block: u32)
         requires block { block < blocks_of (geometry_of ftl.now) }
         requires room { length (waiting_of self.old.lines) ≤ PIECE_BYTES }
@@ -103,7 +103,7 @@ impl Desk {
         self.lines.wear(block, erases, live, retired);
     }
 
-    /// Hands on the lines that wait.
+    /// Writes the lines that wait.
     pub fn hand_on<W: Write>(&mut self, writer: &mut Watched<W>) -> Result<(), OutputFailed>
         ensures sent { OnOk result (Sends (over W.contents writer.old writer.new) (waiting_of self.old.lines)) }
         ensures empty { OnOk result (waiting_of self.new.lines ≡ []) }
@@ -114,7 +114,7 @@ impl Desk {
         self.lines.hand_on(writer)
     }
 
-    /// Hands on the lines that wait, if they are many: there is room for another line then.
+    /// Writes the lines that wait if there are many, so that there is room for another line.
     pub fn make_room<W: Write>(&mut self, writer: &mut Watched<W>) -> Result<(), OutputFailed>
         ensures moved { OnOk result (Moves (over W.contents writer.old writer.new) (waiting_of self.new.lines) (waiting_of self.old.lines)) }
         ensures room { OnOk result (length (waiting_of self.new.lines) ≤ PIECE_BYTES) }

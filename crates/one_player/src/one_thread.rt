@@ -30,7 +30,7 @@ use trace::{Commands, Watched};
 
 /// Plays a trace on a device for one thread, and writes its answers and the totals.
 ///
-/// The whole trace is read and checked before the first command, and all memory is taken before the
+/// The whole trace is read and checked before the first command, and all memory is allocated before the
 /// first byte is written.
 pub fn run<R: Read, W: Write>(
     alloc: Global,

@@ -14,7 +14,7 @@ use answers::Reply;
 use ftl_one::{NewOneFault, OneFtl, WornOut};
 use trace::{Command, Op};
 
-/// Does a command other than a read. The buffer has room for a page, and its bytes are lost.
+/// Does a command other than a read. The buffer has the size of a page, and is overwritten.
 pub fn perform(ftl: &mut OneFtl, command: &Command<'_>, page: &mut [u8]) -> Reply
     requires playable { IsPlayable (geometry_of ftl.old) command.now }
     requires no_read { command.now.op ≢ ops.Read }

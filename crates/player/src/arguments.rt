@@ -10,7 +10,7 @@ use clap::builder::ValueParser;
 use clap::{Arg, ArgMatches, Command, Error};
 use std::alloc::{AllocError, Global};
 
-/// The options that the words of a command line give; the first word is the program's name.
+/// The options that the words of a command line set. The first word is the program's name.
 pub fn options<'a>(alloc: Global, words: &'a [&'a str]) -> Result<Options<'a>, Error>
     ensures numbers { IfOk result (AreOptionsOf (rows_given (map (λ w. w.now) words.entry.now))) }
     ensures outcome { FailsBy (faults_given (map (λ w. w.now) words.entry.now)) result }

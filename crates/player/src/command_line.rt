@@ -1,25 +1,25 @@
-/// The LUNs where `--luns` is absent.
+/// The LUNs if `--luns` is absent.
 pub const LUNS: u32 = 1;
-/// The blocks where `--blocks` is absent.
+/// The blocks if `--blocks` is absent.
 pub const BLOCKS: u32 = 64;
-/// The pages of a block where `--pages` is absent.
+/// The pages of a block if `--pages` is absent.
 pub const PAGES: u32 = 64;
-/// The words of a page where `--words` is absent.
+/// The words of a page if `--words` is absent.
 pub const WORDS: u32 = 64;
-/// The sectors where `--sectors` is absent.
+/// The sectors if `--sectors` is absent.
 pub const SECTORS: u32 = 3072;
-/// The erase cycles of a block where `--endurance` is absent.
+/// The erase cycles of a block if `--endurance` is absent.
 pub const ENDURANCE: u32 = 1000;
-/// The workers where `--workers` is absent: one thread plays the trace.
+/// The workers if `--workers` is absent: one thread plays the trace.
 pub const WORKERS: u32 = 0;
-/// The brooms where `--brooms` is absent.
+/// The brooms if `--brooms` is absent.
 pub const BROOMS: u32 = 0;
-/// The tries of a write where `--patience` is absent.
+/// The tries of a write if `--patience` is absent.
 pub const PATIENCE: u32 = 1_000_000;
-/// The drains of a broom by one survey where `--drains` is absent.
+/// The drains of a broom by one survey if `--drains` is absent.
 pub const DRAINS: u32 = 1;
 
-/// What the command line gives, under the names of its options.
+/// The options of the command line, by their names.
 #[derive(Clone, Copy)]
 pub struct Options<'a> {
     pub luns: u32,

@@ -5,12 +5,12 @@ use crate::stop::Stop;
 use std::alloc::{AllocError, Global};
 use std::env::{Env, FillError};
 
-/// The room at first for an argument. It is doubled while it is too little.
+/// The first size of the buffer for an argument. It is doubled until the argument fits.
 const FIRST_BYTES: usize = 256;
 
-/// The arguments of a program, without the name that it was called by.
+/// The arguments of a program, without its name.
 pub trait Arguments {
-    /// All of them, where they are known.
+    /// All arguments, if they are known.
     ghost all: { Self → Option (List (List ℕ)) } = { λ _. None };
 
     /// The bytes of the argument at a place, or none past the last one.
@@ -35,8 +35,7 @@ impl<S: Env> Arguments for S {
     }
 }
 
-/// The words of the command line: the program's name, whatever it was called by, and then the
-/// arguments. Each has to be UTF-8.
+/// The words of the command line: the program's own name, by whatever name it was called, and then the arguments. Each has to be UTF-8.
 pub fn read_words<S: Arguments>(system: &S, alloc: Global) -> Result<Vec<String>, Stop>
     ensures words { IfOk result (λ words. IfSome (S.all system.now) (AreWordsOf (map string_bytes words.items))) }
     ensures why { IfErr result (IsUnread (S.all system.now)) }

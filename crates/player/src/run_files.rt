@@ -3,7 +3,7 @@ ghost use Rattle.player.specs.Telling.{file_name, file_text};
 
 use trace::OpenFault;
 
-/// One of the files that a run writes beside its answers.
+/// One of the files that a run writes in addition to its answers.
 #[derive(Clone, Copy, Debug, PartialEq, Eq)]
 pub enum RunFile {
     Wear,
@@ -13,7 +13,7 @@ pub enum RunFile {
 /// Why a file of a run was not written.
 #[derive(Clone, Copy, Debug, PartialEq, Eq)]
 pub enum FileStop {
-    /// Workers are asked for, which don't write it.
+    /// The run is by workers, which don't write it.
     NotWithWorkers,
     /// It could not be opened.
     NotOpened,
@@ -39,7 +39,7 @@ impl RunFile {
 impl FileStop {
     ghost use Rattle.player.specs.Session.{stop_of_open};
 
-    /// The reason, as it is printed behind the file's name.
+    /// The reason, as it is printed after the file's name.
     pub fn text(self) -> &'static str
         ensures text { result.now ≡ file_text self }
         ensures short { length result.now ≤ 24 }

@@ -23,17 +23,17 @@ use std::thread::Threads;
 use std::time::Clock;
 use trace::{NamedFile, Watched};
 
-/// A whole session of the program: its arguments, its device, and its run. The answer is the exit
-/// status; a fault is told in a line on `errors`, and whether that line was written changes nothing.
-/// The files that the arguments name are opened before the trace is read, and written once it was played.
+/// A whole session of the program: its arguments, its device, and its run. Returns the exit status. A fault is reported
+/// in a line on `errors`; whether that line was written doesn't change the status. The files that the arguments name are
+/// opened before the trace is read, and written after it was played.
 ///
 /// | Status | When |
 /// |---|---|
-/// | 0 | all was written, or the help or version that the arguments asked for |
+/// | 0 | everything was written: the answers, or the help or the version that the arguments asked for |
 /// | 1 | the input, the output or a file failed |
-/// | 2 | the arguments are refused, make no device, or name a file that isn't one of its own |
+/// | 2 | the arguments are refused, describe no device, or name a file that the run already uses |
 /// | 3 | the trace has a fault, or is too big |
-/// | 4 | memory ran out, or a thread was refused |
+/// | 4 | memory ran out, or a thread could not be started |
 pub fn session<'a, T: Threads + Wait + Clock + Sync, R: Read, W: Write, E: Write, F: NamedFile>(
     rt: &T,
     alloc: Global,

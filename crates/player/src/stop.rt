@@ -21,7 +21,7 @@ pub enum Stop {
     Help,
     /// Memory ran out before the run.
     Memory,
-    /// A file that the command line names was not written. Where it failed after it was opened the answers are whole.
+    /// A file that the command line names was not written. If it failed after it was opened, the answers are complete.
     File(RunFile, FileStop),
 }
 

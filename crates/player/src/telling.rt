@@ -17,8 +17,8 @@ const LINE_BYTES: usize = 64;
 
 type Line = ArrayString<LINE_BYTES>;
 
-/// Tells why a session stopped: in one line or in the text of `clap`, handed on at once. The answer
-/// is the exit status, and whether the text was written changes nothing.
+/// Reports why a session stopped, in one line or in the text of `clap`, which is written at once. Returns the exit status; whether the text was
+/// written doesn't change it.
 pub fn tell<E: Write>(stop: &Stop, errors: &mut Watched<E>) -> u8
     ensures status { result ≡ status_of stop.now }
     ensures told { TellsStop stop.now (over E.contents errors.old errors.new) }

@@ -117,8 +117,8 @@ fn play_line<G: Gate>(
     }
 }
 
-/// Plays lines one after another by one pass, and keeps an answer for each. A write that finds no block is tried again, up to `patience` calls in
-/// all, and is then answered `Full`.
+/// Plays lines one after another with one pass, and stores an answer for each. A write that finds no block is tried again, up to `patience` calls
+/// in all, and is then answered `Full`.
 pub fn play<G: Gate>(
     volume: &Volume,
     pass: &mut Pass,
@@ -142,7 +142,7 @@ pub fn play<G: Gate>(
     }
 }
 
-/// Plays the lines at these places of a trace, as `play` does, with a buffer of a page, and adds their answers to others.
+/// Plays the lines at these indices of a trace as `play` does, with a buffer of one page, and adds their answers to the list.
 pub fn play_at<G: Gate>(
     volume: &Volume,
     pass: &mut Pass,

@@ -8,9 +8,9 @@ use trace::{Commands, Op};
 /// Which worker does which lines of a trace, and where its rounds end.
 #[derive(Drop)]
 pub struct Plan {
-    /// For each worker the places of its lines among the commands, in order.
+    /// For each worker the indices of its lines among the commands, in order.
     pub rows: Vec<Vec<usize>>,
-    /// The places of the meetings, and behind them the number of all commands.
+    /// The indices of the meetings, and then the number of all commands.
     pub ends: Vec<usize>,
 }
 
@@ -45,7 +45,7 @@ fn empty_rows(alloc: Global, hosts: u32) -> Result<Vec<Vec<usize>>, AllocError>
     Ok(rows)
 }
 
-/// The place in a worker's row behind its lines that stand before an end, from a place on before which all do.
+/// The index of the first line of a worker's row, from index `from` on, that doesn't come before `end`.
 pub fn past(row: &[usize], from: usize, end: usize) -> usize
     requires { from ≤ length row.now }
     ensures later { from ≤ result }

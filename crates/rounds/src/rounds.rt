@@ -2,7 +2,7 @@ ghost use Rattle.rounds.specs.Told.{RoundsAreInOrder};
 ghost use Rattle.rounds.specs.Texts.{OrderIsText};
 ghost use Rattle.rounds.specs.Runs.{RunBegins, RunGoesOn, MeetingGoesOn, RoundsGoOn, RunIsText};
 
-/// Lines that workers play at once, at disjoint sectors, are answered as one after another.
+/// Lines that workers play concurrently, at disjoint sectors, are answered as if played one after another.
 pub fn rounds_are_answered_in_order()
     ensures round { RoundsAreInOrder }
     ensures text { OrderIsText }

@@ -2,7 +2,7 @@
 use std::fmt::Debug;
 use std::process::Abort;
 
-/// Ends the test with the row where it doesn't hold.
+/// Ends the test with the row if it doesn't hold.
 pub(crate) fn expect(rt: &impl Abort, holds: bool, row: &impl Debug) {
     assert!(rt; holds, "{row:?}");
 }

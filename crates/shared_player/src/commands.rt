@@ -22,9 +22,9 @@ use std::thread::Threads;
 use std::time::Clock;
 use trace::Commands;
 
-/// Plays the commands of a trace on a new device, by a thread for each worker with a line in a round, and brooms beside them. There is a gate for each
-/// host, and then one for each broom. A broom drains at most so many blocks by one survey. The rows are the workers' answers, by their numbers. After a
-/// fault no thread runs, and nothing is left.
+/// Plays the commands of a trace on a new device, with a thread for each worker that has a line in a round, and with brooms at the same time. There
+/// is a gate for each host, and then one for each broom. A broom drains at most `drains` blocks by one survey. Each row has the answers of one
+/// worker, in the order of the workers. After a fault no thread runs, and everything is freed.
 pub fn play_commands<R: Threads + Wait + Clock + Sync, G: Gate + Send>(
     rt: &R,
     alloc: Global,

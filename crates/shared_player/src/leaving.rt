@@ -16,7 +16,7 @@ use std::collections::VecDeque;
 use std::sync::Wait;
 use volume::Volume;
 
-/// Gives up the brooms. A block that one has set aside goes to the queue.
+/// Gives up the brooms. A block that one has set aside is put into the queue.
 pub fn fold_sweepers<R: Wait>(rt: &R, sweepers: Vec<Sweeper>) {
     let mut sweepers = VecDeque::from_vec(sweepers);
     while let Some(sweeper) = sweepers.pop_front() {
@@ -24,7 +24,7 @@ pub fn fold_sweepers<R: Wait>(rt: &R, sweepers: Vec<Sweeper>) {
     }
 }
 
-/// Puts each worker's answers into a row, by their numbers. The passes are given up.
+/// Puts each worker's answers into a row, in the order of the workers, and gives up the passes.
 pub fn hand_out(posts: Vec<Post>, rows: &mut Vec<Answers>)
     requires none { length rows.old.items ≡ 0 }
     requires room { length posts.items ≤ vec_capacity rows.old }

@@ -35,7 +35,8 @@ fn meet_others(volume: &Volume, first: &mut Post, others: &mut [Post])
     }
 }
 
-/// All passes meet: the first one each other, and then each once more, so that every pass has seen all calls that were made before.
+/// All passes meet: the first pass meets each other one, and then each of them once more, so that every pass has seen all calls that were made
+/// before.
 pub fn sweep_posts(volume: &Volume, posts: &mut [Post])
     requires some { 0 < length posts.old }
     requires all { length posts.old ≡ hosts_of (geometry_of (flash_of volume.now)) }

@@ -11,8 +11,8 @@ use std::sync::Arc;
 use trace::Commands;
 use volume::Volume;
 
-/// What a worker needs for a run: its pass, the places of its lines in the trace, their answers so far with room for the others, and a buffer of a
-/// page. In a round it plays the lines that are not answered yet up to one of its row. A post that is dropped gives up its pass.
+/// What a worker needs for a run: its pass, the indices of its lines in the trace, their answers so far with room for the others, and a buffer of
+/// one page. In a round it plays the lines that have no answer yet, up to an index of its row. If a post is dropped, its pass is given up.
 pub struct Post {
     pub volume: Arc<Volume, Global>,
     pub commands: Arc<Commands, Global>,

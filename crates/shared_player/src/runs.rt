@@ -63,7 +63,8 @@ fn play_team<R: Threads + Wait + Clock + Sync, G: Gate + Send>(
     play_posts(rt, team, patience, gates)
 }
 
-/// Plays the round before an end: each worker with a line in it is a thread, brooms sweep beside them, and once all are joined the passes meet.
+/// Plays the round before an end: each worker with a line in it has a thread, brooms collect at the same time, and after all threads are joined the
+/// passes meet.
 pub fn play_round<R: Threads + Wait + Clock + Sync, G: Gate + Send>(
     rt: &R,
     volume: &Volume,
@@ -86,7 +87,7 @@ pub fn play_round<R: Threads + Wait + Clock + Sync, G: Gate + Send>(
     Ok(team)
 }
 
-/// Plays all rounds of a trace, by their ends. After a fault no thread runs, and all passes and brooms are given up.
+/// Plays all rounds of a trace, which `ends` separate. After a fault no thread runs, and all passes and brooms are given up.
 pub fn play_rounds<R: Threads + Wait + Clock + Sync, G: Gate + Send>(
     rt: &R,
     volume: &Volume,

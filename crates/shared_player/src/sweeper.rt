@@ -8,7 +8,7 @@ use std::alloc::Global;
 use std::sync::{Arc, Wait};
 use volume::Volume;
 
-/// A broom at its device, and how many blocks it drains by one survey. A sweeper that is dropped gives up its broom.
+/// A broom at its device, and how many blocks it drains by one survey. If a sweeper is dropped, its broom is given up.
 pub struct Sweeper {
     pub volume: Arc<Volume, Global>,
     pub broom: Broom,

@@ -19,7 +19,7 @@ use std::sync::atomic::{AtomicBool, Ordering};
 use std::thread::{self, Scope, Threads};
 use std::time::Clock;
 
-/// The workers and the brooms of a run, and the room for the handles of their threads, which is taken once.
+/// The workers and the brooms of a run, and room for the handles of their threads, which is allocated once.
 #[derive(Drop)]
 pub struct Team {
     pub posts: Vec<Post>,
@@ -33,7 +33,7 @@ pub struct Team {
 }
 
 impl Team {
-    /// These workers and brooms, with room for their threads. `Err` is out of memory, and then all passes and brooms are given up.
+    /// These workers and brooms, with room for their threads. `Err` means out of memory; then all passes and brooms are given up.
     pub fn new(alloc: Global, posts: Vec<Post>, sweepers: Vec<Sweeper>) -> Result<Team, AllocError>
         ensures posts { IfOk result (λ team. team.posts.items ≡ posts.items) }
         ensures sweepers { IfOk result (λ team. team.sweepers.items ≡ sweepers.items) }
@@ -203,8 +203,8 @@ fn shift<'a, R: Threads + Wait + Clock + Sync, G: Gate + Send>(
     )
 }
 
-/// Plays a round: each worker with a line is a thread that plays its post, and brooms sweep beside them until the last worker is joined. There is a
-/// gate for each worker, and then one for each broom. After a fault no thread runs, and all passes and brooms are given up.
+/// Plays a round: each worker with a line has a thread that plays its post, and brooms collect at the same time until the last worker is joined.
+/// There is a gate for each worker, and then one for each broom. After a fault no thread runs, and all passes and brooms are given up.
 pub fn play_posts<R: Threads + Wait + Clock + Sync, G: Gate + Send>(
     rt: &R,
     team: Team,

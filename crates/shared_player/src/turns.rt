@@ -10,7 +10,7 @@ use playing::play_at;
 use std::snapshot::Snapshot;
 use std::thread::{Promise, PromisedHandle, Scope, Threads};
 
-/// That a post comes back played.
+/// The promise of a worker's thread: its post is returned after its lines were played.
 #[derive(Drop)]
 pub struct PlayOf {
     pub before: Snapshot<Post>,
@@ -21,7 +21,7 @@ impl Promise<Post> for PlayOf {
     ghost kept_by = { λ p r. HasPlayed p.patience p.before.value r };
 }
 
-/// A worker on its way: one without a line has no thread.
+/// A worker in a round. One without a line has no thread.
 #[derive(Drop)]
 pub enum Turn {
     Idle(Post),

@@ -21,10 +21,10 @@ use trace::Watched;
 // The most threads of a round: a worker for each host, and the brooms.
 const MAX_THREADS: usize = MAX_HOSTS as usize + MAX_BROOMS as usize;
 
-/// Plays a trace on a shared device: each host's lines are played by a worker in a thread of its own, brooms collect beside them, and then the answers
-/// are written in the order of the trace. Workers and brooms pass a gate each, the workers' first.
+/// Plays a trace on a shared device: each worker plays its lines in its own thread, brooms collect at the same time, and then the answers are
+/// written in the order of the trace. There is a gate for each worker, and then one for each broom.
 ///
-/// The whole trace is read and checked before the first command. A write that finds no block is tried as often as the patience says, and a broom
+/// The whole trace is read and checked before the first command. A write that finds no block is tried at most `patience` times, and a broom
 /// drains at most `drains` blocks by one survey. After a fault no thread runs.
 #[allow(clippy::too_many_arguments)]
 pub fn run_shared<T: Threads + Wait + Clock + Sync, R: Read, W: Write, G: Gate + Send>(
@@ -70,7 +70,7 @@ pub fn run_shared<T: Threads + Wait + Clock + Sync, R: Read, W: Write, G: Gate +
     }
 }
 
-/// Plays a trace as `run_shared` does, where the gates do nothing.
+/// Plays a trace as `run_shared` does, with gates that do nothing.
 pub fn run_by_workers<T: Threads + Wait + Clock + Sync, R: Read, W: Write>(
     rt: &T,
     alloc: Global,

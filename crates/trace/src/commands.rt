@@ -8,12 +8,12 @@ use crate::draft::{Draft, Stored};
 use crate::page::Page;
 use std::marker::Model;
 
-/// What a line of a trace asks for.
+/// The operation of a line of a trace.
 #[derive(Clone, Copy, Debug, PartialEq, Eq)]
 pub enum Op {
     Read,
     Write,
-    /// A write that takes effect only where the sector is empty.
+    /// A write that takes effect only if the sector is empty.
     New,
     Trim,
     Meet,
@@ -37,16 +37,16 @@ impl Op {
 /// A line of a trace.
 #[derive(Drop)]
 pub struct Command<'a> {
-    /// The worker that is to do it. A run with one thread ignores it.
+    /// The worker that does it. A run by one thread ignores it.
     pub worker: u32,
     pub op: Op,
     pub sector: u32,
-    /// The bytes of a write of either kind, as many as a page has. It is empty for the other ops.
+    /// The bytes of a write or a `new`, as many as a page has. It is empty for the other ops.
     pub page: Page<'a>,
 }
 
-/// The commands of a trace, in order. They keep its text, and a command takes 16 bytes beside it: the
-/// digits of a write stay in the text, and are decoded where its page is copied.
+/// The commands of a trace, in order. They keep its text, and a command takes 16 more bytes: the digits of a write stay in the text, and are
+/// decoded when its page is copied.
 #[derive(Drop)]
 pub struct Commands {
     text: Vec<u8>,
@@ -100,7 +100,7 @@ impl Commands {
         self.stored.is_empty()
     }
 
-    /// The command at a place, from 0.
+    /// The command at an index, from 0.
     pub fn command(&self, i: usize) -> Command<'_>
         requires { i < length self.now }
         ensures at { slice_get self.now i ≡ Some result }

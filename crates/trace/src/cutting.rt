@@ -26,7 +26,7 @@ pub(crate) struct Row<'t> {
 pub(crate) enum Cut<'t> {
     /// No record.
     End,
-    /// A record of other than four fields.
+    /// A record that doesn't have four fields.
     Fields,
     /// A record of four fields that ends at this place, with its fields if none begins with a quote.
     Record(usize, Option<Row<'t>>),
@@ -40,7 +40,7 @@ struct Field<'t> {
     comma: bool,
 }
 
-/// The first record at or behind a place, which is the start of the text or the end of a record.
+/// The first record from a place on, which is the start of the text or the end of a record.
 pub(crate) fn next_cut(text: &[u8], at: usize) -> Cut<'_>
     requires { at ≤ length text.now }
     ensures { IsCut text.now at result }

@@ -58,7 +58,7 @@ pub(crate) fn digits_end(text: &[u8], start: usize) -> usize
     text.len()
 }
 
-/// Whether these are digits, and an even number of them.
+/// Whether these are digits, and their number is even.
 pub(crate) fn are_pairs(digits: &[u8]) -> bool
     ensures { MatchBool result (decode_of digits.now ≡ Ok (bytes_of digits.now)) (IsErr (decode_of digits.now)) }
 {

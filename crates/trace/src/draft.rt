@@ -8,7 +8,7 @@ ghost use Rattle.trace.specs.Stored.{AreKept, Pushes, head_of};
 use crate::commands::Op;
 use std::alloc::{AllocError, Global};
 
-/// What a line says beside its digits.
+/// What a line says without its digits.
 #[derive(Clone, Copy)]
 pub(crate) struct Head {
     pub(crate) worker: u16,
@@ -16,8 +16,8 @@ pub(crate) struct Head {
     pub(crate) sector: u32,
 }
 
-/// A command, and where its digits stand: in the text, or behind its end among the odd ones. The
-/// sector is kept in two parts, so that no byte is lost.
+/// A command, and the place of its digits: in the text, or after the text's end among those of fields with quotes. The sector is stored in two
+/// parts, so that no byte is wasted.
 #[derive(Clone, Copy)]
 pub(crate) struct Stored {
     pub(crate) start: usize,
@@ -48,7 +48,7 @@ impl Stored {
         }
     }
 
-    /// What the line says beside its digits.
+    /// What the line says without its digits.
     pub(crate) fn head(&self) -> Head
         ensures { result ≡ head_of self.now }
     {
@@ -60,8 +60,7 @@ impl Stored {
     }
 }
 
-/// The commands of the lines so far. Their digits stay where they stand in the text, but for those of
-/// fields with quotes.
+/// The commands of the lines so far. Their digits stay in the text, except those of fields with quotes.
 #[derive(Drop)]
 pub(crate) struct Draft {
     pub(crate) page_bytes: u16,
@@ -70,7 +69,7 @@ pub(crate) struct Draft {
 }
 
 impl Draft {
-    /// No command yet, where a page has so many bytes.
+    /// An empty list of commands, for pages of `page_bytes` bytes.
     pub(crate) fn new(alloc: Global, page_bytes: u16) -> Draft
         ensures size { result.page_bytes ≡ page_bytes }
         ensures none { result.stored.items ≡ [] }
@@ -90,7 +89,7 @@ impl Draft {
         self.stored.len()
     }
 
-    /// One command more, whose digits stand at this place of the text.
+    /// Adds a command whose digits are at this place of the text.
     pub(crate) fn push(
         &mut self,
         text: &[u8],
@@ -110,7 +109,7 @@ impl Draft {
         Ok(())
     }
 
-    /// The same with digits that stand nowhere in the text.
+    /// Adds a command whose digits aren't in the text as they are.
     pub(crate) fn push_odd(
         &mut self,
         text: &[u8],

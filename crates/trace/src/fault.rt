@@ -15,15 +15,15 @@ pub struct TraceFault {
 /// What is wrong with a record, in the order of the checks, or with the trace as a whole.
 #[derive(Clone, Copy, Debug, PartialEq, Eq)]
 pub enum TraceFaultKind {
-    /// A record has other than four fields.
+    /// A record doesn't have four fields.
     Fields,
-    /// The worker is no number, or too large.
+    /// The worker is not a number, or too large.
     Worker,
     /// The op is none of the five.
     Op,
-    /// The sector is no number, or too large.
+    /// The sector is not a number, or too large.
     Sector,
-    /// The data of a write is no even number of hexadecimal digits.
+    /// The data of a write is not an even number of hexadecimal digits.
     Hex,
     /// A write has more data than a page.
     TooLong,

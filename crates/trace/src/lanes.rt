@@ -5,7 +5,7 @@ ghost use Rattle.trace.specs.Lanes.{Decodes, IsBlock, IsDigitRun, IsRun, digit_l
 
 use std::simd::prelude::*;
 
-/// How many bytes are looked at together.
+/// How many bytes are compared at once.
 pub(crate) const LANES: usize = 16;
 
 // The place of the lowest bit that is set.
@@ -32,7 +32,7 @@ pub(crate) fn field_run(text: &[u8], at: usize) -> usize
     first_set(ends.to_bitmask())
 }
 
-/// How many of the bytes from a place on come before one that is no digit.
+/// How many of the bytes from a place on come before one that isn't a digit.
 #[inline(always)]
 pub(crate) fn digit_run(text: &[u8], at: usize) -> usize
     requires { at + LANES ≤ length text.now }

@@ -13,7 +13,7 @@ pub const MAX_TRACE_BYTES: usize = 268_435_456;
 
 const PIECE_BYTES: usize = 16_384;
 
-/// Reads a trace to its end. An error of the reader, `Interrupted` too, ends it: no read is repeated.
+/// Reads a trace to its end. Any error of the reader, also `Interrupted`, ends it: no read is repeated.
 pub fn load<R: Read>(alloc: Global, reader: &mut Watched<R>) -> Result<Vec<u8>, TraceFault>
     // All that the reader held, read to the end, with no read that failed.
     ensures bytes { IfOk result (λ text. IfSome (R.remaining (inner_of reader.old)) (λ held. text.items ≡ held)) }

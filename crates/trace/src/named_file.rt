@@ -7,16 +7,16 @@ use std::io::Write;
 pub enum OpenFault {
     /// The system refused it.
     Refused,
-    /// It is a file that this run reads or writes already.
+    /// The run already reads or writes this file.
     InUse,
 }
 
-/// A file that is opened by its name, and written from then on.
+/// A file that is opened by its name, and then written.
 pub trait NamedFile: Write {
-    /// The name that it was opened by, where that is known.
+    /// The name by which it was opened, if that is known.
     ghost opened_as: { Self → Option (List ℕ) } = { λ _. None };
 
-    /// Opens the file. What stands in it is kept until its first byte is written.
+    /// Opens the file. Its content is kept until the first byte is written.
     fn open(&mut self, name: &str) -> Result<(), OpenFault>
         ensures bytes { Self.contents self.new ≡ Self.contents self.old }
         ensures opened { OnOk result (IfSome (opened_as self.new) (λ known. known ≡ name.now)) };

@@ -5,8 +5,7 @@ ghost use Rattle.trace.specs.Page.{page_with};
 use crate::digits::decode;
 use std::marker::Model;
 
-/// The data of a command: the digits that the trace gave for the first bytes of its page. The others
-/// are zeros.
+/// The data of a command: the digits that the trace has for the first bytes of its page. The other bytes are zeros.
 #[derive(Drop)]
 pub struct Page<'a> {
     digits: &'a [u8],

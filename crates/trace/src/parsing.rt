@@ -38,7 +38,7 @@ pub fn parse(alloc: Global, text: &[u8], geometry: &Geometry) -> Result<Commands
     }
 }
 
-/// The same of a text that is handed over: the commands keep it, and nothing of it is copied.
+/// The same for a text that the commands take over, without a copy.
 pub fn parse_owned(
     alloc: Global,
     text: Vec<u8>,

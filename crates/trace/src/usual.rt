@@ -12,7 +12,7 @@ use crate::limits::MAX_DIGITS;
 use crate::parsing::{page_bytes, workers};
 use geometry::Geometry;
 
-/// A line of the usual form: what it says beside its digits, and where those begin and end.
+/// A line of the usual form: what it says without its digits, and where these begin and end.
 #[derive(Clone, Copy)]
 pub(crate) struct UsualLine {
     pub(crate) head: Head,
@@ -34,7 +34,7 @@ struct OpName {
     end: usize,
 }
 
-/// The line that begins at this place or behind the line feed there, if it is of the usual form.
+/// The line that begins at this place, or after the line feed at this place, if it is of the usual form.
 #[inline(always)]
 pub(crate) fn usual_line(text: &[u8], at: usize, geometry: &Geometry) -> Option<UsualLine>
     requires { at ≤ length text.now }

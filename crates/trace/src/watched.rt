@@ -23,8 +23,8 @@ impl<T> Watched<T> {
         Watched { inner, failures: 0 }
     }
 
-    /// How many calls failed, modulo 2^64: those that answered an error, of any kind, and the writes
-    /// that took no byte of some. A file that could not be opened counts too.
+    /// How many calls failed, modulo 2^64: those that returned an error of any kind, and the writes that accepted no byte although there were some.
+    /// A file that could not be opened counts too.
     pub fn failures(&self) -> u64
         ensures { result ≡ failures_of self.now }
     {
@@ -45,7 +45,7 @@ impl<T> Watched<T> {
         &self.inner
     }
 
-    /// Ends the watch.
+    /// Returns the reader or writer, which is watched no longer.
     pub fn into_inner(self) -> T
         ensures { result ≡ inner_of self }
     {

@@ -9,8 +9,8 @@ ghost use Rattle.volume.specs.Volume.{flash_of};
 use std::alloc::Global;
 use volume::{Closed, Pass, Volume};
 
-/// Two passes of a new device write a sector each, and the device is closed. Whichever write is first in the history, it ends with both
-/// values. The device and its passes come back where no block is free, or memory ran out.
+/// Two passes of a new device write a sector each, and the device is closed. It ends with both values, whichever write is first in the history. If
+/// no block is free or memory runs out, the device and its passes are returned.
 pub fn two_writers(
     alloc: Global,
     volume: Volume,

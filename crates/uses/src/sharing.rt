@@ -1,4 +1,4 @@
-//! Threads that share a device: what each one needs stands in a struct whose ghost fields say that it is right.
+//! Threads that share a device: what each one needs is in a struct, whose ghost fields say that it is ready.
 ghost use Rattle.std.specs.Prelude.{◌≡◌, ◌<◌, length};
 ghost use Rattle.geometry.specs.Geometry.{page_bytes_of, sectors_of};
 ghost use Rattle.flash_table.specs.Flash.{geometry_of, view_of};
@@ -60,8 +60,8 @@ fn write_beside_broom<R: Threads + Sync>(rt: &R, writer: &mut Writer, sweeper: &
     join_mut(rt, &mut || writer.write(), &mut || sweeper.sweep()).0
 }
 
-/// Two hosts write a value each while a broom collects, each in a thread of its own; then the hosts meet. The answers say whose value was
-/// written: it isn't where no block is free.
+/// Two hosts write a value each while a broom collects, each in its own thread; then the hosts meet. Returns for each whether its value was
+/// written; it isn't if no block is free.
 pub fn two_writers_and_a_broom<R: Threads + Sync>(
     rt: &R,
     first: &mut Writer,

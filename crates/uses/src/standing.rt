@@ -7,7 +7,7 @@ ghost use Rattle.volume.specs.Volume.{flash_of};
 
 use volume::{Broom, Held, NoGate, Volume};
 
-/// A broom collects a block and tries to erase the held one, and the hold asks it then what it has erased.
+/// A broom collects a block and tries to erase the held one; then the hold and the broom meet, by `stand`.
 pub fn held_beside_a_broom(volume: &Volume, held: Held, broom: &mut Broom) -> Held
     requires held { (value : List ℕ) × Holds (flash_of volume.now) held value }
     requires broom { IsBroomReady volume.now broom.old }

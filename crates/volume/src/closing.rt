@@ -115,7 +115,8 @@ pub(crate) fn retire_all(flash: &Flash, passes: IntoIter<Pass>)
 }
 
 impl Volume {
-    /// Gives up the passes, at least one, and tells what the sectors hold. `Err` is out of memory, and hands all back.
+    /// Gives up the passes, of which there is at least one, and returns what the sectors hold. If memory runs out, `Err` returns the device and the
+    /// passes.
     pub fn close(self, alloc: Global, passes: Vec<Pass>) -> Result<Closed, (Volume, Vec<Pass>)>
         requires some { 0 < length passes.items }
         requires passes { All (IsReady (flash_of self)) passes.items }

@@ -15,7 +15,7 @@ use host::{Held, Holding, NewFault, NoBlock, ReadDone};
 use std::alloc::{AllocError, Global};
 use std::sync::Wait;
 
-/// A flash device. Each thread reads and writes it through a pass of its own.
+/// A flash device. Each thread reads and writes it with its own pass.
 #[derive(Drop)]
 pub struct Volume {
     pub(crate) flash: Flash,
@@ -55,7 +55,7 @@ impl Volume {
     ghost use Rattle.volume.specs.Undisturbed.{IsUndisturbed};
     ghost use Rattle.volume.specs.Volume.{flash_of, queue_of};
 
-    /// A device with every sector empty, its passes, pass t with number t, and its brooms, broom i with number i. `Err` is out of memory.
+    /// A device with every sector empty, its passes, pass t with number t, and its brooms, broom i with number i. `Err` means out of memory.
     pub fn open(
         alloc: Global,
         geometry: &Geometry,
@@ -124,7 +124,7 @@ impl Volume {
         host::read(&self.flash, pass, sector, out)
     }
 
-    /// A read that stops at its gate after each look, and after its pin.
+    /// A read that calls its gate after each look, and after its pin.
     pub fn read_gated<G: Gate>(
         &self,
         pass: &mut Pass,
@@ -157,7 +157,7 @@ impl Volume {
         host::look(&self.flash, pass, sector)
     }
 
-    /// Writes a page of bytes to a sector. The answer is what the sector was.
+    /// Writes a page of bytes to a sector. Returns what the sector was.
     pub fn write(&self, pass: &mut Pass, sector: u32, bytes: &[u8]) -> Result<Was, NoBlock>
         requires pass { IsReady (flash_of self.now) pass.old }
         requires sector { sector < sectors_of (geometry_of (flash_of self.now)) }
@@ -170,7 +170,7 @@ impl Volume {
         host::write(&self.flash, pass, sector, bytes)
     }
 
-    /// A write that stops at its gate once its page is counted, before the sector's map word is swapped.
+    /// A write that calls its gate after its page was counted, before the sector's map word is swapped.
     pub fn write_gated<G: Gate>(
         &self,
         pass: &mut Pass,
@@ -189,8 +189,8 @@ impl Volume {
         host::write_gated(&self.flash, pass, sector, bytes, gate)
     }
 
-    /// Writes a page of bytes to a sector if it is empty. The page is programmed before the sector is looked at, so `NoBlock` comes before
-    /// `Written`; after `Written` that page is dead, and a block that is full is closed.
+    /// Writes a page of bytes to a sector if it is empty. The page is programmed before the sector is tested, so `NoBlock` is returned rather than
+    /// `Written` if both apply. After `Written` that page is dead, and its block is closed if it is full.
     pub fn write_new(&self, pass: &mut Pass, sector: u32, bytes: &[u8]) -> Result<(), NewFault>
         requires pass { IsReady (flash_of self.now) pass.old }
         requires sector { sector < sectors_of (geometry_of (flash_of self.now)) }
@@ -203,7 +203,7 @@ impl Volume {
         host::write_new(&self.flash, pass, sector, bytes)
     }
 
-    /// A write of an empty sector that stops at its gate once its page is counted, before the sector's map word is exchanged.
+    /// A write of an empty sector that calls its gate after its page was counted, before the sector's map word is exchanged.
     pub fn write_new_gated<G: Gate>(
         &self,
         pass: &mut Pass,
@@ -222,7 +222,7 @@ impl Volume {
         host::write_new_gated(&self.flash, pass, sector, bytes, gate)
     }
 
-    /// Empties a sector. The answer is what it was.
+    /// Empties a sector. Returns what it was.
     pub fn trim(&self, pass: &mut Pass, sector: u32) -> Was
         requires pass { IsReady (flash_of self.now) pass.old }
         requires sector { sector < sectors_of (geometry_of (flash_of self.now)) }
@@ -234,7 +234,7 @@ impl Volume {
         host::trim(&self.flash, pass, sector)
     }
 
-    /// Pins the page that holds a sector's value.
+    /// Pins the page that has a sector's value.
     pub fn hold(&self, pass: Pass, sector: u32) -> Holding
         requires pass { IsReady (flash_of self.now) pass }
         requires sector { sector < sectors_of (geometry_of (flash_of self.now)) }
@@ -243,7 +243,7 @@ impl Volume {
         host::hold(&self.flash, pass, sector)
     }
 
-    /// The value that is held, into a buffer of one page.
+    /// Copies the value that is held into a buffer of one page.
     pub fn copy_into(&self, held: &mut Held, out: &mut [u8])
         requires held { (value : List ℕ) × Holds (flash_of self.now) held.old value }
         requires page { length out.old ≡ page_bytes_of (geometry_of (flash_of self.now)) }
@@ -267,7 +267,7 @@ impl Volume {
         host::word(&self.flash, held, i)
     }
 
-    /// Takes the pin off, and gives the pass back.
+    /// Removes the pin, and returns the pass.
     pub fn release(&self, held: Held) -> Pass
         requires held { (value : List ℕ) × Holds (flash_of self.now) held value }
         ensures told { view_of result ≡ record (view_of (pass_of held)) { pin = pin.Clear } }
@@ -277,7 +277,7 @@ impl Volume {
         host::release(&self.flash, held)
     }
 
-    /// Ties what two passes have seen: by one look of the first, and then one of the second. It changes no answer.
+    /// Each of two passes learns what the other has seen: the first makes one look, and then the second makes one. It changes no answer.
     pub fn meet(&self, first: &mut Pass, second: &mut Pass)
         requires first { IsReady (flash_of self.now) first.old }
         requires second { IsReady (flash_of self.now) second.old }
@@ -290,7 +290,7 @@ impl Volume {
         host::meet(&self.flash, first, second)
     }
 
-    /// Ties what two brooms have done and seen: by one look of the first, and then one of the second. It changes no answer.
+    /// Each of two brooms learns what the other has done and seen: the first makes one look, and then the second makes one. It changes no answer.
     #[tactic(auto, using(crate::proofs::Queued::still_ready))]
     pub fn meet_brooms(&self, first: &mut Broom, second: &mut Broom)
         requires first { IsBroomReady self.now first.old }
@@ -310,7 +310,7 @@ impl Volume {
         broom::meet_brooms(&self.flash, first, second)
     }
 
-    /// Ties what a broom has done to a page that is held, and what the hold's pass has seen to the broom. It changes no answer.
+    /// A hold learns what a broom has done, and the broom what the hold's pass has seen. It changes no answer.
     #[tactic(auto, using(crate::proofs::Queued::still_ready))]
     pub fn stand(&self, held: Held, broom: &mut Broom) -> Held
         requires held { (value : List ℕ) × Holds (flash_of self.now) held value }
@@ -342,7 +342,7 @@ impl Volume {
         host::meet_holding(&self.flash, held, other)
     }
 
-    /// Gives a pass up. The block that it has open, full or not, is closed.
+    /// Gives a pass up. Its open block, full or not, is closed.
     pub fn retire(&self, pass: Pass) -> Retired
         requires { IsReady (flash_of self.now) pass }
         ensures { retired_view result ≡ closed_pass (view_of pass) (opened_of pass) }
@@ -350,8 +350,8 @@ impl Volume {
         host::retire(&self.flash, pass)
     }
 
-    /// Surveys the device, claims the closed block with the fewest live pages, and moves those out of it. It stops at its gate before the
-    /// claim, and before each exchange of a map word.
+    /// Surveys the device, claims the closed block with the fewest live pages, and moves these out of it. It calls its gate before the claim, and
+    /// before each exchange of a map word.
     #[tactic(auto, using(crate::proofs::Queued::still_ready))]
     pub fn drain<G: Gate>(&self, broom: &mut Broom, gate: &mut G) -> Drain
         requires { IsBroomReady self.now broom.old }
@@ -365,8 +365,8 @@ impl Volume {
         broom::drain(&self.flash, broom, gate)
     }
 
-    /// Claims the next block by the survey that the broom made last, and moves its live pages out of it: of the blocks that were closed then,
-    /// and that the broom has neither drained nor loaded since, the one with the fewest live pages. It stops at its gate as `drain` does.
+    /// Claims the next block by the survey that the broom made last, and moves its live pages out of it: of the blocks that were closed then, and
+    /// that the broom has neither drained nor loaded since, the one with the fewest live pages. It calls its gate where `drain` does.
     #[tactic(auto, using(crate::proofs::Queued::still_ready))]
     pub fn drain_next<G: Gate>(&self, broom: &mut Broom, gate: &mut G) -> Drain
         requires { IsBroomReady self.now broom.old }
@@ -379,7 +379,7 @@ impl Volume {
         broom::drain_next(&self.flash, broom, gate)
     }
 
-    /// Erases a drained block that nobody reads. It stops at its gate once the block's state is loaded, before the block is condemned.
+    /// Erases a drained block that nobody reads. It calls its gate after it has loaded the block's state, before it condemns the block.
     #[tactic(auto, using(crate::proofs::Queued::still_ready))]
     pub fn erase<G: Gate>(&self, broom: &mut Broom, block: u32, gate: &mut G) -> Erase
         requires broom { IsBroomReady self.now broom.old }
@@ -393,7 +393,7 @@ impl Volume {
         broom::erase(&self.flash, broom, block, gate)
     }
 
-    /// Makes the lowest free block the spare of a broom that has none, and says whether the broom has a spare now.
+    /// If a broom has no spare, makes the lowest free block its spare. Returns whether the broom has a spare now.
     #[tactic(auto, using(crate::proofs::Queued::still_ready))]
     pub fn restock(&self, broom: &mut Broom) -> bool
         requires { IsBroomReady self.now broom.old }
@@ -406,8 +406,8 @@ impl Volume {
         broom::restock(&self.flash, broom)
     }
 
-    /// A drain whose block goes to the queue of drained blocks, or is set aside where the queue is full. What is set aside already is put
-    /// first, and where it finds no room nothing is drained.
+    /// Drains a block and puts it into the queue of drained blocks, or sets it aside if the queue is full. A block that is already set aside is put
+    /// first; if there is no room for it, nothing is drained.
     pub fn drain_one<G: Gate>(&self, rt: &impl Wait, broom: &mut Broom, gate: &mut G) -> Drain
         requires { IsBroomReady self.now broom.old }
         ensures told { DrainOneTold (limit_of (queue_of self.now)) broom.old result broom.new }
@@ -417,7 +417,7 @@ impl Volume {
         broom::drain_one(&self.flash, &self.queue, rt, broom, gate)
     }
 
-    /// A drain by the survey that the broom made last, whose block goes on as that of `drain_one` does.
+    /// Drains the next block by the survey that the broom made last, and puts it into the queue or sets it aside as `drain_one` does.
     pub fn drain_next_one<G: Gate>(&self, rt: &impl Wait, broom: &mut Broom, gate: &mut G) -> Drain
         requires { IsBroomReady self.now broom.old }
         ensures told { DrainNextOneTold (limit_of (queue_of self.now)) broom.old result broom.new }
@@ -427,7 +427,8 @@ impl Volume {
         broom::drain_next_one(&self.flash, &self.queue, rt, broom, gate)
     }
 
-    /// An erase of the block that is set aside, or else of the queue's first. A block that has readers is put back, at the queue's end.
+    /// Erases the block that is set aside or, if there is none, the first one of the queue. A block that has readers is put back at the end of the
+    /// queue.
     pub fn erase_one<G: Gate>(&self, rt: &impl Wait, broom: &mut Broom, gate: &mut G) -> Erase
         requires { IsBroomReady self.now broom.old }
         ensures told { EraseOneTold (limit_of (queue_of self.now)) broom.old result broom.new }
@@ -437,8 +438,8 @@ impl Volume {
         broom::erase_one(&self.flash, &self.queue, rt, broom, gate)
     }
 
-    /// Gives a broom up. The block that it copies to, full or not, and its spare are closed. A block that is set aside is put into the
-    /// queue; where that is full, it stays drained and nobody erases it.
+    /// Gives a broom up. Its destination, full or not, and its spare are closed. A block that is set aside is put into the queue; if the queue is
+    /// full, the block stays drained, and nobody erases it.
     pub fn fold(&self, rt: &impl Wait, broom: Broom) -> Folded
         requires { IsBroomReady self.now broom }
         ensures view { folded_view result ≡ closed_broom (view_of_broom broom) (blocks_of_broom broom) }
@@ -448,7 +449,7 @@ impl Volume {
         broom::fold(&self.flash, &self.queue, rt, broom)
     }
 
-    /// Gives up a broom that has set nothing aside, as one that was just made.
+    /// Gives up a broom that has set nothing aside, such as one that was just made.
     pub fn fold_new(&self, broom: Broom) -> Folded
         requires ready { IsBroomReady self.now broom }
         requires aside { aside_of broom ≡ None }
@@ -458,8 +459,8 @@ impl Volume {
         broom::fold_new(&self.flash, broom)
     }
 
-    /// Gives a broom up without the queue, and so waits for nobody. The block that it copies to and its spare are closed. A block that is
-    /// set aside stays drained, and nobody erases it.
+    /// Gives a broom up without using the queue, so it doesn't wait. Its destination and its spare are closed. A block that is set aside stays
+    /// drained, and nobody erases it.
     pub fn retire_broom(&self, broom: Broom) -> Folded
         requires { IsBroomReady self.now broom }
         ensures view { folded_view result ≡ closed_broom (view_of_broom broom) (blocks_of_broom broom) }
