@@ -151,7 +151,7 @@ static void mind_marks(struct stock *stock) {
 
 static void stop_gathering(struct stock *stock) {
     stock->is_gathering = 0;
-    if (stock->waiting_to_write > 0)
+    if (stock->waiting_to_write > 0 && (may_open(stock) || is_hopeless(stock)))
         pthread_cond_broadcast(&stock->for_write);
 }
 

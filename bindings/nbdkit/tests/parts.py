@@ -196,7 +196,7 @@ def broken_clients(shop, brooms=1):
     age(shop, server)
     half = kibibytes(shop, server) // 2
     own = shop.start(["fio", "--name=own", "--thread", "--ioengine=nbd", f"--uri={server.uri}", "--rw=randwrite", "--bs=4k", "--numjobs=4", f"--size={half // 4}k",
-                      f"--offset_increment={half // 4}k", "--iodepth=16", f"--io_size={shop.scaled(40, 150)}m", "--norandommap", "--random_distribution=zipf:0.9",
+                      f"--offset_increment={half // 4}k", "--iodepth=16", f"--io_size={shop.scaled(60, 150)}m", "--norandommap", "--random_distribution=zipf:0.9",
                       "--serialize_overlap=1", "--verify=crc32c", "--verify_fatal=1"], shop.folder / "own")
     rounds = beside = 0
     with copying(server, "broken clients"):
