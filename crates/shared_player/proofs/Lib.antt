@@ -10,3 +10,5 @@ pub mod Dealt
 pub mod Openings
 pub mod Ended
 pub mod Swept
+pub mod Counting
+pub mod Grown

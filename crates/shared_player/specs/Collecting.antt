@@ -4,12 +4,15 @@ use Rattle.std.specs.Arc.{arc_value}
 use Rattle.erase_queue.specs.Queue.{limit_of}
 use Rattle.broom.specs.declared.broom.Broom.{Broom}
 use Rattle.broom.specs.Handing.{DrainNextOneTold, DrainOneTold, EraseOneTold, HandsNothing}
+use Rattle.broom.specs.Ready.{view_of_broom}
 use Rattle.broom.specs.Restocking.{RestockTold}
 use Rattle.broom.specs.Told.{KeepsSurvey}
 use Rattle.volume.specs.Volume.{queue_of}
 use Rattle.shared_player.specs.declared.broom_answer.BroomAnswer.{BroomAnswer}
 use Rattle.shared_player.specs.declared.broom_answer.BroomAnswer.TheVariants as by
 use Rattle.shared_player.specs.declared.sweeper.Sweeper.{Sweeper}
+use Rattle.shared_player.specs.Growing.{HasGrown}
+use Rattle.shared_player.specs.Tallies.{IsCounted, total_of}
 
 -- A restock gave this answer. It has nothing to do with the queue, and the broom keeps its last survey
 pub record HasRestocked (before : Broom) (given : Bool) (after : Broom) : Type 0 where
@@ -33,11 +36,14 @@ HasCollected limit before (answer ∷ answers) after = (next : Broom) × CallTol
 abbrev pub limit_at : Sweeper → ℕ
 limit_at s = limit_of (queue_of (arc_value s.volume))
 
--- The broom is the same one, at the same device, with the same limit of drains: it made calls with these answers, and did nothing else
+-- The broom is the same one, at the same device, with the same limit of drains: it made calls with these answers, and did nothing else. They were counted, and what it
+-- knows to have done has grown by their count
 pub record HasSweptBy (before : Sweeper) (answers : List BroomAnswer) (after : Sweeper) : Type 0 where
   pub volume : arc_value after.volume ≡ arc_value before.volume
   pub drains : after.drains ≡ before.drains
   pub collected : HasCollected (limit_at before) before.broom answers after.broom
+  pub counted : IsCounted before.tally answers after.tally
+  pub grown : HasGrown (view_of_broom before.broom) (total_of answers) (view_of_broom after.broom)
 
 -- the broom made some calls, and did nothing else
 abbrev pub HasSwept : Sweeper → Sweeper → Type 0

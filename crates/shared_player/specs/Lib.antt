@@ -4,7 +4,10 @@ pub mod Posts
 pub mod Meetings
 pub mod Runs
 pub mod Commands
+pub mod Tallies
+pub mod Growing
 pub mod Collecting
+pub mod Folding
 -- Internal: the threads of a round.
 pub mod Turns
 pub mod BroomThreads

@@ -3,6 +3,7 @@ ghost use Rattle.std.specs.Prelude.{[], ◌∷◌};
 ghost use Rattle.shared_player.specs.declared.broom_answer.BroomAnswer.TheVariants as by;
 ghost use Rattle.shared_player.specs.Collecting.{HasSwept, HasSweptBy};
 
+use crate::broom_answer::BroomAnswer;
 use crate::sweeper::Sweeper;
 use broom::{Drain, Erase};
 use flash_table::Gate;
@@ -45,25 +46,33 @@ impl Sweeper {
     fn drain<G: Gate>(&mut self, rt: &impl Wait, gate: &mut G) -> Drain
         ensures { HasSweptBy self.old (by.Drain result ∷ []) self.new }
     {
-        self.volume.drain_one(rt, &mut self.broom, gate)
+        let drain = self.volume.drain_one(rt, &mut self.broom, gate);
+        self.tally = self.tally.with_answer(BroomAnswer::Drain(drain));
+        drain
     }
 
     fn drain_next<G: Gate>(&mut self, rt: &impl Wait, gate: &mut G) -> Drain
         ensures { HasSweptBy self.old (by.DrainNext result ∷ []) self.new }
     {
-        self.volume.drain_next_one(rt, &mut self.broom, gate)
+        let drain = self.volume.drain_next_one(rt, &mut self.broom, gate);
+        self.tally = self.tally.with_answer(BroomAnswer::DrainNext(drain));
+        drain
     }
 
     fn erase<G: Gate>(&mut self, rt: &impl Wait, gate: &mut G) -> Erase
         ensures { HasSweptBy self.old (by.Erase result ∷ []) self.new }
     {
-        self.volume.erase_one(rt, &mut self.broom, gate)
+        let erase = self.volume.erase_one(rt, &mut self.broom, gate);
+        self.tally = self.tally.with_answer(BroomAnswer::Erase(erase));
+        erase
     }
 
     fn restock(&mut self) -> bool
         ensures { HasSweptBy self.old (by.Restock result ∷ []) self.new }
     {
-        self.volume.restock(&mut self.broom)
+        let has_spare = self.volume.restock(&mut self.broom);
+        self.tally = self.tally.with_answer(BroomAnswer::Restock(has_spare));
+        has_spare
     }
 
     // What follows a drain: an erase, and a restock where neither left a spare. The answer is whether anything was gained.

@@ -43,6 +43,7 @@ pub fn play_commands<R: Threads + Wait + Clock + Sync, G: Gate + Send>(
 {
     let Plan { rows: places, ends } = Plan::new(alloc, commands, geometry.hosts())?;
     let mut rows = Vec::with_capacity(alloc, geometry.hosts() as usize)?;
+    let mut brooms = Vec::with_capacity(alloc, geometry.brooms() as usize)?;
     let (volume, team) = deal(alloc, geometry, commands, places, drains)?;
     let team = play_rounds(rt, &volume, team, &ends, patience, gates)?;
     let Team {
@@ -51,7 +52,7 @@ pub fn play_commands<R: Threads + Wait + Clock + Sync, G: Gate + Send>(
         turns: _,
         sweeping: _,
     } = team;
-    fold_sweepers(rt, sweepers);
+    fold_sweepers(rt, sweepers, &mut brooms);
     hand_out(posts, &mut rows);
     Ok(rows)
 }

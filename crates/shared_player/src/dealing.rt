@@ -16,6 +16,7 @@ use crate::opening::{more_owners, open_shared};
 use crate::post::Post;
 use crate::share::{Share, make_shares};
 use crate::sweeper::Sweeper;
+use crate::tally::Tally;
 use crate::team::Team;
 use broom::Broom;
 use flash_table::Pass;
@@ -112,6 +113,7 @@ fn seat_sweepers(
             volume,
             broom,
             drains,
+            tally: Tally::new(),
         });
     }
     brooms.destroy_empty();

@@ -5,10 +5,12 @@ ghost use Rattle.host.specs.Ready.{IsReady};
 ghost use Rattle.volume.specs.Brooms.{IsBroomReady};
 ghost use Rattle.volume.specs.Volume.{flash_of};
 ghost use Rattle.shared_player.specs.Dealing.{AreReady};
+ghost use Rattle.shared_player.specs.Folding.{HaveFolded};
 ghost use Rattle.shared_player.specs.Posts.{answers_kept};
 
 use crate::post::Post;
 use crate::sweeper::Sweeper;
+use crate::sweeper_end::SweeperEnd;
 use broom::Broom;
 use flash_table::Pass;
 use lines::Answers;
@@ -16,11 +18,15 @@ use std::collections::VecDeque;
 use std::sync::Wait;
 use volume::Volume;
 
-/// Gives up the brooms. A block that one has set aside is put into the queue.
-pub fn fold_sweepers<R: Wait>(rt: &R, sweepers: Vec<Sweeper>) {
+/// Gives up the brooms, and puts what each has done and knew last into a row, in order. A block that one has set aside goes to the queue.
+pub fn fold_sweepers<R: Wait>(rt: &R, sweepers: Vec<Sweeper>, ends: &mut Vec<SweeperEnd>)
+    requires none { length ends.old.items ≡ 0 }
+    requires room { length sweepers.items ≤ vec_capacity ends.old }
+    ensures { HaveFolded sweepers.items ends.new.items }
+{
     let mut sweepers = VecDeque::from_vec(sweepers);
     while let Some(sweeper) = sweepers.pop_front() {
-        sweeper.fold(rt);
+        ends.push_reserved(sweeper.fold(rt));
     }
 }
 

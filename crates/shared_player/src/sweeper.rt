@@ -1,18 +1,27 @@
 //! A broom with the device that it sweeps.
 ghost use Rattle.std.specs.Prelude.{◌≡◌};
 ghost use Rattle.std.specs.Arc.{arc_value};
+ghost use Rattle.erase_queue.specs.Queue.{limit_of};
+ghost use Rattle.flash_table.specs.GivingUp.{closed_broom};
+ghost use Rattle.broom.specs.Ends.{folded_place, folded_view};
+ghost use Rattle.broom.specs.Handing.{LeftAt};
+ghost use Rattle.broom.specs.Ready.{blocks_of_broom, view_of_broom};
+ghost use Rattle.volume.specs.Volume.{queue_of};
 ghost use Rattle.volume.specs.Brooms.{IsBroomReady, IsBroomReady-prop};
 
+use crate::sweeper_end::SweeperEnd;
+use crate::tally::Tally;
 use broom::Broom;
 use std::alloc::Global;
 use std::sync::{Arc, Wait};
 use volume::Volume;
 
-/// A broom at its device, and how many blocks it drains by one survey. If a sweeper is dropped, its broom is given up.
+/// A broom at its device, how many blocks it drains by one survey, and what it has done so far. A sweeper that is dropped gives up its broom.
 pub struct Sweeper {
     pub volume: Arc<Volume, Global>,
     pub broom: Broom,
     pub drains: u32,
+    pub tally: Tally,
     pub ghost ready: { IsBroomReady (arc_value volume) broom } by { Prim.hlevel IsBroomReady-prop },
 }
 
@@ -22,6 +31,7 @@ impl Drop for Sweeper {
             volume,
             broom,
             drains: _,
+            tally: _,
         } = self;
         volume.retire_broom(broom);
     }
@@ -29,12 +39,18 @@ impl Drop for Sweeper {
 
 impl Sweeper {
     // Gives up the broom. A block that it has set aside goes to the queue.
-    pub(crate) fn fold<R: Wait>(self, rt: &R) {
+    pub(crate) fn fold<R: Wait>(self, rt: &R) -> SweeperEnd
+        ensures tally { result.tally ≡ self.tally }
+        ensures view { folded_view result.folded ≡ closed_broom (view_of_broom self.broom) (blocks_of_broom self.broom) }
+        ensures place { LeftAt (limit_of (queue_of (arc_value self.volume))) self.broom (folded_place result.folded) }
+    {
         let Sweeper {
             volume,
             broom,
             drains: _,
+            tally,
         } = self;
-        volume.fold(rt, broom);
+        let folded = volume.fold(rt, broom);
+        SweeperEnd { tally, folded }
     }
 }

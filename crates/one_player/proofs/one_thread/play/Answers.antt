@@ -44,8 +44,7 @@ loop-i-preserved g c =
 pub loop-i-init : goal.loop-i-init
 loop-i-init g c =
     let geo = geometry_of c.args.ftl.now in
-    let commands = c.args.commands.now in
-    (
+    let commands = c.args.commands.now in (
       refl,
       c.requires.page,
       refl,

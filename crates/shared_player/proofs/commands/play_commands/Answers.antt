@@ -11,7 +11,15 @@ use Rattle.rounds.specs.Plans.{ends_of}
 use Rattle.shared_player.specs.Posts.{answers_kept}
 use Rattle.shared_player.specs.Runs.{HasBegun}
 use Rattle.shared_player.proofs.Ended.{all_paged, all_played}
+use Rattle.shared_player.proofs.Swept.{swept_long}
 use Rattle.shared_player.proofs.commands.play_commands.Goals as goal
+
+pub fold_sweepers-requires-clause-room : goal.fold_sweepers-requires-clause-room
+fold_sweepers-requires-clause-room g c =
+    let long = swept_long c.in_ok-volume.team.sweepers.items c.in_ok-team.team.sweepers.items c.in_ok-team.ensures.swept in
+    let dealt = c.in_ok-volume.ensures.sweepers in
+    let count = c.brooms.ensures.value in
+    let room = c.in_ok-brooms.ensures.capacity in omega arith
 
 pub returns-clause-rows : goal.returns-clause-rows
 returns-clause-rows g c =

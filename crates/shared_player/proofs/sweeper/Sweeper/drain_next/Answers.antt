@@ -3,16 +3,14 @@ use Rattle.erase_queue.specs.Queue.{limit_of}
 use Rattle.volume.specs.declared.volume.Volume.{Volume}
 use Rattle.volume.specs.Volume.{queue_of}
 use Rattle.shared_player.specs.declared.broom_answer.BroomAnswer.TheVariants as by
-use Rattle.shared_player.specs.Collecting.{CallTold, limit_at}
-use Rattle.shared_player.proofs.Swept.{collected_one}
+use Rattle.shared_player.specs.declared.sweeper.Sweeper.{Sweeper}
+use Rattle.shared_player.specs.Collecting.{CallTold}
+use Rattle.shared_player.proofs.Swept.{swept_one}
 use Rattle.shared_player.proofs.sweeper.Sweeper.drain_next.Goals as goal
 
 pub returns : goal.returns
 returns g c =
     let self = c.args.self.now in
-    let answer = by.DrainNext c.drain_next_one.result in
-    record {
-      volume = refl;
-      drains = refl;
-      collected = collected_one (limit_at self) self.broom c.drain_next_one.new.broom answer (subst (λ (v : Volume). CallTold (limit_of (queue_of v)) self.broom answer c.drain_next_one.new.broom) c.deref.ensures c.drain_next_one.ensures.told);
-    }
+    let answer = by.DrainNext c.drain_next_one-drain.result in
+    let broom = c.drain_next_one-drain.new.broom in
+    swept_one self _ answer refl refl (subst (λ (v : Volume). CallTold (limit_of (queue_of v)) self.broom answer broom) c.deref.ensures c.drain_next_one-drain.ensures.told) c.with_answer-self.ensures

@@ -1,16 +1,12 @@
 use Rattle.std.proofs.Common.{refl}
 use Rattle.shared_player.specs.declared.broom_answer.BroomAnswer.TheVariants as by
-use Rattle.shared_player.specs.Collecting.{limit_at}
-use Rattle.shared_player.proofs.Swept.{collected_one}
+use Rattle.shared_player.specs.declared.sweeper.Sweeper.{Sweeper}
+use Rattle.shared_player.proofs.Swept.{swept_one}
 use Rattle.shared_player.proofs.sweeper.Sweeper.restock.Goals as goal
 
 pub returns : goal.returns
 returns c =
     let self = c.args.self.now in
-    record {
-      volume = refl;
-      drains = refl;
-      collected =
-          collected_one (limit_at self) self.broom c.restock.new.broom (by.Restock c.restock.result)
-          (record { told = c.restock.ensures.told; queue = c.restock.ensures.queue; survey = c.restock.ensures.survey });
-    }
+    let answer = by.Restock c.restock-has_spare.result in
+    let broom = c.restock-has_spare.new.broom in
+    swept_one self _ answer refl refl (record { told = c.restock-has_spare.ensures.told; queue = c.restock-has_spare.ensures.queue; survey = c.restock-has_spare.ensures.survey }) c.with_answer-self.ensures
