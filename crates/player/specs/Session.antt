@@ -85,21 +85,21 @@ pub record DescribesNone (words : List Text) (found : GeometryFault) : Type 0 wh
   pub told : AreOptionsOf (rows_given words) given
   pub first : first_fault (numbers_given given) ≡ Some found
 
--- the text of a run by so many workers, with so many tries of each write: without any it is that of one thread
-abbrev pub IsTextBy : ℕ → ℕ → Geometry → List ℕ → List ℕ → Type 0
-IsTextBy zero patience geo bytes text = IsTextOf geo bytes text
-IsTextBy (suc others) patience geo bytes text = IsSharedTextOf patience geo bytes text
+-- the text of a run by so many workers: without any it is that of one thread
+abbrev pub IsTextBy : ℕ → Geometry → List ℕ → List ℕ → Type 0
+IsTextBy zero geo bytes text = IsTextOf geo bytes text
+IsTextBy (suc others) geo bytes text = IsSharedTextOf geo bytes text
 
--- the text of a run on this device, by a worker for each of its hosts, with so many tries of each write
-abbrev pub IsTextFor : ℕ → Geometry → List ℕ → List ℕ → Type 0
-IsTextFor patience geo bytes text = IsTextBy (hosts_of geo) patience geo bytes text
+-- the text of a run on this device, by a worker for each of its hosts
+abbrev pub IsTextFor : Geometry → List ℕ → List ℕ → Type 0
+IsTextFor geo bytes text = IsTextBy (hosts_of geo) geo bytes text
 
 -- the trace was played: the input was read to its end, the text of all its bytes was written, and no call failed
 pub record Answered (words : List Text) (input output : Passage) : Type 0 where
   pub geo : Geometry
   pub device : IsDescribed words geo
   pub end : IsAtEnd input.after.bytes
-  pub text : Tells (IsTextFor device.given.patience geo) input.before output
+  pub text : Tells (IsTextFor geo) input.before output
   pub input_unfailed : input.after.failures ≡ input.before.failures
   pub output_unfailed : output.after.failures ≡ output.before.failures
 
@@ -206,9 +206,9 @@ abbrev pub IsIdle : Passage → Passage → Type 0
 IsIdle input output = (input.after ≡ input.before) × (output.after ≡ output.before)
 
 -- the trace was played on a device: the input was read to its end, the text of all its bytes was written, and no call failed
-pub record PlaysOn (geo : Geometry) (patience : ℕ) (input output : Passage) : Type 0 where
+pub record PlaysOn (geo : Geometry) (input output : Passage) : Type 0 where
   pub end : IsAtEnd input.after.bytes
-  pub text : Tells (IsTextFor patience geo) input.before output
+  pub text : Tells (IsTextFor geo) input.before output
   pub input_unfailed : input.after.failures ≡ input.before.failures
   pub output_unfailed : output.after.failures ≡ output.before.failures
 
@@ -219,16 +219,16 @@ LosesOn file file_stop.NotWithWorkers geo given input output files =
 LosesOn file file_stop.NotOpened geo given input output files = (is_some (name_given file given) ≡ true) × IsIdle input output × FailsToOpen file files
 LosesOn file file_stop.NotItsOwn geo given input output files = (is_some (name_given file given) ≡ true) × IsIdle input output × FailsToOpen file files
 LosesOn file file_stop.Failed geo given input output files =
-    PlaysOn geo given.patience input output × LosesOne file geo given input.before files
+    PlaysOn geo input output × LosesOne file geo given input.before files
 
 -- how a run on a device ended, by the options
 abbrev pub EndsOn : Result (Unit {0}) Stop → Geometry → Options → Passage → Passage → Filings → Type 0
-EndsOn (Ok _) geo given input output files = PlaysOn geo given.patience input output × TellsFiles geo given input.before files
+EndsOn (Ok _) geo given input output files = PlaysOn geo input output × TellsFiles geo given input.before files
 EndsOn (Err (stop.Arguments text)) geo given input output files = ⊥
 EndsOn (Err (stop.Encoding place)) geo given input output files = ⊥
 EndsOn (Err (stop.Geometry found)) geo given input output files = ⊥
 EndsOn (Err (stop.Run found)) geo given input output files =
-    ExplainsRun (IsTextFor given.patience) geo input output found × LeavesFiles found geo given input.before files
+    ExplainsRun IsTextFor geo input output found × LeavesFiles found geo given input.before files
 EndsOn (Err stop.Help) geo given input output files = ⊥
 EndsOn (Err stop.Memory) geo given input output files = ⊥
 EndsOn (Err (stop.File file why)) geo given input output files = LosesOn file why geo given input output files
@@ -273,7 +273,7 @@ pub record Helped (words : List Text) (input output : Passage) : Type 0 where
 pub record Stopped (words : List Text) (found : RunFault) (input output : Passage) (files : Filings) : Type 0 where
   pub geo : Geometry
   pub device : IsDescribed words geo
-  pub why : ExplainsRun (IsTextFor device.given.patience) geo input output found
+  pub why : ExplainsRun IsTextFor geo input output found
   pub left : LeavesFiles found geo device.given input.before files
 
 -- some of a text went out, and then the writer failed

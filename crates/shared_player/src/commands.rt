@@ -39,7 +39,7 @@ pub fn play_commands<R: Threads + Wait + Clock + Sync, G: Gate + Send>(
     requires gates { length gates.old ≡ hosts_of geometry.now + brooms_of geometry.now }
     ensures rows { IfOk result (λ rows. length rows.items ≡ hosts_of geometry.now) }
     ensures pages { IfOk result (λ rows. All (λ row. page_size_of row ≡ page_bytes_of geometry.now) rows.items) }
-    ensures played { IfOk result (λ rows. ArePlayed geometry.now patience (arc_value commands.now) (answers_by rows.items)) }
+    ensures played { IfOk result (λ rows. ArePlayed geometry.now (arc_value commands.now) (answers_by rows.items)) }
 {
     let Plan { rows: places, ends } = Plan::new(alloc, commands, geometry.hosts())?;
     let mut rows = Vec::with_capacity(alloc, geometry.hosts() as usize)?;

@@ -59,8 +59,8 @@ workers_there geo cs some all k c low = subst (λ n. (get_or cs k c).worker < n)
     shared n some = ap (λ b. if b then 500 else n) (ne_eqb n 0 (λ none. omega arith))
 
 -- so each line has an answer
-pub enough_answers : (geo : Geometry) (patience : ℕ) (cs : List Command) (rows : ℕ → List Said) → 0 < hosts_of geo → All (IsPlayable geo) cs → ArePlayed geo patience cs rows → HaveAnswers rows cs
-enough_answers geo patience cs rows some playable played t =
+pub enough_answers : (geo : Geometry) (cs : List Command) (rows : ℕ → List Said) → 0 < hosts_of geo → All (IsPlayable geo) cs → ArePlayed geo cs rows → HaveAnswers rows cs
+enough_answers geo cs rows some playable played t =
     dite (dec_lt t (hosts_of geo))
     (λ low. let long = plays_long (sectors_of geo) t [] (lines_for t cs) (rows t) played.told.history (played.told.plays t low) in omega (arith, long))
     (λ past. let none = none_past (hosts_of geo) t cs (workers_there geo cs some playable) (omega arith) in omega (arith, none))
@@ -70,34 +70,33 @@ pub all_digits : (geo : Geometry) (rows : List Answers) (digits : ℕ) → digit
 all_digits geo rows digits same sizes = All-weaker (λ row. page_size_of row ≡ page_bytes_of geo) (λ row. digits ≡ 2 * page_size_of row) (λ row size. omega (arith, same, size)) rows sizes
 
 -- what was played, under other names for the commands and the rows
-pub renamed : (geo : Geometry) (patience : ℕ) (cs were : List Command) (rows stood : List Answers) → cs ≡ were → rows ≡ stood → ArePlayed geo patience were (answers_by stood) → ArePlayed geo patience cs (answers_by rows)
-renamed geo patience cs were rows stood same same_rows played =
-    subst (λ l. ArePlayed geo patience l (answers_by rows)) (sym same) (subst (λ r. ArePlayed geo patience were (answers_by r)) (sym same_rows) played)
+pub renamed : (geo : Geometry) (cs were : List Command) (rows stood : List Answers) → cs ≡ were → rows ≡ stood → ArePlayed geo were (answers_by stood) → ArePlayed geo cs (answers_by rows)
+renamed geo cs were rows stood same same_rows played =
+    subst (λ l. ArePlayed geo l (answers_by rows)) (sym same) (subst (λ r. ArePlayed geo were (answers_by r)) (sym same_rows) played)
 
 -- and what the bytes mean
 pub renamed_meaning : (geo : Geometry) (cs were : List Command) (input : Option (List ℕ)) → cs ≡ were → IfSome input (λ bytes. commands_of bytes geo ≡ Ok were) → IfSome input (λ bytes. commands_of bytes geo ≡ Ok cs)
 renamed_meaning geo cs were input same meaning = subst (λ l. IfSome input (λ bytes. commands_of bytes geo ≡ Ok l)) (sym same) meaning
 
-module _ (geo : Geometry) (patience : ℕ) (cs : List Command) (rows : ℕ → List Said) (played : ArePlayed geo patience cs rows) where
+module _ (geo : Geometry) (cs : List Command) (rows : ℕ → List Said) (played : ArePlayed geo cs rows) where
   -- the text of what was played is a text of the bytes that mean these commands
-  is_text : (bytes : List ℕ) → commands_of bytes geo ≡ Ok cs → IsTextOf patience geo bytes (text_of cs rows)
+  is_text : (bytes : List ℕ) → commands_of bytes geo ≡ Ok cs → IsTextOf geo bytes (text_of cs rows)
   is_text bytes meaning = record {
     commands = cs;
     meaning = meaning;
     rows = rows;
     lines = refl;
     told = played.told;
-    untried = played.untried;
     answers = λ apart. record { lines = lines_text 0 (merge cs rows); answers = played.text apart; whole = refl };
   }
 
   -- so such a text was written
-  pub text_sent : (input old new : Option (List ℕ)) → IfSome input (λ bytes. commands_of bytes geo ≡ Ok cs) → Appends old new (text_of cs rows) → IfSome input (λ bytes. AppendsText (IsTextOf patience geo) bytes old new)
+  pub text_sent : (input old new : Option (List ℕ)) → IfSome input (λ bytes. commands_of bytes geo ≡ Ok cs) → Appends old new (text_of cs rows) → IfSome input (λ bytes. AppendsText (IsTextOf geo) bytes old new)
   text_sent None old new meaning sent = tt
   text_sent (Some bytes) old new meaning sent = record { text = text_of cs rows; is_text = is_text bytes meaning; out = sent }
 
   -- or a beginning of it
-  pub part_sent : (input old new : Option (List ℕ)) → IfSome input (λ bytes. commands_of bytes geo ≡ Ok cs) → AppendsBeginning old new (text_of cs rows) → IfSome input (λ bytes. AppendsPart (IsTextOf patience geo) bytes old new)
+  pub part_sent : (input old new : Option (List ℕ)) → IfSome input (λ bytes. commands_of bytes geo ≡ Ok cs) → AppendsBeginning old new (text_of cs rows) → IfSome input (λ bytes. AppendsPart (IsTextOf geo) bytes old new)
   part_sent None old new meaning part = tt
   part_sent (Some bytes) old new meaning part = record { text = text_of cs rows; is_text = is_text bytes meaning; out = part }
 

@@ -42,12 +42,12 @@ pub fn run_shared<T: Threads + Wait + Clock + Sync, R: Read, W: Write, G: Gate +
 
     // The reader was read to its end, what was written is a text of all its bytes, and no call failed.
     ensures end { OnOk result (IsAtEnd (R.remaining (inner_of reader.new))) }
-    ensures text { OnOk result (Tells (IsTextOf patience geometry.now) (stream_of R.remaining reader.old) (over W.contents writer.old writer.new)) }
+    ensures text { OnOk result (Tells (IsTextOf geometry.now) (stream_of R.remaining reader.old) (over W.contents writer.old writer.new)) }
     ensures reader_unfailed { OnOk result (failures_of reader.new ≡ failures_of reader.old) }
     ensures writer_unfailed { OnOk result (failures_of writer.new ≡ failures_of writer.old) }
 
     // A fault says what happened. Only a failed writer has taken bytes, and those are a beginning of a text.
-    ensures why { IfErr result (ExplainsRun (IsTextOf patience) geometry.now (over R.remaining reader.old reader.new) (over W.contents writer.old writer.new)) }
+    ensures why { IfErr result (ExplainsRun IsTextOf geometry.now (over R.remaining reader.old reader.new) (over W.contents writer.old writer.new)) }
 {
     let commands = match read_commands(alloc, reader, geometry) {
         Ok(commands) => commands,
@@ -82,10 +82,10 @@ pub fn run_by_workers<T: Threads + Wait + Clock + Sync, R: Read, W: Write>(
 ) -> Result<(), RunFault>
     requires { 0 < hosts_of geometry.now }
     ensures end { OnOk result (IsAtEnd (R.remaining (inner_of reader.new))) }
-    ensures text { OnOk result (Tells (IsTextOf patience geometry.now) (stream_of R.remaining reader.old) (over W.contents writer.old writer.new)) }
+    ensures text { OnOk result (Tells (IsTextOf geometry.now) (stream_of R.remaining reader.old) (over W.contents writer.old writer.new)) }
     ensures reader_unfailed { OnOk result (failures_of reader.new ≡ failures_of reader.old) }
     ensures writer_unfailed { OnOk result (failures_of writer.new ≡ failures_of writer.old) }
-    ensures why { IfErr result (ExplainsRun (IsTextOf patience) geometry.now (over R.remaining reader.old reader.new) (over W.contents writer.old writer.new)) }
+    ensures why { IfErr result (ExplainsRun IsTextOf geometry.now (over R.remaining reader.old reader.new) (over W.contents writer.old writer.new)) }
 {
     let mut gates = [NoGate; MAX_THREADS];
     let threads = geometry.hosts() as usize + geometry.brooms() as usize;

@@ -21,7 +21,7 @@ returns-in-Ok g c =
     let start = stream_of g.R.Read.remaining c.args.reader.now in (
       record {
         end = told.end;
-        text = shared_text (hosts_of geo) c.args.given.patience geo start (over g.W.Write.contents c.args.writer.now c.run_by_workers.new.writer) c.requires told.text;
+        text = shared_text (hosts_of geo) geo start (over g.W.Write.contents c.args.writer.now c.run_by_workers.new.writer) c.requires told.text;
         input_unfailed = told.reader_unfailed;
         output_unfailed = told.writer_unfailed;
       },
@@ -32,7 +32,7 @@ returns-in-Ok g c =
 pub returns-in-Err : goal.returns-in-Err
 returns-in-Err g c =
     let geo = c.args.geometry.now in (
-      shared_why c.args.given.patience geo c.in-Err.fault
+      shared_why geo c.in-Err.fault
           (over g.R.Read.remaining c.args.reader.now c.run_by_workers.new.reader)
           (over g.W.Write.contents c.args.writer.now c.run_by_workers.new.writer) c.requires c.in-Err.ensures.why,
       nothing_left c.in-Err.fault geo c.args.given (stream_of g.R.Read.remaining c.args.reader.now) (filings g.F.NamedFile.opened_as g.F.Write.contents c.args.files.now c.args.files.now)

@@ -13,9 +13,9 @@ pub deliver-requires-clause-answers : goal.deliver-requires-clause-answers
 deliver-requires-clause-answers g c =
     let geo = c.args.geometry.now in
     let commands = c.deref.result.now in
-    let played = renamed geo c.args.patience commands _ c.deref-2.result.now _ c.deref.ensures c.deref-2.ensures.value c.in-Ok-play_commands.ensures.played in
+    let played = renamed geo commands _ c.deref-2.result.now _ c.deref.ensures c.deref-2.ensures.value c.in-Ok-play_commands.ensures.played in
     let same : commands ≡ c.in-Ok.commands = c.deref.ensures ∙ c.in-Ok-new-2.ensures.ok in
-    enough_answers geo c.args.patience commands (answers_by c.deref-2.result.now) c.requires.hosts (subst (All (IsPlayable geo)) (sym same) c.in-Ok.ensures.playable) played
+    enough_answers geo commands (answers_by c.deref-2.result.now) c.requires.hosts (subst (All (IsPlayable geo)) (sym same) c.in-Ok.ensures.playable) played
 
 pub deliver-requires-clause-pages : goal.deliver-requires-clause-pages
 deliver-requires-clause-pages g c =
@@ -28,20 +28,20 @@ returns-in-Ok-deliver-clause-text g c =
     let geo = c.args.geometry.now in
     let commands = c.deref.result.now in
     let input = g.R.Read.remaining (inner_of c.args.reader.now) in
-    let played = renamed geo c.args.patience commands _ c.deref-2.result.now _ c.deref.ensures c.deref-2.ensures.value c.in-Ok-play_commands.ensures.played in
+    let played = renamed geo commands _ c.deref-2.result.now _ c.deref.ensures c.deref-2.ensures.value c.in-Ok-play_commands.ensures.played in
     let meaning = renamed_meaning geo commands _ input (c.deref.ensures ∙ c.in-Ok-new-2.ensures.ok) c.in-Ok.ensures.commands in
-    text_sent geo c.args.patience commands (answers_by c.deref-2.result.now) played input _ _ meaning c.in-Ok-deliver.ensures.sent
+    text_sent geo commands (answers_by c.deref-2.result.now) played input _ _ meaning c.in-Ok-deliver.ensures.sent
 
 pub returns-clause-why : goal.returns-clause-why
 returns-clause-why g c =
     let geo = c.args.geometry.now in
     let commands = c.deref.result.now in
     let input = g.R.Read.remaining (inner_of c.args.reader.now) in
-    let played = renamed geo c.args.patience commands _ c.deref-2.result.now _ c.deref.ensures c.deref-2.ensures.value c.in-Ok-play_commands.ensures.played in
+    let played = renamed geo commands _ c.deref-2.result.now _ c.deref.ensures c.deref-2.ensures.value c.in-Ok-play_commands.ensures.played in
     let meaning = renamed_meaning geo commands _ input (c.deref.ensures ∙ c.in-Ok-new-2.ensures.ok) c.in-Ok.ensures.commands in (
       record { end = c.in-Ok.ensures.end; unfailed = c.in-Ok.ensures.unfailed; meaning = some_meaning geo commands input meaning },
       c.in-Err-deliver.ensures.failed,
-      part_sent geo c.args.patience commands (answers_by c.deref-2.result.now) played input _ _ meaning c.in-Err-deliver.ensures.part,
+      part_sent geo commands (answers_by c.deref-2.result.now) played input _ _ meaning c.in-Err-deliver.ensures.part,
     )
 
 pub play_commands-requires-clause-playable : goal.play_commands-requires-clause-playable
