@@ -9,7 +9,7 @@ use Rattle.rounds.specs.Rows.{AreAtOneHistory}
 use Rattle.rounds.specs.Texts.{lines_text, IsTextOfSome}
 
 -- The commands of a trace were played on a device of this geometry, by a worker for each of its hosts: all lines were answered at one history, and
--- where the trace is disjoint, the answers are as text those of the trace, with the writes turned away at some set of lines
+-- if the trace is disjoint, the text of the answers is that of the trace, with the writes turned away at some set of lines
 pub record ArePlayed (geo : Geometry) (commands : List Command) (rows : ℕ → List Said) : Type 0 where
   pub told : AreAtOneHistory (sectors_of geo) (hosts_of geo) commands rows
   pub text : IsDisjointTrace commands → IsTextOfSome (sectors_of geo) commands (lines_text 0 (merge commands rows))
