@@ -65,7 +65,7 @@ def _responding(options, point):
     run, log = _with_log(point.device, feeder(options, point, options.rounds))
     told = response.respond(run, log, part.part_of(options), times_of(options, point, run.lines), options.speed, first_line)
     figures = response.summarise(told, None)
-    worn = run.kinds.count(answers.WRITE_NOT_DONE, first_line - 1)
+    worn = run.kinds.count(answers.WRITE_REFUSED, first_line - 1)
     row = _totals(len(told.kind), run.programs_within(first_line - 1, run.lines), told.copied, told.collections, worn)
     waits = {name: "" if figures[key] is None else f"{figures[key]:.3f}" for name, key in RESPONSES.items()}
     return row | waits | {"load": "" if figures["load"] is None else f"{figures['load']:.6f}"}
