@@ -9,6 +9,7 @@ import sys
 import tempfile
 import time
 import unittest
+from unittest import mock
 
 from simulation import device, grid, model
 from tests import sshd
@@ -130,6 +131,18 @@ class Swept(unittest.TestCase):
                     self.assertAlmostEqual(float(row["write_mean_us"]), service / len(writes), places=2)
                     played += len(counted.collections)
         self.assertGreater(played, 0)
+
+    @needs("numpy")
+    def test_a_log_without_its_last_collection_fails_the_point(self):
+        wrong = self.out.parent / "wrong"
+        wrong.write_text(f"#!/bin/sh\n{device.LAUNCHER} \"$@\" || exit\nfor file; do :; done\n[ ! -f \"$file\" ] || sed -i '$d' \"$file\"\n")
+        wrong.chmod(0o755)
+        numbers = (TOP / "examples/collection.args").read_text().split()
+        times = ("--read-time", "1", "--program-time", "10", "--erase-time", "1000", "--transfer-time", "0")
+        with mock.patch.dict(os.environ, {"FLASHPLAY": str(wrong)}):
+            done = Run("sweep", "--out", self.out, "--trace", TOP / "examples/collection.csv", *numbers, *times)
+        self.assertEqual(done.status, 1)
+        self.assertIn("the log has 0 erases and 0 copies, and the answers 1 and 1", done.errors)
 
     def test_a_trace_that_is_not_there_leaves_no_folder(self):
         done = Run("sweep", "--out", self.out, "--trace", "/no/such/trace", "--blocks", "8")
