@@ -15,13 +15,13 @@ ANSWERS = {
 }
 REFUSALS = (b"worn", b"full")
 # The kinds of lines, as bytes: what a line did is all that its time depends on.
-READ_DATA, READ_EMPTY, WRITE_DONE, WRITE_NOT_DONE, TRIM, MEET = range(6)
+READ_DATA, READ_EMPTY, WRITE_DONE, WRITE_REFUSED, NEW_OF_WRITTEN, TRIM, MEET = range(7)
 KINDS = {
     (b"read", b"data"): READ_DATA,
     (b"read", b"empty"): READ_EMPTY,
-    **{(op, answer): WRITE_NOT_DONE for op in (b"write", b"new") for answer in REFUSALS},
+    **{(op, answer): WRITE_REFUSED for op in (b"write", b"new") for answer in REFUSALS},
     # A write of an empty sector that found it written changed nothing.
-    (b"new", b"written"): WRITE_NOT_DONE,
+    (b"new", b"written"): NEW_OF_WRITTEN,
     **{(op, b"empty"): WRITE_DONE for op in (b"write", b"new")},
     (b"write", b"written"): WRITE_DONE,
     **{(b"trim", answer): TRIM for answer in (b"empty", b"written")},

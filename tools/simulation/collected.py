@@ -1,4 +1,4 @@
-"""The log of collections of a run by one thread, as `tools/model` writes it; or what each broom of a run by workers did."""
+"""The log of collections of a run by one thread, as `flashplay --collections` writes it; or what each broom of a run by workers did."""
 
 from array import array
 from dataclasses import dataclass, field, fields

@@ -68,9 +68,9 @@ def play(device, feed):
     return Totals(lines - 1, programs, copies, erases, worn)
 
 
-def run(device, feed, reader):
-    """Plays the trace that `feed` writes, and answers what `reader` makes of the answers."""
-    words = words_of(device)
+def run(device, feed, reader, further=()):
+    """Plays the trace that `feed` writes, with further options, and answers what `reader` makes of the answers."""
+    words = [*words_of(device), *further]
     with subprocess.Popen([LAUNCHER, *words], stdin=subprocess.PIPE, stdout=subprocess.PIPE, stderr=subprocess.PIPE) as run:
         # The program answers nothing before it has read the whole trace; if it reads no more, it says why.
         with contextlib.suppress(BrokenPipeError):

@@ -3,11 +3,10 @@ the last block is the spare, and where no block is left the closed block with th
 
 import csv
 import io
-import itertools
 import re
 from dataclasses import dataclass, field
 
-from .faults import ARGUMENTS, BROKEN, Fault, LineFault
+from .faults import ARGUMENTS, Fault, LineFault
 
 # What docs/FORMATS.md says of traces and devices.
 LONGEST_TRACE, WORKERS, WORDS = 268_435_456, 500, 16_777_216
@@ -167,12 +166,3 @@ def check(device):
         raise Fault("geometry: TooManyWords", ARGUMENTS)
     if sectors >= (blocks - 1) * pages:
         raise Fault("geometry: TooFewBlocks", ARGUMENTS)
-
-
-def log_of(device, trace, answers):
-    """The log of a run with these answers, given line by line: the model has to answer the same, byte for byte."""
-    played = Model(**device)
-    for number, (line, told) in enumerate(itertools.zip_longest(played.play(trace), answers), 1):
-        if line is None or line.encode() != told:
-            raise Fault(f"line {number:,} of the answers: the model's answer differs, so it has no log of this run", BROKEN)
-    return played.log()

@@ -92,10 +92,9 @@ def command_lines(options) -> list:
     lines = list(options.made_by)
     if options.trace and device.is_named(options):
         numbers, trace, answers = device.words_of(device.numbers_of(options)), shlex.quote(options.trace), shlex.quote(options.answers)
-        wear = ["--wear", options.wear] if options.wear else []
-        lines.append(f"{shlex.join(['./flashplay', *numbers, *wear])} < {trace} > {answers}")
-        if options.collections:
-            lines.append(f"{shlex.join(['tools/model', *numbers, '--collections', options.collections])} < {trace} | cmp - {answers}")
+        given = {"--wear": options.wear, "--collections": options.collections}
+        files = [word for option, name in given.items() if name for word in (option, name)]
+        lines.append(f"{shlex.join(['./flashplay', *numbers, *files])} < {trace} > {answers}")
     return [*lines, shlex.join(["tools/report", *sys.argv[1:]])]
 
 

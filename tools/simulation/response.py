@@ -45,7 +45,7 @@ class Response:
         if group == "reads":
             return self.kind <= kinds.READ_EMPTY
         if group == "writes":
-            return (self.kind == kinds.WRITE_DONE) | (self.kind == kinds.WRITE_NOT_DONE)
+            return (self.kind >= kinds.WRITE_DONE) & (self.kind <= kinds.NEW_OF_WRITTEN)
         return self.kind != kinds.MEET
 
 

@@ -3,7 +3,6 @@
 import argparse
 import csv
 import hashlib
-import io
 import itertools
 import json
 import pathlib
@@ -16,7 +15,7 @@ import tempfile
 import uuid
 from dataclasses import dataclass
 
-from . import answers, arrivals, collected, device, inputs, make, model, part, pictures, response
+from . import answers, arrivals, collected, device, inputs, make, part, pictures, response
 from .faults import Fault
 from .traces import TraceWriter
 
@@ -66,22 +65,19 @@ def _responding(options, point):
     run, log = _with_log(point.device, feeder(options, point, options.rounds))
     told = response.respond(run, log, part.part_of(options), times_of(options, point, run.lines), options.speed, first_line)
     figures = response.summarise(told, None)
-    worn = run.kinds.count(answers.WRITE_NOT_DONE, first_line - 1)
+    worn = run.kinds.count(answers.WRITE_REFUSED, first_line - 1)
     row = _totals(len(told.kind), run.programs_within(first_line - 1, run.lines), told.copied, told.collections, worn)
     waits = {name: "" if figures[key] is None else f"{figures[key]:.3f}" for name, key in RESPONSES.items()}
     return row | waits | {"load": "" if figures["load"] is None else f"{figures['load']:.6f}"}
 
 
 def _with_log(numbers, feed):
-    """The answers of a run, and its log of collections: by the model, which has to answer the same."""
-    with tempfile.TemporaryFile() as kept:
-        device.run(numbers, feed, lambda source: shutil.copyfileobj(source, kept))
-        kept.seek(0)
-        run = answers.read_answers(kept)
-        trace = io.BytesIO()
-        feed(trace)
-        kept.seek(0)
-        log = collected.read_log(io.BytesIO(model.log_of(numbers, trace.getvalue(), kept).encode()))
+    """The answers of a run, and the log of collections that it wrote."""
+    with tempfile.TemporaryDirectory() as folder:
+        path = pathlib.Path(folder) / "collections"
+        run = device.run(numbers, feed, answers.read_answers, ("--collections", str(path)))
+        with open(path, "rb") as source:
+            log = collected.read_log(source)
     collected.check(log, run)
     return run, log
 

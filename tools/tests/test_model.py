@@ -1,13 +1,12 @@
 """The model against rows by hand, and against the program: the same answers, the same wear, the same log, the same faults."""
 
-import io
 import pathlib
 import random
 import subprocess
 import tempfile
 import unittest
 
-from simulation import device, faults, model
+from simulation import device, model
 from tests.tools import TOP, Run
 
 HEAD = "line,victim,copied,copybacks,erases,outcome\n"
@@ -86,18 +85,6 @@ class AsTheProgram(unittest.TestCase):
                 done = Run("model", *words.split())
                 self.assertEqual((done.status, done.text, done.errors.removeprefix("model: ")), (status, answers, told))
                 self.assertEqual(status, 2)
-
-
-class LogOf(unittest.TestCase):
-    numbers = {"luns": 1, "blocks": 3, "pages": 2, "words": 1, "sectors": 3, "endurance": 10}
-    trace, answers = ((TOP / f"examples/collection.{kind}").read_bytes() for kind in ("csv", "out"))
-
-    def test_answers_that_are_not_the_models_have_no_log(self):
-        self.assertEqual(model.log_of(self.numbers, self.trace, io.BytesIO(self.answers)), HEAD + "5,0,1,1,1,freed\n")
-        lines = self.answers.splitlines(keepends=True)
-        for line, other in [(3, self.answers.replace(b"3,write,2,empty", b"3,write,2,written")), (10, b"".join(lines[:-1])), (11, self.answers + b"end\n")]:
-            with self.assertRaisesRegex(faults.Fault, f"line {line} of the answers"):
-                model.log_of(self.numbers, self.trace, io.BytesIO(other))
 
 
 def random_run(seeded):

@@ -238,8 +238,7 @@ class Shown(InARoom):
         self.assertEqual(re.findall(r'(?:src|href)="(?!#|data:,)[^"]*"|url\((?!#)[^)]*\)|@import|<script', page), [])
         self.assertIn(html.escape(line), page)
         device = "--luns 2 --blocks 16 --pages 16 --words 1 --sectors 180 --endurance 1000"
-        for start in (f"./flashplay {device} --wear {self.room}/wear &lt; ", f"tools/model {device} --collections {self.room}/log &lt; "):
-            self.assertIn(start, page)
+        self.assertIn(f"./flashplay {device} --wear {self.room}/wear --collections {self.room}/log &lt; ", page)
         self.assertIn("2 LUNs, 16 blocks of 16 pages, 180 sectors (70.3 %) · zipf.csv", page)
         for section in SECTIONS:
             told = f'<title id="{section}-title">[^<]+</title><desc id="{section}-text">[^<]+</desc>'

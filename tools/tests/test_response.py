@@ -9,8 +9,9 @@ import time
 import unittest
 
 from simulation import faults, model, part
+from simulation.device import LAUNCHER
 from tests.packages import needs
-from tests.test_model import random_run
+from tests.test_model import LONG, random_run
 from tests.test_report import InARoom
 from tests.tools import TOOLS, TOP, Run, convert, make
 
@@ -66,6 +67,30 @@ class Services(Timed):
     def test_the_erase_that_fails_takes_its_time_and_the_refused_write_behind_it_none(self):
         told = self.told("1,write,0,written\n2,write,0,worn\nend,1,1,1\n", "1,0,1,1,1,retired\n")
         self.assertEqual((told["response_writes_count"], told["response_writes_longest_us"], told["response_writes_mean_us"]), (2, 1110.5, 1110.5 / 2))
+
+
+@needs("numpy")
+class OfTheProgram(Timed):
+    """Runs of the program with its own log, and the sum of their services by hand."""
+
+    def sum_of(self, words, trace, times=TIMES):
+        log = self.room / "log"
+        call = [LAUNCHER, *words.split(), "--collections", log]
+        answers = self.file("answers", subprocess.run(call, input=trace.encode(), capture_output=True, check=True).stdout)
+        told = json.loads(Run("report", answers, "--json", "--collections", log, *times).text)
+        return told["time_whole_us"], told["response_writes_longest_us"]
+
+    def test_two_luns_copy_by_copyback_and_by_read_and_program(self):
+        # Nine writes; lines 7 and 9 copy a page to the other LUN, and line 8 one within its LUN.
+        trace = "".join(f"0,write,{sector},\n" for sector in (0, 1, 2, 3, 0, 2, 4, 4, 4))
+        words = "--luns 2 --blocks 4 --pages 2 --words 1 --sectors 5"
+        self.assertEqual(self.sum_of(words, trace), (9 * 10.5 + 3 * 1000 + 2 * 12 + 100, 1110.5))
+        self.assertEqual(self.sum_of(words, trace, NO_COPYBACK), (9 * 10.5 + 3 * 1000 + 2 * 12 + 11, 1022.5))
+
+    def test_the_last_erase_retires_its_victim_and_what_is_refused_takes_no_time(self):
+        # Line 5 copies a page and erases; it fills the last block, and lines 6 to 12 are refused.
+        words = "--blocks 3 --pages 2 --words 1 --sectors 3 --endurance 1"
+        self.assertEqual(self.sum_of(words, LONG), (5 * 10.5 + 100 + 1000, 1110.5))
 
 
 @needs("numpy")

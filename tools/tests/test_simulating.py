@@ -53,6 +53,6 @@ class Pages(unittest.TestCase):
         self.assertIn("response of writes   ", told)
         self.assertEqual(len(drawn), 4)
         shown = html.unescape(re.search(r"<pre><code>(.*?)</code>", drawn["out/response.html"], re.DOTALL)[1]).splitlines()
-        self.assertEqual([line.split()[0] for line in shown], ["tools/trace", "./flashplay", "tools/model", "tools/report"])
+        self.assertEqual([line.split()[0] for line in shown], ["tools/trace", "./flashplay", "tools/report"])
         self.assertIn(shown[0], lines)
-        self.assertIn(shown[3], [shlex.join(shlex.split(line)) for line in lines if line.startswith("tools/report")])
+        self.assertIn(shown[2], [shlex.join(shlex.split(line)) for line in lines if line.startswith("tools/report")])

@@ -2,16 +2,19 @@ import csv
 import gzip
 import os
 import pathlib
+import random
 import signal
 import subprocess
 import sys
 import tempfile
 import time
 import unittest
+from unittest import mock
 
-from simulation import grid
+from simulation import device, grid, model
 from tests import sshd
 from tests.packages import needs
+from tests.test_model import random_run
 from tests.tools import TOOLS, TOP, Run
 
 SMALL = ("--blocks", "8", "--words", "1", "--endurance", "1000")
@@ -103,6 +106,43 @@ class Swept(unittest.TestCase):
         self.assertEqual((done.status, done.errors), (0, ""))
         # Writes arrive at 0, 2, 4, 6 and 8 and take 10, the last one 11 for its copy and 1,000 for its erase before that.
         self.assertEqual(float(self.rows()[0]["write_mean_us"]), (10 + 18 + 26 + 34 + 1053) / 5)
+
+    @needs("numpy")
+    def test_the_rows_of_random_traces_are_those_of_an_independent_count(self):
+        """Each row with times has the totals and the mean of the writes as the model counts them, and the totals of a row without times."""
+        times, seeded = ("--read-time", "1", "--program-time", "10", "--copyback-time", "9", "--erase-time", "1000", "--transfer-time", "0.5"), random.Random(31)
+        trace, played = self.out.parent / "trace.csv", 0
+        for number in range(4):
+            numbers, text = random_run(seeded)
+            trace.write_text(text)
+            counted = model.Model(**numbers)
+            told = [line.rstrip("\n").split(",") for line in counted.play(text.encode())][:-1]
+            writes = [line for line in told if line[1] in ("write", "new")]
+            copybacks = sum(collection.copybacks for collection in counted.collections)
+            service = counted.programs * 10.5 + copybacks * 9 + (counted.copies - copybacks) * 12 + len(counted.collections) * 1000
+            totals = [len(told), counted.programs, counted.copies, len(counted.collections), sum(line[3] == "worn" for line in told)]
+            with self.subTest(number=number, device=numbers):
+                for words in ((), times):
+                    done = Run("sweep", "--out", self.out, "--trace", trace, "--force", *device.words_of(numbers), *words)
+                    self.assertEqual((done.status, done.errors), (0, ""))
+                    (row,) = self.rows()
+                    self.assertEqual([int(row[name]) for name in ("lines", "programs", "copies", "erases", "worn")], totals)
+                if writes:
+                    self.assertAlmostEqual(float(row["write_mean_us"]), service / len(writes), places=2)
+                    played += len(counted.collections)
+        self.assertGreater(played, 0)
+
+    @needs("numpy")
+    def test_a_log_without_its_last_collection_fails_the_point(self):
+        wrong = self.out.parent / "wrong"
+        wrong.write_text(f"#!/bin/sh\n{device.LAUNCHER} \"$@\" || exit\nfor file; do :; done\n[ ! -f \"$file\" ] || sed -i '$d' \"$file\"\n")
+        wrong.chmod(0o755)
+        numbers = (TOP / "examples/collection.args").read_text().split()
+        times = ("--read-time", "1", "--program-time", "10", "--erase-time", "1000", "--transfer-time", "0")
+        with mock.patch.dict(os.environ, {"FLASHPLAY": str(wrong)}):
+            done = Run("sweep", "--out", self.out, "--trace", TOP / "examples/collection.csv", *numbers, *times)
+        self.assertEqual(done.status, 1)
+        self.assertIn("the log has 0 erases and 0 copies, and the answers 1 and 1", done.errors)
 
     def test_a_trace_that_is_not_there_leaves_no_folder(self):
         done = Run("sweep", "--out", self.out, "--trace", "/no/such/trace", "--blocks", "8")
