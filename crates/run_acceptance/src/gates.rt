@@ -11,15 +11,16 @@ use std::thread::Threads;
 use std::time::Clock;
 use trace::Watched;
 
-// How many blocks a broom drains by one survey.
-const DRAINS: u32 = 2;
+// A broom drains one block by each survey, so each of its claims is made by a drain with a survey of its own.
+const DRAINS: u32 = 1;
 
 // A write yields at each sixteenth of its tries, so a busy machine gives a broom its turn long before the last one.
 const PATIENCE: u32 = 10_000_000;
 
-// How often a gate was asked at each point.
+// A gate's number, and how often it was asked at each point.
 #[derive(Clone, Copy, Debug, Drop, PartialEq, Eq)]
 struct Visits {
+    number: usize,
     looks: u64,
     pins: u64,
     places: u64,
@@ -30,6 +31,7 @@ struct Visits {
 }
 
 const NO_VISITS: Visits = Visits {
+    number: 0,
     looks: 0,
     pins: 0,
     places: 0,
@@ -54,15 +56,31 @@ impl Gate for Visits {
     }
 }
 
-// A worker's visits: after a look, after a pin, before a place, and after an answer.
-fn by_worker([looks, pins, places, answered]: [u64; 4]) -> Visits {
+// The visits of the worker of this number: after a look, after a pin, before a place, and after an answer.
+fn by_worker(number: usize, [looks, pins, places, answered]: [u64; 4]) -> Visits {
     Visits {
+        number,
         looks,
         pins,
         places,
         answered,
         ..NO_VISITS
     }
+}
+
+// Three gates that nobody has asked.
+fn unasked() -> [Visits; 3] {
+    [
+        NO_VISITS,
+        Visits {
+            number: 1,
+            ..NO_VISITS
+        },
+        Visits {
+            number: 2,
+            ..NO_VISITS
+        },
+    ]
 }
 
 // What a run writes, with these gates.
@@ -117,24 +135,33 @@ const ROWS: [(&str, &str, [[u64; 4]; 3]); 4] = [
 #[test]
 fn each_worker_asks_its_own_gate(rt: HostRuntime) -> Result<(), Fail> {
     for (trace, answers, visits) in ROWS {
-        let mut gates = [NO_VISITS; 3];
+        let mut gates = unasked();
         let text = text_of(&rt, 6, 3, 0, trace.as_bytes(), 9, &mut gates)?;
         expect(&rt, text.as_slice() == answers.as_bytes(), &trace);
         let [first, second, third] = visits;
-        let wanted = [by_worker(first), by_worker(second), by_worker(third)];
+        let wanted = [
+            by_worker(0, first),
+            by_worker(1, second),
+            by_worker(2, third),
+        ];
         expect(&rt, gates == wanted, &(trace, gates));
     }
     Ok(())
 }
 
 // Whether only a worker's points were reached, after so many answers.
-fn is_by_worker(visits: &Visits, answered: u64) -> bool {
-    visits.answered == answered && visits.claims == 0 && visits.moves == 0 && visits.erases == 0
+fn is_by_worker(visits: &Visits, number: usize, answered: u64) -> bool {
+    visits.number == number
+        && visits.answered == answered
+        && visits.claims == 0
+        && visits.moves == 0
+        && visits.erases == 0
 }
 
 // Whether only a broom's points were reached: those of a drain of a block without a page in use, and of its erase.
 fn is_by_broom(visits: &Visits) -> bool {
-    visits.claims > 0
+    visits.number == 2
+        && visits.claims > 0
         && visits.erases > 0
         && visits.places == 0
         && visits.pins == 0
@@ -150,7 +177,7 @@ fn the_broom_asks_the_gate_behind_the_workers(rt: HostRuntime) -> Result<(), Fai
         trace.push_str("0,write,0,41\n")?;
     }
     trace.push_str("1,read,1,\n")?;
-    let mut gates = [NO_VISITS; 3];
+    let mut gates = unasked();
     let text = text_of(&rt, 5, 2, 1, trace.as_bytes(), PATIENCE, &mut gates)?;
     let full = text
         .as_slice()
@@ -159,12 +186,12 @@ fn the_broom_asks_the_gate_behind_the_workers(rt: HostRuntime) -> Result<(), Fai
     expect(&rt, !full, &gates);
     expect(
         &rt,
-        is_by_worker(&gates[0], 13) && gates[0].places >= 13,
+        is_by_worker(&gates[0], 0, 13) && gates[0].places >= 13,
         &gates,
     );
     expect(
         &rt,
-        is_by_worker(&gates[1], 1) && gates[1].looks >= 1 && gates[1].places == 0,
+        is_by_worker(&gates[1], 1, 1) && gates[1].looks >= 1 && gates[1].places == 0,
         &gates,
     );
     expect(&rt, is_by_broom(&gates[2]), &gates);
