@@ -5,6 +5,8 @@
 #[cfg(test)]
 mod at_once;
 #[cfg(test)]
+mod gates;
+#[cfg(test)]
 mod rows;
 #[cfg(test)]
 mod run;
