@@ -12,8 +12,7 @@ use Rattle.trace.specs.declared.commands.Command.{Command}
 use Rattle.trace.specs.declared.commands.Op.{Op}
 use Rattle.trace.specs.declared.commands.Op.TheVariants as op
 
--- the call by which a command may change the array. Which pass makes it is no matter to the array, so all calls
--- stand under pass 0
+-- the call by which a command may change the array. The array doesn't depend on which pass makes it, so all calls are made by pass 0
 abbrev pub call_by : Op → ℕ → List ℕ → Option Call
 call_by op.Read s value = None
 call_by op.Write s value = Some (Write 0 s value)
@@ -25,29 +24,29 @@ call_by op.Meet s value = None
 abbrev pub call_of : Command → Option Call
 call_of command = call_by command.op command.sector command.page
 
--- the calls that a command adds to the history: none where it is refused
+-- the calls that a command adds to the history: none if it is refused
 abbrev pub calls_of : Bool → Command → List Call
 calls_of refused command = if refused then [] else option_to_list (call_of command)
 
--- what a command at a place gives, and nothing past the last one
+-- what a function of commands gives for the command at an index, and nothing past the last one
 abbrev pub at_place : {X : Type 0} → List Command → ℕ → (Command → List X) → List X
 at_place commands k f = option_map_or f (slice_get commands k) []
 
--- the history before the line at a place: the calls of all commands before it, without the refused ones
+-- the history before the line at an index: the calls of all commands before it, without the refused ones
 abbrev pub history_before : (ℕ → Bool) → List Command → ℕ → List Call
 history_before refused commands n = flat_map (λ k. at_place commands k (calls_of (refused k))) (range_with_len 0 n)
 
--- what a sector was, as an answer
+-- what a sector was, as a reply
 abbrev pub was_text : Was → List ℕ
 was_text was.Empty = codes "empty"
 was_text was.Written = codes "written"
 
--- what a read finds, as an answer: the value in lower-case hexadecimal digits
+-- what a read finds, as a reply: the value in lower-case hexadecimal digits
 abbrev pub found_text : Sector → List ℕ
 found_text None = codes "empty"
 found_text (Some value) = encode_lower value
 
--- the answer of a command whose sector holds this: a refused command answers the word of refusal
+-- the answer of a command whose sector holds this: that of a refused command is the word of refusal
 abbrev pub answer_of : List ℕ → Bool → Op → Sector → List ℕ
 answer_of refusal refused op.Read sector = found_text sector
 answer_of refusal refused op.Write sector = if refused then refusal else was_text (was_of sector)
@@ -60,7 +59,7 @@ abbrev pub line_text : ℕ → Op → ℕ → List ℕ → List ℕ
 line_text line op sector answer =
     decimal line ++ codes "," ++ name_of op ++ codes "," ++ decimal sector ++ codes "," ++ answer ++ codes "\n"
 
--- the line of the command at a place: it answers at the history before it. Lines count from 1
+-- the line of the command at an index: it is answered at the history before it. Lines count from 1
 abbrev pub line_at : List ℕ → ℕ → (ℕ → Bool) → List Command → ℕ → List ℕ
 line_at refusal sectors refused commands k =
     at_place commands k (λ command. line_text (k + 1) command.op command.sector (answer_of refusal (refused k) command.op (held sectors (history_before refused commands k) command.sector)))
@@ -69,30 +68,30 @@ line_at refusal sectors refused commands k =
 abbrev pub lines_before : List ℕ → ℕ → (ℕ → Bool) → List Command → ℕ → List ℕ
 lines_before refusal sectors refused commands n = flat_map (line_at refusal sectors refused commands) (range_with_len 0 n)
 
--- the answers of commands of a device with so many sectors, the writes at the refused places turned away with a word
+-- the answers of the commands of a device with this many sectors; the writes at the refused places are answered with a word
 abbrev pub answers : List ℕ → ℕ → (ℕ → Bool) → List Command → List ℕ
 answers refusal sectors refused commands = lines_before refusal sectors refused commands (length commands)
 
--- the names of what is told of each block, and the line of a block: its number, its erase commands, its live pages,
--- and 1 where it is retired, else 0
+-- the names of what is reported for each block, and the line of a block: its number, its erase commands, its live pages, and 1 if it is
+-- retired, otherwise 0
 abbrev pub wear_names : List ℕ
 wear_names = codes "block,erases,live,retired\n"
 
--- a line of the wear: a block with its erases, its live pages, and 1 where it is retired
+-- a line of the wear: a block with its erases, its live pages, and 1 if it is retired
 abbrev pub wear_line : ℕ → ℕ → ℕ → Bool → List ℕ
 wear_line block erases live retired =
     decimal block ++ codes "," ++ decimal erases ++ codes "," ++ decimal live ++ codes "," ++ decimal (if retired then 1 else 0) ++ codes "\n"
 
--- the names of what is told of each collection
+-- the names of what is reported for each collection
 abbrev pub collection_names : List ℕ
 collection_names = codes "line,victim,copied,copybacks,erases,outcome\n"
 
--- what becomes of a victim: it is free for the next collection, or retired
+-- what a victim is after the erase: free for the next collection, or retired
 abbrev pub outcome_text : Bool → List ℕ
 outcome_text retired = if retired then codes "retired" else codes "freed"
 
--- the line of a collection: the line of the trace that it is for, its victim, the pages copied, how many of these by
--- copyback, the victim's erases after it, and what becomes of the victim
+-- the line of a collection: the line of the trace that caused it, its victim, the pages copied, how many of these by copyback, the victim's
+-- erases after it, and what the victim is then
 abbrev pub collection_line : ℕ → ℕ → ℕ → ℕ → ℕ → Bool → List ℕ
 collection_line line victim copied copybacks erases retired =
     decimal line ++ codes "," ++ decimal victim ++ codes "," ++ decimal copied ++ codes "," ++ decimal copybacks ++ codes "," ++ decimal erases ++ codes ","

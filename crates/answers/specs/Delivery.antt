@@ -1,4 +1,4 @@
--- What of a text reached a writer. A text is known by what it has to be for the bytes that were read.
+-- How much of a text reached a writer. A text is known by what it has to be for the bytes that were read.
 use Rattle.std.specs.Prelude.{◌≡◌, ℕ, List, ◌++◌, Option}
 use Rattle.std.specs.Io.KnownBytes.{Appends}
 use Rattle.geometry.specs.History.{Begins}
@@ -21,7 +21,7 @@ pub record AppendsPart (IsTextOf : List ℕ → List ℕ → Type 0) (bytes : Li
   pub is_text : IsTextOf bytes text
   pub out : AppendsBeginning old new text
 
--- a text in pieces: what went out, and then what waits, is the text so far
+-- a text in pieces: what was written, followed by what waits, is the text so far
 pub record IsUnderWay (old new : Option (List ℕ)) (waiting text : List ℕ) : Type 0 where
   pub sent : List ℕ
   pub out : Appends old new sent

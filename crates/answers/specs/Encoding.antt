@@ -7,6 +7,6 @@ use Rattle.std.specs.Simd.Lanes.{Each1}
 abbrev pub digit_of : ℕ → ℕ
 digit_of value = slice_index lower_digits value
 
--- each is below 16
+-- each is less than 16
 abbrev pub AreValues : List ℕ → Type 0
 AreValues values = Each1 (λ value. value < 16) values

@@ -1,4 +1,4 @@
--- What is printed of a run that stopped.
+-- What is printed if a run stopped.
 use Rattle.std.specs.Prelude.{List, ℕ, codes}
 use Rattle.trace.specs.Faults.{fault_text}
 use Rattle.answers.specs.declared.fault.RunFault.{RunFault}

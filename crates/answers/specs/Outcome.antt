@@ -1,4 +1,4 @@
--- What a fault of a run tells.
+-- What a fault of a run means.
 use Rattle.std.specs.Prelude.{◌≡◌, ◌≢◌, ℕ, List, IfSome, Ok, Err, false, IsTrue}
 use Rattle.std.specs.Io.KnownBytes.{IsAtEnd}
 use Rattle.geometry.specs.Geometry.{hosts_of}
@@ -27,9 +27,9 @@ pub record ReadsCommands (geo : Geometry) (input : Passage) : Type 0 where
   pub unfailed : input.after.failures ≡ input.before.failures
   pub meaning : IfSome input.before.bytes (λ bytes. (commands : List Command) × (commands_of bytes geo ≡ Ok commands))
 
--- why a run gave no whole output, from its reader and its writer before and after: the trace was not played, or it is
--- a good one and memory ran out, the threads of a device for several were refused, or the writer failed. Only with
--- `Output` was anything written, and that is a beginning of a text that is right for the bytes read
+-- why a run wrote no whole output, by its reader and its writer before and after: the trace was not played; or it is a good one and memory
+-- ran out, the system refused the threads of a run by workers, or the writer failed. Only with `Output` was anything written, and that is a
+-- beginning of a text that is right for the bytes read
 abbrev pub ExplainsRun : (Geometry → List ℕ → List ℕ → Type 0) → Geometry → Passage → Passage → RunFault → Type 0
 ExplainsRun IsTextOf geo input output (run.Trace found) =
     ExplainsTrace found geo input × (output.after ≡ output.before)

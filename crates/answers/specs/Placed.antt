@@ -6,15 +6,15 @@ use Rattle.answers.specs.declared.text.Short.{Short}
 abbrev pub short_of : Short → List ℕ
 short_of text = take text.len text.bytes
 
--- the digits of a number below 100, zeros leading
+-- the digits of a number below 100, with leading zeros
 abbrev pub two_digits : ℕ → List ℕ
 two_digits n = (48 + n / 10) ∷ (48 + n % 10) ∷ []
 
--- the digits of a number below 10,000, zeros leading
+-- the digits of a number below 10,000, with leading zeros
 abbrev pub four_digits : ℕ → List ℕ
 four_digits n = two_digits (n / 100) ++ two_digits (n % 100)
 
--- a text stands in a buffer behind its first bytes, which are as before, and ends here; the buffer is as long as before
+-- a text is in a buffer after its first bytes, which are unchanged, and ends here; the buffer is as long as before
 pub record Placed (old new : List ℕ) (at : ℕ) (text : List ℕ) (end : ℕ) : Type 0 where
   pub bytes : take end new ≡ take at old ++ text
   pub within : end ≤ length new

@@ -6,7 +6,7 @@ use Rattle.trace.specs.Trace.{workers_of}
 use Rattle.trace.specs.declared.commands.Command.{Command}
 use Rattle.trace.specs.declared.commands.Op.TheVariants as op
 
--- a command that a device of this geometry can play: its worker and its sector are there, and a write of either kind has a page
+-- a command that a device of this geometry can play: its worker and its sector exist, and a write of either kind has a page
 pub record IsPlayable (geo : Geometry) (command : Command) : Type 0 where
   pub worker : command.worker < workers_of geo
   pub sector : command.sector < sectors_of geo

@@ -5,7 +5,7 @@ use Rattle.geometry.specs.declared.answer.Was.TheVariants as was
 use Rattle.answers.specs.declared.reply.Reply.{Reply}
 use Rattle.answers.specs.declared.reply.Reply.TheVariants as reply
 
--- the text of a reply; a page is told by its digits
+-- the text of a reply; a page is reported by its digits
 abbrev pub reply_text : Reply → List ℕ → List ℕ
 reply_text reply.Empty digits = codes "empty"
 reply_text reply.Written digits = codes "written"
@@ -14,7 +14,7 @@ reply_text reply.Full digits = codes "full"
 reply_text reply.Met digits = codes "met"
 reply_text reply.Page digits = digits
 
--- the reply that tells what a sector was
+-- the reply that says what a sector was
 abbrev pub reply_of : Was → Reply
 reply_of was.Empty = reply.Empty
 reply_of was.Written = reply.Written

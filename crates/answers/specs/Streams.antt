@@ -5,13 +5,13 @@ use Rattle.trace.specs.Watched.{failures_of, inner_of}
 use Rattle.trace.specs.declared.watched.Watched.{Watched}
 use Rattle.answers.specs.Delivery.{AppendsBeginning, AppendsPart, AppendsText, IsUnderWay}
 
--- What a clause sees of a watched reader or writer: how many of its calls failed, and its bytes, where they are known
+-- What a clause sees of a watched reader or writer: how many of its calls failed, and its bytes, if they are known
 pub record Stream : Type 0 where
   pub failures : ℕ
-  -- what a reader has left, or what a writer holds, where that is known
+  -- what a reader has left, or what a writer holds, if that is known
   pub bytes : Option (List ℕ)
 
--- a watched stream, with the function that tells its bytes
+-- a watched stream, with the function that gives its bytes
 abbrev pub stream_of : {T : Type 0} → (T → Option (List ℕ)) → Watched T → Stream
 stream_of known w = record { failures = failures_of w; bytes = known (inner_of w) }
 
@@ -20,7 +20,7 @@ pub record Passage : Type 0 where
   pub before : Stream
   pub after : Stream
 
--- a watched stream over a call, with the function that tells its bytes
+-- a watched stream over a call, with the function that gives its bytes
 abbrev pub over : {T : Type 0} → (T → Option (List ℕ)) → Watched T → Watched T → Passage
 over known old new = record { before = stream_of known old; after = stream_of known new }
 
@@ -32,7 +32,7 @@ Sends output text = Appends output.before.bytes output.after.bytes text
 abbrev pub SendsBeginning : Passage → List ℕ → Type 0
 SendsBeginning output text = AppendsBeginning output.before.bytes output.after.bytes text
 
--- a writer's known bytes grew by a text that is right for the bytes that a reader had, where those are known
+-- a writer's known bytes grew by a text that is right for the bytes that a reader had, if those are known
 abbrev pub Tells : (List ℕ → List ℕ → Type 0) → Stream → Passage → Type 0
 Tells IsTextOf input output = IfSome input.bytes (λ bytes. AppendsText IsTextOf bytes output.before.bytes output.after.bytes)
 
@@ -40,6 +40,6 @@ Tells IsTextOf input output = IfSome input.bytes (λ bytes. AppendsText IsTextOf
 abbrev pub TellsPart : (List ℕ → List ℕ → Type 0) → Stream → Passage → Type 0
 TellsPart IsTextOf input output = IfSome input.bytes (λ bytes. AppendsPart IsTextOf bytes output.before.bytes output.after.bytes)
 
--- of a text in pieces some went out: the writer's known bytes grew by it, and with what waits it is the text so far
+-- of a text in pieces some were written: the writer's known bytes grew by them, and with what waits they are the text so far
 abbrev pub Moves : Passage → List ℕ → List ℕ → Type 0
 Moves output waiting text = IsUnderWay output.before.bytes output.after.bytes waiting text

@@ -1,4 +1,4 @@
--- What a broom leaves of the room that it copies to, once it has emptied its victim.
+-- What a broom leaves of the room that it copies to, when it has emptied its victim.
 use Rattle.std.specs.Prelude.{◌≡◌, ℕ, ◌+◌, ◌-◌, ◌<◌, ◌≤◌, ◌==◌, Bool, true, false, List, [], ◌∷◌, ◌++◌, Option, None, Some, length, map}
 use Rattle.std.specs.List.{range_with_len}
 use Rattle.geometry.specs.MapWords.{map_word}
@@ -33,25 +33,25 @@ abbrev pub count_if : Bool → ℕ
 count_if true = 1
 count_if false = 0
 
--- the looks at the victim's pages: of each page the sector that its stamp names, with the map word found there, or nothing where the stamp
+-- the looks at the victim's pages: for each page the sector that its stamp names, with the map word found there, or nothing if the stamp
 -- names no sector
 abbrev pub looks_in : List (Option (ℕ × ℕ)) → List (ℕ × ℕ)
 looks_in [] = []
 looks_in (None ∷ finds) = looks_in finds
 looks_in (Some look ∷ finds) = look ∷ looks_in finds
 
--- a page is live where the map word found names it
+-- a page is live if the map word found names it
 abbrev pub is_live : MapWord → Option (ℕ × ℕ) → Bool
 is_live page None = false
 is_live page (Some look) = look.1 == map_word page
 
--- how many of the victim's pages were live, from this one on
+-- how many of the victim's pages were live, from this index on
 abbrev pub live_from : ReclaimedBlock → ℕ → List (Option (ℕ × ℕ)) → ℕ
 live_from x page [] = 0
 live_from x page (find ∷ finds) = count_if (is_live (victim_page x page) find) + live_from x (page + 1) finds
 
--- These pages were programmed, in this order: the first ones of those to be filled, of which the others are left. The spare stays as long
--- as the destination had a page for each of them, and else it is the destination. The page filled last is the last of these
+-- These pages were programmed, in this order: the first ones of those to be filled, and the others are left. The spare stays if the
+-- destination had a page for each of them; otherwise it is the destination. The page filled last is the last of these
 pub record Programmed (pages : ℕ) (v : View) (x : BroomBlocks) (copies : List MapWord) (w : View) (y : BroomBlocks) : Type 0 where
   pub listed : w.programs ≡ v.programs ++ copies
   pub left : pages_to_fill pages x ≡ copies ++ pages_to_fill pages y
@@ -61,8 +61,8 @@ pub record Programmed (pages : ℕ) (v : View) (x : BroomBlocks) (copies : List 
   pub filled : (k : Work) → ¬ (copies ≡ []) → w.work ≡ Some k → (earlier : List MapWord) × (copies ≡ earlier ++ k.page ∷ [])
   pub filling : (o : OpenBlock) → ¬ (copies ≡ []) → y.destination ≡ Some o → (k : Work) × (w.work ≡ Some k)
 
--- A victim was emptied: each of its written pages was visited, in order, and a look made for each one whose stamp names a sector. For each
--- live page one was programmed, and for no other; of these so many were moved
+-- A victim was emptied: each of its written pages was visited, in order, with a look for each one whose stamp names a sector. For each live
+-- page one was programmed, and for no other; this many of them were moved
 pub record Emptied (pages : ℕ) (victim : ReclaimedBlock) (v : View) (x : BroomBlocks) (copied : ℕ) (w : View) (y : BroomBlocks) : Type 0 where
   pub finds : List (Option (ℕ × ℕ))
   pub visited : length finds ≡ victim.written

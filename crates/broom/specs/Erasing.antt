@@ -1,4 +1,4 @@
--- What an erase tells of what its broom knows, before and after.
+-- What an erase records in what its broom knows, before and after.
 use Rattle.std.specs.Prelude.{◌≡◌, ℕ, ◌+◌, ◌<◌, true, false, List, [], ◌∷◌, ◌++◌, None, Some}
 use Rattle.geometry.specs.PinWords.{FitsPin, pin_word}
 use Rattle.geometry.specs.declared.pin_word.Phase.TheVariants.{Drained, Erasing, Retired}
@@ -16,14 +16,14 @@ use Rattle.broom.specs.declared.answer.Erase.{Erase}
 use Rattle.broom.specs.declared.answer.Erase.TheVariants as erase
 use Rattle.broom.specs.Ready.{view_of_broom, blocks_of_broom}
 
--- The state of this block was loaded, as one that isn't drained, and nothing else was done
+-- The state of this block was loaded as one that isn't drained, and nothing else was done
 pub record FoundStale (v : View) (b : ℕ) (w : View) : Type 0 where
   pub state : PinWord
   pub fits : FitsPin state
   pub undrained : ¬ (state.phase ≡ Drained)
   pub changed : w ≡ record v { loaded = v.loaded ++ (b, pin_word state) ∷ []; stale = v.stale ++ b ∷ [] }
 
--- The state of this block was loaded, as drained, and the block is busy: it had readers, or its word had changed before it could be
+-- The state of this block was loaded as drained, and the block is busy: it had readers, or its word had changed before it could be
 -- condemned. Nothing else was done
 pub record FoundPinned (v : View) (b : ℕ) (w : View) : Type 0 where
   pub state : PinWord
@@ -31,8 +31,8 @@ pub record FoundPinned (v : View) (b : ℕ) (w : View) : Type 0 where
   pub drained : state.phase ≡ Drained
   pub changed : w ≡ record v { loaded = v.loaded ++ (b, pin_word state) ∷ []; busy = v.busy ++ b ∷ [] }
 
--- This state of the block was loaded, as drained and without readers, and in it the block was condemned: its erase is listed, and all of
--- its words were wiped. The broom now owns these blocks, and has given up those
+-- This state of the block was loaded as drained and without readers, and in it the block was condemned: its erase is listed, and all of its
+-- words were wiped. The broom now owns these blocks, and has given up those
 pub record DidErase (v : View) (b : ℕ) (state : PinWord) (owns ceded : List Owned) (w : View) : Type 0 where
   pub fits : FitsPin state
   pub drained : state.phase ≡ Drained
@@ -49,7 +49,7 @@ pub record DidErase (v : View) (b : ℕ) (state : PinWord) (owns ceded : List Ow
 abbrev pub renewed : ℕ → PinWord → OpenBlock
 renewed b state = record { block = b; generation = state.generation + 1; written = 0 }
 
--- The block was erased and has another generation to live. The broom had no spare, and has the block as its spare now
+-- The block was erased and has another generation left. The broom had no spare, and the block is its spare now
 pub record DidKeep (v : View) (x : BroomBlocks) (b : ℕ) (w : View) (y : BroomBlocks) : Type 0 where
   pub state : PinWord
   pub erased : DidErase v b state (owned_of (renewed b state) ∷ v.owns) v.ceded w
@@ -57,7 +57,7 @@ pub record DidKeep (v : View) (x : BroomBlocks) (b : ℕ) (w : View) (y : BroomB
   pub none : x.spare ≡ None
   pub blocks : y ≡ record x { spare = Some (renewed b state) }
 
--- The block was erased and has another generation to live. The broom had a spare, owns what it owned before, and left the block free
+-- The block was erased and has another generation left. The broom had a spare, owns what it owned before, and gave the block up free
 pub record DidFree (v : View) (x : BroomBlocks) (b : ℕ) (w : View) (y : BroomBlocks) : Type 0 where
   pub state : PinWord
   pub erased : DidErase v b state v.owns (v.ceded ++ freed_as (owned_as b state Erasing) ∷ []) w
@@ -65,14 +65,14 @@ pub record DidFree (v : View) (x : BroomBlocks) (b : ℕ) (w : View) (y : BroomB
   pub spare : (o : OpenBlock) × (x.spare ≡ Some o)
   pub blocks : y ≡ x
 
--- The block was erased in its last generation. The broom owns what it owned before, and left the block retired
+-- The block was erased in its last generation. The broom owns what it owned before, and gave the block up retired
 pub record DidRetire (v : View) (x : BroomBlocks) (b : ℕ) (w : View) (y : BroomBlocks) : Type 0 where
   pub state : PinWord
   pub erased : DidErase v b state v.owns (v.ceded ++ owned_as b state Retired ∷ []) w
   pub last : state.generation + 1 ≡ v.numbers.endurance
   pub blocks : y ≡ x
 
--- What each answer of an erase of this block tells. An erase has nothing to do with the queue
+-- What each result of an erase of this block means. An erase doesn't use the queue
 abbrev pub EraseTold : Broom → ℕ → Erase → Broom → Type 0
 EraseTold before b (erase.Erased block true) after = (block ≡ b) × DidKeep (view_of_broom before) (blocks_of_broom before) b (view_of_broom after) (blocks_of_broom after)
 EraseTold before b (erase.Erased block false) after = (block ≡ b) × DidFree (view_of_broom before) (blocks_of_broom before) b (view_of_broom after) (blocks_of_broom after)

@@ -1,4 +1,4 @@
--- How a broom's drained blocks go to the queue and come back from it, and what a turn of it tells.
+-- How a broom's drained blocks go into the queue and come back from it, and what a turn records.
 use Rattle.std.specs.Prelude.{◌≡◌, ℕ, ◌<◌, ◌⊎◌, Option, None, Some, IfSome}
 use Rattle.erase_queue.specs.declared.pass.QueuePass.{QueuePass}
 use Rattle.erase_queue.specs.declared.queue.EraseQueue.{EraseQueue}
@@ -24,12 +24,12 @@ pub record IsQueued (q : EraseQueue) (b : Broom) : Type 0 where
   pub place : IsPassOf q (place_of b)
   pub aside : IfSome (aside_of b) (λ block. block < limit_of q)
 
--- Nothing was put or taken, and what is set aside stays
+-- Nothing was put or taken, and what is set aside is unchanged
 pub record HandsNothing (before after : Broom) : Type 0 where
   pub place : place_of after ≡ place_of before
   pub aside : aside_of after ≡ aside_of before
 
--- the block of this answer, if it drained one, is one of so many
+-- the block of this result, if one was drained, is one of this many
 abbrev pub IsBelow : ℕ → Drain → Type 0
 IsBelow blocks (drain.Drained block copied) = block < blocks
 IsBelow blocks drain.NothingToGain = Unit {0}
@@ -37,7 +37,7 @@ IsBelow blocks drain.NoSpare = Unit {0}
 IsBelow blocks drain.Lost = Unit {0}
 IsBelow blocks drain.QueueFull = Unit {0}
 
--- the broom has changed in its place and in what it has set aside, and in nothing else
+-- only the broom's place and what it has set aside have changed
 abbrev pub IsElse : Broom → Broom → Type 0
 IsElse before after = after ≡ record before { place = place_of after; aside = aside_of after }
 
@@ -46,7 +46,7 @@ pub record HandedOn (limit : ℕ) (before : Broom) (block : ℕ) (after : Broom)
   pub rest : IsElse before after
   pub went : (WasPut (place_of before) block (place_of after) × (aside_of after ≡ None)) ⊎ (WasFull limit (place_of before) (place_of after) × (aside_of after ≡ Some block))
 
--- Nothing is set aside: nothing was, or it was put
+-- Nothing is set aside: nothing was before, or it was put
 pub record Relieved (before after : Broom) : Type 0 where
   pub rest : IsElse before after
   pub none : aside_of after ≡ None
@@ -60,7 +60,7 @@ pub record Stuck (limit : ℕ) (before after : Broom) : Type 0 where
   pub still : aside_of after ≡ Some block
   pub full : WasFull limit (place_of before) (place_of after)
 
--- A number was fetched: the one that was set aside, or else the queue's first
+-- A number was fetched: the one that was set aside, or if there was none the queue's first
 pub record Fetched (before : Broom) (block : ℕ) (after : Broom) : Type 0 where
   pub rest : IsElse before after
   pub none : aside_of after ≡ None
@@ -73,7 +73,7 @@ pub record FoundNone (before after : Broom) : Type 0 where
   pub still : aside_of after ≡ None
   pub empty : WasEmpty (place_of before) (place_of after)
 
--- What was set aside was put first. Then the broom made a drain of this kind with this answer, and did nothing else
+-- What was set aside was put first. Then the broom made a drain of this kind with this result, and did nothing else
 pub record DrainedAfterPut (Told : Broom → Drain → Broom → Type 0) (before : Broom) (answer : Drain) (after : Broom) : Type 0 where
   pub relieved : Broom
   pub first : Relieved before relieved
@@ -86,7 +86,7 @@ pub record DrainedAndHandedOn (Told : Broom → Drain → Broom → Type 0) (lim
   pub drain : DrainedAfterPut Told before (drain.Drained block copied) drained
   pub handed : HandedOn limit drained block after
 
--- what each answer of a turn with a drain of this kind tells
+-- what each result of a turn with a drain of this kind means
 abbrev pub TurnTold : (Broom → Drain → Broom → Type 0) → ℕ → Broom → Drain → Broom → Type 0
 TurnTold Told limit before (drain.Drained block copied) after = DrainedAndHandedOn Told limit before block copied after
 TurnTold Told limit before drain.NothingToGain after = DrainedAfterPut Told before drain.NothingToGain after
@@ -94,15 +94,16 @@ TurnTold Told limit before drain.NoSpare after = DrainedAfterPut Told before dra
 TurnTold Told limit before drain.Lost after = DrainedAfterPut Told before drain.Lost after
 TurnTold Told limit before drain.QueueFull after = Stuck limit before after
 
--- what each answer of a turn that drains tells; its drain leaves its survey
+-- what each result of a turn that drains means; its drain leaves its survey
 abbrev pub DrainOneTold : ℕ → Broom → Drain → Broom → Type 0
 DrainOneTold limit before answer after = TurnTold (λ b given x. DrainTold b given x × SurveyLeft b given x) limit before answer after
 
--- what each answer of a turn that drains by the last survey tells
+-- what each result of a turn that drains by the last survey means
 abbrev pub DrainNextOneTold : ℕ → Broom → Drain → Broom → Type 0
 DrainNextOneTold limit before answer after = TurnTold NextTold limit before answer after
 
--- A block was fetched. Then the broom made an erase of it with this answer, by which the block isn't marked any more, and did nothing else
+-- A block was fetched. Then the broom made an erase of it with this result, after which the block isn't marked any more, and did nothing
+-- else
 pub record FetchedAndErased (before : Broom) (block : ℕ) (answer : Erase) (after : Broom) : Type 0 where
   pub fetched : Broom
   pub first : Fetched before block fetched
@@ -117,7 +118,7 @@ pub record FetchedAndHandedOn (limit : ℕ) (before after : Broom) : Type 0 wher
   pub erase : FetchedAndErased before block erase.Pinned found
   pub handed : HandedOn limit found block after
 
--- What each answer of a turn that erases tells
+-- What each result of a turn that erases means
 abbrev pub EraseOneTold : ℕ → Broom → Erase → Broom → Type 0
 EraseOneTold limit before (erase.Erased block kept) after = (fetched : ℕ) × FetchedAndErased before fetched (erase.Erased block kept) after
 EraseOneTold limit before (erase.Retired block) after = (fetched : ℕ) × FetchedAndErased before fetched (erase.Retired block) after

@@ -1,4 +1,4 @@
--- What a broom and another broom, or a broom and a pass that holds a page, know of one another once they met.
+-- What a broom and another broom, or a broom and a pass that holds a page, know of each other after they met.
 use Rattle.std.specs.Prelude.{◌≡◌, ℕ, ◌<◌, true, List, [], ◌∷◌, ◌++◌, Option, None, Some, slice_get}
 use Rattle.geometry.specs.Geometry.{blocks_of, pages_of}
 use Rattle.geometry.specs.History.{held, Begins}
@@ -27,7 +27,7 @@ pub record IsPinned (f : Flash) (p : Pass) (at : MapWord) (value : List ℕ) : T
   pub whole : (view_of p).whole ≡ true
   pub alone : (view_of p).guest ≡ None
 
--- The broom has looked once, at sector 0, which is empty after what it has seen where no page was named, and not empty else. It has heard
+-- The broom has looked once, at sector 0, which is empty after what it has seen if no page was named, and otherwise not empty. It has heard
 -- of the other one, and nothing else has changed
 pub record HasHeard (v w : View) : Type 0 where
   pub found : Option MapWord
@@ -35,8 +35,8 @@ pub record HasHeard (v w : View) : Type 0 where
   pub empty : found ≡ None → held v.numbers.sectors w.seen 0 ≡ None
   pub mapped : (m : MapWord) → found ≡ Some m → (value : List ℕ) × (held v.numbers.sectors w.seen 0 ≡ Some value)
 
--- Two brooms that met: each has seen what both had seen, and the second one what the first has; they have programmed no page both, and
--- erased no block in one generation both; neither of them did so twice. Each has heard what the other one has done, and what it had heard
+-- Two brooms that met: each has seen what both had seen, and the second one what the first has; they have not both programmed the same page
+-- or erased the same generation of a block; neither of them did so twice. Each has heard what the other one has done, and what it had heard
 -- of the other one before begins that
 pub record BroomsMet (v v' x x' : View) : Type 0 where
   pub first : HasHeard v x
@@ -53,9 +53,9 @@ pub record BroomsMet (v v' x x' : View) : Type 0 where
   pub told : x'.copy ≡ Some (carried x)
   pub before : GoesOnFrom v v' × GoesOnFrom v' v
 
--- A broom stood by a page that a pass holds: of the page's block it has erased earlier generations only, it has programmed no page that
--- the pass has, neither of them has programmed one twice, and it has seen all that the pass had. Each has heard what the other one has done,
--- and what it had heard of the other one before begins that; the pass has changed in nothing else
+-- A broom met a pass that holds a page: of the page's block it has erased only earlier generations, it has programmed no page that the pass
+-- has, neither of them has programmed one twice, and it has seen all that the pass had. Each has heard what the other one has done, and
+-- what it had heard of the other one before begins that; nothing else of the pass has changed
 pub record StoodTold (v x : View) (page : MapWord) (w y : View) : Type 0 where
   pub pass : w ≡ record v { copy = Some (carried x); older = v.copy }
   pub broom : HasHeard x y

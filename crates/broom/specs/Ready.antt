@@ -39,7 +39,7 @@ marks_of b = b.closed.items
 abbrev pub HasNoMarks : Broom → Type 0
 HasNoMarks b = (k : ℕ) → ¬ (IsClosed (marks_of b) k)
 
--- An open block is of this device, with fewer pages written than this, in a generation below the endurance
+-- An open block is of this device, with fewer pages written than this, in a generation less than the endurance
 pub record HasRoom (g : Geometry) (most : ℕ) (o : OpenBlock) : Type 0 where
   pub low : o.block < blocks_of g
   pub room : o.written < most
@@ -62,7 +62,7 @@ pub record IsRested (f : Flash) (s : BroomSeat) : Type 0 where
   pub whole : (broom_view s).whole ≡ true
   pub alone : (broom_view s).guest ≡ None
 
--- The state has room in its word, the generation is below the endurance, and no more pages are written than there are
+-- The state fits in a word, the generation is less than the endurance, and no more pages are written than a block has
 pub record IsInRange (z : Numbers) (p : PinWord) : Type 0 where
   pub fits : FitsPin p
   pub young : p.generation < z.endurance
@@ -74,7 +74,7 @@ unless_later here word (Some later) = Some later
 unless_later true word None = Some word
 unless_later false word None = None
 
--- the word of this block that was loaded last, if one was
+-- the word that was loaded last for this block, if one was
 abbrev pub last_of : ℕ → List (ℕ × ℕ) → Option ℕ
 last_of b [] = None
 last_of b (load ∷ later) = unless_later (load.0 == b) load.1 (last_of b later)
@@ -85,12 +85,12 @@ pub record IsMarked (z : Numbers) (v : View) (b : ℕ) (p : PinWord) : Type 0 wh
   pub closed : p.phase ≡ Closed
   pub last : last_of b v.loaded ≡ Some (pin_word p)
 
--- of each marked block the state that is kept is the one loaded last, and it was closed then
+-- the state that is kept of each marked block is the one loaded last, and it was closed then
 abbrev pub AreMarked : Numbers → View → List PinWord → List Bool → Type 0
 AreMarked z v states marks = (b : ℕ) (d : PinWord) → IsClosed marks b → IsMarked z v b (slice_index_or states b d)
 
--- A broom between two calls: its seat is at rest, it has the room for a survey, the state that it keeps of each block that is still marked is
--- the one that it loaded last, and its ranking is one of the marked blocks
+-- A broom between two calls: its seat is at rest, it has the room for a survey, the state that it keeps of each block that is still marked
+-- is the one that it loaded last, and its ranking is one of the marked blocks
 pub record IsReady (f : Flash) (b : Broom) : Type 0 where
   pub rested : IsRested f b.seat
   pub states : length b.states.items ≡ blocks_of (geometry_of f)
@@ -99,6 +99,6 @@ pub record IsReady (f : Flash) (b : Broom) : Type 0 where
   pub marks : AreMarked (device f) (broom_view b.seat) b.states.items b.closed.items
   pub ranking : Ranks b.counts.items b.closed.items b.ranking
 
--- a seat was handed back as it was
+-- a seat was returned unchanged
 abbrev pub IsSameSeat : BroomSeat → BroomSeat → Type 0
 IsSameSeat s t = (broom_view t ≡ broom_view s) × (own_blocks t ≡ own_blocks s) × ((f : Flash) → IsRested f s → IsRested f t)

@@ -1,4 +1,4 @@
--- How a broom that drains its victim goes on, and what each part of it tells.
+-- How a broom that drains its victim goes on, and what each part of it records.
 use Rattle.std.specs.Prelude.{◌≡◌, ℕ, ◌+◌, ◌-◌, ◌<◌, ◌≤◌, ◌⊎◌, false, List, [], ◌∷◌, ◌++◌, Option, None, Some, length, MatchOption}
 use Rattle.geometry.specs.Geometry.{blocks_of, pages_of, endurance_of}
 use Rattle.geometry.specs.History.{Begins}
@@ -46,7 +46,7 @@ room_in pages (Some o) = pages - o.written
 abbrev pub room_left : ℕ → BroomBlocks → ℕ
 room_left pages x = room_in pages x.destination + room_in pages x.spare
 
--- The broom went on with its victim: so many pages were moved, and what was programmed, seen and looked at was added at the ends
+-- The broom went on with its victim: this many pages were moved, and what was programmed, seen and looked at was added at the ends
 pub record Relocated (v : View) (copied : ℕ) (w : View) : Type 0 where
   pub changed : w ≡ record v { seen = w.seen; named = w.named; owns = w.owns; work = w.work; programs = w.programs; cleared = w.cleared; source = w.source; moves = v.moves + copied; ceded = w.ceded }
   pub later : Begins v.seen w.seen
@@ -75,11 +75,11 @@ pub record FoundLive (v : View) (page : MapWord) (sector : ℕ) (w : View) : Typ
   pub whole : IsValue v.numbers value
   pub source : w.source ≡ Some (record { page = page; stamp = sector; value = Some value })
 
--- what the search for the next page's sector tells by its answer
+-- what the search for the next page's sector records, by its result
 abbrev pub FoundTold : View → MapWord → Option ℕ → View → Type 0
 FoundTold v page result w = MatchOption result (FoundDead v page w) (λ sector. FoundLive v page sector w)
 
--- The spare was made the destination where there was none, and nothing else was done
+-- The spare was made the destination if there was none, and nothing else was done
 pub record Opened (s t : BroomSeat) : Type 0 where
   pub view : broom_view t ≡ broom_view s
   pub kept : (o : OpenBlock) → (own_blocks s).destination ≡ Some o → own_blocks t ≡ own_blocks s
@@ -98,12 +98,12 @@ pub record Copied (v : View) (o : OpenBlock) (x : Source) (copy : MapWord) (w : 
 abbrev pub source_of : MapWord → ℕ → List ℕ → Source
 source_of page sector value = record { page = page; stamp = sector; value = Some value }
 
--- what the copy of the source to the destination tells
+-- what the copy of the source to the destination records
 abbrev pub CopyTold : View → Option OpenBlock → MapWord → ℕ → MapWord → View → Type 0
 CopyTold v destination page sector copy w =
     (o : OpenBlock) (value : List ℕ) → destination ≡ Some o → v.source ≡ Some (source_of page sector value) → IsValue v.numbers value → Copied v o (source_of page sector value) copy w
 
--- The destination is closed where it is full, and nothing else is done
+-- The destination is closed if it is full, and nothing else is done
 pub record Tidied (pages : ℕ) (v : View) (x : BroomBlocks) (w : View) (y : BroomBlocks) : Type 0 where
   pub went : Relocated v 0 w
   pub cleared : w.cleared ≡ v.cleared
@@ -115,8 +115,8 @@ pub record Tidied (pages : ℕ) (v : View) (x : BroomBlocks) (w : View) (y : Bro
   pub spare : y.spare ≡ x.spare
   pub work : (w.work ≡ v.work) ⊎ ((w.work ≡ None) × (y.destination ≡ None))
 
--- The next page of the victim is cleared, and this many were moved. No more than one page of the room was used: the next one where the
--- page was live, and none where it was dead
+-- The next page of the victim is cleared, and this many were moved. At most one page of the room was used: the next one if the page was
+-- live, and none if it was dead
 pub record Cleared (pages : ℕ) (v : View) (x : BroomBlocks) (page : MapWord) (copied : ℕ) (w : View) (y : BroomBlocks) : Type 0 where
   pub went : Relocated v copied w
   pub cleared : w.cleared ≡ v.cleared + 1

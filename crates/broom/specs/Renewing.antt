@@ -15,7 +15,7 @@ pub record Kept (v : View) (x : BroomBlocks) (o : ReclaimedBlock) (w : View) (y 
   pub changed : w ≡ record v { owns = with_owned (owned_of (record { block = o.block; generation = o.generation + 1; written = 0 })) v.owns }
   pub blocks : y ≡ record x { spare = Some (record { block = o.block; generation = o.generation + 1; written = 0 }); reclaiming = Nothing }
 
--- The broom had a spare, and left the block free, one generation on
+-- The broom had a spare, and gave the block up free, one generation on
 pub record Freed (v : View) (x : BroomBlocks) (o : ReclaimedBlock) (w : View) (y : BroomBlocks) : Type 0 where
   pub spare : (e : OpenBlock) × (x.spare ≡ Some e)
   pub changed : w ≡ left_free v o

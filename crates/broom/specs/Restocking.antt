@@ -1,4 +1,4 @@
--- What a restock tells of what its broom knows, before and after.
+-- What a restock records in what its broom knows, before and after.
 use Rattle.std.specs.Prelude.{◌≡◌, ℕ, ◌+◌, ◌<◌, ◌⊎◌, [], ◌∷◌, ◌++◌, Bool, None, Some, MatchBool}
 use Rattle.std.specs.List.{range_with_len}
 use Rattle.flash_rule.specs.declared.view.View.{View}
@@ -15,8 +15,8 @@ pub record HadSpare (v : View) (x : BroomBlocks) (w : View) (y : BroomBlocks) : 
   pub view : w ≡ v
   pub blocks : y ≡ x
 
--- The broom had no spare. The blocks below this one were tried in order and found taken, and this one was free, in some generation below the
--- endurance: beside what it owned the broom owns it now, open and with nothing written, as its spare. Nothing else has changed
+-- The broom had no spare. The blocks below this one were tried in order and found taken, and this one was free, in some generation less
+-- than the endurance: now the broom owns it as its spare beside what it owned, open and with nothing written. Nothing else has changed
 pub record DidRestock (v : View) (x : BroomBlocks) (w : View) (y : BroomBlocks) : Type 0 where
   pub none : x.spare ≡ None
   pub block : ℕ
@@ -32,11 +32,11 @@ pub record FoundNoSpare (v : View) (x : BroomBlocks) (w : View) (y : BroomBlocks
   pub changed : w ≡ record v { denied = v.denied ++ range_with_len 0 v.numbers.blocks }
   pub blocks : y ≡ x
 
--- what a search for a spare tells
+-- what a search for a spare records
 abbrev pub SearchTold : View → BroomBlocks → Bool → View → BroomBlocks → Type 0
 SearchTold v x result w y = MatchBool result (DidRestock v x w y) (FoundNoSpare v x w y)
 
--- what each answer of a restock tells
+-- what each result of a restock means
 abbrev pub RestockTold : Broom → Bool → Broom → Type 0
 RestockTold before result after =
     MatchBool result (HadSpare (view_of_broom before) (blocks_of_broom before) (view_of_broom after) (blocks_of_broom after) ⊎ DidRestock (view_of_broom before) (blocks_of_broom before) (view_of_broom after) (blocks_of_broom after))

@@ -16,7 +16,7 @@ pub record Survey : Type 0 where
   pub states : List PinWord
   pub pages : List (Option MapWord)
 
--- A survey of this device is of all its blocks and all its sectors, and what it found has room in their words
+-- A survey of this device is of all its blocks and all its sectors, and what it found fits in their words
 pub record IsSurvey (z : Numbers) (x : Survey) : Type 0 where
   pub blocks : length x.states ≡ z.blocks
   pub sectors : length x.pages ≡ z.sectors
@@ -66,11 +66,11 @@ is_closed Retired = false
 abbrev pub closed_of : List PinWord → List Bool
 closed_of states = map (λ p. is_closed p.phase) states
 
--- the block to be drained: of those loaded as closed the one with the fewest live pages, the lowest on a tie
+-- the block to be drained: of those loaded as closed the one with the fewest live pages, and the lowest on a tie
 abbrev pub victim_of : Survey → Option ℕ
 victim_of x = greedy_of (counts_of x) (closed_of x.states)
 
--- There is nothing to gain: no block was loaded as closed, or the one to be drained has as many live pages as a block has pages
+-- There is nothing to gain: no block was loaded as closed, or all pages of the one to be drained are live
 abbrev pub GainsNothing : Survey → ℕ → Type 0
 GainsNothing x pages = IfSome (victim_of x) (λ b. live_pages x b ≡ pages)
 

@@ -42,7 +42,7 @@ pub record Chosen (v : View) (block : ℕ) (after : Broom) : Type 0 where
   pub ranges : All (IsInRange v.numbers) survey.states
   pub changed : view_of_broom after ≡ record v { seen = (view_of_broom after).seen; loaded = (view_of_broom after).loaded; named = v.named ++ looks_of survey.pages; busy = (view_of_broom after).busy; stale = (view_of_broom after).stale }
 
--- A survey was made, which the broom keeps, and by it there is nothing to gain
+-- A survey was made, which the broom keeps, and it shows nothing to gain
 pub record ChoseNone (v : View) (after : Broom) : Type 0 where
   pub gained : GainedNothing v (view_of_broom after)
   pub left : (x : Survey) × LeftSurvey v x (closed_of x.states) after

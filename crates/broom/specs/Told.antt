@@ -1,4 +1,4 @@
--- What a drain tells of what its broom knows, before and after.
+-- What a drain records in what its broom knows, before and after.
 use Rattle.std.specs.Prelude.{◌≡◌, ℕ, ◌+◌, ◌<◌, Bool, false, List, [], ◌∷◌, ◌++◌, Option, None, Some, IfSome, slice_index, slice_set}
 use Rattle.geometry.specs.Greedy.{greedy_of}
 use Rattle.geometry.specs.History.{Begins}
@@ -27,7 +27,7 @@ pub record HadNoSpare (before after : Broom) : Type 0 where
   pub view : view_of_broom after ≡ view_of_broom before
   pub blocks : blocks_of_broom after ≡ blocks_of_broom before
 
--- A survey was made, by which there is nothing to gain, and nothing else was done
+-- A survey was made that shows nothing to gain, and nothing else was done
 pub record GainedNothing (v w : View) : Type 0 where
   pub survey : Survey
   pub made : Surveyed v survey w
@@ -47,8 +47,8 @@ abbrev pub victim_in : Survey → ℕ → ReclaimedBlock
 victim_in x b = record { block = b; generation = generation_in x.states b; written = written_in x.states b }
 
 -- A survey was made, and this block, its victim, was drained in its generation as loaded: no map word names it any more. It was emptied
--- page by page: for each live page the next page of the destination was programmed, and once that had none, the next one of the spare,
--- and so many map words were exchanged for a copy's. A destination with no page left is closed, and no other block
+-- page by page: for each live page the next page of the destination was programmed, and once that had none, the next one of the spare, and
+-- this many map words were exchanged for a copy's. A destination with no page left is closed, and no other block is
 pub record DidDrain (v : View) (x : BroomBlocks) (block copied : ℕ) (w : View) (y : BroomBlocks) : Type 0 where
   pub survey : Survey
   pub made : Surveyed v survey w
@@ -71,7 +71,7 @@ pub record DidDrain (v : View) (x : BroomBlocks) (block copied : ℕ) (w : View)
     ceded = w.ceded;
   }
 
--- What each answer of a drain tells. The blocks of the broom's own stay where it drained none. A drain has nothing to do with the queue
+-- What each result of a drain means. The broom's own blocks are unchanged if it drained none. A drain doesn't use the queue
 abbrev pub DrainTold : Broom → Drain → Broom → Type 0
 DrainTold before (drain.Drained block copied) after = DidDrain (view_of_broom before) (blocks_of_broom before) block copied (view_of_broom after) (blocks_of_broom after)
 DrainTold before drain.NothingToGain after = GainedNothing (view_of_broom before) (view_of_broom after) × (blocks_of_broom after ≡ blocks_of_broom before)
@@ -83,8 +83,8 @@ DrainTold before drain.QueueFull after = ⊥
 abbrev pub block_in : List PinWord → ℕ → ReclaimedBlock
 block_in states b = record { block = b; generation = generation_in states b; written = written_in states b }
 
--- This block was drained, in its generation as loaded: no map word names it any more. No state was loaded, and no sector was looked at but
--- where the stamp of a page of this block names it. It was emptied page by page, as a drain does it
+-- This block was drained, in its generation as loaded: no map word names it any more. No state was loaded, and no sector was looked at
+-- except those that the stamps of this block's pages name. It was emptied page by page, as by a drain
 pub record DidDrainAgain (v : View) (x : BroomBlocks) (states : List PinWord) (block copied : ℕ) (w : View) (y : BroomBlocks) : Type 0 where
   pub later : Begins v.seen w.seen
   pub emptied : Emptied v.numbers.pages (block_in states block) v x copied w y
@@ -114,15 +114,15 @@ counts_kept b = b.counts.items
 abbrev pub states_kept : Broom → List PinWord
 states_kept b = b.states.items
 
--- the block to be drained next: of those still marked the one with the fewest live pages, the lowest on a tie
+-- the block to be drained next: of those still marked the one with the fewest live pages, and the lowest on a tie
 abbrev pub next_of : Broom → Option ℕ
 next_of b = greedy_of b.counts.items b.closed.items
 
--- the broom has changed in its ranking of the marked blocks, and in nothing else
+-- only the broom's ranking of the marked blocks has changed
 abbrev pub HasOnlyRanked : Broom → Broom → Type 0
 HasOnlyRanked before after = after ≡ record before { ranking = after.ranking }
 
--- there is nothing to gain: no block is marked any more, or the one to be drained next had as many live pages as a block has pages
+-- there is nothing to gain: no block is marked any more, or all pages of the one to be drained next were live
 abbrev pub GainsNothingNext : Broom → Type 0
 GainsNothingNext b = IfSome (next_of b) (λ block. slice_index (counts_kept b) block ≡ (view_of_broom b).numbers.pages)
 
@@ -131,7 +131,7 @@ pub record IsNext (b : Broom) (block : ℕ) : Type 0 where
   pub chosen : next_of b ≡ Some block
   pub gains : ¬ (slice_index (counts_kept b) block ≡ (view_of_broom b).numbers.pages)
 
--- what each answer of a drain of a marked block tells
+-- what each result of a drain of a marked block means
 abbrev pub MarkedTold : Broom → ℕ → Drain → Broom → Type 0
 MarkedTold before b (drain.Drained block copied) after = (block ≡ b) × DidDrainAgain (view_of_broom before) (blocks_of_broom before) (states_kept before) b copied (view_of_broom after) (blocks_of_broom after)
 MarkedTold before b drain.NothingToGain after = ⊥
@@ -151,7 +151,7 @@ pub record KeepsSurvey (before after : Broom) : Type 0 where
   pub counts : counts_kept after ≡ counts_kept before
   pub marks : marks_of after ≡ marks_of before
 
--- what each answer of a drain by the last survey tells
+-- what each result of a drain by the last survey means
 abbrev pub NextTold : Broom → Drain → Broom → Type 0
 NextTold before (drain.Drained block copied) after = IsNext before block × DidDrainAgain (view_of_broom before) (blocks_of_broom before) (states_kept before) block copied (view_of_broom after) (blocks_of_broom after) × Unmarks before block after
 NextTold before drain.NothingToGain after = GainsNothingNext before × (view_of_broom after ≡ view_of_broom before) × (blocks_of_broom after ≡ blocks_of_broom before) × KeepsSurvey before after
@@ -166,7 +166,7 @@ pub record LeftSurvey (v : View) (x : Survey) (marked : List Bool) (after : Broo
   pub counts : counts_kept after ≡ counts_of x
   pub marks : marks_of after ≡ marked
 
--- What a drain leaves for the next ones: where it made a survey the broom keeps that, and each closed block is marked, but for the victim
+-- What a drain leaves for the next ones: if it made a survey the broom keeps that, and each closed block is marked, except the victim
 abbrev pub SurveyLeft : Broom → Drain → Broom → Type 0
 SurveyLeft before (drain.Drained block copied) after = (x : Survey) × LeftSurvey (view_of_broom before) x (slice_set (closed_of x.states) block false) after
 SurveyLeft before drain.NothingToGain after = (x : Survey) × LeftSurvey (view_of_broom before) x (closed_of x.states) after

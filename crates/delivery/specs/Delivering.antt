@@ -26,32 +26,32 @@ workers_in delivery = vec_len delivery.next
 abbrev pub digits_in : Delivery → ℕ
 digits_in delivery = page_digits_of delivery.lines
 
--- an answer as it stands among others
+-- an answer as one of a worker's answers
 abbrev pub said_as : Kind × Bor (List ℕ) → Said
 said_as answer = record { kind = answer.0; page = answer.1.now }
 
--- how far each row was passed, by the places of the next answers
+-- how many answers of each worker were used, as the indexes of the next answers
 abbrev pub passed_in : List Cursor → List ℕ
 passed_in next = map place_of next
 
--- each of these places is one of its row
+-- each of these indexes is one of its worker's answers
 abbrev pub AreAt : List Answers → List Cursor → Type 0
 AreAt rows next = (t : ℕ) (row : Answers) (cursor : Cursor) → t < length next → IsCursorOf (slice_index_or rows t row) (slice_index_or next t cursor)
 
--- a page that an answer tells has so many digits
+-- a page in an answer has this many digits
 abbrev pub HasDigits : ℕ → Said → Type 0
 HasDigits n answer = answer.kind ≡ kind.Page → n ≡ 2 * length answer.page
 
--- the next answer of a command's worker, from each worker's row and how far each row was passed; a meeting has none of its own
+-- the next answer of a command's worker, from each worker's answers and the indexes of the next ones; a meeting has none of its own
 abbrev pub next_of : (ℕ → List Said) → List ℕ → Command → Option Said
 next_of rows next command =
     if is_meet command.op then None else slice_get (rows command.worker) (slice_index_or next command.worker 0)
 
--- how far each row was passed once that answer was
+-- the indexes of the next answers after that answer was used
 abbrev pub passed : List ℕ → Command → List ℕ
 passed next command = if is_meet command.op then next else slice_set next command.worker (slice_index_or next command.worker 0 + 1)
 
--- the line of a command that was answered so
+-- the line of a command with that answer
 abbrev pub line_of : ℕ → Command → Option Said → List ℕ
 line_of line command answer =
     let x = answer_for command answer in line_text line command.op command.sector (answer_text x.kind x.page)

@@ -15,7 +15,7 @@ geometry_of d = d.geometry
 abbrev pub copybacks_of : Die → ℕ
 copybacks_of d = d.copybacks
 
--- a count that wraps at 2^64, once it is one higher
+-- a count that wraps at 2^64, plus one
 abbrev pub one_more : ℕ → ℕ
 one_more count = (count + 1) % 2 ^ 64
 

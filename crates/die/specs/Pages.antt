@@ -12,15 +12,15 @@ pub record Block : Type 0 where
   pub erases : ℕ
   pub retired : Bool
 
--- what a read shows where no page is programmed: every bit is one, of each byte and of the 64 bits of the stamp
+-- what a read of a page that isn't programmed returns: every bit is one, of each byte and of the 64 bits of the stamp
 abbrev pub erased_page : ℕ → Page
 erased_page page_bytes = record { value = replicate page_bytes 255; stamp = 18446744073709551615 }
 
--- the page that a read of a place in a block shows
+-- the page that a read of an index in a block returns
 abbrev pub page_at : ℕ → Block → ℕ → Page
 page_at page_bytes block place = slice_index_or block.pages place (erased_page page_bytes)
 
--- the block once one more page is programmed, behind the others
+-- the block after one more page is programmed, behind the others
 abbrev pub programmed : Block → Page → Block
 programmed block page = record block { pages = block.pages ++ page ∷ [] }
 

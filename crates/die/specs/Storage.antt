@@ -1,4 +1,4 @@
--- How the die's blocks stand in its storage.
+-- How the die's blocks are stored.
 use Rattle.std.specs.Prelude.{ℕ, ◌+◌, ◌*◌, List, map, slice_index, slice_index_or}
 use Rattle.std.specs.List.{range_with_len}
 use Rattle.die.specs.declared.block_state.BlockState.{BlockState}
@@ -6,11 +6,11 @@ use Rattle.die.specs.Pages.{Page, Block}
 use Rattle.die.specs.Slots.{slot}
 use Rattle.die.specs.Sound.{unused}
 
--- the page at a place: its bytes in the list of all bytes, and its stamp in the list of all stamps
+-- the page at an index: its bytes in the list of all bytes, and its stamp in the list of all stamps
 unfoldable pub stored : ℕ → List ℕ → List ℕ → ℕ → Page
 stored page_bytes bytes stamps place = record { value = slot page_bytes bytes place; stamp = slice_index stamps place }
 
--- block b, by its state: its pages stand one behind the other, from place b * pages on
+-- block b, by its state: its pages are one behind the other, from index b * pages on
 unfoldable pub block_in : ℕ → ℕ → List ℕ → List ℕ → List BlockState → ℕ → Block
 block_in page_bytes pages bytes stamps states b =
     let state = slice_index_or states b unused in

@@ -8,11 +8,11 @@ use Rattle.erase_queue.specs.declared.sight.Sight.{Sight}
 use Rattle.erase_queue.specs.Moves.{DidPut, DidTake, StoodSome}
 use Rattle.erase_queue.specs.Rule.{counter, user_of}
 
--- what the numbers of the queue are below, and how many of them it has room for
+-- the bound of the queue's numbers, and how many of them it has room for
 abbrev pub limit_of : EraseQueue → ℕ
 limit_of q = port.ruled_capacity q.numbers
 
--- what a pass knows of the queue's course
+-- what a pass knows of what the queue did
 abbrev pub sight_of : QueuePass → Sight
 sight_of p = port.view p.port
 
@@ -28,7 +28,7 @@ empties_of p = p.empties
 abbrev pub one_more : ℕ → ℕ
 one_more count = (count + 1) % 2 ^ 64
 
--- The pass was made with this queue and by no other, to put and take its numbers
+-- The pass belongs to this queue and to no other, to put and take its numbers
 pub record IsPassOf (q : EraseQueue) (p : QueuePass) : Type 0 where
   pub port : port.IsPassOf q.numbers p.port
   pub role : (sight_of p).role ≡ User
@@ -47,7 +47,7 @@ pub record WasPut (p : QueuePass) (block : ℕ) (q : QueuePass) : Type 0 where
   pub fulls : fulls_of q ≡ fulls_of p
   pub empties : empties_of q ≡ empties_of p
 
--- The queue was full at one moment, with so many numbers, and that was counted. The pass has done nothing
+-- The queue was full at one moment, with this many numbers, and that was counted. The pass has done nothing
 pub record WasFull (limit : ℕ) (p q : QueuePass) : Type 0 where
   pub stood : StoodSome (sight_of p) limit
   pub same : sight_of q ≡ sight_of p

@@ -1,4 +1,4 @@
--- The codes of the answers and the faults of the layers below.
+-- The codes of the results and the faults of the layers below.
 use Rattle.std.specs.Prelude.{ℕ, Bool, true, false}
 use Rattle.geometry.specs.declared.answer.Was.{Was}
 use Rattle.geometry.specs.declared.answer.Was.TheVariants as was

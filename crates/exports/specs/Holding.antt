@@ -1,4 +1,4 @@
--- What a call on a held page answers, and what it leaves.
+-- What a call on a held page returns, and what it leaves.
 use Rattle.std.specs.Prelude.{◌≡◌, ◌≢◌, ℕ, ◌==◌, nat_le, if◌then◌else◌, List, length}
 use Rattle.geometry.specs.Geometry.{sectors_of, words_of, page_bytes_of}
 use Rattle.geometry.specs.History.{Call}
@@ -32,7 +32,8 @@ if_holder seat.Away other by_holder = other
 abbrev pub hold_code : ℕ → List Call → Seat → ℕ
 hold_code s seen x = if_host x 9 (λ h. if nat_le (sectors_of (numbers_of (host_volume h))) s then 3 else was_code (was_of (sector_after h seen s)))
 
--- what a host's hold leaves: it holds what was found at the sector, or it is a host as before, which has found the sector empty or has not looked
+-- what a host's hold leaves: it holds what was found at the sector, or it is a host as before, which has found the sector empty or has not
+-- looked
 abbrev pub HoldLeaves : Host → ℕ → ℕ → Seat → Type 0
 HoldLeaves h s code (seat.One l) = ⊥
 HoldLeaves h s code (seat.Host g) =
@@ -41,7 +42,7 @@ HoldLeaves h s code (seat.Sweeper t) = ⊥
 HoldLeaves h s code (seat.Holder g) = (g.volume ≡ h.volume) × (code ≡ 1) × Found (flash_of (host_volume h)) (view_of h.pass) s (holding.Held g.held)
 HoldLeaves h s code seat.Away = ⊥
 
--- what a hold leaves of a seat: one that is no host is as it was
+-- what a hold leaves of a seat: one that is no host is unchanged
 abbrev pub HoldCalled : ℕ → ℕ → Seat → Seat → Type 0
 HoldCalled s code (seat.One l) after = after ≡ seat.One l
 HoldCalled s code (seat.Host h) after = HoldLeaves h s code after
@@ -57,7 +58,8 @@ HoldsOnAs k says (seat.Sweeper s) = ⊥
 HoldsOnAs k says (seat.Holder j) = (j.volume ≡ k.volume) × says (holder_volume k) k.held j.held
 HoldsOnAs k says seat.Away = ⊥
 
--- what a call on a held page leaves of a seat: a host that holds goes on so, and this holds of its hold before and after; another seat is as it was
+-- what a call on a held page leaves of a seat: a host that holds still does, and this holds of its hold before and after; another seat is
+-- unchanged
 abbrev pub HolderCalled : Seat → (Volume → Held → Held → Type 0) → Seat → Type 0
 HolderCalled (seat.One l) says after = after ≡ seat.One l
 HolderCalled (seat.Host h) says after = after ≡ seat.Host h
@@ -81,7 +83,7 @@ word_code i x = if_holder x 9 (λ k. if nat_le (words_of (numbers_of (holder_vol
 abbrev pub word_read : ℕ → ℕ → Seat → ℕ
 word_read i out x = if_holder x out (λ k. if nat_le (words_of (numbers_of (holder_volume k))) i then out else data_word (held_value k.held) i)
 
--- where a held page stands
+-- where a held page is
 abbrev pub page_report : PageReport → Seat → PageReport
 page_report out x = if_holder x out (λ k. record { block = (page_of k.held).block; generation = (page_of k.held).generation })
 
@@ -94,7 +96,7 @@ ReleaseLeaves k (seat.Sweeper s) = ⊥
 ReleaseLeaves k (seat.Holder j) = ⊥
 ReleaseLeaves k seat.Away = ⊥
 
--- what a release leaves of a seat: one that holds nothing is as it was
+-- what a release leaves of a seat: one that holds nothing is unchanged
 abbrev pub ReleaseCalled : Seat → Seat → Type 0
 ReleaseCalled (seat.One l) after = after ≡ seat.One l
 ReleaseCalled (seat.Host h) after = after ≡ seat.Host h

@@ -19,6 +19,6 @@ pinned_value (pin.Stray block) = []
 abbrev pub held_value : Held → List ℕ
 held_value h = pinned_value (view_of (pass_of h)).pin
 
--- that a value is held is a fact with one proof at most, so that a struct can keep it beside its hold
+-- that a value is held is a fact with at most one proof, so that a struct can keep it beside its hold
 pub Holds-prop : (f : Flash) (h : Held) (value : List ℕ) → IsProp (Holds f h value)
 Holds-prop f h value = hlevel props

@@ -1,5 +1,5 @@
--- A device for one thread as its caller sees it. For each call one total function gives the code that has to come and what stands
--- then, from the state of the handle, the numbers and the bytes that were passed.
+-- A device for one thread as its caller sees it. For each call one total function gives the code that has to be returned and the state
+-- after the call, from the state of the handle, the numbers and the bytes that were passed.
 use Rattle.std.specs.Prelude.{◌≡◌, ℕ, ◌==◌, Bool, true, false, nat_le, if◌then◌else◌, List, length, replicate, Option, None, Some}
 use Rattle.geometry.specs.declared.geometry.Geometry.{Geometry}
 use Rattle.geometry.specs.Geometry.{blocks_of, sectors_of, page_bytes_of, numbers_of}
@@ -46,7 +46,7 @@ state_in (seat.Sweeper s) = Other (seat.Sweeper s)
 state_in (seat.Holder k) = Other (seat.Holder k)
 state_in seat.Away = Other seat.Away
 
--- the state by the seat that there is
+-- the state, by the seat that the handle has
 abbrev pub state_by : Option Seat → State
 state_by None = Closed
 state_by (Some x) = state_in x
@@ -55,16 +55,16 @@ state_by (Some x) = state_in x
 abbrev pub state_of : Handle → State
 state_of h = state_by (seat_of h)
 
--- what a call answers, and the state that it leaves
+-- what a call returns, and the state that it leaves
 pub record Outcome : Type 0 where
   pub code : ℕ
   pub state : State
 
--- a call that is refused leaves the machine as it was
+-- a call that is refused leaves the machine unchanged
 abbrev pub refused : ℕ → Machine → Outcome
 refused code m = record { code = code; state = Open m }
 
--- a call that changes a machine, on any state: a closed handle answers 2 and another seat 9, and both stay as they were
+-- a call that changes a machine, on any state: a closed handle returns 2 and another seat 9, and both are unchanged
 abbrev pub on_state : State → (Machine → Outcome) → Outcome
 on_state Closed on_machine = record { code = 2; state = Closed }
 on_state (Open m) on_machine = on_machine m
@@ -76,7 +76,7 @@ code_on Closed on_machine = 2
 code_on (Open m) on_machine = on_machine m
 code_on (Other x) on_machine = 9
 
--- what a buffer or a report is after a call: with no machine it is as it was
+-- what a buffer or a report is after a call: without a machine it is unchanged
 abbrev pub filled_on : {X : Type 0} → State → X → (Machine → X) → X
 filled_on Closed out on_machine = out
 filled_on (Open m) out on_machine = on_machine m
@@ -86,17 +86,18 @@ filled_on (Other x) out on_machine = out
 abbrev pub was_at : Machine → ℕ → Was
 was_at m s = was_of (sector_at m.array s)
 
--- one of three, by a sector and the length of a buffer: the first if there is no such sector, the second if the length is not a page's, and else the third
+-- one of three, by a sector and the length of a buffer: the first if there is no such sector, the second if the length is not a page's, and
+-- otherwise the third
 abbrev pub by_place : {X : Type 0} → Geometry → ℕ → ℕ → X → X → X → X
 by_place g s n no_sector not_a_page good =
     if nat_le (sectors_of g) s then no_sector else (if n == page_bytes_of g then good else not_a_page)
 
--- a call that the layer takes steps the array and the stock; with no page it is refused as worn out
+-- a call that the layer makes steps the array and the stock; if no page is left it is refused as worn out
 abbrev pub taken : Machine → Call → ℕ → Option Stock → Outcome
 taken m call code (Some stock) = record { code = code; state = Open (record { numbers = m.numbers; array = step m.array call; stock = stock }) }
 taken m call code None = refused 5 m
 
--- a write answers what the sector was
+-- a write returns what the sector was
 abbrev pub write_on : ℕ → List ℕ → Machine → Outcome
 write_on s bytes m =
     by_place m.numbers s (length bytes) (refused 3 m) (refused 4 m) (taken m (Write 0 s bytes) (was_code (was_at m s)) (next m.numbers m.stock (Write 0 s bytes)))
@@ -110,7 +111,7 @@ write_new_by s bytes m was.Empty = taken m (WriteNew 0 s bytes) 0 (next m.number
 abbrev pub write_new_on : ℕ → List ℕ → Machine → Outcome
 write_new_on s bytes m = by_place m.numbers s (length bytes) (refused 3 m) (refused 4 m) (write_new_by s bytes m (was_at m s))
 
--- a trim answers what the sector was
+-- a trim returns what the sector was
 abbrev pub trim_on : ℕ → Machine → Outcome
 trim_on s m =
     if nat_le (sectors_of m.numbers) s then refused 3 m else taken m (Trim 0 s) (was_code (was_at m s)) (next m.numbers m.stock (Trim 0 s))
@@ -119,7 +120,7 @@ trim_on s m =
 abbrev pub read_on : ℕ → ℕ → Machine → ℕ
 read_on s n m = by_place m.numbers s n 3 4 (was_code (was_at m s))
 
--- a buffer after a read: an empty sector leaves it as it was
+-- a buffer after a read: an empty sector leaves it unchanged
 abbrev pub page_over : Sector → List ℕ → List ℕ
 page_over None out = out
 page_over (Some page) out = page
@@ -145,17 +146,17 @@ block_on b m = if nat_le (blocks_of m.numbers) b then 10 else 0
 abbrev pub block_report : Block → BlockReport
 block_report block = record { erases = block.erases; live = live_of block; retired = as_number (is_retired block.role) }
 
--- the report on a block: one that is not there leaves it as it was
+-- the report on a block: for one that does not exist it is unchanged
 abbrev pub report_on : ℕ → BlockReport → Machine → BlockReport
 report_on b out m = if nat_le (blocks_of m.numbers) b then out else block_report (block_at m.stock b)
 
--- the code of an open, by the first fault of its numbers, if there is one, and else by whether the heap had room, which no state says
+-- the code of an open, by the first fault of its numbers, if there is one, and otherwise by whether the heap had room, which no state says
 abbrev pub open_by : Option GeometryFault → Bool → ℕ
 open_by (Some f) had_room = fault_code f
 open_by None true = 0
 open_by None false = 6
 
--- the code of an open: a handle that is open comes before the faults
+-- the code of an open: whether a handle is open is checked before the faults
 abbrev pub open_code : Option Seat → Numbers → Bool → ℕ
 open_code (Some x) n had_room = 8
 open_code None n had_room = open_by (first_fault n) had_room

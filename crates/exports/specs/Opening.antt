@@ -1,4 +1,4 @@
--- The opening of a shared device: the code that has to come, and what the handles have then.
+-- The opening of a shared device: the code that has to be returned, and what the handles have then.
 use Rattle.std.specs.Prelude.{◌≡◌, ℕ, ◌<◌, ◌==◌, Bool, nat_le, if◌then◌else◌, List, length, slice_index_or, Option, None, Some}
 use Rattle.geometry.specs.Geometry.{numbers_of as numbers_in}
 use Rattle.geometry.specs.Limits.{Numbers, first_fault}
@@ -20,11 +20,11 @@ use Rattle.exports.specs.Shared.{numbers_of, host_volume, sweeper_volume}
 abbrev pub IsClosed : Handle → Type 0
 IsClosed h = seat_of h ≡ None
 
--- a number, or the bound that it is over
+-- a number, or the bound if it is greater
 abbrev pub capped : ℕ → ℕ → ℕ
 capped most n = if nat_le n most then n else most
 
--- the code of a fault of a shared device's numbers: one that has no host is at fault as if its hosts were too many
+-- the code of a fault of a shared device's numbers: a device without a host has the same fault as one with too many hosts
 abbrev pub shared_fault_code : ℕ → GeometryFault → ℕ
 shared_fault_code hosts f = if hosts == 0 then capped 107 (fault_code f) else fault_code f
 
@@ -33,7 +33,7 @@ abbrev pub shared_open_by : ℕ → Option GeometryFault → Bool → ℕ
 shared_open_by hosts (Some f) had_room = shared_fault_code hosts f
 shared_open_by hosts None had_room = if hosts == 0 then 107 else (if had_room then 0 else 6)
 
--- the code of an open: a handle that is open comes before the faults
+-- the code of an open: whether a handle is open is checked before the faults
 abbrev pub shared_open_code : Bool → Numbers → Bool → ℕ
 shared_open_code closed n had_room = if closed then shared_open_by n.hosts (first_fault n) had_room else 8
 
@@ -55,7 +55,7 @@ IsBroomIn v b (Some (seat.Sweeper s)) = (sweeper_volume s ≡ v) × (s.broom ≡
 IsBroomIn v b (Some (seat.Holder k)) = ⊥
 IsBroomIn v b (Some seat.Away) = ⊥
 
--- this holds of each element of a list, by its place
+-- this holds of each element of a list, by its index
 abbrev pub EachAt : {X : Type 0} → (ℕ → X → Type 0) → List X → Type 0
 EachAt {X} P xs = (k : ℕ) (x : X) → k < length xs → P k (slice_index_or xs k x)
 

@@ -1,5 +1,5 @@
--- A seat at a shared device, as its caller sees it. For each call one total function gives the code that has to come, and says between
--- which passes or brooms the clauses of the device's own call hold.
+-- A seat at a shared device, as its caller sees it. For each call one total function gives the code that has to be returned, and says
+-- between which passes or brooms the clauses of the device's own call hold.
 use Rattle.std.specs.Prelude.{◌≡◌, ℕ, ◌==◌, Bool, true, false, nat_le, if◌then◌else◌, List, [], length, Option, None, Some, is_some}
 use Rattle.std.specs.Arc.{arc_value}
 use Rattle.geometry.specs.declared.geometry.Geometry.{Geometry}
@@ -61,7 +61,7 @@ if_sweeper (seat.Sweeper s) other by_sweeper = by_sweeper s
 if_sweeper (seat.Holder k) other by_sweeper = other
 if_sweeper seat.Away other by_sweeper = other
 
--- on a handle: a closed one gives the first, an open one is looked at by its seat
+-- on a handle: a closed one gives the first; an open one depends on its seat
 abbrev pub on_handle : {X : Type 0} → Option Seat → X → (Seat → X) → X
 on_handle None closed by_seat = closed
 on_handle (Some x) closed by_seat = by_seat x
@@ -94,7 +94,7 @@ read_buffer s out seen x = if_host x out (λ h. by_place (numbers_of (host_volum
 abbrev pub look_code : ℕ → List Call → Seat → ℕ
 look_code s seen x = if_host x 9 (λ h. if nat_le (sectors_of (numbers_of (host_volume h))) s then 3 else as_number (is_some (sector_after h seen s)))
 
--- the code of a write that its checks have let through: 0 and 1 for what the sector was, and else 7
+-- the code of a write that has passed its checks: 0 and 1 for what the sector was, and otherwise 7
 abbrev pub block_found : ℕ → ℕ
 block_found n = if nat_le n 1 then n else 7
 
@@ -106,7 +106,7 @@ write_code s n result x = if_host x 9 (λ h. by_place (numbers_of (host_volume h
 abbrev pub trim_code : ℕ → ℕ → Seat → ℕ
 trim_code s result x = if_host x 9 (λ h. if nat_le (sectors_of (numbers_of (host_volume h))) s then 3 else (if nat_le result 1 then result else 0))
 
--- what a read got, by its code
+-- what a read found, by its code
 abbrev pub got_by : ℕ → Got
 got_by n = if n == 0 then got.Empty else got.Data
 
@@ -118,20 +118,20 @@ written_by n = n == 1
 abbrev pub was_by : ℕ → Was
 was_by n = if n == 0 then was.Empty else was.Written
 
--- what a drain answered, by its code and what it gave
+-- what a drain returned, by its code and what it wrote
 abbrev pub drain_by : ℕ → ℕ → ℕ → Drain
 drain_by n block moved = if n == 0 then drain.Drained block moved else (if n == 20 then drain.NothingToGain else (if n == 21 then drain.NoSpare else drain.Lost))
 
--- the code of a drain: 0, 20, 21 and 22 for its four answers
+-- the code of a drain: 0, 20, 21 and 22 for its four results
 abbrev pub drain_code : ℕ → Seat → ℕ
 drain_code result x = if_sweeper x 9 (λ s. if result == 0 then 0 else (if result == 20 then 20 else (if result == 21 then 21 else 22)))
 
--- what an erase answered, by its code
+-- what an erase returned, by its code
 abbrev pub erase_by : ℕ → ℕ → Erase
 erase_by n block =
     if n == 0 then erase.Erased block false else (if n == 26 then erase.Erased block true else (if n == 23 then erase.Retired block else (if n == 24 then erase.Pinned else erase.Stale)))
 
--- the code of an erase: 10 for a block that is not there, and 0, 26, 23, 24 and 25 for its five answers
+-- the code of an erase: 10 for a block that does not exist, and 0, 26, 23, 24 and 25 for its five results
 abbrev pub erase_code : ℕ → ℕ → Seat → ℕ
 erase_code b result x = if_sweeper x 9 (λ s. if nat_le (blocks_of (numbers_of (sweeper_volume s))) b then 10 else
     (if result == 0 then 0 else (if result == 26 then 26 else (if result == 23 then 23 else (if result == 24 then 24 else 25)))))
@@ -140,7 +140,7 @@ erase_code b result x = if_sweeper x 9 (λ s. if nat_le (blocks_of (numbers_of (
 abbrev pub stocked_by : ℕ → Bool
 stocked_by n = n == 0
 
--- the code of a restock: 0 and 21 for its two answers
+-- the code of a restock: 0 and 21 for its two results
 abbrev pub restock_code : ℕ → Seat → ℕ
 restock_code result x = if_sweeper x 9 (λ s. if result == 0 then 0 else 21)
 
@@ -152,7 +152,7 @@ GoesOnAs h says (seat.Sweeper s) = ⊥
 GoesOnAs h says (seat.Holder k) = ⊥
 GoesOnAs h says seat.Away = ⊥
 
--- what a host's call leaves of a seat: a host stays one, and this holds of its pass before and after; another seat is as it was
+-- what a host's call leaves of a seat: a host stays one, and this holds of its pass before and after; another seat is unchanged
 abbrev pub HostCalled : Seat → (Volume → Pass → Pass → Type 0) → Seat → Type 0
 HostCalled (seat.One l) says after = after ≡ seat.One l
 HostCalled (seat.Host h) says after = GoesOnAs h says after
@@ -168,7 +168,7 @@ SweepsOnAs s says (seat.Sweeper t) = (t.volume ≡ s.volume) × says (sweeper_vo
 SweepsOnAs s says (seat.Holder k) = ⊥
 SweepsOnAs s says seat.Away = ⊥
 
--- what a broom's call leaves of a seat: a broom stays one, and this holds of it before and after; another seat is as it was
+-- what a broom's call leaves of a seat: a broom stays one, and this holds of it before and after; another seat is unchanged
 abbrev pub BroomCalled : Seat → (Volume → Broom → Broom → Type 0) → Seat → Type 0
 BroomCalled (seat.One l) says after = after ≡ seat.One l
 BroomCalled (seat.Host h) says after = after ≡ seat.Host h

@@ -1,4 +1,5 @@
--- What the steps of brooms ask, and what they tell. A broom fills, counts and closes an open block of its own just as a pass does, by `put_told`, `count_told` and `close_told`.
+-- What the steps of brooms need, and what they record. A broom fills, counts and closes its own open block in the same way as a pass, by
+-- `put_told`, `count_told` and `close_told`.
 use Rattle.std.specs.Prelude.{◌≡◌, ℕ, ◌+◌, ◌*◌, ◌<◌, ◌≤◌, List, [], ◌∷◌, ◌++◌, None, Some, slice_get}
 use Rattle.atomic_table.specs.Table.{Step}
 use Rattle.geometry.specs.History.{held, Begins}
@@ -21,9 +22,9 @@ use Rattle.flash_rule.specs.Ceded.{freed_as}
 use Rattle.flash_rule.specs.Rule.{IsValue}
 use Rattle.flash_rule.specs.Plays.{Sitter, Met, CanPlace}
 
--- LOOK OF A BROOM. The broom sees the history of this moment and notes the word found, which is 0 where the sector is empty after it, and
--- else names a page with the sector's value. A source with this sector's stamp gets that value if the word names its page; if not, the
--- page is dead, and one page more is cleared. Any other source stays
+-- LOOK OF A BROOM. The broom sees the history of this moment and records the word found. The word is 0 if the sector is empty after that
+-- history; otherwise it names a page with the sector's value. A source with this sector's stamp gets that value if the word names its page;
+-- if not, the page is dead, and one page more is cleared. Any other source stays
 pub record Named (v : View) (s n : ℕ) (w : View) : Type 0 where
   pub changed : w ≡ record v { seen = w.seen; named = v.named ++ (s, n) ∷ []; source = w.source; cleared = w.cleared }
   pub later : Begins v.seen w.seen
@@ -37,33 +38,33 @@ pub record Named (v : View) (s n : ℕ) (w : View) : Type 0 where
   pub others : ((x : Source) → v.source ≡ Some x → ¬ (x.stamp ≡ s)) → (w.source ≡ v.source) × (w.cleared ≡ v.cleared)
   pub met : (c : Carried) → v.copy ≡ Some c → Met w c
 
--- what a look tells a broom
+-- what a look records for a broom
 abbrev pub broom_look_told : Step (Unit {0}) → Sitter → ℕ → Sitter → Type 0
 broom_look_told st me n after = (after.1 ≡ me.1) × Named me.0 st.word n after.0
 
--- GET STAMP. The next page not cleared of an own victim is a written one. A stamp that is a sector makes it the source; any other stamp
--- tells that it is dead, and one page more is cleared
+-- GET STAMP. The next uncleared page of a victim of its own is a written one. A stamp that is a sector makes it the source; any other stamp
+-- means that it is dead, and one page more is cleared
 pub record CanGetStamp (v : View) (o : Owned) : Type 0 where
   pub own : owned_at o.block v.owns ≡ Some o
   pub victim : o.phase ≡ Victim
   pub written : v.cleared < o.written
 
--- the next page not cleared of a victim, in its generation
+-- the next uncleared page of a victim, in its generation
 abbrev pub victim_page : View → Owned → MapWord
 victim_page v o = record { generation = o.generation; block = o.block; page = v.cleared }
 
--- A stamp that is a sector is now that of the source; any other stamp tells that the page is dead
+-- A stamp that is a sector is now that of the source; any other stamp means that the page is dead
 pub record GotStamp (v : View) (o : Owned) (n : ℕ) (w : View) : Type 0 where
   pub sector : n < v.numbers.sectors → w ≡ record v { source = Some (record { page = victim_page v o; stamp = n; value = None }) }
   pub dead : v.numbers.sectors ≤ n → w ≡ record v { source = None; cleared = v.cleared + 1 }
 
--- what loading the stamp of the next page tells a broom
+-- what loading the stamp of the next page records for a broom
 abbrev pub stamp_told : Step (Unit {0}) → Sitter → ℕ → Sitter → Type 0
 stamp_told st me n after =
     (after.1 ≡ me.1)
     × ((o : Owned) → CanGetStamp me.0 o → st.word ≡ page_index me.0.numbers o.block me.0.cleared + me.0.numbers.words → GotStamp me.0 o n after.0)
 
--- GET SOURCE. A word of the source's page is the value's, once the source has one; the view stays
+-- GET SOURCE. A word of the source's page is the value's, if the source has a value; the view stays
 abbrev pub source_told : Step (Unit {0}) → Sitter → ℕ → Sitter → Type 0
 source_told st me n after =
     (after ≡ me)
@@ -77,8 +78,8 @@ pub record CanMove (v : View) (x : Source) (copy : MapWord) : Type 0 where
   pub live : x.value ≡ Some value
   pub copied : CanPlace v x.stamp copy value
 
--- The broom sees the history of this moment, with no call added. Whether the word named the source's page and now names the copy, or
--- named it no more, the page is dead: one page more is cleared
+-- The broom sees the history of this moment, with no call added. Either the word named the source's page and now names the copy, or it no
+-- longer named it; in both cases the page is dead, and one page more is cleared
 pub record Moved (v : View) (x : Source) (n : ℕ) (w : View) : Type 0 where
   pub changed : w ≡ record v { seen = w.seen; source = None; cleared = v.cleared + 1; moves = w.moves }
   pub later : Begins v.seen w.seen
@@ -87,15 +88,15 @@ pub record Moved (v : View) (x : Source) (n : ℕ) (w : View) : Type 0 where
   pub failed : ¬ (n ≡ map_word x.page) → w.moves ≡ v.moves
   pub met : (c : Carried) → v.copy ≡ Some c → Met w c
 
--- what an exchange of a map word tells a broom
+-- what an exchange of a map word records for a broom
 abbrev pub move_told : Step (Unit {0}) → Sitter → ℕ → Sitter → Type 0
 move_told st me n after =
     (after.1 ≡ me.1)
     × ((x : Source) (copy : MapWord) → CanMove me.0 x copy → FitsMap x.page → FitsMap copy → st.word ≡ x.stamp → st.first ≡ map_word x.page → st.second ≡ map_word copy
     → Moved me.0 x n after.0)
 
--- STATE. The broom notes the block and its word. Its generation is below the endurance, and it has no more pages written than there
--- are. A drained block with readers is busy, a drained one without them is ready, and a block that isn't drained is stale
+-- STATE. The broom records the block and its word. Its generation is less than the endurance, and it has no more pages written than a block
+-- has. A drained block with readers is busy, a drained one without them is ready, and a block that isn't drained is stale
 pub record Loaded (v : View) (b n : ℕ) (w : View) : Type 0 where
   pub state : PinWord
   pub fits : FitsPin state
@@ -106,19 +107,19 @@ pub record Loaded (v : View) (b n : ℕ) (w : View) : Type 0 where
   pub busy : state.phase ≡ Drained → 0 < state.readers → w ≡ record v { loaded = v.loaded ++ (b, n) ∷ []; busy = v.busy ++ b ∷ [] }
   pub stale : ¬ (state.phase ≡ Drained) → w ≡ record v { loaded = v.loaded ++ (b, n) ∷ []; stale = v.stale ++ b ∷ [] }
 
--- what loading a block's state tells a broom
+-- what loading a block's state records for a broom
 abbrev pub state_told : Step (Unit {0}) → Sitter → ℕ → Sitter → Type 0
 state_told st me n after = (after.1 ≡ me.1) × ((b : ℕ) → b < me.0.numbers.blocks → st.word ≡ pin_index me.0.numbers b → Loaded me.0 b n after.0)
 
--- The word is the one that the broom loaded last of this block
+-- The word is the one that the broom loaded last for this block
 pub record IsLastLoaded (v : View) (b word : ℕ) : Type 0 where
   pub earlier : List (ℕ × ℕ)
   pub later : List (ℕ × ℕ)
   pub is : v.loaded ≡ earlier ++ (b, word) ∷ later
   pub last : (k : ℕ) (x : ℕ × ℕ) → slice_get later k ≡ Some x → ¬ (x.0 ≡ b)
 
--- The broom drains no block and erases none: all blocks of its own are open. So the one that it claims or condemns next is the only
--- one that it drains or erases, until it is nobody's or open again
+-- The broom drains no block and erases none: all blocks of its own are open. So the one that it claims or condemns next is the only one
+-- that it drains or erases, until it gives that block up or opens it again
 abbrev pub IsAtRest : View → Type 0
 IsAtRest v = (b : ℕ) (o : Owned) → owned_at b v.owns ≡ Some o → o.phase ≡ Open
 
@@ -130,7 +131,7 @@ owned_as b p phase = record { block = b; phase = phase; generation = p.generatio
 abbrev pub cycle_of : Owned → Cycle
 cycle_of o = record { block = o.block; generation = o.generation }
 
--- CLAIM. A broom at rest expects the closed state that it loaded last of this block
+-- CLAIM. A broom at rest expects the closed state that it loaded last for this block
 pub record CanClaim (v : View) (b : ℕ) (p : PinWord) : Type 0 where
   pub low : b < v.numbers.blocks
   pub fits : FitsPin p
@@ -138,19 +139,19 @@ pub record CanClaim (v : View) (b : ℕ) (p : PinWord) : Type 0 where
   pub loaded : IsLastLoaded v b (pin_word p)
   pub rested : IsAtRest v
 
--- A block found in the state expected wasn't the broom's, and is now its victim, with no page cleared; else the claim is lost
+-- A block found in the expected state wasn't the broom's, and is now its victim, with no page cleared; otherwise the claim is lost
 pub record Claimed (v : View) (b : ℕ) (p : PinWord) (n : ℕ) (w : View) : Type 0 where
   pub fresh : n ≡ pin_word p → owned_at b v.owns ≡ None
   pub won : n ≡ pin_word p → w ≡ record v { owns = with_owned (owned_as b p Victim) v.owns; cleared = 0 }
   pub lost : ¬ (n ≡ pin_word p) → w ≡ record v { lost = v.lost ++ b ∷ [] }
 
--- what a claim tells a broom
+-- what a claim records for a broom
 abbrev pub claim_told : Step (Unit {0}) → Sitter → ℕ → Sitter → Type 0
 claim_told st me n after =
     (after.1 ≡ me.1)
     × ((b : ℕ) (p : PinWord) → CanClaim me.0 b p → st.word ≡ pin_index me.0.numbers b → st.first ≡ pin_word p → Claimed me.0 b p n after.0)
 
--- CONDEMN. A broom at rest expects the drained state without readers that it loaded last of this block
+-- CONDEMN. A broom at rest expects the drained state without readers that it loaded last for this block
 pub record CanCondemn (v : View) (b : ℕ) (p : PinWord) : Type 0 where
   pub low : b < v.numbers.blocks
   pub fits : FitsPin p
@@ -159,26 +160,26 @@ pub record CanCondemn (v : View) (b : ℕ) (p : PinWord) : Type 0 where
   pub loaded : IsLastLoaded v b (pin_word p)
   pub rested : IsAtRest v
 
--- A block found in the state expected wasn't the broom's, and is now the broom's to erase, with no word wiped and its erase listed; else
+-- A block found in the expected state wasn't the broom's, and now it is, to be erased, with no word wiped and its erase listed; otherwise
 -- it is busy
 pub record Condemned (v : View) (b : ℕ) (p : PinWord) (n : ℕ) (w : View) : Type 0 where
   pub fresh : n ≡ pin_word p → owned_at b v.owns ≡ None
   pub won : n ≡ pin_word p → w ≡ record v { owns = with_owned (owned_as b p Erasing) v.owns; erases = v.erases ++ cycle_of (owned_as b p Erasing) ∷ []; wiped = 0 }
   pub busy : ¬ (n ≡ pin_word p) → w ≡ record v { busy = v.busy ++ b ∷ [] }
 
--- what a condemn tells a broom
+-- what a condemn records for a broom
 abbrev pub condemn_told : Step (Unit {0}) → Sitter → ℕ → Sitter → Type 0
 condemn_told st me n after =
     (after.1 ≡ me.1)
     × ((b : ℕ) (p : PinWord) → CanCondemn me.0 b p → st.word ≡ pin_index me.0.numbers b → st.first ≡ pin_word p → Condemned me.0 b p n after.0)
 
--- DRAIN. All counted pages of an own victim are cleared; the block is nobody's from now on, drained as it was
+-- DRAIN. All counted pages of a victim of its own are cleared; the block has no owner from now on, and is drained with these pages
 pub record CanDrain (v : View) (o : Owned) : Type 0 where
   pub own : owned_at o.block v.owns ≡ Some o
   pub victim : o.phase ≡ Victim
   pub cleared : o.written ≤ v.cleared
 
--- what a drain tells a broom
+-- what a drain records for a broom
 abbrev pub drain_told : Step (Unit {0}) → Sitter → ℕ → Sitter → Type 0
 drain_told st me n after =
     (after.1 ≡ me.1)
@@ -193,7 +194,7 @@ pub record IsErasing (v : View) (o : Owned) : Type 0 where
 abbrev pub block_words : View → ℕ
 block_words v = v.numbers.pages * (v.numbers.words + 1)
 
--- WIPE. The next word of an own erasing block becomes all ones
+-- WIPE. The next word of an erasing block of its own becomes all ones
 pub record CanWipe (v : View) (o : Owned) : Type 0 where
   pub erasing : IsErasing v o
   pub room : v.wiped < block_words v
@@ -202,19 +203,19 @@ pub record CanWipe (v : View) (o : Owned) : Type 0 where
 abbrev pub wiper : View → View
 wiper v = record v { wiped = v.wiped + 1 }
 
--- what wiping one word tells a broom
+-- what wiping one word records for a broom
 abbrev pub wipe_told : Step (Unit {0}) → Sitter → ℕ → Sitter → Type 0
 wipe_told st me n after =
     (after.1 ≡ me.1)
     × ((o : Owned) → CanWipe me.0 o → st.word ≡ page_index me.0.numbers o.block 0 + me.0.wiped → st.first ≡ blank_word → after.0 ≡ wiper me.0)
 
--- The block is wiped as a whole, and it has another generation to live
+-- The whole block is wiped, and it has another generation left
 pub record CanRenew (v : View) (o : Owned) : Type 0 where
   pub erasing : IsErasing v o
   pub clean : block_words v ≤ v.wiped
   pub another : o.generation + 1 < v.numbers.endurance
 
--- FREE. The wiped block is nobody's from now on, free in its next generation with nothing written
+-- FREE. The wiped block has no owner from now on, and is free in its next generation with nothing written
 abbrev pub freed_told : Step (Unit {0}) → Sitter → ℕ → Sitter → Type 0
 freed_told st me n after =
     (after.1 ≡ me.1)
@@ -233,7 +234,7 @@ pub record CanRetire (v : View) (o : Owned) : Type 0 where
   pub erasing : IsErasing v o
   pub last : o.generation + 1 ≡ v.numbers.endurance
 
--- RETIRE. The block that was being erased for the last time is nobody's from now on, for good, and retired as it was
+-- RETIRE. The block that was being erased for the last time has no owner from now on, and stays retired with these pages written
 abbrev pub retired_told : Step (Unit {0}) → Sitter → ℕ → Sitter → Type 0
 retired_told st me n after =
     (after.1 ≡ me.1)

@@ -1,4 +1,5 @@
--- The blocks that the seats gave up, each as it was left. They tie the state of every block that no seat owns.
+-- The blocks that the seats gave up, each with the state in which it was given up. They determine the state of every block that no seat
+-- owns.
 use Rattle.std.specs.Prelude.{◌≡◌, ℕ, ◌<◌, ◌+◌, ◌≤◌, ◌⊎◌, Bool, true, false, List, [], ◌∷◌, Some, slice_get, if◌then◌else◌}
 use mathlib.Core.Option.{some}
 use lib.ListN.{get_elem?}
@@ -22,35 +23,35 @@ rank Drained = 4
 rank Erasing = 5
 rank Retired = 6
 
--- a block in this state, as a seat that leaves it so lists it
+-- a block in this state, as it is listed by a seat that gives it up in that state
 abbrev pub entry_of : ℕ → PinWord → Owned
 entry_of b p = record { block = b; phase = p.phase; generation = p.generation; written = p.written }
 
--- a wiped block as it is left, free in its next generation
+-- a wiped block as it is given up, free in its next generation
 abbrev pub freed_as : Owned → Owned
 freed_as o = record { block = o.block; phase = Free; generation = o.generation + 1; written = 0 }
 
--- The state of a block has got as far as the block was when it was left, or further
+-- The block's state is now the one in which it was given up, or a later one
 abbrev pub IsReached : Owned → PinWord → Type 0
 IsReached o p = (o.generation < p.generation) ⊎ ((o.generation ≡ p.generation) × (rank o.phase ≤ rank p.phase) × (o.written ≤ p.written))
 
--- The block is as the device was made: no seat ever had it
+-- The block is as it was when the device was made: no seat ever owned it
 pub record IsUnused (p : PinWord) : Type 0 where
   pub free : p.phase ≡ Free
   pub generation : p.generation ≡ 0
   pub written : p.written ≡ 0
 
--- Entry k of what this seat gave up is the block as it stands in o
+-- Entry k of what this seat gave up is the block as it is in o
 pub record IsCededBy (vs : List View) (id k : ℕ) (o : Owned) : Type 0 where
   pub view : View
   pub seat : get_elem? vs id ≡ some view
   pub entry : slice_get view.ceded k ≡ Some o
 
--- Some seat gave the block up as it stands in o
+-- Some seat gave the block up as it is in o
 abbrev pub IsCeded : List View → Owned → Type 0
 IsCeded vs o = (id : ℕ) × (k : ℕ) × IsCededBy vs id k o
 
--- The two are one block, left in one phase of one generation
+-- The two are the same block, given up in the same phase of the same generation
 pub record IsSameTurn (o e : Owned) : Type 0 where
   pub block : o.block ≡ e.block
   pub phase : o.phase ≡ e.phase
@@ -66,14 +67,14 @@ is_drained Drained = true
 is_drained Erasing = false
 is_drained Retired = false
 
--- the blocks that were left drained, in order
+-- the blocks that were given up drained, in order
 abbrev pub drained_of : List Owned → List Cycle
 drained_of [] = []
 drained_of (o ∷ os) = if is_drained o.phase then (record { block = o.block; generation = o.generation } ∷ drained_of os) else drained_of os
 
--- GIVEN UP. A block has got as far as it was whenever it was left; no block is left twice in one phase of one generation, by whichever
--- seats; a seat's drains are just the blocks that it left drained; a block that no seat owns is as the device was made, or just as some
--- seat left it; and a seat that may not own blocks gave none up
+-- GIVEN UP. A block has reached at least each state in which it was given up; no block is given up twice in the same phase of the same
+-- generation, by any seats; a seat's drains are exactly the blocks that it gave up drained; a block that no seat owns is as it was when the
+-- device was made, or exactly as some seat gave it up; and a seat that may not own blocks gave none up
 pub record LawfulCeded (z : Numbers) (pins : ℕ → PinWord) (vs : List View) : Type 0 where
   pub reached : (id k : ℕ) (o : Owned) → IsCededBy vs id k o → (o.block < z.blocks) × IsReached o (pins o.block)
   pub once : (id k : ℕ) (o : Owned) (j i : ℕ) (e : Owned) → IsCededBy vs id k o → IsCededBy vs j i e → IsSameTurn o e → (id ≡ j) × (k ≡ i)

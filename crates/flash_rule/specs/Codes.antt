@@ -1,4 +1,4 @@
--- How the data of a view that no Rust type has is kept as a ghost value.
+-- How the data of a view that has no Rust type is kept as a ghost value.
 use Rattle.std.specs.Prelude.{◌≡◌, ℕ, ◌-◌, List, []}
 use Rattle.std.proofs.Common.{ap, sym, suc-ne-zero}
 use base.Stored.{Coded, coded×, coded_ℕ, coded_list, coded_via}
@@ -11,7 +11,7 @@ call_parts (Write pass s v) = (1, (pass, (s, v)))
 call_parts (WriteNew pass s v) = (2, (pass, (s, v)))
 call_parts (Trim pass s) = (0, (pass, (s, [])))
 
--- calls with the same parts are the same
+-- calls with equal parts are equal
 pub call_parts-inj : (c d : Call) → call_parts c ≡ call_parts d → c ≡ d
 call_parts-inj (Write p s v) (Write q t w) e = λ i. Write (e i).1.0 (e i).1.1.0 (e i).1.1.1
 call_parts-inj (WriteNew p s v) (WriteNew q t w) e = λ i. WriteNew (e i).1.0 (e i).1.1.0 (e i).1.1.1

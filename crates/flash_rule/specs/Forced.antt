@@ -1,5 +1,5 @@
--- What a step on a pin word has to make of it. A play tells its seat of the word found, and not what was done to it; yet the rule ties each
--- block's state to what the seats know, so that the play leaves room for one operation alone.
+-- What a step on a pin word has to make of it. A play records for its seat the word found, and not what was done to it; but the rule ties
+-- each block's state to what the seats know, so only one operation is possible for each play.
 use Rattle.std.specs.Prelude.{◌≡◌, ℕ, ◌+◌, ◌-◌, ◌%◌, ◌^◌, ◌<◌, ◌==◌, bit_or, true, List, length, slice_index}
 use prog.Atomic.{either}
 use mathlib.Core.Option.{some, none}
@@ -20,19 +20,20 @@ use Rattle.flash_rule.specs.Seats.{Ruled}
 use Rattle.flash_rule.specs.Plays.{Sitter, IsOn, CanCount, CanClose, take_told, pin_told, unpin_told, count_told, close_told}
 use Rattle.flash_rule.specs.BroomPlays.{CanClaim, CanDrain, CanCondemn, CanRenew, CanRetire, claim_told, drain_told, condemn_told, freed_told, kept_told, retired_told}
 
--- The table meets the rule, and this seat sits at it
+-- The table meets the rule, and this is the seat that makes the step
 pub record SitsAt (z : Numbers) (slots id : ℕ) (me : Sitter) (k : ℕ) (t : State (Unit {0}) View) : Type 0 where
   pub ruled : Ruled z t
   pub homes : length t.homes ≡ slots
   pub seat : get_elem? t.views id ≡ some me.0
   pub low : slice_index t.words k < 2 ^ 64
 
--- Each operation on word k that the rule allows this seat, and that tells it so much, makes of the word found just what f does
+-- Each operation on word k that the rule allows this seat and that records this much for it makes of the word found exactly what f makes of
+-- it
 abbrev pub Forces : Numbers → ℕ → ℕ → Sitter → ℕ → (ℕ → ℕ) → (ℕ → Sitter → Type 0) → Type 0
 Forces z slots id me k f told =
     (other : ℕ → ℕ) → Allows (Ruled z) slots id me k other told → (t : State (Unit {0}) View) → SitsAt z slots id me k t → other (slice_index t.words k) ≡ f (slice_index t.words k)
 
--- what is said of each table, seat and pair of operands
+-- what each play says of each table, seat and pair of operands
 abbrev pub AtEach : (Numbers → ℕ → ℕ → Sitter → ℕ → ℕ → Type 0) → Type 0
 AtEach law = (z : Numbers) (slots id : ℕ) (me : Sitter) (first second : ℕ) → law z slots id me first second
 
@@ -40,7 +41,7 @@ AtEach law = (z : Numbers) (slots id : ℕ) (me : Sitter) (first second : ℕ) �
 abbrev pub plus : ℕ → ℕ → ℕ
 plus x n = (n + x) % 2 ^ 64
 
--- an exchange of a block's word in this state for that of the next phase
+-- an exchange of the word of a block in this state for that of the next phase
 abbrev pub to_next_phase : PinWord → ℕ → ℕ
 to_next_phase p n = either (n == pin_word p) (pin_word p + NEXT_PHASE) n
 
@@ -54,7 +55,7 @@ abbrev pub PinAdds : Type 0
 PinAdds = AtEach (λ z slots id me x y. (m : MapWord) (value : List ℕ) → is_pass me.0.role ≡ true → me.0.pin ≡ Candidate m value → m.block < z.blocks
     → Forces z slots id me (pin_index z m.block) (plus READER) (pin_told (step slots (pin_index z m.block) x y none) me))
 
--- An unpin takes one reader off
+-- An unpin subtracts one reader
 abbrev pub UnpinTakesOff : Type 0
 UnpinTakesOff = AtEach (λ z slots id me x y. (b : ℕ) → is_pass me.0.role ≡ true → IsOn me.0.pin b → b < z.blocks
     → Forces z slots id me (pin_index z b) (plus (2 ^ 64 - READER)) (unpin_told (step slots (pin_index z b) x y none) me))
@@ -79,12 +80,12 @@ abbrev pub RetireAdds : Type 0
 RetireAdds = AtEach (λ z slots id me x y. (o : Owned) → CanRetire me.0 o
     → Forces z slots id me (pin_index z o.block) (plus NEXT_PHASE) (retired_told (step slots (pin_index z o.block) x y none) me))
 
--- A claim exchanges the state expected for the next phase, and leaves any other word, whatever new word is given
+-- A claim exchanges the expected state for the next phase, and leaves any other word, whatever new word is passed
 abbrev pub ClaimExchanges : Type 0
 ClaimExchanges = AtEach (λ z slots id me _ y. (b : ℕ) (p : PinWord) → is_broom me.0.role ≡ true → CanClaim me.0 b p
     → Forces z slots id me (pin_index z b) (to_next_phase p) (claim_told (step slots (pin_index z b) (pin_word p) y none) me))
 
--- A condemn exchanges the state expected for the next phase, and leaves any other word, whatever new word is given
+-- A condemn exchanges the expected state for the next phase, and leaves any other word, whatever new word is passed
 abbrev pub CondemnExchanges : Type 0
 CondemnExchanges = AtEach (λ z slots id me _ y. (b : ℕ) (p : PinWord) → is_broom me.0.role ≡ true → CanCondemn me.0 b p
     → Forces z slots id me (pin_index z b) (to_next_phase p) (condemn_told (step slots (pin_index z b) (pin_word p) y none) me))
@@ -99,7 +100,7 @@ abbrev pub KeepAdds : Type 0
 KeepAdds = AtEach (λ z slots id me x y. (o : Owned) → CanRenew me.0 o
     → Forces z slots id me (pin_index z o.block) (plus (kept_added o.written)) (kept_told (step slots (pin_index z o.block) x y none) me))
 
--- Two numbers below the bound of a word that make one word of some word are the same: so where an addition is forced, no other number may be
--- added, and none be taken off
+-- If adding either of two numbers to some word gives the same word, and both are less than the bound of a word, they are equal: so if an
+-- addition is forced, no other number may be added, and none may be subtracted
 abbrev pub AdditionsDiffer : Type 0
 AdditionsDiffer = (n a x : ℕ) → a < 2 ^ 64 → x < 2 ^ 64 → plus a n ≡ plus x n → a ≡ x

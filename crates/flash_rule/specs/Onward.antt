@@ -12,8 +12,8 @@ use Rattle.flash_rule.specs.Views.{calls_of}
 use Rattle.flash_rule.specs.World.{World, is_owned, is_intact, age_of}
 use Rattle.flash_rule.specs.Rule.{IsProgrammed, IsDealt}
 
--- A block's state goes on: it gets no younger, loses no written page within a generation, stays intact while it has readers, is
--- intact only if it was or was taken when free, and gets free only with a new generation
+-- A block's state goes on: it gets no younger, loses no written page within a generation, and stays intact while it has readers; it is
+-- intact only if it was intact or was taken while free; and it becomes free only in a new generation
 pub record PinOnward (p q : PinWord) : Type 0 where
   pub generation : p.generation ≤ q.generation
   pub age : age_of p ≤ age_of q
@@ -22,7 +22,7 @@ pub record PinOnward (p q : PinWord) : Type 0 where
   pub was : q.generation ≡ p.generation → is_intact q.phase ≡ true → ¬ (p.phase ≡ Free) → is_intact p.phase ≡ true
   pub free : q.generation ≡ p.generation → q.phase ≡ Free → p.phase ≡ Free
 
--- A block stays as it was, but for its readers
+-- A block stays as it was, except for its readers
 pub record Untouched (g g' : World) (b : ℕ) : Type 0 where
   pub owner : g'.owner b ≡ g.owner b
   pub phase : (g'.pins b).phase ≡ (g.pins b).phase
@@ -30,15 +30,15 @@ pub record Untouched (g g' : World) (b : ℕ) : Type 0 where
   pub written : (g'.pins b).written ≡ (g.pins b).written
   pub pages : (p i : ℕ) → g'.pages b p i ≡ g.pages b p i
 
--- A player's lists of what it has programmed and erased get longer at their end alone, and stay where another seat steps
+-- A player's lists of what it has programmed and erased only grow, at their ends, and stay unchanged if another seat steps
 pub record ListsOnward (g g' : World) (id : ℕ) (n : Name) : Type 0 where
   pub programs : Begins (g.programs n) (g'.programs n)
   pub erases : Begins (g.erases n) (g'.erases n)
   pub others : ¬ (g.seat n ≡ id) → (g'.programs n ≡ g.programs n) × (g'.erases n ≡ g.erases n)
 
--- A step of one seat, or of two where one is joined into the other, adds to the history calls of that seat alone, moves each block
--- onward, leaves the blocks of others and the pages that can be read, names pages of its own blocks alone, adds to the lists of that seat's
--- player alone, lets go with a badge copies of all that their player did, and forgets nothing
+-- A step of one seat, or of two if one is joined into the other, adds only calls of that seat to the history, moves each block onward,
+-- leaves the blocks of others and the pages that can be read, names only pages of its own blocks, adds only to the lists of that seat's
+-- player, sends with a badge copies of all that its player did, and forgets nothing
 pub record Onward (z : Numbers) (g g' : World) (id other : ℕ) : Type 0 where
   pub history : Begins g.history g'.history
   pub calls : (t : ℕ) → ¬ (g.seat (Pass t) ≡ id) → calls_of t g'.history ≡ calls_of t g.history

@@ -1,4 +1,4 @@
--- What each kind of step asks of the seat that makes it, and what it tells: the change of that seat's view.
+-- What each kind of step needs from the seat that makes it, and what it records: the change of that seat's view.
 use Rattle.std.specs.Prelude.{◌≡◌, ℕ, ◌+◌, ◌*◌, ◌<◌, ◌≤◌, ◌==◌, ◌&&◌, Bool, true, false, List, [], ◌∷◌, ◌++◌, Option, None, Some, if◌then◌else◌, length, slice_get, slice_set, slice_index}
 use Rattle.atomic_table.specs.Table.{Step, Me}
 use Rattle.geometry.specs.History.{Call, Write, WriteNew, Trim, held, was, Begins}
@@ -23,7 +23,7 @@ use Rattle.flash_rule.specs.Views.{owned_at, without, with_owned, AreOfHosts, ca
 use Rattle.flash_rule.specs.World.{data_word, Intact}
 use Rattle.flash_rule.specs.Rule.{IsValue, Grown}
 
--- a seat that steps on this table: its view, and the slots that it holds, which are none
+-- a seat that steps on this table: its view, and the slots that it holds, of which there are none
 abbrev pub Sitter : Type 0
 Sitter = Me (Unit {0}) View
 
@@ -38,12 +38,12 @@ is_unpinned (Stray b) = false
 abbrev pub Disjoint : {X : Type 0} → List X → List X → Type 0
 Disjoint {X} xs ys = (j k : ℕ) (x : X) → slice_get xs j ≡ Some x → ¬ (slice_get ys k ≡ Some x)
 
--- no entry stands twice in the list
+-- no entry is twice in the list
 abbrev pub Once : {X : Type 0} → List X → Type 0
 Once {X} xs = (j k : ℕ) (x : X) → slice_get xs j ≡ Some x → slice_get xs k ≡ Some x → j ≡ k
 
--- The copies are of another player, the history that was seen begins with the copied one, that player programmed and erased nothing that this one did,
--- and neither of them did anything twice. They begin with the copies of that player that were here before them, if there were any
+-- The copies are of another player, the history that was seen begins with the copied one, that player programmed and erased nothing that
+-- this one did, and neither of them did anything twice. They begin with the copies of that player that were here before, if there were any
 pub record Met (w : View) (c : Carried) : Type 0 where
   pub other : ¬ (w.role ≡ Player c.of)
   pub seen : Begins c.seen w.seen
@@ -53,12 +53,12 @@ pub record Met (w : View) (c : Carried) : Type 0 where
   pub erased_once : Once w.erases × Once c.erases
   pub newer : (o : Carried) → w.older ≡ Some o → o.of ≡ c.of → Grown o c
 
--- If the copies that the first one has are of the second one, the second one's lists begin with them: it has gone on from there
+-- If the first one has copies of the second one, the second one's lists begin with them
 abbrev pub GoesOnFrom : View → View → Type 0
 GoesOnFrom v w = (c : Carried) → v.copy ≡ Some c → w.role ≡ Player c.of → Begins c.programs w.programs × Begins c.erases w.erases
 
--- LOOK. The pass sees the history of this moment, whose calls are of hosts. The word found is 0 where the sector is empty after it, and else names a page with the
--- sector's value, which is now a candidate
+-- LOOK. The pass sees the history of this moment, whose calls are of hosts. The word found is 0 if the sector is empty after that history;
+-- otherwise it names a page with the sector's value, which is now a candidate
 pub record Looked (v : View) (s n : ℕ) (w : View) : Type 0 where
   pub changed : w ≡ record v { seen = w.seen; looks = v.looks + 1; pin = w.pin; known = w.known }
   pub later : Begins v.seen w.seen
@@ -71,11 +71,11 @@ pub record Looked (v : View) (s n : ℕ) (w : View) : Type 0 where
   pub bounded : sum_of w.known ≤ v.numbers.blocks * (2 * v.numbers.endurance)
   pub met : (c : Carried) → v.copy ≡ Some c → Met w c
 
--- what a look tells a pass
+-- what a look records for a pass
 abbrev pub look_told : Step (Unit {0}) → Sitter → ℕ → Sitter → Type 0
 look_told st me n after = (after.1 ≡ me.1) × Looked me.0 st.word n after.0
 
--- PLACE. The pass sees the history of this moment followed by its call; the word swapped out tells what the sector was before
+-- PLACE. The pass sees the history of this moment followed by its call; the word that was exchanged says what the sector was before
 pub record Placed (v : View) (c : Call) (s n : ℕ) (w : View) : Type 0 where
   pub changed : w ≡ record v { seen = w.seen; mine = v.mine ++ c ∷ [] }
   pub before : List Call
@@ -98,24 +98,25 @@ pub record CanPlace (v : View) (s : ℕ) (m : MapWord) (value : List ℕ) : Type
   pub words : (i : ℕ) → i < v.numbers.words → slice_index work.words i ≡ data_word value i
   pub stamp : slice_index work.words v.numbers.words ≡ s
 
--- what the swap of a write tells a pass
+-- what the exchange of a map word by a write records for a pass
 abbrev pub write_told : Step (Unit {0}) → Sitter → ℕ → Sitter → Type 0
 write_told st me n after =
     (after.1 ≡ me.1)
     × ((t : ℕ) (m : MapWord) (value : List ℕ) → me.0.role ≡ Player (Pass t) → st.first ≡ map_word m → FitsMap m → CanPlace me.0 st.word m value → Placed me.0 (Write t st.word value) st.word n after.0)
 
--- what the exchange of a write of an empty sector tells a pass: its map word is expected to be that of no page
+-- what the exchange of a map word by a write of an empty sector records for a pass: the word expected is that of no page
 abbrev pub new_told : Step (Unit {0}) → Sitter → ℕ → Sitter → Type 0
 new_told st me n after =
     (after.1 ≡ me.1)
     × ((t : ℕ) (m : MapWord) (value : List ℕ) → me.0.role ≡ Player (Pass t) → st.first ≡ UNMAPPED → st.second ≡ map_word m → FitsMap m → CanPlace me.0 st.word m value
     → Placed me.0 (WriteNew t st.word value) st.word n after.0)
 
--- what the swap of a trim tells a pass
+-- what the exchange of a map word by a trim records for a pass
 abbrev pub trim_told : Step (Unit {0}) → Sitter → ℕ → Sitter → Type 0
 trim_told st me n after = (after.1 ≡ me.1) × ((t : ℕ) → me.0.role ≡ Player (Pass t) → Placed me.0 (Trim t st.word) st.word n after.0)
 
--- TAKE. A block found free wasn't the seat's, and is now, open and with nothing written; another one is as it was. Its generation is below the endurance
+-- TAKE. A block found free wasn't the seat's, and now it is, open and with nothing written; any other block is unchanged. Its generation is
+-- less than the endurance
 pub record Took (v : View) (b n : ℕ) (w : View) : Type 0 where
   pub state : PinWord
   pub fits : FitsPin state
@@ -125,20 +126,20 @@ pub record Took (v : View) (b n : ℕ) (w : View) : Type 0 where
   pub free : state.phase ≡ Free → w ≡ record v { taken = v.taken + 1; owns = with_owned (record { block = b; phase = Open; generation = state.generation; written = 0 }) v.owns }
   pub denied : ¬ (state.phase ≡ Free) → w ≡ record v { denied = v.denied ++ b ∷ [] }
 
--- what a take tells a pass or a broom
+-- what a take records for a pass or a broom
 abbrev pub take_told : Step (Unit {0}) → Sitter → ℕ → Sitter → Type 0
 take_told st me n after = (after.1 ≡ me.1) × ((b : ℕ) → b < me.0.numbers.blocks → st.word ≡ pin_index me.0.numbers b → Took me.0 b n after.0)
 
--- the first page not written of an owned block, in its generation
+-- the first unwritten page of an owned block, in its generation
 abbrev pub next_page : Owned → MapWord
 next_page o = record { generation = o.generation; block = o.block; page = o.written }
 
--- the words put so far into that page
+-- the words put into that page so far
 abbrev pub words_in : Option Work → Owned → List ℕ
 words_in None o = []
 words_in (Some w) o = if w.page.block == o.block && w.page.page == (next_page o).page then w.words else []
 
--- The work, if there is one, is counted, but for a page of this block
+-- The work, if there is one, is counted, unless it is a page of this block
 abbrev pub SettledBut : View → ℕ → Type 0
 SettledBut v b = (w : Work) (e : Owned) → v.work ≡ Some w → owned_at w.page.block v.owns ≡ Some e → ¬ (w.page.block ≡ b) → w.page.page < e.written
 
@@ -146,7 +147,7 @@ SettledBut v b = (w : Work) (e : Owned) → v.work ≡ Some w → owned_at w.pag
 abbrev pub IsSettled : View → Type 0
 IsSettled v = (w : Work) (e : Owned) → v.work ≡ Some w → owned_at w.page.block v.owns ≡ Some e → w.page.page < e.written
 
--- PUT WORD. The next word of the first page not written of an own open block
+-- PUT WORD. The next word of the first unwritten page of an open block of its own
 pub record CanPut (v : View) (o : Owned) : Type 0 where
   pub own : owned_at o.block v.owns ≡ Some o
   pub opened : o.phase ≡ Open
@@ -154,15 +155,15 @@ pub record CanPut (v : View) (o : Owned) : Type 0 where
   pub short : length (words_in v.work o) ≤ v.numbers.words
   pub settled : SettledBut v o.block
 
--- what storing a word of its next page tells a seat
+-- what storing a word of its next page records for a seat
 abbrev pub put_told : Step (Unit {0}) → Sitter → ℕ → Sitter → Type 0
 put_told st me n after =
     (after.1 ≡ me.1)
     × ((o : Owned) → CanPut me.0 o → st.word ≡ page_index me.0.numbers o.block (next_page o).page + length (words_in me.0.work o)
     → after.0 ≡ record me.0 { work = Some (record { page = next_page o; words = words_in me.0.work o ++ st.first ∷ [] }) })
 
--- The copies are of another player, which programmed no page that this one did, and has not erased this page's block since its generation began;
--- and neither of them programmed a page twice. They begin with the copies of that player that were here before them, if there were any
+-- The copies are of another player, which programmed no page that this one did and has not erased this page's block since its generation
+-- began; and neither of them programmed a page twice. They begin with the copies of that player that were here before, if there were any
 pub record Spared (v : View) (m : MapWord) (c : Carried) : Type 0 where
   pub other : ¬ (v.role ≡ Player c.of)
   pub programs : Disjoint v.programs c.programs
@@ -185,26 +186,26 @@ pub record CanCount (v : View) (o : Owned) (w : Work) : Type 0 where
   pub page : w.page ≡ next_page o
   pub full : length w.words ≡ v.numbers.words + 1
 
--- what a count tells a seat
+-- what a count records for a seat
 abbrev pub count_told : Step (Unit {0}) → Sitter → ℕ → Sitter → Type 0
 count_told st me n after =
     (after.1 ≡ me.1)
     × ((o : Owned) (w : Work) → CanCount me.0 o w → st.word ≡ pin_index me.0.numbers o.block
     → after.0 ≡ record me.0 { programs = me.0.programs ++ w.page ∷ []; owns = with_owned (record o { written = o.written + 1 }) me.0.owns })
 
--- CLOSE. The block is nobody's from now on, closed as it was; nothing uncounted is left
+-- CLOSE. The block has no owner from now on, and is closed with these pages written; nothing uncounted is left
 pub record CanClose (v : View) (o : Owned) : Type 0 where
   pub own : owned_at o.block v.owns ≡ Some o
   pub opened : o.phase ≡ Open
   pub settled : IsSettled v
 
--- what a close tells a seat
+-- what a close records for a seat
 abbrev pub close_told : Step (Unit {0}) → Sitter → ℕ → Sitter → Type 0
 close_told st me n after =
     (after.1 ≡ me.1)
     × ((o : Owned) → CanClose me.0 o → st.word ≡ pin_index me.0.numbers o.block → after.0 ≡ record me.0 { owns = without o.block me.0.owns; work = None; ceded = me.0.ceded ++ record o { phase = Closed } ∷ [] })
 
--- PIN. The candidate is accepted where the block is intact in its generation, else the pin is stray. The block's age is known
+-- PIN. The candidate is accepted if the block is intact in its generation; otherwise the pin is stray. The block's age is known
 pub record Pinned (v : View) (m : MapWord) (value : List ℕ) (n : ℕ) (w : View) : Type 0 where
   pub state : PinWord
   pub fits : FitsPin state
@@ -215,7 +216,7 @@ pub record Pinned (v : View) (m : MapWord) (value : List ℕ) (n : ℕ) (w : Vie
   pub rises : sum_of v.known ≤ sum_of w.known
   pub bounded : sum_of w.known ≤ v.numbers.blocks * (2 * v.numbers.endurance)
 
--- what a pin tells a pass
+-- what a pin records for a pass
 abbrev pub pin_told : Step (Unit {0}) → Sitter → ℕ → Sitter → Type 0
 pin_told st me n after =
     (after.1 ≡ me.1) × ((m : MapWord) (value : List ℕ) → me.0.pin ≡ Candidate m value → st.word ≡ pin_index me.0.numbers m.block → Pinned me.0 m value n after.0)
@@ -231,7 +232,8 @@ IsOn (Stray c) b = c ≡ b
 abbrev pub unpin_told : Step (Unit {0}) → Sitter → ℕ → Sitter → Type 0
 unpin_told st me n after = (after.1 ≡ me.1) × ((b : ℕ) → IsOn me.0.pin b → st.word ≡ pin_index me.0.numbers b → after.0 ≡ record me.0 { pin = Clear })
 
--- CALL. The pass sees a history that begins with all that it had seen, followed by its call; the answer is what the sector was before it
+-- CALL. The pass sees a history that begins with all that it had seen, followed by its call; what is returned is what the sector was before
+-- it
 pub record Called (v : View) (call : Call) (s : ℕ) (answer : Was) (w : View) : Type 0 where
   pub changed : w ≡ record v { seen = w.seen; mine = v.mine ++ call ∷ [] }
   pub before : List Call

@@ -1,4 +1,4 @@
--- The rule of the shared table: the lawful map, the lawful pins, the lawful blocks, dead pages, ages, and what was programmed and erased listed once.
+-- The rule of the shared table: the lawful map, pins and blocks, dead pages, ages, and that what was programmed and erased is listed once.
 use Rattle.std.specs.Prelude.{◌≡◌, ℕ, ◌+◌, ◌*◌, ◌^◌, ◌<◌, ◌≤◌, ◌⊎◌, true, false, List, [], Option, None, Some, length, slice_index, slice_get}
 use mathlib.Core.Option.{some}
 use lib.ListN.{get_elem?}
@@ -29,8 +29,8 @@ pub record IsValue (z : Numbers) (value : List ℕ) : Type 0 where
   pub long : length value ≡ WORD_BYTES * z.words
   pub bytes : (k : ℕ) → slice_index value k < 2 ^ 8
 
--- The sector's map word names this page: it holds the sector's value and its stamp, it is written, and its block is in the
--- generation named, in use and not drained
+-- The sector's map word names this page: it has the sector's value and its stamp, it is written, and its block is in the generation named,
+-- in use and not drained
 pub record IsCurrent (z : Numbers) (g : World) (s : ℕ) (m : MapWord) : Type 0 where
   pub value : List ℕ
   pub here : held z.sectors g.history s ≡ Some value
@@ -42,14 +42,14 @@ pub record IsCurrent (z : Numbers) (g : World) (s : ℕ) (m : MapWord) : Type 0 
   pub whole : IsValue z value
   pub stamp : g.pages m.block m.page z.words ≡ s
 
--- LAWFUL MAP. A sector that no map word maps is empty after the history, and a mapped one names the page that holds its value
+-- LAWFUL MAP. A sector that no map word maps is empty after the history, and a mapped one names the page that has its value
 pub record LawfulSector (z : Numbers) (g : World) (s : ℕ) : Type 0 where
   pub empty : g.map s ≡ None → held z.sectors g.history s ≡ None
   pub named : (m : MapWord) → g.map s ≡ Some m → IsCurrent z g s m
 
--- LAWFUL BLOCKS, seen from the block. As many readers are counted as passes have an accepted or stray pin on the block; pages
--- written and generation are in range, and a free block has none written; where nobody fills a page, those not written are
--- all ones; and a block that is open, victim or erasing stands among the blocks of its owner
+-- LAWFUL BLOCKS, seen from the block. It has as many readers as passes have an accepted or stray pin on it; pages written and generation
+-- are in range, and a free block has none written; if nobody fills a page, the unwritten ones are all ones; and a block that is open,
+-- victim or erasing is among the blocks of its owner
 pub record LawfulBlock (z : Numbers) (g : World) (vs : List View) (b : ℕ) : Type 0 where
   pub readers : (g.pins b).readers ≡ total (pins_on b) vs
   pub written : (g.pins b).written ≤ z.pages
@@ -68,14 +68,15 @@ Programs z g n list =
     (k : ℕ) (m : MapWord) → slice_get list k ≡ Some m
     → (m.block < z.blocks) × IsProgrammed (g.pins m.block) m × (g.programmer m.block m.page m.generation ≡ Some (n, k))
 
--- ERASES, LISTED ONCE. Each entry is a generation of a block that is over or being ended, and its one eraser is this player, by this entry
+-- ERASES, LISTED ONCE. Each entry is a generation of a block that has ended or is being ended, and its one eraser is this player, by this
+-- entry
 abbrev pub Erases : Numbers → World → Name → List Cycle → Type 0
 Erases z g n list =
     (k : ℕ) (c : Cycle) → slice_get list k ≡ Some c
     → (c.block < z.blocks) × (2 * c.generation < age_of (g.pins c.block)) × (g.eraser c.block c.generation ≡ Some (n, k))
 
--- LAWFUL PINS. An accepted pin's block is intact in its generation and its page holds the value. A candidate's block is in no earlier
--- generation, isn't free in that one, and where it is intact in it the page holds the value; the age known of it is just that of the look
+-- LAWFUL PINS. An accepted pin's block is intact in its generation and its page has the value. A candidate's block is in no earlier
+-- generation, isn't free in that one, and if it is intact in it, the page has the value; the age known for it is the one at the look
 pub record IsAccepted (z : Numbers) (g : World) (m : MapWord) (value : List ℕ) : Type 0 where
   pub block : m.block < z.blocks
   pub intact : Intact (g.pins m.block) m.generation
@@ -83,8 +84,8 @@ pub record IsAccepted (z : Numbers) (g : World) (m : MapWord) (value : List ℕ)
   pub stands : HoldsValue z (g.pages m.block m.page) value
   pub whole : IsValue z value
 
--- The page that a look named. Its block has reached that generation, and while it is intact in it, the page is written and holds the value; once
--- the block has gone on, nothing is said of the page
+-- The page that a look named. Its block has reached that generation, and while it is intact in it, the page is written and has the value;
+-- after that nothing is said of the page
 pub record IsCandidate (z : Numbers) (g : World) (known : List ℕ) (m : MapWord) (value : List ℕ) : Type 0 where
   pub block : m.block < z.blocks
   pub reached : m.generation ≤ (g.pins m.block).generation
@@ -93,7 +94,7 @@ pub record IsCandidate (z : Numbers) (g : World) (known : List ℕ) (m : MapWord
   pub whole : IsValue z value
   pub age : slice_index known m.block ≡ 2 * m.generation
 
--- What holds of the page that a pass reads: nothing where it reads none, and of a stray pin that its block is one of the device
+-- What holds of the page that a pass reads: nothing if it reads none, and for a stray pin that its block is one of the device
 abbrev pub LawfulPin : Numbers → World → List ℕ → Pin → Type 0
 LawfulPin z g known Clear = Unit {0}
 LawfulPin z g known (Candidate m value) = IsCandidate z g known m value
@@ -105,8 +106,8 @@ abbrev pub IsDealt : World → Name → Type 0
 IsDealt g (Pass t) = t < g.passes
 IsDealt g (Broom i) = i < g.brooms
 
--- NOTES. The player of the copies has been handed out, and is another one. What it had seen, by the copy, begins the history; the copied lists
--- begin that player's lists, so no entry is left out of them; and each of their entries is that player's, by its place
+-- NOTES. The player of the copies has been handed out, and is another one. What it had seen, by the copy, begins the history; the copied
+-- lists begin that player's lists, so no entry is missing from them; and each of their entries is that player's, by its index
 pub record LawfulCopy (z : Numbers) (g : World) (role : Role) (c : Carried) : Type 0 where
   pub dealt : IsDealt g c.of
   pub other : ¬ (role ≡ Player c.of)
@@ -126,8 +127,8 @@ abbrev pub ReclaimsOne : List Owned → Type 0
 ReclaimsOne owns =
     (b c : ℕ) (o e : Owned) → owned_at b owns ≡ Some o → owned_at c owns ≡ Some e → is_reclaimed o.phase ≡ true → is_reclaimed e.phase ≡ true → b ≡ c
 
--- What a view says by itself, whatever the table is: the table's numbers, which fields its role uses, that of its own blocks it drains or
--- erases at most one, and that a player with a guest has its own badge too
+-- What a view says by itself, whatever the table is: the table's numbers, which fields its role uses, that it drains or erases at most one
+-- of its own blocks, and that a player with a guest also has its own badge
 pub record LawfulKind (z : Numbers) (v : View) : Type 0 where
   pub numbers : is_live_role v.role ≡ true → v.numbers ≡ z
   pub known : is_pass v.role ≡ true → length v.known ≡ z.blocks
@@ -138,9 +139,9 @@ pub record LawfulKind (z : Numbers) (v : View) : Type 0 where
   pub reclaims : ReclaimsOne v.owns
   pub host : (n m : Name) → v.role ≡ Player n → v.guest ≡ Some m → v.whole ≡ true
 
--- What a view knows: it has seen a beginning of the history, its pin is lawful, no block is younger than known, and its lists and copies are
--- lawful. The copies that it had before begin those that it has, if both are of one player; and where that player's badge, or the seat's own,
--- is on a note with copies of that player, those begin with the seat's
+-- What a view knows: it has seen a beginning of the history, its pin is lawful, no block is younger than known, and its lists and copies
+-- are lawful. If both the copies that it had before and those that it has are of one player, the latter begin with the former; and if that
+-- player's badge, or the seat's own, is on a note with copies of that player, those begin with the seat's
 pub record LawfulKnowledge (z : Numbers) (g : World) (v : View) : Type 0 where
   pub seen : Begins v.seen g.history
   pub pin : LawfulPin z g v.known v.pin
@@ -158,9 +159,9 @@ pub record IsFilling (doing : Option Work) (b p : ℕ) : Type 0 where
   pub block : work.page.block ≡ b
   pub page : work.page.page ≡ p
 
--- LAWFUL BLOCKS AND DEAD PAGES, seen from the owner. The block is the seat's alone, in the phase and generation and with the pages
--- written that the seat knows. Pages of an open block that are neither written nor being filled are all ones; no map word
--- names a cleared page of a victim; the words of an erasing block are all ones as far as it was wiped
+-- LAWFUL BLOCKS AND DEAD PAGES, seen from the owner. The block is the seat's alone, in the phase and generation and with the pages written
+-- that the seat knows. Pages of an open block that are neither written nor being filled are all ones; no map word names a cleared page of a
+-- victim; the words of an erasing block that were wiped are all ones
 pub record LawfulOwned (z : Numbers) (g : World) (id : ℕ) (doing : Option Work) (cleared wiped : ℕ) (b : ℕ) (o : Owned) : Type 0 where
   pub block : o.block ≡ b
   pub low : b < z.blocks
@@ -173,7 +174,8 @@ pub record LawfulOwned (z : Numbers) (g : World) (id : ℕ) (doing : Option Work
   pub dead : o.phase ≡ Victim → (p s : ℕ) → p < cleared → s < z.sectors → ¬ (g.map s ≡ Some (record { generation = o.generation; block = b; page = p }))
   pub clean : o.phase ≡ Erasing → (p i : ℕ) → p < z.pages → i ≤ z.words → p * (z.words + 1) + i < wiped → g.pages b p i ≡ blank_word
 
--- WORK. Its page is of an own open block in its generation. It is counted, with all its words, or it is the first page not written. Its words stand in the page
+-- WORK. Its page is of an open block of its own in its generation. It is counted, with all its words, or it is the first unwritten page.
+-- Its words are in the page
 pub record LawfulWork (z : Numbers) (g : World) (owns : List Owned) (w : Work) : Type 0 where
   pub entry : Owned
   pub own : owned_at w.page.block owns ≡ Some entry
@@ -185,7 +187,7 @@ pub record LawfulWork (z : Numbers) (g : World) (owns : List Owned) (w : Work) :
   pub full : w.page.page < entry.written → length w.words ≡ z.words + 1
   pub stands : (i : ℕ) → i < length w.words → g.pages w.page.block w.page.page i ≡ slice_index w.words i
 
--- SOURCE. It is the first page not cleared of an own victim in its generation, written, with this stamp and this value
+-- SOURCE. It is the first uncleared page of a victim of its own in its generation, written, with this stamp and this value
 pub record LawfulSource (z : Numbers) (g : World) (owns : List Owned) (cleared : ℕ) (x : Source) : Type 0 where
   pub entry : Owned
   pub own : owned_at x.page.block owns ≡ Some entry
@@ -196,8 +198,9 @@ pub record LawfulSource (z : Numbers) (g : World) (owns : List Owned) (cleared :
   pub stamp : g.pages x.page.block x.page.page z.words ≡ x.stamp
   pub value : (value : List ℕ) → x.value ≡ Some value → HoldsValue z (g.pages x.page.block x.page.page) value × IsValue z value
 
--- What is a seat's alone: its name, its calls in the history, its lists of what it programmed and erased, which are all that its player did,
--- its blocks, its work, its source and its badges. A note is what its badge has with it, and a badge at home has nothing with it
+-- What belongs to one seat alone: its name, its calls in the history, its lists of what it programmed and erased, which are all that its
+-- player did, its blocks, its work, its source and its badges. A note is what its badge has with it, and a badge at home has nothing with
+-- it
 pub record LawfulHolding (z : Numbers) (g : World) (id : ℕ) (v : View) : Type 0 where
   pub name : (n : Name) → v.role ≡ Player n → (g.seat n ≡ id) × IsDealt g n
   pub calls : (t : ℕ) → v.role ≡ Player (Pass t) → (calls_of t g.history ≡ v.mine) × (calls_of t v.seen ≡ v.mine)
@@ -211,14 +214,14 @@ pub record LawfulHolding (z : Numbers) (g : World) (id : ℕ) (v : View) : Type 
   pub home : (n : Name) → v.role ≡ Player n → v.whole ≡ true → g.carries n ≡ None
   pub dealer : v.role ≡ Dealer → (id ≡ 0) × (v.passes ≡ g.passes) × (v.brooms ≡ g.brooms)
 
--- What holds of a seat: of its kind, of what it knows, and of what is its alone
+-- What holds of a seat: of its kind, of what it knows, and of what belongs to it alone
 pub record LawfulView (z : Numbers) (g : World) (id : ℕ) (v : View) : Type 0 where
   pub kind : LawfulKind z v
   pub knowledge : LawfulKnowledge z g v
   pub holding : LawfulHolding z g id v
 
--- The rule, over the sectors, the calls, the blocks and the seats. Each call of the history is of a host, passes not handed out
--- yet have no calls, the seats stand for as many passes as there are hosts, and the blocks given up are as they were left
+-- The rule, over the sectors, the calls, the blocks and the seats. Each call of the history is of a host, passes not handed out yet have no
+-- calls, the seats count for as many passes as there are hosts, and the blocks given up are as they were given up
 pub record Lawful (z : Numbers) (g : World) (vs : List View) : Type 0 where
   pub limits : IsWithinLimits z
   pub sectors : (s : ℕ) → s < z.sectors → LawfulSector z g s

@@ -20,7 +20,7 @@ use Rattle.flash_rule.specs.Rule.{Lawful}
 abbrev pub Ruled : Numbers → State (Unit {0}) View → Type 0
 Ruled z s = (g : World) × Fits z g.map g.pins g.pages s.words × Lawful z g s.views
 
--- a seat in a role, that knows nothing yet
+-- a seat in a role that knows nothing yet
 abbrev pub newcomer : Numbers → Role → View
 newcomer z role =
     record {
@@ -60,7 +60,7 @@ newcomer z role =
 abbrev pub spare : ℕ → Owned
 spare b = record { block = b; phase = Open; generation = 0; written = 0 }
 
--- so many of them, from one on
+-- this many of them, from one on
 abbrev pub spares : ℕ → ℕ → List Owned
 spares zero from = []
 spares (suc n) from = spare from ∷ spares n (from + 1)
@@ -95,7 +95,7 @@ opening_words z =
     (replicate z.sectors 0 ++ (replicate (z.blocks - z.brooms) (phase_bits Free) ++ replicate z.brooms (phase_bits Open)))
     ++ replicate (z.blocks * z.pages * (z.words + 1)) blank_word
 
--- the player of a role; only a player's is asked for
+-- the player of a role; used only for a role that has one
 abbrev pub name_of : Role → Name
 name_of (Player n) = n
 name_of Dealer = Pass 0
@@ -106,7 +106,7 @@ name_of Gone = Pass 0
 abbrev pub carried : View → Carried
 carried v = record { of = name_of v.role; seen = v.seen; programs = v.programs; erases = v.erases }
 
--- LEND. A player's badge goes with a note that carries copies of its lists
+-- LEND. A player's badge goes on a note that carries copies of its lists
 abbrev pub lender : View → View
 lender v = record v { whole = false }
 
@@ -118,7 +118,7 @@ lent_note v = record (newcomer v.numbers Note) { guest = Some (name_of v.role); 
 abbrev pub host_of : View → View → View
 host_of v note = record v { guest = note.guest; copy = note.copy; older = v.copy }
 
--- GIVE BACK. The other's badge goes with a note that carries copies of this player's lists
+-- GIVE BACK. The other's badge goes on a note that carries copies of this player's lists
 abbrev pub giver : View → View
 giver v = record v { guest = None }
 

@@ -1,4 +1,4 @@
--- What the fields of a view say, each by itself.
+-- What the fields of a view say, each on its own.
 use Rattle.std.specs.Prelude.{ℕ, ◌+◌, ◌-◌, ◌<◌, ◌==◌, All, Bool, true, false, List, [], ◌∷◌, Option, None, Some, if◌then◌else◌}
 use Rattle.geometry.specs.History.{Call, Write, WriteNew, Trim}
 use Rattle.geometry.specs.Limits.{Numbers}
@@ -11,7 +11,7 @@ use Rattle.flash_rule.specs.declared.facts.Pin.{Pin}
 use Rattle.flash_rule.specs.declared.facts.Pin.TheVariants.{Clear, Candidate, Accepted, Stray}
 use Rattle.flash_rule.specs.declared.view.View.{View}
 
--- one or none
+-- one or none, as a number
 abbrev pub one_if : Bool → ℕ
 one_if true = 1
 one_if false = 0
@@ -58,14 +58,14 @@ may_own Dealer = true
 may_own Note = false
 may_own Gone = false
 
--- whether two names are one
+-- whether two names are equal
 abbrev pub same_name : Name → Name → Bool
 same_name (Pass t) (Pass u) = t == u
 same_name (Pass t) (Broom j) = false
 same_name (Broom i) (Pass u) = false
 same_name (Broom i) (Broom j) = i == j
 
--- how many passes a role stands for: a pass is one, and the dealer is as many as it has still to hand out
+-- for how many passes a role counts: a pass for one, and the dealer for as many as it still has to hand out
 abbrev pub role_weight : ℕ → Role → ℕ → ℕ
 role_weight hosts (Player (Pass t)) passes = 1
 role_weight hosts (Player (Broom i)) passes = 0
@@ -73,7 +73,7 @@ role_weight hosts Dealer passes = hosts - passes
 role_weight hosts Note passes = 0
 role_weight hosts Gone passes = 0
 
--- how many passes stand behind a seat
+-- for how many passes a seat counts
 abbrev pub weight : Numbers → View → ℕ
 weight z v = role_weight z.hosts v.role v.passes
 
@@ -84,7 +84,7 @@ pin_is_on b (Candidate m value) = false
 pin_is_on b (Accepted m value) = m.block == b
 pin_is_on b (Stray c) = c == b
 
--- how many readers a seat is to a block: one where its pin is on it, and else none
+-- how many readers a seat is for a block: one if its pin is on it, and otherwise none
 abbrev pub pins_on : ℕ → View → ℕ
 pins_on b v = one_if (pin_is_on b v.pin)
 

@@ -1,4 +1,4 @@
--- What the words and all seats of the table stand for. It exists in the rule alone, which says that there is one that the words fit.
+-- What the words and all seats of the table represent. It exists only in the rule, which says that there is one that the words fit.
 use Rattle.std.specs.Prelude.{◌≡◌, ℕ, ◌+◌, ◌*◌, ◌<◌, ◌≤◌, ◌==◌, Bool, true, false, List, Option, None, Some, if◌then◌else◌, length, slice_index}
 use Rattle.geometry.specs.History.{Call}
 use Rattle.geometry.specs.Limits.{Numbers, table_words_of}
@@ -15,7 +15,7 @@ use Rattle.flash_rule.specs.declared.facts.Name.{Name}
 use Rattle.flash_rule.specs.declared.carried.Carried.{Carried}
 use Rattle.flash_rule.specs.Views.{same_name}
 
--- What the words and all seats stand for at one moment: the history, the map, the states and pages of the blocks, and whose everything is
+-- What the words and all seats represent at one moment: the history, the map, the states and pages of the blocks, and who owns or did what
 pub record World : Type 0 where
   -- the calls so far
   pub history : List Call
@@ -23,9 +23,9 @@ pub record World : Type 0 where
   pub map : ℕ → Option MapWord
   -- the state of a block
   pub pins : ℕ → PinWord
-  -- the words of a page, by block, page and place
+  -- the words of a page, by block, page and index
   pub pages : ℕ → ℕ → ℕ → ℕ
-  -- the seat that owns a block, where one does
+  -- the seat that owns a block, if one does
   pub owner : ℕ → ℕ
   -- how many passes and brooms have been handed out, and the seat of each
   pub passes : ℕ
@@ -119,7 +119,7 @@ half_cycle Retired = 1
 abbrev pub age_of : PinWord → ℕ
 age_of p = 2 * p.generation + half_cycle p.phase
 
--- the block is in this generation, with its written pages to be read
+-- the block is in this generation, and its written pages can be read
 pub record Intact (p : PinWord) (generation : ℕ) : Type 0 where
   pub same : p.generation ≡ generation
   pub phase : is_intact p.phase ≡ true
@@ -128,7 +128,7 @@ pub record Intact (p : PinWord) (generation : ℕ) : Type 0 where
 unfoldable pub data_word : List ℕ → ℕ → ℕ
 data_word value i = word_of value i
 
--- a page holds a value where its data words are the value's
+-- a page has a value if its data words are the value's
 abbrev pub HoldsValue : Numbers → (ℕ → ℕ) → List ℕ → Type 0
 HoldsValue z page value = (i : ℕ) → i < z.words → page i ≡ data_word value i
 
@@ -136,7 +136,7 @@ HoldsValue z page value = (i : ℕ) → i < z.words → page i ≡ data_word val
 abbrev pub blank_word : ℕ
 blank_word = 18446744073709551615
 
--- a page is blank where its words and its stamp are all ones
+-- a page is blank if its words and its stamp are all ones
 abbrev pub IsBlank : Numbers → (ℕ → ℕ) → Type 0
 IsBlank z page = (i : ℕ) → i ≤ z.words → page i ≡ blank_word
 
@@ -145,7 +145,7 @@ abbrev pub sector_word : Option MapWord → ℕ
 sector_word None = 0
 sector_word (Some m) = map_word m
 
--- the words are those of the map, of the pins and of the pages, each at its place
+-- the words are those of the map, of the pins and of the pages, each at its index
 pub record Fits (z : Numbers) (m : ℕ → Option MapWord) (q : ℕ → PinWord) (r : ℕ → ℕ → ℕ → ℕ) (words : List ℕ) : Type 0 where
   pub size : length words ≡ table_words_of z.blocks z.pages z.words z.sectors
   pub sectors : (s : ℕ) → s < z.sectors → slice_index words s ≡ sector_word (m s)

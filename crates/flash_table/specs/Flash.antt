@@ -71,27 +71,27 @@ first_view z t = record (newcomer z (Player (APass t))) { known = replicate z.bl
 abbrev pub spare_of : Numbers → ℕ → ℕ
 spare_of z i = z.blocks - z.brooms + i
 
--- what a broom with this number knows at first: it owns its spare alone
+-- what a broom with this number knows at first: it owns only its spare
 abbrev pub first_broom : Numbers → ℕ → View
 first_broom z i = record (newcomer z (Player (ABroom i))) { owns = spare (spare_of z i) ∷ []; whole = true }
 
--- The blocks of a broom that has done nothing yet: its spare alone
+-- The blocks of a broom that has done nothing yet: only its spare
 abbrev pub first_blocks : Numbers → ℕ → BroomBlocks
 first_blocks z i = record { destination = None; spare = Some (record { block = spare_of z i; generation = 0; written = 0 }); reclaiming = Nothing }
 
--- A take tells: the block is the pass's, open and with nothing written, in some generation below the endurance
+-- A take records: the block is the pass's, open and with nothing written, in some generation less than the endurance
 pub record Taken (v : View) (block : ℕ) (w : View) (opened : Option OpenBlock) : Type 0 where
   pub generation : ℕ
   pub young : generation < v.numbers.endurance
   pub opens : opened ≡ Some (record { block = block; generation = generation; written = 0 })
   pub changed : w ≡ record v { taken = v.taken + 1; owns = owned_of (record { block = block; generation = generation; written = 0 }) ∷ [] }
 
--- or it was taken already, and the pass has nothing open
+-- or it was taken already, and the pass has no open block
 pub record Denied (v : View) (block : ℕ) (w : View) (opened : Option OpenBlock) : Type 0 where
   pub nothing : opened ≡ None
   pub changed : w ≡ record v { denied = v.denied ++ block ∷ [] }
 
--- A refused pin tells: the pin is stray, and the ages known have grown, within their bound
+-- A refused pin records: the pin is stray, and the ages known have grown, within their bound
 pub record Strayed (v : View) (block : ℕ) (w : View) : Type 0 where
   pub changed : w ≡ record v { pin = Stray block; known = w.known }
   pub rises : sum_of v.known < sum_of w.known

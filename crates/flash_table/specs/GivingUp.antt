@@ -34,6 +34,6 @@ left_retired v o = record v { owns = without o.block v.owns; ceded = v.ceded ++ 
 abbrev pub closed_pass : View → Option OpenBlock → View
 closed_pass v opened = record v { owns = []; work = None; ceded = v.ceded ++ closed_list opened }
 
--- a broom closed its destination and then its spare, where it had them
+-- a broom closed its destination and then its spare, if it had them
 abbrev pub closed_broom : View → BroomBlocks → View
 closed_broom v x = record v { owns = []; work = None; ceded = (v.ceded ++ closed_list x.destination) ++ closed_list x.spare }

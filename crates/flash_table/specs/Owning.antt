@@ -19,7 +19,7 @@ owned_of o = record { block = o.block; phase = Open; generation = o.generation; 
 abbrev pub closed_as : OpenBlock → Owned
 closed_as o = record { block = o.block; phase = Closed; generation = o.generation; written = o.written }
 
--- what a seat with this open block, or none, gives up by closing it
+-- what a seat with this open block, or none, gives up when it closes it
 abbrev pub closed_list : Option OpenBlock → List Owned
 closed_list None = []
 closed_list (Some o) = closed_as o ∷ []
@@ -39,21 +39,21 @@ reclaimed_list reclaiming.Nothing = []
 reclaimed_list (reclaiming.Draining o) = reclaimed_as Victim o ∷ []
 reclaimed_list (reclaiming.Erasing o) = reclaimed_as Erasing o ∷ []
 
--- a broom's blocks in a row: its destination, its spare, and the one that it drains or erases
+-- a broom's blocks as a list: its destination, its spare, and the one that it drains or erases
 abbrev pub blocks_list : BroomBlocks → List Owned
 blocks_list x = (owned_list x.destination ++ owned_list x.spare) ++ reclaimed_list x.reclaiming
 
--- no block stands twice in the row
+-- no block is twice in the list
 abbrev pub AreApart : List Owned → Type 0
 AreApart [] = Unit {0}
 AreApart (o ∷ os) = (owned_at o.block os ≡ None) × AreApart os
 
--- That no block stands twice in a row is a fact that has one proof at most
+-- That no block is twice in a list is a fact with at most one proof
 pub AreApart-prop : (row : List Owned) → IsProp (AreApart row)
 AreApart-prop [] = hlevel props
 AreApart-prop (o ∷ os) = let rest = AreApart-prop os in hlevel (props, rest)
 
--- A seat owns the blocks of this row, each once, and no others
+-- A seat owns the blocks of this list, each once, and no others
 pub record OwnsJust (row owns : List Owned) : Type 0 where
   pub same : (b : ℕ) → owned_at b owns ≡ owned_at b row
   pub apart : AreApart row

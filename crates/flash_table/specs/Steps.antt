@@ -1,4 +1,4 @@
--- What the steps of a seat need, and what they leave, in words of the blocks of its own.
+-- What the steps of a seat need, and what they leave, in terms of its own blocks.
 use Rattle.std.specs.Prelude.{◌≡◌, ℕ, ◌+◌, ◌<◌, ◌≤◌, Bool, List, [], ◌∷◌, ◌++◌, Option, None, Some, MatchBool, length, slice_get}
 use Rattle.geometry.specs.Geometry.{blocks_of, pages_of}
 use Rattle.geometry.specs.MapWords.{map_word}
@@ -35,7 +35,7 @@ use Rattle.geometry.specs.declared.answer.Was.{Was}
 abbrev pub HasNumber : ℕ → Pass → Type 0
 HasNumber t pass = (view_of pass).role ≡ Player (APass t)
 
--- the pass has made a call, and was told what its sector was
+-- the pass has made a call, and knows what its sector was
 abbrev pub HasCalled : Pass → Call → ℕ → Was → Pass → Type 0
 HasCalled old call s answer new = Called (view_of old) call s answer (view_of new)
 
@@ -43,35 +43,35 @@ HasCalled old call s answer new = Called (view_of old) call s answer (view_of ne
 abbrev pub PlaceTold : (ℕ → List ℕ → Call) → Pass → ℕ → MapWord → Was → Pass → Type 0
 PlaceTold call old s page answer new = (t : ℕ) (value : List ℕ) → HasNumber t old → CanPlace (view_of old) s page value → HasCalled old (call t value) s answer new
 
--- what the take of a block tells by its answer
+-- what the take of a block records, by its result
 abbrev pub TakeTold : View → ℕ → Bool → View → Option OpenBlock → Type 0
 TakeTold v block result w opened = MatchBool result (Taken v block w opened) (Denied v block w opened)
 
--- a pass of this number of an unused device
+-- a pass with this number of an unused device
 abbrev pub IsNewPass : Flash → ℕ → Pass → Type 0
 IsNewPass f t p = IsPassOf f p × (view_of p ≡ first_view (device f) t) × (opened_of p ≡ None)
 
--- a broom's seat of this number of an unused device
+-- a broom's seat with this number of an unused device
 abbrev pub IsNewBroom : Flash → ℕ → BroomSeat → Type 0
 IsNewBroom f i b = IsBroomOf f b × (broom_view b ≡ first_broom (device f) i) × (own_blocks b ≡ first_blocks (device f) i)
 
--- a note is the one that this seat has lent, back with what another player knows
+-- a note is the one that this seat has lent, and is back with what another player knows
 abbrev pub IsBack : View → View → Type 0
 IsBack v note = (n : Name) × (c : Carried) × (v.role ≡ Player n) × (note.guest ≡ Some n) × (note.copy ≡ Some c) × (¬ (v.role ≡ Player c.of))
 
--- this word is the next one of the first page not written of the open block
+-- this word is the next one of the first unwritten page of the open block
 abbrev pub IsNextWord : Geometry → View → Option OpenBlock → ℕ → Type 0
 IsNextWord geo v opened i = (o : OpenBlock) × (opened ≡ Some o) × CanPut v (owned_of o) × (i ≡ length (words_in v.work (owned_of o))) × (o.block < blocks_of geo)
 
--- a word was put behind those of the first page not written of the open block
+-- a word was put behind those of the first unwritten page of the open block
 abbrev pub HasPut : View → Option OpenBlock → ℕ → View → Type 0
 HasPut v opened word w = (o : OpenBlock) → opened ≡ Some o → w ≡ record v { work = Some (record { page = next_page (owned_of o); words = words_in v.work (owned_of o) ++ word ∷ [] }) }
 
--- the first page not written of the open block is filled
+-- the first unwritten page of the open block is filled
 abbrev pub IsFilled : Geometry → View → Option OpenBlock → Type 0
 IsFilled geo v opened = (o : OpenBlock) × (x : Work) × (opened ≡ Some o) × CanCount v (owned_of o) x × (o.written < pages_of geo) × (o.block < blocks_of geo)
 
--- a page more is written of the destination; the broom's other blocks are as they were
+-- one page more of the destination is written; the broom's other blocks are unchanged
 abbrev pub HasOneMore : BroomBlocks → BroomBlocks → Type 0
 HasOneMore before after = (o : OpenBlock) → before.destination ≡ Some o → after ≡ record before { destination = Some (record o { written = o.written + 1 }) }
 
@@ -79,11 +79,11 @@ HasOneMore before after = (o : OpenBlock) → before.destination ≡ Some o → 
 abbrev pub CanGiveUp : Geometry → View → Option OpenBlock → Type 0
 CanGiveUp geo v opened = (o : OpenBlock) × (opened ≡ Some o) × CanClose v (owned_of o) × (o.block < blocks_of geo)
 
--- a word says of its block that it is intact in this generation, where it says so of a block at all
+-- this is the word of a block that is intact in this generation
 abbrev pub SaysIntact : ℕ → ℕ → Type 0
 SaysIntact word generation = (state : PinWord) × FitsPin state × (pin_word state ≡ word) × Intact state generation
 
--- and that it isn't
+-- a block with this word isn't intact in this generation
 abbrev pub DeniesIntact : ℕ → ℕ → Type 0
 DeniesIntact word generation = (state : PinWord) → FitsPin state → pin_word state ≡ word → ¬ Intact state generation
 
@@ -91,11 +91,11 @@ DeniesIntact word generation = (state : PinWord) → FitsPin state → pin_word 
 abbrev pub IsAccepted : View → MapWord → List ℕ → View → Type 0
 IsAccepted v page value w = w ≡ record v { pin = pin.Accepted page value }
 
--- the candidate's pin was accepted, or has gone astray
+-- the candidate's pin was accepted, or it is stray
 abbrev pub PinTold : View → MapWord → Bool → View → Type 0
 PinTold v page result w = (value : List ℕ) → v.pin ≡ pin.Candidate page value → MatchBool result (IsAccepted v page value w) (Strayed v page.block w)
 
--- nobody whose knowledge the pass carries has programmed the page again that it has pinned
+-- nobody whose knowledge the pass has programmed its pinned page again
 abbrev pub IsSpared : View → MapWord → Type 0
 IsSpared v page = (value : List ℕ) (c : Carried) → v.pin ≡ pin.Accepted page value → v.copy ≡ Some c → Spared v page c
 
@@ -103,7 +103,7 @@ IsSpared v page = (value : List ℕ) (c : Carried) → v.pin ≡ pin.Accepted pa
 abbrev pub IsClaimed : View → ℕ → PinWord → View → Type 0
 IsClaimed v block state w = w ≡ record v { owns = with_owned (owned_as block state phase.Victim) v.owns; cleared = 0 }
 
--- the broom drains this block; its others are as they were
+-- the broom drains this block; its other blocks are unchanged
 abbrev pub NowDrains : BroomBlocks → ℕ → PinWord → BroomBlocks → Type 0
 NowDrains before block state after = after ≡ record before { reclaiming = reclaiming.Draining (record { block = block; generation = state.generation; written = state.written }) }
 
@@ -119,6 +119,6 @@ IsOfVictim geo blocks page = (o : ReclaimedBlock) × (blocks.reclaiming ≡ recl
 abbrev pub StampTold : View → BroomBlocks → ℕ → View → Type 0
 StampTold v blocks stamp w = (o : ReclaimedBlock) → blocks.reclaiming ≡ reclaiming.Draining o → GotStamp v (reclaimed_as phase.Victim o) stamp w
 
--- the copy of the source was exchanged for it, where its sector still named the source
+-- the sector's map word was exchanged for the copy's, if it still named the source
 abbrev pub MoveTold : View → Bool → View → Type 0
 MoveTold v result w = (x : Source) → v.source ≡ Some x → (n : ℕ) × Moved v x n w × MatchBool result (n ≡ map_word x.page) (¬ (n ≡ map_word x.page))

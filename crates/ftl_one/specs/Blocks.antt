@@ -15,6 +15,6 @@ block_in store roles b = record { role = role_in roles b; erases = erases_of sto
 unfoldable pub blocks_in : Store → List Role → List Block
 blocks_in store roles = map (block_in store roles) (range_with_len 0 (length roles))
 
--- what a block's programmed pages and erases so far weigh: it bounds the totals
+-- what a block's programmed pages and erases so far add to a bound of the totals
 abbrev pub weight : ℕ → Block → ℕ
 weight pages block = (pages + 1) * block.erases + length block.entries

@@ -5,7 +5,7 @@ use Rattle.geometry.specs.declared.page_addr.PageAddr.{PageAddr}
 use Rattle.die.specs.Die.{copybacks_of, geometry_of, one_more}
 use Rattle.die.specs.declared.die.Die.{Die}
 
--- how many copybacks there were once a page was moved: one more where both blocks are on one LUN
+-- how many copybacks there are after a page was moved: one more if both blocks are on one LUN
 abbrev pub copybacks_after : Die → PageAddr → PageAddr → ℕ
 copybacks_after die from to =
     if lun_of (geometry_of die) from.block == lun_of (geometry_of die) to.block then one_more (copybacks_of die) else copybacks_of die

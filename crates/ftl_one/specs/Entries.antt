@@ -29,7 +29,7 @@ entries_in page_bytes current b block = map (λ p. entry_of current b p (page_at
 abbrev pub value_in : ℕ → (ℕ → Block) → PageAddr → List ℕ
 value_in page_bytes blocks at = (page_at page_bytes (blocks at.block) at.page).value
 
--- the array of sectors: each is what the page holds that the map names
+-- the array of sectors: each holds what the page that the map names holds
 unfoldable pub sectors_in : ℕ → (ℕ → Block) → List (Option PageAddr) → List Sector
 sectors_in page_bytes blocks current = map (option_map (value_in page_bytes blocks)) current
 
@@ -42,7 +42,7 @@ abbrev pub lies : Option PageAddr → ℕ → ℕ
 lies None b = 0
 lies (Some at) b = if at.block == b then 1 else 0
 
--- the counts of live pages once one page is dead and another is live, where there are such
+-- the counts of live pages after one page is dead and another is live, if there are such pages
 pub record Recounts (old new : List ℕ) (dead live : Option PageAddr) : Type 0 where
   pub size : length new ≡ length old
   pub each : (b : ℕ) → slice_index new b + lies dead b ≡ slice_index old b + lies live b

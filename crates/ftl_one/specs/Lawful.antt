@@ -14,8 +14,8 @@ has_pages _ = false
 abbrev pub role_in : List Role → ℕ → Role
 role_in roles b = slice_index_or roles b Retired
 
--- the open block is the one that is remembered, with a page left; closed blocks are full and the other blocks
--- empty; the die has retired those with that role; there is one spare at most, and none beside a retired block
+-- the open block is the one that is remembered, with a page left; closed blocks are full and the other blocks empty; the blocks that the
+-- die has retired are those with that role; there is at most one spare, and none if a block is retired
 pub record IsLawful (count pages : ℕ) (size : ℕ → ℕ) (retired : ℕ → Bool) (role : ℕ → Role) (open_block : Option ℕ) : Type 0 where
   pub open_is : (b : ℕ) → role b ≡ Open → open_block ≡ Some b
   pub open_at : (b : ℕ) → open_block ≡ Some b → role b ≡ Open

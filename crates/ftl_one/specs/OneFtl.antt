@@ -23,7 +23,7 @@ array_of ftl = pages.array_of ftl.store
 unfoldable pub stock_of : OneFtl → Stock
 stock_of ftl = record { blocks = blocks_in ftl.store ftl.roles.items; programs = ftl.counts.programs; copies = ftl.counts.copies; erases = ftl.counts.erases }
 
--- what a sector was, by the outcome of a write of an empty sector: it is looked at first, so the layer is worn out only where it was empty
+-- what a sector was, by the result of a write of an empty sector: it is looked at first, so the layer is worn out only if it was empty
 abbrev pub was_found : {X : Type 0} → Result X NewOneFault → Was
 was_found (Ok _) = was.Empty
 was_found (Err fault.WornOut) = was.Empty

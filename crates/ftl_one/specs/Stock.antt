@@ -1,5 +1,5 @@
--- What the layer has used up, and what a call does to it. There is no map here: which page of a sector
--- is current is a mark on the page's entry, and it is found by search.
+-- What the layer has used up, and what a call does to it. There is no map here: the current page of a sector is marked in the page's entry,
+-- and is found by search.
 use Rattle.std.specs.Prelude.{ℕ, ◌+◌, ◌-◌, ◌==◌, ◌&&◌, Bool, true, false, if◌then◌else◌, List, [], ◌∷◌, ◌++◌, length, map, filter, count_by, replicate, slice_set, slice_index_or, Option, None, Some, option_and_then}
 use Rattle.std.specs.List.{list_any, position}
 use Rattle.geometry.specs.declared.geometry.Geometry.{Geometry}
@@ -84,11 +84,11 @@ live_of block = count_by (λ entry. entry.live) block.entries
 abbrev pub victim_of : List Block → Option ℕ
 victim_of blocks = greedy_of (map live_of blocks) (map (λ block. is_closed block.role) blocks)
 
--- an entry, dead if it is one of the sector's
+-- an entry, now dead if it was one of the sector's
 abbrev pub forgotten : ℕ → Entry → Entry
 forgotten sector entry = if entry.sector == sector then record entry { live = false } else entry
 
--- a block once its page of the sector is dead
+-- a block after its page of the sector is dead
 abbrev pub forget : ℕ → Block → Block
 forget sector block = record block { entries = map (forgotten sector) block.entries }
 
@@ -104,7 +104,7 @@ closed_if_full pages block = if length block.entries == pages then record block 
 abbrev pub change_at : List Block → ℕ → (Block → Block) → List Block
 change_at blocks b change = slice_set blocks b (change (slice_index_or blocks b (unused Retired)))
 
--- the spare once it holds the victim's live pages in their order; it is the open block then
+-- the spare after it received the victim's live pages in their order; it is the open block then
 abbrev pub filled : Block → Block → Block
 filled victim spare = record spare { role = Open; entries = spare.entries ++ live_entries victim.entries }
 
@@ -123,7 +123,7 @@ collected endurance stock spare victim =
       erases = stock.erases + 1;
     }
 
--- a collection by the greedy choice, where a block is closed
+-- a collection by the greedy choice, if a block is closed
 abbrev pub collect : ℕ → Stock → ℕ → Option ℕ → Option Stock
 collect endurance stock spare (Some victim) = Some (collected endurance stock spare victim)
 collect endurance stock spare None = None
@@ -132,15 +132,16 @@ collect endurance stock spare None = None
 abbrev pub opened : Stock → ℕ → Stock
 opened stock b = record stock { blocks = change_at stock.blocks b (λ block. record block { role = Open }) }
 
--- a stock with an open block: the one that it has, or else the lowest free block is opened, or else a block
--- is collected into the spare; none where there is no open block, no free block and no spare
+-- a stock with an open block: the one that it has; otherwise the lowest free block is opened; otherwise a block is collected into the
+-- spare; none if there is no open block, no free block and no spare
 abbrev pub ready_by : ℕ → Stock → Option ℕ → Option ℕ → Option ℕ → Option Stock
 ready_by endurance stock (Some b) free spare = Some stock
 ready_by endurance stock None (Some b) spare = Some (opened stock b)
 ready_by endurance stock None None (Some s) = collect endurance stock s (victim_of stock.blocks)
 ready_by endurance stock None None None = None
 
--- the stock with an open block: the one that there is, or the lowest free block, or the spare after a collection; none where there is none of these
+-- the stock with an open block: the one that there is, or the lowest free block, or the spare after a collection; none if there is none of
+-- these
 abbrev pub ready : ℕ → Stock → Option Stock
 ready endurance stock = ready_by endurance stock (open_of stock.blocks) (free_of stock.blocks) (spare_of stock.blocks)
 
@@ -165,8 +166,8 @@ is_current sector entry = entry.live && (entry.sector == sector)
 abbrev pub has_page : ℕ → Stock → Bool
 has_page sector stock = list_any (λ block. list_any (is_current sector) block.entries) stock.blocks
 
--- the stock after a call, by the pages of a block and the endurance; none where a write finds no page. A write of an empty sector leaves it
--- where the sector is written
+-- the stock after a call, by the pages of a block and the endurance; none if a write finds no page. A write of an empty sector leaves it
+-- unchanged if the sector is written
 abbrev pub next_of : ℕ → ℕ → Stock → Call → Option Stock
 next_of pages endurance stock (Write pass sector value) = option_and_then (write_of pages sector) (ready endurance stock)
 next_of pages endurance stock (WriteNew pass sector value) = if has_page sector stock then Some stock else option_and_then (write_of pages sector) (ready endurance stock)
@@ -176,6 +177,6 @@ next_of pages endurance stock (Trim pass sector) = Some (record stock { blocks =
 unfoldable pub opening : Geometry → Stock
 opening geo = opening_of (blocks_of geo)
 
--- the stock after a call; none where a write finds no page, which is refused
+-- the stock after a call; none if a write finds no page and so is refused
 unfoldable pub next : Geometry → Stock → Call → Option Stock
 next geo stock call = next_of (pages_of geo) (endurance_of geo) stock call

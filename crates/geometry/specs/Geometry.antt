@@ -24,11 +24,11 @@ words_of g = g.words
 abbrev pub sectors_of : Geometry → ℕ
 sectors_of g = g.sectors
 
--- how many erases a block stands, the last of which fails
+-- how many times a block may be erased; the last of these erases fails
 abbrev pub endurance_of : Geometry → ℕ
 endurance_of g = g.endurance
 
--- how many passes a device has: one for each thread that reads and writes, and none where there is one thread alone
+-- how many passes a device has: one for each thread that reads and writes, and none if there is only one thread
 abbrev pub hosts_of : Geometry → ℕ
 hosts_of g = g.hosts
 
@@ -44,10 +44,10 @@ numbers_of g = record { luns = g.luns; blocks = g.blocks; pages = g.pages; words
 abbrev pub page_bytes_of : Geometry → ℕ
 page_bytes_of g = 8 * g.words
 
--- the LUN in which a block lies: the blocks are dealt to the LUNs in equal runs
+-- the LUN of a block: the blocks are divided among the LUNs in equal runs
 abbrev pub lun_of : Geometry → ℕ → ℕ
 lun_of g block = block / (g.blocks / g.luns)
 
--- the numbers that are given by their names
+-- the numbers as a call passes them, one by one
 abbrev pub numbers_in : DeviceNumbers → Numbers
 numbers_in n = numbers n.luns n.blocks n.pages n.words n.sectors n.endurance n.hosts n.brooms

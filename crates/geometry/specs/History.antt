@@ -4,26 +4,26 @@ use Rattle.std.specs.List.{fold}
 use Rattle.geometry.specs.declared.answer.Was.{Was}
 use Rattle.geometry.specs.Sectors.{Sector, sector_at, was_of}
 
--- a call that may change the array: the number of the pass that makes it, the sector, and for a write the value. A write of an empty
--- sector is one that takes effect only where the sector is empty
+-- a call that may change the array: the number of the pass that makes it, the sector, and for a write the value. A write of an empty sector
+-- takes effect only if the sector is empty
 pub data Call : Type 0 where
   Write : ℕ → ℕ → List ℕ → Call
   WriteNew : ℕ → ℕ → List ℕ → Call
   Trim : ℕ → ℕ → Call
 
--- the array with a value put at a sector that holds this: an empty one gets the value, a written one stays
+-- the array with a value put at a sector that now holds this: an empty sector gets the value, a written one keeps its own
 abbrev pub put_new : List Sector → ℕ → Sector → List ℕ → List Sector
 put_new array s None value = slice_set array s (Some value)
 put_new array s (Some _) value = array
 
--- the array after one more call: a write puts its value at its sector, a write of an empty sector does so where it is empty and else
--- changes nothing, a trim empties it
+-- the array after one more call: a write puts its value at its sector; a write of an empty sector does so if the sector is empty, and
+-- otherwise changes nothing; a trim empties the sector
 abbrev pub step : List Sector → Call → List Sector
 step array (Write pass s value) = slice_set array s (Some value)
 step array (WriteNew pass s value) = put_new array s (sector_at array s) value
 step array (Trim pass s) = slice_set array s None
 
--- the array of that many sectors after the calls of a history, in order; before the first all sectors are empty
+-- the array of this many sectors after the calls of a history, in order; before the first call all sectors are empty
 abbrev pub after : ℕ → List Call → List Sector
 after sectors history = fold step (replicate sectors None) history
 

@@ -14,28 +14,28 @@ pub record Numbers : Type 0 where
   pub hosts : ℕ
   pub brooms : ℕ
 
--- the eight numbers, given one after another
+-- the eight numbers, passed one by one
 abbrev pub numbers : ℕ → ℕ → ℕ → ℕ → ℕ → ℕ → ℕ → ℕ → Numbers
 numbers luns blocks pages words sectors endurance hosts brooms =
     record { luns = luns; blocks = blocks; pages = pages; words = words; sectors = sectors; endurance = endurance; hosts = hosts; brooms = brooms }
 
--- the words of a shared device's table: one a sector, one a block, and the words and the stamp of each page
+-- the number of words in a shared device's table: one for each sector, one for each block, and the words and the stamp of each page
 abbrev pub table_words_of : ℕ → ℕ → ℕ → ℕ → ℕ
 table_words_of blocks pages words sectors = sectors + blocks + blocks * pages * (words + 1)
 
--- the sectors fit beside what collection needs: with one thread a spare block and one page, and in a shared
--- device a block for each host and two for each broom
+-- the sectors fit beside what collection needs: with one thread a spare block and one page, and in a shared device a block for each host
+-- and two for each broom
 abbrev pub has_room_of : ℕ → ℕ → ℕ → ℕ → ℕ → Bool
 has_room_of blocks pages sectors hosts brooms =
     if hosts == 0 then nat_lt sectors ((blocks - 1) * pages)
     else (nat_lt (hosts + 2 * brooms) blocks && nat_le sectors ((blocks - (hosts + 2 * brooms)) * pages))
 
--- a number is below the first bound or above the second
+-- a number is less than the first bound or greater than the second
 abbrev pub is_outside : ℕ → ℕ → ℕ → Bool
 is_outside low high n = nat_lt n low || nat_lt high n
 
--- the faults in the order in which they are looked for, each with its test. The limits stand here as numerals, so that the
--- constants of the code are held to them
+-- the faults in the order in which they are checked, each with its test. The limits are numerals here, so that the constants of the code
+-- have to equal them
 abbrev pub fault_tests : Numbers → List (Bool × GeometryFault)
 fault_tests n =
     (is_outside 1 8 n.luns, Luns)
@@ -49,7 +49,7 @@ fault_tests n =
     ∷ ((not (has_room_of n.blocks n.pages n.sectors n.hosts n.brooms), TooFewBlocks)
     ∷ []))))))))
 
--- what stands beside the first test that holds
+-- the fault of the first test that holds
 abbrev pub first_that_holds : {X : Type 0} → List (Bool × X) → Option X
 first_that_holds [] = None
 first_that_holds (t ∷ others) = if t.0 then Some t.1 else first_that_holds others

@@ -1,10 +1,10 @@
--- The word of a sector. The fields stand here as numerals, so that the constants of the code are held to them: the page has bits 0 to 15,
--- the block bits 16 to 31, the generation bits 32 to 62, and bit 63 is set.
+-- The word of a sector. The fields are numerals here, so that the constants of the code have to equal them: the page has bits 0 to 15, the
+-- block bits 16 to 31, the generation bits 32 to 62, and bit 63 is set.
 use Rattle.std.specs.Prelude.{ℕ, ◌+◌, ◌*◌, ◌<◌}
 use Rattle.geometry.specs.Limits.{Numbers}
 use Rattle.geometry.specs.declared.map_word.MapWord.{MapWord}
 
--- the fields have room in a word
+-- the fields fit in a word
 pub record FitsMap (m : MapWord) : Type 0 where
   pub generation : m.generation < 2147483648
   pub block : m.block < 65536

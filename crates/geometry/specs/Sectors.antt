@@ -9,7 +9,7 @@ use Rattle.geometry.specs.declared.answer.Was.TheVariants as was
 abbrev pub Sector : Type 0
 Sector = Option (List ℕ)
 
--- what the array holds at a place
+-- what the array holds at an index
 abbrev pub sector_at : List Sector → ℕ → Sector
 sector_at array s = slice_index_or array s None
 
@@ -18,7 +18,7 @@ abbrev pub was_of : Sector → Was
 was_of None = was.Empty
 was_of (Some _) = was.Written
 
--- the lawful answer of a read: an empty sector leaves the buffer as it was, a written one fills it with its value
+-- what a read has to return: an empty sector leaves the buffer as it was, a written one fills it with its value
 abbrev pub Answers : Sector → Got → List ℕ → List ℕ → Type 0
 Answers None answer old new = (answer ≡ got.Empty) × (new ≡ old)
 Answers (Some value) answer old new = (answer ≡ got.Data) × (new ≡ value)

@@ -1,4 +1,4 @@
--- What the parts of a write tell of what its pass knows: a block is taken, a page is filled, and a full block is closed.
+-- What the parts of a write record in what its pass knows: a block is taken, a page is filled, and a full block is closed.
 use Rattle.std.specs.Prelude.{◌≡◌, ℕ, ◌+◌, ◌<◌, List, [], ◌∷◌, ◌++◌, Option, None, Some}
 use Rattle.std.specs.List.{range_with_len}
 use Rattle.geometry.specs.declared.map_word.MapWord.{MapWord}
@@ -24,7 +24,7 @@ pub record TookLowest (v : View) (w : View) (opened : Option OpenBlock) : Type 0
   pub opens : opened ≡ Some (record { block = block; generation = generation; written = 0 })
   pub changed : w ≡ record v { taken = v.taken + 1; denied = v.denied ++ range_with_len 0 block; owns = owned_of (record { block = block; generation = generation; written = 0 }) ∷ [] }
 
--- The first page not written of the open block was filled with a value and a sector's stamp, and counted. It can be named as the sector's
+-- The first unwritten page of the open block was filled with a value and a sector's stamp, and counted. It can be named as the sector's
 pub record Filled (v : View) (o : OpenBlock) (s : ℕ) (value : List ℕ) (page : MapWord) (w : View) : Type 0 where
   pub work : Work
   pub next : page ≡ next_page (owned_of o)

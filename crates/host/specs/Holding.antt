@@ -24,7 +24,7 @@ pass_of h = h.pass
 abbrev pub page_of : Held → MapWord
 page_of h = h.page
 
--- where a page is, whatever its generation
+-- the sector, block and page of a page, without its generation
 abbrev pub addr_of : MapWord → PageAddr
 addr_of m = record { block = m.block; page = m.page }
 
@@ -36,12 +36,13 @@ page_in a generation = record { generation = generation; block = a.block; page =
 abbrev pub Holds : Flash → Held → List ℕ → Type 0
 Holds f h value = IsPinned f (pass_of h) (page_of h) value
 
--- The player of whom the pass has heard last is another one. By what was heard, it programmed no page that the pass did, and erased the
--- held page's block in earlier generations only
+-- The player of whom the pass has heard last is another one. By what was heard, it programmed no page that the pass did, and it erased only
+-- earlier generations of the held page's block
 abbrev pub IsSpared : Held → Type 0
 IsSpared h = (c : Carried) → (view_of (pass_of h)).copy ≡ Some c → Spared (view_of (pass_of h)) (page_of h) c
 
--- A search for a sector's page ends with a hold of the value that the sector had at its last look, or with the pass, where it was empty there
+-- A search for a sector's page ends with a hold of the value that the sector had at its last look, or with the pass if the sector was empty
+-- then
 abbrev pub Found : Flash → View → ℕ → Holding → Type 0
 Found f v s (holding.Held h) =
     (value : List ℕ) × Holds f h value × (held (sectors_of (geometry_of f)) (view_of (pass_of h)).seen s ≡ Some value) × ((tries : ℕ) × Searched v tries (view_of (pass_of h)))

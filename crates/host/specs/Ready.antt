@@ -14,9 +14,9 @@ use Rattle.flash_table.specs.declared.pass.OpenBlock.{OpenBlock}
 use Rattle.flash_table.specs.Flash.{IsPassOf, device, view_of, opened_of, geometry_of}
 use Rattle.geometry.specs.History.{held}
 
--- The pass is of this device. The block that it has open, if any, has a page left, in a generation below the endurance; no page of it
--- is half written, and without an open block there is none at all. Each call that it saw is of a host, its own ones are all the calls that
--- it made, and no note is out
+-- The pass is of this device. The block that it has open, if any, has a page left, in a generation less than the endurance; no page of it
+-- is half written, and without an open block no page is. Each call that it saw is of a host, its own ones are all the calls that it made,
+-- and no note is out
 pub record IsRested (f : Flash) (p : Pass) : Type 0 where
   pub pass : IsPassOf f p
   pub room : (o : OpenBlock) → opened_of p ≡ Some o → (o.block < blocks_of (geometry_of f)) × (o.written < pages_of (geometry_of f)) × (o.generation < endurance_of (geometry_of f))
@@ -32,7 +32,7 @@ pub record IsReady (f : Flash) (p : Pass) : Type 0 where
   pub rested : IsRested f p
   pub unpinned : is_unpinned (view_of p).pin ≡ true
 
--- A pass that holds a page: it is at rest but for an accepted pin on this page, which holds this value
+-- A pass that holds a page: it is at rest, except for an accepted pin on this page, which holds this value
 pub record IsPinned (f : Flash) (p : Pass) (at : MapWord) (value : List ℕ) : Type 0 where
   pub rested : IsRested f p
   pub pinned : (view_of p).pin ≡ Accepted at value
@@ -40,6 +40,6 @@ pub record IsPinned (f : Flash) (p : Pass) (at : MapWord) (value : List ℕ) : T
   pub block : at.block < blocks_of (geometry_of f)
   pub page : at.page < pages_of (geometry_of f)
 
--- this page is pinned, and holds what the sector held when it was looked at last
+-- this page is pinned, and holds what the sector held at the last look
 abbrev pub HasFound : Flash → Pass → ℕ → MapWord → Type 0
 HasFound f p sector page = (value : List ℕ) × IsPinned f p page value × (held (sectors_of (geometry_of f)) (view_of p).seen sector ≡ Some value)

@@ -1,4 +1,4 @@
--- Answers side by side: what they tell, and the room for more.
+-- Answers side by side: what they say, and the room for more.
 use Rattle.std.specs.Prelude.{◌≡◌, ℕ, ◌+◌, ◌≤◌, List, [], ◌∷◌, length, take, vec_capacity}
 use Rattle.trace.specs.declared.commands.Command.{Command}
 use Rattle.trace.specs.declared.commands.Op.{Op}
@@ -12,11 +12,11 @@ use Rattle.lines.specs.declared.answers.Cursor.{Cursor}
 abbrev pub said_in : Answers → List Said
 said_in answers = said_from answers.page_bytes answers.kinds.items answers.pages.items
 
--- of how many bytes their pages are
+-- how many bytes their pages have
 abbrev pub page_size_of : Answers → ℕ
 page_size_of answers = answers.page_bytes
 
--- there is room for so many answers more, with so many bytes
+-- there is room for this many more answers, with this many bytes
 pub record HasSpace (answers : Answers) (lines bytes : ℕ) : Type 0 where
   pub kinds : length answers.kinds.items + lines ≤ vec_capacity answers.kinds
   pub pages : length answers.pages.items + bytes ≤ vec_capacity answers.pages
@@ -29,7 +29,7 @@ space_for n op.New = 0
 space_for n op.Trim = 0
 space_for n op.Meet = 0
 
--- and how many those of lines can have
+-- and how many the answers of lines can have
 abbrev pub space_of : ℕ → List Command → ℕ
 space_of n [] = 0
 space_of n (c ∷ lines) = space_for n c.op + space_of n lines
@@ -38,14 +38,14 @@ space_of n (c ∷ lines) = space_for n c.op + space_of n lines
 abbrev pub HasSpaceFor : Answers → List Command → Type 0
 HasSpaceFor answers lines = HasSpace answers (length lines) (space_of (page_size_of answers) lines)
 
--- the cursor stands at one of the answers, or behind them all: its page begins behind those of the answers before it
+-- the cursor is at one of the answers, or behind them all: its page begins behind those of the answers before it
 abbrev pub IsCursorOf : Answers → Cursor → Type 0
 IsCursorOf answers cursor = cursor.page ≡ bytes_in answers.page_bytes (take cursor.line answers.kinds.items)
 
--- the place of the first answer
+-- the cursor at the first answer
 abbrev pub first_place : Cursor
 first_place = record { line = 0; page = 0 }
 
--- the number of the answer at which it stands
+-- the index of the answer at the cursor
 abbrev pub place_of : Cursor → ℕ
 place_of cursor = cursor.line

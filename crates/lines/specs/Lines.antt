@@ -1,4 +1,4 @@
--- A line of a trace with its answer: whose it is, which calls it adds to the history, and when its answer is right.
+-- A line of a trace with its answer: who does it, which calls it adds to the history, and when its answer is right.
 use Rattle.std.specs.Prelude.{◌≡◌, ◌⊎◌, ℕ, Bool, true, false, if◌then◌else◌, List, [], ◌∷◌, None, Some}
 use Rattle.geometry.specs.Sectors.{Sector, was_of}
 use Rattle.geometry.specs.History.{Call, Write, WriteNew, Trim}
@@ -11,12 +11,12 @@ use Rattle.lines.specs.declared.answer.Answer.{Answer}
 use Rattle.lines.specs.declared.answer.Kind.{Kind}
 use Rattle.lines.specs.declared.answer.Kind.TheVariants as kind
 
--- what a line was told: the kind of its answer, and the bytes of its page
+-- what the answer of a line is made of: its kind, and the bytes of its page
 pub record Said : Type 0 where
   pub kind : Kind
   pub page : List ℕ
 
--- what an answer tells
+-- what an answer says
 abbrev pub said : Answer → Said
 said a = record { kind = a.kind; page = a.page.items }
 
@@ -33,7 +33,7 @@ is_full kind.Page = false
 is_full kind.Met = false
 is_full kind.Full = true
 
--- the call that a pass makes where it does a line: a read makes none
+-- the call that a pass makes for a line: a read makes none
 abbrev pub calls_by : ℕ → Op → ℕ → List ℕ → List Call
 calls_by t op.Read s value = []
 calls_by t op.Write s value = Write t s value ∷ []
@@ -41,16 +41,16 @@ calls_by t op.New s value = WriteNew t s value ∷ []
 calls_by t op.Trim s value = Trim t s ∷ []
 calls_by t op.Meet s value = []
 
--- the calls that a line has added, done by this pass: none where it was turned away
+-- the calls that a line has added, made by this pass: none if it was turned away
 abbrev pub calls_made : ℕ → Command → Said → List Call
 calls_made t c a = if is_full a.kind then [] else calls_by t c.op c.sector c.page
 
--- a read tells what its sector holds
+-- a read returns what its sector holds
 abbrev pub IsFound : Sector → Kind → List ℕ → Type 0
 IsFound None k page = k ≡ kind.Empty
 IsFound (Some value) k page = (k ≡ kind.Page) × (page ≡ value)
 
--- the right answer of an op whose sector holds this: a write of either kind may be turned away anywhere, and a meeting asks nothing of it
+-- the right answer of an op whose sector holds this: a write of either kind may be turned away at any time, and a meeting has no condition
 abbrev pub IsRight : Op → Sector → Kind → List ℕ → Type 0
 IsRight op.Read x k page = IsFound x k page
 IsRight op.Write x k page = (k ≡ kind.Full) ⊎ (k ≡ kind_of (was_of x))

@@ -1,4 +1,4 @@
--- What a pass that plays lines does: it answers each at a history, one after another.
+-- What a pass that plays lines does: each is answered at a history, one after another.
 use Rattle.std.specs.Prelude.{◌≡◌, ℕ, zero, suc, ◌+◌, ◌<◌, ◌≤◌, Bool, true, false, if◌then◌else◌, List, [], ◌∷◌, ◌++◌, length}
 use Rattle.std.specs.List.{range_with_len}
 use Rattle.geometry.specs.History.{Call, held, Begins}
@@ -9,9 +9,9 @@ use Rattle.trace.specs.declared.commands.Op.{Op}
 use Rattle.trace.specs.declared.commands.Op.TheVariants as op
 use Rattle.lines.specs.Lines.{Said, calls_made, is_full, IsRight}
 
--- Pass t, which had seen this, has played the lines and has seen that at the end: each line has its right answer at a history of its own. The
--- first history isn't before what the pass had seen, each next one not before the one before with its call, and the end not before the last one
--- with its call
+-- Pass t, which had seen this, has played the lines and has seen that at the end: each line has its right answer at a history of its own.
+-- The first history isn't before what the pass had seen, each next one not before the previous one with its call, and the end not before
+-- the last one with its call
 abbrev pub Plays : ℕ → ℕ → List Call → List Command → List Said → List Call → Type 0
 Plays n t seen [] [] last = Begins seen last
 Plays n t seen [] (a ∷ answers) last = ⊥
@@ -19,7 +19,7 @@ Plays n t seen (c ∷ lines) [] last = ⊥
 Plays n t seen (c ∷ lines) (a ∷ answers) last =
     (h : List Call) × Begins seen h × IsRight c.op (held n h c.sector) a.kind a.page × Plays n t (h ++ calls_made t c a) lines answers last
 
--- the calls that lines have added, done by one pass
+-- the calls that lines have added, made by one pass
 abbrev pub calls_done : ℕ → List Command → List Said → List Call
 calls_done t [] answers = []
 calls_done t (c ∷ lines) [] = []
@@ -39,18 +39,19 @@ writes_done [] answers = 0
 writes_done (c ∷ lines) [] = 0
 writes_done (c ∷ lines) (a ∷ answers) = one_done c.op (is_full a.kind) + writes_done lines answers
 
--- the blocks that were found taken in so many tries that found none free: all blocks, in order, in each
+-- the blocks that were found taken in this many tries that found none free: in each try all blocks, in order
 abbrev pub all_taken : ℕ → ℕ → List ℕ
 all_taken blocks zero = []
 all_taken blocks (suc tries) = all_taken blocks tries ++ range_with_len 0 blocks
 
--- how many tries of a write found no block, and how many blocks were found taken in the one that did: a write that was turned away was tried as often
--- as there are tries, and one that was done no more often
+-- how many tries of a write found no block, and how many blocks were found taken in the try that did: a write that was turned away was
+-- tried as often as it may be, and one that was done no more often
 abbrev pub IsTried : ℕ → ℕ → Bool → ℕ → ℕ → Type 0
 IsTried patience blocks true refused below = (refused ≡ patience) × (below ≡ 0)
 IsTried patience blocks false refused below = (refused < patience) × (below < blocks)
 
--- the blocks that a write has found taken: all of them in each try that found no block, and in the one that was done those below the block that it took
+-- the blocks that a write has found taken: all of them in each try that found no block, and in the try that did those below the block that
+-- it took
 pub record WriteFound (patience blocks : ℕ) (full : Bool) (found : List ℕ) : Type 0 where
   pub refused : ℕ
   pub below : ℕ
@@ -73,9 +74,9 @@ LinesFound patience blocks (c ∷ lines) [] found = ⊥
 LinesFound patience blocks (c ∷ lines) (a ∷ answers) found =
     (first : List ℕ) × (rest : List ℕ) × (found ≡ first ++ rest) × LineFound patience blocks c.op (is_full a.kind) first × LinesFound patience blocks lines answers rest
 
--- A pass has played lines, with so many tries of each write. Its own calls have grown by just those of the lines that were done, in order; one page
--- was programmed for each write that was done, and at most one block taken; and the blocks that it has found taken are those of the tries of each
--- line, in order. Nothing else has changed of what the pass knows
+-- A pass has played lines, with this many tries of each write. Exactly the calls of the lines that were done were added to its own, in
+-- order; for each write that was done one page was programmed, and at most one block taken; and the blocks that it has found taken are
+-- those of the tries of each line, in order. Nothing else has changed of what the pass knows
 pub record Played (t patience : ℕ) (v : View) (lines : List Command) (answers : List Said) (w : View) : Type 0 where
   pub changed : w ≡ record v {
     seen = w.seen;

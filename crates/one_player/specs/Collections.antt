@@ -1,4 +1,4 @@
--- The collections of a run by one thread, and the log that tells them.
+-- The collections of a run by one thread, and the log that lists them.
 use Rattle.std.specs.Prelude.{◌≡◌, ℕ, ◌+◌, List, [], ◌++◌, length, Option, Ok}
 use Rattle.std.specs.Option.{option_map_or}
 use Rattle.std.specs.List.{flat_map, range_with_len}
@@ -10,7 +10,7 @@ use Rattle.trace.specs.declared.commands.Command.{Command}
 use Rattle.answers.specs.Answers.{collection_line, collection_names}
 use Rattle.one_player.specs.Playing.{stock_before}
 
--- the collection that the command at a place makes, if it makes one: the block whose erases grew by the command
+-- the collection that the command at an index makes, if it makes one: the block whose erases grew by the command
 abbrev pub made_at : Geometry → List Command → ℕ → Option Collection
 made_at geo commands k = collection_between geo (stock_before geo commands k) (stock_before geo commands (k + 1))
 
@@ -18,11 +18,11 @@ made_at geo commands k = collection_between geo (stock_before geo commands k) (s
 abbrev pub log_line : ℕ → Collection → List ℕ
 log_line line made = collection_line line made.victim made.copied made.copybacks made.erases made.retired
 
--- what the log tells of a line of the trace: the collection that it makes, or nothing
+-- what the log has for a line of the trace: the collection that it makes, or nothing
 abbrev pub log_part : ℕ → Option Collection → List ℕ
 log_part line made = option_map_or (log_line line) made []
 
--- what the log tells of the command at a place. Lines count from 1
+-- what the log has for the command at an index. Lines count from 1
 abbrev pub told_at : Geometry → List Command → ℕ → List ℕ
 told_at geo commands k = log_part (k + 1) (made_at geo commands k)
 

@@ -7,8 +7,8 @@ use Rattle.answers.specs.declared.fault.RunFault.{RunFault}
 use Rattle.answers.specs.declared.fault.RunFault.TheVariants as run
 use Rattle.one_player.specs.Collections.{IsLogOf}
 
--- how the file of a text ended: a wanted text was written whole, or its writer failed and a beginning was written; of a
--- text that isn't wanted nothing was written
+-- how the file of a text ended: a wanted text was written whole, or its writer failed and a beginning was written; of a text that isn't
+-- wanted nothing was written
 abbrev pub EndsText : Bool → List ℕ → Passage → Result (Unit {0}) OutputFailed → Type 0
 EndsText true text file (Ok _) = (file.after.failures ≡ file.before.failures) × Sends file text
 EndsText true text file (Err _) = (file.after.failures ≢ file.before.failures) × SendsBeginning file text
@@ -22,7 +22,7 @@ EndsFile true IsTextOf input file (Err _) = (file.after.failures ≢ file.before
 EndsFile false IsTextOf input file (Ok _) = file.after ≡ file.before
 EndsFile false IsTextOf input file (Err _) = ⊥
 
--- of a wanted text a beginning was written, and else nothing
+-- of a wanted text a beginning was written, and otherwise nothing
 abbrev pub LeavesText : Bool → List ℕ → Passage → Type 0
 LeavesText true text file = SendsBeginning file text
 LeavesText false text file = file.after ≡ file.before
@@ -32,8 +32,7 @@ abbrev pub LeavesFile : Bool → (List ℕ → List ℕ → Type 0) → Stream �
 LeavesFile true IsTextOf input file = TellsPart IsTextOf input file
 LeavesFile false IsTextOf input file = file.after ≡ file.before
 
--- what a run that stopped leaves in the file of its log: a beginning of the log where the answers could not be written,
--- and else nothing
+-- what a run that stopped leaves in the file of its log: a beginning of the log if the answers could not be written, and otherwise nothing
 abbrev pub LeavesLog : RunFault → Bool → Geometry → Stream → Passage → Type 0
 LeavesLog (run.Trace found) wanted geo input file = file.after ≡ file.before
 LeavesLog run.Memory wanted geo input file = file.after ≡ file.before

@@ -1,4 +1,4 @@
--- The log of collections of a run under way.
+-- The log of collections while a run is played.
 use Rattle.std.specs.Prelude.{◌≡◌, ◌≢◌, ⊤, ℕ, Bool, true, false, List, IfSome, Option, None}
 use Rattle.geometry.specs.declared.geometry.Geometry.{Geometry}
 use Rattle.ftl_one.specs.Collections.{collection_due}
@@ -18,19 +18,19 @@ is_wanted log.Unwanted = false
 is_wanted (log.Open lines) = true
 is_wanted log.Failed = true
 
--- its file takes lines still
+-- its file still takes lines
 abbrev pub IsOpen : Log → Type 0
 IsOpen log.Unwanted = ⊥
 IsOpen (log.Open lines) = ⊤
 IsOpen log.Failed = ⊥
 
--- this is the text of a log so far: it was written but for the lines that wait, or a beginning of it if the file failed
+-- this is the text of a log so far: it was written except for the lines that wait, or only a beginning of it if the file failed
 abbrev pub IsLogged : Log → Passage → List ℕ → Type 0
 IsLogged log.Unwanted file text = file.after ≡ file.before
 IsLogged (log.Open lines) file text = (file.after.failures ≡ file.before.failures) × Moves file (waiting_of lines) text
 IsLogged log.Failed file text = (file.after.failures ≢ file.before.failures) × SendsBeginning file text
 
--- the collection that a command may make: the one that is due, where the command may program a page
+-- the collection that a command may make: the one that is needed before a page is programmed, if the command may program a page
 abbrev pub due_by : Op → Geometry → Stock → Option Collection
 due_by op.Read geo stock = None
 due_by op.Write geo stock = collection_due geo stock

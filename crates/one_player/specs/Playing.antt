@@ -21,7 +21,7 @@ is_worn geo stock call = is_none (next geo stock call)
 abbrev pub is_refused : Geometry → Stock → Command → Bool
 is_refused geo stock command = option_map_or (is_worn geo stock) (call_of command) false
 
--- the stock after a call; a refused one leaves it
+-- the stock after a call; a refused one leaves it unchanged
 abbrev pub after_call : Geometry → Stock → Call → Stock
 after_call geo stock call = unwrap_or (next geo stock call) stock
 
@@ -29,7 +29,7 @@ after_call geo stock call = unwrap_or (next geo stock call) stock
 abbrev pub stock_after : Geometry → Stock → Command → Stock
 stock_after geo stock command = option_map_or (after_call geo stock) (call_of command) stock
 
--- the answer that a layer gives to a command: a refused one is worn
+-- the answer that a layer gives to a command: that of a refused one is worn
 abbrev pub answer_by : OneFtl → Command → List ℕ
 answer_by ftl command = answer_of (codes "worn") (is_refused (geometry_of ftl) (stock_of ftl) command) command.op (sector_at (array_of ftl) command.sector)
 
@@ -37,11 +37,11 @@ answer_by ftl command = answer_of (codes "worn") (is_refused (geometry_of ftl) (
 abbrev pub line_by : OneFtl → ℕ → Command → List ℕ
 line_by ftl line command = line_text line command.op command.sector (answer_by ftl command)
 
--- the stock before the line at a place: all commands before it, from an unused device on
+-- the stock before the line at an index: after all commands before it, from an unused device on
 abbrev pub stock_before : Geometry → List Command → ℕ → Stock
 stock_before geo commands n = fold (stock_after geo) (opening geo) (take n commands)
 
--- whether the command at a place is refused
+-- whether the command at an index is refused
 abbrev pub refused_at : Geometry → List Command → ℕ → Bool
 refused_at geo commands k = option_map_or (is_refused geo (stock_before geo commands k)) (slice_get commands k) false
 

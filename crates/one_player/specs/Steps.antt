@@ -1,4 +1,4 @@
--- A run under way.
+-- A run while it is played.
 use Rattle.std.specs.Prelude.{◌≡◌, ℕ, List, codes, Option}
 use Rattle.geometry.specs.Geometry.{sectors_of}
 use Rattle.geometry.specs.History.{after}

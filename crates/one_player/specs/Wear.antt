@@ -1,4 +1,4 @@
--- What a run tells of the wear of its device.
+-- What a run reports of the wear of its device.
 use Rattle.std.specs.Prelude.{◌≡◌, ℕ, List, ◌++◌, length, Ok}
 use Rattle.std.specs.List.{flat_map, range_with_len}
 use Rattle.geometry.specs.Geometry.{blocks_of}
@@ -22,13 +22,13 @@ wear_before stock n = wear_names ++ flat_map (block_line stock) (range_with_len 
 abbrev pub wear_text : Geometry → Stock → List ℕ
 wear_text geo stock = wear_before stock (blocks_of geo)
 
--- the wear of the device once the commands that these bytes mean were played on it
+-- the wear of the device after the commands that these bytes mean were played on it
 pub record IsWearOf (geo : Geometry) (bytes text : List ℕ) : Type 0 where
   pub commands : List Command
   pub meaning : commands_of bytes geo ≡ Ok commands
   pub wear : text ≡ wear_text geo (stock_before geo commands (length commands))
 
--- the stock of the device once these commands were played on it
+-- the stock of the device after these commands were played on it
 pub record IsStockOf (geo : Geometry) (bytes : List ℕ) (stock : Stock) : Type 0 where
   pub commands : List Command
   pub meaning : commands_of bytes geo ≡ Ok commands

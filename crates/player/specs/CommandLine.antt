@@ -1,4 +1,4 @@
--- The command line: the options as clap knows them, and the numbers that its matches give them.
+-- The command line: the options as clap knows them, and the numbers that its matches give.
 use Rattle.std.specs.Prelude.{◌≡◌, ℕ, true, List, [], ◌∷◌, codes, Some, pos, MatchOption, ◌^◌, ◌<◌, ◌⊎◌}
 use Rattle.std.specs.Option.{option_map}
 use Rattle.std.specs.Str.Parse.{IsNumeral, digits_value, without_leading_plus}
@@ -10,22 +10,22 @@ use Rattle.player.specs.declared.arguments.NumberOption.{NumberOption}
 use Rattle.player.specs.declared.command_line.Options.{Options}
 use Rattle.player.specs.declared.command_line.TheConstants.{LUNS, BLOCKS, PAGES, WORDS, SECTORS, ENDURANCE, WORKERS, BROOMS, PATIENCE, DRAINS}
 
--- an option: its name behind two dashes, and one whole number of 32 bits, with a default
+-- an option: its name after two dashes, and one whole number of 32 bits, with a default
 abbrev pub option_rule : Text → Text → Rule
 option_rule name default =
     record (new_rule name) { long = Some name; value_names = 1; defaults = default ∷ []; parser = Some (parser.Signed (pos 0) (pos 4294967295)) }
 
--- the option of the tries of a write, which are some
+-- the option for the tries of a write, which are at least one
 abbrev pub patience_rule : Rule
 patience_rule =
     record (new_rule (codes "patience")) { long = Some (codes "patience"); value_names = 1; defaults = codes "1000000" ∷ []; parser = Some (parser.Signed (pos 1) (pos 1000000000)) }
 
--- the option of the drains by one survey, which are some
+-- the option for the drains by one survey, which are at least one
 abbrev pub drains_rule : Rule
 drains_rule =
     record (new_rule (codes "drains")) { long = Some (codes "drains"); value_names = 1; defaults = codes "1" ∷ []; parser = Some (parser.Signed (pos 1) (pos 4096)) }
 
--- an option of one value, of any text
+-- an option with one value, of any text
 abbrev pub named_rule : Text → Rule
 named_rule name = record (new_rule name) { long = Some name; value_names = 1 }
 
@@ -38,7 +38,7 @@ abbrev pub number_rule : NumberOption → Rule
 number_rule number =
     record (option_rule number.name.now number.default.now) { parser = Some (parser.Signed number.least number.most) }
 
--- a command line with one such option more
+-- a command line with one more such option
 abbrev pub with_number : App → NumberOption → App
 with_number app number = with_rule app (number_rule number)
 
@@ -57,7 +57,7 @@ with_numbers =
     (option_rule (codes "sectors") (codes "3072")))
     (option_rule (codes "endurance") (codes "1000"))
 
--- a command line with the threads of a run too: workers, brooms, the tries of a write, and the drains by one survey
+-- a command line that also has the threads of a run: workers, brooms, the tries of a write, and the drains by one survey
 abbrev pub with_threads : App → App
 with_threads app = with_rule (with_rule (with_rule (with_rule app (option_rule (codes "workers") (codes "0"))) (option_rule (codes "brooms") (codes "0"))) patience_rule) drains_rule
 
@@ -73,20 +73,20 @@ rows_given words = matches_of flashplay words
 unfoldable pub faults_given : List Text → Kinds
 faults_given words = fault_of flashplay words
 
--- a text writes a whole number of 32 bits, perhaps behind a plus; clap refuses every other text
+-- a text writes a whole number of 32 bits, perhaps after a plus sign; clap refuses every other text
 abbrev pub WritesNumber : Text → Type 0
 WritesNumber text = IsNumeral 10 (without_leading_plus text) × (digits_value 10 (without_leading_plus text) < 2 ^ 32)
 
--- the number that a text writes, or the default where it writes none
+-- the number that a text writes, or the default if it writes none
 abbrev pub IsNumberIn : Text → ℕ → ℕ → Type 0
 IsNumberIn text default number =
     (WritesNumber text × (number ≡ digits_value 10 (without_leading_plus text))) ⊎ (¬ WritesNumber text × (number ≡ default))
 
--- the number that the matches give to an option, or its default where they give none
+-- the number that the matches give for an option, or its default if they give none
 abbrev pub IsNumberOf : List Row → Text → ℕ → ℕ → Type 0
 IsNumberOf rows name default number = MatchOption (one_of name rows) (number ≡ default) (λ text. IsNumberIn text default number)
 
--- each number is the one that the matches give to its option, and so is the name of each file
+-- each number is the one that the matches give for its option, and so is the name of each file
 pub record AreOptionsOf (rows : List Row) (given : Options) : Type 0 where
   pub luns : IsNumberOf rows (codes "luns") LUNS given.luns
   pub blocks : IsNumberOf rows (codes "blocks") BLOCKS given.blocks

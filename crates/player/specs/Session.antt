@@ -36,7 +36,7 @@ use Rattle.player.specs.declared.run_files.RunFile.TheVariants as run_file
 use Rattle.player.specs.declared.stop.Stop.{Stop}
 use Rattle.player.specs.declared.stop.Stop.TheVariants as stop
 
--- the exit status where a trace is not played
+-- the exit status if a trace is not played
 abbrev pub status_of_trace : TraceFaultKind → ℕ
 status_of_trace fault.Read = 1
 status_of_trace fault.Memory = 4
@@ -49,7 +49,7 @@ status_of_run run.Memory = 4
 status_of_run run.Threads = 4
 status_of_run run.Output = 1
 
--- the exit status where a file of a run was not written
+-- the exit status if a file of a run was not written
 abbrev pub status_of_file : FileStop → ℕ
 status_of_file file_stop.NotWithWorkers = 2
 status_of_file file_stop.NotOpened = 1
@@ -85,12 +85,12 @@ pub record DescribesNone (words : List Text) (found : GeometryFault) : Type 0 wh
   pub told : AreOptionsOf (rows_given words) given
   pub first : first_fault (numbers_given given) ≡ Some found
 
--- the text of a run by so many workers, with so many tries of each write: without any it is that of one thread
+-- the text of a run by this many workers, with this many tries of each write: with no worker it is that of one thread
 abbrev pub IsTextBy : ℕ → ℕ → Geometry → List ℕ → List ℕ → Type 0
 IsTextBy zero patience geo bytes text = IsTextOf geo bytes text
 IsTextBy (suc others) patience geo bytes text = IsSharedTextOf patience geo bytes text
 
--- the text of a run on this device, by a worker for each of its hosts, with so many tries of each write
+-- the text of a run on this device, by a worker for each of its hosts, with this many tries of each write
 abbrev pub IsTextFor : ℕ → Geometry → List ℕ → List ℕ → Type 0
 IsTextFor patience geo bytes text = IsTextBy (hosts_of geo) patience geo bytes text
 
@@ -103,7 +103,7 @@ pub record Answered (words : List Text) (input output : Passage) : Type 0 where
   pub input_unfailed : input.after.failures ≡ input.before.failures
   pub output_unfailed : output.after.failures ≡ output.before.failures
 
--- a file was opened by this name, where it tells the name, and no byte of it changed by that
+-- a file was opened by this name, if its name is known, and no byte of it changed by that
 pub record IsOpenedAs {F : Type 0} (name_in : F → Option Text) (contents : F → Option (List ℕ)) (old : Watched F) (name : Text) : Type 0 where
   pub opened : Watched F
   pub named : IfSome (name_in (inner_of opened)) (λ known. known ≡ name)
@@ -119,7 +119,7 @@ pub record Filings : Type 1 where
   pub wear : Filing
   pub collections : Filing
 
--- a file over a session, with the functions that tell its name and its bytes
+-- a file over a session, with the functions that give its name and its bytes
 abbrev pub filing : {F : Type 0} → (F → Option Text) → (F → Option (List ℕ)) → Watched F → Watched F → Filing
 filing name_in contents old new = record { is_opened_as = IsOpenedAs name_in contents old; stream = over contents old new }
 
@@ -152,25 +152,25 @@ abbrev pub name_given : RunFile → Options → Option Text
 name_given run_file.Wear given = option_map (λ name. name.now) given.wear
 name_given run_file.Collections given = option_map (λ name. name.now) given.collections
 
--- a file is told where the options name it: it was opened by that name, what was written to it is right for the bytes of
--- the trace, and no call failed. Else nothing is told
+-- a file is written if the options name it: it was opened by that name, what was written to it is right for the bytes of the trace, and no
+-- call failed. Otherwise nothing is written
 abbrev pub TellsFile : Option Text → (List ℕ → List ℕ → Type 0) → Stream → Filing → Type 0
 TellsFile asked IsTextOf input file =
     MatchOption asked (IsUntouched file)
     (λ name. file.is_opened_as name × (file.stream.after.failures ≡ file.stream.before.failures) × Tells IsTextOf input file.stream)
 
--- a file that the options name was opened by that name, and then failed: a beginning is told
+-- a file that the options name was opened by that name, and then failed: a beginning is written
 abbrev pub LosesFile : Option Text → (List ℕ → List ℕ → Type 0) → Stream → Filing → Type 0
 LosesFile asked IsTextOf input file =
     MatchOption asked ⊥
     (λ name. file.is_opened_as name × (file.stream.after.failures ≢ file.stream.before.failures) × TellsPart IsTextOf input file.stream)
 
--- the files are told as the options want them: the wear of the device after the trace, and the log of its collections
+-- the files are written as the options want them: the wear of the device after the trace, and the log of its collections
 pub record TellsFiles (geo : Geometry) (given : Options) (input : Stream) (files : Filings) : Type 0 where
   pub wear : TellsFile (name_given run_file.Wear given) (IsWearOf geo) input files.wear
   pub collections : TellsFile (name_given run_file.Collections given) (IsLogOf geo) input files.collections
 
--- this file failed as it was written. Where both did it is the log, which is written first
+-- this file failed as it was written. If both did it is the log, which is written first
 abbrev pub LosesOne : RunFile → Geometry → Options → Stream → Filings → Type 0
 LosesOne run_file.Wear geo given input files =
     LosesFile (name_given run_file.Wear given) (IsWearOf geo) input files.wear
@@ -180,12 +180,12 @@ LosesOne run_file.Collections geo given input files =
     × (TellsFile (name_given run_file.Wear given) (IsWearOf geo) input files.wear
     ⊎ LosesFile (name_given run_file.Wear given) (IsWearOf geo) input files.wear)
 
--- what a run that stopped leaves in its files: a beginning of the log where the answers could not be written, and else nothing
+-- what a run that stopped leaves in its files: a beginning of the log if the answers could not be written, and otherwise nothing
 abbrev pub LeavesFiles : RunFault → Geometry → Options → Stream → Filings → Type 0
 LeavesFiles found geo given input files =
     IsUntouched files.wear × LeavesLog found (is_some given.collections) geo input files.collections.stream
 
--- the trace was played, and the files told as the options want them
+-- the trace was played, and the files written as the options want them
 pub record Played (words : List Text) (input output : Passage) (files : Filings) : Type 0 where
   pub answered : Answered words input output
   pub told : TellsFiles answered.geo answered.device.given input.before files
@@ -212,7 +212,7 @@ pub record PlaysOn (geo : Geometry) (patience : ℕ) (input output : Passage) : 
   pub input_unfailed : input.after.failures ≡ input.before.failures
   pub output_unfailed : output.after.failures ≡ output.before.failures
 
--- why a file of a run on a device is not told
+-- why a file of a run on a device is not written
 abbrev pub LosesOn : RunFile → FileStop → Geometry → Options → Passage → Passage → Filings → Type 0
 LosesOn file file_stop.NotWithWorkers geo given input output files =
     (hosts_of geo ≢ 0) × (is_some (name_given file given) ≡ true) × IsIdle input output × AreUntouched files
@@ -249,7 +249,7 @@ OpensFiles (Err stop.Memory) given files = ⊥
 OpensFiles (Err (stop.File file why)) given files =
     (fault : OpenFault) × (why ≡ stop_of_open fault) × (is_some (name_given file given) ≡ true) × FailsToOpen file files
 
--- how a run ends by how its log and its wear were written: the first one that failed is told
+-- how a run ends by how its log and its wear were written: the first one that failed is reported
 abbrev pub outcome_of : Result (Unit {0}) OutputFailed → Result (Unit {0}) OutputFailed → Result (Unit {0}) Stop
 outcome_of (Err _) wear = Err (stop.File run_file.Collections file_stop.Failed)
 outcome_of (Ok _) (Err _) = Err (stop.File run_file.Wear file_stop.Failed)
@@ -276,7 +276,7 @@ pub record Stopped (words : List Text) (found : RunFault) (input output : Passag
   pub why : ExplainsRun (IsTextFor device.given.patience) geo input output found
   pub left : LeavesFiles found geo device.given input.before files
 
--- some of a text went out, and then the writer failed
+-- some of a text was written, and then the writer failed
 pub record AppendsSome (output : Passage) : Type 0 where
   pub text : List ℕ
   pub part : SendsBeginning output text
@@ -302,8 +302,8 @@ pub record AsksForText (words : List Text) : Type 0 where
   pub asked : IsAmong (kind_of error) (faults_given words)
   pub is_request : AsksClap (kind_of error)
 
--- why a session stopped. Nothing is on the output but after `Output` of a run, `Help` and `Failed` of a file, nothing was
--- read but by a run, and nothing is told in a file but after `Output` of a run and with the `Failed` of a file
+-- why a session stopped. Nothing is on the output except after `Output` of a run, `Help` and `Failed` of a file; only a run reads anything;
+-- and nothing is in a file except after `Output` of a run and with the `Failed` of a file
 abbrev pub ExplainsStop : Stop → List Text → Passage → Passage → Filings → Type 0
 ExplainsStop (stop.Arguments text) words input output files =
     IsRefused words × IsIdle input output × AreUntouched files
@@ -331,14 +331,15 @@ abbrev pub status_after : Result (Unit {0}) Stop → ℕ
 status_after (Ok _) = 0
 status_after (Err why) = status_of why
 
--- how a session ended, and that the status and what was told on standard error tell it
+-- how a session ended, and that the status and what was written to standard error say so
 pub record EndsSession (status : ℕ) (words : List Text) (input output errors : Passage) (files : Filings) : Type 0 where
   pub ending : Result (Unit {0}) Stop
   pub status_is : status ≡ status_after ending
   pub why : Explains ending words input output files
   pub told : TellsEnding ending errors
 
--- what comes of the words that clap refused with an error: the help or the version is written, and every other text is told elsewhere
+-- what follows from the words that clap refused with an error: the help or the version is written, and every other text goes to standard
+-- error
 abbrev pub AnswersClap : Error → Result (Unit {0}) Stop → Passage → Type 0
 AnswersClap error (Ok _) output =
     AsksClap (kind_of error) × (output.after.failures ≡ output.before.failures) × (text : List ℕ) × Sends output text

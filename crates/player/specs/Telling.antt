@@ -1,4 +1,4 @@
--- What a session tells on standard error.
+-- What a session writes to standard error.
 use Rattle.std.specs.Prelude.{◌≡◌, ℕ, List, [], ◌++◌, codes, decimal, string_bytes, Result, Ok, Err}
 use Rattle.geometry.specs.Faults.{fault_name}
 use Rattle.answers.specs.Faults.{run_text}
@@ -22,7 +22,7 @@ file_text file_stop.NotOpened = codes ": not opened"
 file_text file_stop.NotItsOwn = codes ": not a file of its own"
 file_text file_stop.Failed = codes ": failed"
 
--- what tells why a session stopped: a line, or clap's text where the arguments are refused
+-- what says why a session stopped: a line, or clap's text if the arguments are refused
 abbrev pub text_of : Stop → List ℕ
 text_of (stop.Arguments text) = string_bytes text
 text_of (stop.Encoding place) = codes "argument " ++ decimal place ++ codes ": not UTF-8\n"
@@ -32,21 +32,21 @@ text_of stop.Help = codes "output: failed\n"
 text_of stop.Memory = codes "memory: refused\n"
 text_of (stop.File file why) = file_name file ++ file_text why ++ codes "\n"
 
--- the same where it is a line of our own, and nothing where it is clap's text
+-- the same if it is a line of our own, and nothing if it is clap's text
 abbrev pub line_of : Stop → List ℕ
 line_of (stop.Arguments text) = []
 line_of why = text_of why
 
--- a text went out whole where no call of the writer failed, and else a beginning of it
+-- a text was written whole if no call of the writer failed, and otherwise a beginning of it
 pub record IsTold (text : List ℕ) (errors : Passage) : Type 0 where
   pub part : SendsBeginning errors text
   pub whole : errors.after.failures ≡ errors.before.failures → Sends errors text
 
--- the text of this stop was told, once
+-- the text of this stop was written, once
 abbrev pub TellsStop : Stop → Passage → Type 0
 TellsStop why errors = IsTold (text_of why) errors
 
--- a session that ends well tells nothing, and else it tells why it stopped
+-- a session that ends well writes nothing, and any other says why it stopped
 abbrev pub TellsEnding : Result (Unit {0}) Stop → Passage → Type 0
 TellsEnding (Ok _) errors = errors.after ≡ errors.before
 TellsEnding (Err why) errors = TellsStop why errors

@@ -35,9 +35,9 @@ merge v w = record v {
   ceded = w.ceded;
 }
 
--- A pass has played one line, with so many tries of a write: the line has its right answer at a history, not before what the pass had seen, and the
--- pass has seen that history with the line's call. Where it was not turned away its call is the pass's own, and a write has programmed a page. The
--- blocks that the pass has found taken are those of the tries of a write
+-- A pass has played one line, with this many tries of a write: the line has its right answer at a history, not before what the pass had
+-- seen, and the pass has seen that history with the line's call. If it was not turned away its call is the pass's own, and a write has
+-- programmed a page. The blocks that the pass has found taken are those of the tries of a write
 pub record PlayedLine (t patience : ℕ) (v : View) (o : Op) (s : ℕ) (value : List ℕ) (k : Kind) (page : List ℕ) (full : Bool) (w : View) : Type 0 where
   pub changed : w ≡ merge v w
   pub history : List Call
@@ -54,6 +54,6 @@ pub record PlayedLine (t patience : ℕ) (v : View) (o : Op) (s : ℕ) (value : 
   pub denied : w.denied ≡ v.denied ++ found
   pub tried : LineFound patience v.numbers.blocks o full found
 
--- the pass has played one line, answered so; it was turned away where the answer says full
+-- the pass has played one line, with this answer; it was turned away if the answer is full
 abbrev pub HasPlayedLine : ℕ → Pass → Op → ℕ → List ℕ → Kind → List ℕ → Pass → Type 0
 HasPlayedLine patience old o s value k page new = (t : ℕ) → HasNumber t old → PlayedLine t patience (view_of old) o s value k page (is_full k) (view_of new)

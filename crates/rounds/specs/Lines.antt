@@ -1,5 +1,6 @@
--- Lines of a trace, each done by a worker at a sector: the calls that they make, and the histories at which they are answered. What a line is stands open here;
--- who does it, at which sector, by which calls, and which answer is right for what its sector holds, are functions of it.
+-- Lines of a trace, each done by a worker at a sector: the calls that they make, and the histories at which they are answered. What a line
+-- is is left open here; who does it, at which sector, by which calls, and which answer is right for what its sector holds, are functions of
+-- it.
 use Rattle.std.specs.Prelude.{◌≡◌, ℕ, ◌==◌, List, [], ◌∷◌, ◌++◌}
 use Rattle.std.specs.List.{flat_map, filter}
 use Rattle.geometry.specs.Sectors.{Sector}
@@ -25,6 +26,6 @@ abbrev pub InOrder : {X : Type 0} → (X → ℕ) → (X → List Call) → (X �
 InOrder sector calls right n seen [] = Unit {0}
 InOrder sector calls right n seen (x ∷ xs) = right x (held n seen (sector x)) × InOrder sector calls right n (seen ++ calls x) xs
 
--- two histories leave the same array
+-- two histories give the same array
 abbrev pub LeaveSame : ℕ → List Call → List Call → Type 0
 LeaveSame n h k = after n h ≡ after n k

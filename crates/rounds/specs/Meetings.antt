@@ -6,7 +6,7 @@ use Rattle.flash_rule.specs.declared.view.View.{View}
 use Rattle.flash_rule.specs.Views.{caller, calls_of}
 use Rattle.rounds.specs.Lines.{made, lines_of, Plays}
 
--- All passes have seen one history, and its calls are those of the passes, each with just its own
+-- All passes have seen one history, and its calls are those of the passes, each with exactly its own
 pub record AreTied (hosts : ℕ) (h : List Call) (view : ℕ → View) : Type 0 where
   pub callers : All (λ c. caller c < hosts) h
   pub later : (t : ℕ) → t < hosts → Begins h (view t).seen

@@ -1,4 +1,4 @@
--- The lines of a trace from the answers of its workers: each worker's answers stand in a row, in the order of its lines.
+-- The lines of a trace from the answers of its workers: each worker's answers are a row, in the order of its lines.
 use Rattle.std.specs.Prelude.{◌≡◌, ℕ, ◌≤◌, ◌==◌, ◌&&◌, not, All, Bool, true, false, if◌then◌else◌, List, [], ◌∷◌, length, take, drop, Option, None, Some, slice_get}
 use Rattle.std.specs.List.{filter}
 use Rattle.trace.specs.declared.commands.Command.{Command}
@@ -32,7 +32,7 @@ is_line_of t c = not (is_meet c.op) && (c.worker == t)
 abbrev pub lines_for : ℕ → List Command → List Command
 lines_for t cs = filter (is_line_of t) cs
 
--- how many they are
+-- how many lines of the worker there are
 abbrev pub line_count : ℕ → List Command → ℕ
 line_count t cs = length (lines_for t cs)
 
@@ -41,11 +41,11 @@ abbrev pub answer_for : Command → Option Said → Line
 answer_for c None = record { command = c; kind = kind.Met; page = [] }
 answer_for c (Some a) = line c a
 
--- the answer of the next command is the first of its worker's row
+-- the answer of the next command is the first one of its worker's row
 abbrev pub next_of : Command → (ℕ → List Said) → Option Said
 next_of c rows = if is_meet c.op then None else slice_get (rows c.worker) 0
 
--- what is left of the rows behind a command
+-- what is left of the rows after a command
 abbrev pub after_line : Command → (ℕ → List Said) → ℕ → List Said
 after_line c rows t = if is_line_of t c then drop 1 (rows t) else rows t
 
@@ -54,7 +54,7 @@ abbrev pub merge : List Command → (ℕ → List Said) → List Line
 merge [] rows = []
 merge (c ∷ cs) rows = answer_for c (next_of c rows) ∷ merge cs (after_line c rows)
 
--- what is left of the rows behind commands
+-- what is left of the rows after commands
 abbrev pub rows_after : List Command → (ℕ → List Said) → ℕ → List Said
 rows_after cs rows t = drop (line_count t cs) (rows t)
 
@@ -62,7 +62,7 @@ rows_after cs rows t = drop (line_count t cs) (rows t)
 abbrev pub HaveAnswers : (ℕ → List Said) → List Command → Type 0
 HaveAnswers rows cs = (t : ℕ) → line_count t cs ≤ length (rows t)
 
--- up to these commands the rows are the same
+-- up to these commands the rows are equal
 abbrev pub AreSameFor : List Command → (ℕ → List Said) → (ℕ → List Said) → Type 0
 AreSameFor cs rows others = (t : ℕ) → take (line_count t cs) (rows t) ≡ take (line_count t cs) (others t)
 

@@ -12,13 +12,14 @@ use Rattle.rounds.specs.Rounds.{PlayedRound}
 use Rattle.rounds.specs.Told.{worker_of, sector_of, calls_in, is_right}
 use Rattle.rounds.specs.Merging.{lines_for, merge, rows_after, AreDisjointCommands, rounds_of}
 
--- the answers of each worker, from rows that stand in the order of the workers; none where there is no row
+-- the answers of each worker, from rows in the order of the workers; none if there is no row
 abbrev pub answers_by : List Answers → ℕ → List Said
 answers_by rows t = slice_index_or (map said_in rows) t []
 
--- A round was answered between two histories, by the next answers of the rows. The later history begins with the earlier one; each line of the round was answered
--- between the two, and the calls in between are those of the round's lines that were done, and no others. If the round is disjoint, its lines were answered as one
--- after another, from the array that the earlier history leaves, and the later history leaves the array that they leave
+-- A round was answered between two histories, by the next answers of the rows. The later history begins with the earlier one; each line of
+-- the round was answered between the two, and the calls in between are those of the round's lines that were done, and no others. If the
+-- round is disjoint, its lines were answered as if one after another, from the array of the earlier history, and the array of the later one
+-- is what they make of it
 pub record RoundAnswered (n hosts : ℕ) (first : List Call) (cs : List Command) (rows : ℕ → List Said) (last : List Call) : Type 0 where
   pub played : PlayedRound worker_of sector_of calls_in is_right hosts n first (merge cs rows) last
   pub exact : AreDisjointCommands cs → InOrder sector_of calls_in is_right n first (merge cs rows) × LeaveSame n last (first ++ made calls_in (merge cs rows))
@@ -28,8 +29,9 @@ abbrev pub AreRounds : ℕ → ℕ → List Call → List (List Command) → (�
 AreRounds n hosts first [] rows last = first ≡ last
 AreRounds n hosts first (cs ∷ rest) rows last = (h : List Call) × RoundAnswered n hosts first cs rows h × AreRounds n hosts h rest (rows_after cs rows) last
 
--- Workers have answered their lines at one history. It holds the calls of the lines that were done, each worker's in their order, and no others; each worker's
--- lines were rightly answered one after another, each where a beginning of it had been made; and it has grown from the empty history round by round
+-- Workers have answered their lines at one history. It holds the calls of the lines that were done, each worker's in their order, and no
+-- others; each worker's lines were rightly answered one after another, each at a beginning of it; and it has grown from the empty history
+-- round by round
 pub record AreAtOneHistory (n hosts : ℕ) (commands : List Command) (rows : ℕ → List Said) : Type 0 where
   pub history : List Call
   pub callers : All (λ c. caller c < hosts) history

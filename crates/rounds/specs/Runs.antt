@@ -1,4 +1,4 @@
--- A run over all rounds of a trace, as far as it has come.
+-- A run over the rounds of a trace, as far as it has been played.
 use Rattle.std.specs.Prelude.{◌≡◌, ℕ, ◌<◌, All, true, List, [], ◌∷◌, ◌++◌}
 use Rattle.geometry.specs.History.{Call}
 use Rattle.flash_rule.specs.declared.view.View.{View}
@@ -21,11 +21,11 @@ pub record RoundOfRun (hosts n : ℕ) (first last : List Call) (before played af
   pub play : HavePlayed worker_of sector_of calls_in is_right hosts n before (merge cs (rows_after done others)) played
   pub swept : WereSwept hosts last played after
 
--- A run begins with no line, at no history
+-- A run begins with no line, at the empty history
 abbrev pub RunBegins : Type 0
 RunBegins = (n : ℕ) (rows : ℕ → List Said) → AreAnswered n [] (merge [] rows)
 
--- A round more keeps the passes tied, and all lines so far answered in order
+-- After one more round the passes are still at one history, and all lines so far are answered in order
 abbrev pub RunGoesOn : Type 0
 RunGoesOn =
     (hosts n : ℕ) (first last : List Call) (before played after : ℕ → View) (done cs : List Command) (rows others : ℕ → List Said)
@@ -36,10 +36,10 @@ RunGoesOn =
 abbrev pub MeetingGoesOn : Type 0
 MeetingGoesOn = (n : ℕ) (h : List Call) (done : List Command) (c : Command) (rows : ℕ → List Said) → is_meet c.op ≡ true → AreAnswered n h (merge done rows) → AreAnswered n h (merge (done ++ c ∷ []) rows)
 
--- Where all rounds are disjoint, the lines of all rounds, each round answered between two histories, are answered in order
+-- If all rounds are disjoint, the lines of all rounds, each round answered between two histories, are answered in order
 abbrev pub RoundsGoOn : Type 0
 RoundsGoOn = (n hosts : ℕ) (h : List Call) (commands : List Command) (rows : ℕ → List Said) → AreRounds n hosts [] (rounds_of commands) rows h → IsDisjointTrace commands → AreAnswered n h (merge commands rows)
 
--- Once all commands are answered so, their lines are as text the answers of the trace, with the writes turned away at some set of lines
+-- If all commands are answered so, the text of their lines is the answers of the trace, with the writes turned away at some set of lines
 abbrev pub RunIsText : Type 0
 RunIsText = (n : ℕ) (h : List Call) (commands : List Command) (rows : ℕ → List Said) → AreAnswered n h (merge commands rows) → IsTextOfSome n commands (lines_text 0 (merge commands rows))

@@ -1,4 +1,4 @@
--- The lines of a trace with what they were told.
+-- The lines of a trace with their answers.
 use Rattle.std.specs.Prelude.{ℕ, ◌<◌, if◌then◌else◌, List, [], ◌∷◌, ◌++◌}
 use Rattle.geometry.specs.Sectors.{Sector}
 use Rattle.geometry.specs.History.{Call}
@@ -24,11 +24,11 @@ worker_of x = x.command.worker
 abbrev pub sector_of : Line → ℕ
 sector_of x = x.command.sector
 
--- the calls that it has added to the history: none where it was turned away
+-- the calls that it has added to the history: none if it was turned away
 abbrev pub calls_in : Line → List Call
 calls_in x = if is_full x.kind then [] else calls_by x.command.worker x.command.op x.command.sector x.command.page
 
--- its answer is right where its sector holds this
+-- its answer is right if its sector holds this
 abbrev pub is_right : Line → Sector → Type 0
 is_right x sector = IsRight x.command.op sector x.kind x.page
 
@@ -42,7 +42,7 @@ told [] answers = []
 told (c ∷ lines) [] = []
 told (c ∷ lines) (a ∷ answers) = line c a ∷ told lines answers
 
--- lines that are rightly answered one after another, from an unused device on, and a history that leaves the array that they leave
+-- lines that are rightly answered one after another, from an unused device on, and a history with the array that they leave
 pub record AreAnswered (n : ℕ) (h : List Call) (xs : List Line) : Type 0 where
   pub in_order : InOrder sector_of calls_in is_right n [] xs
   pub same : LeaveSame n h (made calls_in xs)
@@ -56,8 +56,8 @@ pub record RoundOf (hosts n : ℕ) (first last : List Call) (before played after
   pub play : HavePlayed worker_of sector_of calls_in is_right hosts n before xs played
   pub swept : WereSwept hosts last played after
 
--- After such a round the passes are tied to one history again, and its lines are answered in order behind all lines that were answered in order before it, though
--- the workers have played them at once
+-- After such a round the passes are at one history again, and its lines are answered in order after all lines that were answered in order
+-- before it, although the workers have played them at the same time
 abbrev pub RoundsAreInOrder : Type 0
 RoundsAreInOrder =
     (hosts n : ℕ) (first last : List Call) (before played after : ℕ → View) (xs all : List Line) → RoundOf hosts n first last before played after xs

@@ -12,7 +12,8 @@ use Rattle.lines.specs.Answers.{page_size_of, said_in, HasSpaceFor}
 use Rattle.lines.specs.declared.answers.Answers.{Answers}
 use Rattle.playing.specs.Playable.{IsLine, lines_at}
 
--- The pass is ready, each place is one of the trace's, the device can do the lines there, and there is room for the answers of those that are not answered yet
+-- The pass is ready, each index is one of the trace's, the device can do the lines there, and there is room for the answers of those that
+-- are not answered yet
 pub record IsAble (volume : Volume) (lines : List Command) (pass : Pass) (places : List ℕ) (answers : Answers) (buffer : List ℕ) : Type 0 where
   pub ready : IsReady (flash_of volume) pass
   pub there : All (λ p. p < length lines) places
@@ -21,6 +22,6 @@ pub record IsAble (volume : Volume) (lines : List Command) (pass : Pass) (places
   pub space : HasSpaceFor answers (lines_at lines (drop (length (said_in answers)) places))
   pub paged : length buffer ≡ page_bytes_of (geometry_of (flash_of volume))
 
--- That a worker is able is a fact that has one proof at most, so that a struct can keep it
+-- That a worker is able is a fact with at most one proof, so that a struct can keep it
 pub IsAble-prop : (volume : Volume) (lines : List Command) (pass : Pass) (places : List ℕ) (answers : Answers) (buffer : List ℕ) → IsProp (IsAble volume lines pass places answers buffer)
 IsAble-prop volume lines pass places answers buffer = hlevel props

@@ -14,20 +14,20 @@ use Rattle.shared_player.specs.declared.sweeper.Sweeper.{Sweeper}
 use Rattle.shared_player.specs.Growing.{HasGrown}
 use Rattle.shared_player.specs.Tallies.{IsCounted, total_of}
 
--- A restock gave this answer. It has nothing to do with the queue, and the broom keeps its last survey
+-- A restock had this result. It doesn't use the queue, and the broom keeps its last survey
 pub record HasRestocked (before : Broom) (given : Bool) (after : Broom) : Type 0 where
   pub told : RestockTold before given after
   pub queue : HandsNothing before after
   pub survey : KeepsSurvey before after
 
--- what each call of a broom tells by its answer, where the queue has room for so many
+-- what each call of a broom means, by its result, if the queue has room for this many
 abbrev pub CallTold : ℕ → Broom → BroomAnswer → Broom → Type 0
 CallTold limit before (by.Drain given) after = DrainOneTold limit before given after
 CallTold limit before (by.DrainNext given) after = DrainNextOneTold limit before given after
 CallTold limit before (by.Erase given) after = EraseOneTold limit before given after
 CallTold limit before (by.Restock given) after = HasRestocked before given after
 
--- the broom made calls with these answers, one after another, and did nothing else
+-- the broom made calls with these results, one after another, and did nothing else
 abbrev pub HasCollected : ℕ → Broom → List BroomAnswer → Broom → Type 0
 HasCollected limit before [] after = after ≡ before
 HasCollected limit before (answer ∷ answers) after = (next : Broom) × CallTold limit before answer next × HasCollected limit next answers after
@@ -36,8 +36,8 @@ HasCollected limit before (answer ∷ answers) after = (next : Broom) × CallTol
 abbrev pub limit_at : Sweeper → ℕ
 limit_at s = limit_of (queue_of (arc_value s.volume))
 
--- The broom is the same one, at the same device, with the same limit of drains: it made calls with these answers, and did nothing else. They were counted, and what it
--- knows to have done has grown by their count
+-- The broom is the same one, at the same device, with the same limit of drains: it made calls with these results, and did nothing else.
+-- They were counted, and their count was added to what it knows to have done
 pub record HasSweptBy (before : Sweeper) (answers : List BroomAnswer) (after : Sweeper) : Type 0 where
   pub volume : arc_value after.volume ≡ arc_value before.volume
   pub drains : after.drains ≡ before.drains

@@ -9,9 +9,9 @@ use Rattle.rounds.specs.Merging.{lines_for, merge, IsDisjointTrace}
 use Rattle.rounds.specs.Rows.{AreAtOneHistory}
 use Rattle.rounds.specs.Texts.{lines_text, IsTextOfSome}
 
--- The commands of a trace were played on a device of this geometry, by a worker for each of its hosts, with so many tries of each write: all lines were answered at one
--- history, without a try no write was done, and where the trace is disjoint, the answers are as text those of the trace, with the writes
--- turned away at some set of lines
+-- The commands of a trace were played on a device of this geometry, by a worker for each of its hosts, with this many tries of each write:
+-- all lines were answered at one history, without a try no write was done, and if the trace is disjoint, the text of the answers is that of
+-- the trace, with the writes turned away at some set of lines
 pub record ArePlayed (geo : Geometry) (patience : ℕ) (commands : List Command) (rows : ℕ → List Said) : Type 0 where
   pub told : AreAtOneHistory (sectors_of geo) (hosts_of geo) commands rows
   pub untried : patience ≡ 0 → (t : ℕ) → t < hosts_of geo → writes_done (lines_for t commands) (rows t) ≡ 0

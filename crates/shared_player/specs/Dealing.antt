@@ -1,4 +1,4 @@
--- What is dealt to the workers of a run: the device, a pass each, and a share of the trace.
+-- What the workers of a run receive: the device, a pass each, and a share of the trace.
 use Rattle.std.specs.Prelude.{◌≡◌, ℕ, ◌<◌, All, List, [], Some, length, slice_get}
 use Rattle.std.proofs.Props.{props}
 use Rattle.std.specs.Arc.{arc_value}
@@ -21,7 +21,7 @@ pub record AreReady (volume : Volume) (passes : List Pass) (brooms : List Broom)
   pub passes_ready : All (IsReady (flash_of volume)) passes
   pub brooms_ready : All (IsBroomReady volume) brooms
 
--- that they are ready is a fact that has one proof at most, so that a struct can keep it
+-- that they are ready is a fact with at most one proof, so that a struct can keep it
 pub AreReady-prop : (volume : Volume) (passes : List Pass) (brooms : List Broom) → IsProp (AreReady volume passes brooms)
 AreReady-prop volume passes brooms = hlevel (props, IsBroomReady-prop)
 
@@ -32,12 +32,12 @@ pub record AreNew (geo : Geometry) (volume : Volume) (passes : List Pass) (broom
   pub sweeping : length brooms ≡ brooms_of geo
   pub first : (t : ℕ) (p : Pass) → slice_get passes t ≡ Some p → view_of p ≡ first_view (device (flash_of volume)) t
 
--- these places are of lines that a device of this geometry can do
+-- these indexes are of lines that a device of this geometry can do
 pub record AreDoable (geo : Geometry) (lines : List Command) (places : List ℕ) : Type 0 where
   pub there : All (λ p. p < length lines) places
   pub doable : All (IsLine geo) (lines_at lines places)
 
--- A share of a trace: places of lines that can be done, no answers and room for those of the lines, and a buffer of a page
+-- A share of a trace: indexes of lines that can be done, no answers and room for those of the lines, and a buffer of a page
 pub record IsFit (geo : Geometry) (lines : List Command) (places : List ℕ) (answers : Answers) (buffer : List ℕ) : Type 0 where
   pub doable : AreDoable geo lines places
   pub none : said_in answers ≡ []

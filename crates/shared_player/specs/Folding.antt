@@ -8,7 +8,8 @@ use Rattle.shared_player.specs.declared.sweeper.Sweeper.{Sweeper}
 use Rattle.shared_player.specs.declared.sweeper_end.SweeperEnd.{SweeperEnd}
 use Rattle.shared_player.specs.Collecting.{limit_at}
 
--- A broom was given up, and its tally kept. The blocks that it had are closed. What it had set aside was put into the queue, or the queue was full
+-- A broom was given up, and its tally kept. The blocks that it had are closed. What it had set aside was put into the queue, or the queue
+-- was full
 pub record HasFolded (s : Sweeper) (end : SweeperEnd) : Type 0 where
   pub tally : end.tally ≡ s.tally
   pub view : folded_view end.folded ≡ closed_broom (view_of_broom s.broom) (blocks_of_broom s.broom)

@@ -1,4 +1,4 @@
--- The passes of posts, by their numbers, and what a meeting of all leaves as it was.
+-- The passes of posts, by their numbers, and what a meeting of all leaves unchanged.
 use Rattle.std.specs.Prelude.{◌≡◌, ℕ, ◌<◌, List, map, length, slice_index_or}
 use Rattle.std.specs.Arc.{arc_value}
 use Rattle.geometry.specs.History.{Call}
@@ -23,7 +23,7 @@ IsAt volume p = arc_value p.volume ≡ volume
 abbrev pub passes_of : List Post → List Pass
 passes_of posts = map (λ p. p.pass) posts
 
--- what a post has but for its pass
+-- what a post has besides its pass
 abbrev pub Rest : Type 0
 Rest = Volume × List Command × List ℕ × Answers × List ℕ × ℕ
 
@@ -35,7 +35,7 @@ rest_of p = (arc_value p.volume, arc_value p.commands, p.places.items, p.answers
 abbrev pub views_of : Volume → List Pass → ℕ → View
 views_of volume passes t = slice_index_or (map view_of passes) t (first_view (device (flash_of volume)) t)
 
--- each pass stands at its number
+-- each pass is at the index of its number
 abbrev pub AreSeated : List Pass → Type 0
 AreSeated passes = (t : ℕ) (p : Pass) → t < length passes → (view_of (slice_index_or passes t p)).role ≡ Player (APass t)
 

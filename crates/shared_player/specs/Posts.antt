@@ -20,7 +20,7 @@ answers_kept p = p.answers
 abbrev pub answered : Post → ℕ
 answered p = length (said_in p.answers)
 
--- the places of the post's lines of the round
+-- the indexes of the post's lines of the round
 abbrev pub round_places : Post → List ℕ
 round_places p = slice_range p.places.items (answered p) p.to
 
@@ -28,7 +28,8 @@ round_places p = slice_range p.places.items (answered p) p.to
 abbrev pub round_lines : Post → List Command
 round_lines p = lines_at (arc_value p.commands) (round_places p)
 
--- The post's pass has played the lines of the round, in order, and nothing else of the post has changed but that their answers were added, and its buffer
+-- The post's pass has played the lines of the round, in order, and nothing else of the post has changed except that their answers were
+-- added, and its buffer
 pub record HasPlayed (patience : ℕ) (p r : Post) : Type 0 where
   pub volume : arc_value r.volume ≡ arc_value p.volume
   pub commands : arc_value r.commands ≡ arc_value p.commands

@@ -20,7 +20,8 @@ use Rattle.shared_player.specs.Posts.{answered}
 use Rattle.shared_player.specs.Shares.{HasPlayedNone}
 use Rattle.shared_player.specs.Turns.{HavePlayed}
 
--- The post goes on to its next round: up to the lines of its row that stand before an end, behind those of the round before. Nothing else of it changes
+-- The post goes on to its next round: up to the lines of its share before an end, after those of the round before. Nothing else of it
+-- changes
 pub record IsTurned (end : ℕ) (p q : Post) : Type 0 where
   pub volume : arc_value q.volume ≡ arc_value p.volume
   pub commands : arc_value q.commands ≡ arc_value p.commands
@@ -69,7 +70,8 @@ pub record IsDealt (trace : List Command) (t : ℕ) (p : Post) : Type 0 where
   pub commands : arc_value p.commands ≡ trace
   pub places : p.places.items ≡ places_for t trace
 
--- A run of this trace is to begin: its workers and sectors are those of the volume, each post has its worker's lines and has played none, and no pass has seen a call
+-- A run of this trace is about to begin: its workers and sectors are those of the volume, each post has its worker's lines and has played
+-- none, and no pass has seen a call
 pub record HasBegun (volume : Volume) (trace : List Command) (ends : List ℕ) (posts : List Post) : Type 0 where
   pub rounds : ends ≡ ends_of trace
   pub workers : All (λ c. c.worker < length posts) trace
@@ -82,8 +84,9 @@ pub record HasBegun (volume : Volume) (trace : List Command) (ends : List ℕ) (
 abbrev pub denied_by : Volume → List Post → ℕ → List ℕ
 denied_by volume posts t = (views_of volume (passes_of posts) t).denied
 
--- What a worker has done in a run, by what its pass knows: it has answered its lines one after another, each rightly at a history, has made just their calls, has
--- programmed a page for each write that was done, and has found taken, behind what it had found so before, the blocks of the tries of each line, in order
+-- What a worker has done in a run, by what its pass knows: it has answered its lines one after another, each rightly at a history; it has
+-- made exactly their calls; it has programmed a page for each write that was done; and it has found taken, after what it had found taken
+-- before, the blocks of the tries of each line, in order
 pub record HasRun (t patience : ℕ) (earlier : List ℕ) (lines : List Command) (answers : List Said) (v : View) : Type 0 where
   pub plays : Plays v.numbers.sectors t [] lines answers v.seen
   pub mine : v.mine ≡ calls_done t lines answers
@@ -92,8 +95,8 @@ pub record HasRun (t patience : ℕ) (earlier : List ℕ) (lines : List Command)
   pub denied : v.denied ≡ earlier ++ found
   pub tried : LinesFound patience v.numbers.blocks lines answers found
 
--- A run of this trace has ended: each worker has answered all its lines, all at one history, and where the trace is disjoint, the answers are as text those of the
--- trace, with the writes turned away at some set of lines
+-- A run of this trace has ended: each worker has answered all its lines, all at one history, and if the trace is disjoint, the text of the
+-- answers is that of the trace, with the writes turned away at some set of lines
 pub record HasEnded (volume : Volume) (patience : ℕ) (trace : List Command) (before posts : List Post) : Type 0 where
   pub count : HaveAnswers (rows_of posts) trace
   pub dealt : (t : ℕ) (p : Post) → t < length posts → IsDealt trace t (slice_index_or posts t p)
@@ -101,6 +104,6 @@ pub record HasEnded (volume : Volume) (patience : ℕ) (trace : List Command) (b
   pub each : (t : ℕ) → t < length posts → HasRun t patience (denied_by volume before t) (lines_for t trace) (rows_of posts t) (views_of volume (passes_of posts) t)
   pub text : IsDisjointTrace trace → IsTextOfSome (sectors_of (geometry_of (flash_of volume))) trace (lines_text 0 (merge trace (rows_of posts)))
 
--- a run of whatever trace these posts were to begin with has ended with those
+-- a run of any trace that these posts were about to play has ended with those
 abbrev pub EndsRun : Volume → ℕ → List ℕ → List Post → List Post → Type 0
 EndsRun volume patience ends before after = (trace : List Command) → HasBegun volume trace ends before → HasEnded volume patience trace before after

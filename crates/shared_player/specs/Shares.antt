@@ -13,15 +13,15 @@ use Rattle.shared_player.specs.declared.post.Post.{Post}
 use Rattle.shared_player.specs.declared.share.Share.{Share}
 use Rattle.shared_player.specs.Dealing.{IsFit}
 
--- the commands of a trace, and the places of the share's lines among them
+-- the commands of a trace, and the indexes of the share's lines among them
 abbrev pub work_in : Share → List Command × List ℕ
 work_in s = (arc_value s.commands, s.places.items)
 
--- the same, of commands and a row of places
+-- the same, of commands and a list of indexes
 abbrev pub with_commands : List Command → Vec ℕ Global → List Command × List ℕ
 with_commands cs row = (cs, row.items)
 
--- the places of each worker's lines among commands
+-- the indexes of each worker's lines among commands
 abbrev pub rows_for : ℕ → List Command → List (List ℕ)
 rows_for hosts cs = map (λ t. places_for t cs) (range_with_len 0 hosts)
 
@@ -29,7 +29,7 @@ rows_for hosts cs = map (λ t. places_for t cs) (range_with_len 0 hosts)
 abbrev pub HasFitShare : Geometry → Share → Type 0
 HasFitShare geo s = IsFit geo (arc_value s.commands) s.places.items s.answers s.buffer.items
 
--- the commands that a post has, and the places of its lines among them
+-- the commands that a post has, and the indexes of its lines among them
 abbrev pub work_of : Post → List Command × List ℕ
 work_of p = (arc_value p.commands, p.places.items)
 

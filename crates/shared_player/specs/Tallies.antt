@@ -13,7 +13,7 @@ use Rattle.shared_player.specs.declared.tally.Tally.{Tally}
 abbrev pub nothing_done : Tally
 nothing_done = record { drained = 0; moved = 0; erased = 0; kept = 0; retired = 0; lost = 0; pinned = 0; stale = 0; gainless = 0 }
 
--- what a drain with this answer adds: a block that was drained and its pages that were moved, or a claim that was lost
+-- what a drain with this result adds: a block that was drained and its pages that were moved, or a claim that was lost
 abbrev pub drain_adds : Drain → Tally
 drain_adds (drain.Drained block copied) = record nothing_done { drained = 1; moved = copied }
 drain_adds drain.NothingToGain = nothing_done
@@ -21,7 +21,7 @@ drain_adds drain.NoSpare = nothing_done
 drain_adds drain.Lost = record nothing_done { lost = 1 }
 drain_adds drain.QueueFull = nothing_done
 
--- what a drain by a new survey adds: also a survey by which there was nothing to gain
+-- what a drain by a new survey adds: also a survey that shows nothing to gain
 abbrev pub survey_adds : Drain → Tally
 survey_adds (drain.Drained block copied) = drain_adds (drain.Drained block copied)
 survey_adds drain.NothingToGain = record nothing_done { gainless = 1 }
@@ -29,7 +29,7 @@ survey_adds drain.NoSpare = nothing_done
 survey_adds drain.Lost = drain_adds drain.Lost
 survey_adds drain.QueueFull = nothing_done
 
--- what an erase with this answer adds: an erased block, kept or not or retired, or one that had readers, or one that wasn't drained
+-- what an erase with this result adds: an erased block, kept or not or retired, or one that had readers, or one that wasn't drained
 abbrev pub erase_adds : Erase → Tally
 erase_adds (erase.Erased block kept) = record nothing_done { erased = 1; kept = count_if kept }
 erase_adds (erase.Retired block) = record nothing_done { erased = 1; retired = 1 }
@@ -37,7 +37,7 @@ erase_adds erase.Pinned = record nothing_done { pinned = 1 }
 erase_adds erase.Stale = record nothing_done { stale = 1 }
 erase_adds erase.QueueEmpty = nothing_done
 
--- what a call with this answer adds
+-- what a call with this result adds
 abbrev pub answer_adds : BroomAnswer → Tally
 answer_adds (by.Drain given) = survey_adds given
 answer_adds (by.DrainNext given) = drain_adds given
@@ -77,6 +77,6 @@ wrapped t = record {
   gainless = t.gainless % 2 ^ 64;
 }
 
--- these answers were counted, and nothing else: modulo 2 ^ 64 the tally is the one before with what they add
+-- these results were counted, and nothing else: modulo 2 ^ 64 the tally is the one before plus what they add
 abbrev pub IsCounted : Tally → List BroomAnswer → Tally → Type 0
 IsCounted before answers after = wrapped after ≡ wrapped (added before (total_of answers))

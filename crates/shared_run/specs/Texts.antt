@@ -18,9 +18,9 @@ pub record IsWholeTextOfSome (n : ℕ) (commands : List Command) (text : List �
   pub answers : IsTextOfSome n commands lines
   pub whole : text ≡ lines ++ end_text
 
--- This is a text of the commands that these bytes mean, with so many tries of each write: a line for each command with its worker's next answer, and the last line. All
--- lines were answered at one history, without a try no write was done, and where the trace is disjoint, they are the answers of the trace, with the writes turned away at
--- some set of lines
+-- This is a text of the commands that these bytes mean, with this many tries of each write: a line for each command with its worker's next
+-- answer, and the last line. All lines were answered at one history, without a try no write was done, and if the trace is disjoint, they
+-- are the answers of the trace, with the writes turned away at some set of lines
 pub record IsTextOf (patience : ℕ) (geo : Geometry) (bytes text : List ℕ) : Type 0 where
   pub commands : List Command
   pub meaning : commands_of bytes geo ≡ Ok commands

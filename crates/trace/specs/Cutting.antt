@@ -1,4 +1,4 @@
--- Where the records of a text stand, and how csv's machine reads from one place of it to another.
+-- Where the records of a text are, and how csv's machine reads from one place of it to another.
 use Rattle.std.specs.Prelude.{◌≡◌, ◌≢◌, ◌≤◌, ◌<◌, ◌-◌, ◌==◌, ◌||◌, ℕ, Bool, true, false, not, List, [], ◌∷◌, Option, Some, IfSome, length, take, drop}
 use Rattle.csv.specs.Machine.{Read, Runs, next_record}
 use Rattle.csv.specs.Reading.{default_config, strip_bom}
@@ -22,7 +22,7 @@ begins_with byte (first ∷ rest) = first == byte
 abbrev pub is_line_end : ℕ → Bool
 is_line_end byte = (byte == 13) || (byte == 10)
 
--- whether a byte ends a field, where no quotes are open
+-- whether a byte ends a field, if no quotes are open
 abbrev pub is_field_end : ℕ → Bool
 is_field_end byte = (byte == 44) || is_line_end byte
 
@@ -31,50 +31,50 @@ abbrev pub ends_field : List ℕ → Bool
 ends_field [] = true
 ends_field (byte ∷ rest) = is_field_end byte
 
--- whether no line end stands at the start of this text
+-- whether this text doesn't begin with a line end
 abbrev pub ends_no_line : List ℕ → Bool
 ends_no_line [] = true
 ends_no_line (byte ∷ rest) = not (is_line_end byte)
 
 -- ---- fields
 
--- the record that is read from here on, in this state, behind these fields and these bytes of a field
+-- the record that is read from here on, in this state, after these fields and these bytes of a field
 abbrev pub read_on : State → List (List ℕ) → List ℕ → List ℕ → Option Read
 read_on s fields field bytes = next_record default_config s fields field bytes
 
--- between these places each byte only joins the field at hand
+-- between these places each byte only joins the current field
 pub record Joins (s : State) (text : List ℕ) (start end : ℕ) : Type 0 where
   pub low : start ≤ end
   pub high : end ≤ length text
   pub runs : Runs default_config s (take (end - start) (drop start text))
 
--- a field without quotes that are open goes on from the one place to the other, where it ends
+-- a field without open quotes goes on from the one place to the other, where it ends
 pub record EndsPlain (text : List ℕ) (start end : ℕ) : Type 0 where
   pub joins : Joins st.InField text start end
   pub stops : ends_field (drop end text) ≡ true
 
--- a field whose quotes are open goes on from the one place to the next quote, or to the end of the text
+-- a field with open quotes goes on from the one place to the next quote, or to the end of the text
 pub record EndsQuoted (text : List ℕ) (start end : ℕ) : Type 0 where
   pub joins : Joins st.InQuoted text start end
   pub stops : end ≢ length text → begins_with 34 (drop end text) ≡ true
 
--- a field of this value stands from the one place to the other, where it ends
+-- a field of this value goes from the one place to the other, where it ends
 pub record IsField (text : List ℕ) (start end : ℕ) (value : List ℕ) : Type 0 where
   pub low : start ≤ end
   pub high : end ≤ length text
   pub reads : (fields : List (List ℕ)) → read_on st.StartField fields [] (drop start text) ≡ read_on st.InField fields value (drop end text)
   pub stops : ends_field (drop end text) ≡ true
 
--- some field stands there
+-- some field is there
 abbrev pub EndsField : List ℕ → ℕ → ℕ → Type 0
 EndsField text start end = (value : List ℕ) × IsField text start end value
 
--- these bytes stand in a text right before a place
+-- these bytes are in a text right before a place
 pub record StandsBefore (text : List ℕ) (end : ℕ) (part : List ℕ) : Type 0 where
   pub low : length part ≤ end
   pub is : part ≡ take (length part) (drop (end - length part) text)
 
--- the field that was cut is the one that stands there, with its value, if that was told
+-- the field that was cut is the one that is there, with its value, if that was recorded
 pub record CutsField (text : List ℕ) (start : ℕ) (f : Field) : Type 0 where
   pub value : List ℕ
   pub is : IsField text start f.end value
@@ -84,17 +84,17 @@ pub record CutsField (text : List ℕ) (start : ℕ) (f : Field) : Type 0 where
 
 -- ---- records
 
--- the records of a text that stands between two records, or at its end
+-- the records of a text from a place between two records, or from its end
 abbrev pub lines_of : List ℕ → List (List (List ℕ))
 lines_of bytes = records_after st.StartRecord bytes
 
--- behind a byte order mark, if one stands there
+-- after a byte order mark, if there is one
 pub record IsMarkEnd (text : List ℕ) (at end : ℕ) : Type 0 where
   pub low : at ≤ end
   pub high : end ≤ length text
   pub strips : strip_bom (drop at text) ≡ drop end text
 
--- behind the line ends at a place the same records stand
+-- after the line ends at a place the same records are there
 pub record StartsRecord (text : List ℕ) (from start : ℕ) : Type 0 where
   pub low : from ≤ start
   pub high : start ≤ length text
@@ -105,14 +105,14 @@ pub record StartsRecord (text : List ℕ) (from start : ℕ) : Type 0 where
 abbrev pub fields_of_row : Row → List (List ℕ)
 fields_of_row row = row.worker.now ∷ row.op.now ∷ row.sector.now ∷ row.digits.now ∷ []
 
--- a record of the values that its fields told
+-- a record of the values of its fields
 pub record HasValues (row : Row) (first second third fourth : Field) : Type 0 where
   pub worker : first.value ≡ Some row.worker
   pub op : second.value ≡ Some row.op
   pub sector : third.value ≡ Some row.sector
   pub digits : fourth.value ≡ Some row.digits
 
--- a record, if it was told, has the values that its fields told
+-- a record, if it was recorded, has the values of its fields
 abbrev pub AreValues : Option Row → Field → Field → Field → Field → Type 0
 AreValues row first second third fourth = IfSome row (λ r. HasValues r first second third fourth)
 
@@ -123,7 +123,7 @@ pub record HasOtherFields (text : List ℕ) (at : ℕ) : Type 0 where
   pub first : records_of (drop at text) ≡ fields ∷ others
   pub count : length fields ≢ 4
 
--- the first record from a place on has four fields, which are these, if they were told, and ends at this place, as its digits do
+-- the first record from a place on has four fields, which are these, if they were recorded, and ends at this place, and so do its digits
 pub record IsRecord (text : List ℕ) (at end : ℕ) (row : Option Row) : Type 0 where
   pub low : at < end
   pub high : end ≤ length text

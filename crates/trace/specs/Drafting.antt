@@ -14,12 +14,12 @@ use Rattle.trace.specs.declared.draft.Draft.{Draft}
 use Rattle.trace.specs.declared.draft.Head.{Head}
 use Rattle.trace.specs.declared.fault.TraceFaultKind.{TraceFaultKind}
 
--- these digits make the page of an op, where a page has this size, and write no more than it has
+-- these digits make the page of an op, if a page has this size, and write no more than fits in it
 pub record MakePage (size : ℕ) (op : Op) (digits : List ℕ) (page : Result (List ℕ) TraceFaultKind) : Type 0 where
   pub is : page ≡ Ok (page_with (page_len op size) (bytes_of digits))
   pub fits : IsData (page_len op size) digits
 
--- a record that was checked is the command of this head and its digits, which write no more than its page
+-- a record that was checked is the command of this head and its digits, which write no more than fits in its page
 pub record IsChecked (geo : Geometry) (row : Row) (head : Head) : Type 0 where
   pub is : command_of geo (fields_of_row row) ≡ Ok (with_digits head (page_bytes_of geo) row.digits.now)
   pub fits : IsData (page_len head.op (page_bytes_of geo)) row.digits.now

@@ -9,13 +9,13 @@ use Rattle.trace.specs.Cutting.{is_field_end}
 abbrev pub first_set : ℕ → ℕ
 first_set mask = if mask == 0 then 16 else trailing_zeros w64 mask
 
--- so many of the sixteen bytes from a place on end no field, and the next one does
+-- this many of the sixteen bytes from a place on end no field, and the next one does
 pub record IsRun (text : List ℕ) (at run : ℕ) : Type 0 where
   pub within : run ≤ 16
   pub joins : (k : ℕ) → at ≤ k → k < at + run → is_field_end (slice_index text k) ≡ false
   pub stops : run < 16 → is_field_end (slice_index text (at + run)) ≡ true
 
--- so many of the sixteen bytes from a place on are digits, and the next one is none
+-- this many of the sixteen bytes from a place on are digits, and the next one is none
 pub record IsDigitRun (text : List ℕ) (at run : ℕ) : Type 0 where
   pub within : run ≤ 16
   pub digits : (k : ℕ) → at ≤ k → k < at + run → is_hex_digit (slice_index text k) ≡ true
@@ -25,7 +25,7 @@ pub record IsDigitRun (text : List ℕ) (at run : ℕ) : Type 0 where
 abbrev pub AreDigits : List ℕ → ℕ → Type 0
 AreDigits text at = (k : ℕ) → at ≤ k → k < at + 16 → is_hex_digit (slice_index text k) ≡ true
 
--- sixteen pairs of digits stand from a place on
+-- sixteen pairs of digits are there from a place on
 abbrev pub IsBlock : List ℕ → ℕ → Type 0
 IsBlock text at = AreDigits text at × AreDigits text (at + 16)
 

@@ -4,11 +4,11 @@ use Rattle.std.specs.Io.KnownBytes.{Consumes}
 use Rattle.trace.specs.declared.fault.TraceFaultKind.{TraceFaultKind}
 use Rattle.trace.specs.declared.fault.TraceFaultKind.TheVariants as fault
 
--- the most bytes of a trace
+-- the largest number of bytes of a trace
 abbrev pub most_bytes : ℕ
 most_bytes = 268435456
 
--- from a reader that held more bytes than that exactly one byte more was taken
+-- if a reader held more bytes than that, exactly one byte more was read
 pub record TookOneTooMany (old new : Option (List ℕ)) : Type 0 where
   pub held : IfSome old (λ bytes. most_bytes < length bytes)
   pub taken : List ℕ

@@ -1,4 +1,4 @@
--- How the commands of a trace are kept: each with the place of its digits, in the text or behind its end among the odd ones.
+-- How the commands of a trace are kept: each with the place of its digits, in the text or after its end among the odd ones.
 use Rattle.std.specs.Prelude.{◌≡◌, ◌⊎◌, ℕ, ◌+◌, ◌*◌, ◌≤◌, List, [], ◌∷◌, All, ◌++◌, length, map, take, drop}
 use Rattle.trace.specs.declared.commands.Command.{Command}
 use Rattle.trace.specs.declared.draft.Draft.{Draft}
@@ -8,11 +8,11 @@ use Rattle.trace.specs.Digits.{IsData, bytes_of}
 use Rattle.trace.specs.Page.{page_with}
 use Rattle.trace.specs.Parsing.{page_len}
 
--- the command of a line that has these digits, where a page has this size
+-- the command of a line that has these digits, if a page has this size
 abbrev pub with_digits : Head → ℕ → List ℕ → Command
 with_digits head size digits = record { worker = head.worker; op = head.op; sector = head.sector; page = page_with (page_len head.op size) (bytes_of digits) }
 
--- what a line says beside its digits
+-- what a line says apart from its digits
 abbrev pub head_of : Stored → Head
 head_of s = record { worker = s.worker; op = s.op; sector = s.sector_low + 65536 * s.sector_high }
 
@@ -20,11 +20,11 @@ head_of s = record { worker = s.worker; op = s.op; sector = s.sector_low + 65536
 abbrev pub digits_at : List ℕ → List ℕ → Stored → List ℕ
 digits_at text odd s = take s.digits (drop s.start (text ++ odd))
 
--- the command that is kept so
+-- the command that is kept in this way
 abbrev pub command_at : List ℕ → List ℕ → ℕ → Stored → Command
 command_at text odd size s = with_digits (head_of s) size (digits_at text odd s)
 
--- its digits lie in the text or all behind it, and write no more than its page
+-- its digits are in the text or all after it, and write no more than fits in its page
 pub record IsKept (text odd : List ℕ) (size : ℕ) (s : Stored) : Type 0 where
   pub within : s.start + s.digits ≤ length (text ++ odd)
   pub whole : (s.start + s.digits ≤ length text) ⊎ (length text ≤ s.start)
@@ -38,6 +38,6 @@ drafted text d = map (command_at text d.odd.items d.page_bytes) d.stored.items
 abbrev pub Pushes : List ℕ → Draft → Draft → Head → List ℕ → Type 0
 Pushes text old new head digits = drafted text new ≡ drafted text old ++ with_digits head old.page_bytes digits ∷ []
 
--- all are kept so
+-- all are kept in this way
 abbrev pub AreKept : List ℕ → Draft → Type 0
 AreKept text d = All (IsKept text d.odd.items d.page_bytes) d.stored.items

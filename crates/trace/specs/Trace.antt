@@ -29,11 +29,11 @@ abbrev pub ◌>>=◌ : {A B : Type 0} → Result A TraceFaultKind → (A → Res
 Ok x >>= f = f x
 Err e >>= f = Err e
 
--- a number has one to seven decimal digits; zeros may lead
+-- a number has one to seven decimal digits; leading zeros are allowed
 abbrev pub is_number : List ℕ → Bool
 is_number text = nat_lt 0 (length text) && nat_le (length text) 7 && all_ascii_digits text
 
--- the number that a field writes, if it is below the bound, and else this fault
+-- the number that a field writes, if it is below the bound, and otherwise this fault
 unfoldable pub number_below : ℕ → TraceFaultKind → List ℕ → Result ℕ TraceFaultKind
 number_below bound otherwise text =
     if is_number text && nat_lt (digits_value 10 text) bound then Ok (digits_value 10 text) else Err otherwise
@@ -57,12 +57,12 @@ abbrev pub page_of_bytes : ℕ → Result (List ℕ) FromHexError → Result (Li
 page_of_bytes size (Ok bytes) = if nat_le (length bytes) size then Ok (page_with size bytes) else Err fault.TooLong
 page_of_bytes size (Err _) = Err fault.Hex
 
--- no page, where nothing stands that the op does not use
+-- no page, if there is no data that the op does not use
 abbrev pub no_page : Bool → Result (List ℕ) TraceFaultKind
 no_page unused_empty = if unused_empty then Ok [] else Err fault.Unused
 
--- the page that the data of an op makes: for a write of either kind the bytes that its hexadecimal digits write, and for the
--- other ops none. Those have no data, and a meet names worker 0 and sector 0.
+-- the page that the data of an op makes: for a write of either kind the bytes that its hexadecimal digits write, and for the other ops
+-- none. Those have no data, and a meet names worker 0 and sector 0.
 unfoldable pub page_of : ℕ → Op → ℕ → ℕ → List ℕ → Result (List ℕ) TraceFaultKind
 page_of size op.Write worker sector digits = page_of_bytes size (decode_of digits)
 page_of size op.New worker sector digits = page_of_bytes size (decode_of digits)
@@ -103,7 +103,7 @@ all_or_first line (Err kind ∷ others) = Err (record { line = line; kind = kind
 unfoldable pub commands_of : List ℕ → Geometry → Result (List Command) TraceFault
 commands_of text geo = all_or_first 1 (checked geo text)
 
--- each record is a command, and these are they, in order
+-- each record is a command, and these are the commands, in order
 abbrev pub AreCommands : List (Result Command TraceFaultKind) → List Command → Type 0
 AreCommands records commands = records ≡ map Ok commands
 

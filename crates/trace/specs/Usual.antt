@@ -1,4 +1,4 @@
--- Lines of the usual form: short numbers, no quotes, no fault, and a line feed behind the data.
+-- Lines of the usual form: short numbers, no quotes, no fault, and a line feed after the data.
 use Rattle.std.specs.Prelude.{◌≡◌, ℕ, ◌+◌, ◌-◌, ◌^◌, ◌<◌, ◌≤◌, true, List, ◌∷◌, length, take, drop, slice_index, Ok, MatchBool}
 use Rattle.std.specs.Char.{is_ascii_digit}
 use Rattle.geometry.specs.Geometry.{page_bytes_of}
@@ -19,31 +19,31 @@ use Rattle.trace.specs.declared.usual.UsualLine.{UsualLine}
 abbrev pub part : List ℕ → ℕ → ℕ → List ℕ
 part text start end = take (end - start) (drop start text)
 
--- behind the line feed at a place, or that place where none stands
+-- the place after the line feed at a place, or that place if none is there
 pub record IsLineStart (text : List ℕ) (at start : ℕ) : Type 0 where
   pub high : start ≤ length text
   pub is : MatchBool (begins_with 10 (drop at text)) (start ≡ at + 1) (start ≡ at)
 
--- a field of this value stands from the one place to a comma at the other
+-- a field of this value goes from the one place to a comma at the other
 pub record EndsAtComma (text : List ℕ) (start end : ℕ) (value : List ℕ) : Type 0 where
   pub field : IsField text start end value
   pub comma : begins_with 44 (drop end text) ≡ true
   pub within : end < length text
 
--- a number below the bound stands from a place to a comma
+-- a number below the bound goes from a place to a comma
 pub record IsNumber (text : List ℕ) (start bound : ℕ) (n : Number) : Type 0 where
   pub first : is_ascii_digit (slice_index text start) ≡ true
   pub ends : EndsAtComma text start n.end (part text start n.end)
   pub is : (otherwise : TraceFaultKind) → number_below bound otherwise (part text start n.end) ≡ Ok n.value
   pub below : n.value < bound
 
--- the name of an op stands from a place to a comma
+-- the name of an op goes from a place to a comma
 pub record IsOpName (text : List ℕ) (start : ℕ) (name : OpName) : Type 0 where
   pub value : List ℕ
   pub ends : EndsAtComma text start name.end value
   pub is : op_of value ≡ Ok name.op
 
--- the data of an op stands from the one place to a line feed at the other, and makes its page
+-- the data of an op goes from the one place to a line feed at the other, and makes its page
 pub record IsUsualData (text : List ℕ) (start : ℕ) (op : Op) (size end : ℕ) : Type 0 where
   pub field : IsField text start end (part text start end)
   pub feed : begins_with 10 (drop end text) ≡ true

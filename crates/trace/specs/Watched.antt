@@ -19,7 +19,7 @@ abbrev pub after_call : {T E : Type 0} → ℕ → Result T E → ℕ
 after_call count (Ok _) = count
 after_call count (Err _) = one_more count
 
--- the count after a write: an error is a failure, and so is to take nothing of some bytes
+-- the count after a write: an error is a failure, and so is a write of some bytes that takes none
 abbrev pub after_write : {E : Type 0} → ℕ → List ℕ → Result ℕ E → ℕ
 after_write count bytes (Ok taken) = if (taken == 0) && not (length bytes == 0) then one_more count else count
 after_write count bytes (Err _) = one_more count

@@ -1,12 +1,12 @@
--- What a pass reads behind a write of its own.
+-- What a pass reads after a write of its own.
 use Rattle.std.specs.Prelude.{ℕ, List, [], ◌∷◌, ◌++◌}
 use Rattle.geometry.specs.History.{Call, Write, held, Begins}
 use Rattle.geometry.specs.Sectors.{Answers}
 use Rattle.geometry.specs.declared.answer.Got.{Got}
 use Rattle.flash_rule.specs.declared.view.View.{View}
 
--- A pass wrote a sector, not before anything that it had seen, and then read it: it was answered at a place of the history that begins with
--- all up to the write, so that the read is not older than the write
+-- A pass wrote a sector, not before anything that it had seen, and then read it: the read was answered at a place of the history that
+-- begins with everything up to the write, so the read is not older than the write
 pub record IsReadBehind (n t s : ℕ) (value : List ℕ) (v : View) (got : Got) (old new : List ℕ) : Type 0 where
   pub before : List Call
   pub later : Begins v.seen before

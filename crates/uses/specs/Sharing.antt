@@ -1,4 +1,4 @@
--- What hosts that share a device tell of each other.
+-- What hosts that share a device know of each other.
 use Rattle.std.specs.Prelude.{◌≡◌, ℕ, Bool, List, [], ◌∷◌, ◌++◌, if◌then◌else◌}
 use Rattle.geometry.specs.History.{Call, Write, Begins}
 use Rattle.flash_rule.specs.declared.facts.Name.TheVariants.{Pass as APass}
@@ -6,13 +6,13 @@ use Rattle.flash_rule.specs.declared.facts.Role.TheVariants.{Player}
 use Rattle.flash_rule.specs.declared.view.View.{View}
 use Rattle.flash_rule.specs.Views.{calls_of}
 
--- Pass t has written a value to a sector, if it is said to be done, and has made no other call
+-- Pass t has written a value to a sector, if this says that it was done, and has made no other call
 pub record IsStoredBy (t s : ℕ) (value : List ℕ) (v : View) (done : Bool) (w : View) : Type 0 where
   pub role : w.role ≡ Player (APass t)
   pub later : Begins v.seen w.seen
   pub mine : w.mine ≡ v.mine ++ (if done then Write t s value ∷ [] else [])
 
--- A pass has written a value to a sector, if it is said to be done, and has made no other call
+-- A pass has written a value to a sector, if this says that it was done, and has made no other call
 pub record IsStored (s : ℕ) (value : List ℕ) (v : View) (done : Bool) (w : View) : Type 0 where
   pub told : (t : ℕ) → v.role ≡ Player (APass t) → IsStoredBy t s value v done w
 
@@ -22,6 +22,6 @@ pub record HasSeenCallsOf (t : ℕ) (other v : View) : Type 0 where
   pub seen : Begins history v.seen
   pub calls : calls_of t history ≡ other.mine
 
--- A pass has seen a history with all calls that another one has made, which knows this
+-- A pass has seen a history with all calls that another one has made, as its view says
 pub record HasHeard (other v : View) : Type 0 where
   pub told : (t : ℕ) → other.role ≡ Player (APass t) → HasSeenCallsOf t other v

@@ -1,4 +1,4 @@
--- What a hold and a broom tell of each other.
+-- What a hold and a broom know of each other.
 use Rattle.std.specs.Prelude.{◌≡◌, ℕ, List, Some, slice_get}
 use Rattle.geometry.specs.declared.map_word.MapWord.{MapWord}
 use Rattle.flash_rule.specs.declared.facts.Cycle.{Cycle}

@@ -1,4 +1,4 @@
--- What the sectors are that a device is closed with.
+-- What the sectors are with which a device is closed.
 use Rattle.std.specs.Prelude.{◌≡◌, ℕ, ◌+◌, ◌<◌, ◌++◌, List, Option, Vec, map, option_map, length, [], None, Some, slice_get}
 use Rattle.std.specs.Global.{Global}
 use Rattle.geometry.specs.Limits.{Numbers}
@@ -28,17 +28,17 @@ sectors_left c = array_of c.sectors.items
 abbrev pub last_view : Closed → View
 last_view c = retired_view c.first
 
--- the pass stands in the list
+-- the pass is in the list
 abbrev pub IsIn : List Pass → Pass → Type 0
 IsIn passes p = (k : ℕ) × (slice_get passes k ≡ Some p)
 
--- each pass of the device stands in the list
+-- each pass of the device is in the list
 abbrev pub AreAll : ℕ → List Pass → Type 0
 AreAll hosts passes = (t : ℕ) → t < hosts → (p : Pass) × IsIn passes p × ((view_of p).role ≡ Player (APass t))
 
--- The sectors were read one after another: each is what it is after a history that begins with all that the passes had seen, and with
--- which begins all that the first pass, which reads, has seen in the end; the histories grow. Their calls are of hosts, and of the first
--- pass they have its own and no others
+-- The sectors were read one after another: each is what it is after a history that begins with all that the passes had seen, and that is a
+-- beginning of all that the first pass, which reads, has seen in the end; the histories grow. Their calls are of hosts, and those of the
+-- first pass are its own and no others
 pub record AreRead (z : Numbers) (passes : List Pass) (last : List Call) (sectors : List Sector) : Type 0 where
   pub long : length sectors ≡ z.sectors
   pub history : ℕ → List Call
@@ -50,7 +50,7 @@ pub record AreRead (z : Numbers) (passes : List Pass) (last : List Call) (sector
   pub each : (s : ℕ) → s < z.sectors → sector_at sectors s ≡ held z.sectors (history s) s
 
 -- The sectors are those after one history: it begins with all that each pass had seen, the first pass has seen all of it in the end, and
--- its calls are those of the passes, each with just its own
+-- its calls are those of the passes, each with exactly its own
 pub record AreFinal (z : Numbers) (passes : List Pass) (last : List Call) (sectors : List Sector) : Type 0 where
   pub history : List Call
   pub later : (p : Pass) → IsIn passes p → Begins (view_of p).seen history
@@ -59,7 +59,7 @@ pub record AreFinal (z : Numbers) (passes : List Pass) (last : List Call) (secto
   pub own : (t : ℕ) (p : Pass) → IsIn passes p → (view_of p).role ≡ Player (APass t) → calls_of t history ≡ (view_of p).mine
   pub array : sectors ≡ after z.sectors history
 
--- what a device was closed with are its sectors after one history
+-- the values with which a device was closed are its sectors after one history
 abbrev pub IsFinal : Flash → List Pass → Closed → Type 0
 IsFinal f passes closed = AreFinal (device f) passes (last_view closed).seen (sectors_left closed)
 
@@ -67,8 +67,8 @@ IsFinal f passes closed = AreFinal (device f) passes (last_view closed).seen (se
 abbrev pub closed_blocks : List Owned → List Owned
 closed_blocks owns = map (λ (o : Owned). record o { phase = ClosedPhase }) owns
 
--- The pass has looked and was then given up: it has closed the block that it owned, if there was one, and fills no page, and nothing
--- else has changed
+-- The pass has looked and was then given up: it has closed the block that it owned, if there was one, and fills no page, and nothing else
+-- has changed
 pub record HasLeft (v w : View) : Type 0 where
   pub changed : w ≡ record v { seen = w.seen; looks = w.looks; pin = w.pin; known = w.known; copy = w.copy; older = w.older; owns = []; work = None; ceded = v.ceded ++ closed_blocks v.owns }
   pub later : Begins v.seen w.seen

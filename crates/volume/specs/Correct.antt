@@ -1,5 +1,5 @@
--- What holds of each read, look, write, write of an empty sector and trim, whatever other threads do meanwhile: it is one step of an array of sectors, at a place of one
--- history that only grows, and not before anything that its pass had seen.
+-- What holds of each read, look, write, write of an empty sector and trim, whatever other threads do meanwhile: it is one step of an array
+-- of sectors, at a place of one history that only grows, and not before anything that its pass had seen.
 use Rattle.std.specs.Prelude.{◌≡◌, ℕ, Bool, List, [], ◌∷◌, ◌++◌, is_some}
 use Rattle.geometry.specs.Sectors.{Answers}
 use Rattle.geometry.specs.History.{Call, held, was, Begins}
@@ -15,7 +15,8 @@ use Rattle.flash_table.specs.Steps.{HasNumber}
 use Rattle.volume.specs.declared.volume.Volume.{Volume}
 use Rattle.volume.specs.Volume.{flash_of}
 
--- what a pass may ask: the value of a sector, whether it has one, a new value for it, a value for it if it is empty, or that it be empty
+-- what a pass may ask: the value of a sector, whether it has one, a new value for it, a value for it if it is empty, or that it become
+-- empty
 pub data Asked : Type 0 where
   Read : ℕ → Asked
   Look : ℕ → Asked
@@ -23,13 +24,13 @@ pub data Asked : Type 0 where
   WriteNew : ℕ → List ℕ → Asked
   Trim : ℕ → Asked
 
--- what it is answered: what it got, with its buffer before and after, whether the sector is written, or what it was
+-- what is returned: what was found, with the buffer before and after, whether the sector is written, or what it was
 pub data Answer : Type 0 where
   Found : Got → List ℕ → List ℕ → Answer
   IsWritten : Bool → Answer
   Replaced : Was → Answer
 
--- the answer that an array of so many sectors gives after a history
+-- the result that an array of this many sectors gives after a history
 abbrev pub IsAnswerAt : ℕ → List Call → Asked → Answer → Type 0
 IsAnswerAt n h (Read s) (Found got old new) = Answers (held n h s) got old new
 IsAnswerAt n h (Read s) (IsWritten written) = ⊥
@@ -55,24 +56,24 @@ calls_for t (Write s value) = call.Write t s value ∷ []
 calls_for t (WriteNew s value) = call.WriteNew t s value ∷ []
 calls_for t (Trim s) = call.Trim t s ∷ []
 
--- what a pass knows of the history: how far it has seen it, and its own calls in it
+-- what a pass knows of the history: how much of it it has seen, and its own calls in it
 pub record Known : Type 0 where
   pub seen : List Call
   pub mine : List Call
 
--- how far a pass has seen the history, and its own calls, of all that it knows
+-- how much of the history a pass has seen, and its own calls, from all that it knows
 abbrev pub known_by : View → Known
 known_by v = record { seen = v.seen; mine = v.mine }
 
--- What pass t asked was answered as one step of an array of n sectors: the answer is that of the array at a place in the history, not before
--- anything that the pass had seen, and just the call that was asked is added there
+-- What pass t asked was answered as one step of an array of n sectors: the result is that of the array at a place in the history, not
+-- before anything that the pass had seen, and exactly the call that was asked is added there
 pub record Correct (n t : ℕ) (asked : Asked) (answer : Answer) (old new : Known) : Type 0 where
   -- there is a place in the history, not before anything that the pass had seen
   pub place : List Call
   pub later : Begins old.seen place
-  -- the answer is the one of the array at that place
+  -- the result is the one of the array at that place
   pub answered : IsAnswerAt n place asked answer
-  -- just the call that was asked is added there, and to the pass's own
+  -- exactly the call that was asked is added there, and to the pass's own
   pub seen : new.seen ≡ place ++ calls_for t asked
   pub mine : new.mine ≡ old.mine ++ calls_for t asked
   -- and of all that the pass sees, the calls of its own are those that it made, each once

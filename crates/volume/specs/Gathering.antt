@@ -39,6 +39,6 @@ pub record HasRead (n : ℕ) (v : View) (sectors : List Sector) (w : View) : Typ
 abbrev pub IsReadBy : Flash → List Pass → List Pass → List (Option (Vec ℕ Global)) → Type 0
 IsReadBy f old new values = (q : Pass) → slice_get new 0 ≡ Some q → AreRead (device f) old (view_of q).seen (array_of values)
 
--- and where the passes are all of the device, they are those after one history
+-- and if the passes are all those of the device, they are those after one history
 abbrev pub IsFinalBy : Flash → List Pass → List Pass → List (Option (Vec ℕ Global)) → Type 0
 IsFinalBy f old new values = (q : Pass) → slice_get new 0 ≡ Some q → AreAll (hosts_of (geometry_of f)) old → AreFinal (device f) old (view_of q).seen (array_of values)

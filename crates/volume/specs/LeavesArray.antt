@@ -10,8 +10,8 @@ sector_named (Write t s value) = s
 sector_named (WriteNew t s value) = s
 sector_named (Trim t s) = s
 
--- A broom's call left the array of sectors to the hosts: the history that the broom has seen begins with what it had seen before, all calls in
--- it are of hosts, and the broom has made none; so each sector that no host's call has named since then holds what it held
+-- A broom's call left the array of sectors to the hosts: the history that the broom has seen begins with what it had seen before, all calls
+-- in it are of hosts, and the broom has made none; so each sector that no host's call has named since then holds what it held
 pub record LeavesArray (v w : View) : Type 0 where
   pub later : Begins v.seen w.seen
   pub hosts : AreOfHosts w.numbers w.seen

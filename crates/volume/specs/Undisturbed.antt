@@ -10,7 +10,7 @@ use Rattle.flash_table.specs.Flash.{view_of}
 use Rattle.host.specs.declared.holding.Held.{Held}
 use Rattle.host.specs.Holding.{Holds, pass_of, page_of}
 
--- the erases of this list that are of the page's block are all of earlier generations of it
+-- all erases in this list of the page's block are of earlier generations of it
 abbrev pub AreEarlier : List Cycle → MapWord → Type 0
 AreEarlier erases m = (k : ℕ) (c : Cycle) → slice_get erases k ≡ Some c → c.block ≡ m.block → c.generation < m.generation
 
