@@ -93,7 +93,7 @@ impl Lines {
         self.used = put_wear(&mut self.buffer, self.used, block, erases, live, retired);
     }
 
-    /// Adds the names of what is told of each collection.
+    /// Adds the names of what is reported for each collection.
     pub fn collection_names(&mut self)
         requires room { length (waiting_of self.old) ≤ PIECE_BYTES }
         ensures waiting { waiting_of self.new ≡ waiting_of self.old ++ collection_names }

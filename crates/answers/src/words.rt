@@ -109,7 +109,7 @@ static RETIRED: Short = Short {
     len: 8,
 };
 
-/// What becomes of a collection's victim.
+/// What a collection's victim is after its erase.
 pub(crate) fn outcome_word(retired: bool) -> &'static Short
     ensures text { short_of result.now ≡ outcome_text retired ++ codes "\n" }
     ensures short { result.now.len ≤ SHORT_BYTES }

@@ -1,4 +1,4 @@
-//! What the calls of a broom answer.
+//! What the calls of a broom return.
 
 /// What a drain did.
 #[derive(Clone, Copy, Debug, PartialEq, Eq)]

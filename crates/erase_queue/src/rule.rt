@@ -1,4 +1,4 @@
-//! The rule that a queue is made with, and what its steps tell. These types are for the proofs alone.
+//! The rule that a queue is made with, and what its steps record. These types are for the proofs alone.
 ghost use Rattle.erase_queue.specs.Rule.{Ruled, counter, counted, gone, dealer, user_of};
 ghost use Rattle.erase_queue.specs.Moves.{DidPut, DidTake, Stand};
 

@@ -1,4 +1,4 @@
-//! The codes that a call answers by, and those of the faults of a geometry.
+//! The codes that a call returns, and those of the faults of a geometry.
 ghost use Rattle.std.specs.Prelude.{◌≡◌, ◌<◌};
 ghost use Rattle.exports.specs.Codes.{was_code, fault_code};
 

@@ -1,4 +1,4 @@
-//! The calls of a shared device over a seat of any kind: one of another kind answers 9, and stays as it was.
+//! The calls of a shared device over a seat of any kind: for a seat of another kind they return 9, and leave it unchanged.
 ghost use Rattle.std.specs.Prelude.{◌≡◌, ◌≢◌, ◌<◌, ◌≤◌, ℕ, length};
 ghost use Rattle.geometry.specs.Geometry.{blocks_of};
 ghost use Rattle.geometry.specs.History as call;

@@ -241,7 +241,7 @@ pub extern "C" fn mintlintel_host_release(alloc: Global, handle: &mut Handle) ->
     code
 }
 
-/// Moves the live pages out of the closed block with the fewest. With 0 its number and how many pages moved are handed out.
+/// Moves the live pages out of the closed block with the fewest. With 0 its number and how many pages moved are written.
 #[unsafe(no_mangle)]
 pub extern "C" fn mintlintel_broom_drain(
     alloc: Global,
@@ -265,7 +265,7 @@ pub extern "C" fn mintlintel_broom_drain(
     code
 }
 
-/// Drains the next block by the survey that the broom made last. With 0 its number and how many pages moved are handed out.
+/// Drains the next block by the survey that the broom made last. With 0 its number and how many pages moved are written.
 #[unsafe(no_mangle)]
 pub extern "C" fn mintlintel_broom_drain_next(
     alloc: Global,

@@ -1,4 +1,4 @@
-//! What a broom's steps on map words and page words tell it.
+//! What a broom's steps on map words and page words record for it.
 ghost use Rattle.flash_rule.specs.BroomPlays.{broom_look_told, stamp_told, source_told, move_told, wipe_told};
 
 use crate::view::View;

@@ -1,4 +1,4 @@
-//! What the steps of a broom on a block's pin word tell it.
+//! What the steps of a broom on a block's pin word record for it.
 ghost use Rattle.flash_rule.specs.BroomPlays.{state_told, claim_told, condemn_told, drain_told, freed_told, kept_told, retired_told};
 
 use crate::view::View;

@@ -16,7 +16,7 @@ pub const MAX_ENDURANCE: u32 = 1_000_000;
 pub const MAX_HOSTS: u32 = 500;
 /// The most brooms, which collect garbage while hosts read and write.
 pub const MAX_BROOMS: u32 = 32;
-/// The most words of a shared device's table: one a sector, one a block, and each page's words and stamp.
+/// The most words of a shared device's table: one for each sector, one for each block, and each page's words and stamp.
 pub const MAX_TABLE_WORDS: u64 = 16_777_216;
 /// How many bytes a word has.
 pub const WORD_BYTES: u32 = 8;

@@ -1,4 +1,4 @@
-/// A page's address: its block, and its place in the block.
+/// A page's address: its block, and its index in the block.
 #[derive(Clone, Copy, Debug, PartialEq, Eq)]
 pub struct PageAddr {
     pub block: u32,

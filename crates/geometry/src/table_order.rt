@@ -1,4 +1,4 @@
-//! Where the words of a shared device stand in its table. The map word of sector s is word s.
+//! Where the words of a shared device are in its table. The map word of sector s is word s.
 ghost use Rattle.std.specs.Prelude.{◌≡◌, ◌+◌, ◌≤◌, ◌<◌};
 ghost use Rattle.geometry.specs.Geometry.{numbers_of, blocks_of, pages_of, words_of, sectors_of};
 ghost use Rattle.geometry.specs.Limits.{table_words_of};

@@ -8,7 +8,7 @@ use crate::answers::{Answers, Cursor};
 use std::alloc::{AllocError, Global};
 
 impl Cursor {
-    /// The place of the first answer.
+    /// The cursor at the first answer.
     pub fn new() -> Cursor
         ensures { result ≡ first_place }
     {

@@ -17,7 +17,7 @@ pub struct Wanted {
     pub wear: bool,
 }
 
-/// Whether each wanted file was written whole. `Ok` where it isn't wanted.
+/// Whether each wanted file was written whole. `Ok` if it isn't wanted.
 #[derive(Clone, Copy, Debug, PartialEq, Eq)]
 pub struct Written {
     pub collections: Result<(), OutputFailed>,

@@ -25,7 +25,7 @@ pub enum Log {
 }
 
 impl Log {
-    /// A log on which the names wait, where one is wanted.
+    /// A log on which the names wait, if one is wanted.
     pub fn new(alloc: Global, geometry: &Geometry, wanted: bool) -> Result<Log, AllocError>
         ensures wanted { IfOk result (λ log. is_wanted log ≡ wanted) }
         ensures names { IfOk result (λ log. (known : Stream) → IsLogged log (record { before = known; after = known }) collection_names) }
@@ -38,7 +38,7 @@ impl Log {
         Ok(Log::Open(lines))
     }
 
-    /// The collection that a command makes if it programs a page. It is looked for only where the log is written.
+    /// The collection that a command makes if it programs a page. It is searched for only if the log is written.
     pub fn due(&self, ftl: &OneFtl, op: Op) -> Option<Collection>
         ensures { IsOpen self.now → result ≡ due_by op (geometry_of ftl.now) (stock_of ftl.now) }
     {
@@ -48,7 +48,7 @@ impl Log {
         }
     }
 
-    /// Tells the collection that was made for a line of the trace.
+    /// Records the collection that was made for a line of the trace.
     pub fn tell<V: Write>(&mut self, line: u64, made: Option<Collection>, file: &mut Watched<V>)
         ensures wanted { is_wanted self.new ≡ is_wanted self.old }
         ensures told { (before : Stream) → (text : List ℕ) → (more : List ℕ) → (IsOpen self.old → more ≡ log_part line made)
@@ -73,7 +73,7 @@ impl Log {
         }
     }
 
-    /// Hands on the lines that wait. The answer says whether a wanted log was written whole.
+    /// Writes the lines that wait. Returns whether a wanted log was written whole.
     pub fn finish<V: Write>(self, file: &mut Watched<V>) -> Result<(), OutputFailed>
         ensures { (before : Stream) → (text : List ℕ)
             → IsLogged self (record { before = before; after = stream_of V.contents file.old }) text

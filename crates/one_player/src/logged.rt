@@ -19,7 +19,7 @@ use ftl_one::{Collection, OneFtl};
 use std::io::Write;
 use trace::{Command, Watched};
 
-/// Does a command, adds its answer line to those that wait, and tells the log the collection that it made.
+/// Does a command, adds its answer line to those that wait, and records in the log the collection that it made.
 pub fn answer_logged<V: Write>(
     ftl: &mut OneFtl,
     desk: &mut Desk,

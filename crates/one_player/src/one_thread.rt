@@ -56,8 +56,8 @@ pub fn run<R: Read, W: Write>(
     }
 }
 
-/// Plays a trace as `run` does, and writes the wanted files: the log of its collections as they are made, and the wear of the
-/// device after it. Where a file fails, the run goes on without it, and its answers are whole.
+/// Plays a trace as `run` does, and writes the wanted files: the log of its collections as they are made, and the wear of the device after
+/// it. If a file fails, the run goes on without it, and its answers are whole.
 pub fn run_with_files<R: Read, W: Write, V: Write>(
     alloc: Global,
     reader: &mut Watched<R>,

@@ -22,7 +22,7 @@ pub struct Played {
     pub ghost sent: { waiting_of desk.lines ≡ [] },
 }
 
-/// Writes the wear of each block of a device, where it is wanted.
+/// Writes the wear of each block of a device, if it is wanted.
 pub fn tell_wear_if<V: Write>(
     wanted: bool,
     ftl: &OneFtl,

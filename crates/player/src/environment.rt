@@ -13,7 +13,7 @@ pub trait Arguments {
     /// All arguments, if they are known.
     ghost all: { Self → Option (List (List ℕ)) } = { λ _. None };
 
-    /// The bytes of the argument at a place, or none past the last one.
+    /// The bytes of the argument at an index, or none past the last one.
     fn argument(&self, alloc: Global, place: usize) -> Result<Option<Vec<u8>>, AllocError>
         ensures { IfSome (all self.now) (λ arguments. IfOk result (λ found. option_map (λ bytes. bytes.items) found ≡ slice_get arguments place)) };
 }

@@ -1,7 +1,7 @@
-//! What a broom's calls answer.
+//! What a broom's calls return.
 use broom::{Drain, Erase};
 
-/// What one call of a broom answered.
+/// What one call of a broom returned.
 #[derive(Clone, Copy, Debug, PartialEq, Eq)]
 pub enum BroomAnswer {
     /// A drain by a new survey.

@@ -18,7 +18,7 @@ use std::collections::VecDeque;
 use std::sync::Wait;
 use volume::Volume;
 
-/// Gives up the brooms, and puts what each has done and knew last into a row, in order. A block that one has set aside goes to the queue.
+/// Gives up the brooms, and lists what each has done and knew last, in order. A block that one has set aside goes to the queue.
 pub fn fold_sweepers<R: Wait>(rt: &R, sweepers: Vec<Sweeper>, ends: &mut Vec<SweeperEnd>)
     requires none { length ends.old.items ≡ 0 }
     requires room { length sweepers.items ≤ vec_capacity ends.old }
@@ -30,7 +30,7 @@ pub fn fold_sweepers<R: Wait>(rt: &R, sweepers: Vec<Sweeper>, ends: &mut Vec<Swe
     }
 }
 
-/// Puts each worker's answers into a row, in the order of the workers, and gives up the passes.
+/// Lists each worker's answers, in the order of the workers, and gives up the passes.
 pub fn hand_out(posts: Vec<Post>, rows: &mut Vec<Answers>)
     requires none { length rows.old.items ≡ 0 }
     requires room { length posts.items ≤ vec_capacity rows.old }

@@ -14,7 +14,7 @@ use std::collections::VecDeque;
 use std::sync::Arc;
 use trace::{Commands, Op};
 
-/// What a worker plays: the places of its lines among the commands of a trace, room for their answers, and a buffer of a page.
+/// What a worker plays: the indexes of its lines among the commands of a trace, room for their answers, and a buffer of a page.
 #[derive(Drop)]
 pub(crate) struct Share {
     pub commands: Arc<Commands, Global>,

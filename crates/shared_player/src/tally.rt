@@ -20,7 +20,7 @@ pub struct Tally {
     /// The blocks that it did not erase, since they had readers or weren't drained.
     pub pinned: u64,
     pub stale: u64,
-    /// Its surveys by which there was nothing to gain.
+    /// Its surveys that showed nothing to gain.
     pub gainless: u64,
 }
 
