@@ -1,5 +1,5 @@
 -- The steps around a copy: the spare becomes the destination, the map word is moved, and a full destination is closed.
-use Rattle.std.proofs.Common.{◌≡◌, ℕ, ◌+◌, ◌-◌, ◌<◌, ◌≤◌, Bool, true, false, MatchBool, ◌⊎◌, inl, inr, ⊎_elim, List, [], ◌∷◌, ◌++◌, length, append-nil, Option, None, Some, sym, refl, ap, ◌∙◌, subst, arith}
+use Rattle.std.proofs.Common.{◌≡◌, ℕ, ◌+◌, ◌-◌, ◌<◌, ◌≤◌, Bool, true, false, MatchBool, ◌⊎◌, inl, inr, ⊎_elim, List, [], ◌∷◌, ◌++◌, length, append-nil, append_assoc, Option, None, Some, sym, refl, ap, ◌∙◌, subst, arith}
 use Rattle.geometry.specs.Geometry.{pages_of}
 use Rattle.geometry.specs.History.{Begins, Call}
 use Rattle.geometry.specs.Limits.{Numbers}
@@ -21,13 +21,13 @@ use Rattle.flash_table.specs.declared.broom_seat.BroomBlocks.{BroomBlocks}
 use Rattle.flash_table.specs.declared.broom_seat.BroomSeat.{BroomSeat}
 use Rattle.flash_table.specs.declared.broom_seat.ReclaimedBlock.{ReclaimedBlock}
 use Rattle.flash_table.specs.declared.broom_seat.Reclaiming.TheVariants.{Draining}
-use Rattle.flash_table.specs.Owning.{owned_of}
+use Rattle.flash_table.specs.Owning.{owned_of, closed_as}
 use Rattle.flash_table.specs.Flash.{IsBroomOf, broom_view, own_blocks, geometry_of}
 use Rattle.flash_table.proofs.Blocks.{destination_at}
 use Rattle.broom.specs.Ready.{HasRoom, IsFiled}
 use Rattle.broom.specs.Relocating.{IsSweeping, Sweeps, Relocated, FoundDead, FoundLive, Opened, Copied, Tidied, Cleared, room_in, room_left}
-use Rattle.broom.specs.Emptying.{Programmed, Emptied, victim_page, pages_left, pages_to_fill, count_if}
-use Rattle.broom.proofs.Emptying.{pages_more, pages_full, programmed_none, programmed_one, emptied_none, emptied_more}
+use Rattle.broom.specs.Emptying.{Programmed, Emptied, victim_page, page_at, pages_left, pages_to_fill, filled_by, count_if}
+use Rattle.broom.proofs.Emptying.{pages_more, pages_full, filled_then, filled_last, filled_none, programmed_none, programmed_one, emptied_none, emptied_more}
 use Rattle.broom.proofs.Sweeping.{relocated_none, relocated_then, sweeps_on}
 
 -- ---- the destination is opened
@@ -157,7 +157,7 @@ module _ (f : Flash) (s : BroomSeat) (o : OpenBlock) (is : (own_blocks s).destin
             let written : t.0.written ≡ e.written = ap (λ (x : Owned). x.written) same in omega arith;
       }
 
-  module _ (t : BroomSeat) (owns ceded : List Owned) (told : broom_view t ≡ record (broom_view s) { owns = owns; work = None; ceded = ceded }) (blocks : own_blocks t ≡ record (own_blocks s) { destination = None }) (full : o.written ≡ pages_of (geometry_of f)) where
+  module _ (t : BroomSeat) (owns : List Owned) (told : broom_view t ≡ record (broom_view s) { owns = owns; work = None; ceded = (broom_view s).ceded ++ closed_as o ∷ [] }) (blocks : own_blocks t ≡ record (own_blocks s) { destination = None }) (full : o.written ≡ pages_of (geometry_of f)) where
     pub closed_tidied : Tidied (pages_of (geometry_of f)) (broom_view s) (own_blocks s) (broom_view t) (own_blocks t)
     closed_tidied =
         let v = broom_view s in
@@ -176,6 +176,10 @@ module _ (f : Flash) (s : BroomSeat) (o : OpenBlock) (is : (own_blocks s).destin
           source = ap (λ (x : View). x.source) e;
           room = ap (room_left (pages_of (geometry_of f))) blocks ∙ (omega arith);
           programs = ap (λ (x : View). x.programs) e;
+          ceded = λ p there.
+              let same : o ≡ record p { written = p.written + 1 } = some_same o (record p { written = p.written + 1 }) (sym is ∙ there) in
+              let last : p.written + 1 ≡ pages_of (geometry_of f) = sym (ap (λ (y : OpenBlock). y.written) same) ∙ full in
+              ap (λ (x : View). x.ceded) e ∙ (ap (λ (y : OpenBlock). v.ceded ++ closed_as y ∷ []) same ∙ ap (λ (l : List Owned). v.ceded ++ l) (sym (filled_last (pages_of (geometry_of f)) p last)));
           named = ap (λ (x : View). x.named) e;
           left = let p : ℕ = pages_of (geometry_of f) in ap (pages_to_fill p) blocks ∙ ap (λ (l : List MapWord). l ++ pages_left p (own_blocks s).spare) (sym (ap (pages_left p) is ∙ pages_full p o full));
           spare = ap (λ (x : BroomBlocks). x.spare) blocks;
@@ -196,8 +200,24 @@ module _ (f : Flash) (s : BroomSeat) (o : OpenBlock) (is : (own_blocks s).destin
           callers = subst (λ (v : View). AreOfHosts v.numbers v.seen) (sym told) g.callers;
         }
 
-  pub left_tidied : Tidied (pages_of (geometry_of f)) (broom_view s) (own_blocks s) (broom_view s) (own_blocks s)
-  left_tidied = record { went = relocated_none (broom_view s); cleared = refl; source = refl; room = refl; programs = refl; named = refl; left = refl; spare = refl; work = inl refl }
+  pub left_tidied : ¬ (o.written ≡ pages_of (geometry_of f)) → Tidied (pages_of (geometry_of f)) (broom_view s) (own_blocks s) (broom_view s) (own_blocks s)
+  left_tidied more =
+      let v = broom_view s in
+      record {
+        went = relocated_none v;
+        cleared = refl;
+        source = refl;
+        room = refl;
+        programs = refl;
+        ceded = λ p there.
+            let same : o ≡ record p { written = p.written + 1 } = some_same o (record p { written = p.written + 1 }) (sym is ∙ there) in
+            let none = filled_none (pages_of (geometry_of f)) p (λ last. more (ap (λ (y : OpenBlock). y.written) same ∙ last)) in
+            sym (append-nil v.ceded) ∙ ap (λ (l : List Owned). v.ceded ++ l) (sym none);
+        named = refl;
+        left = refl;
+        spare = refl;
+        work = inl refl;
+      }
 
   pub left_sweeps : (x : ReclaimedBlock) → ¬ (o.written ≡ pages_of (geometry_of f)) → IsSweeping f (pages_of (geometry_of f) + 1) s x → Sweeps f s x
   left_sweeps x left g =
@@ -229,6 +249,7 @@ dead_cleared pages v w x y page dead same =
       copies = [];
       each = ap count_if (sym dead.dead);
       moved = omega arith;
+      ceded = dead.ceded ∙ sym (append-nil v.ceded);
       programmed = programmed_none pages v w x y dead.programs dead.work same;
     }
 
@@ -251,6 +272,15 @@ module _ (f : Flash) (a b c d e g : BroomSeat) (page : MapWord) (sector : ℕ) (
         ap (λ (l : List MapWord). l ++ spare) (ap (pages_left p) is ∙ pages_more p o left) ∙ ap (λ (m : MapWord). m ∷ (pages_left p (Some (record o { written = o.written + 1 })) ++ spare)) (sym copied.is) in
         let rest : pages_left p (Some (record o { written = o.written + 1 })) ++ spare ≡ pages_to_fill p (own_blocks g) = ap (pages_to_fill p) (sym (stay ∙ filled)) ∙ sym tidy.left in
         begun ∙ (first ∙ ap (λ (l : List MapWord). copy ∷ l) rest)
+
+    -- what was given up: the destination, if this page was its last one
+    given : (broom_view g).ceded ≡ (broom_view a).ceded ++ filled_by (pages_of (geometry_of f)) (copy ∷ [])
+    given =
+        let p : ℕ = pages_of (geometry_of f) in
+        let before : (broom_view e).ceded ≡ (broom_view a).ceded =
+        ap (λ (v : View). v.ceded) told.changed ∙ (copied.ceded ∙ (ap (λ (v : View). v.ceded) opens.view ∙ live.ceded)) in
+        let last : page_at o o.written ≡ copy = sym copied.is in
+        tidy.ceded o (ap (λ (y : BroomBlocks). y.destination) (stay ∙ filled)) ∙ (λ i. before i ++ filled_by p (last i ∷ []))
 
     spare_is : (own_blocks g).spare ≡ (own_blocks c).spare
     spare_is = tidy.spare ∙ ap (λ (y : BroomBlocks). y.spare) (stay ∙ filled)
@@ -303,6 +333,7 @@ module _ (f : Flash) (a b c d e g : BroomSeat) (page : MapWord) (sector : ℕ) (
           copies = copy ∷ [];
           each = ap count_if (sym (eq_self (map_word page)));
           moved = most moved;
+          ceded = given;
           programmed = programmed;
         } where
           most : (b : Bool) → count_if b ≤ 1
@@ -319,9 +350,10 @@ pub record Clearing (f : Flash) (v : View) (y : BroomBlocks) (x : ReclaimedBlock
   pub room : x.written ≤ page + room_left (pages_of (geometry_of f)) (own_blocks s)
   pub few : copied ≤ page
   pub emptied : Emptied (pages_of (geometry_of f)) (record x { written = page }) v y copied (broom_view s) (own_blocks s)
+  pub ceded : (broom_view s).ceded ≡ v.ceded ++ filled_by (pages_of (geometry_of f)) emptied.copies
 
 pub clearing_none : (f : Flash) (s : BroomSeat) (x : ReclaimedBlock) → Sweeps f s x → (broom_view s).cleared ≡ 0 → (broom_view s).source ≡ None → x.written ≤ room_left (pages_of (geometry_of f)) (own_blocks s) → Clearing f (broom_view s) (own_blocks s) x 0 0 s
-clearing_none f s x sweeps cleared source room = record { sweeps = sweeps; went = relocated_none (broom_view s); cleared = cleared; source = source; room = omega arith; few = omega arith; emptied = emptied_none (pages_of (geometry_of f)) x (broom_view s) (own_blocks s) }
+clearing_none f s x sweeps cleared source room = record { sweeps = sweeps; went = relocated_none (broom_view s); cleared = cleared; source = source; room = omega arith; few = omega arith; emptied = emptied_none (pages_of (geometry_of f)) x (broom_view s) (own_blocks s); ceded = sym (append-nil (broom_view s).ceded) }
 
 pub clearing_more : (f : Flash) (v : View) (y : BroomBlocks) (x : ReclaimedBlock) (page copied now : ℕ) (moved : Bool) (s t : BroomSeat) → Clearing f v y x page copied s → Sweeps f t x
     → Cleared (pages_of (geometry_of f)) (broom_view s) (own_blocks s) (victim_page x page) (count_if moved) (broom_view t) (own_blocks t) → now ≡ copied + count_if moved → Clearing f v y x (page + 1) now t
@@ -340,6 +372,10 @@ clearing_more f v y x page copied now moved s t h sweeps told sum =
       room = omega arith;
       few = omega arith;
       emptied = emptied_more (pages_of (geometry_of f)) x page copied (count_if moved) now v (broom_view s) (broom_view t) y (own_blocks s) (own_blocks t) h.emptied told.find told.named told.copies told.each told.moved sum told.programmed;
+      ceded = told.ceded
+          ∙ (ap (λ (l : List Owned). l ++ filled_by (pages_of (geometry_of f)) told.copies) h.ceded
+          ∙ (append_assoc v.ceded (filled_by (pages_of (geometry_of f)) h.emptied.copies) (filled_by (pages_of (geometry_of f)) told.copies)
+          ∙ ap (λ (l : List Owned). v.ceded ++ l) (sym (filled_then (pages_of (geometry_of f)) h.emptied.copies told.copies))));
     } where
       most : (b : Bool) → count_if b ≤ 1
       most true = omega arith

@@ -176,6 +176,7 @@ module _ (f : Flash) (v : View) (y : BroomBlocks) (o : OpenBlock) (value : List 
           cleared = ap (λ (y : View). y.cleared) e;
           is = refl;
           programs = ap (λ (y : View). y.programs) e;
+          ceded = ap (λ (y : View). y.ceded) e;
           named = ap (λ (y : View). y.named) e;
           can = record {
             is = ap (λ (y : View). y.source) e ∙ source;

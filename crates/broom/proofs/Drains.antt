@@ -1,12 +1,12 @@
 -- A drain as a whole: the survey, the claim, the relocation and the last step.
-use Rattle.std.proofs.Common.{◌≡◌, ℕ, ◌+◌, ◌<◌, ◌≤◌, true, false, List, [], ◌∷◌, ◌++◌, length, Option, None, Some, is_some, sym, refl, ap, ◌∙◌, subst, arith, append-nil, get_or, set}
+use Rattle.std.proofs.Common.{◌≡◌, ℕ, ◌+◌, ◌<◌, ◌≤◌, true, false, List, [], ◌∷◌, ◌++◌, length, Option, None, Some, is_some, sym, refl, ap, ◌∙◌, subst, arith, append-nil, append_assoc, get_or, set}
 use Rattle.std.proofs.lemmas.List.{get_or-map}
 use Rattle.geometry.specs.Geometry.{blocks_of, pages_of}
 use Rattle.geometry.specs.Greedy.{IsClosed}
 use Rattle.geometry.specs.History.{Begins, Call}
 use Rattle.geometry.specs.Limits.{Numbers}
 use Rattle.geometry.specs.PinWords.{FitsPin, pin_word}
-use Rattle.geometry.specs.declared.pin_word.Phase.TheVariants.{Closed}
+use Rattle.geometry.specs.declared.pin_word.Phase.TheVariants.{Closed, Drained}
 use Rattle.geometry.specs.declared.pin_word.PinWord.{PinWord}
 use Rattle.geometry.proofs.Histories.{Begins-trans}
 use Rattle.flash_rule.specs.declared.facts.Cycle.{Cycle}
@@ -20,12 +20,13 @@ use Rattle.flash_table.specs.declared.broom_seat.BroomBlocks.{BroomBlocks}
 use Rattle.flash_table.specs.declared.broom_seat.BroomSeat.{BroomSeat}
 use Rattle.flash_table.specs.declared.broom_seat.ReclaimedBlock.{ReclaimedBlock}
 use Rattle.flash_table.specs.declared.broom_seat.Reclaiming.TheVariants.{Nothing, Draining}
+use Rattle.flash_table.specs.Owning.{reclaimed_as}
 use Rattle.flash_table.specs.Flash.{IsBroomOf, broom_view, own_blocks, geometry_of, device}
 use Rattle.broom.specs.declared.broom.Broom.{Broom}
 use Rattle.broom.specs.declared.ranking.Ranking.{Ranking}
 use Rattle.broom.specs.Handing.{HandsNothing, place_of, aside_of}
 use Rattle.broom.specs.Survey.{generation_in, written_in, looks_of}
-use Rattle.broom.specs.Emptying.{Emptied, looks_in}
+use Rattle.broom.specs.Emptying.{Emptied, HasEmptied, filled_by, given_up, looks_in}
 use Rattle.broom.specs.Ready.{IsRested, IsReady, IsMarked, view_of_broom, blocks_of_broom, marks_of}
 use Rattle.broom.specs.declared.answer.Drain.{Drain}
 use Rattle.broom.specs.declared.answer.Drain.TheVariants as drain
@@ -100,11 +101,14 @@ module _ (f : Flash) (r : Broom) (b : ℕ) (ready : IsReady f r) (marked : IsClo
             some_block (Some p) e = (p, refl)
 
       -- ---- the drain ends
-      module _ (u w : BroomSeat) (copied : ℕ) (went : Relocated (broom_view t) copied (broom_view u)) (bare : (broom_view u).source ≡ None) (sweeps : Sweeps f u victim_of_state) (owned ceded : List Owned)
-          (drained : broom_view w ≡ record (broom_view u) { owns = owned; drains = (broom_view u).drains ++ record { block = b; generation = q.generation } ∷ []; ceded = ceded }) (free : own_blocks w ≡ record (own_blocks u) { reclaiming = Nothing }) (none : (view_of_broom r).source ≡ None)
-          (cleared : (broom_view u).cleared ≡ q.written) (emptied : Emptied (pages_of (geometry_of f)) victim_of_state (broom_view t) (own_blocks t) copied (broom_view u) (own_blocks u)) where
+      module _ (u w : BroomSeat) (copied : ℕ) (went : Relocated (broom_view t) copied (broom_view u)) (bare : (broom_view u).source ≡ None) (sweeps : Sweeps f u victim_of_state) (owned : List Owned)
+          (drained : broom_view w ≡ record (broom_view u) { owns = owned; drains = (broom_view u).drains ++ record { block = b; generation = q.generation } ∷ []; ceded = (broom_view u).ceded ++ reclaimed_as Drained victim_of_state ∷ [] }) (free : own_blocks w ≡ record (own_blocks u) { reclaiming = Nothing }) (none : (view_of_broom r).source ≡ None)
+          (cleared : (broom_view u).cleared ≡ q.written) (emptied : HasEmptied (pages_of (geometry_of f)) victim_of_state t copied u) where
         abbrev v : View
         v = view_of_broom r
+
+        abbrev ceded : List Owned
+        ceded = (broom_view u).ceded ++ reclaimed_as Drained victim_of_state ∷ []
 
         all : broom_view w ≡ record v {
           seen = (broom_view u).seen;
@@ -144,18 +148,25 @@ module _ (f : Flash) (r : Broom) (b : ℕ) (ready : IsReady f r) (marked : IsClo
         pub drained_loaded : (broom_view w).loaded ≡ v.loaded
         drained_loaded = ap (λ (x : View). x.loaded) all
 
-        -- its pages, with the claim behind and the drain ahead
-        whole_emptied : Emptied v.numbers.pages (block_in r.states.items b) v (own_blocks r.seat) copied (broom_view w) (own_blocks w)
+        -- its pages, with the claim behind and the drain ahead, and what was given up
+        whole_emptied : (e : Emptied v.numbers.pages (block_in r.states.items b) v (own_blocks r.seat) copied (broom_view w) (own_blocks w)) × (ceded ≡ v.ceded ++ given_up v.numbers.pages e.copies (block_in r.states.items b))
         whole_emptied =
             let pages : pages_of (geometry_of f) ≡ v.numbers.pages = ap (λ (z : Numbers). z.pages) (sym ready.rested.seat.numbers) in
             let victim : victim_of_state ≡ block_in r.states.items b = λ i. record { block = b; generation = generation_is i; written = written_is i } in
             let open_ones : BroomBlocks → Option OpenBlock × Option OpenBlock = λ z. (z.destination, z.spare) in
             let before = ap open_ones blocks in
             let after = ap open_ones free in
-            let P : ℕ × ReclaimedBlock → Type 0 = λ k. Emptied k.0 k.1 v (own_blocks r.seat) copied (broom_view w) (own_blocks w) in
-            subst P (λ i. (pages i, victim i))
-            (emptied_same (pages_of (geometry_of f)) copied victim_of_state (broom_view t) v (broom_view u) (broom_view w) (own_blocks t) (own_blocks r.seat) (own_blocks u) (own_blocks w) (ap (λ (z : View). z.named) claimed) (ap (λ (z : View). z.programs) claimed)
-            (ap (λ (z : View). z.work) claimed) (ap (λ (z : View). z.named) drained) (ap (λ (z : View). z.programs) drained) (ap (λ (z : View). z.work) drained) before after emptied)
+            let copies = emptied.0.copies in
+            let filled : List Owned = filled_by (pages_of (geometry_of f)) copies in
+            let last : List Owned = reclaimed_as Drained victim_of_state ∷ [] in
+            let gave : ceded ≡ v.ceded ++ (filled ++ last) =
+            ap (λ (l : List Owned). l ++ last) (emptied.1 ∙ ap (λ (z : View). z.ceded ++ filled) claimed) ∙ append_assoc v.ceded filled last in
+            let P : ℕ × ReclaimedBlock → Type 0 = λ k. (e : Emptied k.0 k.1 v (own_blocks r.seat) copied (broom_view w) (own_blocks w)) × (ceded ≡ v.ceded ++ given_up k.0 e.copies k.1) in
+            subst P (λ i. (pages i, victim i)) (
+              emptied_same (pages_of (geometry_of f)) copied victim_of_state (broom_view t) v (broom_view u) (broom_view w) (own_blocks t) (own_blocks r.seat) (own_blocks u) (own_blocks w) (ap (λ (z : View). z.named) claimed) (ap (λ (z : View). z.programs) claimed)
+                  (ap (λ (z : View). z.work) claimed) (ap (λ (z : View). z.named) drained) (ap (λ (z : View). z.programs) drained) (ap (λ (z : View). z.work) drained) before after emptied.0,
+              gave,
+            )
 
         pub did_drain : DidDrainAgain v (own_blocks r.seat) r.states.items b copied (broom_view w) (own_blocks w)
         did_drain =
@@ -164,7 +175,7 @@ module _ (f : Flash) (r : Broom) (b : ℕ) (ready : IsReady f r) (marked : IsClo
             let last : (broom_view w).seen ≡ (broom_view u).seen = ap (λ (y : View). y.seen) drained in
             record {
               later = let P : List Call × List Call → Type 0 = λ y. Begins y.0 y.1 in subst P (λ i. (seen i, sym last i)) went.later;
-              emptied = whole_emptied;
+              emptied = whole_emptied.0;
               room = λ o is.
                   let left = (sweeps.destination o (sym (ap (λ (z : BroomBlocks). z.destination) free) ∙ is)).room in subst (λ (z : Numbers). o.written < z.pages) (sym ready.rested.seat.numbers) left;
               reclaiming = ap (λ (z : BroomBlocks). z.reclaiming) free ∙ sym ready.rested.reclaiming;
@@ -178,7 +189,7 @@ module _ (f : Flash) (r : Broom) (b : ℕ) (ready : IsReady f r) (marked : IsClo
                     cleared = written_in r.states.items b;
                     moves = v.moves + copied;
                     drains = v.drains ++ record { block = b; generation = generation_in r.states.items b } ∷ [];
-                    ceded = (sym e i).ceded;
+                    ceded = whole_emptied.1 i;
                   });
             }
 
@@ -235,20 +246,25 @@ module _ (v : View) (b : ℕ) (r after : Broom) (chosen : Chosen v b r) (x : Bro
       let k = chosen.changed in
       let victim : block_in r.states.items b ≡ victim_in chosen.survey b = λ i. block_in (sym chosen.kept i) b in
       let begun : View = record v { named = v.named ++ looks_of chosen.survey.pages } in
-      let emptied : Emptied v.numbers.pages (victim_in chosen.survey b) u x copied w (blocks_of_broom after) =
-      let P : Numbers × ReclaimedBlock × BroomBlocks → Type 0 = λ y. Emptied y.0.pages y.1 u y.2 copied w (blocks_of_broom after) in subst P (λ i. (numbers i, victim i, same i)) h.emptied in
+      let P : Numbers × ReclaimedBlock × BroomBlocks → Type 0 =
+      λ y. (e : Emptied y.0.pages y.1 u y.2 copied w (blocks_of_broom after)) × (w.ceded ≡ u.ceded ++ given_up y.0.pages e.copies y.1) in
+      let emptied : P (v.numbers, victim_in chosen.survey b, x) = subst P (λ i. (numbers i, victim i, same i)) (h.emptied, ap (λ (z : View). z.ceded) c) in
+      let gave : w.ceded ≡ v.ceded ++ given_up v.numbers.pages emptied.0.copies (victim_in chosen.survey b) =
+      emptied.1 ∙ ap (λ (z : View). z.ceded ++ given_up v.numbers.pages emptied.0.copies (victim_in chosen.survey b)) k in
       let named : u.named ≡ v.named ++ looks_of chosen.survey.pages = ap (λ (z : View). z.named) k in
       record {
         survey = chosen.survey;
         made = made_drained copied h;
         victim = chosen.victim;
-        emptied = emptied_same v.numbers.pages copied (victim_in chosen.survey b) u begun w w x x (blocks_of_broom after) (blocks_of_broom after) named (ap (λ (z : View). z.programs) k) (ap (λ (z : View). z.work) k) refl refl refl refl refl emptied;
+        emptied = emptied_same v.numbers.pages copied (victim_in chosen.survey b) u begun w w x x (blocks_of_broom after) (blocks_of_broom after) named (ap (λ (z : View). z.programs) k) (ap (λ (z : View). z.work) k) refl refl refl refl refl emptied.0;
         room = λ o is. subst (λ (z : Numbers). o.written < z.pages) numbers (h.room o is);
         reclaiming = h.reclaiming ∙ ap (λ (z : BroomBlocks). z.reclaiming) same;
         changed =
             let all : w
             ≡ record v { seen = w.seen; loaded = u.loaded; named = w.named; busy = u.busy; stale = u.stale; owns = w.owns; work = w.work; programs = w.programs; cleared = (block_in r.states.items b).written; moves = v.moves + copied; drains = v.drains ++ record { block = b; generation = (block_in r.states.items b).generation } ∷ []; ceded = w.ceded } =
-            c ∙ (λ i. record (k i) { seen = w.seen; named = w.named; owns = w.owns; work = w.work; programs = w.programs; cleared = (block_in r.states.items b).written; moves = (k i).moves + copied; drains = (k i).drains ++ record { block = b; generation = (block_in r.states.items b).generation } ∷ []; ceded = w.ceded }) in
+            c
+            ∙ ((λ i. record u { seen = w.seen; named = w.named; owns = w.owns; work = w.work; programs = w.programs; cleared = (block_in r.states.items b).written; moves = u.moves + copied; drains = u.drains ++ record { block = b; generation = (block_in r.states.items b).generation } ∷ []; ceded = (sym c i).ceded })
+            ∙ (λ i. record (k i) { seen = w.seen; named = w.named; owns = w.owns; work = w.work; programs = w.programs; cleared = (block_in r.states.items b).written; moves = (k i).moves + copied; drains = (k i).drains ++ record { block = b; generation = (block_in r.states.items b).generation } ∷ []; ceded = w.ceded })) in
             all
             ∙ (λ i. record v {
               seen = w.seen;
@@ -262,7 +278,7 @@ module _ (v : View) (b : ℕ) (r after : Broom) (chosen : Chosen v b r) (x : Bro
               cleared = (victim i).written;
               moves = v.moves + copied;
               drains = v.drains ++ record { block = b; generation = (victim i).generation } ∷ [];
-              ceded = w.ceded;
+              ceded = gave i;
             });
       }
 

@@ -1,15 +1,17 @@
 -- The pages that a broom fills with copies, one after another, and what is left of them.
-use Rattle.std.proofs.Common.{◌≡◌, ℕ, suc, ◌+◌, ◌-◌, ◌<◌, ◌≤◌, List, [], ◌∷◌, ◌++◌, length, Option, None, Some, sym, refl, ap, ◌∙◌, arith, append_assoc, append-nil, length-append, map}
+use Rattle.std.proofs.Common.{◌≡◌, ℕ, suc, ◌+◌, ◌-◌, ◌<◌, ◌≤◌, ◌==◌, List, [], ◌∷◌, ◌++◌, length, Option, None, Some, sym, refl, ap, ◌∙◌, arith, eq-eqb, ne_eqb, append_assoc, append-nil, length-append, map}
 use Rattle.std.specs.List.{range_with_len}
 use mathlib.Core.Logic.{dite}
 use native.Mathlib.Decide.{dec_le}
 use Rattle.geometry.specs.declared.map_word.MapWord.{MapWord}
+use Rattle.flash_rule.specs.declared.facts.Owned.{Owned}
 use Rattle.flash_rule.specs.declared.facts.Work.{Work}
 use Rattle.flash_rule.specs.declared.view.View.{View}
 use Rattle.flash_table.specs.declared.pass.OpenBlock.{OpenBlock}
 use Rattle.flash_table.specs.declared.broom_seat.BroomBlocks.{BroomBlocks}
 use Rattle.flash_table.specs.declared.broom_seat.ReclaimedBlock.{ReclaimedBlock}
-use Rattle.broom.specs.Emptying.{Programmed, Emptied, victim_page, page_at, pages_left, pages_to_fill, looks_in, is_live, live_from, count_if}
+use Rattle.flash_table.specs.Owning.{closed_as}
+use Rattle.broom.specs.Emptying.{Programmed, Emptied, victim_page, page_at, pages_left, pages_to_fill, closed_if, filled_by, looks_in, is_live, live_from, count_if}
 
 -- ---- the victim's pages
 pub looks_push : (finds : List (Option (ℕ × ℕ))) (find : Option (ℕ × ℕ)) → looks_in (finds ++ find ∷ []) ≡ looks_in finds ++ looks_in (find ∷ [])
@@ -32,6 +34,19 @@ pages_more pages o room =
 
 pub pages_full : (pages : ℕ) (o : OpenBlock) → o.written ≡ pages → pages_left pages (Some o) ≡ []
 pages_full pages o full = let e : pages - o.written ≡ 0 = omega arith in ap (λ n. map (page_at o) (range_with_len o.written n)) e
+
+-- ---- the blocks that are filled
+pub filled_then : (pages : ℕ) (before after : List MapWord) → filled_by pages (before ++ after) ≡ filled_by pages before ++ filled_by pages after
+filled_then pages [] after = refl
+filled_then pages (m ∷ before) after =
+    let one : List Owned = closed_if (m.page + 1 == pages) m in
+    ap (λ (l : List Owned). one ++ l) (filled_then pages before after) ∙ sym (append_assoc one (filled_by pages before) (filled_by pages after))
+
+pub filled_last : (pages : ℕ) (o : OpenBlock) → o.written + 1 ≡ pages → filled_by pages (page_at o o.written ∷ []) ≡ closed_as (record o { written = o.written + 1 }) ∷ []
+filled_last pages o full = ap (λ b. closed_if b (page_at o o.written) ++ []) (eq-eqb (o.written + 1) pages full)
+
+pub filled_none : (pages : ℕ) (o : OpenBlock) → ¬ (o.written + 1 ≡ pages) → filled_by pages (page_at o o.written ∷ []) ≡ []
+filled_none pages o left = ap (λ b. closed_if b (page_at o o.written) ++ []) (ne_eqb (o.written + 1) pages left)
 
 -- ---- nothing is programmed, or one page
 pub programmed_none : (pages : ℕ) (v w : View) (x y : BroomBlocks) → w.programs ≡ v.programs → w.work ≡ v.work → y ≡ x → Programmed pages v x [] w y
@@ -121,7 +136,7 @@ module _ (pages : ℕ) (u v w : View) (x y z : BroomBlocks) (before after : List
       }
 
 -- ---- page after page
-pub emptied_none : (pages : ℕ) (x : ReclaimedBlock) (v : View) (y : BroomBlocks) → Emptied pages (record x { written = 0 }) v y 0 v y
+abbrev pub emptied_none : (pages : ℕ) (x : ReclaimedBlock) (v : View) (y : BroomBlocks) → Emptied pages (record x { written = 0 }) v y 0 v y
 emptied_none pages x v y =
     record {
       finds = [];
@@ -133,7 +148,7 @@ emptied_none pages x v y =
       programmed = programmed_none pages v v y y refl refl refl;
     }
 
-pub emptied_more : (pages : ℕ) (x : ReclaimedBlock) (page copied moved now : ℕ) (u v w : View) (a b c : BroomBlocks) → Emptied pages (record x { written = page }) u a copied v b → (find : Option (ℕ × ℕ))
+abbrev pub emptied_more : (pages : ℕ) (x : ReclaimedBlock) (page copied moved now : ℕ) (u v w : View) (a b c : BroomBlocks) → Emptied pages (record x { written = page }) u a copied v b → (find : Option (ℕ × ℕ))
     → w.named ≡ v.named ++ looks_in (find ∷ []) → (copies : List MapWord) → length copies ≡ count_if (is_live (victim_page x page) find) → moved ≤ length copies → now ≡ copied + moved → Programmed pages v b copies w c
     → Emptied pages (record x { written = page + 1 }) u a now w c
 emptied_more pages x page copied moved now u v w a b c h find named copies each few sum programmed =
@@ -153,7 +168,7 @@ emptied_more pages x page copied moved now u v w a b c h find named copies each 
     }
 
 -- what was emptied, told of views and blocks with the same parts
-pub emptied_same : (pages copied : ℕ) (x : ReclaimedBlock) (v v' w w' : View) (a a' b b' : BroomBlocks) → v.named ≡ v'.named → v.programs ≡ v'.programs → v.work ≡ v'.work → w'.named ≡ w.named → w'.programs ≡ w.programs → w'.work ≡ w.work
+abbrev pub emptied_same : (pages copied : ℕ) (x : ReclaimedBlock) (v v' w w' : View) (a a' b b' : BroomBlocks) → v.named ≡ v'.named → v.programs ≡ v'.programs → v.work ≡ v'.work → w'.named ≡ w.named → w'.programs ≡ w.programs → w'.work ≡ w.work
     → ◌≡◌ {A = Option OpenBlock × Option OpenBlock} (a.destination, a.spare) (a'.destination, a'.spare) → ◌≡◌ {A = Option OpenBlock × Option OpenBlock} (b'.destination, b'.spare) (b.destination, b.spare) → Emptied pages x v a copied w b
     → Emptied pages x v' a' copied w' b'
 emptied_same pages copied x v v' w w' a a' b b' named programs work named' programs' work' before after h =

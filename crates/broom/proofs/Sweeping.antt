@@ -98,6 +98,7 @@ module _ (v w : View) (x : ReclaimedBlock) (n : ℕ) (told : GotStamp v (reclaim
         source = ap (λ (y : View). y.source) e;
         programs = ap (λ (y : View). y.programs) e;
         work = ap (λ (y : View). y.work) e;
+        ceded = ap (λ (y : View). y.ceded) e;
         find = None;
         named = ap (λ (y : View). y.named) e ∙ sym (append-nil v.named);
         dead = refl;
@@ -137,6 +138,7 @@ module _ (v w : View) (s : ℕ) (named : Option MapWord) (told : Named v s (sect
           went = look_went;
           cleared = live.1;
           programs = ap (λ (y : View). y.programs) told.changed;
+          ceded = ap (λ (y : View). y.ceded) told.changed;
           named = ap (λ (y : View). y.named) told.changed ∙ ap (λ n. v.named ++ (s, n) ∷ []) word;
           low = low;
           value = t.1;
@@ -153,6 +155,7 @@ module _ (v w : View) (s : ℕ) (named : Option MapWord) (told : Named v s (sect
           source = dead.0;
           programs = ap (λ (y : View). y.programs) told.changed;
           work = ap (λ (y : View). y.work) told.changed;
+          ceded = ap (λ (y : View). y.ceded) told.changed;
           find = Some (s, sector_word named);
           named = ap (λ (y : View). y.named) told.changed;
           dead = ne_eqb (sector_word named) (map_word page) (unlike named fits else);
@@ -162,14 +165,15 @@ module _ (v w : View) (s : ℕ) (named : Option MapWord) (told : Named v s (sect
           unlike (Some m) fits else e = else (ap (λ k. Some k) (map_same m page fits fits' e))
 
 -- ---- both
--- a part that looks nowhere and programs nothing
+-- a part that looks nowhere, programs nothing and gives nothing up
 pub record Untouched (v w : View) : Type 0 where
   pub programs : w.programs ≡ v.programs
   pub work : w.work ≡ v.work
+  pub ceded : w.ceded ≡ v.ceded
   pub named : w.named ≡ v.named
 
 pub untouched_source : (v w : View) (source : Option Source) (cleared : ℕ) → w ≡ record v { source = source; cleared = cleared } → Untouched v w
-untouched_source v w source cleared e = record { programs = ap (λ (y : View). y.programs) e; work = ap (λ (y : View). y.work) e; named = ap (λ (y : View). y.named) e }
+untouched_source v w source cleared e = record { programs = ap (λ (y : View). y.programs) e; work = ap (λ (y : View). y.work) e; ceded = ap (λ (y : View). y.ceded) e; named = ap (λ (y : View). y.named) e }
 
 pub found_dead_then : (u v w : View) (page : MapWord) → Relocated u 0 v → v.cleared ≡ u.cleared → Untouched u v → FoundDead v page w → FoundDead u page w
 found_dead_then u v w page first same none h =
@@ -179,6 +183,7 @@ found_dead_then u v w page first same none h =
       source = h.source;
       programs = h.programs ∙ none.programs;
       work = h.work ∙ none.work;
+      ceded = h.ceded ∙ none.ceded;
       find = h.find;
       named = h.named ∙ ap (λ (l : List (ℕ × ℕ)). l ++ looks_in (h.find ∷ [])) none.named;
       dead = h.dead;
@@ -191,6 +196,7 @@ found_live_then u v w page s first same none h =
       went = relocated_then u v w 0 0 0 refl first h.went;
       cleared = h.cleared ∙ same;
       programs = h.programs ∙ none.programs;
+      ceded = h.ceded ∙ none.ceded;
       named = h.named ∙ ap (λ (l : List (ℕ × ℕ)). l ++ (s, map_word page) ∷ []) none.named;
       low = subst (λ (z : Numbers). s < z.sectors) numbers h.low;
       value = h.value;

@@ -2,13 +2,16 @@
 use Rattle.std.specs.Prelude.{◌≡◌, ℕ, ◌+◌, ◌-◌, ◌<◌, ◌≤◌, ◌==◌, Bool, true, false, List, [], ◌∷◌, ◌++◌, Option, None, Some, length, map}
 use Rattle.std.specs.List.{range_with_len}
 use Rattle.geometry.specs.MapWords.{map_word}
+use Rattle.geometry.specs.declared.pin_word.Phase.TheVariants.{Closed, Drained}
 use Rattle.geometry.specs.declared.map_word.MapWord.{MapWord}
+use Rattle.flash_rule.specs.declared.facts.Owned.{Owned}
 use Rattle.flash_rule.specs.declared.facts.Work.{Work}
 use Rattle.flash_rule.specs.declared.view.View.{View}
 use Rattle.flash_table.specs.declared.pass.OpenBlock.{OpenBlock}
 use Rattle.flash_table.specs.declared.broom_seat.BroomBlocks.{BroomBlocks}
 use Rattle.flash_table.specs.declared.broom_seat.ReclaimedBlock.{ReclaimedBlock}
 use Rattle.flash_table.specs.declared.broom_seat.BroomSeat.{BroomSeat}
+use Rattle.flash_table.specs.Owning.{reclaimed_as}
 use Rattle.flash_table.specs.Flash.{broom_view, own_blocks}
 
 -- a page of the victim, in its generation
@@ -27,6 +30,20 @@ pages_left pages (Some o) = map (page_at o) (range_with_len o.written (pages - o
 -- the pages that a broom copies to, in order: those left in its destination, and then those of its spare
 abbrev pub pages_to_fill : ℕ → BroomBlocks → List MapWord
 pages_to_fill pages x = pages_left pages x.destination ++ pages_left pages x.spare
+
+-- the block of this page, closed with all its pages up to this one, or nothing
+abbrev pub closed_if : Bool → MapWord → List Owned
+closed_if true page = record { block = page.block; phase = Closed; generation = page.generation; written = page.page + 1 } ∷ []
+closed_if false page = []
+
+-- the blocks that these pages fill, full and closed: that of each page that is the last one of its block
+abbrev pub filled_by : ℕ → List MapWord → List Owned
+filled_by pages [] = []
+filled_by pages (page ∷ others) = closed_if (page.page + 1 == pages) page ++ filled_by pages others
+
+-- what a broom has given up that emptied its victim: the blocks that the copies filled, closed, and behind them the victim, drained
+abbrev pub given_up : ℕ → List MapWord → ReclaimedBlock → List Owned
+given_up pages copies victim = filled_by pages copies ++ reclaimed_as Drained victim ∷ []
 
 -- one or none
 abbrev pub count_if : Bool → ℕ
@@ -72,6 +89,7 @@ pub record Emptied (pages : ℕ) (victim : ReclaimedBlock) (v : View) (x : Broom
   pub moved : copied ≤ length copies
   pub programmed : Programmed pages v x copies w y
 
--- a broom's seat has emptied its victim
+-- a broom's seat has emptied its victim, and has given up the blocks that the copies filled, and no others
 abbrev pub HasEmptied : ℕ → ReclaimedBlock → BroomSeat → ℕ → BroomSeat → Type 0
-HasEmptied pages victim s copied t = Emptied pages victim (broom_view s) (own_blocks s) copied (broom_view t) (own_blocks t)
+HasEmptied pages victim s copied t =
+    (e : Emptied pages victim (broom_view s) (own_blocks s) copied (broom_view t) (own_blocks t)) × ((broom_view t).ceded ≡ (broom_view s).ceded ++ filled_by pages e.copies)

@@ -18,7 +18,7 @@ use Rattle.flash_table.specs.declared.broom_seat.ReclaimedBlock.{ReclaimedBlock}
 use Rattle.flash_table.specs.declared.broom_seat.Reclaiming.TheVariants.{Draining}
 use Rattle.flash_table.specs.Owning.{owned_of}
 use Rattle.flash_table.specs.Flash.{IsBroomOf, broom_view, own_blocks, geometry_of}
-use Rattle.broom.specs.Emptying.{Programmed, pages_to_fill, looks_in, is_live, count_if}
+use Rattle.broom.specs.Emptying.{Programmed, page_at, pages_to_fill, filled_by, looks_in, is_live, count_if}
 use Rattle.broom.specs.Ready.{HasRoom, IsFiled}
 
 -- The broom drains this victim. Its destination has fewer pages written than this, and nothing is written in its spare
@@ -60,6 +60,7 @@ pub record FoundDead (v : View) (page : MapWord) (w : View) : Type 0 where
   pub source : w.source ≡ None
   pub programs : w.programs ≡ v.programs
   pub work : w.work ≡ v.work
+  pub ceded : w.ceded ≡ v.ceded
   pub find : Option (ℕ × ℕ)
   pub named : w.named ≡ v.named ++ looks_in (find ∷ [])
   pub dead : is_live page find ≡ false
@@ -69,6 +70,7 @@ pub record FoundLive (v : View) (page : MapWord) (sector : ℕ) (w : View) : Typ
   pub went : Relocated v 0 w
   pub cleared : w.cleared ≡ v.cleared
   pub programs : w.programs ≡ v.programs
+  pub ceded : w.ceded ≡ v.ceded
   pub named : w.named ≡ v.named ++ (sector, map_word page) ∷ []
   pub low : sector < v.numbers.sectors
   pub value : List ℕ
@@ -92,6 +94,7 @@ pub record Copied (v : View) (o : OpenBlock) (x : Source) (copy : MapWord) (w : 
   pub is : copy ≡ next_page (owned_of o)
   pub can : CanMove w x copy
   pub programs : w.programs ≡ v.programs ++ copy ∷ []
+  pub ceded : w.ceded ≡ v.ceded
   pub named : w.named ≡ v.named
 
 -- a page and its sector, as the source that is copied
@@ -110,6 +113,7 @@ pub record Tidied (pages : ℕ) (v : View) (x : BroomBlocks) (w : View) (y : Bro
   pub source : w.source ≡ v.source
   pub room : room_left pages y ≡ room_left pages x
   pub programs : w.programs ≡ v.programs
+  pub ceded : (o : OpenBlock) → x.destination ≡ Some (record o { written = o.written + 1 }) → w.ceded ≡ v.ceded ++ filled_by pages (page_at o o.written ∷ [])
   pub named : w.named ≡ v.named
   pub left : pages_to_fill pages y ≡ pages_to_fill pages x
   pub spare : y.spare ≡ x.spare
@@ -127,6 +131,7 @@ pub record Cleared (pages : ℕ) (v : View) (x : BroomBlocks) (page : MapWord) (
   pub copies : List MapWord
   pub each : length copies ≡ count_if (is_live page find)
   pub moved : copied ≤ length copies
+  pub ceded : w.ceded ≡ v.ceded ++ filled_by pages copies
   pub programmed : Programmed pages v x copies w y
 
 -- a broom's seat has cleared the next page of its victim

@@ -11,7 +11,7 @@ use Rattle.broom.specs.declared.broom.Broom.{Broom}
 use Rattle.broom.specs.declared.answer.Drain.{Drain}
 use Rattle.broom.specs.declared.answer.Drain.TheVariants as drain
 use Rattle.broom.specs.Survey.{Survey, IsSurvey, GainsNothing, IsVictim, loads_of, looks_of, generation_in, written_in, counts_of, closed_of}
-use Rattle.broom.specs.Emptying.{Emptied}
+use Rattle.broom.specs.Emptying.{Emptied, given_up}
 use Rattle.broom.specs.Ready.{view_of_broom, blocks_of_broom, marks_of}
 
 -- A survey was made: the state of each block was loaded in order, and then each sector looked at in order, with these words
@@ -48,7 +48,8 @@ victim_in x b = record { block = b; generation = generation_in x.states b; writt
 
 -- A survey was made, and this block, its victim, was drained in its generation as loaded: no map word names it any more. It was emptied
 -- page by page: for each live page the next page of the destination was programmed, and once that had none, the next one of the spare, and
--- this many map words were exchanged for a copy's. A destination with no page left is closed, and no other block is
+-- this many map words were exchanged for a copy's. The broom gave up exactly the blocks that the copies filled, closed, and after them the
+-- victim, drained
 pub record DidDrain (v : View) (x : BroomBlocks) (block copied : ℕ) (w : View) (y : BroomBlocks) : Type 0 where
   pub survey : Survey
   pub made : Surveyed v survey w
@@ -68,7 +69,7 @@ pub record DidDrain (v : View) (x : BroomBlocks) (block copied : ℕ) (w : View)
     cleared = (victim_in survey block).written;
     moves = v.moves + copied;
     drains = v.drains ++ record { block = block; generation = generation_in survey.states block } ∷ [];
-    ceded = w.ceded;
+    ceded = v.ceded ++ given_up v.numbers.pages emptied.copies (victim_in survey block);
   }
 
 -- What each result of a drain means. The broom's own blocks are unchanged if it drained none. A drain doesn't use the queue
@@ -99,7 +100,7 @@ pub record DidDrainAgain (v : View) (x : BroomBlocks) (states : List PinWord) (b
     cleared = written_in states block;
     moves = v.moves + copied;
     drains = v.drains ++ record { block = block; generation = generation_in states block } ∷ [];
-    ceded = w.ceded;
+    ceded = v.ceded ++ given_up v.numbers.pages emptied.copies (block_in states block);
   }
 
 -- the claim of this block failed, and nothing else was done

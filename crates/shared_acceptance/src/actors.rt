@@ -148,7 +148,7 @@ impl<'a, H: Home> Host<'a, H> {
         self.volume.meet(&mut self.pass, &mut other.pass)
     }
 
-    // Meets another host.
+    // Meets another host, which may hold a page.
     fn meet_one(self, other: Actor<'a, H>) -> (Actor<'a, H>, Actor<'a, H>, bool) {
         let mut host = self;
         match other {
@@ -156,6 +156,10 @@ impl<'a, H: Home> Host<'a, H> {
                 let mut second = second;
                 host.meet(&mut second);
                 (Actor::Host(host), Actor::Host(second), true)
+            }
+            Actor::Holder(holder) => {
+                let holder = holder.meet_host(&mut host);
+                (Actor::Host(host), Actor::Holder(holder), true)
             }
             other => (Actor::Host(host), other, false),
         }
@@ -224,9 +228,21 @@ impl<'a, H: Home> Holder<'a, H> {
         Holder { volume, held, of }
     }
 
-    // A broom, if it is one, stands by the page.
+    // Meets another host, and keeps the page.
+    fn meet_host(self, host: &mut Host<'a, H>) -> Holder<'a, H> {
+        let Holder { volume, held, of } = self;
+        let held = volume.meet_holding(held, &mut host.pass);
+        Holder { volume, held, of }
+    }
+
+    // Meets a host that holds no page, or a broom.
     fn meet_one(self, other: Actor<'a, H>) -> (Actor<'a, H>, Actor<'a, H>, bool) {
         match other {
+            Actor::Host(host) => {
+                let mut host = host;
+                let holder = self.meet_host(&mut host);
+                (Actor::Holder(holder), Actor::Host(host), true)
+            }
             Actor::Sweeper(sweeper) => {
                 let mut sweeper = sweeper;
                 let holder = self.stand(&mut sweeper);
@@ -344,7 +360,8 @@ impl<'a, H: Home> Actor<'a, H> {
         }
     }
 
-    /// Two hosts, two brooms, or one that holds a page and a broom. The answer is false for others, which don't meet.
+    /// Two hosts, one of which may hold a page, two brooms, or one that holds a page and a broom. The answer is false for others, which
+    /// don't meet.
     pub(crate) fn meet(self, other: Actor<'a, H>) -> (Actor<'a, H>, Actor<'a, H>, bool) {
         match self {
             Actor::Host(host) => host.meet_one(other),

@@ -55,8 +55,8 @@ impl<'a, H: Home> Cast<'a, H> {
         }
     }
 
-    /// Two hosts, two brooms, or one that holds a page and a broom meet, and come back. The answer is nothing where one of them isn't there,
-    /// and false where others don't meet.
+    /// Two hosts, one of which may hold a page, two brooms, or one that holds a page and a broom meet, and come back. The answer is nothing
+    /// where one of them isn't there, and false where others don't meet.
     pub(crate) fn meet(&mut self, first: Who, second: Who) -> Option<bool> {
         let a = self.take(first)?;
         let Some(b) = self.take(second) else {

@@ -85,6 +85,21 @@ const HOLDS: [Step; 11] = [
     Step::By(Who::B, (Call::Read(0), Done::Read(Some(3), 1))),
 ];
 
+// Each way round, the page stays, and so does what the other host finds.
+const MEETS_WHILE_IT_HOLDS: [Step; 11] = [
+    Step::By(Who::A, (Call::Write(0, 1), EMPTY)),
+    Step::By(Who::B, (Call::Hold(0), Done::Holds(Some((0, 0))))),
+    Step::By(Who::A, (Call::Write(0, 2), WRITTEN)),
+    Step::Meet(Who::B, Who::A),
+    Step::By(Who::B, (Call::Look, Done::Looked(1))),
+    Step::By(Who::A, (Call::Write(1, 3), EMPTY)),
+    Step::Meet(Who::A, Who::B),
+    Step::By(Who::B, (Call::Look, Done::Looked(1))),
+    Step::By(Who::A, (Call::Read(0), Done::Read(Some(2), 1))),
+    Step::By(Who::B, (Call::Release, Done::Released)),
+    Step::By(Who::B, (Call::Read(0), Done::Read(Some(2), 1))),
+];
+
 // A host that is given up keeps no block.
 const LEAVES: [Step; 12] = [
     Step::By(Who::A, (Call::Write(0, 1), EMPTY)),
@@ -161,6 +176,13 @@ fn hosts_answer_as_the_rows_say(rt: HostRuntime) -> Result<(), Fail> {
             steps: &HOLDS,
             meanwhile: &[],
             sectors: [3, 0],
+        },
+        Row {
+            name: "a host that holds a page meets another one, and the page stays",
+            device: NO_BROOM,
+            steps: &MEETS_WHILE_IT_HOLDS,
+            meanwhile: &[],
+            sectors: [2, 3],
         },
         Row {
             name: "a host that is given up keeps no block",

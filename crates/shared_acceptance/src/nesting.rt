@@ -100,7 +100,7 @@ impl<'a, R: Wait, H: Home> Crew<'a, R, H> {
         self.finish(begun, actor, done, Looks::alone(numbers, done));
     }
 
-    // Two actors that are on the stage meet: two hosts, two brooms, or a broom and a page that is held.
+    // Two actors that are on the stage meet: two hosts, two brooms, or a page that is held and a host or a broom.
     fn meet(&mut self) {
         let first = self.jury.draw_actor();
         let second = self.jury.draw_actor();

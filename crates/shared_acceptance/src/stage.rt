@@ -15,7 +15,7 @@ pub(crate) enum Step {
     By(Who, Told),
     /// A call, and the row's calls of others at a point of its gate: so many at each visit.
     During(Who, Told, Point, usize),
-    /// Two hosts, two brooms, or one that holds a page and a broom.
+    /// Two hosts, one of which may hold a page, two brooms, or one that holds a page and a broom.
     Meet(Who, Who),
     /// One that makes no more calls.
     Leave(Who),

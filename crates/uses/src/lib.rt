@@ -13,6 +13,6 @@ pub use closing::two_writers;
 pub use holding::held_through_collection;
 pub use rereading::write_and_read;
 pub use sharing::{Sweeper, Writer, two_writers_and_a_broom};
-pub use standing::held_beside_a_broom;
+pub use standing::{held_beside_a_broom, held_beside_a_writer};
 pub use storing::{NotStored, store_and_read};
 pub use together::reads_may_be_shared;

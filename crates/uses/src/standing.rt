@@ -1,11 +1,16 @@
-ghost use Rattle.std.specs.Prelude.{◌≡◌, ℕ, List};
+ghost use Rattle.std.specs.Prelude.{◌≡◌, ◌<◌, ℕ, List, length};
+ghost use Rattle.geometry.specs.Geometry.{page_bytes_of, sectors_of};
+ghost use Rattle.geometry.specs.History.{Begins};
+ghost use Rattle.flash_rule.specs.Plays.{Disjoint};
+ghost use Rattle.flash_table.specs.Flash.{geometry_of, view_of};
 ghost use Rattle.broom.specs.Ready.{view_of_broom};
-ghost use Rattle.host.specs.Holding.{Holds, page_of};
+ghost use Rattle.host.specs.Holding.{Holds, page_of, pass_of};
+ghost use Rattle.host.specs.Ready.{IsReady};
 ghost use Rattle.uses.specs.Standing.{HasNoErase};
 ghost use Rattle.volume.specs.Brooms.{IsBroomReady};
 ghost use Rattle.volume.specs.Volume.{flash_of};
 
-use volume::{Broom, Held, NoGate, Volume};
+use volume::{Broom, Held, NoGate, Pass, Volume};
 
 /// A broom collects a block and tries to erase the held one; then the hold and the broom meet, by `stand`.
 pub fn held_beside_a_broom(volume: &Volume, held: Held, broom: &mut Broom) -> Held
@@ -23,4 +28,32 @@ pub fn held_beside_a_broom(volume: &Volume, held: Held, broom: &mut Broom) -> He
     volume.drain(broom, &mut NoGate);
     volume.erase(broom, held.block(), &mut NoGate);
     volume.stand(held, broom)
+}
+
+/// Another host writes while a page is held; then the two meet, by `meet_holding`, and the page is still held.
+pub fn held_beside_a_writer(
+    volume: &Volume,
+    held: Held,
+    writer: &mut Pass,
+    sector: u32,
+    fresh: &[u8],
+) -> Held
+    requires held { (value : List ℕ) × Holds (flash_of volume.now) held value }
+    requires writer { IsReady (flash_of volume.now) writer.old }
+    requires sector { sector < sectors_of (geometry_of (flash_of volume.now)) }
+    requires fresh { length fresh.now ≡ page_bytes_of (geometry_of (flash_of volume.now)) }
+
+    // Whatever the writer has ever programmed, it was no page that the holder has programmed in the same generation of its block.
+    ensures apart { Disjoint (view_of (pass_of result)).programs (view_of writer.new).programs }
+
+    // The writer has seen all that the holder had seen.
+    ensures brought { Begins (view_of (pass_of held)).seen (view_of writer.new).seen }
+
+    // The same page is held, with the same value.
+    ensures page { page_of result ≡ page_of held }
+    ensures holds { (value : List ℕ) → Holds (flash_of volume.now) held value → Holds (flash_of volume.now) result value }
+    ensures writer { IsReady (flash_of volume.now) writer.new }
+{
+    let _ = volume.write(writer, sector, fresh);
+    volume.meet_holding(held, writer)
 }

@@ -67,7 +67,7 @@ returns-clause-told g c =
     let began = sweeping g (goal.at.After-relocate-copied g at).Else-not-claim in (
       refl,
       did_drain f r b c.requires.ready c.requires.marked q c.index-state.ensures c.claim.new.broom c.claim.ensures.broom (with_owned (owned_as b q Victim) (view_of_broom r).owns) c.if-not-claim.ensures.told c.if-not-claim.ensures.blocks
-          c.relocate-copied.new.seat c.drain.new.broom c.relocate-copied.result told.told told.source h (without b (broom_view c.relocate-copied.new.seat).owns) _ (c.drain.ensures.told x h.draining) c.drain.ensures.blocks
+          c.relocate-copied.new.seat c.drain.new.broom c.relocate-copied.result told.told told.source h (without b (broom_view c.relocate-copied.new.seat).owns) (c.drain.ensures.told x h.draining) c.drain.ensures.blocks
           c.requires.ready.rested.source (told.cleared x began) (told.emptied x began),
     )
 
@@ -85,14 +85,14 @@ returns-clause-ready g c =
     let ready = c.requires.ready in
     record {
       rested = drained_rested f r b ready c.requires.marked q c.index-state.ensures c.claim.new.broom c.claim.ensures.broom (with_owned (owned_as b q Victim) (view_of_broom r).owns) c.if-not-claim.ensures.told c.if-not-claim.ensures.blocks
-          c.relocate-copied.new.seat c.drain.new.broom c.relocate-copied.result told.told told.source h (without b (broom_view c.relocate-copied.new.seat).owns) _ (c.drain.ensures.told x h.draining) c.drain.ensures.blocks
+          c.relocate-copied.new.seat c.drain.new.broom c.relocate-copied.result told.told told.source h (without b (broom_view c.relocate-copied.new.seat).owns) (c.drain.ensures.told x h.draining) c.drain.ensures.blocks
           ready.rested.source (told.cleared x began) (told.emptied x began) c.drain.ensures.broom;
       states = ready.states;
       counts = ready.counts;
       closed = length-set r.closed.items b false ∙ ready.closed;
       marks =
           let loaded = drained_loaded f r b ready c.requires.marked q c.index-state.ensures c.claim.new.broom c.claim.ensures.broom (with_owned (owned_as b q Victim) (view_of_broom r).owns) c.if-not-claim.ensures.told c.if-not-claim.ensures.blocks
-          c.relocate-copied.new.seat c.drain.new.broom c.relocate-copied.result told.told told.source h (without b (broom_view c.relocate-copied.new.seat).owns) _ (c.drain.ensures.told x h.draining) c.drain.ensures.blocks
+          c.relocate-copied.new.seat c.drain.new.broom c.relocate-copied.result told.told told.source h (without b (broom_view c.relocate-copied.new.seat).owns) (c.drain.ensures.told x h.draining) c.drain.ensures.blocks
           ready.rested.source (told.cleared x began) (told.emptied x began) in
           marks_kept (device f) r.states.items (view_of_broom r) (broom_view c.drain.new.broom) r.closed.items (set r.closed.items b false) loaded (still_marked r.closed.items b (low_mark f r b ready c.requires.marked)) ready.marks;
       ranking = ranks_fewer r.counts.items r.closed.items (set r.closed.items b false) r.ranking (length-set r.closed.items b false) (still_marked r.closed.items b (low_mark f r b ready c.requires.marked)) ready.ranking;

@@ -1,4 +1,4 @@
-use Rattle.std.proofs.Common.{◌≡◌, Some, sym, ap, ◌∙◌}
+use Rattle.std.proofs.Common.{◌≡◌, Some, sym, ap, ◌∙◌, arith}
 use Rattle.geometry.specs.Geometry.{pages_of}
 use Rattle.flash_rule.specs.Views.{without}
 use Rattle.flash_table.specs.declared.broom_seat.BroomBlocks.{BroomBlocks}
@@ -23,21 +23,21 @@ returns-then-destination-pages-clause-told c =
     let at = goal.at.returns-then-destination-pages-clause-told c in
     let o = c.in-Some.destination in
     let is = opened at.In-Some in
-    closed_tidied c.args.flash.now c.args.seat.now o is c.close_destination.new.broom (without o.block (broom_view c.args.seat.now).owns) _ (c.close_destination.ensures.told o is) c.close_destination.ensures.blocks
-    (c.if-destination-pages.true ∙ pages_are at.After-pages)
+    closed_tidied c.args.flash.now c.args.seat.now o is c.close_destination.new.broom (without o.block (broom_view c.args.seat.now).owns) (c.close_destination.ensures.told o is) c.close_destination.ensures.blocks
+    (let full = c.if-destination-pages.true in let pages = pages_are at.After-pages in omega (arith, full, pages))
 
 pub returns-then-destination-pages-clause-sweeps : goal.returns-then-destination-pages-clause-sweeps
 returns-then-destination-pages-clause-sweeps c x =
     let at = goal.at.returns-then-destination-pages-clause-sweeps c in
     let o = c.in-Some.destination in
     let is = opened at.In-Some in
-    closed_sweeps c.args.flash.now c.args.seat.now o is c.close_destination.new.broom (without o.block (broom_view c.args.seat.now).owns) _ (c.close_destination.ensures.told o is) c.close_destination.ensures.blocks
-    (c.if-destination-pages.true ∙ pages_are at.After-pages) x c.close_destination.ensures.broom
+    closed_sweeps c.args.flash.now c.args.seat.now o is c.close_destination.new.broom (without o.block (broom_view c.args.seat.now).owns) (c.close_destination.ensures.told o is) c.close_destination.ensures.blocks
+    (let full = c.if-destination-pages.true in let pages = pages_are at.After-pages in omega (arith, full, pages)) x c.close_destination.ensures.broom
 
 pub returns-else-destination-pages-clause-told : goal.returns-else-destination-pages-clause-told
-returns-else-destination-pages-clause-told c = let at = goal.at.returns-else-destination-pages-clause-told c in left_tidied c.args.flash.now c.args.seat.now c.in-Some.destination (opened at.In-Some)
+returns-else-destination-pages-clause-told c = let at = goal.at.returns-else-destination-pages-clause-told c in left_tidied c.args.flash.now c.args.seat.now c.in-Some.destination (opened at.In-Some) (λ e. let pages = pages_are at.After-pages in c.if-destination-pages.false (omega (arith, e, pages)))
 
 pub returns-else-destination-pages-clause-sweeps : goal.returns-else-destination-pages-clause-sweeps
 returns-else-destination-pages-clause-sweeps c x =
     let at = goal.at.returns-else-destination-pages-clause-sweeps c in
-    left_sweeps c.args.flash.now c.args.seat.now c.in-Some.destination (opened at.In-Some) x (λ e. c.if-destination-pages.false (e ∙ sym (pages_are at.After-pages)))
+    left_sweeps c.args.flash.now c.args.seat.now c.in-Some.destination (opened at.In-Some) x (λ e. let pages = pages_are at.After-pages in c.if-destination-pages.false (omega (arith, e, pages)))

@@ -1,9 +1,9 @@
-use Rattle.std.proofs.Common.{◌≡◌, ◌+◌, ◌≤◌, sym, refl, ap, ◌∙◌, subst, arith}
+use Rattle.std.proofs.Common.{◌≡◌, ℕ, ◌+◌, ◌≤◌, sym, refl, ap, ◌∙◌, subst, arith}
 use Rattle.geometry.specs.Geometry.{pages_of}
 use Rattle.flash_table.specs.declared.broom_seat.BroomBlocks.{BroomBlocks}
 use Rattle.flash_table.specs.declared.broom_seat.ReclaimedBlock.{ReclaimedBlock}
 use Rattle.flash_table.specs.Flash.{broom_view, own_blocks, geometry_of}
-use Rattle.broom.specs.Emptying.{count_if}
+use Rattle.broom.specs.Emptying.{HasEmptied, count_if}
 use Rattle.broom.specs.Relocating.{Sweeps, room_left}
 use Rattle.broom.proofs.Clearing.{clearing_none, clearing_more, same_victim}
 use Rattle.broom.proofs.relocation.relocate.Given.{Over}
@@ -46,3 +46,15 @@ clear_page-requires-clause-cleared g c = sym c.loop-page.invariant.cleared
 
 pub returns-clause-source : goal.returns-clause-source
 returns-clause-source g c = c.loop-page.invariant.source
+
+pub returns-clause-emptied : goal.returns-clause-emptied
+returns-clause-emptied g c x h =
+    let f = c.args.flash.now in
+    let v = c.in-Draining.victim in
+    let same = is_victim g (goal.at.returns-clause-emptied g c).In-Draining x h in
+    let most = c.loop-page.auto.page-end in
+    let least = c.loop-page-test.false in
+    let all : c.loop-page.page ≡ v.written = omega arith in
+    let P : ℕ → Type 0 = λ k. HasEmptied (pages_of (geometry_of f)) (record v { written = k }) c.args.seat.now c.loop-page.copied c.loop-page.seat in
+    let whole : P v.written = subst P all (c.loop-page.invariant.emptied, c.loop-page.invariant.ceded) in
+    subst (λ y. HasEmptied (pages_of (geometry_of f)) y c.args.seat.now c.loop-page.copied c.loop-page.seat) (sym same) whole
