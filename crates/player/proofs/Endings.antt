@@ -13,9 +13,9 @@ use Rattle.clap.specs.declared.error.Error.{Error}
 use Rattle.clap.specs.declared.error.kind.ErrorKind.{ErrorKind}
 use Rattle.clap.specs.declared.error.kind.ErrorKind.TheVariants as kind
 use Rattle.player.specs.CommandLine.{faults_given}
-use Rattle.one_player.specs.Collections.{IsLogOf}
-use Rattle.one_player.specs.Files.{EndsFile, LeavesLog}
-use Rattle.one_player.specs.Wear.{IsWearOf}
+use Rattle.runs.specs.Collections.{IsLogOf}
+use Rattle.runs.specs.Files.{EndsFile, LeavesLog}
+use Rattle.runs.specs.Wear.{IsWearOf}
 use Rattle.player.specs.declared.command_line.Options.{Options}
 use Rattle.player.specs.declared.run_files.FileStop.{FileStop}
 use Rattle.player.specs.declared.run_files.FileStop.TheVariants as file_stop

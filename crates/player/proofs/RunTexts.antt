@@ -8,8 +8,8 @@ use Rattle.answers.specs.Outcome.{ExplainsRun}
 use Rattle.answers.specs.Streams.{Passage, Stream, Tells, TellsPart}
 use Rattle.answers.specs.declared.fault.RunFault.{RunFault}
 use Rattle.answers.specs.declared.fault.RunFault.TheVariants as run
-use Rattle.one_player.specs.Playing.{IsTextOf}
-use Rattle.shared_run.specs.Texts.{IsTextOf as IsSharedTextOf}
+use Rattle.runs.specs.Playing.{IsTextOf}
+use Rattle.runs.specs.Texts.{IsTextOf as IsSharedTextOf}
 use Rattle.player.specs.Session.{IsTextBy, IsTextFor}
 
 -- without hosts the text is that of one thread

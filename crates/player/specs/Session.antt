@@ -20,12 +20,12 @@ use Rattle.answers.specs.Streams.{Passage, Sends, SendsBeginning, Stream, Tells,
 use Rattle.answers.specs.declared.fault.RunFault.{RunFault}
 use Rattle.answers.specs.declared.fault.RunFault.TheVariants as run
 use Rattle.answers.specs.declared.delivery.OutputFailed.{OutputFailed}
-use Rattle.one_player.specs.Collections.{IsLogOf}
-use Rattle.one_player.specs.Files.{LeavesLog}
-use Rattle.one_player.specs.Playing.{IsTextOf}
-use Rattle.one_player.specs.Wear.{IsWearOf}
-use Rattle.one_player.specs.declared.files.RunFiles.{RunFiles}
-use Rattle.shared_run.specs.Texts.{IsTextOf as IsSharedTextOf}
+use Rattle.runs.specs.Collections.{IsLogOf}
+use Rattle.runs.specs.Files.{LeavesLog}
+use Rattle.runs.specs.Playing.{IsTextOf}
+use Rattle.runs.specs.Wear.{IsWearOf}
+use Rattle.runs.specs.declared.files.RunFiles.{RunFiles}
+use Rattle.runs.specs.Texts.{IsTextOf as IsSharedTextOf}
 use Rattle.player.specs.CommandLine.{AreOptionsOf, faults_given, numbers_given, rows_given}
 use Rattle.player.specs.Telling.{TellsEnding}
 use Rattle.player.specs.declared.command_line.Options.{Options}

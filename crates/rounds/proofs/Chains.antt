@@ -6,8 +6,8 @@ use Rattle.std.proofs.lemmas.List.Elements.{All-head, All-tail, All-nil, All-con
 use Rattle.geometry.specs.History.{Call}
 use Rattle.flash_rule.specs.declared.view.View.{View}
 use Rattle.trace.specs.declared.commands.Command.{Command}
-use Rattle.lines.specs.Lines.{Said}
-use Rattle.rounds.specs.Lines.{made, InOrder, LeaveSame}
+use Rattle.rounds.specs.Lines.{Said}
+use Rattle.rounds.specs.Orders.{made, InOrder, LeaveSame}
 use Rattle.rounds.specs.Rounds.{AreInRange, PlayedRound}
 use Rattle.rounds.specs.Meetings.{AreTied, HavePlayed, WereSwept}
 use Rattle.rounds.specs.Told.{worker_of, sector_of, calls_in, is_right, AreAnswered}

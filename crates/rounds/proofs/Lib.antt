@@ -9,3 +9,5 @@ pub mod Merging
 pub mod Runs
 pub mod Chains
 pub mod Planning
+pub mod Pages
+pub mod Spaces

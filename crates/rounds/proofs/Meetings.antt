@@ -6,7 +6,7 @@ use Rattle.geometry.proofs.Histories.{Begins-trans}
 use Rattle.flash_rule.specs.declared.view.View.{View}
 use Rattle.flash_rule.specs.Views.{calls_of}
 use Rattle.flash_rule.proofs.Histories.{squeezed}
-use Rattle.rounds.specs.Lines.{made, lines_of}
+use Rattle.rounds.specs.Orders.{made, lines_of}
 use Rattle.rounds.specs.Rounds.{PlayedRound}
 use Rattle.rounds.specs.Meetings.{AreTied, HavePlayed, WereSwept}
 use Rattle.rounds.proofs.Playing.{plays_later, plays_from}

@@ -8,8 +8,8 @@ use native.Mathlib.Decide.{ℕ_discrete}
 use Rattle.trace.specs.declared.commands.Command.{Command}
 use Rattle.trace.specs.declared.commands.Op.{Op}
 use Rattle.trace.specs.declared.commands.Op.TheVariants as op
-use Rattle.lines.specs.Lines.{Said, calls_by, is_full}
-use Rattle.rounds.specs.Lines.{lines_of}
+use Rattle.rounds.specs.Lines.{Said, calls_by, is_full}
+use Rattle.rounds.specs.Orders.{lines_of}
 use Rattle.rounds.specs.Rounds.{AreDisjoint, AreInRange}
 use Rattle.rounds.specs.Told.{Line, worker_of, sector_of, calls_in, line, told}
 use Rattle.rounds.specs.Texts.{commands_in}

@@ -4,7 +4,7 @@ use Rattle.std.specs.List.{fold}
 use Rattle.std.proofs.lemmas.List.Sums.{fold-append}
 use Rattle.geometry.specs.History.{Call, step, after}
 use Rattle.geometry.specs.Sectors.{Sector, sector_at}
-use Rattle.rounds.specs.Lines.{made, InOrder, LeaveSame}
+use Rattle.rounds.specs.Orders.{made, InOrder, LeaveSame}
 
 -- two histories that leave the same array do so after more calls
 pub same-append : (n : ℕ) (h k more : List Call) → LeaveSame n h k → LeaveSame n (h ++ more) (k ++ more)

@@ -10,7 +10,7 @@ use Rattle.geometry.specs.Sectors.{Sector}
 use Rattle.geometry.proofs.Histories.{Begins-trans}
 use Rattle.flash_rule.specs.Views.{caller, calls_of}
 use Rattle.flash_rule.proofs.Histories.{calls_of-append, calls_grow}
-use Rattle.rounds.specs.Lines.{made, lines_of, Plays}
+use Rattle.rounds.specs.Orders.{made, lines_of, Plays}
 
 -- calls that are all of one host
 pub all_own : (t : ℕ) (cs : List Call) → All (λ c. caller c ≡ t) cs → calls_of t cs ≡ cs

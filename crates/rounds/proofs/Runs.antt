@@ -5,7 +5,7 @@ use Rattle.std.proofs.lemmas.Bool.{false≢true}
 use Rattle.geometry.specs.History.{Call, after}
 use Rattle.trace.specs.declared.commands.Op.{Op}
 use Rattle.trace.specs.declared.commands.Op.TheVariants as op
-use Rattle.rounds.specs.Lines.{InOrder, LeaveSame}
+use Rattle.rounds.specs.Orders.{InOrder, LeaveSame}
 use Rattle.rounds.specs.Told.{Line, sector_of, calls_in, is_right, AreAnswered, RoundOf}
 use Rattle.rounds.specs.Texts.{IsTextOfSome, lines_text}
 use Rattle.rounds.specs.Merging.{is_meet, answer_for, merge, rows_after, AreDisjointCommands}

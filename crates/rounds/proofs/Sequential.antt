@@ -12,7 +12,7 @@ use Rattle.geometry.specs.Sectors.{Sector}
 use Rattle.geometry.proofs.Histories.{length-after}
 use Rattle.flash_rule.specs.Views.{caller, calls_of}
 use Rattle.flash_rule.proofs.Histories.{calls_of-append, rest_callers}
-use Rattle.rounds.specs.Lines.{made, lines_of, Plays, InOrder, LeaveSame}
+use Rattle.rounds.specs.Orders.{made, lines_of, Plays, InOrder, LeaveSame}
 use Rattle.rounds.specs.Rounds.{AreDisjoint, AreInRange, PlayedRound}
 use Rattle.rounds.proofs.Content.{target, content, held-append, AreBy, content_own}
 use Rattle.rounds.proofs.Playing.{calls_of-made, at_line}

@@ -14,10 +14,10 @@ use Rattle.trace.specs.declared.commands.Op.{Op}
 use Rattle.trace.specs.declared.commands.Op.TheVariants as op
 use Rattle.answers.specs.Answers.{answer_of, calls_of, history_before, lines_before, line_text}
 use Rattle.answers.proofs.Texts.{array_more, lines_more}
-use Rattle.lines.specs.declared.answer.Kind.{Kind}
-use Rattle.lines.specs.declared.answer.Kind.TheVariants as kind
-use Rattle.lines.specs.Lines.{calls_by, is_full, IsRight}
-use Rattle.rounds.specs.Lines.{InOrder, LeaveSame}
+use Rattle.rounds.specs.declared.answer.Kind.{Kind}
+use Rattle.rounds.specs.declared.answer.Kind.TheVariants as kind
+use Rattle.rounds.specs.Lines.{calls_by, is_full, IsRight}
+use Rattle.rounds.specs.Orders.{InOrder, LeaveSame}
 use Rattle.rounds.specs.Told.{Line, sector_of, calls_in, is_right}
 use Rattle.rounds.specs.Texts.{answer_text, lines_text, commands_in, refused_in, OrderIsText}
 

@@ -8,9 +8,9 @@ use Rattle.flash_rule.specs.Views.{caller}
 use Rattle.trace.specs.declared.commands.Command.{Command}
 use Rattle.trace.specs.declared.commands.Op.{Op}
 use Rattle.trace.specs.declared.commands.Op.TheVariants as op
-use Rattle.lines.specs.Lines.{Said, calls_by, is_full}
-use Rattle.lines.specs.Playing as playing
-use Rattle.rounds.specs.Lines.{made, Plays, InOrder, LeaveSame}
+use Rattle.rounds.specs.Lines.{Said, calls_by, is_full}
+use Rattle.rounds.specs.Playing as playing
+use Rattle.rounds.specs.Orders.{made, Plays, InOrder, LeaveSame}
 use Rattle.rounds.specs.Rounds.{PlayedRound}
 use Rattle.rounds.specs.Told.{Line, worker_of, sector_of, calls_in, is_right, line, told, AreAnswered, RoundsAreInOrder}
 use Rattle.rounds.proofs.Content.{target}

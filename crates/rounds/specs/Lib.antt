@@ -1,5 +1,5 @@
 -- What public contracts rest on.
-pub mod Lines
+pub mod Orders
 pub mod Rounds
 pub mod Meetings
 pub mod Told
@@ -8,3 +8,7 @@ pub mod Merging
 pub mod Runs
 pub mod Plans
 pub mod Rows
+pub mod Lines
+pub mod Playing
+pub mod Pages
+pub mod Answers

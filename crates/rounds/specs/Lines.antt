@@ -1,31 +1,59 @@
--- Lines of a trace, each done by a worker at a sector: the calls that they make, and the histories at which they are answered. What a line
--- is is left open here; who does it, at which sector, by which calls, and which answer is right for what its sector holds, are functions of
--- it.
-use Rattle.std.specs.Prelude.{◌≡◌, ℕ, ◌==◌, List, [], ◌∷◌, ◌++◌}
-use Rattle.std.specs.List.{flat_map, filter}
-use Rattle.geometry.specs.Sectors.{Sector}
-use Rattle.geometry.specs.History.{Call, after, held, Begins}
+-- A line of a trace with its answer: who does it, which calls it adds to the history, and when its answer is right.
+use Rattle.std.specs.Prelude.{◌≡◌, ◌⊎◌, ℕ, Bool, true, false, if◌then◌else◌, List, [], ◌∷◌, None, Some}
+use Rattle.geometry.specs.Sectors.{Sector, was_of}
+use Rattle.geometry.specs.History.{Call, Write, WriteNew, Trim}
+use Rattle.geometry.specs.declared.answer.Was.{Was}
+use Rattle.geometry.specs.declared.answer.Was.TheVariants as was
+use Rattle.trace.specs.declared.commands.Command.{Command}
+use Rattle.trace.specs.declared.commands.Op.{Op}
+use Rattle.trace.specs.declared.commands.Op.TheVariants as op
+use Rattle.rounds.specs.declared.answer.Answer.{Answer}
+use Rattle.rounds.specs.declared.answer.Kind.{Kind}
+use Rattle.rounds.specs.declared.answer.Kind.TheVariants as kind
 
--- all calls that lines make, in the order of the lines
-abbrev pub made : {X : Type 0} → (X → List Call) → List X → List Call
-made calls xs = flat_map calls xs
+-- what the answer of a line is made of: its kind, and the bytes of its page
+pub record Said : Type 0 where
+  pub kind : Kind
+  pub page : List ℕ
 
--- the lines of one worker, in order
-abbrev pub lines_of : {X : Type 0} → (X → ℕ) → ℕ → List X → List X
-lines_of worker t xs = filter (λ x. worker x == t) xs
+-- what an answer says
+abbrev pub said : Answer → Said
+said a = record { kind = a.kind; page = a.page.items }
 
--- One worker has played its lines between two histories: each line was rightly answered at a history of its own, which begins with that of the line before and
--- its calls, and the last history begins with that of the last line and its calls
-abbrev pub Plays : {X : Type 0} → (X → ℕ) → (X → List Call) → (X → Sector → Type 0) → ℕ → List Call → List X → List Call → Type 0
-Plays sector calls right n seen [] last = Begins seen last
-Plays sector calls right n seen (x ∷ xs) last =
-    (h : List Call) × Begins seen h × right x (held n h (sector x)) × Plays sector calls right n (h ++ calls x) xs last
+-- what a sector was, as an answer
+abbrev pub kind_of : Was → Kind
+kind_of was.Empty = kind.Empty
+kind_of was.Written = kind.Written
 
--- The lines were rightly answered one after another, as by one worker alone: each at the history of all the lines before it
-abbrev pub InOrder : {X : Type 0} → (X → ℕ) → (X → List Call) → (X → Sector → Type 0) → ℕ → List Call → List X → Type 0
-InOrder sector calls right n seen [] = Unit {0}
-InOrder sector calls right n seen (x ∷ xs) = right x (held n seen (sector x)) × InOrder sector calls right n (seen ++ calls x) xs
+-- whether a write was turned away
+abbrev pub is_full : Kind → Bool
+is_full kind.Empty = false
+is_full kind.Written = false
+is_full kind.Page = false
+is_full kind.Met = false
+is_full kind.Full = true
 
--- two histories give the same array
-abbrev pub LeaveSame : ℕ → List Call → List Call → Type 0
-LeaveSame n h k = after n h ≡ after n k
+-- the call that a pass makes for a line: a read makes none
+abbrev pub calls_by : ℕ → Op → ℕ → List ℕ → List Call
+calls_by t op.Read s value = []
+calls_by t op.Write s value = Write t s value ∷ []
+calls_by t op.New s value = WriteNew t s value ∷ []
+calls_by t op.Trim s value = Trim t s ∷ []
+calls_by t op.Meet s value = []
+
+-- the calls that a line has added, made by this pass: none if it was turned away
+abbrev pub calls_made : ℕ → Command → Said → List Call
+calls_made t c a = if is_full a.kind then [] else calls_by t c.op c.sector c.page
+
+-- a read returns what its sector holds
+abbrev pub IsFound : Sector → Kind → List ℕ → Type 0
+IsFound None k page = k ≡ kind.Empty
+IsFound (Some value) k page = (k ≡ kind.Page) × (page ≡ value)
+
+-- the right answer of an op whose sector holds this: a write of either kind may be turned away at any time, and a meeting has no condition
+abbrev pub IsRight : Op → Sector → Kind → List ℕ → Type 0
+IsRight op.Read x k page = IsFound x k page
+IsRight op.Write x k page = (k ≡ kind.Full) ⊎ (k ≡ kind_of (was_of x))
+IsRight op.New x k page = (k ≡ kind.Full) ⊎ (k ≡ kind_of (was_of x))
+IsRight op.Trim x k page = k ≡ kind_of (was_of x)
+IsRight op.Meet x k page = k ≡ kind.Met

@@ -4,7 +4,7 @@ use Rattle.geometry.specs.Sectors.{Sector}
 use Rattle.geometry.specs.History.{Call, Begins}
 use Rattle.flash_rule.specs.declared.view.View.{View}
 use Rattle.flash_rule.specs.Views.{caller, calls_of}
-use Rattle.rounds.specs.Lines.{made, lines_of, Plays}
+use Rattle.rounds.specs.Orders.{made, lines_of, Plays}
 
 -- All passes have seen one history, and its calls are those of the passes, each with exactly its own
 pub record AreTied (hosts : ℕ) (h : List Call) (view : ℕ → View) : Type 0 where

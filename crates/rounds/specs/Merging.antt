@@ -4,8 +4,8 @@ use Rattle.std.specs.List.{filter}
 use Rattle.trace.specs.declared.commands.Command.{Command}
 use Rattle.trace.specs.declared.commands.Op.{Op}
 use Rattle.trace.specs.declared.commands.Op.TheVariants as op
-use Rattle.lines.specs.Lines.{Said}
-use Rattle.lines.specs.declared.answer.Kind.TheVariants as kind
+use Rattle.rounds.specs.Lines.{Said}
+use Rattle.rounds.specs.declared.answer.Kind.TheVariants as kind
 use Rattle.rounds.specs.Told.{Line, line}
 
 -- whether an op ends a round

@@ -3,7 +3,7 @@ use Rattle.std.specs.Prelude.{◌≡◌, ℕ, ◌<◌, All, List, [], ◌++◌}
 use Rattle.geometry.specs.Sectors.{Sector}
 use Rattle.geometry.specs.History.{Call, Begins}
 use Rattle.flash_rule.specs.Views.{caller, calls_of}
-use Rattle.rounds.specs.Lines.{made, lines_of, Plays}
+use Rattle.rounds.specs.Orders.{made, lines_of, Plays}
 
 -- No sector at which a line makes a call is the sector of another worker's line. A sector that lines only read may be of all workers
 abbrev pub AreDisjoint : {X : Type 0} → (X → ℕ) → (X → ℕ) → (X → List Call) → List X → Type 0

@@ -3,7 +3,7 @@ use Rattle.std.specs.Prelude.{◌≡◌, ℕ, ◌<◌, All, true, List, [], ◌�
 use Rattle.geometry.specs.History.{Call}
 use Rattle.flash_rule.specs.declared.view.View.{View}
 use Rattle.trace.specs.declared.commands.Command.{Command}
-use Rattle.lines.specs.Lines.{Said}
+use Rattle.rounds.specs.Lines.{Said}
 use Rattle.rounds.specs.Meetings.{AreTied, HavePlayed, WereSwept}
 use Rattle.rounds.specs.Told.{worker_of, sector_of, calls_in, is_right, AreAnswered}
 use Rattle.rounds.specs.Texts.{lines_text, IsTextOfSome}

@@ -5,10 +5,10 @@ use Rattle.hex.specs.Hex.{encode_lower}
 use Rattle.trace.specs.declared.commands.Command.{Command}
 use Rattle.trace.specs.declared.commands.Op.TheVariants as op
 use Rattle.answers.specs.Answers.{answers, line_text}
-use Rattle.lines.specs.declared.answer.Kind.{Kind}
-use Rattle.lines.specs.declared.answer.Kind.TheVariants as kind
-use Rattle.lines.specs.Lines.{is_full}
-use Rattle.rounds.specs.Lines.{InOrder}
+use Rattle.rounds.specs.declared.answer.Kind.{Kind}
+use Rattle.rounds.specs.declared.answer.Kind.TheVariants as kind
+use Rattle.rounds.specs.Lines.{is_full}
+use Rattle.rounds.specs.Orders.{InOrder}
 use Rattle.rounds.specs.Told.{Line, sector_of, calls_in, is_right}
 
 -- an answer as text: a page is given by its bytes in lower-case hexadecimal digits

@@ -4,9 +4,9 @@ use Rattle.geometry.specs.Sectors.{Sector}
 use Rattle.geometry.specs.History.{Call}
 use Rattle.flash_rule.specs.declared.view.View.{View}
 use Rattle.trace.specs.declared.commands.Command.{Command}
-use Rattle.lines.specs.declared.answer.Kind.{Kind}
-use Rattle.lines.specs.Lines.{Said, calls_by, is_full, IsRight}
-use Rattle.rounds.specs.Lines.{made, InOrder, LeaveSame}
+use Rattle.rounds.specs.declared.answer.Kind.{Kind}
+use Rattle.rounds.specs.Lines.{Said, calls_by, is_full, IsRight}
+use Rattle.rounds.specs.Orders.{made, InOrder, LeaveSame}
 use Rattle.rounds.specs.Rounds.{AreDisjoint, AreInRange}
 use Rattle.rounds.specs.Meetings.{AreTied, HavePlayed, WereSwept}
 

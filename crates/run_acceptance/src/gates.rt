@@ -2,7 +2,7 @@
 use crate::run::small;
 use crate::saying::expect;
 use flash_table::{Gate, Point};
-use shared_run::run_shared;
+use runs::run_shared;
 use std::alloc::Global;
 use std::process::Abort;
 use std::sync::Wait;

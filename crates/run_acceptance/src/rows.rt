@@ -1,7 +1,7 @@
 //! Rows whose answers are the same in every schedule, and a trace whose answers are not.
 use crate::run::{answers_of, play_freely, small};
 use crate::saying::expect;
-use lines::{Answer, Kind};
+use rounds::{Answer, Kind};
 use std::test::Fail;
 
 // Hosts, brooms, blocks, tries of a write; a trace, and what its workers are answered.

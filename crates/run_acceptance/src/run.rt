@@ -2,8 +2,8 @@
 use answers::read_commands;
 use flash_table::{Gate, NoGate};
 use geometry::Geometry;
-use lines::{Answer, Answers, Cursor, Kind};
-use shared_player::{NoShift, play_commands};
+use rounds::{Answer, Answers, Cursor, Kind};
+use workers::{NoShift, play_commands};
 use std::alloc::Global;
 use std::process::Abort;
 use std::sync::{Arc, Wait};

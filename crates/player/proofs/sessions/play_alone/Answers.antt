@@ -1,8 +1,8 @@
 use Rattle.std.proofs.Common.{refl, subst, sym}
 use Rattle.std.specs.Prelude.{Result}
 use Rattle.answers.specs.Streams.{over, stream_of}
-use Rattle.one_player.specs.Collections.{IsLogOf}
-use Rattle.one_player.specs.Wear.{IsWearOf}
+use Rattle.runs.specs.Collections.{IsLogOf}
+use Rattle.runs.specs.Wear.{IsWearOf}
 use Rattle.player.specs.Session.{EndsOn, IsOpenedAs, filings}
 use Rattle.player.specs.declared.stop.Stop.{Stop}
 use Rattle.player.proofs.Endings.{file_ended, files_left, not_opened, run_ended}

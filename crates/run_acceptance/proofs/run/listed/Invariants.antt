@@ -1,5 +1,5 @@
 use Rattle.std.proofs.Common.{◌≡◌}
-use Rattle.lines.specs.Answers.{place_of, IsCursorOf}
+use Rattle.rounds.specs.Answers.{place_of, IsCursorOf}
 use Rattle.run_acceptance.proofs.run.listed.Given as goal
 
 abbrev pub invariant-loop : goal.invariant-loop

@@ -7,8 +7,8 @@ use Rattle.flash_table.specs.Flash.{geometry_of}
 use Rattle.trace.specs.declared.commands.Command.{Command}
 use Rattle.trace.specs.declared.commands.Op.{Op}
 use Rattle.trace.specs.declared.commands.Op.TheVariants as op
-use Rattle.lines.specs.Answers.{page_size_of, space_for, HasSpaceFor}
-use Rattle.playing.specs.Playable.{IsLine, HasPage, no_line}
+use Rattle.rounds.specs.Answers.{page_size_of, space_for, HasSpaceFor}
+use Rattle.workers.specs.Playable.{IsLine, HasPage, no_line}
 use Rattle.volume.specs.Volume.{flash_of}
 use Rattle.shared_acceptance.proofs.plays.play_twice.Goals as goal
 

@@ -1,6 +1,0 @@
-use Rattle.std.proofs.Common.{ap, option_map}
-use Rattle.delivery.specs.Delivering.{said_as}
-use Rattle.delivery.proofs.delivering.put_answer.Goals as goal
-
-pub answer-requires-in-Some-clause-page : goal.answer-requires-in-Some-clause-page
-answer-requires-in-Some-clause-page c = λ is. c.requires.pages (said_as (c.in-Some.kind, c.in-Some.page)) (ap (option_map said_as) c.in-Some.is) (c.reply.ensures.page is)

@@ -1,8 +1,0 @@
-use Rattle.std.proofs.Common.{sym, ◌∙◌}
-use Rattle.lines.proofs.Pages.{said_long}
-use Rattle.lines.proofs.answers.Answers.len.Goals as goal
-
-pub returns : goal.returns
-returns c =
-    let answers = c.args.self.now in
-    c.len.ensures ∙ (answers.kinds.ok.0 ∙ sym (said_long answers.page_bytes answers.kinds.items answers.pages.items))

@@ -1,4 +1,0 @@
-mod Plays
-pub mod WearTexts
-pub mod LogTexts
-pub mod Made

@@ -1,8 +1,0 @@
--- What public contracts rest on.
-pub mod Playing
-pub mod Wear
-pub mod Collections
-pub mod Files
--- Internal.
-pub mod Steps
-pub mod Logs

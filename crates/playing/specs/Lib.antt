@@ -1,4 +1,0 @@
--- What public contracts rest on.
-pub mod Playable
--- Internal: one line.
-pub mod Line

@@ -1,0 +1,7 @@
+mod Plays
+pub mod WearTexts
+pub mod LogTexts
+pub mod Made
+mod Rows
+mod Deliveries
+pub mod Told

@@ -1,0 +1,160 @@
+-- The log of one command more, and how a log ends.
+use Rattle.std.proofs.Common.{◌≡◌, ◌≢◌, ℕ, ◌+◌, ◌-◌, ◌≤◌, Bool, true, false, List, [], ◌++◌, Option, None, Some, length, refl, subst, sym, ap, ◌∙◌, append_assoc, append-nil, arith}
+use Rattle.std.specs.Prelude.{IfSome, OnErr, OnOk, Result, Ok, Err}
+use Rattle.std.specs.List.{flat_map, range_with_len}
+use Rattle.std.specs.Io.KnownBytes.{Appends}
+use Rattle.geometry.specs.History.{Begins}
+use Rattle.geometry.proofs.Histories.{Begins-refl}
+use Rattle.geometry.specs.declared.geometry.Geometry.{Geometry}
+use Rattle.ftl_one.specs.Collections.{collection_between}
+use Rattle.ftl_one.specs.Stock.{Stock}
+use Rattle.ftl_one.specs.declared.collection.Collection.{Collection}
+use Rattle.trace.specs.Trace.{commands_of}
+use Rattle.trace.specs.declared.commands.Command.{Command}
+use Rattle.answers.specs.Answers.{collection_names}
+use Rattle.answers.specs.Delivery.{AppendsBeginning, AppendsPart, AppendsText, IsUnderWay}
+use Rattle.answers.specs.Lines.{waiting_of}
+use Rattle.answers.specs.Streams.{Passage, Stream}
+use Rattle.answers.specs.declared.delivery.OutputFailed.{OutputFailed}
+use Rattle.answers.specs.declared.lines.Lines.{Lines}
+use Rattle.answers.proofs.Deliveries.{AppendsBeginning-part, Appends-whole, IsUnderWay-more, IsUnderWay-sent, IsUnderWay-trans}
+use Rattle.answers.proofs.Texts.{flat_map_begins, flat_map_more}
+use Rattle.runs.specs.Collections.{IsLogOf, log_before, log_line, log_part, log_text, told_at}
+use Rattle.runs.specs.Files.{EndsFile, EndsText, LeavesFile, LeavesText}
+use Rattle.runs.specs.Logs.{IsLogged, is_wanted}
+use Rattle.runs.specs.Playing.{stock_before}
+use Rattle.runs.specs.Wear.{IsStockOf, IsWearOf, wear_text}
+use Rattle.runs.specs.declared.log.Log.{Log}
+use Rattle.runs.specs.declared.log.Log.TheVariants as log
+
+pub log_none : (geo : Geometry) (commands : List Command) → log_before geo commands 0 ≡ collection_names
+log_none geo commands = append-nil collection_names
+
+-- one command more
+pub log_more : (geo : Geometry) (commands : List Command) (k : ℕ) (stock next_stock : Stock) → stock ≡ stock_before geo commands k → next_stock ≡ stock_before geo commands (k + 1)
+    → log_before geo commands k ++ log_part (k + 1) (collection_between geo stock next_stock) ≡ log_before geo commands (k + 1)
+log_more geo commands k stock next_stock is next_is =
+    ap (λ (x : Stock). log_before geo commands k ++ log_part (k + 1) (collection_between geo x next_stock)) is
+    ∙ (ap (λ (x : Stock). log_before geo commands k ++ log_part (k + 1) (collection_between geo (stock_before geo commands k) x)) next_is
+    ∙ (append_assoc collection_names (flat_map (told_at geo commands) (range_with_len 0 k)) (told_at geo commands k)
+    ∙ ap (λ rest. collection_names ++ rest) (sym (flat_map_more (told_at geo commands) k))))
+
+-- the log of the first commands begins that of all
+pub log_begins : (geo : Geometry) (commands : List Command) (n : ℕ) → n ≤ length commands → Begins (log_before geo commands n) (log_text geo commands)
+log_begins geo commands n low =
+    let m : ℕ = length commands - n in
+    let e : n + m ≡ length commands = omega arith in
+    let rest = flat_map_begins (told_at geo commands) n m in (
+      rest.0,
+      append_assoc collection_names (flat_map (told_at geo commands) (range_with_len 0 n)) rest.0
+          ∙ (ap (λ lines. collection_names ++ lines) rest.1 ∙ ap (log_before geo commands) e),
+    )
+
+-- a beginning of a text begins a longer one
+pub longer : (old new : Option (List ℕ)) (text whole : List ℕ) → AppendsBeginning old new text → Begins text whole → AppendsBeginning old new whole
+longer old new text whole part begins = record {
+  sent = part.sent;
+  out = part.out;
+  beginning = (
+    part.beginning.0 ++ begins.0,
+    sym (append_assoc part.sent part.beginning.0 begins.0) ∙ (ap (λ front. front ++ begins.0) part.beginning.1 ∙ begins.1),
+  );
+}
+
+under_begins : (old new : Option (List ℕ)) (waiting text : List ℕ) → IsUnderWay old new waiting text → AppendsBeginning old new text
+under_begins old new waiting text under = record { sent = under.sent; out = under.out; beginning = (waiting, under.whole) }
+
+whole_of : (input : Option (List ℕ)) (IsTextOf : List ℕ → List ℕ → Type 0) (old new : Option (List ℕ)) (text : List ℕ) → IfSome input (λ bytes. IsTextOf bytes text) → Appends old new text
+    → IfSome input (λ bytes. AppendsText IsTextOf bytes old new)
+whole_of None IsTextOf old new text right sent = tt
+whole_of (Some bytes) IsTextOf old new text right sent = record { text = text; is_text = right; out = sent }
+
+part_of : (input : Option (List ℕ)) (IsTextOf : List ℕ → List ℕ → Type 0) (old new : Option (List ℕ)) (text : List ℕ) → IfSome input (λ bytes. IsTextOf bytes text) → AppendsBeginning old new text
+    → IfSome input (λ bytes. AppendsPart IsTextOf bytes old new)
+part_of None IsTextOf old new text right part = tt
+part_of (Some bytes) IsTextOf old new text right part = record { text = text; is_text = right; out = part }
+
+-- what a log leaves where the run goes no further
+pub leaves : (state : Log) (file : Passage) (text whole : List ℕ) → IsLogged state file text → Begins text whole → LeavesText (is_wanted state) whole file
+leaves log.Unwanted file text whole same begins = same
+leaves (log.Open lines) file text whole (unfailed, moves) begins =
+    longer file.before.bytes file.after.bytes text whole (under_begins file.before.bytes file.after.bytes (waiting_of lines) text moves) begins
+leaves log.Failed file text whole (failed, part) begins = longer file.before.bytes file.after.bytes text whole part begins
+
+-- a line more waits, or the file fails
+pub tells_open : (lines : Lines) (before old new : Stream) (line : ℕ) (it : Collection) (text more later last : List ℕ) → IsLogged (log.Open lines) (record { before = before; after = old }) text
+    → new.failures ≡ old.failures → IsUnderWay old.bytes new.bytes later (waiting_of lines) → last ≡ later ++ log_line line it → more ≡ log_line line it
+    → (new.failures ≡ before.failures) × IsUnderWay before.bytes new.bytes last (text ++ more)
+tells_open lines before old new line it text more later last (unfailed, moves) same moved adds is = (
+  same ∙ unfailed,
+  subst (λ (l : List ℕ). IsUnderWay before.bytes new.bytes l (text ++ more)) (ap (λ rest. later ++ rest) is ∙ sym adds)
+      (IsUnderWay-more before.bytes new.bytes later text more (IsUnderWay-trans before.bytes old.bytes new.bytes later (waiting_of lines) text moves moved)),
+)
+
+pub fails_open : (lines : Lines) (before old new : Stream) (text more : List ℕ) → IsLogged (log.Open lines) (record { before = before; after = old }) text
+    → new.failures ≢ old.failures → AppendsBeginning old.bytes new.bytes (waiting_of lines) → (new.failures ≢ before.failures) × AppendsBeginning before.bytes new.bytes (text ++ more)
+fails_open lines before old new text more (unfailed, moves) failed part = (
+  (λ e. failed (e ∙ sym unfailed)),
+  AppendsBeginning-part before.bytes old.bytes new.bytes (waiting_of lines) text (text ++ more) moves part (more, refl),
+)
+
+-- a log that takes no lines
+pub shut_more : (state : Log) (file : Passage) (text more : List ℕ) → ((lines : Lines) → state ≡ log.Open lines → ⊥) → IsLogged state file text → IsLogged state file (text ++ more)
+shut_more log.Unwanted file text more shut same = same
+shut_more (log.Open lines) file text more shut logged = absurd (shut lines refl)
+shut_more log.Failed file text more shut (failed, part) = (failed, longer file.before.bytes file.after.bytes text (text ++ more) part (more, refl))
+
+-- what waits is handed on at the end
+pub ends_open : (lines : Lines) (before old new : Stream) (text : List ℕ) (r : Result (Unit {0}) OutputFailed) → IsLogged (log.Open lines) (record { before = before; after = old }) text
+    → OnOk r (Appends old.bytes new.bytes (waiting_of lines)) → OnOk r (new.failures ≡ old.failures) → OnErr r (AppendsBeginning old.bytes new.bytes (waiting_of lines)) → OnErr r (new.failures ≢ old.failures)
+    → EndsText true text (record { before = before; after = new }) r
+ends_open lines before old new text (Ok _) (unfailed, moves) sent same part failed = (
+  same ∙ unfailed,
+  Appends-whole before.bytes new.bytes text (IsUnderWay-sent before.bytes old.bytes new.bytes (waiting_of lines) text moves sent),
+)
+ends_open lines before old new text (Err _) (unfailed, moves) sent same part failed = (
+  (λ e. failed (e ∙ sym unfailed)),
+  AppendsBeginning-part before.bytes old.bytes new.bytes (waiting_of lines) text text moves part (Begins-refl text),
+)
+
+-- the end of a text is that of the text that is right for the bytes
+pub ends_file : (wanted : Bool) (IsTextOf : List ℕ → List ℕ → Type 0) (input : Stream) (file : Passage) (text : List ℕ) (r : Result (Unit {0}) OutputFailed)
+    → IfSome input.bytes (λ bytes. IsTextOf bytes text) → EndsText wanted text file r → EndsFile wanted IsTextOf input file r
+ends_file true IsTextOf input file text (Ok _) right (unfailed, sent) = (unfailed, whole_of input.bytes IsTextOf file.before.bytes file.after.bytes text right sent)
+ends_file true IsTextOf input file text (Err _) right (failed, part) = (failed, part_of input.bytes IsTextOf file.before.bytes file.after.bytes text right part)
+ends_file false IsTextOf input file text (Ok _) right same = same
+ends_file false IsTextOf input file text (Err _) right never = absurd never
+
+-- and so is what is left of it
+pub leaves_file : (wanted : Bool) (IsTextOf : List ℕ → List ℕ → Type 0) (input : Stream) (file : Passage) (text : List ℕ)
+    → IfSome input.bytes (λ bytes. IsTextOf bytes text) → LeavesText wanted text file → LeavesFile wanted IsTextOf input file
+leaves_file true IsTextOf input file text right part = part_of input.bytes IsTextOf file.before.bytes file.after.bytes text right part
+leaves_file false IsTextOf input file text right same = same
+
+-- the log of the commands that the bytes mean
+pub log_right : (geo : Geometry) (input : Option (List ℕ)) (commands : List Command) → IfSome input (λ bytes. commands_of bytes geo ≡ Ok commands) → IfSome input (λ bytes. IsLogOf geo bytes (log_text geo commands))
+log_right geo None commands means = tt
+log_right geo (Some bytes) commands means = record { commands = commands; meaning = means; log = refl }
+
+-- the wear of the stock of the device
+pub wear_right : (geo : Geometry) (input : Option (List ℕ)) (stock : Stock) → IfSome input (λ bytes. IsStockOf geo bytes stock) → IfSome input (λ bytes. IsWearOf geo bytes (wear_text geo stock))
+wear_right geo None stock is = tt
+wear_right geo (Some bytes) stock is = record { commands = is.commands; meaning = is.meaning; wear = ap (wear_text geo) is.stock_is }
+
+-- a turn of the loop
+pub log_turn : (geo its_geo : Geometry) (commands : List Command) (k : ℕ) (stock next_stock : Stock) (state : Log) (file : Passage) → its_geo ≡ geo → stock ≡ stock_before geo commands k → next_stock ≡ stock_before geo commands (k + 1)
+    → IsLogged state file (log_before geo commands k ++ log_part (k + 1) (collection_between its_geo stock next_stock)) → IsLogged state file (log_before geo commands (k + 1))
+log_turn geo its_geo commands k stock next_stock state file same is next_is logged =
+    subst (IsLogged state file)
+    (ap (λ (x : Geometry). log_before geo commands k ++ log_part (k + 1) (collection_between x stock next_stock)) same ∙ log_more geo commands k stock next_stock is next_is) logged
+
+-- what the log leaves after some commands
+pub log_left_of : (geo : Geometry) (commands : List Command) (n : ℕ) (first state : Log) (file : Passage) → n ≤ length commands → is_wanted state ≡ is_wanted first
+    → IsLogged state file (log_before geo commands n) → LeavesText (is_wanted first) (log_text geo commands) file
+log_left_of geo commands n first state file low same logged =
+    subst (λ w. LeavesText w (log_text geo commands) file) same
+    (leaves state file (log_before geo commands n) (log_text geo commands) logged (log_begins geo commands n low))
+
+pub OnOk-any : {T E : Type 0} (P : Type 0) (r : Result T E) → P → OnOk r P
+OnOk-any P (Ok x) p = p
+OnOk-any P (Err e) p = tt

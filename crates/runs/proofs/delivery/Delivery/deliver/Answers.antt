@@ -1,0 +1,89 @@
+use Rattle.std.proofs.Common.{ℕ, ◌+◌, List, length, vec_len, refl, get_or, drop, sym, ap, ◌∙◌, arith, subst}
+use Rattle.std.proofs.lemmas.Grind.{common_steps}
+use Rattle.geometry.proofs.Histories.{Begins-refl}
+use Rattle.trace.specs.Watched.{inner_of}
+use Rattle.answers.proofs.Deliveries.{AppendsBeginning-part, OnErr-any, OnErr-map}
+use Rattle.rounds.specs.Rows.{answers_by}
+use Rattle.std.proofs.lemmas.List.{length-map}
+use Rattle.rounds.specs.Answers.{place_of}
+use Rattle.rounds.specs.declared.answer_list.Cursor.{Cursor}
+use Rattle.runs.specs.Delivering.{AreAt, digits_in, passed_in, text_of, HasDigits}
+use Rattle.runs.proofs.Deliveries.{delivery_turn, delivery_whole, text_begins}
+use Rattle.runs.proofs.Rows.{all_digits, answer_found, lent, none_passed, all_at, next_is, next_more, next_there, AreNext}
+use Rattle.runs.proofs.delivery.Delivery.deliver.Goals as goal
+
+pub returns-in_err-make_room-clause-part : goal.returns-in_err-make_room-clause-part
+returns-in_err-make_room-clause-part g c =
+    OnErr-any _ c.from_residual.result
+    (AppendsBeginning-part _ _ _ _ _ _ c.loop-i.invariant.text c.in_err-make_room.ensures.part (text_begins c.loop-i.i c.args.commands.now (answers_by c.args.rows.now)))
+
+pub next_answer-answer-requires-clause-there : goal.next_answer-answer-requires-clause-there
+next_answer-answer-requires-clause-there g c =
+    let lent = c.deref_mut.ensures.value in
+    let next = passed_in c.deref_mut.result.now in
+    let so_far = subst (λ (l : List Cursor). AreNext (passed_in l) c.loop-i.i c.args.commands.now) (sym lent) c.loop-i.invariant.next in
+    let long = length-map c.deref_mut.result.now place_of ∙ (ap (length {A = Cursor}) lent ∙ c.loop-i.invariant.long) in
+    next_there c.args.rows.now next c.loop-i.i c.args.commands.now c.command-command.result so_far long c.requires.answers c.command-command.ensures.rest
+
+pub next_answer-answer-requires-clause-at : goal.next_answer-answer-requires-clause-at
+next_answer-answer-requires-clause-at g c = subst (λ (l : List Cursor). AreAt c.args.rows.now l) (sym c.deref_mut.ensures.value) c.loop-i.invariant.at
+
+pub put_answer-requires-clause-pages : goal.put_answer-requires-clause-pages
+put_answer-requires-clause-pages g c = λ a is.
+    let digits : HasDigits (digits_in c.args.self) a =
+    answer_found (HasDigits (digits_in c.args.self)) c.args.rows.now c.command-command.result (get_or (passed_in c.deref_mut.result.now) c.command-command.result.worker 0) a (all_digits (digits_in c.args.self) c.args.rows.now c.requires.pages) (sym c.next_answer-answer.ensures.answer ∙ is) in
+    subst (λ n. HasDigits n a) (sym (c.in_ok-make_room.ensures.page ∙ c.loop-i.invariant.page)) digits
+
+pub loop-i-preserved : goal.loop-i-preserved
+loop-i-preserved g c =
+    let commands = c.args.commands.now in
+    let rows = c.args.rows.now in
+    let i = c.loop-i.i in
+    let command = c.command-command.result in
+    let before = passed_in c.deref_mut.result.now in
+    let after = c.next_answer-answer.new.next in
+    let lent_next = c.deref_mut.ensures.value in
+    let so_far = subst (λ (l : List Cursor). AreNext (passed_in l) i commands) (sym lent_next) c.loop-i.invariant.next in
+    let count = ap (length {A = Cursor}) lent_next ∙ c.loop-i.invariant.long in
+    let long = length-map c.deref_mut.result.now place_of ∙ count in
+    let there = next_there rows before i commands command so_far long c.requires.answers c.command-command.ensures.rest in
+    let back = lent c.loop-i.next.len after (drop (length after) c.loop-i.next.items) (c.next_answer-answer.auto.next ∙ c.deref_mut.ensures.len) in
+    let answer = next_is rows before i commands command so_far long _ there c.next_answer-answer.ensures.answer in
+    let more = next_more rows before i commands command so_far long (passed_in after) c.command-command.ensures.at there c.next_answer-answer.ensures.next in
+    record {
+      next = subst (λ (l : List Cursor). AreNext (passed_in l) (i + 1) commands) (sym back) more;
+      at = subst (λ (l : List Cursor). AreAt rows l) (sym back) c.next_answer-answer.ensures.at;
+      long = ap (length {A = Cursor}) back ∙ (c.next_answer-answer.auto.next ∙ count);
+      page = c.put_answer.ensures.page ∙ (c.in_ok-make_room.ensures.page ∙ c.loop-i.invariant.page);
+      unfailed = c.in_ok-make_room.ensures.unfailed ∙ c.loop-i.invariant.unfailed;
+      text = delivery_turn i commands command (answers_by rows) _ _ _ _ _ _ _ c.loop-i.invariant.text c.in_ok-make_room.ensures.moved c.command-command.ensures.at answer c.put_answer.ensures.waiting;
+    }
+
+pub returns-in_err-make_room-2-clause-part : goal.returns-in_err-make_room-2-clause-part
+returns-in_err-make_room-2-clause-part g c =
+    OnErr-any _ c.from_residual-in_err-make_room-2.result
+    (AppendsBeginning-part _ _ _ _ _ _ c.loop-i.invariant.text c.in_err-make_room-2.ensures.part (text_begins c.loop-i.i c.args.commands.now (answers_by c.args.rows.now)))
+
+pub returns-clause-part : goal.returns-clause-part
+returns-clause-part g c =
+    let commands = c.args.commands.now in
+    let rows = answers_by c.args.rows.now in
+    let old = g.W.Write.contents (inner_of c.args.writer.now) in
+    let whole = delivery_whole c.loop-i.i commands rows old _ _ _ _ _ (omega arith) c.loop-i.invariant.text c.in_ok-make_room-2.ensures.moved c.end.ensures.waiting in
+    OnErr-map _ _ c.hand_on.result
+    (λ part. AppendsBeginning-part old _ _ _ (text_of commands rows) (text_of commands rows) whole part (Begins-refl (text_of commands rows))) c.hand_on.ensures.part
+
+pub loop-i-init : goal.loop-i-init
+loop-i-init g c =
+    let self = c.args.self in
+    record {
+      next = none_passed self.next.items (vec_len self.next) c.args.commands.now self.first;
+      at = all_at c.args.rows.now self.next.items (vec_len self.next) self.first;
+      long = sym self.next.ok.0 ∙ sym c.requires.workers;
+      page = refl;
+      unfailed = refl;
+      text = grind (arith, common_steps);
+    }
+
+pub returns-clause-sent : goal.returns-clause-sent
+returns-clause-sent g c = grind (arith, common_steps)

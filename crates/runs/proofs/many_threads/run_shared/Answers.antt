@@ -1,0 +1,56 @@
+use Rattle.std.proofs.Common.{◌≡◌, ◌∙◌, ap, length, refl, subst, sym, arith}
+use Rattle.std.specs.List.{All}
+use Rattle.trace.specs.Watched.{inner_of}
+use Rattle.answers.specs.Playable.{IsPlayable}
+use Rattle.rounds.specs.Rows.{answers_by}
+use Rattle.geometry.specs.Geometry.{page_bytes_of}
+use Rattle.rounds.specs.Answers.{page_size_of}
+use Rattle.runs.specs.Delivering.{digits_in}
+use Rattle.runs.proofs.Told.{all_digits, enough_answers, part_sent, renamed, renamed_meaning, some_meaning, text_sent}
+use Rattle.runs.proofs.many_threads.run_shared.Goals as goal
+
+pub deliver-requires-clause-answers : goal.deliver-requires-clause-answers
+deliver-requires-clause-answers g c =
+    let geo = c.args.geometry.now in
+    let commands = c.deref.result.now in
+    let played = renamed geo commands _ c.deref-2.result.now _ c.deref.ensures c.deref-2.ensures.value c.in-Ok-play_commands.ensures.played in
+    let same : commands ≡ c.in-Ok.commands = c.deref.ensures ∙ c.in-Ok-new-2.ensures.ok in
+    enough_answers geo commands (answers_by c.deref-2.result.now) c.requires.hosts (subst (All (IsPlayable geo)) (sym same) c.in-Ok.ensures.playable) played
+
+pub deliver-requires-clause-pages : goal.deliver-requires-clause-pages
+deliver-requires-clause-pages g c =
+    let geo = c.args.geometry.now in
+    let sizes = subst (All (λ row. page_size_of row ≡ page_bytes_of geo)) (sym c.deref-2.ensures.value) c.in-Ok-play_commands.ensures.pages in
+    all_digits geo c.deref-2.result.now (digits_in c.in-Ok-new.delivery) c.in-Ok-new.ensures.digits sizes
+
+pub returns-in-Ok-deliver-clause-text : goal.returns-in-Ok-deliver-clause-text
+returns-in-Ok-deliver-clause-text g c =
+    let geo = c.args.geometry.now in
+    let commands = c.deref.result.now in
+    let input = g.R.Read.remaining (inner_of c.args.reader.now) in
+    let played = renamed geo commands _ c.deref-2.result.now _ c.deref.ensures c.deref-2.ensures.value c.in-Ok-play_commands.ensures.played in
+    let meaning = renamed_meaning geo commands _ input (c.deref.ensures ∙ c.in-Ok-new-2.ensures.ok) c.in-Ok.ensures.commands in
+    text_sent geo commands (answers_by c.deref-2.result.now) played input _ _ meaning c.in-Ok-deliver.ensures.sent
+
+pub returns-clause-why : goal.returns-clause-why
+returns-clause-why g c =
+    let geo = c.args.geometry.now in
+    let commands = c.deref.result.now in
+    let input = g.R.Read.remaining (inner_of c.args.reader.now) in
+    let played = renamed geo commands _ c.deref-2.result.now _ c.deref.ensures c.deref-2.ensures.value c.in-Ok-play_commands.ensures.played in
+    let meaning = renamed_meaning geo commands _ input (c.deref.ensures ∙ c.in-Ok-new-2.ensures.ok) c.in-Ok.ensures.commands in (
+      record { end = c.in-Ok.ensures.end; unfailed = c.in-Ok.ensures.unfailed; meaning = some_meaning geo commands input meaning },
+      c.in-Err-deliver.ensures.failed,
+      part_sent geo commands (answers_by c.deref-2.result.now) played input _ _ meaning c.in-Err-deliver.ensures.part,
+    )
+
+pub play_commands-requires-clause-playable : goal.play_commands-requires-clause-playable
+play_commands-requires-clause-playable g c _ _ = rw c.in-Ok-new-2.ensures.ok c.in-Ok.ensures.playable
+
+pub returns-in-Err-Threads-clause-why : goal.returns-in-Err-Threads-clause-why
+returns-in-Err-Threads-clause-why g c =
+    let input = g.R.Read.remaining (inner_of c.args.reader.now) in (
+      λ none. omega (arith, none),
+      record { end = c.in-Ok.ensures.end; unfailed = c.in-Ok.ensures.unfailed; meaning = some_meaning c.args.geometry.now c.in-Ok.commands input c.in-Ok.ensures.commands },
+      refl,
+    )

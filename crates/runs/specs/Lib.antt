@@ -1,0 +1,10 @@
+-- What public contracts rest on.
+pub mod Playing
+pub mod Wear
+pub mod Collections
+pub mod Files
+pub mod Delivering
+pub mod Texts
+-- Internal.
+pub mod Steps
+pub mod Logs

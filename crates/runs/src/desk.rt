@@ -1,0 +1,128 @@
+ghost use Rattle.std.specs.Prelude.{◌≡◌, ◌≢◌, ◌+◌, ◌*◌, ◌<◌, ◌≤◌, [], ◌++◌, length, vec_len, IfOk, OnOk, OnErr};
+ghost use Rattle.std.specs.List.{fold};
+ghost use Rattle.geometry.specs.Geometry.{blocks_of, page_bytes_of, sectors_of};
+ghost use Rattle.geometry.specs.History.{step};
+ghost use Rattle.geometry.specs.Sectors.{sector_at};
+ghost use Rattle.ftl_one.specs.OneFtl.{geometry_of, array_of, stock_of};
+ghost use Rattle.trace.specs.Watched.{failures_of};
+ghost use Rattle.trace.specs.declared.commands.Op.TheVariants as ops;
+ghost use Rattle.answers.specs.Answers.{calls_of, found_text, line_text, wear_names};
+ghost use Rattle.answers.specs.Lines.{page_digits_of, waiting_of};
+ghost use Rattle.answers.specs.Playable.{IsPlayable};
+ghost use Rattle.answers.specs.declared.line.TheConstants.{PIECE_BYTES};
+ghost use Rattle.answers.specs.Streams.{Moves, Sends, SendsBeginning, over};
+ghost use Rattle.runs.specs.Playing.{end_text, is_refused, line_by, stock_after};
+ghost use Rattle.runs.specs.Wear.{block_line};
+
+use crate::perform::perform;
+use answers::{Lines, OutputFailed, Reply};
+use ftl_one::OneFtl;
+use geometry::Geometry;
+use std::alloc::{AllocError, Global};
+use std::io::Write;
+use trace::{Command, Op, Watched};
+
+/// The room for a run: a page, and the lines that wait to be written.
+#[derive(Drop)]
+pub struct Desk {
+    page: Vec<u8>,
+    lines: Lines,
+    pub ghost digits: { page_digits_of lines ≡ 2 * vec_len page },
+}
+
+impl Desk {
+    pub fn new(alloc: Global, geometry: &Geometry) -> Result<Desk, AllocError>
+        ensures page { IfOk result (λ desk. vec_len desk.page ≡ page_bytes_of geometry.now) }
+        ensures lines { IfOk result (λ desk. waiting_of desk.lines ≡ []) }
+    {
+        Ok(Desk {
+            page: vec![in alloc; 0; geometry.page_bytes()]?,
+            lines: Lines::new(alloc, geometry)?,
+        })
+    }
+
+    /// Does a command, and adds its answer line to those that wait.
+    pub fn answer(&mut self, ftl: &mut OneFtl, command: &Command<'_>, line: u64)
+        requires playable { IsPlayable (geometry_of ftl.old) command.now }
+        requires page { vec_len self.old.page ≡ page_bytes_of (geometry_of ftl.old) }
+        requires room { length (waiting_of self.old.lines) ≤ PIECE_BYTES }
+        ensures page { vec_len self.new.page ≡ vec_len self.old.page }
+        ensures lines { waiting_of self.new.lines ≡ waiting_of self.old.lines ++ line_by ftl.old line command.now }
+        ensures geometry { geometry_of ftl.new ≡ geometry_of ftl.old }
+        ensures array { array_of ftl.new ≡ fold step (array_of ftl.old) (calls_of (is_refused (geometry_of ftl.old) (stock_of ftl.old) command.now) command.now) }
+        ensures stock { stock_of ftl.new ≡ stock_after (geometry_of ftl.old) (stock_of ftl.old) command.now }
+    {
+        if let Op::Read = command.op {
+            self.answer_read(ftl, command.sector, line);
+            return;
+        }
+        let reply = perform(ftl, command, &mut self.page);
+        self.lines
+            .answer(line, command.op, command.sector, reply, &self.page);
+    }
+
+    // Adds the answer line of a read. A page is told from where it stands.
+    fn answer_read(&mut self, ftl: &OneFtl, sector: u32, line: u64)
+        requires sector { sector < sectors_of (geometry_of ftl.now) }
+        requires page { vec_len self.old.page ≡ page_bytes_of (geometry_of ftl.now) }
+        requires room { length (waiting_of self.old.lines) ≤ PIECE_BYTES }
+        ensures page { vec_len self.new.page ≡ vec_len self.old.page }
+        ensures lines { waiting_of self.new.lines ≡ waiting_of self.old.lines ++ line_text line ops.Read sector (found_text (sector_at (array_of ftl.now) sector)) }
+    {
+        match ftl.page(sector) {
+            Some(page) => self.lines.answer(line, Op::Read, sector, Reply::Page, page),
+            None => self.lines.answer(line, Op::Read, sector, Reply::Empty, &[]),
+        }
+    }
+
+    /// Adds the last line.
+    pub fn end(&mut self, ftl: &OneFtl)
+        requires room { length (waiting_of self.old.lines) ≤ PIECE_BYTES }
+        ensures lines { waiting_of self.new.lines ≡ waiting_of self.old.lines ++ end_text (stock_of ftl.now) }
+    {
+        let counts = ftl.counts();
+        self.lines
+            .totals(counts.programs, counts.copies, counts.erases);
+    }
+
+    /// Adds the header line of the wear.
+    pub fn wear_names(&mut self)
+        requires room { length (waiting_of self.old.lines) ≤ PIECE_BYTES }
+        ensures lines { waiting_of self.new.lines ≡ waiting_of self.old.lines ++ wear_names }
+    {
+        self.lines.wear_names();
+    }
+
+    /// Adds a block's line of the wear.
+    pub fn wear(&mut self, ftl: &OneFtl, block: u32)
+        requires block { block < blocks_of (geometry_of ftl.now) }
+        requires room { length (waiting_of self.old.lines) ≤ PIECE_BYTES }
+        ensures lines { waiting_of self.new.lines ≡ waiting_of self.old.lines ++ block_line (stock_of ftl.now) block }
+    {
+        let (erases, live, retired) = (ftl.erases(block), ftl.live(block), ftl.retired(block));
+        self.lines.wear(block, erases, live, retired);
+    }
+
+    /// Writes the lines that wait.
+    pub fn hand_on<W: Write>(&mut self, writer: &mut Watched<W>) -> Result<(), OutputFailed>
+        ensures sent { OnOk result (Sends (over W.contents writer.old writer.new) (waiting_of self.old.lines)) }
+        ensures empty { OnOk result (waiting_of self.new.lines ≡ []) }
+        ensures unfailed { OnOk result (failures_of writer.new ≡ failures_of writer.old) }
+        ensures part { OnErr result (SendsBeginning (over W.contents writer.old writer.new) (waiting_of self.old.lines)) }
+        ensures failed { OnErr result (failures_of writer.new ≢ failures_of writer.old) }
+    {
+        self.lines.hand_on(writer)
+    }
+
+    /// Writes the lines that wait if there are many, so that there is room for another line.
+    pub fn make_room<W: Write>(&mut self, writer: &mut Watched<W>) -> Result<(), OutputFailed>
+        ensures moved { OnOk result (Moves (over W.contents writer.old writer.new) (waiting_of self.new.lines) (waiting_of self.old.lines)) }
+        ensures room { OnOk result (length (waiting_of self.new.lines) ≤ PIECE_BYTES) }
+        ensures page { vec_len self.new.page ≡ vec_len self.old.page }
+        ensures unfailed { OnOk result (failures_of writer.new ≡ failures_of writer.old) }
+        ensures part { OnErr result (SendsBeginning (over W.contents writer.old writer.new) (waiting_of self.old.lines)) }
+        ensures failed { OnErr result (failures_of writer.new ≢ failures_of writer.old) }
+    {
+        self.lines.make_room(writer)
+    }
+}

@@ -1,0 +1,18 @@
+//! Plays a trace and writes its answers: on a flash layer for one thread, or on a shared device by several workers.
+#![tactic(auto)]
+
+mod delivering;
+mod delivery;
+mod desk;
+mod files;
+mod log;
+mod logged;
+mod many_threads;
+mod one_thread;
+mod perform;
+mod wear;
+
+pub use delivery::Delivery;
+pub use files::{RunFiles, Wanted, Written};
+pub use many_threads::{run_by_workers, run_shared};
+pub use one_thread::{run, run_with_files};

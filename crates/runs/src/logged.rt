@@ -1,0 +1,56 @@
+ghost use Rattle.std.specs.Prelude.{◌≡◌, ◌*◌, ◌≤◌, ◌++◌, ℕ, List, if◌then◌else◌, length, nat_lt, vec_len, None};
+ghost use Rattle.std.specs.List.{fold};
+ghost use Rattle.geometry.specs.Geometry.{page_bytes_of};
+ghost use Rattle.geometry.specs.History.{step};
+ghost use Rattle.ftl_one.specs.Collections.{collection_between};
+ghost use Rattle.ftl_one.specs.OneFtl.{geometry_of, array_of, stock_of};
+ghost use Rattle.answers.specs.Answers.{calls_of};
+ghost use Rattle.answers.specs.Lines.{waiting_of};
+ghost use Rattle.answers.specs.Playable.{IsPlayable};
+ghost use Rattle.answers.specs.Streams.{Stream, stream_of};
+ghost use Rattle.answers.specs.declared.line.TheConstants.{PIECE_BYTES};
+ghost use Rattle.runs.specs.Collections.{log_part};
+ghost use Rattle.runs.specs.Logs.{IsLogged, is_wanted};
+ghost use Rattle.runs.specs.Playing.{is_refused, line_by, stock_after};
+
+use crate::desk::Desk;
+use crate::log::Log;
+use ftl_one::{Collection, OneFtl};
+use std::io::Write;
+use trace::{Command, Watched};
+
+/// Does a command, adds its answer line to those that wait, and records in the log the collection that it made.
+pub fn answer_logged<V: Write>(
+    ftl: &mut OneFtl,
+    desk: &mut Desk,
+    command: &Command<'_>,
+    line: u64,
+    log: &mut Log,
+    file: &mut Watched<V>,
+)
+    requires playable { IsPlayable (geometry_of ftl.old) command.now }
+    requires page { vec_len desk.old.page ≡ page_bytes_of (geometry_of ftl.old) }
+    requires room { length (waiting_of desk.old.lines) ≤ PIECE_BYTES }
+    ensures page { vec_len desk.new.page ≡ vec_len desk.old.page }
+    ensures lines { waiting_of desk.new.lines ≡ waiting_of desk.old.lines ++ line_by ftl.old line command.now }
+    ensures geometry { geometry_of ftl.new ≡ geometry_of ftl.old }
+    ensures array { array_of ftl.new ≡ fold step (array_of ftl.old) (calls_of (is_refused (geometry_of ftl.old) (stock_of ftl.old) command.now) command.now) }
+    ensures stock { stock_of ftl.new ≡ stock_after (geometry_of ftl.old) (stock_of ftl.old) command.now }
+    ensures wanted { is_wanted log.new ≡ is_wanted log.old }
+    ensures told { (before : Stream) → (text : List ℕ)
+        → IsLogged log.old (record { before = before; after = stream_of V.contents file.old }) text
+        → IsLogged log.new (record { before = before; after = stream_of V.contents file.new })
+        (text ++ log_part line (collection_between (geometry_of ftl.old) (stock_of ftl.old) (stock_of ftl.new))) }
+{
+    let due = log.due(ftl, command.op);
+    let programs = ftl.counts().programs;
+    desk.answer(ftl, command, line);
+    log.tell(line, made(due, programs, ftl.counts().programs), file);
+}
+
+// The collection that was due, if a page was programmed, by the pages programmed before and after.
+fn made(due: Option<Collection>, before: u64, after: u64) -> Option<Collection>
+    ensures { result ≡ (if nat_lt before after then due else None) }
+{
+    if before < after { due } else { None }
+}

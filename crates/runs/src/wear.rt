@@ -1,0 +1,59 @@
+ghost use Rattle.std.specs.Prelude.{◌≡◌, ◌≢◌, [], OnErr, OnOk};
+ghost use Rattle.ftl_one.specs.OneFtl.{geometry_of, stock_of};
+ghost use Rattle.trace.specs.Watched.{failures_of};
+ghost use Rattle.answers.specs.Lines.{waiting_of};
+ghost use Rattle.answers.specs.Streams.{Sends, SendsBeginning, over};
+ghost use Rattle.runs.specs.Files.{EndsText};
+ghost use Rattle.runs.specs.Wear.{wear_text};
+
+use crate::desk::Desk;
+use crate::log::Log;
+use answers::OutputFailed;
+use ftl_one::OneFtl;
+use std::io::Write;
+use trace::Watched;
+
+/// A device after its run, the desk, on which no line waits, and the log of its collections.
+#[derive(Drop)]
+pub struct Played {
+    pub ftl: OneFtl,
+    pub desk: Desk,
+    pub log: Log,
+    pub ghost sent: { waiting_of desk.lines ≡ [] },
+}
+
+/// Writes the wear of each block of a device, if it is wanted.
+pub fn tell_wear_if<V: Write>(
+    wanted: bool,
+    ftl: &OneFtl,
+    desk: &mut Desk,
+    wear: &mut Watched<V>,
+) -> Result<(), OutputFailed>
+    requires lines { waiting_of desk.old.lines ≡ [] }
+    ensures { EndsText wanted (wear_text (geometry_of ftl.now) (stock_of ftl.now)) (over V.contents wear.old wear.new) result }
+{
+    if !wanted {
+        return Ok(());
+    }
+    tell_wear(ftl, desk, wear)
+}
+
+/// Writes the wear of each block of a device.
+pub fn tell_wear<V: Write>(
+    ftl: &OneFtl,
+    desk: &mut Desk,
+    wear: &mut Watched<V>,
+) -> Result<(), OutputFailed>
+    requires lines { waiting_of desk.old.lines ≡ [] }
+    ensures sent { OnOk result (Sends (over V.contents wear.old wear.new) (wear_text (geometry_of ftl.now) (stock_of ftl.now))) }
+    ensures part { OnErr result (SendsBeginning (over V.contents wear.old wear.new) (wear_text (geometry_of ftl.now) (stock_of ftl.now))) }
+    ensures unfailed { OnOk result (failures_of wear.new ≡ failures_of wear.old) }
+    ensures failed { OnErr result (failures_of wear.new ≢ failures_of wear.old) }
+{
+    desk.wear_names();
+    for block in 0..ftl.geometry().blocks() {
+        desk.make_room(wear)?;
+        desk.wear(ftl, block);
+    }
+    desk.hand_on(wear)
+}

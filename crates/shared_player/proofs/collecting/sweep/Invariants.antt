@@ -1,5 +1,0 @@
-use Rattle.shared_player.specs.Collecting.{HasSwept}
-use Rattle.shared_player.proofs.collecting.sweep.Given as goal
-
-abbrev pub invariant-loop : goal.invariant-loop
-invariant-loop g l = HasSwept l.fn.sweeper l.sweeper

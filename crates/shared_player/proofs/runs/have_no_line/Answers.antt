@@ -1,9 +1,0 @@
-use Rattle.std.proofs.Common.{ℕ, arith}
-use Rattle.shared_player.specs.declared.post.Post.{Post}
-use Rattle.shared_player.proofs.Turning.{idle_more}
-use Rattle.shared_player.proofs.runs.have_no_line.Goals as goal
-
-pub loop-post-preserved : goal.loop-post-preserved
-loop-post-preserved c =
-    idle_more c.args.posts.now c.loop-post.post-index c.post-item.result c.post-item.is
-    (let past = c.if-len-post.false in let count = c.len.ensures in omega arith) c.loop-post.invariant

@@ -1,7 +1,0 @@
--- The brooms' threads of a round.
-use Rattle.shared_player.specs.declared.sweeper.Sweeper.{Sweeper}
-use Rattle.shared_player.specs.declared.broom_thread.BroomThread.{BroomThread}
-
--- the broom that a thread was given
-abbrev pub given_to : BroomThread → Sweeper
-given_to t = t.handle.promise.before.value

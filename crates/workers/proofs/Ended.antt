@@ -1,0 +1,41 @@
+-- What a run over all commands has made of the workers' rows.
+use Rattle.std.proofs.Common.{◌≡◌, ℕ, All, List, [], get_or, map, length, sym, ap, ◌∙◌, subst}
+use Rattle.geometry.specs.Geometry.{hosts_of, page_bytes_of, sectors_of}
+use Rattle.geometry.specs.declared.geometry.Geometry.{Geometry}
+use Rattle.flash_table.specs.Flash.{geometry_of}
+use Rattle.trace.specs.declared.commands.Command.{Command}
+use Rattle.rounds.specs.Lines.{Said}
+use Rattle.volume.specs.declared.volume.Volume.{Volume}
+use Rattle.volume.specs.Volume.{flash_of}
+use Rattle.rounds.specs.Merging.{merge}
+use Rattle.rounds.specs.Rows.{answers_by, AreAtOneHistory}
+use Rattle.rounds.specs.Answers.{page_size_of, said_in}
+use Rattle.rounds.specs.declared.answer_list.Answers.{Answers}
+use Rattle.std.proofs.lemmas.List.Elements.{All-map}
+use Rattle.std.proofs.lemmas.Simd.{map-map}
+use Rattle.workers.specs.Posts.{answers_kept}
+use Rattle.rounds.specs.Texts.{lines_text, IsTextOfSome}
+use Rattle.workers.specs.declared.post.Post.{Post}
+use Rattle.workers.specs.Commands.{ArePlayed}
+use Rattle.workers.specs.Runs.{AreManned, HasEnded, rows_of}
+
+-- what is said of a run is said of the rows that are handed out
+pub all_played : (volume : Volume) (geo : Geometry) (patience : ℕ) (cs : List Command) (begun back : List Post) (rows : List Answers) → geometry_of (flash_of volume) ≡ geo → AreManned volume back → HasEnded volume patience cs begun back
+    → rows ≡ map answers_kept back → ArePlayed geo cs (answers_by rows)
+all_played volume geo patience cs begun back rows geometry manned ended are =
+    let by : List (List Said) → ℕ → List Said = λ l t. get_or l t [] in
+    let same : rows_of back ≡ answers_by rows = ap by (sym (ap (map said_in) are ∙ map-map said_in answers_kept back)) in
+    let hosts : length back ≡ hosts_of geo = manned.all ∙ ap hosts_of geometry in
+    let sectors : sectors_of (geometry_of (flash_of volume)) ≡ sectors_of geo = ap sectors_of geometry in
+    record {
+      told = subst (λ (x : ℕ × ℕ × (ℕ → List Said)). AreAtOneHistory x.0 x.1 cs x.2) (λ i. (sectors i, hosts i, same i)) ended.told;
+      text = λ apart. subst (λ (x : ℕ × (ℕ → List Said)). IsTextOfSome x.0 cs (lines_text 0 (merge cs x.1))) (λ i. (sectors i, same i)) (ended.text apart);
+    }
+
+-- the rows have pages of the device's size
+pub all_paged : (volume : Volume) (geo : Geometry) (back : List Post) (rows : List Answers) → geometry_of (flash_of volume) ≡ geo → AreManned volume back → rows ≡ map answers_kept back
+    → All (λ row. page_size_of row ≡ page_bytes_of geo) rows
+all_paged volume geo back rows geometry manned are =
+    subst (All (λ row. page_size_of row ≡ page_bytes_of geo)) (sym are)
+    (All-map (λ row. page_size_of row ≡ page_bytes_of geo) answers_kept back
+    (λ k p low. (get_or back k p).able.page ∙ ap (λ (v : Volume). page_bytes_of (geometry_of (flash_of v))) (manned.at k p low) ∙ ap page_bytes_of geometry))

@@ -1,0 +1,194 @@
+-- What a broom's view grows by with each call.
+use Rattle.std.proofs.Common.{◌≡◌, ℕ, ◌+◌, List, [], ◌∷◌, ◌++◌, length, ◌⊎◌, inl, inr, Bool, true, false, refl, sym, ap, ◌∙◌, subst, append-nil, append_assoc, add-zero, arith}
+use Rattle.std.proofs.lemmas.List.{length-append}
+use Rattle.flash_rule.specs.declared.facts.Cycle.{Cycle}
+use Rattle.flash_rule.specs.declared.view.View.{View}
+use Rattle.broom.specs.declared.broom.Broom.{Broom}
+use Rattle.broom.specs.declared.answer.Drain.{Drain}
+use Rattle.broom.specs.declared.answer.Drain.TheVariants as drain
+use Rattle.broom.specs.declared.answer.Erase.{Erase}
+use Rattle.broom.specs.declared.answer.Erase.TheVariants as erase
+use Rattle.broom.specs.Handing.{DrainNextOneTold, DrainOneTold, EraseOneTold, IsElse}
+use Rattle.broom.specs.Ready.{blocks_of_broom, view_of_broom}
+use Rattle.broom.specs.Restocking.{DidRestock, HadSpare, RestockTold}
+use Rattle.flash_table.specs.declared.broom_seat.BroomBlocks.{BroomBlocks}
+use Rattle.workers.specs.declared.broom_answer.BroomAnswer.{BroomAnswer}
+use Rattle.workers.specs.declared.broom_answer.BroomAnswer.TheVariants as by
+use Rattle.workers.specs.declared.tally.Tally.{Tally}
+use Rattle.workers.specs.Collecting.{CallTold, HasCollected}
+use Rattle.workers.specs.Growing.{GrowsBy, HasGrown}
+use Rattle.workers.specs.Tallies.{added, answer_adds, drain_adds, erase_adds, nothing_done, survey_adds, total_of}
+
+-- a list that stays
+stays : {X : Type 0} (xs ys : List X) → ys ≡ xs → GrowsBy 0 xs ys
+stays xs ys is = ([], is ∙ sym (append-nil xs), refl)
+
+-- a list with one entry more
+one_more : {X : Type 0} (xs ys : List X) (x : X) → ys ≡ xs ++ x ∷ [] → GrowsBy 1 xs ys
+one_more xs ys x is = (x ∷ [], is, refl)
+
+grows_then : {X : Type 0} (n m : ℕ) (xs ys zs : List X) → GrowsBy n xs ys → GrowsBy m ys zs → GrowsBy (n + m) xs zs
+grows_then n m xs ys zs one two = (
+  one.0 ++ two.0,
+  two.1 ∙ (ap (λ l. l ++ two.0) one.1 ∙ append_assoc xs one.0 two.0),
+  (let a = one.2 in let b = two.2 in omega (arith, length-append one.0 two.0)),
+)
+
+grown_then : (v w x : View) (s t : Tally) → HasGrown v s w → HasGrown w t x → HasGrown v (added s t) x
+grown_then v w x s t one two = record {
+  role = two.role ∙ one.role;
+  drains = grows_then s.drained t.drained v.drains w.drains x.drains one.drains two.drains;
+  moves = (let a = one.moves in let b = two.moves in omega arith);
+  erases = grows_then s.erased t.erased v.erases w.erases x.erases one.erases two.erases;
+  lost = grows_then s.lost t.lost v.lost w.lost x.lost one.lost two.lost;
+}
+
+-- a call by which none of these has changed
+grown_none : (v w : View) (t : Tally) → t.drained ≡ 0 → t.moved ≡ 0 → t.erased ≡ 0 → t.lost ≡ 0 → w.role ≡ v.role → w.drains ≡ v.drains → w.moves ≡ v.moves → w.erases ≡ v.erases → w.lost ≡ v.lost
+    → HasGrown v t w
+grown_none v w t drained moved erased failed role drains moves erases lost = record {
+  role = role;
+  drains = subst (λ (n : ℕ). GrowsBy n v.drains w.drains) (sym drained) (stays v.drains w.drains drains);
+  moves = omega arith;
+  erases = subst (λ (n : ℕ). GrowsBy n v.erases w.erases) (sym erased) (stays v.erases w.erases erases);
+  lost = subst (λ (n : ℕ). GrowsBy n v.lost w.lost) (sym failed) (stays v.lost w.lost lost);
+}
+
+-- the same, where the whole view has stayed
+grown_same : (v w : View) (t : Tally) → t.drained ≡ 0 → t.moved ≡ 0 → t.erased ≡ 0 → t.lost ≡ 0 → w ≡ v → HasGrown v t w
+grown_same v w t drained moved erased failed is =
+    grown_none v w t drained moved erased failed (ap (λ (x : View). x.role) is) (ap (λ (x : View). x.drains) is) (ap (λ (x : View). x.moves) is) (ap (λ (x : View). x.erases) is)
+    (ap (λ (x : View). x.lost) is)
+
+grown_drain : (v w : View) (copied : ℕ) (c : Cycle) → w.role ≡ v.role → w.drains ≡ v.drains ++ c ∷ [] → w.moves ≡ v.moves + copied → w.erases ≡ v.erases → w.lost ≡ v.lost
+    → HasGrown v (record nothing_done { drained = 1; moved = copied }) w
+grown_drain v w copied c role drains moves erases lost = record {
+  role = role;
+  drains = one_more v.drains w.drains c drains;
+  moves = moves;
+  erases = stays v.erases w.erases erases;
+  lost = stays v.lost w.lost lost;
+}
+
+grown_lost : (v w : View) (block : ℕ) → w.role ≡ v.role → w.drains ≡ v.drains → w.moves ≡ v.moves → w.erases ≡ v.erases → w.lost ≡ v.lost ++ block ∷ [] → HasGrown v (record nothing_done { lost = 1 }) w
+grown_lost v w block role drains moves erases lost = record {
+  role = role;
+  drains = stays v.drains w.drains drains;
+  moves = moves ∙ sym (add-zero v.moves);
+  erases = stays v.erases w.erases erases;
+  lost = one_more v.lost w.lost block lost;
+}
+
+grown_erase : (v w : View) (kept retired : ℕ) (c : Cycle) → w.role ≡ v.role → w.drains ≡ v.drains → w.moves ≡ v.moves → w.erases ≡ v.erases ++ c ∷ [] → w.lost ≡ v.lost
+    → HasGrown v (record nothing_done { erased = 1; kept = kept; retired = retired }) w
+grown_erase v w kept retired c role drains moves erases lost = record {
+  role = role;
+  drains = stays v.drains w.drains drains;
+  moves = moves ∙ sym (add-zero v.moves);
+  erases = one_more v.erases w.erases c erases;
+  lost = stays v.lost w.lost lost;
+}
+
+-- at the ends the broom has changed in its place at the queue alone
+around : (a b c d : Broom) (t : Tally) → IsElse a b → IsElse c d → HasGrown (view_of_broom b) t (view_of_broom c) → HasGrown (view_of_broom a) t (view_of_broom d)
+around a b c d t first last grown =
+    subst (λ (x : View × View). HasGrown x.0 t x.1) (λ i. (ap view_of_broom first i, sym (ap view_of_broom last) i)) grown
+
+before_it : (a b c : Broom) (t : Tally) → IsElse a b → HasGrown (view_of_broom b) t (view_of_broom c) → HasGrown (view_of_broom a) t (view_of_broom c)
+before_it a b c t first grown = subst (λ (x : View). HasGrown x t (view_of_broom c)) (ap view_of_broom first) grown
+
+survey_grows : (limit : ℕ) (a b : Broom) (d : Drain) → DrainOneTold limit a d b → HasGrown (view_of_broom a) (survey_adds d) (view_of_broom b)
+survey_grows limit a b (drain.Drained block copied) told =
+    let did = told.drain.drain.0 in
+    let from = told.drain.relieved in
+    let to = told.drained in
+    around a from to b (drain_adds (drain.Drained block copied)) told.drain.first.rest told.handed.rest
+    (grown_drain (view_of_broom from) (view_of_broom to) copied _ (ap (λ (x : View). x.role) did.changed) (ap (λ (x : View). x.drains) did.changed) (ap (λ (x : View). x.moves) did.changed)
+    (ap (λ (x : View). x.erases) did.changed) (ap (λ (x : View). x.lost) did.changed))
+survey_grows limit a b drain.NothingToGain told =
+    let is = told.drain.0.0.changed in
+    before_it a told.relieved b (survey_adds drain.NothingToGain) told.first.rest
+    (grown_none (view_of_broom told.relieved) (view_of_broom b) (survey_adds drain.NothingToGain) refl refl refl refl (ap (λ (x : View). x.role) is) (ap (λ (x : View). x.drains) is)
+    (ap (λ (x : View). x.moves) is) (ap (λ (x : View). x.erases) is) (ap (λ (x : View). x.lost) is))
+survey_grows limit a b drain.NoSpare told =
+    before_it a told.relieved b nothing_done told.first.rest (grown_same (view_of_broom told.relieved) (view_of_broom b) nothing_done refl refl refl refl told.drain.0.view)
+survey_grows limit a b drain.Lost told =
+    let lost = told.drain.0.0 in
+    let is = lost.changed in
+    before_it a told.relieved b (drain_adds drain.Lost) told.first.rest
+    (grown_lost (view_of_broom told.relieved) (view_of_broom b) lost.block (ap (λ (x : View). x.role) is) (ap (λ (x : View). x.drains) is) (ap (λ (x : View). x.moves) is)
+    (ap (λ (x : View). x.erases) is) (ap (λ (x : View). x.lost) is))
+survey_grows limit a b drain.QueueFull told = grown_same (view_of_broom a) (view_of_broom b) nothing_done refl refl refl refl (ap view_of_broom told.rest)
+
+next_grows : (limit : ℕ) (a b : Broom) (d : Drain) → DrainNextOneTold limit a d b → HasGrown (view_of_broom a) (drain_adds d) (view_of_broom b)
+next_grows limit a b (drain.Drained block copied) told =
+    let did = told.drain.drain.1 in
+    let from = told.drain.relieved in
+    let to = told.drained in
+    around a from to b (drain_adds (drain.Drained block copied)) told.drain.first.rest told.handed.rest
+    (grown_drain (view_of_broom from) (view_of_broom to) copied _ (ap (λ (x : View). x.role) did.changed) (ap (λ (x : View). x.drains) did.changed) (ap (λ (x : View). x.moves) did.changed)
+    (ap (λ (x : View). x.erases) did.changed) (ap (λ (x : View). x.lost) did.changed))
+next_grows limit a b drain.NothingToGain told =
+    before_it a told.relieved b nothing_done told.first.rest (grown_same (view_of_broom told.relieved) (view_of_broom b) nothing_done refl refl refl refl told.drain.1)
+next_grows limit a b drain.NoSpare told =
+    before_it a told.relieved b nothing_done told.first.rest (grown_same (view_of_broom told.relieved) (view_of_broom b) nothing_done refl refl refl refl told.drain.0.view)
+next_grows limit a b drain.Lost told =
+    let is = told.drain.2 in
+    before_it a told.relieved b (drain_adds drain.Lost) told.first.rest
+    (grown_lost (view_of_broom told.relieved) (view_of_broom b) told.drain.0 (ap (λ (x : View). x.role) is) (ap (λ (x : View). x.drains) is) (ap (λ (x : View). x.moves) is)
+    (ap (λ (x : View). x.erases) is) (ap (λ (x : View). x.lost) is))
+next_grows limit a b drain.QueueFull told = grown_same (view_of_broom a) (view_of_broom b) nothing_done refl refl refl refl (ap view_of_broom told.rest)
+
+erase_grows : (limit : ℕ) (a b : Broom) (e : Erase) → EraseOneTold limit a e b → HasGrown (view_of_broom a) (erase_adds e) (view_of_broom b)
+erase_grows limit a b (erase.Erased block true) told =
+    let is = told.1.erase.1.erased.changed in
+    before_it a told.1.fetched b (erase_adds (erase.Erased block true)) told.1.first.rest
+    (grown_erase (view_of_broom told.1.fetched) (view_of_broom b) 1 0 _ (ap (λ (x : View). x.role) is) (ap (λ (x : View). x.drains) is) (ap (λ (x : View). x.moves) is)
+    (ap (λ (x : View). x.erases) is) (ap (λ (x : View). x.lost) is))
+erase_grows limit a b (erase.Erased block false) told =
+    let is = told.1.erase.1.erased.changed in
+    before_it a told.1.fetched b (erase_adds (erase.Erased block false)) told.1.first.rest
+    (grown_erase (view_of_broom told.1.fetched) (view_of_broom b) 0 0 _ (ap (λ (x : View). x.role) is) (ap (λ (x : View). x.drains) is) (ap (λ (x : View). x.moves) is)
+    (ap (λ (x : View). x.erases) is) (ap (λ (x : View). x.lost) is))
+erase_grows limit a b (erase.Retired block) told =
+    let is = told.1.erase.1.erased.changed in
+    before_it a told.1.fetched b (erase_adds (erase.Retired block)) told.1.first.rest
+    (grown_erase (view_of_broom told.1.fetched) (view_of_broom b) 0 1 _ (ap (λ (x : View). x.role) is) (ap (λ (x : View). x.drains) is) (ap (λ (x : View). x.moves) is)
+    (ap (λ (x : View). x.erases) is) (ap (λ (x : View). x.lost) is))
+erase_grows limit a b erase.Pinned told =
+    let is = told.erase.erase.0.changed in
+    around a told.erase.fetched told.found b (erase_adds erase.Pinned) told.erase.first.rest told.handed.rest
+    (grown_none (view_of_broom told.erase.fetched) (view_of_broom told.found) (erase_adds erase.Pinned) refl refl refl refl (ap (λ (x : View). x.role) is) (ap (λ (x : View). x.drains) is)
+    (ap (λ (x : View). x.moves) is) (ap (λ (x : View). x.erases) is) (ap (λ (x : View). x.lost) is))
+erase_grows limit a b erase.Stale told =
+    let is = told.1.erase.0.changed in
+    before_it a told.1.fetched b (erase_adds erase.Stale) told.1.first.rest
+    (grown_none (view_of_broom told.1.fetched) (view_of_broom b) (erase_adds erase.Stale) refl refl refl refl (ap (λ (x : View). x.role) is) (ap (λ (x : View). x.drains) is)
+    (ap (λ (x : View). x.moves) is) (ap (λ (x : View). x.erases) is) (ap (λ (x : View). x.lost) is))
+erase_grows limit a b erase.QueueEmpty told = grown_same (view_of_broom a) (view_of_broom b) nothing_done refl refl refl refl (ap view_of_broom told.rest)
+
+-- a restock by which the broom had a spare before, or has one now
+spare_grows : (v : View) (x : BroomBlocks) (w : View) (y : BroomBlocks) → HadSpare v x w y ⊎ DidRestock v x w y → HasGrown v nothing_done w
+spare_grows v x w y (inl had) = grown_same v w nothing_done refl refl refl refl had.view
+spare_grows v x w y (inr did) =
+    let is = did.changed in
+    grown_none v w nothing_done refl refl refl refl (ap (λ (z : View). z.role) is) (ap (λ (z : View). z.drains) is) (ap (λ (z : View). z.moves) is) (ap (λ (z : View). z.erases) is)
+    (ap (λ (z : View). z.lost) is)
+
+restock_grows : (a b : Broom) (given : Bool) → RestockTold a given b → HasGrown (view_of_broom a) nothing_done (view_of_broom b)
+restock_grows a b true told = spare_grows (view_of_broom a) (blocks_of_broom a) (view_of_broom b) (blocks_of_broom b) told
+restock_grows a b false told =
+    let is = told.changed in
+    grown_none (view_of_broom a) (view_of_broom b) nothing_done refl refl refl refl (ap (λ (x : View). x.role) is) (ap (λ (x : View). x.drains) is) (ap (λ (x : View). x.moves) is)
+    (ap (λ (x : View). x.erases) is) (ap (λ (x : View). x.lost) is)
+
+call_grows : (limit : ℕ) (a b : Broom) (x : BroomAnswer) → CallTold limit a x b → HasGrown (view_of_broom a) (answer_adds x) (view_of_broom b)
+call_grows limit a b (by.Drain given) told = survey_grows limit a b given told
+call_grows limit a b (by.DrainNext given) told = next_grows limit a b given told
+call_grows limit a b (by.Erase given) told = erase_grows limit a b given told
+call_grows limit a b (by.Restock given) told = restock_grows a b given told.told
+
+pub collected_grows : (limit : ℕ) (a b : Broom) (xs : List BroomAnswer) → HasCollected limit a xs b → HasGrown (view_of_broom a) (total_of xs) (view_of_broom b)
+collected_grows limit a b [] is = grown_same (view_of_broom a) (view_of_broom b) nothing_done refl refl refl refl (ap view_of_broom is)
+collected_grows limit a b (x ∷ xs) told =
+    grown_then (view_of_broom a) (view_of_broom told.0) (view_of_broom b) (answer_adds x) (total_of xs) (call_grows limit a told.0 x told.1) (collected_grows limit told.0 b xs told.2)

@@ -1,0 +1,215 @@
+-- One line: what a read, a trim, a write that was done and one that was turned away tell, as one record.
+use Rattle.std.proofs.Common.{◌≡◌, ℕ, suc, ◌+◌, ◌<◌, ◌≤◌, ◌⊎◌, Bool, true, false, List, [], ◌∷◌, ◌++◌, Option, None, Some, sym, refl, ap, ◌∙◌, subst, arith, append_assoc, append-nil}
+use Rattle.std.specs.Prelude.{if◌then◌else◌}
+use Rattle.std.specs.List.{range_with_len}
+use mathlib.Core.Logic.{inl, inr}
+use Rattle.geometry.specs.History.{Call, Write, WriteNew, Trim, held, was, Begins}
+use Rattle.geometry.specs.Sectors.{Sector, Answers, was_of}
+use Rattle.geometry.specs.declared.answer.Got.{Got}
+use Rattle.geometry.specs.declared.answer.Got.TheVariants as got
+use Rattle.geometry.specs.declared.answer.Was.{Was}
+use Rattle.geometry.specs.declared.answer.Was.TheVariants as was
+use Rattle.geometry.proofs.Histories.{Begins-refl}
+use Rattle.flash_rule.specs.declared.view.View.{View}
+use Rattle.flash_rule.specs.Plays.{Called}
+use Rattle.flash_table.specs.declared.pass.OpenBlock.{OpenBlock}
+use Rattle.flash_table.specs.Owning.{owned_list, owned_of}
+use Rattle.host.specs.Told.{Searched, Programmed, Refused}
+use Rattle.trace.specs.declared.commands.Op.{Op}
+use Rattle.trace.specs.declared.commands.Op.TheVariants as op
+use Rattle.rounds.specs.declared.answer.Kind.{Kind}
+use Rattle.rounds.specs.declared.answer.Kind.TheVariants as kind
+use Rattle.rounds.specs.Lines.{kind_of, is_full, calls_by, IsFound, IsRight}
+use Rattle.rounds.specs.Playing.{one_done, all_taken, WriteFound, LineFound}
+use Rattle.workers.specs.Line.{PlayedLine, kind_found, merge}
+
+-- a change of no more than the eleven fields
+merged : (v w only : View) → only ≡ merge v only → w ≡ only → w ≡ merge v w
+merged v w only within e = e ∙ (within ∙ ap (merge v) (sym e))
+
+pub merged-trans : (u v w : View) → v ≡ merge u v → w ≡ merge v w → w ≡ merge u w
+merged-trans u v w a b = b ∙ ap (λ (x : View). merge x w) a
+
+found_right : (x : Sector) (g : Got) (old new : List ℕ) → Answers x g old new → IsFound x (kind_found g) new
+found_right None g old new a = ap kind_found a.0
+found_right (Some value) g old new a = (ap kind_found a.0, a.1)
+
+found_not_full : (g : Got) → is_full (kind_found g) ≡ false
+found_not_full got.Empty = refl
+found_not_full got.Data = refl
+
+was_not_full : (a : Was) → is_full (kind_of a) ≡ false
+was_not_full was.Empty = refl
+was_not_full was.Written = refl
+
+-- one try more that finds no block
+taken_more : (blocks tries : ℕ) → all_taken blocks (tries + 1) ≡ all_taken blocks tries ++ range_with_len 0 blocks
+taken_more blocks tries =
+    let next : suc tries ≡ tries + 1 = omega arith in
+    subst (λ k. all_taken blocks k ≡ all_taken blocks tries ++ range_with_len 0 blocks) next refl
+
+-- a look that is done is one line
+pub read_line : (t patience : ℕ) (v : View) (s tries : ℕ) (value old page : List ℕ) (g : Got) (k : Kind) (w : View) → Searched v tries w → Answers (held v.numbers.sectors w.seen s) g old page → k ≡ kind_found g
+    → PlayedLine t patience v op.Read s value k page (is_full k) w
+read_line t patience v s tries value old page g k w told answer is =
+    subst (λ (x : Kind × Bool). PlayedLine t patience v op.Read s value x.0 page x.1 w) (λ i. (sym is i, (sym (found_not_full g) ∙ ap is_full (sym is)) i)) line where
+      line : PlayedLine t patience v op.Read s value (kind_found g) page false w
+      line = record {
+        changed = merged v w _ refl told.changed;
+        history = w.seen;
+        later = told.later;
+        right = found_right (held v.numbers.sectors w.seen s) g old page answer;
+        last = ([], append-nil (w.seen ++ []) ∙ append-nil w.seen);
+        mine = ap (λ (x : View). x.mine) told.changed ∙ sym (append-nil v.mine);
+        more = [];
+        programs = ap (λ (x : View). x.programs) told.changed ∙ sym (append-nil v.programs);
+        programmed = refl;
+        kept = (let e = ap (λ (x : View). x.taken) told.changed in omega arith);
+        taken = (let e = ap (λ (x : View). x.taken) told.changed in omega arith);
+        found = [];
+        denied = ap (λ (x : View). x.denied) told.changed ∙ sym (append-nil v.denied);
+        tried = refl;
+      }
+
+-- and so is a trim
+pub trim_line : (t patience : ℕ) (v : View) (s : ℕ) (value page : List ℕ) (a : Was) (k : Kind) (w : View) → Called v (Trim t s) s a w → k ≡ kind_of a → PlayedLine t patience v op.Trim s value k page (is_full k) w
+trim_line t patience v s value page a k w told is =
+    subst (λ (x : Kind × Bool). PlayedLine t patience v op.Trim s value x.0 page x.1 w) (λ i. (sym is i, (sym (was_not_full a) ∙ ap is_full (sym is)) i)) line where
+      line : PlayedLine t patience v op.Trim s value (kind_of a) page false w
+      line = record {
+        changed = merged v w _ refl told.changed;
+        history = told.before;
+        later = told.later;
+        right = ap kind_of told.answered;
+        last = ([], append-nil (told.before ++ Trim t s ∷ []) ∙ sym told.now);
+        mine = ap (λ (x : View). x.mine) told.changed;
+        more = [];
+        programs = ap (λ (x : View). x.programs) told.changed ∙ sym (append-nil v.programs);
+        programmed = refl;
+        kept = (let e = ap (λ (x : View). x.taken) told.changed in omega arith);
+        taken = (let e = ap (λ (x : View). x.taken) told.changed in omega arith);
+        found = [];
+        denied = ap (λ (x : View). x.denied) told.changed ∙ sym (append-nil v.denied);
+        tried = refl;
+      }
+
+-- A write was tried so often, and turned away each time: all blocks were found taken as often, and nothing else has changed
+pub record Waited (tries : ℕ) (v u : View) : Type 0 where
+  pub changed : u ≡ record v { denied = u.denied }
+  pub denied : u.denied ≡ v.denied ++ all_taken v.numbers.blocks tries
+
+pub waited_none : (v : View) → Waited 0 v v
+waited_none v = record { changed = refl; denied = sym (append-nil v.denied) }
+
+pub waited_more : (tries : ℕ) (v u w : View) → Waited tries v u → Refused u w → Waited (tries + 1) v w
+waited_more tries v u w waited refused =
+    record {
+      changed = refused.changed ∙ ap (λ (x : View). record x { denied = w.denied }) waited.changed;
+      denied =
+          let n = v.numbers.blocks in
+          let row : range_with_len 0 u.numbers.blocks ≡ range_with_len 0 n = ap (λ (x : View). range_with_len 0 x.numbers.blocks) waited.changed in
+          refused.grown
+          ∙ (ap (λ l. u.denied ++ l) row
+          ∙ (ap (λ l. l ++ range_with_len 0 n) waited.denied ∙ (append_assoc v.denied (all_taken n tries) (range_with_len 0 n) ∙ ap (λ l. v.denied ++ l) (sym (taken_more n tries)))));
+    }
+
+-- An op that makes this kind of call, by a page that it programs, and may be turned away
+pub record IsWrite (o : Op) (call : ℕ → ℕ → List ℕ → Call) : Type 0 where
+  pub right : (x : Sector) (k : Kind) (page : List ℕ) → (k ≡ kind.Full) ⊎ (k ≡ kind_of (was_of x)) → IsRight o x k page
+  pub calls : (t s : ℕ) (value : List ℕ) → calls_by t o s value ≡ call t s value ∷ []
+  pub done : (full : Bool) → one_done o full ≡ (if full then 0 else 1)
+  pub found : (patience blocks : ℕ) (full : Bool) (l : List ℕ) → WriteFound patience blocks full l → LineFound patience blocks o full l
+
+pub a_write : IsWrite op.Write Write
+a_write = record { right = λ x k page r. r; calls = λ t s value. refl; done = λ full. refl; found = λ patience blocks full l found. found }
+
+pub a_new_write : IsWrite op.New WriteNew
+a_new_write = record { right = λ x k page r. r; calls = λ t s value. refl; done = λ full. refl; found = λ patience blocks full l found. found }
+
+-- turned away to the end
+pub full_line : (o : Op) (call : ℕ → ℕ → List ℕ → Call) → IsWrite o call → (t patience tries : ℕ) (v : View) (s : ℕ) (value page : List ℕ) (w : View) → tries ≡ patience → Waited tries v w → PlayedLine t patience v o s value kind.Full page true w
+full_line o call is t patience tries v s value page w all waited =
+    let none = is.done true in
+    let seen = ap (λ (x : View). x.seen) waited.changed in
+    let taken = ap (λ (x : View). x.taken) waited.changed in
+    record {
+      changed = merged v w _ refl waited.changed;
+      history = v.seen;
+      later = Begins-refl v.seen;
+      right = is.right (held v.numbers.sectors v.seen s) kind.Full page (inl refl);
+      last = ([], append-nil (v.seen ++ []) ∙ (append-nil v.seen ∙ sym seen));
+      mine = ap (λ (x : View). x.mine) waited.changed ∙ sym (append-nil v.mine);
+      more = [];
+      programs = ap (λ (x : View). x.programs) waited.changed ∙ sym (append-nil v.programs);
+      programmed = sym none;
+      kept = omega arith;
+      taken = omega arith;
+      found = all_taken v.numbers.blocks tries;
+      denied = waited.denied;
+      tried = is.found patience v.numbers.blocks true (all_taken v.numbers.blocks tries) (record { refused = tries; below = 0; tried = (all, refl); whole = sym (append-nil (all_taken v.numbers.blocks tries)) });
+    }
+
+-- what a write takes, and the blocks that it finds taken below that
+record Took (v w : View) : Type 0 where
+  pub kept : v.taken ≤ w.taken
+  pub taken : w.taken ≤ v.taken + 1
+  pub below : ℕ
+  pub within : below < v.numbers.blocks
+  pub denied : w.denied ≡ v.denied ++ range_with_len 0 below
+
+wrote_taken : (v w : View) (c : Call) (s : ℕ) (a : Was) (o : Option OpenBlock) → v.owns ≡ owned_list o → Programmed v c s a w → Took v w
+wrote_taken v w c s a None owns told =
+    let begun = told.begun owns in record { kept = omega (arith, begun.1); taken = omega (arith, begun.1); below = told.page.block; within = told.within.0; denied = begun.2 }
+wrote_taken v w c s a (Some o) owns told =
+    let continued = told.continued (owned_of o) owns in record {
+      kept = omega (arith, continued.1);
+      taken = omega (arith, continued.1);
+      below = 0;
+      within = (let low = told.within.0 in omega arith);
+      denied = continued.2 ∙ sym (append-nil v.denied);
+    }
+
+-- a write that was done, after so many that were turned away
+module _ (which : Op) (call : ℕ → ℕ → List ℕ → Call) (its : IsWrite which call) where
+  pub write_line : (t patience tries : ℕ) (v u w : View) (s : ℕ) (value page : List ℕ) (a : Was) (k : Kind) (o : Option OpenBlock) → u.owns ≡ owned_list o → tries < patience → Waited tries v u → Programmed u (call t s value) s a w → k ≡ kind_of a
+      → PlayedLine t patience v which s value k page (is_full k) w
+  write_line t patience tries v u w s value page a k o owns few waited told is =
+      subst (λ (x : Kind × Bool). PlayedLine t patience v which s value x.0 page x.1 w) (λ i. (sym is i, (sym (was_not_full a) ∙ ap is_full (sym is)) i)) line where
+        n : ℕ
+        n = v.numbers.blocks
+
+        takes : Took u w
+        takes = wrote_taken u w (call t s value) s a o owns told
+
+        below : ℕ
+        below = takes.below
+
+        within : below < n
+        within = let blocks = ap (λ (x : View). x.numbers.blocks) waited.changed in let low = takes.within in omega arith
+
+        right : kind_of a ≡ kind_of (was v.numbers.sectors told.before s)
+        right = ap kind_of told.answered ∙ ap (λ n. kind_of (was n told.before s)) (ap (λ (x : View). x.numbers.sectors) waited.changed)
+
+        calls : call t s value ∷ [] ≡ calls_by t which s value
+        calls = sym (its.calls t s value)
+
+        one : one_done which false ≡ 1
+        one = its.done false
+
+        line : PlayedLine t patience v which s value (kind_of a) page false w
+        line = record {
+          changed = merged-trans v u w (merged v u _ refl waited.changed) (merged u w _ refl told.changed);
+          history = told.before;
+          later = subst (λ h. Begins h told.before) (ap (λ (x : View). x.seen) waited.changed) told.later;
+          right = its.right (held v.numbers.sectors told.before s) (kind_of a) page (inr right);
+          last = ([], append-nil (told.before ++ calls_by t which s value) ∙ (ap (λ l. told.before ++ l) (sym calls) ∙ sym told.now));
+          mine = ap (λ (x : View). x.mine) told.changed ∙ (ap (λ (x : View). x.mine ++ call t s value ∷ []) waited.changed ∙ ap (λ l. v.mine ++ l) calls);
+          more = told.page ∷ [];
+          programs = told.programmed ∙ ap (λ (x : View). x.programs ++ told.page ∷ []) waited.changed;
+          programmed = sym one;
+          kept = (let e = ap (λ (x : View). x.taken) waited.changed in let t = takes.kept in omega arith);
+          taken = (let e = ap (λ (x : View). x.taken) waited.changed in let t = takes.taken in omega (arith, one));
+          found = all_taken n tries ++ range_with_len 0 below;
+          denied = takes.denied ∙ (ap (λ l. l ++ range_with_len 0 below) waited.denied ∙ append_assoc v.denied (all_taken n tries) (range_with_len 0 below));
+          tried = its.found patience n false (all_taken n tries ++ range_with_len 0 below) (record { refused = tries; below = below; tried = (few, within); whole = refl });
+        }

@@ -1,0 +1,124 @@
+-- How a run begins: each worker has its lines, and has played none.
+use Rattle.std.proofs.Common.{◌≡◌, ℕ, ◌<◌, All, Bool, true, false, List, [], map, length, get_or, refl, sym, ap, ◌∙◌, subst, arith, append-nil, zero-add}
+use Rattle.std.specs.Prelude.{Vec, ◌==◌, ◌&&◌, not, if◌then◌else◌}
+use Rattle.std.specs.Arc.{arc_value}
+use Rattle.std.specs.Global.{Global}
+use Rattle.std.specs.List.{range_with_len}
+use Rattle.std.specs.Prelude.{slice_get, Some}
+use Rattle.std.proofs.Common.{ne_eqb}
+use Rattle.std.proofs.lemmas.List.{get_or-map, length-map}
+use Rattle.std.proofs.lemmas.List.Elements.{All-filter, All-weaker, filter_passes}
+use Rattle.std.proofs.lemmas.List.FromFn.{get_or-map-range_with_len, length-map-range_with_len}
+use Rattle.std.proofs.lemmas.Option.{slice_get-get_or}
+use Rattle.std.proofs.lemmas.Simd.{map-map}
+use Rattle.geometry.specs.Geometry.{hosts_of, sectors_of}
+use Rattle.geometry.specs.declared.geometry.Geometry.{Geometry}
+use Rattle.flash_rule.specs.declared.facts.Name.TheVariants.{Pass as APass}
+use Rattle.flash_rule.specs.declared.facts.Role.TheVariants.{Player}
+use Rattle.flash_rule.specs.declared.view.View.{View}
+use Rattle.flash_table.specs.declared.pass.Pass.{Pass}
+use Rattle.flash_table.specs.Flash.{view_of, device, geometry_of, first_view}
+use Rattle.trace.specs.Trace.{workers_of}
+use Rattle.trace.specs.declared.commands.Command.{Command}
+use Rattle.trace.specs.declared.commands.Op.{Op}
+use Rattle.trace.specs.declared.commands.Op.TheVariants as op
+use Rattle.answers.specs.Playable.{IsPlayable}
+use Rattle.workers.specs.Playable.{IsLine, lines_at}
+use Rattle.volume.specs.declared.volume.Volume.{Volume}
+use Rattle.volume.specs.Volume.{flash_of}
+use Rattle.rounds.specs.Merging.{is_meet, is_line_of, lines_for}
+use Rattle.rounds.specs.Plans.{ends_of, items_of, places_for}
+use Rattle.workers.specs.declared.post.Post.{Post}
+use Rattle.workers.specs.Dealing.{AreDoable}
+use Rattle.workers.specs.Meetings.{AreSeated, IsAt, passes_of, views_of}
+use Rattle.workers.specs.Runs.{AreManned, HasBegun, IsDealt}
+use Rattle.workers.specs.Shares.{HasPlayedNone, rows_for, with_commands, work_of}
+use Rattle.workers.proofs.Looping.{some_post}
+use Rattle.workers.proofs.Walking.{lines_there, places_low}
+
+-- there is a host, so each worker of a command is one of the hosts
+pub workers_low : (geo : Geometry) (cs : List Command) → 0 < hosts_of geo → All (IsPlayable geo) cs → All (λ c. c.worker < hosts_of geo) cs
+workers_low geo cs some playable =
+    let hosts : workers_of geo ≡ hosts_of geo = ap (λ b. if b then 500 else hosts_of geo) (ne_eqb (hosts_of geo) 0 (λ none. omega arith)) in
+    All-weaker (IsPlayable geo) (λ c. c.worker < hosts_of geo) (λ c p. subst (λ n. c.worker < n) hosts p.worker) cs playable
+
+-- the lines at a worker's places are its lines
+pub lines_all : (t : ℕ) (cs : List Command) → lines_at cs (places_for t cs) ≡ lines_for t cs
+lines_all t cs = subst (λ l. lines_at l (places_for t cs) ≡ lines_for t cs) (append-nil cs) (lines_there t [] cs [])
+
+not_meet : (t : ℕ) (c : Command) → is_line_of t c ≡ true → ¬ (c.op ≡ op.Meet)
+not_meet t c mine meet =
+    let e : false ≡ true = ap (λ (o : Op). not (is_meet o) && (c.worker == t)) (sym meet) ∙ mine in
+    absurd (cc)
+
+-- a worker's lines can be done
+pub places_doable : (geo : Geometry) (t : ℕ) (cs : List Command) → All (IsPlayable geo) cs → AreDoable geo cs (places_for t cs)
+places_doable geo t cs playable = record {
+  there = places_low 0 t cs (length cs) (sym (zero-add (length cs)));
+  doable =
+      let P = IsPlayable geo in
+      let lines : All (IsLine geo) (lines_for t cs) = λ k d low.
+      let c = get_or (lines_for t cs) k d in
+      let can = All-filter (is_line_of t) P cs playable k d low in
+      record { sector = can.sector; page = can.page; new_page = can.new_page; alone = not_meet t c (filter_passes (is_line_of t) cs k d low) } in
+      subst (All (IsLine geo)) (sym (lines_all t cs)) lines;
+}
+
+-- and so can those of each row
+pub rows_doable : (geo : Geometry) (hosts : ℕ) (cs : List Command) (rows : List (Vec ℕ Global)) → All (IsPlayable geo) cs → map items_of rows ≡ rows_for hosts cs → All (λ row. AreDoable geo cs (items_of row)) rows
+rows_doable geo hosts cs rows playable are k d low =
+    let size = ap (length {A = List ℕ}) are in
+    let within : k < hosts = omega (arith, size, length-map rows items_of, length-map-range_with_len (λ t. places_for t cs) 0 hosts) in
+    let row : items_of (get_or rows k d) ≡ places_for k cs =
+    sym (get_or-map items_of rows k d (items_of d) low) ∙ (ap (λ l. get_or l k (items_of d)) are ∙ get_or-map-range_with_len (λ t. places_for t cs) 0 hosts k k (items_of d) within (zero-add k)) in
+    subst (AreDoable geo cs) (sym row) (places_doable geo k cs playable)
+
+pub row_count : (hosts : ℕ) (cs : List Command) (rows : List (Vec ℕ Global)) → map items_of rows ≡ rows_for hosts cs → length rows ≡ hosts
+row_count hosts cs rows are =
+    let size = ap (length {A = List ℕ}) are in omega (arith, size, length-map rows items_of, length-map-range_with_len (λ t. places_for t cs) 0 hosts)
+
+-- a new device with posts that have their workers' lines
+module _ (volume : Volume) (geo : Geometry) (cs : List Command) (rows : List (Vec ℕ Global)) (passes : List Pass) (posts : List Post) (geometry : geometry_of (flash_of volume) ≡ geo) (some : 0 < hosts_of geo)
+    (playable : All (IsPlayable geo) cs) (rows_are : map items_of rows ≡ rows_for (hosts_of geo) cs) (count : length passes ≡ hosts_of geo)
+    (first : (t : ℕ) (p : Pass) → slice_get passes t ≡ Some p → view_of p ≡ first_view (device (flash_of volume)) t) (passes_are : passes_of posts ≡ passes)
+    (work : map work_of posts ≡ map (with_commands cs) rows) (at : All (IsAt volume) posts) (none : All HasPlayedNone posts) where
+  long : length posts ≡ hosts_of geo
+  long = (let size = ap (length {A = Pass}) passes_are in omega (arith, size, length-map posts (λ (p : Post). p.pass), count))
+
+  view_here : (t : ℕ) (p : Pass) → t < length (passes_of posts) → view_of (get_or (passes_of posts) t p) ≡ first_view (device (flash_of volume)) t
+  view_here t p low =
+      first t (get_or (passes_of posts) t p) (subst (λ l. slice_get l t ≡ Some (get_or (passes_of posts) t p)) passes_are (slice_get-get_or (passes_of posts) t p low))
+
+  views_here : (t : ℕ) → t < length posts → views_of volume (passes_of posts) t ≡ first_view (device (flash_of volume)) t
+  views_here t low =
+      let p = (some_post posts (omega (arith, long))).pass in
+      let there : t < length (passes_of posts) = omega (arith, length-map posts (λ (p : Post). p.pass)) in
+      get_or-map view_of (passes_of posts) t p (first_view (device (flash_of volume)) t) there ∙ view_here t p there
+
+  work_here : (t : ℕ) (p : Post) → t < length posts → work_of (get_or posts t p) ≡ (cs, places_for t cs)
+  work_here t p low =
+      let each : List ℕ → List Command × List ℕ = λ l. (cs, l) in
+      let row : map (with_commands cs) rows ≡ map (λ k. each (places_for k cs)) (range_with_len 0 (hosts_of geo)) =
+      sym (map-map each items_of rows) ∙ (ap (map each) rows_are ∙ map-map each (λ k. places_for k cs) (range_with_len 0 (hosts_of geo))) in
+      sym (get_or-map work_of posts t p (cs, []) low)
+      ∙ (ap (λ l. get_or l t (cs, [])) (work ∙ row) ∙ get_or-map-range_with_len (λ k. each (places_for k cs)) 0 (hosts_of geo) t t (cs, []) (omega (arith, long)) (zero-add t))
+
+  pub begun : HasBegun volume cs (ends_of cs) posts
+  begun = record {
+    rounds = refl;
+    workers = subst (λ n. All (λ c. c.worker < n) cs) (sym long) (workers_low geo cs some playable);
+    sectors = subst (λ (g : Geometry). All (λ c. c.sector < sectors_of g) cs) (sym geometry) (All-weaker (IsPlayable geo) (λ c. c.sector < sectors_of geo) (λ c p. p.sector) cs playable);
+    dealt = λ t p low. record { commands = ap (λ w. w.0) (work_here t p low); places = ap (λ w. w.1) (work_here t p low) };
+    none = none;
+    new = λ t low.
+        let is = views_here t low in
+        (ap (λ (v : View). v.seen) is, ap (λ (v : View). v.mine) is, ap (λ (v : View). v.programs) is);
+  }
+
+  pub manned : AreManned volume posts
+  manned = record {
+    some = omega (arith, long);
+    all = long ∙ ap hosts_of (sym geometry);
+    at = at;
+    seated = λ t p low. ap (λ (v : View). v.role) (view_here t p low);
+  }

@@ -1,0 +1,45 @@
+use Rattle.std.proofs.Common.{◌≡◌, ℕ, List, length, sym, ap, ◌∙◌, subst, arith}
+use Rattle.std.specs.Arc.{arc_value}
+use Rattle.std.proofs.lemmas.List.{length-map}
+use Rattle.geometry.specs.Geometry.{hosts_of}
+use Rattle.rounds.specs.declared.answer_list.Answers.{Answers}
+use Rattle.trace.specs.declared.commands.Command.{Command}
+use Rattle.volume.specs.declared.volume.Volume.{Volume}
+use Rattle.volume.specs.Volume.{flash_of}
+use Rattle.flash_table.specs.Flash.{geometry_of}
+use Rattle.rounds.specs.Plans.{ends_of}
+use Rattle.workers.specs.Posts.{answers_kept}
+use Rattle.workers.specs.Runs.{HasBegun}
+use Rattle.workers.proofs.Ended.{all_paged, all_played}
+use Rattle.workers.proofs.Swept.{swept_long}
+use Rattle.workers.proofs.commands.play_commands.Goals as goal
+
+pub fold_sweepers-requires-clause-room : goal.fold_sweepers-requires-clause-room
+fold_sweepers-requires-clause-room g c =
+    let long = swept_long c.in_ok-volume.team.sweepers.items c.in_ok-team.team.sweepers.items c.in_ok-team.ensures.swept in
+    let dealt = c.in_ok-volume.ensures.sweepers in
+    let count = c.brooms.ensures.value in
+    let room = c.in_ok-brooms.ensures.capacity in omega arith
+
+pub returns-clause-rows : goal.returns-clause-rows
+returns-clause-rows g c =
+    let geometry : geometry_of (flash_of c.deref-2.result.now) ≡ c.args.geometry.now = ap (λ (v : Volume). geometry_of (flash_of v)) c.deref-2.ensures ∙ c.in_ok-volume.ensures.geometry in
+    let all = c.in_ok-team.ensures.manned.all ∙ ap hosts_of geometry in
+    let are = ap (length {A = Answers}) c.hand_out.ensures in
+    omega (arith, length-map c.in_ok-team.team.posts.items answers_kept)
+
+pub returns-clause-played : goal.returns-clause-played
+returns-clause-played g c =
+    let cs = arc_value c.args.commands.now in
+    let volume = c.deref-2.result.now in
+    let ends : ends_of cs ≡ c.deref-3.result.now =
+    ap ends_of (sym c.deref.ensures) ∙ (sym c.in_ok-places.ensures.ends ∙ sym c.deref-3.ensures.value) in
+    let begun : HasBegun volume cs c.deref-3.result.now c.in_ok-volume.team.posts.items =
+    subst (λ (x : Volume × List ℕ). HasBegun x.0 cs x.1 c.in_ok-volume.team.posts.items) (λ i. (sym c.deref-2.ensures i, ends i)) c.in_ok-volume.ensures.begun in
+    all_played volume c.args.geometry.now c.args.patience cs c.in_ok-volume.team.posts.items c.in_ok-team.team.posts.items c.hand_out.new.rows.items
+    (ap (λ (v : Volume). geometry_of (flash_of v)) c.deref-2.ensures ∙ c.in_ok-volume.ensures.geometry) c.in_ok-team.ensures.manned (c.in_ok-team.ensures.run cs begun) c.hand_out.ensures
+
+pub returns-clause-pages : goal.returns-clause-pages
+returns-clause-pages g c =
+    all_paged c.deref-2.result.now c.args.geometry.now c.in_ok-team.team.posts.items c.hand_out.new.rows.items
+    (ap (λ (v : Volume). geometry_of (flash_of v)) c.deref-2.ensures ∙ c.in_ok-volume.ensures.geometry) c.in_ok-team.ensures.manned c.hand_out.ensures

@@ -1,0 +1,17 @@
+use Rattle.std.proofs.Common.{sym, subst, arith}
+use Rattle.std.proofs.lemmas.Grind.{common_steps}
+use Rattle.volume.specs.declared.volume.Volume.{Volume}
+use Rattle.workers.specs.Dealing.{AreReady}
+use Rattle.workers.proofs.opening.open_shared.Goals as goal
+
+pub give_up-requires : goal.give_up-requires
+give_up-requires c =
+    let told = c.in_ok-volume.ensures in
+    subst (λ (v : Volume). AreReady v c.in_ok-volume.passes.items c.in_ok-volume.brooms.items) (sym c.in-Err.ensures.value_returned)
+    (record { passes_ready = told.ready; brooms_ready = told.brooms_ready })
+
+pub invariant_of-result : goal.invariant_of-result
+invariant_of-result c = grind (arith, common_steps)
+
+pub returns-in-Ok : goal.returns-in-Ok
+returns-in-Ok c = grind (arith, common_steps)

@@ -1,0 +1,57 @@
+-- What a broom does beside the workers of a round: one call after another.
+use Rattle.std.specs.Prelude.{◌≡◌, ℕ, Bool, List, [], ◌∷◌}
+use Rattle.std.specs.Arc.{arc_value}
+use Rattle.erase_queue.specs.Queue.{limit_of}
+use Rattle.broom.specs.declared.broom.Broom.{Broom}
+use Rattle.broom.specs.Handing.{DrainNextOneTold, DrainOneTold, EraseOneTold, HandsNothing}
+use Rattle.broom.specs.Ready.{view_of_broom}
+use Rattle.broom.specs.Restocking.{RestockTold}
+use Rattle.broom.specs.Told.{KeepsSurvey}
+use Rattle.volume.specs.Volume.{queue_of}
+use Rattle.workers.specs.declared.broom_answer.BroomAnswer.{BroomAnswer}
+use Rattle.workers.specs.declared.broom_answer.BroomAnswer.TheVariants as by
+use Rattle.workers.specs.declared.sweeper.Sweeper.{Sweeper}
+use Rattle.workers.specs.Growing.{HasGrown}
+use Rattle.workers.specs.Tallies.{IsCounted, total_of}
+
+-- A restock had this result. It doesn't use the queue, and the broom keeps its last survey
+pub record HasRestocked (before : Broom) (given : Bool) (after : Broom) : Type 0 where
+  pub told : RestockTold before given after
+  pub queue : HandsNothing before after
+  pub survey : KeepsSurvey before after
+
+-- what each call of a broom means, by its result, if the queue has room for this many
+abbrev pub CallTold : ℕ → Broom → BroomAnswer → Broom → Type 0
+CallTold limit before (by.Drain given) after = DrainOneTold limit before given after
+CallTold limit before (by.DrainNext given) after = DrainNextOneTold limit before given after
+CallTold limit before (by.Erase given) after = EraseOneTold limit before given after
+CallTold limit before (by.Restock given) after = HasRestocked before given after
+
+-- the broom made calls with these results, one after another, and did nothing else
+abbrev pub HasCollected : ℕ → Broom → List BroomAnswer → Broom → Type 0
+HasCollected limit before [] after = after ≡ before
+HasCollected limit before (answer ∷ answers) after = (next : Broom) × CallTold limit before answer next × HasCollected limit next answers after
+
+-- how many drained blocks the queue of the broom's device has room for
+abbrev pub limit_at : Sweeper → ℕ
+limit_at s = limit_of (queue_of (arc_value s.volume))
+
+-- The broom is the same one, at the same device, with the same limit of drains: it made calls with these results, and did nothing else.
+-- They were counted, and their count was added to what it knows to have done
+pub record HasSweptBy (before : Sweeper) (answers : List BroomAnswer) (after : Sweeper) : Type 0 where
+  pub volume : arc_value after.volume ≡ arc_value before.volume
+  pub drains : after.drains ≡ before.drains
+  pub collected : HasCollected (limit_at before) before.broom answers after.broom
+  pub counted : IsCounted before.tally answers after.tally
+  pub grown : HasGrown (view_of_broom before.broom) (total_of answers) (view_of_broom after.broom)
+
+-- the broom made some calls, and did nothing else
+abbrev pub HasSwept : Sweeper → Sweeper → Type 0
+HasSwept before after = (answers : List BroomAnswer) × HasSweptBy before answers after
+
+-- each broom did so, in order
+abbrev pub HaveSwept : List Sweeper → List Sweeper → Type 0
+HaveSwept [] [] = Unit {0}
+HaveSwept [] (s ∷ after) = ⊥
+HaveSwept (s ∷ before) [] = ⊥
+HaveSwept (s ∷ before) (t ∷ after) = HasSwept s t × HaveSwept before after

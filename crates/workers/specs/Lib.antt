@@ -1,0 +1,19 @@
+-- What public contracts rest on.
+pub mod Able
+pub mod Posts
+pub mod Meetings
+pub mod Runs
+pub mod Commands
+pub mod Tallies
+pub mod Growing
+pub mod Collecting
+pub mod Folding
+pub mod Playable
+-- Internal: the threads of a round.
+pub mod Turns
+pub mod BroomThreads
+-- Internal: the opening of a run.
+pub mod Dealing
+pub mod Shares
+-- Internal: one line.
+pub mod Line

@@ -1,0 +1,49 @@
+-- What can be played, and where its answers go.
+use Rattle.std.specs.Prelude.{◌≡◌, ◌+◌, ◌<◌, ◌++◌, ℕ, List, [], length, drop, map, slice_index_or}
+use Rattle.geometry.specs.Geometry.{sectors_of, page_bytes_of}
+use Rattle.geometry.specs.declared.geometry.Geometry.{Geometry}
+use Rattle.flash_table.specs.declared.pass.Pass.{Pass}
+use Rattle.flash_table.specs.Flash.{view_of}
+use Rattle.flash_table.specs.Steps.{HasNumber}
+use Rattle.trace.specs.declared.commands.Command.{Command}
+use Rattle.trace.specs.declared.commands.Op.TheVariants as op
+use Rattle.rounds.specs.Lines.{Said}
+use Rattle.rounds.specs.Playing.{Played}
+use Rattle.rounds.specs.Answers.{page_size_of, said_in, HasSpaceFor}
+use Rattle.rounds.specs.declared.answer.Answer.{Answer}
+use Rattle.rounds.specs.declared.answer_list.Answers.{Answers}
+
+-- A line that a worker can do on a device of this geometry: its sector exists, a write of either kind has a page, and it is no meeting
+pub record IsLine (geo : Geometry) (line : Command) : Type 0 where
+  pub sector : line.sector < sectors_of geo
+  pub page : line.op ≡ op.Write → length line.page ≡ page_bytes_of geo
+  pub new_page : line.op ≡ op.New → length line.page ≡ page_bytes_of geo
+  pub alone : ¬ (line.op ≡ op.Meet)
+
+-- there is room for a page
+abbrev pub HasPage : Geometry → Answer → Type 0
+HasPage geo answer = length answer.page.items ≡ page_bytes_of geo
+
+-- a line that does not exist
+abbrev pub no_line : Command
+no_line = record { worker = 0; op = op.Meet; sector = 0; page = [] }
+
+-- the lines at these indexes
+abbrev pub lines_at : List Command → List ℕ → List Command
+lines_at lines places = map (λ p. slice_index_or lines p no_line) places
+
+-- the pass has played these lines, with this many tries of each write, and these are their answers
+abbrev pub HasPlayedLines : ℕ → Pass → List Command → List Said → Pass → Type 0
+HasPlayedLines patience old lines answers new = (t : ℕ) → HasNumber t old → Played t patience (view_of old) lines answers (view_of new)
+
+-- the answers that were added behind others
+abbrev pub added : Answers → Answers → List Said
+added old new = drop (length (said_in old)) (said_in new)
+
+-- Lines were answered: this many answers were added behind the others, of pages of the same size, and there is still room for the answers
+-- of all lines behind those for which there was room
+pub record HasAnswered (lines : List Command) (old new : Answers) : Type 0 where
+  pub kept : said_in new ≡ said_in old ++ added old new
+  pub count : length (said_in new) ≡ length (said_in old) + length lines
+  pub page : page_size_of new ≡ page_size_of old
+  pub space : (rest : List Command) → HasSpaceFor old (lines ++ rest) → HasSpaceFor new rest

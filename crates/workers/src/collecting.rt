@@ -1,0 +1,150 @@
+//! What a broom does beside the workers of a round.
+ghost use Rattle.std.specs.Prelude.{[], ◌∷◌};
+ghost use Rattle.workers.specs.declared.broom_answer.BroomAnswer.TheVariants as by;
+ghost use Rattle.workers.specs.Collecting.{HasSwept, HasSweptBy};
+
+use crate::broom_answer::BroomAnswer;
+use crate::sweeper::Sweeper;
+use broom::{Drain, Erase};
+use flash_table::Gate;
+use std::sync::Wait;
+use std::sync::atomic::{AtomicBool, Ordering};
+use std::thread;
+use std::time::{Clock, Duration};
+
+// The first sleep of a broom that gains nothing, and the longest one on a small device, in microseconds. On a larger one the longest sleep
+// grows with the sectors, so that the surveys between the sleeps take no more of a processor.
+const FIRST_SLEEP: u64 = 10;
+
+const LONGEST_SLEEP: u64 = 1_000;
+
+const SECTORS_A_MICROSECOND: u64 = 30;
+
+fn has_drained(drain: Drain) -> bool {
+    match drain {
+        Drain::Drained { .. } => true,
+        Drain::NothingToGain | Drain::NoSpare | Drain::Lost | Drain::QueueFull => false,
+    }
+}
+
+// Whether no other drain by the same survey can follow.
+fn is_last(drain: Drain) -> bool {
+    match drain {
+        Drain::NothingToGain | Drain::NoSpare => true,
+        Drain::Drained { .. } | Drain::Lost | Drain::QueueFull => false,
+    }
+}
+
+fn has_erased(erase: Erase) -> bool {
+    match erase {
+        Erase::Erased { .. } | Erase::Retired { .. } => true,
+        Erase::Pinned | Erase::Stale | Erase::QueueEmpty => false,
+    }
+}
+
+impl Sweeper {
+    fn drain<G: Gate>(&mut self, rt: &impl Wait, gate: &mut G) -> Drain
+        ensures { HasSweptBy self.old (by.Drain result ∷ []) self.new }
+    {
+        let drain = self.volume.drain_one(rt, &mut self.broom, gate);
+        self.tally = self.tally.with_answer(BroomAnswer::Drain(drain));
+        drain
+    }
+
+    fn drain_next<G: Gate>(&mut self, rt: &impl Wait, gate: &mut G) -> Drain
+        ensures { HasSweptBy self.old (by.DrainNext result ∷ []) self.new }
+    {
+        let drain = self.volume.drain_next_one(rt, &mut self.broom, gate);
+        self.tally = self.tally.with_answer(BroomAnswer::DrainNext(drain));
+        drain
+    }
+
+    fn erase<G: Gate>(&mut self, rt: &impl Wait, gate: &mut G) -> Erase
+        ensures { HasSweptBy self.old (by.Erase result ∷ []) self.new }
+    {
+        let erase = self.volume.erase_one(rt, &mut self.broom, gate);
+        self.tally = self.tally.with_answer(BroomAnswer::Erase(erase));
+        erase
+    }
+
+    fn restock(&mut self) -> bool
+        ensures { HasSweptBy self.old (by.Restock result ∷ []) self.new }
+    {
+        let has_spare = self.volume.restock(&mut self.broom);
+        self.tally = self.tally.with_answer(BroomAnswer::Restock(has_spare));
+        has_spare
+    }
+
+    // What follows a drain: an erase, and a restock where neither left a spare. The answer is whether anything was gained.
+    fn follow<G: Gate>(&mut self, drain: Drain, rt: &impl Wait, gate: &mut G) -> bool
+        ensures { HasSwept self.old self.new }
+    {
+        let erase = self.erase(rt, gate);
+        let gained = has_drained(drain) || has_erased(erase);
+        if drain == Drain::NoSpare {
+            return self.restock() || gained;
+        }
+        gained
+    }
+
+    // A drain by a new survey, and drains by that one as long as it gives some, each with an erase. The answer is whether anything was
+    // gained.
+    fn turn<G: Gate>(&mut self, rt: &impl Wait, stop: &AtomicBool, gate: &mut G) -> bool
+        ensures { HasSwept self.old self.new }
+    {
+        let mut drain = self.drain(rt, gate);
+        let mut gained = self.follow(drain, rt, gate);
+        for _ in 1..self.drains {
+            if is_last(drain) || stop.load(Ordering::SeqCst) {
+                break;
+            }
+            drain = self.drain_next(rt, gate);
+            gained = self.follow(drain, rt, gate) || gained;
+        }
+        gained
+    }
+
+    fn longest_sleep(&self) -> u64 {
+        let sectors = u64::from(self.volume.geometry().sectors());
+        LONGEST_SLEEP.max(sectors / SECTORS_A_MICROSECOND)
+    }
+}
+
+// A rest: a yield, or a sleep of so many microseconds. The answer is how long the next one is, at most this long.
+fn rest(clock: &impl Clock, micros: u64, longest: u64) -> u64 {
+    if micros == 0 {
+        thread::yield_now();
+        return FIRST_SLEEP;
+    }
+    thread::sleep(clock, Duration::from_micros(micros));
+    micros.saturating_mul(2).min(longest)
+}
+
+// Takes turns until the flag is set, and rests where a turn has gained nothing.
+#[tactic(auto, using(crate::proofs::Swept::swept_none))]
+pub(crate) fn sweep<R: Wait + Clock, G: Gate>(
+    rt: &R,
+    sweeper: Sweeper,
+    stop: &AtomicBool,
+    gate: &mut G,
+) -> Sweeper
+    ensures { HasSwept sweeper result }
+{
+    let mut sweeper = sweeper;
+    let longest = sweeper.longest_sleep();
+    let mut micros = 0;
+    for _ in rt.forever() {
+        if stop.load(Ordering::SeqCst) {
+            return sweeper;
+        }
+        if sweeper.turn(rt, stop, gate) {
+            micros = 0;
+            continue;
+        }
+        if stop.load(Ordering::SeqCst) {
+            return sweeper;
+        }
+        micros = rest(rt, micros, longest);
+    }
+    unreachable!()
+}

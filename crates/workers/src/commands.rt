@@ -1,0 +1,58 @@
+//! A whole run over the commands of a trace.
+ghost use Rattle.std.specs.Prelude.{◌≡◌, ◌+◌, ◌<◌, All, IfOk, length};
+ghost use Rattle.std.specs.Arc.{arc_value};
+ghost use Rattle.geometry.specs.Geometry.{brooms_of, hosts_of, page_bytes_of};
+ghost use Rattle.answers.specs.Playable.{IsPlayable};
+ghost use Rattle.rounds.specs.Answers.{page_size_of};
+ghost use Rattle.rounds.specs.Rows.{answers_by};
+ghost use Rattle.workers.specs.Commands.{ArePlayed};
+
+use crate::dealing::deal;
+use crate::leaving::{fold_sweepers, hand_out};
+use crate::runs::play_rounds;
+use crate::starts::NoShift;
+use crate::team::Team;
+use flash_table::Gate;
+use geometry::Geometry;
+use rounds::Answers;
+use rounds::Plan;
+use std::alloc::Global;
+use std::sync::{Arc, Wait};
+use std::thread::Threads;
+use std::time::Clock;
+use trace::Commands;
+
+/// Plays the commands of a trace on a new device, with a thread for each worker that has a line in a round, and with brooms at the same time. There
+/// is a gate for each host, and then one for each broom. A broom drains at most `drains` blocks by one survey. Each row has the answers of one
+/// worker, in the order of the workers. After a fault no thread runs, and everything is freed.
+pub fn play_commands<R: Threads + Wait + Clock + Sync, G: Gate + Send>(
+    rt: &R,
+    alloc: Global,
+    geometry: &Geometry,
+    commands: &Arc<Commands, Global>,
+    patience: u32,
+    drains: u32,
+    gates: &mut [G],
+) -> Result<Vec<Answers>, NoShift>
+    requires hosts { 0 < hosts_of geometry.now }
+    requires playable { All (IsPlayable geometry.now) (arc_value commands.now) }
+    requires gates { length gates.old ≡ hosts_of geometry.now + brooms_of geometry.now }
+    ensures rows { IfOk result (λ rows. length rows.items ≡ hosts_of geometry.now) }
+    ensures pages { IfOk result (λ rows. All (λ row. page_size_of row ≡ page_bytes_of geometry.now) rows.items) }
+    ensures played { IfOk result (λ rows. ArePlayed geometry.now (arc_value commands.now) (answers_by rows.items)) }
+{
+    let Plan { rows: places, ends } = Plan::new(alloc, commands, geometry.hosts())?;
+    let mut rows = Vec::with_capacity(alloc, geometry.hosts() as usize)?;
+    let mut brooms = Vec::with_capacity(alloc, geometry.brooms() as usize)?;
+    let (volume, team) = deal(alloc, geometry, commands, places, drains)?;
+    let team = play_rounds(rt, &volume, team, &ends, patience, gates)?;
+    let Team {
+        posts,
+        sweepers,
+        turns: _,
+        sweeping: _,
+    } = team;
+    fold_sweepers(rt, sweepers, &mut brooms);
+    hand_out(posts, &mut rows);
+    Ok(rows)
+}

@@ -1,0 +1,172 @@
+ghost use Rattle.std.specs.Prelude.{◌≡◌, ◌<◌, ℕ, All, length, map};
+ghost use Rattle.geometry.specs.Geometry.{sectors_of, page_bytes_of};
+ghost use Rattle.flash_table.specs.Flash.{geometry_of};
+ghost use Rattle.host.specs.Ready.{IsReady};
+ghost use Rattle.trace.specs.declared.commands.Op.TheVariants as op;
+ghost use Rattle.volume.specs.Volume.{flash_of};
+ghost use Rattle.rounds.specs.Lines.{said};
+ghost use Rattle.rounds.specs.Answers.{page_size_of, HasSpaceFor};
+ghost use Rattle.workers.specs.Playable.{IsLine, HasPage, HasAnswered, HasPlayedLines, added, lines_at};
+ghost use Rattle.workers.specs.Line.{kind_found, HasPlayedLine};
+
+use flash_table::{Gate, Pass, Point};
+use geometry::Got;
+use host::NewFault;
+use rounds::{Answer, Answers, Kind};
+use std::thread;
+use trace::{Command, Commands, Op};
+use volume::Volume;
+
+// What a read found, as an answer.
+fn found(got: Got) -> Kind
+    ensures { result ≡ kind_found got }
+{
+    match got {
+        Got::Empty => Kind::Empty,
+        Got::Data => Kind::Page,
+    }
+}
+
+// How many tries of a write that are turned away stand between two yields.
+const TRIES_A_YIELD: u32 = 16;
+
+// A write was turned away, after so many tries that were. Now and then the processor is given to another thread, as to a broom.
+fn rest_after(turned_away: u32) {
+    if turned_away % TRIES_A_YIELD == 0 {
+        thread::yield_now();
+    }
+}
+
+// Writes a page to a sector, in so many tries.
+fn write_patiently<G: Gate>(
+    volume: &Volume,
+    pass: &mut Pass,
+    sector: u32,
+    bytes: &[u8],
+    patience: u32,
+    gate: &mut G,
+) -> Kind
+    requires pass { IsReady (flash_of volume.now) pass.old }
+    requires sector { sector < sectors_of (geometry_of (flash_of volume.now)) }
+    requires page { length bytes.now ≡ page_bytes_of (geometry_of (flash_of volume.now)) }
+    ensures told { HasPlayedLine patience pass.old op.Write sector bytes.now result bytes.now pass.new }
+    ensures pass { IsReady (flash_of volume.now) pass.new }
+{
+    for tried in 0..patience {
+        if let Ok(was) = volume.write_gated(pass, sector, bytes, gate) {
+            return Kind::of_was(was);
+        }
+        rest_after(tried);
+    }
+    Kind::Full
+}
+
+// Writes a page to a sector if it is empty, in so many tries.
+fn write_new_patiently<G: Gate>(
+    volume: &Volume,
+    pass: &mut Pass,
+    sector: u32,
+    bytes: &[u8],
+    patience: u32,
+    gate: &mut G,
+) -> Kind
+    requires pass { IsReady (flash_of volume.now) pass.old }
+    requires sector { sector < sectors_of (geometry_of (flash_of volume.now)) }
+    requires page { length bytes.now ≡ page_bytes_of (geometry_of (flash_of volume.now)) }
+    ensures told { HasPlayedLine patience pass.old op.New sector bytes.now result bytes.now pass.new }
+    ensures pass { IsReady (flash_of volume.now) pass.new }
+{
+    for refused in 0..patience {
+        match volume.write_new_gated(pass, sector, bytes, gate) {
+            Ok(()) => return Kind::Empty,
+            Err(NewFault::Written) => return Kind::Written,
+            Err(NewFault::NoBlock) => {}
+        }
+        rest_after(refused);
+    }
+    Kind::Full
+}
+
+// Does a line, with a buffer of a page: a read leaves there what it found, and a write's bytes are made there.
+fn play_line<G: Gate>(
+    volume: &Volume,
+    pass: &mut Pass,
+    line: &Command<'_>,
+    patience: u32,
+    gate: &mut G,
+    page: &mut [u8],
+) -> Kind
+    requires pass { IsReady (flash_of volume.now) pass.old }
+    requires line { IsLine (geometry_of (flash_of volume.now)) line.now }
+    requires page { length page.old ≡ page_bytes_of (geometry_of (flash_of volume.now)) }
+    ensures told { HasPlayedLine patience pass.old line.now.op line.now.sector line.now.page result page.new pass.new }
+    ensures pass { IsReady (flash_of volume.now) pass.new }
+{
+    match line.op {
+        Op::Read => found(volume.read_gated(pass, line.sector, page, gate).got),
+        Op::Write => {
+            line.page.copy_into(page);
+            write_patiently(volume, pass, line.sector, page, patience, gate)
+        }
+        Op::New => {
+            line.page.copy_into(page);
+            write_new_patiently(volume, pass, line.sector, page, patience, gate)
+        }
+        Op::Trim => Kind::of_was(volume.trim(pass, line.sector)),
+        Op::Meet => unreachable!(),
+    }
+}
+
+/// Plays lines one after another with one pass, and stores an answer for each. A write that finds no block is tried again, up to `patience` calls
+/// in all, and is then answered `Full`.
+pub fn play<G: Gate>(
+    volume: &Volume,
+    pass: &mut Pass,
+    lines: &[Command<'_>],
+    patience: u32,
+    gate: &mut G,
+    answers: &mut [Answer],
+)
+    requires pass { IsReady (flash_of volume.now) pass.old }
+    requires lines { All (IsLine (geometry_of (flash_of volume.now))) lines.now }
+    requires count { length answers.old ≡ length lines.now }
+    requires pages { All (HasPage (geometry_of (flash_of volume.now))) answers.old }
+    ensures told { HasPlayedLines patience pass.old lines.now (map said answers.new) pass.new }
+    ensures pages { All (HasPage (geometry_of (flash_of volume.now))) answers.new }
+    ensures pass { IsReady (flash_of volume.now) pass.new }
+{
+    for i in 0..lines.len() {
+        let answer = &mut answers[i];
+        answer.kind = play_line(volume, pass, &lines[i], patience, gate, &mut answer.page);
+        gate.at(Point::Answered);
+    }
+}
+
+/// Plays the lines at these indices of a trace as `play` does, with a buffer of one page, and adds their answers to the list.
+pub fn play_at<G: Gate>(
+    volume: &Volume,
+    pass: &mut Pass,
+    commands: &Commands,
+    places: &[usize],
+    patience: u32,
+    gate: &mut G,
+    buffer: &mut [u8],
+    answers: &mut Answers,
+)
+    requires pass { IsReady (flash_of volume.now) pass.old }
+    requires there { All (λ p. p < length commands.now) places.now }
+    requires lines { All (IsLine (geometry_of (flash_of volume.now))) (lines_at commands.now places.now) }
+    requires buffer { length buffer.old ≡ page_bytes_of (geometry_of (flash_of volume.now)) }
+    requires page { page_size_of answers.old ≡ page_bytes_of (geometry_of (flash_of volume.now)) }
+    requires space { HasSpaceFor answers.old (lines_at commands.now places.now) }
+    ensures told { HasPlayedLines patience pass.old (lines_at commands.now places.now) (added answers.old answers.new) pass.new }
+    ensures answered { HasAnswered (lines_at commands.now places.now) answers.old answers.new }
+    ensures pass { IsReady (flash_of volume.now) pass.new }
+{
+    for i in 0..places.len() {
+        let line = commands.command(places[i]);
+        let kind = play_line(volume, pass, &line, patience, gate, buffer);
+        answers.push(kind, buffer);
+        gate.at(Point::Answered);
+    }
+}
