@@ -9,7 +9,7 @@ use Rattle.trace.specs.declared.commands.Command.{Command}
 use Rattle.rounds.specs.Lines.{Said}
 use Rattle.rounds.specs.Orders.{made, InOrder, LeaveSame}
 use Rattle.rounds.specs.Rounds.{AreInRange, PlayedRound}
-use Rattle.rounds.specs.Meetings.{AreTied, HavePlayed, WereSwept}
+use Rattle.rounds.specs.Meetings.{AreTied, HavePlayed, HaveMet}
 use Rattle.rounds.specs.Told.{worker_of, sector_of, calls_in, is_right, AreAnswered}
 use Rattle.rounds.specs.Merging.{is_meet, is_line_of, lines_for, line_count, merge, rows_after, rounds_of, AreSameFor, HaveNoMeeting, AreDisjointCommands}
 use Rattle.rounds.specs.Rows.{RoundAnswered, AreRounds}
@@ -22,12 +22,12 @@ use Rattle.rounds.proofs.Told.{answered_more, callers_in, targets_in}
 
 -- A round that passes have played between the history to which they were tied and the one at which they have met, disjoint or not
 pub round_answered : (hosts n : ℕ) (first last : List Call) (before played after : ℕ → View) (cs : List Command) (rows : ℕ → List Said) → 0 < hosts → All (λ c. c.worker < hosts) cs → All (λ c. c.sector < n) cs
-    → AreTied hosts first before → HavePlayed worker_of sector_of calls_in is_right hosts n before (merge cs rows) played → WereSwept hosts last played after → RoundAnswered n hosts first cs rows last
-round_answered hosts n first last before played after cs rows some workers sectors tied play swept =
+    → AreTied hosts first before → HavePlayed worker_of sector_of calls_in is_right hosts n before (merge cs rows) played → HaveMet hosts last played after → RoundAnswered n hosts first cs rows last
+round_answered hosts n first last before played after cs rows some workers sectors tied play met =
     let xs = merge cs rows in
     let commands = commands_in-merge cs rows in
     let round : PlayedRound worker_of sector_of calls_in is_right hosts n first xs last =
-    round_between worker_of sector_of calls_in is_right hosts n first last before played after xs some tied play swept in
+    round_between worker_of sector_of calls_in is_right hosts n first last before played after xs some tied play met in
     let range : AreInRange worker_of sector_of hosts n xs =
     lines_in_range hosts n xs (subst (λ ds. All (λ c. c.worker < hosts) ds) (sym commands) workers) (subst (λ ds. All (λ c. c.sector < n) ds) (sym commands) sectors) in
     record {

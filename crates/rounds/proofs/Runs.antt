@@ -28,7 +28,7 @@ run_goes_on hosts n first last before played after done cs rows others r answere
       disjoint = disjoint_lines xs (subst AreDisjointCommands (sym commands) r.disjoint);
       tied = r.tied;
       play = r.play;
-      swept = r.swept;
+      met = r.met;
     } in
     let both = rounds_are_in_order hosts n first last before played after xs (merge done others) round so_far in
     (both.0, subst (λ all. AreAnswered n last all) (sym (merge-append done cs others)) both.1)

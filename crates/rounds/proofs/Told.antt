@@ -58,8 +58,8 @@ answered_more n first last all xs a order same =
 pub rounds_are_in_order : RoundsAreInOrder
 rounds_are_in_order hosts n first last before played after xs all r answered =
     let round : PlayedRound worker_of sector_of calls_in is_right hosts n first xs last =
-    round_between worker_of sector_of calls_in is_right hosts n first last before played after xs r.some r.tied r.play r.swept in (
-      tied_again hosts last played after r.swept,
+    round_between worker_of sector_of calls_in is_right hosts n first last before played after xs r.some r.tied r.play r.met in (
+      tied_again hosts last played after r.met,
       answered_more n first last all xs answered
           (sequential worker_of sector_of calls_in is_right callers_in targets_in hosts n first xs last round r.range r.disjoint r.some)
           (leaves_same worker_of sector_of calls_in is_right callers_in targets_in hosts n first xs last round r.range r.disjoint r.some),

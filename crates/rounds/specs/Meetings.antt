@@ -18,7 +18,7 @@ pub record HavePlayed {X : Type 0} (worker sector : X → ℕ) (calls : X → Li
   pub mine : (t : ℕ) → t < hosts → (after t).mine ≡ (before t).mine ++ made calls (lines_of worker t xs)
 
 -- The passes have met: one history begins with all that each had seen, each has now seen it, and none has made a call
-pub record WereSwept (hosts : ℕ) (h : List Call) (before after : ℕ → View) : Type 0 where
+pub record HaveMet (hosts : ℕ) (h : List Call) (before after : ℕ → View) : Type 0 where
   pub callers : All (λ c. caller c < hosts) h
   pub brought : (t : ℕ) → t < hosts → Begins (before t).seen h
   pub given : (t : ℕ) → t < hosts → Begins h (after t).seen

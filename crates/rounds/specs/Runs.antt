@@ -4,7 +4,7 @@ use Rattle.geometry.specs.History.{Call}
 use Rattle.flash_rule.specs.declared.view.View.{View}
 use Rattle.trace.specs.declared.commands.Command.{Command}
 use Rattle.rounds.specs.Lines.{Said}
-use Rattle.rounds.specs.Meetings.{AreTied, HavePlayed, WereSwept}
+use Rattle.rounds.specs.Meetings.{AreTied, HavePlayed, HaveMet}
 use Rattle.rounds.specs.Told.{worker_of, sector_of, calls_in, is_right, AreAnswered}
 use Rattle.rounds.specs.Texts.{lines_text, IsTextOfSome}
 use Rattle.rounds.specs.Merging.{is_meet, merge, rows_after, rounds_of, AreSameFor, AreDisjointCommands, IsDisjointTrace}
@@ -19,7 +19,7 @@ pub record RoundOfRun (hosts n : ℕ) (first last : List Call) (before played af
   pub tied : AreTied hosts first before
   pub kept : AreSameFor done rows others
   pub play : HavePlayed worker_of sector_of calls_in is_right hosts n before (merge cs (rows_after done others)) played
-  pub swept : WereSwept hosts last played after
+  pub met : HaveMet hosts last played after
 
 -- A run begins with no line, at the empty history
 abbrev pub RunBegins : Type 0

@@ -8,7 +8,7 @@ use Rattle.rounds.specs.declared.answer.Kind.{Kind}
 use Rattle.rounds.specs.Lines.{Said, calls_by, is_full, IsRight}
 use Rattle.rounds.specs.Orders.{made, InOrder, LeaveSame}
 use Rattle.rounds.specs.Rounds.{AreDisjoint, AreInRange}
-use Rattle.rounds.specs.Meetings.{AreTied, HavePlayed, WereSwept}
+use Rattle.rounds.specs.Meetings.{AreTied, HavePlayed, HaveMet}
 
 -- a line with the kind of its answer, and the bytes that a read found
 pub record Line : Type 0 where
@@ -54,7 +54,7 @@ pub record RoundOf (hosts n : ℕ) (first last : List Call) (before played after
   pub disjoint : AreDisjoint worker_of sector_of calls_in xs
   pub tied : AreTied hosts first before
   pub play : HavePlayed worker_of sector_of calls_in is_right hosts n before xs played
-  pub swept : WereSwept hosts last played after
+  pub met : HaveMet hosts last played after
 
 -- After such a round the passes are at one history again, and its lines are answered in order after all lines that were answered in order
 -- before it, although the workers have played them at the same time

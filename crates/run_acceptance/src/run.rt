@@ -3,7 +3,6 @@ use answers::read_commands;
 use flash_table::{Gate, NoGate};
 use geometry::Geometry;
 use rounds::{Answer, Answers, Cursor, Kind};
-use workers::{NoShift, play_commands};
 use std::alloc::Global;
 use std::process::Abort;
 use std::sync::{Arc, Wait};
@@ -11,6 +10,7 @@ use std::test::Fail;
 use std::thread::Threads;
 use std::time::Clock;
 use trace::Watched;
+use workers::{RoundFault, play_commands};
 
 // How many blocks a broom drains by one survey.
 const DRAINS: u32 = 4;
@@ -39,7 +39,7 @@ pub(crate) fn play<R: Threads + Wait + Clock + Sync + Abort + AllocGlobal, G: Ga
     trace: &[u8],
     patience: u32,
     gates: &mut [G],
-) -> Result<Result<Vec<Vec<Answer>>, NoShift>, Fail> {
+) -> Result<Result<Vec<Vec<Answer>>, RoundFault>, Fail> {
     let commands = read_commands(rt.alloc(), &mut Watched::new(trace), geometry)?;
     let Ok(commands) = Arc::new(rt.alloc(), commands) else {
         panic!(rt; "memory")

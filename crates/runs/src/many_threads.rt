@@ -6,17 +6,17 @@ ghost use Rattle.answers.specs.Outcome.{ExplainsRun};
 ghost use Rattle.answers.specs.Streams.{Tells, over, stream_of};
 ghost use Rattle.runs.specs.Texts.{IsTextOf};
 
-use answers::{OutputFailed, RunFault, read_commands};
 use crate::delivery::Delivery;
+use answers::{OutputFailed, RunFault, read_commands};
 use flash_table::{Gate, NoGate};
 use geometry::{Geometry, MAX_BROOMS, MAX_HOSTS};
-use workers::{NoShift, play_commands};
 use std::alloc::Global;
 use std::io::{Read, Write};
 use std::sync::{Arc, Wait};
 use std::thread::Threads;
 use std::time::Clock;
 use trace::Watched;
+use workers::{RoundFault, play_commands};
 
 // The most threads of a round: a worker for each host, and the brooms.
 const MAX_THREADS: usize = MAX_HOSTS as usize + MAX_BROOMS as usize;
@@ -61,8 +61,8 @@ pub fn run_shared<T: Threads + Wait + Clock + Sync, R: Read, W: Write, G: Gate +
     };
     let rows = match play_commands(rt, alloc, geometry, &commands, patience, drains, gates) {
         Ok(rows) => rows,
-        Err(NoShift::Memory) => return Err(RunFault::Memory),
-        Err(NoShift::Threads) => return Err(RunFault::Threads),
+        Err(RoundFault::Memory) => return Err(RunFault::Memory),
+        Err(RoundFault::Threads) => return Err(RunFault::Threads),
     };
     match delivery.deliver(&commands, &rows, writer) {
         Ok(()) => Ok(()),

@@ -12,10 +12,10 @@ use crate::opening::last_pass;
 use flash_table::{Gate, Pass, Point};
 use geometry::Geometry;
 use rounds::{Answer, Answers, Kind};
-use workers::{play, play_at};
 use std::test::Fail;
 use trace::{Command, Commands, Op, parse};
 use volume::Volume;
+use workers::{play, play_at};
 
 // How many answers were kept.
 #[derive(Drop)]

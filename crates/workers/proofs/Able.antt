@@ -1,4 +1,4 @@
--- A post that has played is able to play on.
+-- A worker that has played is able to play on.
 use Rattle.std.proofs.Common.{◌≡◌, ℕ, ◌+◌, ◌-◌, ◌≤◌, List, ◌++◌, drop, length, sym, ap, ◌∙◌, subst, arith, length-append}
 use Rattle.std.proofs.lemmas.List.{map-append}
 use Rattle.std.specs.Arc.{arc_value}
@@ -13,48 +13,48 @@ use Rattle.rounds.proofs.Spaces.{space_of-append}
 use Rattle.rounds.specs.declared.answer_list.Answers.{Answers}
 use Rattle.workers.specs.Playable.{HasAnswered, lines_at}
 use Rattle.workers.proofs.Lines.{count_lines}
-use Rattle.workers.specs.declared.post.Post.{Post}
+use Rattle.workers.specs.declared.worker.Worker.{Worker}
 use Rattle.workers.specs.Able.{IsAble}
-use Rattle.workers.specs.Posts.{answered, round_lines, round_places}
+use Rattle.workers.specs.Workers.{answered, round_lines, round_places}
 use Rattle.workers.proofs.Cursors.{length_range, parts_behind}
 
 -- as many answers more as the round has lines
-pub round_count : (post : Post) → length (round_lines post) ≡ post.to - answered post
-round_count post = count_lines (arc_value post.commands) (round_places post) ∙ length_range post.places.items (answered post) post.to post.order post.within
+pub round_count : (worker : Worker) → length (round_lines worker) ≡ worker.to - answered worker
+round_count worker = count_lines (arc_value worker.commands) (round_places worker) ∙ length_range worker.places.items (answered worker) worker.to worker.order worker.within
 
-pub answered_all : (post : Post) (answers : Answers) → HasAnswered (round_lines post) post.answers answers → length (said_in answers) ≡ post.to
-answered_all post answers told =
+pub answered_all : (worker : Worker) (answers : Answers) → HasAnswered (round_lines worker) worker.answers answers → length (said_in answers) ≡ worker.to
+answered_all worker answers told =
     let count = told.count in
-    let order = post.order in omega (arith, round_count post)
+    let order = worker.order in omega (arith, round_count worker)
 
 -- the lines that are not answered yet, in two parts
-pub lines_left : (post : Post) → lines_at (arc_value post.commands) (drop (answered post) post.places.items) ≡ round_lines post ++ lines_at (arc_value post.commands) (drop post.to post.places.items)
-lines_left post =
-    ap (lines_at (arc_value post.commands)) (parts_behind post.places.items (answered post) post.to post.order) ∙ map-append _ (round_places post) (drop post.to post.places.items)
+pub lines_left : (worker : Worker) → lines_at (arc_value worker.commands) (drop (answered worker) worker.places.items) ≡ round_lines worker ++ lines_at (arc_value worker.commands) (drop worker.to worker.places.items)
+lines_left worker =
+    ap (lines_at (arc_value worker.commands)) (parts_behind worker.places.items (answered worker) worker.to worker.order) ∙ map-append _ (round_places worker) (drop worker.to worker.places.items)
 
 -- there is room for the round's lines
-pub round_space : (post : Post) → HasSpaceFor post.answers (round_lines post ++ lines_at (arc_value post.commands) (drop post.to post.places.items))
-round_space post = subst (HasSpaceFor post.answers) (lines_left post) post.able.space
+pub round_space : (worker : Worker) → HasSpaceFor worker.answers (round_lines worker ++ lines_at (arc_value worker.commands) (drop worker.to worker.places.items))
+round_space worker = subst (HasSpaceFor worker.answers) (lines_left worker) worker.able.space
 
-pub round_room : (post : Post) → HasSpaceFor post.answers (round_lines post)
-round_room post =
-    let n = page_size_of post.answers in
-    let lines = round_lines post in
-    let rest = lines_at (arc_value post.commands) (drop post.to post.places.items) in
-    let kinds = (round_space post).kinds in
-    let pages = (round_space post).pages in
+pub round_room : (worker : Worker) → HasSpaceFor worker.answers (round_lines worker)
+round_room worker =
+    let n = page_size_of worker.answers in
+    let lines = round_lines worker in
+    let rest = lines_at (arc_value worker.commands) (drop worker.to worker.places.items) in
+    let kinds = (round_space worker).kinds in
+    let pages = (round_space worker).pages in
     record { kinds = omega (arith, length-append lines rest); pages = omega (arith, space_of-append n lines rest) }
 
-pub able_again : (post : Post) (pass : Pass) (answers : Answers) (buffer : List ℕ) → IsReady (flash_of (arc_value post.volume)) pass → HasAnswered (round_lines post) post.answers answers → length buffer ≡ length post.buffer.items
-    → IsAble (arc_value post.volume) (arc_value post.commands) pass post.places.items answers buffer
-able_again post pass answers buffer ready told same =
+pub able_again : (worker : Worker) (pass : Pass) (answers : Answers) (buffer : List ℕ) → IsReady (flash_of (arc_value worker.volume)) pass → HasAnswered (round_lines worker) worker.answers answers → length buffer ≡ length worker.buffer.items
+    → IsAble (arc_value worker.volume) (arc_value worker.commands) pass worker.places.items answers buffer
+able_again worker pass answers buffer ready told same =
     record {
       ready = ready;
-      there = post.able.there;
-      doable = post.able.doable;
-      page = told.page ∙ post.able.page;
+      there = worker.able.there;
+      doable = worker.able.doable;
+      page = told.page ∙ worker.able.page;
       space =
-          subst (λ k. HasSpaceFor answers (lines_at (arc_value post.commands) (drop k post.places.items))) (sym (answered_all post answers told))
-          (told.space (lines_at (arc_value post.commands) (drop post.to post.places.items)) (round_space post));
-      paged = same ∙ post.able.paged;
+          subst (λ k. HasSpaceFor answers (lines_at (arc_value worker.commands) (drop k worker.places.items))) (sym (answered_all worker answers told))
+          (told.space (lines_at (arc_value worker.commands) (drop worker.to worker.places.items)) (round_space worker));
+      paged = same ∙ worker.able.paged;
     }

@@ -61,7 +61,7 @@ room_next volume patience first now lines old answers i c k all low at space fou
     let fits = kind_fits (page_size_of answers) k c.op found in
     record { kinds = omega arith; pages = omega arith }
 
--- a turn of the loop
+-- one step of the loop
 module _ (volume : Volume) (patience : ℕ) (first now next : Pass) (lines : List Command) (old answers newer : Answers) (i : ℕ) (c : Command) (k : Kind) (page : List ℕ)
     (all : Adding volume patience first lines old i now answers) (low : i < length lines) (at : c ≡ get_or lines i c) (ready : IsReady (flash_of volume) next)
     (found : k ≡ kind.Page → c.op ≡ op.Read) (long : length page ≡ page_size_of answers)

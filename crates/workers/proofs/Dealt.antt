@@ -1,4 +1,4 @@
--- Rows that are dealt out: one element more has left its row, and a post or a share more is made.
+-- Rows that are dealt out: one element more has left its row, and a worker or a share more is made.
 use Rattle.std.proofs.Common.{◌≡◌, All, List, [], ◌∷◌, ◌++◌, map, sym, ap, ◌∙◌, subst, append_assoc}
 use Rattle.std.proofs.lemmas.List.{map_push}
 use Rattle.std.proofs.lemmas.List.Elements.{All-push}

@@ -15,7 +15,7 @@ use Rattle.flash_table.specs.declared.broom_seat.BroomBlocks.{BroomBlocks}
 use Rattle.workers.specs.declared.broom_answer.BroomAnswer.{BroomAnswer}
 use Rattle.workers.specs.declared.broom_answer.BroomAnswer.TheVariants as by
 use Rattle.workers.specs.declared.tally.Tally.{Tally}
-use Rattle.workers.specs.Collecting.{CallTold, HasCollected}
+use Rattle.workers.specs.Collecting.{CallTold, HasMadeCalls}
 use Rattle.workers.specs.Growing.{GrowsBy, HasGrown}
 use Rattle.workers.specs.Tallies.{added, answer_adds, drain_adds, erase_adds, nothing_done, survey_adds, total_of}
 
@@ -188,7 +188,7 @@ call_grows limit a b (by.DrainNext given) told = next_grows limit a b given told
 call_grows limit a b (by.Erase given) told = erase_grows limit a b given told
 call_grows limit a b (by.Restock given) told = restock_grows a b given told.told
 
-pub collected_grows : (limit : ℕ) (a b : Broom) (xs : List BroomAnswer) → HasCollected limit a xs b → HasGrown (view_of_broom a) (total_of xs) (view_of_broom b)
-collected_grows limit a b [] is = grown_same (view_of_broom a) (view_of_broom b) nothing_done refl refl refl refl (ap view_of_broom is)
-collected_grows limit a b (x ∷ xs) told =
-    grown_then (view_of_broom a) (view_of_broom told.0) (view_of_broom b) (answer_adds x) (total_of xs) (call_grows limit a told.0 x told.1) (collected_grows limit told.0 b xs told.2)
+pub calls_grown : (limit : ℕ) (a b : Broom) (xs : List BroomAnswer) → HasMadeCalls limit a xs b → HasGrown (view_of_broom a) (total_of xs) (view_of_broom b)
+calls_grown limit a b [] is = grown_same (view_of_broom a) (view_of_broom b) nothing_done refl refl refl refl (ap view_of_broom is)
+calls_grown limit a b (x ∷ xs) told =
+    grown_then (view_of_broom a) (view_of_broom told.0) (view_of_broom b) (answer_adds x) (total_of xs) (call_grows limit a told.0 x told.1) (calls_grown limit told.0 b xs told.2)

@@ -1,4 +1,4 @@
--- A crew's posts that were lent as a row and came back.
+-- A team's workers that were lent as a row and came back.
 use Rattle.std.proofs.Common.{◌≡◌, ℕ, List, length, sym, ap, ◌∙◌}
 use Rattle.std.specs.Prelude.{Vec}
 use Rattle.std.specs.Global.{Global}

@@ -111,7 +111,7 @@ played_none t patience v =
 pub playing_none : (volume : Volume) (patience : ℕ) (first : Pass) (lines : List Command) → IsReady (flash_of volume) first → Playing volume patience first lines 0 first []
 playing_none volume patience first lines ready = record { ready = ready; told = λ t role. played_none t patience (view_of first) }
 
--- one turn of the loop
+-- one step of the loop
 pub playing_more : (volume : Volume) (patience : ℕ) (first now next : Pass) (lines : List Command) (i : ℕ) (answers : List Said) (a : Said) (c : Command)
     → Playing volume patience first lines i now answers → i < length lines → c ≡ get_or lines i c → IsReady (flash_of volume) next
     → ((t : ℕ) → (view_of now).role ≡ Player (APass t) → PlayedLine t patience (view_of now) c.op c.sector c.page a.kind a.page (is_full a.kind) (view_of next))

@@ -25,7 +25,7 @@ use Rattle.volume.specs.Closing.{HasLooked}
 use Rattle.volume.specs.Volume.{flash_of}
 use Rattle.rounds.specs.Answers.{said_in}
 use Rattle.rounds.specs.declared.answer_list.Answers.{Answers}
-use Rattle.rounds.specs.Meetings.{AreTied, WereSwept}
+use Rattle.rounds.specs.Meetings.{AreTied, HaveMet}
 use Rattle.rounds.specs.Merging.{is_meet, lines_for, line_count, rows_after, rounds_of}
 use Rattle.rounds.specs.Plans.{places_from, places_for, meetings_from}
 use Rattle.rounds.specs.Rows.{RoundAnswered, AreRounds}
@@ -33,12 +33,12 @@ use Rattle.rounds.proofs.Meetings.{tied_again}
 use Rattle.rounds.proofs.Planning.{places_from-append}
 use Rattle.rounds.proofs.Chains.{flat, flat-append, lines_for-append, line_count-append, rows_count, round_answered, rounds_same, rounds_push, rounds_go_on}
 use Rattle.rounds.proofs.Runs.{run_is_text}
-use Rattle.workers.specs.declared.post.Post.{Post}
+use Rattle.workers.specs.declared.worker.Worker.{Worker}
 use Rattle.workers.specs.Meetings.{Rest, passes_of, rest_of, views_of}
-use Rattle.workers.specs.Posts.{HasPlayed, answered, round_lines}
-use Rattle.workers.specs.Runs.{IsTurned, RoundPlayed, AreManned, IsDealt, HasBegun, HasEnded, HasRun, answers_of, denied_by, rows_of}
-use Rattle.workers.proofs.Sweeping.{ready_at}
-use Rattle.workers.proofs.Turning.{played_long, played_at, rests_long, rest_at, role_turned}
+use Rattle.workers.specs.Workers.{HasPlayed, answered, round_lines}
+use Rattle.workers.specs.Runs.{IsAdvanced, RoundPlayed, AreManned, IsDealt, HasBegun, HasEnded, HasRun, answers_of, denied_by, rows_of}
+use Rattle.workers.proofs.Meeting.{ready_at}
+use Rattle.workers.proofs.Advancing.{played_long, played_at, rests_long, rest_at, role_advanced}
 use Rattle.workers.proofs.Walking.{count_places, places_low, places_high, lines_there, past_is, FirstRound, first_round}
 use Rattle.workers.proofs.Going.{WorkerRound, run_more, plays_to, round_played, Left, left_is, Closed, closed_is, Next, next_part}
 use Rattle.workers.proofs.Going as going
@@ -60,14 +60,14 @@ take_split a b xs order =
     let behind : drop a (take b xs) ≡ slice_range xs a b = subst (λ k. drop a (take k xs) ≡ slice_range xs a b) on (drop-take a (b - a) xs) in
     sym (take-append-drop a (take b xs)) ∙ (λ i. front i ++ behind i)
 
--- the post has gone past the lines of these commands, and has answered them
-pub record IsBehind (t : ℕ) (done : List Command) (p : Post) : Type 0 where
+-- the worker has gone past the lines of these commands, and has answered them
+pub record IsBehind (t : ℕ) (done : List Command) (p : Worker) : Type 0 where
   pub to : p.to ≡ line_count t done
   pub all : answered p ≡ line_count t done
 
--- one worker's round, by its post before it, gone on to it, played, and after the meetings
-module _ (trace done cs tail : List Command) (t patience end : ℕ) (p q b r : Post) (whole : trace ≡ done ++ (cs ++ tail)) (last : end ≡ length done + length cs) (dealt : IsDealt trace t p) (cursor : IsBehind t done p)
-    (turn : IsTurned end p q) (played : HasPlayed patience q b) (same : rest_of r ≡ rest_of b) where
+-- one worker's round, by the worker before it, gone on to it, played, and after the meetings
+module _ (trace done cs tail : List Command) (t patience end : ℕ) (p q b r : Worker) (whole : trace ≡ done ++ (cs ++ tail)) (last : end ≡ length done + length cs) (dealt : IsDealt trace t p) (cursor : IsBehind t done p)
+    (advance : IsAdvanced end p q) (played : HasPlayed patience q b) (same : rest_of r ≡ rest_of b) where
   row : p.places.items ≡ places_for t done ++ (places_from (length done) t cs ++ places_from (length done + length cs) t tail)
   row =
       dealt.places
@@ -76,14 +76,14 @@ module _ (trace done cs tail : List Command) (t patience end : ℕ) (p q b r : P
       ∙ (ap (λ k. places_for t done ++ places_from k t (cs ++ tail)) (zero-add (length done)) ∙ ap (λ l. places_for t done ++ l) (places_from-append (length done) t cs tail))))
 
   begins : answered q ≡ length (places_for t done)
-  begins = ap (λ (a : Answers). length (said_in a)) turn.answers ∙ (cursor.all ∙ sym (count_places 0 t done))
+  begins = ap (λ (a : Answers). length (said_in a)) advance.answers ∙ (cursor.all ∙ sym (count_places 0 t done))
 
   goes_to : q.to ≡ length (places_for t done) + length (places_from (length done) t cs)
   goes_to =
-      let within : q.to ≤ length p.places.items = subst (λ l. q.to ≤ length l) turn.places q.within in
+      let within : q.to ≤ length p.places.items = subst (λ l. q.to ≤ length l) advance.places q.within in
       past_is (places_for t done) (places_from (length done) t cs) (places_from (length done + length cs) t tail) p.to q.to end (cursor.to ∙ sym (count_places 0 t done))
-      (places_low (length done) t cs end last) (places_high (length done + length cs) t tail end (omega (arith, last))) turn.later (subst (λ l. q.to ≤ length l) row within)
-      (subst (λ l. (k : ℕ) → p.to ≤ k → k < q.to → get_or l k 0 < end) row turn.before) (subst (λ l. q.to < length l → end ≤ get_or l q.to 0) row turn.behind)
+      (places_low (length done) t cs end last) (places_high (length done + length cs) t tail end (omega (arith, last))) advance.later (subst (λ l. q.to ≤ length l) row within)
+      (subst (λ l. (k : ℕ) → p.to ≤ k → k < q.to → get_or l k 0 < end) row advance.before) (subst (λ l. q.to < length l → end ≤ get_or l q.to 0) row advance.behind)
 
   to_is : q.to ≡ line_count t done + line_count t cs
   to_is = (let a = count_places 0 t done in let b = count_places (length done) t cs in let c = goes_to in omega arith)
@@ -91,7 +91,7 @@ module _ (trace done cs tail : List Command) (t patience end : ℕ) (p q b r : P
   lines_are : round_lines q ≡ lines_for t cs
   lines_are =
       let P : List Command × List ℕ × ℕ × ℕ → List Command = λ x. lines_at x.0 (slice_range x.1 x.2 x.3) in
-      ap P (λ i. ((turn.commands ∙ (dealt.commands ∙ whole)) i, (turn.places ∙ row) i, begins i, goes_to i))
+      ap P (λ i. ((advance.commands ∙ (dealt.commands ∙ whole)) i, (advance.places ∙ row) i, begins i, goes_to i))
       ∙ (ap (lines_at (done ++ (cs ++ tail))) (seam_range (places_for t done) (places_from (length done) t cs) (places_from (length done + length cs) t tail)) ∙ lines_there t done cs tail)
 
   answers_are : r.answers ≡ b.answers
@@ -101,7 +101,7 @@ module _ (trace done cs tail : List Command) (t patience end : ℕ) (p q b r : P
   more = added q.answers b.answers
 
   grown : said_in r.answers ≡ said_in p.answers ++ more
-  grown = ap said_in answers_are ∙ (played.answers.kept ∙ ap (λ (a : Answers). said_in a ++ more) turn.answers)
+  grown = ap said_in answers_are ∙ (played.answers.kept ∙ ap (λ (a : Answers). said_in a ++ more) advance.answers)
 
   count_added : length more ≡ line_count t cs
   count_added =
@@ -117,8 +117,8 @@ module _ (trace done cs tail : List Command) (t patience end : ℕ) (p q b r : P
 
   pub dealt_on : IsDealt trace t r
   dealt_on = record {
-    commands = ap (λ (x : Rest). x.1) same ∙ (played.commands ∙ (turn.commands ∙ dealt.commands));
-    places = ap (λ (x : Rest). x.2) same ∙ (played.places ∙ (turn.places ∙ dealt.places));
+    commands = ap (λ (x : Rest). x.1) same ∙ (played.commands ∙ (advance.commands ∙ dealt.commands));
+    places = ap (λ (x : Rest). x.2) same ∙ (played.places ∙ (advance.places ∙ dealt.places));
   }
 
   kept : take (line_count t done) (said_in p.answers) ≡ take (line_count t done) (said_in r.answers)
@@ -135,64 +135,64 @@ module _ (trace done cs tail : List Command) (t patience end : ℕ) (p q b r : P
 
   pub worker_round : (view_of p.pass).role ≡ Player (APass t) → WorkerRound t patience done cs (said_in p.answers) (said_in r.answers) (view_of p.pass) (view_of b.pass)
   worker_round role =
-      let told = played.played t (role_turned end t p q turn role) in
+      let told = played.played t (role_advanced end t p q advance role) in
       record {
         kept = kept;
         enough = (let all = count_all in omega arith);
-        played = subst (λ (x : View × List Command × List Said). Played t patience x.0 x.1 x.2 (view_of b.pass)) (λ i. (ap view_of turn.pass i, lines_are i, sym part i)) told;
+        played = subst (λ (x : View × List Command × List Said). Played t patience x.0 x.1 x.2 (view_of b.pass)) (λ i. (ap view_of advance.pass i, lines_are i, sym part i)) told;
       }
 
--- what the post at a number knows and has answered
-pub view_at : (volume : Volume) (posts : List Post) (t : ℕ) (p : Post) → t < length posts → views_of volume (passes_of posts) t ≡ view_of (get_or posts t p).pass
-view_at volume posts t p low =
-    let pass : Post → Pass = λ (z : Post). z.pass in
-    let count = length-map posts pass in
-    get_or-map view_of (passes_of posts) t p.pass (first_view (device (flash_of volume)) t) (omega (arith, count)) ∙ ap view_of (get_or-map pass posts t p p.pass low)
+-- what the worker at a number knows and has answered
+pub view_at : (volume : Volume) (workers : List Worker) (t : ℕ) (p : Worker) → t < length workers → views_of volume (passes_of workers) t ≡ view_of (get_or workers t p).pass
+view_at volume workers t p low =
+    let pass : Worker → Pass = λ (z : Worker). z.pass in
+    let count = length-map workers pass in
+    get_or-map view_of (passes_of workers) t p.pass (first_view (device (flash_of volume)) t) (omega (arith, count)) ∙ ap view_of (get_or-map pass workers t p p.pass low)
 
-pub row_at : (posts : List Post) (t : ℕ) (p : Post) → t < length posts → rows_of posts t ≡ said_in (get_or posts t p).answers
-row_at posts t p low = get_or-map answers_of posts t p [] low
+pub row_at : (workers : List Worker) (t : ℕ) (p : Worker) → t < length workers → rows_of workers t ≡ said_in (get_or workers t p).answers
+row_at workers t p low = get_or-map answers_of workers t p [] low
 
-row_past : (posts : List Post) (t : ℕ) → length posts ≤ t → rows_of posts t ≡ []
-row_past posts t past = let count = length-map posts answers_of in get_or_past (map answers_of posts) t [] (omega (arith, count))
+row_past : (workers : List Worker) (t : ℕ) → length workers ≤ t → rows_of workers t ≡ []
+row_past workers t past = let count = length-map workers answers_of in get_or_past (map answers_of workers) t [] (omega (arith, count))
 
-pub some_post : (posts : List Post) → 0 < length posts → Post
-some_post [] some = absurd (omega arith)
-some_post (p ∷ posts) some = p
+pub some_worker : (workers : List Worker) → 0 < length workers → Worker
+some_worker [] some = absurd (omega arith)
+some_worker (p ∷ workers) some = p
 
 -- a run of a trace between two rounds, with these ends of rounds left
-pub record RunState (volume : Volume) (patience : ℕ) (trace : List Command) (before : List Post) (ends : List ℕ) (posts : List Post) : Type 0 where
+pub record RunState (volume : Volume) (patience : ℕ) (trace : List Command) (before : List Worker) (ends : List ℕ) (workers : List Worker) : Type 0 where
   pub done : List Command
   pub rest : List Command
   pub whole : trace ≡ done ++ rest
   pub left : Left (length done) rest ends
-  pub workers : All (λ c. c.worker < length posts) trace
+  pub known : All (λ c. c.worker < length workers) trace
   pub sectors : All (λ c. c.sector < sectors_of (geometry_of (flash_of volume))) trace
-  pub dealt : (t : ℕ) (p : Post) → t < length posts → IsDealt trace t (get_or posts t p)
-  pub cursor : (t : ℕ) (p : Post) → t < length posts → IsBehind t done (get_or posts t p)
-  pub each : (t : ℕ) → t < length posts → HasRun t patience (denied_by volume before t) (lines_for t done) (take (line_count t done) (rows_of posts t)) (views_of volume (passes_of posts) t)
+  pub dealt : (t : ℕ) (p : Worker) → t < length workers → IsDealt trace t (get_or workers t p)
+  pub cursor : (t : ℕ) (p : Worker) → t < length workers → IsBehind t done (get_or workers t p)
+  pub each : (t : ℕ) → t < length workers → HasRun t patience (denied_by volume before t) (lines_for t done) (take (line_count t done) (rows_of workers t)) (views_of volume (passes_of workers) t)
   pub history : List Call
-  pub tied : AreTied (length posts) history (views_of volume (passes_of posts))
-  pub plays : (t : ℕ) → t < length posts → Plays (sectors_of (geometry_of (flash_of volume))) t [] (lines_for t done) (take (line_count t done) (rows_of posts t)) history
+  pub tied : AreTied (length workers) history (views_of volume (passes_of workers))
+  pub plays : (t : ℕ) → t < length workers → Plays (sectors_of (geometry_of (flash_of volume))) t [] (lines_for t done) (take (line_count t done) (rows_of workers t)) history
   pub closed : List (List Command)
   pub rounds : Closed trace closed rest ends
   pub counts : (t : ℕ) → line_count t (flat closed) ≡ line_count t done
-  pub order : AreRounds (sectors_of (geometry_of (flash_of volume))) (length posts) [] closed (rows_of posts) history
+  pub order : AreRounds (sectors_of (geometry_of (flash_of volume))) (length workers) [] closed (rows_of workers) history
 
 -- the run begins
-pub state_begins : (volume : Volume) (patience : ℕ) (trace : List Command) (ends : List ℕ) (posts : List Post) → HasBegun volume trace ends posts → RunState volume patience trace posts ends posts
-state_begins volume patience trace ends posts b = record {
+pub state_begins : (volume : Volume) (patience : ℕ) (trace : List Command) (ends : List ℕ) (workers : List Worker) → HasBegun volume trace ends workers → RunState volume patience trace workers ends workers
+state_begins volume patience trace ends workers b = record {
   done = [];
   rest = trace;
   whole = refl;
   left = left_is 0 trace ends (ends_begin trace ends b.rounds);
-  workers = b.workers;
+  known = b.known;
   sectors = b.sectors;
   dealt = b.dealt;
   cursor = λ t p low. record { to = (b.none t p low).0; all = ap (λ (l : List Said). length l) (b.none t p low).1 };
-  each = λ t low. let new = b.new t low in going.run_begins t patience (views_of volume (passes_of posts) t) new.0 new.1 new.2;
+  each = λ t low. let new = b.new t low in going.run_begins t patience (views_of volume (passes_of workers) t) new.0 new.1 new.2;
   history = [];
   tied = record {
-    callers = All-nil (λ c. caller c < length posts);
+    callers = All-nil (λ c. caller c < length workers);
     later = λ t low. subst (λ h. Begins [] h) (sym (b.new t low).0) (Begins-refl []);
     own = λ t low. sym (b.new t low).1;
   };
@@ -207,13 +207,13 @@ state_begins volume patience trace ends posts b = record {
     ends_begin trace ends are = are ∙ ap (λ k. meetings_from 0 trace ++ k ∷ []) (sym (zero-add (length trace)))
 
 -- one round more
-module _ (volume : Volume) (patience : ℕ) (trace : List Command) (begun : List Post) (end : ℕ) (ends : List ℕ) (posts back : List Post) (manned : AreManned volume posts) (round : RoundPlayed volume patience end posts back)
-    (state : RunState volume patience trace begun (end ∷ ends) posts) where
+module _ (volume : Volume) (patience : ℕ) (trace : List Command) (begun : List Worker) (end : ℕ) (ends : List ℕ) (workers back : List Worker) (manned : AreManned volume workers) (round : RoundPlayed volume patience end workers back)
+    (state : RunState volume patience trace begun (end ∷ ends) workers) where
   abbrev n : ℕ
   n = sectors_of (geometry_of (flash_of volume))
 
-  x : Post
-  x = some_post posts manned.some
+  x : Worker
+  x = some_worker workers manned.some
 
   first : FirstRound (length state.done) state.rest end ends
   first = first_round (length state.done) state.rest end ends state.left
@@ -227,17 +227,17 @@ module _ (volume : Volume) (patience : ℕ) (trace : List Command) (begun : List
   whole_now : trace ≡ state.done ++ (cs ++ first.tail)
   whole_now = state.whole ∙ ap (λ l. state.done ++ l) first.whole
 
-  long_turned : length round.turned ≡ length posts
-  long_turned = round.turn.long
+  long_advanced : length round.advanced ≡ length workers
+  long_advanced = round.advance.long
 
-  long_between : length round.between ≡ length posts
-  long_between = played_long patience round.turned round.between round.played ∙ round.turn.long
+  long_between : length round.between ≡ length workers
+  long_between = played_long patience round.advanced round.between round.played ∙ round.advance.long
 
-  long_back : length back ≡ length posts
+  long_back : length back ≡ length workers
   long_back = rests_long volume round.between back round.rest ∙ long_between
 
   abbrev before : ℕ → View
-  before = views_of volume (passes_of posts)
+  before = views_of volume (passes_of workers)
 
   abbrev played : ℕ → View
   played = views_of volume (passes_of round.between)
@@ -245,47 +245,47 @@ module _ (volume : Volume) (patience : ℕ) (trace : List Command) (begun : List
   abbrev after : ℕ → View
   after = views_of volume (passes_of back)
 
-  role_at : (t : ℕ) (p : Post) → t < length posts → (view_of (get_or posts t p).pass).role ≡ Player (APass t)
+  role_at : (t : ℕ) (p : Worker) → t < length workers → (view_of (get_or workers t p).pass).role ≡ Player (APass t)
   role_at t p low =
-      let pass : Post → Pass = λ (z : Post). z.pass in
-      let count = length-map posts pass in
-      ap (λ (z : Pass). (view_of z).role) (sym (get_or-map pass posts t p p.pass low)) ∙ manned.seated t p.pass (omega (arith, count))
+      let pass : Worker → Pass = λ (z : Worker). z.pass in
+      let count = length-map workers pass in
+      ap (λ (z : Pass). (view_of z).role) (sym (get_or-map pass workers t p p.pass low)) ∙ manned.seated t p.pass (omega (arith, count))
 
-  module _ (t : ℕ) (p : Post) (low : t < length posts) where
-    played_here : HasPlayed patience (get_or round.turned t p) (get_or round.between t p)
-    played_here = played_at patience round.turned round.between round.played t p p (omega (arith, long_turned))
+  module _ (t : ℕ) (p : Worker) (low : t < length workers) where
+    played_here : HasPlayed patience (get_or round.advanced t p) (get_or round.between t p)
+    played_here = played_at patience round.advanced round.between round.played t p p (omega (arith, long_advanced))
 
     rest_here : rest_of (get_or back t p) ≡ rest_of (get_or round.between t p)
     rest_here = rest_at volume round.between back round.rest t p (omega (arith, long_between))
 
     dealt_here : IsDealt trace t (get_or back t p)
     dealt_here =
-        dealt_on trace state.done cs first.tail t patience end (get_or posts t p) (get_or round.turned t p) (get_or round.between t p) (get_or back t p) whole_now first.last (state.dealt t p low) (state.cursor t p low)
-        (round.turn.each t p p low) played_here rest_here
+        dealt_on trace state.done cs first.tail t patience end (get_or workers t p) (get_or round.advanced t p) (get_or round.between t p) (get_or back t p) whole_now first.last (state.dealt t p low) (state.cursor t p low)
+        (round.advance.each t p p low) played_here rest_here
 
     cursor_here : ((get_or back t p).to ≡ line_count t state.done + line_count t cs) × (answered (get_or back t p) ≡ line_count t state.done + line_count t cs)
     cursor_here =
-        cursor_on trace state.done cs first.tail t patience end (get_or posts t p) (get_or round.turned t p) (get_or round.between t p) (get_or back t p) whole_now first.last (state.dealt t p low) (state.cursor t p low)
-        (round.turn.each t p p low) played_here rest_here
+        cursor_on trace state.done cs first.tail t patience end (get_or workers t p) (get_or round.advanced t p) (get_or round.between t p) (get_or back t p) whole_now first.last (state.dealt t p low) (state.cursor t p low)
+        (round.advance.each t p p low) played_here rest_here
 
-    worker_here : WorkerRound t patience state.done cs (rows_of posts t) (rows_of back t) (before t) (played t)
+    worker_here : WorkerRound t patience state.done cs (rows_of workers t) (rows_of back t) (before t) (played t)
     worker_here =
         let w =
-        worker_round trace state.done cs first.tail t patience end (get_or posts t p) (get_or round.turned t p) (get_or round.between t p) (get_or back t p) whole_now first.last (state.dealt t p low) (state.cursor t p low)
-        (round.turn.each t p p low) played_here rest_here (role_at t p low) in
+        worker_round trace state.done cs first.tail t patience end (get_or workers t p) (get_or round.advanced t p) (get_or round.between t p) (get_or back t p) whole_now first.last (state.dealt t p low) (state.cursor t p low)
+        (round.advance.each t p p low) played_here rest_here (role_at t p low) in
         subst (λ (y : List Said × List Said × View × View). WorkerRound t patience state.done cs y.0 y.1 y.2 y.3)
-        (λ i. (sym (row_at posts t p low) i, sym (row_at back t p (omega (arith, long_back))) i, sym (view_at volume posts t p low) i, sym (view_at volume round.between t p (omega (arith, long_between))) i)) w
+        (λ i. (sym (row_at workers t p low) i, sym (row_at back t p (omega (arith, long_back))) i, sym (view_at volume workers t p low) i, sym (view_at volume round.between t p (omega (arith, long_between))) i)) w
 
     sectors_here : (before t).numbers.sectors ≡ n
     sectors_here =
-        let ready = ready_at volume (get_or posts t p) (manned.at t p low) in
-        ap (λ (v : View). v.numbers.sectors) (view_at volume posts t p low) ∙ ap (λ z. z.sectors) ready.rested.pass.numbers
+        let ready = ready_at volume (get_or workers t p) (manned.at t p low) in
+        ap (λ (v : View). v.numbers.sectors) (view_at volume workers t p low) ∙ ap (λ z. z.sectors) ready.rested.pass.numbers
 
-  count_met : length (passes_of round.between) ≡ length posts
-  count_met = length-map round.between (λ (z : Post). z.pass) ∙ long_between
+  count_met : length (passes_of round.between) ≡ length workers
+  count_met = length-map round.between (λ (z : Worker). z.pass) ∙ long_between
 
-  swept : WereSwept (length posts) round.met.history played after
-  swept = subst (λ k. WereSwept k round.met.history played after) count_met round.met.swept
+  collected : HaveMet (length workers) round.met.history played after
+  collected = subst (λ k. HaveMet k round.met.history played after) count_met round.met.have_met
 
   lines_more : (t : ℕ) → lines_for t (state.done ++ (cs ++ next.meeting)) ≡ lines_for t state.done ++ lines_for t cs
   lines_more t =
@@ -295,54 +295,54 @@ module _ (volume : Volume) (patience : ℕ) (trace : List Command) (begun : List
   count_more : (t : ℕ) → line_count t (state.done ++ (cs ++ next.meeting)) ≡ line_count t state.done + line_count t cs
   count_more t = ap (λ (l : List Command). length l) (lines_more t) ∙ length-append (lines_for t state.done) (lines_for t cs)
 
-  answers_more : (t : ℕ) → t < length posts
-      → take (line_count t state.done) (rows_of posts t) ++ slice_range (rows_of back t) (line_count t state.done) (line_count t state.done + line_count t cs)
+  answers_more : (t : ℕ) → t < length workers
+      → take (line_count t state.done) (rows_of workers t) ++ slice_range (rows_of back t) (line_count t state.done) (line_count t state.done + line_count t cs)
       ≡ take (line_count t (state.done ++ (cs ++ next.meeting))) (rows_of back t)
   answers_more t low =
       let a = line_count t state.done in
       let b = line_count t state.done + line_count t cs in
       ap (λ l. l ++ slice_range (rows_of back t) a b) (worker_here t x low).kept ∙ (sym (take_split a b (rows_of back t) (omega arith)) ∙ ap (λ k. take k (rows_of back t)) (sym (count_more t)))
 
-  run_here : (t : ℕ) → t < length posts
+  run_here : (t : ℕ) → t < length workers
       → HasRun t patience (denied_by volume begun t) (lines_for t (state.done ++ (cs ++ next.meeting))) (take (line_count t (state.done ++ (cs ++ next.meeting))) (rows_of back t)) (after t)
   run_here t low =
       let w = worker_here t x low in
       let a = line_count t state.done in
       let b = line_count t state.done + line_count t cs in
       let looked : HasLooked (played t) (after t) = round.met.looked t (omega (arith, count_met)) in
-      let more = run_more t patience (denied_by volume begun t) (lines_for t state.done) (lines_for t cs) (take a (rows_of posts t)) (slice_range (rows_of back t) a b) (before t) (played t) (after t) (state.each t low) w.played looked in
+      let more = run_more t patience (denied_by volume begun t) (lines_for t state.done) (lines_for t cs) (take a (rows_of workers t)) (slice_range (rows_of back t) a b) (before t) (played t) (after t) (state.each t low) w.played looked in
       subst (λ (y : List Command × List Said). HasRun t patience (denied_by volume begun t) y.0 y.1 (after t)) (λ i. (sym (lines_more t) i, answers_more t low i)) more
 
-  plays_here : (t : ℕ) → t < length posts
+  plays_here : (t : ℕ) → t < length workers
       → Plays n t [] (lines_for t (state.done ++ (cs ++ next.meeting))) (take (line_count t (state.done ++ (cs ++ next.meeting))) (rows_of back t)) round.met.history
   plays_here t low =
       let a = line_count t state.done in
       let b = line_count t state.done + line_count t cs in
       let plays =
-      plays_to t patience (denied_by volume begun t) (lines_for t state.done) (lines_for t cs) (take a (rows_of posts t)) (slice_range (rows_of back t) a b) (before t) (played t) round.met.history (state.each t low) (worker_here t x low).played (swept.brought t low) in
+      plays_to t patience (denied_by volume begun t) (lines_for t state.done) (lines_for t cs) (take a (rows_of workers t)) (slice_range (rows_of back t) a b) (before t) (played t) round.met.history (state.each t low) (worker_here t x low).played (collected.brought t low) in
       subst (λ (y : ℕ × List Command × List Said). Plays y.0 t [] y.1 y.2 round.met.history) (λ i. (sectors_here t x low i, sym (lines_more t) i, answers_more t low i)) plays
 
-  kept_here : (t : ℕ) → take (line_count t state.done) (rows_of posts t) ≡ take (line_count t state.done) (rows_of back t)
+  kept_here : (t : ℕ) → take (line_count t state.done) (rows_of workers t) ≡ take (line_count t state.done) (rows_of back t)
   kept_here t =
-      dite (dec_lt t (length posts))
+      dite (dec_lt t (length workers))
       (λ low. (worker_here t x low).kept)
       (λ past.
-      let one = row_past posts t (omega arith) in
+      let one = row_past workers t (omega arith) in
       let two = row_past back t (omega (arith, long_back)) in ap (take (line_count t state.done)) (one ∙ sym two))
 
-  round_here : RoundAnswered n (length posts) state.history cs (rows_after state.done (rows_of back)) round.met.history
+  round_here : RoundAnswered n (length workers) state.history cs (rows_after state.done (rows_of back)) round.met.history
   round_here =
-      round_answered (length posts) n state.history round.met.history before played after cs (rows_after state.done (rows_of back)) manned.some
-      (all_part (λ c. c.worker < length posts) state.done cs first.tail (subst (λ l. All (λ c. c.worker < length posts) l) whole_now state.workers))
+      round_answered (length workers) n state.history round.met.history before played after cs (rows_after state.done (rows_of back)) manned.some
+      (all_part (λ c. c.worker < length workers) state.done cs first.tail (subst (λ l. All (λ c. c.worker < length workers) l) whole_now state.known))
       (all_part (λ c. c.sector < n) state.done cs first.tail (subst (λ l. All (λ c. c.sector < n) l) whole_now state.sectors)) state.tied
-      (round_played (length posts) n patience state.done cs (rows_of posts) (rows_of back) before played first.plain (λ t low. sectors_here t x low) (λ t low. worker_here t x low)) swept
+      (round_played (length workers) n patience state.done cs (rows_of workers) (rows_of back) before played first.plain (λ t low. sectors_here t x low) (λ t low. worker_here t x low)) collected
 
-  order_here : AreRounds n (length posts) [] (state.closed ++ cs ∷ []) (rows_of back) round.met.history
+  order_here : AreRounds n (length workers) [] (state.closed ++ cs ∷ []) (rows_of back) round.met.history
   order_here =
-      rounds_push n (length posts) [] state.closed (rows_of back) state.history cs round.met.history
-      (rounds_same n (length posts) [] state.closed (rows_of posts) (rows_of back) state.history
-      (λ t. subst (λ k. take k (rows_of posts t) ≡ take k (rows_of back t)) (sym (state.counts t)) (kept_here t)) state.order)
-      (subst (λ r. RoundAnswered n (length posts) state.history cs r round.met.history) (sym (rows_count (flat state.closed) state.done (rows_of back) state.counts)) round_here)
+      rounds_push n (length workers) [] state.closed (rows_of back) state.history cs round.met.history
+      (rounds_same n (length workers) [] state.closed (rows_of workers) (rows_of back) state.history
+      (λ t. subst (λ k. take k (rows_of workers t) ≡ take k (rows_of back t)) (sym (state.counts t)) (kept_here t)) state.order)
+      (subst (λ r. RoundAnswered n (length workers) state.history cs r round.met.history) (sym (rows_count (flat state.closed) state.done (rows_of back) state.counts)) round_here)
 
   counts_here : (t : ℕ) → line_count t (flat (state.closed ++ cs ∷ [])) ≡ line_count t (state.done ++ (cs ++ next.meeting))
   counts_here t =
@@ -354,13 +354,13 @@ module _ (volume : Volume) (patience : ℕ) (trace : List Command) (begun : List
     rest = next.rest;
     whole = whole_now ∙ (ap (λ l. state.done ++ (cs ++ l)) next.whole ∙ (ap (λ l. state.done ++ l) (sym (append_assoc cs next.meeting next.rest)) ∙ sym (append_assoc state.done (cs ++ next.meeting) next.rest)));
     left = next.left;
-    workers = subst (λ k. All (λ c. c.worker < k) trace) (sym long_back) state.workers;
+    known = subst (λ k. All (λ c. c.worker < k) trace) (sym long_back) state.known;
     sectors = state.sectors;
     dealt = λ t p low. dealt_here t p (omega (arith, long_back));
     cursor = λ t p low. let here = cursor_here t p (omega (arith, long_back)) in record { to = here.0 ∙ sym (count_more t); all = here.1 ∙ sym (count_more t) };
     each = λ t low. run_here t (omega (arith, long_back));
     history = round.met.history;
-    tied = subst (λ k. AreTied k round.met.history after) (sym long_back) (tied_again (length posts) round.met.history played after swept);
+    tied = subst (λ k. AreTied k round.met.history after) (sym long_back) (tied_again (length workers) round.met.history played after collected);
     plays = λ t low. plays_here t (omega (arith, long_back));
     closed = state.closed ++ cs ∷ [];
     rounds = next.closed trace state.closed (state.rounds ∙ ap (λ l. state.closed ++ rounds_of l) first.whole);
@@ -378,27 +378,27 @@ none_past hosts t (c ∷ cs) all past =
     subst (λ b. length (if b then c ∷ lines_for t cs else lines_for t cs) ≡ 0) (sym (going.and_false (not (is_meet c.op)) (c.worker == t) (ne_eqb c.worker t other))) rest
 
 -- the run's end, once no end of a round is left
-pub state_ends : (volume : Volume) (patience : ℕ) (trace : List Command) (begun posts : List Post) → AreManned volume posts → RunState volume patience trace begun [] posts → HasEnded volume patience trace begun posts
-state_ends volume patience trace begun posts manned state =
+pub state_ends : (volume : Volume) (patience : ℕ) (trace : List Command) (begun workers : List Worker) → AreManned volume workers → RunState volume patience trace begun [] workers → HasEnded volume patience trace begun workers
+state_ends volume patience trace begun workers manned state =
     let n = sectors_of (geometry_of (flash_of volume)) in
     let h = state.history in
     let all : state.done ≡ trace = sym (append-nil state.done) ∙ (ap (λ l. state.done ++ l) (sym state.left) ∙ sym state.whole) in
-    let long : (t : ℕ) → t < length posts → length (rows_of posts t) ≡ line_count t trace = λ t low.
-    let p = some_post posts manned.some in
-    ap (λ (l : List Said). length l) (row_at posts t p low) ∙ ((state.cursor t p low).all ∙ ap (line_count t) all) in
-    let row_end : (t : ℕ) → t < length posts → take (line_count t trace) (rows_of posts t) ≡ rows_of posts t = λ t low.
-    take_all (line_count t trace) (rows_of posts t) (omega (arith, long t low)) in
-    let row_now : (t : ℕ) → t < length posts → take (line_count t state.done) (rows_of posts t) ≡ rows_of posts t = λ t low.
-    ap (λ l. take (line_count t l) (rows_of posts t)) all ∙ row_end t low in
-    let run : (t : ℕ) → t < length posts → HasRun t patience (denied_by volume begun t) (lines_for t trace) (rows_of posts t) (views_of volume (passes_of posts) t) = λ t low.
-    subst (λ (x : List Command × List Said). HasRun t patience (denied_by volume begun t) (lines_for t x.0) x.1 (views_of volume (passes_of posts) t)) (λ i. (all i, row_now t low i)) (state.each t low) in
-    let rounds : AreRounds n (length posts) [] (rounds_of trace) (rows_of posts) h = subst (λ rs. AreRounds n (length posts) [] rs (rows_of posts) h) (sym state.rounds) state.order in
+    let long : (t : ℕ) → t < length workers → length (rows_of workers t) ≡ line_count t trace = λ t low.
+    let p = some_worker workers manned.some in
+    ap (λ (l : List Said). length l) (row_at workers t p low) ∙ ((state.cursor t p low).all ∙ ap (line_count t) all) in
+    let row_end : (t : ℕ) → t < length workers → take (line_count t trace) (rows_of workers t) ≡ rows_of workers t = λ t low.
+    take_all (line_count t trace) (rows_of workers t) (omega (arith, long t low)) in
+    let row_now : (t : ℕ) → t < length workers → take (line_count t state.done) (rows_of workers t) ≡ rows_of workers t = λ t low.
+    ap (λ l. take (line_count t l) (rows_of workers t)) all ∙ row_end t low in
+    let run : (t : ℕ) → t < length workers → HasRun t patience (denied_by volume begun t) (lines_for t trace) (rows_of workers t) (views_of volume (passes_of workers) t) = λ t low.
+    subst (λ (x : List Command × List Said). HasRun t patience (denied_by volume begun t) (lines_for t x.0) x.1 (views_of volume (passes_of workers) t)) (λ i. (all i, row_now t low i)) (state.each t low) in
+    let rounds : AreRounds n (length workers) [] (rounds_of trace) (rows_of workers) h = subst (λ rs. AreRounds n (length workers) [] rs (rows_of workers) h) (sym state.rounds) state.order in
     record {
       count = λ t.
-          dite (dec_lt t (length posts))
+          dite (dec_lt t (length workers))
           (λ low.
           omega (arith, long t low))
-          (λ past. let none = none_past (length posts) t trace state.workers (omega arith) in omega (arith, none));
+          (λ past. let none = none_past (length workers) t trace state.known (omega arith) in omega (arith, none));
       dealt = state.dealt;
       told = record {
         history = h;
@@ -408,5 +408,5 @@ state_ends volume patience trace begun posts manned state =
         rounds = rounds;
       };
       each = run;
-      text = λ apart. run_is_text n h trace (rows_of posts) (rounds_go_on n (length posts) h trace (rows_of posts) rounds apart);
+      text = λ apart. run_is_text n h trace (rows_of workers) (rounds_go_on n (length workers) h trace (rows_of workers) rounds apart);
     }

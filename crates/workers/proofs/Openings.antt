@@ -28,12 +28,12 @@ use Rattle.volume.specs.declared.volume.Volume.{Volume}
 use Rattle.volume.specs.Volume.{flash_of}
 use Rattle.rounds.specs.Merging.{is_meet, is_line_of, lines_for}
 use Rattle.rounds.specs.Plans.{ends_of, items_of, places_for}
-use Rattle.workers.specs.declared.post.Post.{Post}
+use Rattle.workers.specs.declared.worker.Worker.{Worker}
 use Rattle.workers.specs.Dealing.{AreDoable}
 use Rattle.workers.specs.Meetings.{AreSeated, IsAt, passes_of, views_of}
 use Rattle.workers.specs.Runs.{AreManned, HasBegun, IsDealt}
 use Rattle.workers.specs.Shares.{HasPlayedNone, rows_for, with_commands, work_of}
-use Rattle.workers.proofs.Looping.{some_post}
+use Rattle.workers.proofs.Looping.{some_worker}
 use Rattle.workers.proofs.Walking.{lines_there, places_low}
 
 -- there is a host, so each worker of a command is one of the hosts
@@ -77,36 +77,36 @@ pub row_count : (hosts : ℕ) (cs : List Command) (rows : List (Vec ℕ Global))
 row_count hosts cs rows are =
     let size = ap (length {A = List ℕ}) are in omega (arith, size, length-map rows items_of, length-map-range_with_len (λ t. places_for t cs) 0 hosts)
 
--- a new device with posts that have their workers' lines
-module _ (volume : Volume) (geo : Geometry) (cs : List Command) (rows : List (Vec ℕ Global)) (passes : List Pass) (posts : List Post) (geometry : geometry_of (flash_of volume) ≡ geo) (some : 0 < hosts_of geo)
+-- a new device with workers that have their own lines
+module _ (volume : Volume) (geo : Geometry) (cs : List Command) (rows : List (Vec ℕ Global)) (passes : List Pass) (workers : List Worker) (geometry : geometry_of (flash_of volume) ≡ geo) (some : 0 < hosts_of geo)
     (playable : All (IsPlayable geo) cs) (rows_are : map items_of rows ≡ rows_for (hosts_of geo) cs) (count : length passes ≡ hosts_of geo)
-    (first : (t : ℕ) (p : Pass) → slice_get passes t ≡ Some p → view_of p ≡ first_view (device (flash_of volume)) t) (passes_are : passes_of posts ≡ passes)
-    (work : map work_of posts ≡ map (with_commands cs) rows) (at : All (IsAt volume) posts) (none : All HasPlayedNone posts) where
-  long : length posts ≡ hosts_of geo
-  long = (let size = ap (length {A = Pass}) passes_are in omega (arith, size, length-map posts (λ (p : Post). p.pass), count))
+    (first : (t : ℕ) (p : Pass) → slice_get passes t ≡ Some p → view_of p ≡ first_view (device (flash_of volume)) t) (passes_are : passes_of workers ≡ passes)
+    (work : map work_of workers ≡ map (with_commands cs) rows) (at : All (IsAt volume) workers) (none : All HasPlayedNone workers) where
+  long : length workers ≡ hosts_of geo
+  long = (let size = ap (length {A = Pass}) passes_are in omega (arith, size, length-map workers (λ (p : Worker). p.pass), count))
 
-  view_here : (t : ℕ) (p : Pass) → t < length (passes_of posts) → view_of (get_or (passes_of posts) t p) ≡ first_view (device (flash_of volume)) t
+  view_here : (t : ℕ) (p : Pass) → t < length (passes_of workers) → view_of (get_or (passes_of workers) t p) ≡ first_view (device (flash_of volume)) t
   view_here t p low =
-      first t (get_or (passes_of posts) t p) (subst (λ l. slice_get l t ≡ Some (get_or (passes_of posts) t p)) passes_are (slice_get-get_or (passes_of posts) t p low))
+      first t (get_or (passes_of workers) t p) (subst (λ l. slice_get l t ≡ Some (get_or (passes_of workers) t p)) passes_are (slice_get-get_or (passes_of workers) t p low))
 
-  views_here : (t : ℕ) → t < length posts → views_of volume (passes_of posts) t ≡ first_view (device (flash_of volume)) t
+  views_here : (t : ℕ) → t < length workers → views_of volume (passes_of workers) t ≡ first_view (device (flash_of volume)) t
   views_here t low =
-      let p = (some_post posts (omega (arith, long))).pass in
-      let there : t < length (passes_of posts) = omega (arith, length-map posts (λ (p : Post). p.pass)) in
-      get_or-map view_of (passes_of posts) t p (first_view (device (flash_of volume)) t) there ∙ view_here t p there
+      let p = (some_worker workers (omega (arith, long))).pass in
+      let there : t < length (passes_of workers) = omega (arith, length-map workers (λ (p : Worker). p.pass)) in
+      get_or-map view_of (passes_of workers) t p (first_view (device (flash_of volume)) t) there ∙ view_here t p there
 
-  work_here : (t : ℕ) (p : Post) → t < length posts → work_of (get_or posts t p) ≡ (cs, places_for t cs)
+  work_here : (t : ℕ) (p : Worker) → t < length workers → work_of (get_or workers t p) ≡ (cs, places_for t cs)
   work_here t p low =
       let each : List ℕ → List Command × List ℕ = λ l. (cs, l) in
       let row : map (with_commands cs) rows ≡ map (λ k. each (places_for k cs)) (range_with_len 0 (hosts_of geo)) =
       sym (map-map each items_of rows) ∙ (ap (map each) rows_are ∙ map-map each (λ k. places_for k cs) (range_with_len 0 (hosts_of geo))) in
-      sym (get_or-map work_of posts t p (cs, []) low)
+      sym (get_or-map work_of workers t p (cs, []) low)
       ∙ (ap (λ l. get_or l t (cs, [])) (work ∙ row) ∙ get_or-map-range_with_len (λ k. each (places_for k cs)) 0 (hosts_of geo) t t (cs, []) (omega (arith, long)) (zero-add t))
 
-  pub begun : HasBegun volume cs (ends_of cs) posts
+  pub begun : HasBegun volume cs (ends_of cs) workers
   begun = record {
     rounds = refl;
-    workers = subst (λ n. All (λ c. c.worker < n) cs) (sym long) (workers_low geo cs some playable);
+    known = subst (λ n. All (λ c. c.worker < n) cs) (sym long) (workers_low geo cs some playable);
     sectors = subst (λ (g : Geometry). All (λ c. c.sector < sectors_of g) cs) (sym geometry) (All-weaker (IsPlayable geo) (λ c. c.sector < sectors_of geo) (λ c p. p.sector) cs playable);
     dealt = λ t p low. record { commands = ap (λ w. w.0) (work_here t p low); places = ap (λ w. w.1) (work_here t p low) };
     none = none;
@@ -115,7 +115,7 @@ module _ (volume : Volume) (geo : Geometry) (cs : List Command) (rows : List (Ve
         (ap (λ (v : View). v.seen) is, ap (λ (v : View). v.mine) is, ap (λ (v : View). v.programs) is);
   }
 
-  pub manned : AreManned volume posts
+  pub manned : AreManned volume workers
   manned = record {
     some = omega (arith, long);
     all = long ∙ ap hosts_of (sym geometry);

@@ -10,7 +10,7 @@ use Rattle.broom.specs.Told.{KeepsSurvey}
 use Rattle.volume.specs.Volume.{queue_of}
 use Rattle.workers.specs.declared.broom_answer.BroomAnswer.{BroomAnswer}
 use Rattle.workers.specs.declared.broom_answer.BroomAnswer.TheVariants as by
-use Rattle.workers.specs.declared.sweeper.Sweeper.{Sweeper}
+use Rattle.workers.specs.declared.collector.Collector.{Collector}
 use Rattle.workers.specs.Growing.{HasGrown}
 use Rattle.workers.specs.Tallies.{IsCounted, total_of}
 
@@ -28,30 +28,30 @@ CallTold limit before (by.Erase given) after = EraseOneTold limit before given a
 CallTold limit before (by.Restock given) after = HasRestocked before given after
 
 -- the broom made calls with these results, one after another, and did nothing else
-abbrev pub HasCollected : ℕ → Broom → List BroomAnswer → Broom → Type 0
-HasCollected limit before [] after = after ≡ before
-HasCollected limit before (answer ∷ answers) after = (next : Broom) × CallTold limit before answer next × HasCollected limit next answers after
+abbrev pub HasMadeCalls : ℕ → Broom → List BroomAnswer → Broom → Type 0
+HasMadeCalls limit before [] after = after ≡ before
+HasMadeCalls limit before (answer ∷ answers) after = (next : Broom) × CallTold limit before answer next × HasMadeCalls limit next answers after
 
 -- how many drained blocks the queue of the broom's device has room for
-abbrev pub limit_at : Sweeper → ℕ
+abbrev pub limit_at : Collector → ℕ
 limit_at s = limit_of (queue_of (arc_value s.volume))
 
 -- The broom is the same one, at the same device, with the same limit of drains: it made calls with these results, and did nothing else.
 -- They were counted, and their count was added to what it knows to have done
-pub record HasSweptBy (before : Sweeper) (answers : List BroomAnswer) (after : Sweeper) : Type 0 where
+pub record HasCollectedBy (before : Collector) (answers : List BroomAnswer) (after : Collector) : Type 0 where
   pub volume : arc_value after.volume ≡ arc_value before.volume
   pub drains : after.drains ≡ before.drains
-  pub collected : HasCollected (limit_at before) before.broom answers after.broom
+  pub calls : HasMadeCalls (limit_at before) before.broom answers after.broom
   pub counted : IsCounted before.tally answers after.tally
   pub grown : HasGrown (view_of_broom before.broom) (total_of answers) (view_of_broom after.broom)
 
 -- the broom made some calls, and did nothing else
-abbrev pub HasSwept : Sweeper → Sweeper → Type 0
-HasSwept before after = (answers : List BroomAnswer) × HasSweptBy before answers after
+abbrev pub HasCollected : Collector → Collector → Type 0
+HasCollected before after = (answers : List BroomAnswer) × HasCollectedBy before answers after
 
 -- each broom did so, in order
-abbrev pub HaveSwept : List Sweeper → List Sweeper → Type 0
-HaveSwept [] [] = Unit {0}
-HaveSwept [] (s ∷ after) = ⊥
-HaveSwept (s ∷ before) [] = ⊥
-HaveSwept (s ∷ before) (t ∷ after) = HasSwept s t × HaveSwept before after
+abbrev pub HaveCollected : List Collector → List Collector → Type 0
+HaveCollected [] [] = Unit {0}
+HaveCollected [] (s ∷ after) = ⊥
+HaveCollected (s ∷ before) [] = ⊥
+HaveCollected (s ∷ before) (t ∷ after) = HasCollected s t × HaveCollected before after

@@ -29,7 +29,7 @@ AreReady-prop volume passes brooms = hlevel (props, IsBroomReady-prop)
 pub record AreNew (geo : Geometry) (volume : Volume) (passes : List Pass) (brooms : List Broom) : Type 0 where
   pub geometry : geometry_of (flash_of volume) ≡ geo
   pub playing : length passes ≡ hosts_of geo
-  pub sweeping : length brooms ≡ brooms_of geo
+  pub collecting : length brooms ≡ brooms_of geo
   pub first : (t : ℕ) (p : Pass) → slice_get passes t ≡ Some p → view_of p ≡ first_view (device (flash_of volume)) t
 
 -- these indexes are of lines that a device of this geometry can do

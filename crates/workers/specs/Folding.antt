@@ -4,20 +4,20 @@ use Rattle.flash_table.specs.GivingUp.{closed_broom}
 use Rattle.broom.specs.Ends.{folded_place, folded_view}
 use Rattle.broom.specs.Handing.{LeftAt}
 use Rattle.broom.specs.Ready.{blocks_of_broom, view_of_broom}
-use Rattle.workers.specs.declared.sweeper.Sweeper.{Sweeper}
-use Rattle.workers.specs.declared.sweeper_end.SweeperEnd.{SweeperEnd}
+use Rattle.workers.specs.declared.collector.Collector.{Collector}
+use Rattle.workers.specs.declared.collector_end.CollectorEnd.{CollectorEnd}
 use Rattle.workers.specs.Collecting.{limit_at}
 
 -- A broom was given up, and its tally kept. The blocks that it had are closed. What it had set aside was put into the queue, or the queue
 -- was full
-pub record HasFolded (s : Sweeper) (end : SweeperEnd) : Type 0 where
+pub record HasFolded (s : Collector) (end : CollectorEnd) : Type 0 where
   pub tally : end.tally ≡ s.tally
   pub view : folded_view end.folded ≡ closed_broom (view_of_broom s.broom) (blocks_of_broom s.broom)
   pub place : LeftAt (limit_at s) s.broom (folded_place end.folded)
 
 -- each broom was, in order
-abbrev pub HaveFolded : List Sweeper → List SweeperEnd → Type 0
+abbrev pub HaveFolded : List Collector → List CollectorEnd → Type 0
 HaveFolded [] [] = Unit {0}
 HaveFolded [] (end ∷ ends) = ⊥
-HaveFolded (s ∷ sweepers) [] = ⊥
-HaveFolded (s ∷ sweepers) (end ∷ ends) = HasFolded s end × HaveFolded sweepers ends
+HaveFolded (s ∷ collectors) [] = ⊥
+HaveFolded (s ∷ collectors) (end ∷ ends) = HasFolded s end × HaveFolded collectors ends

@@ -1,6 +1,6 @@
 -- What public contracts rest on.
 pub mod Able
-pub mod Posts
+pub mod Workers
 pub mod Meetings
 pub mod Runs
 pub mod Commands
@@ -10,7 +10,7 @@ pub mod Collecting
 pub mod Folding
 pub mod Playable
 -- Internal: the threads of a round.
-pub mod Turns
+pub mod Tasks
 pub mod BroomThreads
 -- Internal: the opening of a run.
 pub mod Dealing

@@ -1,4 +1,4 @@
--- The passes of posts, by their numbers, and what a meeting of all leaves unchanged.
+-- The passes of workers, by their numbers, and what a meeting of all leaves unchanged.
 use Rattle.std.specs.Prelude.{◌≡◌, ℕ, ◌<◌, List, map, length, slice_index_or}
 use Rattle.std.specs.Arc.{arc_value}
 use Rattle.geometry.specs.History.{Call}
@@ -12,23 +12,23 @@ use Rattle.rounds.specs.declared.answer_list.Answers.{Answers}
 use Rattle.volume.specs.Closing.{HasLooked}
 use Rattle.volume.specs.declared.volume.Volume.{Volume}
 use Rattle.volume.specs.Volume.{flash_of}
-use Rattle.rounds.specs.Meetings.{WereSwept}
-use Rattle.workers.specs.declared.post.Post.{Post}
+use Rattle.rounds.specs.Meetings.{HaveMet}
+use Rattle.workers.specs.declared.worker.Worker.{Worker}
 
--- the post is one of this volume
-abbrev pub IsAt : Volume → Post → Type 0
+-- the worker is one of this volume
+abbrev pub IsAt : Volume → Worker → Type 0
 IsAt volume p = arc_value p.volume ≡ volume
 
--- the passes of posts
-abbrev pub passes_of : List Post → List Pass
-passes_of posts = map (λ p. p.pass) posts
+-- the passes of workers
+abbrev pub passes_of : List Worker → List Pass
+passes_of workers = map (λ p. p.pass) workers
 
--- what a post has besides its pass
+-- what a worker has besides its pass
 abbrev pub Rest : Type 0
 Rest = Volume × List Command × List ℕ × Answers × List ℕ × ℕ
 
--- a post without its pass
-abbrev pub rest_of : Post → Rest
+-- a worker without its pass
+abbrev pub rest_of : Worker → Rest
 rest_of p = (arc_value p.volume, arc_value p.commands, p.places.items, p.answers, p.buffer.items, p.to)
 
 -- what the passes know, by their numbers
@@ -43,5 +43,5 @@ AreSeated passes = (t : ℕ) (p : Pass) → t < length passes → (view_of (slic
 pub record PassesMet (volume : Volume) (before after : List Pass) : Type 0 where
   pub long : length after ≡ length before
   pub history : List Call
-  pub swept : WereSwept (length before) history (views_of volume before) (views_of volume after)
+  pub have_met : HaveMet (length before) history (views_of volume before) (views_of volume after)
   pub looked : (t : ℕ) → t < length before → HasLooked (views_of volume before t) (views_of volume after t)

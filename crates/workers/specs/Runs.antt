@@ -1,4 +1,4 @@
--- A run over the rounds of a trace: what the posts hold, and what was answered so far.
+-- A run over the rounds of a trace: what the workers hold, and what was answered so far.
 use Rattle.std.specs.Prelude.{◌≡◌, ℕ, ◌<◌, ◌≤◌, All, List, [], ◌++◌, map, length, slice_index, slice_index_or}
 use Rattle.std.specs.Arc.{arc_value}
 use Rattle.geometry.specs.Geometry.{hosts_of, sectors_of}
@@ -14,15 +14,15 @@ use Rattle.rounds.specs.Merging.{lines_for, merge, HaveAnswers, IsDisjointTrace}
 use Rattle.rounds.specs.Plans.{places_for, ends_of}
 use Rattle.rounds.specs.Rows.{AreAtOneHistory}
 use Rattle.rounds.specs.Texts.{lines_text, IsTextOfSome}
-use Rattle.workers.specs.declared.post.Post.{Post}
+use Rattle.workers.specs.declared.worker.Worker.{Worker}
 use Rattle.workers.specs.Meetings.{AreSeated, IsAt, PassesMet, passes_of, rest_of, views_of}
-use Rattle.workers.specs.Posts.{answered}
+use Rattle.workers.specs.Workers.{answered}
 use Rattle.workers.specs.Shares.{HasPlayedNone}
-use Rattle.workers.specs.Turns.{HavePlayed}
+use Rattle.workers.specs.Tasks.{HavePlayed}
 
--- The post goes on to its next round: up to the lines of its share before an end, after those of the round before. Nothing else of it
+-- The worker goes on to its next round: up to the lines of its share before an end, after those of the round before. Nothing else of it
 -- changes
-pub record IsTurned (end : ℕ) (p q : Post) : Type 0 where
+pub record IsAdvanced (end : ℕ) (p q : Worker) : Type 0 where
   pub volume : arc_value q.volume ≡ arc_value p.volume
   pub commands : arc_value q.commands ≡ arc_value p.commands
   pub pass : q.pass ≡ p.pass
@@ -32,57 +32,57 @@ pub record IsTurned (end : ℕ) (p q : Post) : Type 0 where
   pub before : (k : ℕ) → p.to ≤ k → k < q.to → slice_index p.places.items k < end
   pub behind : q.to < length p.places.items → end ≤ slice_index p.places.items q.to
 
--- and so does each post of a row
-pub record AreTurned (end : ℕ) (ps qs : List Post) : Type 0 where
+-- and so does each worker of a row
+pub record AreAdvanced (end : ℕ) (ps qs : List Worker) : Type 0 where
   pub long : length qs ≡ length ps
-  pub each : (k : ℕ) (p q : Post) → k < length ps → IsTurned end (slice_index_or ps k p) (slice_index_or qs k q)
+  pub each : (k : ℕ) (p q : Worker) → k < length ps → IsAdvanced end (slice_index_or ps k p) (slice_index_or qs k q)
 
--- A round was played: each post has gone on to it and has played its lines, and then all passes have met
-pub record RoundPlayed (volume : Volume) (patience end : ℕ) (posts back : List Post) : Type 0 where
-  pub turned : List Post
-  pub turn : AreTurned end posts turned
-  pub between : List Post
-  pub played : HavePlayed patience turned between
+-- A round was played: each worker has gone on to it and has played its lines, and then all passes have met
+pub record RoundPlayed (volume : Volume) (patience end : ℕ) (workers back : List Worker) : Type 0 where
+  pub advanced : List Worker
+  pub advance : AreAdvanced end workers advanced
+  pub between : List Worker
+  pub played : HavePlayed patience advanced between
   pub met : PassesMet volume (passes_of between) (passes_of back)
   pub rest : map rest_of back ≡ map rest_of between
 
--- the posts can play a round: there is one for each pass of this volume, at its number
-pub record AreManned (volume : Volume) (posts : List Post) : Type 0 where
-  pub some : 0 < length posts
-  pub all : length posts ≡ hosts_of (geometry_of (flash_of volume))
-  pub at : All (IsAt volume) posts
-  pub seated : AreSeated (passes_of posts)
+-- the workers can play a round: there is one for each pass of this volume, at its number
+pub record AreManned (volume : Volume) (workers : List Worker) : Type 0 where
+  pub some : 0 < length workers
+  pub all : length workers ≡ hosts_of (geometry_of (flash_of volume))
+  pub at : All (IsAt volume) workers
+  pub seated : AreSeated (passes_of workers)
 
--- the post has no line in the round
-abbrev pub IsIdle : Post → Type 0
+-- the worker has no line in the round
+abbrev pub IsIdle : Worker → Type 0
 IsIdle p = p.to ≤ answered p
 
--- the answers of a post's lines
-abbrev pub answers_of : Post → List Said
+-- the answers of a worker's lines
+abbrev pub answers_of : Worker → List Said
 answers_of p = said_in p.answers
 
 -- the answers of each worker's lines, by the worker's number
-abbrev pub rows_of : List Post → ℕ → List Said
-rows_of posts t = slice_index_or (map answers_of posts) t []
+abbrev pub rows_of : List Worker → ℕ → List Said
+rows_of workers t = slice_index_or (map answers_of workers) t []
 
--- a post has its worker's lines of this trace
-pub record IsDealt (trace : List Command) (t : ℕ) (p : Post) : Type 0 where
+-- a worker has its own lines of this trace
+pub record IsDealt (trace : List Command) (t : ℕ) (p : Worker) : Type 0 where
   pub commands : arc_value p.commands ≡ trace
   pub places : p.places.items ≡ places_for t trace
 
--- A run of this trace is about to begin: its workers and sectors are those of the volume, each post has its worker's lines and has played
+-- A run of this trace is about to begin: its workers and sectors are those of the volume, each worker has its own lines and has played
 -- none, and no pass has seen a call
-pub record HasBegun (volume : Volume) (trace : List Command) (ends : List ℕ) (posts : List Post) : Type 0 where
+pub record HasBegun (volume : Volume) (trace : List Command) (ends : List ℕ) (workers : List Worker) : Type 0 where
   pub rounds : ends ≡ ends_of trace
-  pub workers : All (λ c. c.worker < length posts) trace
+  pub known : All (λ c. c.worker < length workers) trace
   pub sectors : All (λ c. c.sector < sectors_of (geometry_of (flash_of volume))) trace
-  pub dealt : (t : ℕ) (p : Post) → t < length posts → IsDealt trace t (slice_index_or posts t p)
-  pub none : (t : ℕ) (p : Post) → t < length posts → HasPlayedNone (slice_index_or posts t p)
-  pub new : (t : ℕ) → t < length posts → ((views_of volume (passes_of posts) t).seen ≡ []) × ((views_of volume (passes_of posts) t).mine ≡ []) × ((views_of volume (passes_of posts) t).programs ≡ [])
+  pub dealt : (t : ℕ) (p : Worker) → t < length workers → IsDealt trace t (slice_index_or workers t p)
+  pub none : (t : ℕ) (p : Worker) → t < length workers → HasPlayedNone (slice_index_or workers t p)
+  pub new : (t : ℕ) → t < length workers → ((views_of volume (passes_of workers) t).seen ≡ []) × ((views_of volume (passes_of workers) t).mine ≡ []) × ((views_of volume (passes_of workers) t).programs ≡ [])
 
--- the blocks that a post's pass has found taken
-abbrev pub denied_by : Volume → List Post → ℕ → List ℕ
-denied_by volume posts t = (views_of volume (passes_of posts) t).denied
+-- the blocks that a worker's pass has found taken
+abbrev pub denied_by : Volume → List Worker → ℕ → List ℕ
+denied_by volume workers t = (views_of volume (passes_of workers) t).denied
 
 -- What a worker has done in a run, by what its pass knows: it has answered its lines one after another, each rightly at a history; it has
 -- made exactly their calls; it has programmed a page for each write that was done; and it has found taken, after what it had found taken
@@ -97,13 +97,13 @@ pub record HasRun (t patience : ℕ) (earlier : List ℕ) (lines : List Command)
 
 -- A run of this trace has ended: each worker has answered all its lines, all at one history, and if the trace is disjoint, the text of the
 -- answers is that of the trace, with the writes turned away at some set of lines
-pub record HasEnded (volume : Volume) (patience : ℕ) (trace : List Command) (before posts : List Post) : Type 0 where
-  pub count : HaveAnswers (rows_of posts) trace
-  pub dealt : (t : ℕ) (p : Post) → t < length posts → IsDealt trace t (slice_index_or posts t p)
-  pub told : AreAtOneHistory (sectors_of (geometry_of (flash_of volume))) (length posts) trace (rows_of posts)
-  pub each : (t : ℕ) → t < length posts → HasRun t patience (denied_by volume before t) (lines_for t trace) (rows_of posts t) (views_of volume (passes_of posts) t)
-  pub text : IsDisjointTrace trace → IsTextOfSome (sectors_of (geometry_of (flash_of volume))) trace (lines_text 0 (merge trace (rows_of posts)))
+pub record HasEnded (volume : Volume) (patience : ℕ) (trace : List Command) (before workers : List Worker) : Type 0 where
+  pub count : HaveAnswers (rows_of workers) trace
+  pub dealt : (t : ℕ) (p : Worker) → t < length workers → IsDealt trace t (slice_index_or workers t p)
+  pub told : AreAtOneHistory (sectors_of (geometry_of (flash_of volume))) (length workers) trace (rows_of workers)
+  pub each : (t : ℕ) → t < length workers → HasRun t patience (denied_by volume before t) (lines_for t trace) (rows_of workers t) (views_of volume (passes_of workers) t)
+  pub text : IsDisjointTrace trace → IsTextOfSome (sectors_of (geometry_of (flash_of volume))) trace (lines_text 0 (merge trace (rows_of workers)))
 
--- a run of any trace that these posts were about to play has ended with those
-abbrev pub EndsRun : Volume → ℕ → List ℕ → List Post → List Post → Type 0
+-- a run of any trace that these workers were about to play has ended with those
+abbrev pub EndsRun : Volume → ℕ → List ℕ → List Worker → List Worker → Type 0
 EndsRun volume patience ends before after = (trace : List Command) → HasBegun volume trace ends before → HasEnded volume patience trace before after

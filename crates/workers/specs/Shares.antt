@@ -1,4 +1,4 @@
--- The shares of a trace, and the posts that they make.
+-- The shares of a trace, and the workers that they make.
 use Rattle.std.specs.Prelude.{◌≡◌, ℕ, List, [], Vec, map}
 use Rattle.std.specs.declared.sync.Arc.{Arc}
 use Rattle.std.specs.Arc.{arc_value}
@@ -9,7 +9,7 @@ use Rattle.trace.specs.declared.commands.Command.{Command}
 use Rattle.rounds.specs.Answers.{said_in}
 use Rattle.volume.specs.declared.volume.Volume.{Volume}
 use Rattle.rounds.specs.Plans.{places_for}
-use Rattle.workers.specs.declared.post.Post.{Post}
+use Rattle.workers.specs.declared.worker.Worker.{Worker}
 use Rattle.workers.specs.declared.share.Share.{Share}
 use Rattle.workers.specs.Dealing.{IsFit}
 
@@ -29,12 +29,12 @@ rows_for hosts cs = map (λ t. places_for t cs) (range_with_len 0 hosts)
 abbrev pub HasFitShare : Geometry → Share → Type 0
 HasFitShare geo s = IsFit geo (arc_value s.commands) s.places.items s.answers s.buffer.items
 
--- the commands that a post has, and the indexes of its lines among them
-abbrev pub work_of : Post → List Command × List ℕ
+-- the commands that a worker has, and the indexes of its lines among them
+abbrev pub work_of : Worker → List Command × List ℕ
 work_of p = (arc_value p.commands, p.places.items)
 
--- the post has played no line
-abbrev pub HasPlayedNone : Post → Type 0
+-- the worker has played no line
+abbrev pub HasPlayedNone : Worker → Type 0
 HasPlayedNone p = (p.to ≡ 0) × (said_in p.answers ≡ [])
 
 -- an owner of this device

@@ -1,11 +1,11 @@
-//! A broom's thread: it sweeps until the round ends.
+//! A broom's thread: it collects until the round ends.
 ghost use Rattle.std.specs.Prelude.{◌≡◌, IfOk};
-ghost use Rattle.workers.specs.Collecting.{HasSwept};
+ghost use Rattle.workers.specs.Collecting.{HasCollected};
 ghost use Rattle.workers.specs.BroomThreads.{given_to};
 
-use crate::collecting::sweep;
-use crate::starts::NoShift;
-use crate::sweeper::Sweeper;
+use crate::collecting::collect;
+use crate::collector::Collector;
+use crate::fault::RoundFault;
 use flash_table::Gate;
 use std::snapshot::Snapshot;
 use std::sync::Wait;
@@ -15,42 +15,42 @@ use std::time::Clock;
 
 /// That a broom comes back with drains, erases and restocks done, and nothing else.
 #[derive(Drop)]
-pub struct SweepOf {
-    pub before: Snapshot<Sweeper>,
+pub struct CollectOf {
+    pub before: Snapshot<Collector>,
 }
 
-impl Promise<Sweeper> for SweepOf {
-    ghost kept_by = { λ p s. HasSwept p.before.value s };
+impl Promise<Collector> for CollectOf {
+    ghost kept_by = { λ p s. HasCollected p.before.value s };
 }
 
 /// A broom that was sent out, and its thread.
 #[derive(Drop)]
 pub struct BroomThread {
-    pub handle: PromisedHandle<Sweeper, SweepOf>,
+    pub handle: PromisedHandle<Collector, CollectOf>,
 }
 
 // Starts a broom.
-pub(crate) fn start_sweeper<'s, E, R: Threads + Wait + Clock + Sync, G: Gate + Send>(
+pub(crate) fn start_collector<'s, E, R: Threads + Wait + Clock + Sync, G: Gate + Send>(
     scope: &Scope<'s, E>,
     rt: &'s R,
-    sweeper: Sweeper,
+    collector: Collector,
     stop: &'s AtomicBool,
     gate: &'s mut G,
-) -> Result<BroomThread, NoShift>
-    ensures { IfOk result (λ thread. given_to thread ≡ sweeper) }
+) -> Result<BroomThread, RoundFault>
+    ensures { IfOk result (λ thread. given_to thread ≡ collector) }
 {
-    let promise = SweepOf {
-        before: Snapshot::of(&sweeper),
+    let promise = CollectOf {
+        before: Snapshot::of(&collector),
     };
-    match scope.spawn_with(promise, move || sweep(rt, sweeper, stop, gate)) {
+    match scope.spawn_with(promise, move || collect(rt, collector, stop, gate)) {
         Ok(handle) => Ok(BroomThread { handle }),
-        Err(_refused) => Err(NoShift::Threads),
+        Err(_refused) => Err(RoundFault::Threads),
     }
 }
 
 // The broom once its thread has ended.
-pub(crate) fn join_sweeper<R: Threads>(rt: &R, thread: BroomThread) -> Sweeper
-    ensures { HasSwept (given_to thread) result }
+pub(crate) fn join_collector<R: Threads>(rt: &R, thread: BroomThread) -> Collector
+    ensures { HasCollected (given_to thread) result }
 {
     let BroomThread { handle } = thread;
     handle.join(rt)

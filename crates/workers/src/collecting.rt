@@ -1,10 +1,10 @@
 //! What a broom does beside the workers of a round.
 ghost use Rattle.std.specs.Prelude.{[], ◌∷◌};
 ghost use Rattle.workers.specs.declared.broom_answer.BroomAnswer.TheVariants as by;
-ghost use Rattle.workers.specs.Collecting.{HasSwept, HasSweptBy};
+ghost use Rattle.workers.specs.Collecting.{HasCollected, HasCollectedBy};
 
 use crate::broom_answer::BroomAnswer;
-use crate::sweeper::Sweeper;
+use crate::collector::Collector;
 use broom::{Drain, Erase};
 use flash_table::Gate;
 use std::sync::Wait;
@@ -42,9 +42,9 @@ fn has_erased(erase: Erase) -> bool {
     }
 }
 
-impl Sweeper {
+impl Collector {
     fn drain<G: Gate>(&mut self, rt: &impl Wait, gate: &mut G) -> Drain
-        ensures { HasSweptBy self.old (by.Drain result ∷ []) self.new }
+        ensures { HasCollectedBy self.old (by.Drain result ∷ []) self.new }
     {
         let drain = self.volume.drain_one(rt, &mut self.broom, gate);
         self.tally = self.tally.with_answer(BroomAnswer::Drain(drain));
@@ -52,7 +52,7 @@ impl Sweeper {
     }
 
     fn drain_next<G: Gate>(&mut self, rt: &impl Wait, gate: &mut G) -> Drain
-        ensures { HasSweptBy self.old (by.DrainNext result ∷ []) self.new }
+        ensures { HasCollectedBy self.old (by.DrainNext result ∷ []) self.new }
     {
         let drain = self.volume.drain_next_one(rt, &mut self.broom, gate);
         self.tally = self.tally.with_answer(BroomAnswer::DrainNext(drain));
@@ -60,7 +60,7 @@ impl Sweeper {
     }
 
     fn erase<G: Gate>(&mut self, rt: &impl Wait, gate: &mut G) -> Erase
-        ensures { HasSweptBy self.old (by.Erase result ∷ []) self.new }
+        ensures { HasCollectedBy self.old (by.Erase result ∷ []) self.new }
     {
         let erase = self.volume.erase_one(rt, &mut self.broom, gate);
         self.tally = self.tally.with_answer(BroomAnswer::Erase(erase));
@@ -68,7 +68,7 @@ impl Sweeper {
     }
 
     fn restock(&mut self) -> bool
-        ensures { HasSweptBy self.old (by.Restock result ∷ []) self.new }
+        ensures { HasCollectedBy self.old (by.Restock result ∷ []) self.new }
     {
         let has_spare = self.volume.restock(&mut self.broom);
         self.tally = self.tally.with_answer(BroomAnswer::Restock(has_spare));
@@ -77,7 +77,7 @@ impl Sweeper {
 
     // What follows a drain: an erase, and a restock where neither left a spare. The answer is whether anything was gained.
     fn follow<G: Gate>(&mut self, drain: Drain, rt: &impl Wait, gate: &mut G) -> bool
-        ensures { HasSwept self.old self.new }
+        ensures { HasCollected self.old self.new }
     {
         let erase = self.erase(rt, gate);
         let gained = has_drained(drain) || has_erased(erase);
@@ -90,7 +90,7 @@ impl Sweeper {
     // A drain by a new survey, and drains by that one as long as it gives some, each with an erase. The answer is whether anything was
     // gained.
     fn turn<G: Gate>(&mut self, rt: &impl Wait, stop: &AtomicBool, gate: &mut G) -> bool
-        ensures { HasSwept self.old self.new }
+        ensures { HasCollected self.old self.new }
     {
         let mut drain = self.drain(rt, gate);
         let mut gained = self.follow(drain, rt, gate);
@@ -121,28 +121,28 @@ fn rest(clock: &impl Clock, micros: u64, longest: u64) -> u64 {
 }
 
 // Takes turns until the flag is set, and rests where a turn has gained nothing.
-#[tactic(auto, using(crate::proofs::Swept::swept_none))]
-pub(crate) fn sweep<R: Wait + Clock, G: Gate>(
+#[tactic(auto, using(crate::proofs::Collected::collected_none))]
+pub(crate) fn collect<R: Wait + Clock, G: Gate>(
     rt: &R,
-    sweeper: Sweeper,
+    collector: Collector,
     stop: &AtomicBool,
     gate: &mut G,
-) -> Sweeper
-    ensures { HasSwept sweeper result }
+) -> Collector
+    ensures { HasCollected collector result }
 {
-    let mut sweeper = sweeper;
-    let longest = sweeper.longest_sleep();
+    let mut collector = collector;
+    let longest = collector.longest_sleep();
     let mut micros = 0;
     for _ in rt.forever() {
         if stop.load(Ordering::SeqCst) {
-            return sweeper;
+            return collector;
         }
-        if sweeper.turn(rt, stop, gate) {
+        if collector.turn(rt, stop, gate) {
             micros = 0;
             continue;
         }
         if stop.load(Ordering::SeqCst) {
-            return sweeper;
+            return collector;
         }
         micros = rest(rt, micros, longest);
     }

@@ -8,14 +8,13 @@ ghost use Rattle.rounds.specs.Rows.{answers_by};
 ghost use Rattle.workers.specs.Commands.{ArePlayed};
 
 use crate::dealing::deal;
-use crate::leaving::{fold_sweepers, hand_out};
+use crate::fault::RoundFault;
+use crate::leaving::{fold_collectors, hand_out};
 use crate::runs::play_rounds;
-use crate::starts::NoShift;
 use crate::team::Team;
 use flash_table::Gate;
 use geometry::Geometry;
-use rounds::Answers;
-use rounds::Plan;
+use rounds::{Answers, Plan};
 use std::alloc::Global;
 use std::sync::{Arc, Wait};
 use std::thread::Threads;
@@ -33,7 +32,7 @@ pub fn play_commands<R: Threads + Wait + Clock + Sync, G: Gate + Send>(
     patience: u32,
     drains: u32,
     gates: &mut [G],
-) -> Result<Vec<Answers>, NoShift>
+) -> Result<Vec<Answers>, RoundFault>
     requires hosts { 0 < hosts_of geometry.now }
     requires playable { All (IsPlayable geometry.now) (arc_value commands.now) }
     requires gates { length gates.old ≡ hosts_of geometry.now + brooms_of geometry.now }
@@ -47,12 +46,12 @@ pub fn play_commands<R: Threads + Wait + Clock + Sync, G: Gate + Send>(
     let (volume, team) = deal(alloc, geometry, commands, places, drains)?;
     let team = play_rounds(rt, &volume, team, &ends, patience, gates)?;
     let Team {
-        posts,
-        sweepers,
-        turns: _,
-        sweeping: _,
+        workers,
+        collectors,
+        tasks: _,
+        collecting: _,
     } = team;
-    fold_sweepers(rt, sweepers, &mut brooms);
-    hand_out(posts, &mut rows);
+    fold_collectors(rt, collectors, &mut brooms);
+    hand_out(workers, &mut rows);
     Ok(rows)
 }

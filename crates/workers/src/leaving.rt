@@ -6,11 +6,11 @@ ghost use Rattle.volume.specs.Brooms.{IsBroomReady};
 ghost use Rattle.volume.specs.Volume.{flash_of};
 ghost use Rattle.workers.specs.Dealing.{AreReady};
 ghost use Rattle.workers.specs.Folding.{HaveFolded};
-ghost use Rattle.workers.specs.Posts.{answers_kept};
+ghost use Rattle.workers.specs.Workers.{answers_kept};
 
-use crate::post::Post;
-use crate::sweeper::Sweeper;
-use crate::sweeper_end::SweeperEnd;
+use crate::collector::Collector;
+use crate::collector_end::CollectorEnd;
+use crate::worker::Worker;
 use broom::Broom;
 use flash_table::Pass;
 use rounds::Answers;
@@ -19,26 +19,26 @@ use std::sync::Wait;
 use volume::Volume;
 
 /// Gives up the brooms, and lists what each has done and knew last, in order. A block that one has set aside goes to the queue.
-pub fn fold_sweepers<R: Wait>(rt: &R, sweepers: Vec<Sweeper>, ends: &mut Vec<SweeperEnd>)
+pub fn fold_collectors<R: Wait>(rt: &R, collectors: Vec<Collector>, ends: &mut Vec<CollectorEnd>)
     requires none { length ends.old.items ≡ 0 }
-    requires room { length sweepers.items ≤ vec_capacity ends.old }
-    ensures { HaveFolded sweepers.items ends.new.items }
+    requires room { length collectors.items ≤ vec_capacity ends.old }
+    ensures { HaveFolded collectors.items ends.new.items }
 {
-    let mut sweepers = VecDeque::from_vec(sweepers);
-    while let Some(sweeper) = sweepers.pop_front() {
-        ends.push_reserved(sweeper.fold(rt));
+    let mut collectors = VecDeque::from_vec(collectors);
+    while let Some(collector) = collectors.pop_front() {
+        ends.push_reserved(collector.fold(rt));
     }
 }
 
 /// Lists each worker's answers, in the order of the workers, and gives up the passes.
-pub fn hand_out(posts: Vec<Post>, rows: &mut Vec<Answers>)
+pub fn hand_out(workers: Vec<Worker>, rows: &mut Vec<Answers>)
     requires none { length rows.old.items ≡ 0 }
-    requires room { length posts.items ≤ vec_capacity rows.old }
-    ensures { rows.new.items ≡ map answers_kept posts.items }
+    requires room { length workers.items ≤ vec_capacity rows.old }
+    ensures { rows.new.items ≡ map answers_kept workers.items }
 {
-    let mut posts = VecDeque::from_vec(posts);
-    while let Some(post) = posts.pop_front() {
-        rows.push_reserved(post.into_answers());
+    let mut workers = VecDeque::from_vec(workers);
+    while let Some(worker) = workers.pop_front() {
+        rows.push_reserved(worker.into_answers());
     }
 }
 

@@ -8,11 +8,11 @@ ghost use Rattle.volume.specs.Gathering.{MetEach};
 ghost use Rattle.volume.specs.Volume.{flash_of};
 ghost use Rattle.workers.specs.Meetings.{AreSeated, IsAt, PassesMet, passes_of, rest_of};
 
-use crate::post::Post;
+use crate::worker::Worker;
 use volume::Volume;
 
-// Two posts' passes meet.
-fn meet_two(volume: &Volume, first: &mut Post, second: &mut Post)
+// Two workers' passes meet.
+fn meet_two(volume: &Volume, first: &mut Worker, second: &mut Worker)
     requires first { IsAt volume.now first.old }
     requires second { IsAt volume.now second.old }
     ensures told { MetTold (view_of first.old.pass) (view_of second.old.pass) (view_of first.new.pass) (view_of second.new.pass) }
@@ -22,8 +22,8 @@ fn meet_two(volume: &Volume, first: &mut Post, second: &mut Post)
     volume.meet(&mut first.pass, &mut second.pass);
 }
 
-// The first post's pass meets each other one's.
-fn meet_others(volume: &Volume, first: &mut Post, others: &mut [Post])
+// The first worker's pass meets each other one's.
+fn meet_others(volume: &Volume, first: &mut Worker, others: &mut [Worker])
     requires first { IsAt volume.now first.old }
     requires others { All (IsAt volume.now) others.old }
     ensures told { MetEach (view_of first.old.pass) (passes_of others.old) (view_of first.new.pass) (passes_of others.new) }
@@ -37,16 +37,16 @@ fn meet_others(volume: &Volume, first: &mut Post, others: &mut [Post])
 
 /// All passes meet: the first pass meets each other one, and then each of them once more, so that every pass has seen all calls that were made
 /// before.
-pub fn sweep_posts(volume: &Volume, posts: &mut [Post])
-    requires some { 0 < length posts.old }
-    requires all { length posts.old ≡ hosts_of (geometry_of (flash_of volume.now)) }
-    requires at { All (IsAt volume.now) posts.old }
-    requires seated { AreSeated (passes_of posts.old) }
-    ensures swept { PassesMet volume.now (passes_of posts.old) (passes_of posts.new) }
-    ensures rest { map rest_of posts.new ≡ map rest_of posts.old }
-    ensures seated { AreSeated (passes_of posts.new) }
+pub fn meet_all(volume: &Volume, workers: &mut [Worker])
+    requires some { 0 < length workers.old }
+    requires all { length workers.old ≡ hosts_of (geometry_of (flash_of volume.now)) }
+    requires at { All (IsAt volume.now) workers.old }
+    requires seated { AreSeated (passes_of workers.old) }
+    ensures all_met { PassesMet volume.now (passes_of workers.old) (passes_of workers.new) }
+    ensures rest { map rest_of workers.new ≡ map rest_of workers.old }
+    ensures seated { AreSeated (passes_of workers.new) }
 {
-    let Some((first, others)) = posts.split_first_mut() else {
+    let Some((first, others)) = workers.split_first_mut() else {
         unreachable!()
     };
     // What the others have seen, the first pass sees.

@@ -2,15 +2,15 @@
 //! to stop.
 ghost use Rattle.std.specs.Prelude.{◌≡◌, ◌+◌, ◌≤◌, ◌++◌, IfOk, OnOk, length, map};
 ghost use Rattle.std.specs.VecDeque.{deque_capacity, deque_len};
-ghost use Rattle.workers.specs.Collecting.{HaveSwept};
+ghost use Rattle.workers.specs.Collecting.{HaveCollected};
 ghost use Rattle.workers.specs.BroomThreads.{given_to};
-ghost use Rattle.workers.specs.Turns.{asked, HaveGone, HaveSetOut, HaveTurned, HavePlayed};
+ghost use Rattle.workers.specs.Tasks.{asked, HaveGone, HaveSetOut, WerePlayed, HavePlayed};
 
-use crate::broom_thread::{BroomThread, join_sweeper, start_sweeper};
-use crate::post::Post;
-use crate::starts::NoShift;
-use crate::sweeper::Sweeper;
-use crate::turns::{Turn, join_post, start_post};
+use crate::broom_thread::{BroomThread, join_collector, start_collector};
+use crate::collector::Collector;
+use crate::fault::RoundFault;
+use crate::tasks::{Task, join_worker, start_worker};
+use crate::worker::Worker;
 use flash_table::Gate;
 use std::alloc::{AllocError, Global};
 use std::collections::VecDeque;
@@ -22,29 +22,33 @@ use std::time::Clock;
 /// The workers and the brooms of a run, and room for the handles of their threads, which is allocated once.
 #[derive(Drop)]
 pub struct Team {
-    pub posts: Vec<Post>,
-    pub sweepers: Vec<Sweeper>,
-    pub turns: VecDeque<Turn>,
-    pub sweeping: VecDeque<BroomThread>,
-    pub ghost posts_room: { length posts.items ≤ deque_capacity turns },
-    pub ghost sweepers_room: { length sweepers.items ≤ deque_capacity sweeping },
-    pub ghost no_turn: { deque_len turns ≡ 0 },
-    pub ghost no_sweep: { deque_len sweeping ≡ 0 },
+    pub workers: Vec<Worker>,
+    pub collectors: Vec<Collector>,
+    pub tasks: VecDeque<Task>,
+    pub collecting: VecDeque<BroomThread>,
+    pub ghost workers_room: { length workers.items ≤ deque_capacity tasks },
+    pub ghost collectors_room: { length collectors.items ≤ deque_capacity collecting },
+    pub ghost no_task: { deque_len tasks ≡ 0 },
+    pub ghost no_thread: { deque_len collecting ≡ 0 },
 }
 
 impl Team {
     /// These workers and brooms, with room for their threads. `Err` means out of memory; then all passes and brooms are given up.
-    pub fn new(alloc: Global, posts: Vec<Post>, sweepers: Vec<Sweeper>) -> Result<Team, AllocError>
-        ensures posts { IfOk result (λ team. team.posts.items ≡ posts.items) }
-        ensures sweepers { IfOk result (λ team. team.sweepers.items ≡ sweepers.items) }
+    pub fn new(
+        alloc: Global,
+        workers: Vec<Worker>,
+        collectors: Vec<Collector>,
+    ) -> Result<Team, AllocError>
+        ensures workers { IfOk result (λ team. team.workers.items ≡ workers.items) }
+        ensures collectors { IfOk result (λ team. team.collectors.items ≡ collectors.items) }
     {
-        let turns = VecDeque::with_capacity(alloc, posts.len())?;
-        let sweeping = VecDeque::with_capacity(alloc, sweepers.len())?;
+        let tasks = VecDeque::with_capacity(alloc, workers.len())?;
+        let collecting = VecDeque::with_capacity(alloc, collectors.len())?;
         Ok(Team {
-            posts,
-            sweepers,
-            turns,
-            sweeping,
+            workers,
+            collectors,
+            tasks,
+            collecting,
         })
     }
 }
@@ -53,89 +57,89 @@ impl Team {
 #[derive(Drop)]
 struct Round<'a, G> {
     team: Team,
-    post_gates: &'a mut [G],
-    sweeper_gates: &'a mut [G],
+    worker_gates: &'a mut [G],
+    collector_gates: &'a mut [G],
     stop: &'a AtomicBool,
     patience: u32,
 }
 
 // Starts the brooms.
-fn start_sweepers<'s, E, R: Threads + Wait + Clock + Sync, G: Gate + Send>(
+fn start_collectors<'s, E, R: Threads + Wait + Clock + Sync, G: Gate + Send>(
     scope: &Scope<'s, E>,
     rt: &'s R,
-    sweepers: &mut VecDeque<Sweeper>,
+    collectors: &mut VecDeque<Collector>,
     stop: &'s AtomicBool,
     gates: &'s mut [G],
-    sweeping: &mut VecDeque<BroomThread>,
-) -> Result<(), NoShift>
-    requires gates { deque_len sweepers.old ≡ length gates.old }
-    requires room { deque_len sweeping.old + deque_len sweepers.old ≤ deque_capacity sweeping.old }
-    ensures started { OnOk result (map given_to sweeping.new.items ≡ map given_to sweeping.old.items ++ sweepers.old.items) }
-    ensures none { OnOk result (deque_len sweepers.new ≡ 0) }
-    ensures gone { HaveGone sweepers.old sweepers.new sweeping.old sweeping.new }
+    collecting: &mut VecDeque<BroomThread>,
+) -> Result<(), RoundFault>
+    requires gates { deque_len collectors.old ≡ length gates.old }
+    requires room { deque_len collecting.old + deque_len collectors.old ≤ deque_capacity collecting.old }
+    ensures started { OnOk result (map given_to collecting.new.items ≡ map given_to collecting.old.items ++ collectors.old.items) }
+    ensures none { OnOk result (deque_len collectors.new ≡ 0) }
+    ensures gone { HaveGone collectors.old collectors.new collecting.old collecting.new }
 {
     for gate in gates.iter_mut() {
-        let Some(sweeper) = sweepers.pop_front() else {
+        let Some(collector) = collectors.pop_front() else {
             unreachable!()
         };
-        sweeping.push_back_reserved(start_sweeper(scope, rt, sweeper, stop, gate)?);
+        collecting.push_back_reserved(start_collector(scope, rt, collector, stop, gate)?);
     }
     Ok(())
 }
 
 // Starts the workers.
-fn start_posts<'s, E, G: Gate + Send>(
+fn start_workers<'s, E, G: Gate + Send>(
     scope: &Scope<'s, E>,
-    posts: &mut VecDeque<Post>,
+    workers: &mut VecDeque<Worker>,
     patience: u32,
     gates: &'s mut [G],
-    turns: &mut VecDeque<Turn>,
-) -> Result<(), NoShift>
-    requires gates { deque_len posts.old ≡ length gates.old }
-    requires room { deque_len turns.old + deque_len posts.old ≤ deque_capacity turns.old }
-    ensures started { OnOk result (HaveSetOut patience turns.old.items posts.old.items turns.new.items) }
-    ensures none { OnOk result (deque_len posts.new ≡ 0) }
-    ensures gone { HaveGone posts.old posts.new turns.old turns.new }
+    tasks: &mut VecDeque<Task>,
+) -> Result<(), RoundFault>
+    requires gates { deque_len workers.old ≡ length gates.old }
+    requires room { deque_len tasks.old + deque_len workers.old ≤ deque_capacity tasks.old }
+    ensures started { OnOk result (HaveSetOut patience tasks.old.items workers.old.items tasks.new.items) }
+    ensures none { OnOk result (deque_len workers.new ≡ 0) }
+    ensures gone { HaveGone workers.old workers.new tasks.old tasks.new }
 {
     for gate in gates.iter_mut() {
-        let Some(post) = posts.pop_front() else {
+        let Some(worker) = workers.pop_front() else {
             unreachable!()
         };
-        turns.push_back_reserved(start_post(scope, post, patience, gate)?);
+        tasks.push_back_reserved(start_worker(scope, worker, patience, gate)?);
     }
     Ok(())
 }
 
 // Joins the workers, in order.
-fn join_posts<R: Threads>(
+fn join_workers<R: Threads>(
     rt: &R,
     patience: u32,
-    turns: &mut VecDeque<Turn>,
-    posts: &mut VecDeque<Post>,
+    tasks: &mut VecDeque<Task>,
+    workers: &mut VecDeque<Worker>,
 )
-    requires { deque_len posts.old + deque_len turns.old ≤ deque_capacity posts.old }
-    ensures turned { deque_len posts.old ≡ 0 → HaveTurned (map (asked patience) turns.old.items) posts.new.items }
-    ensures none { deque_len turns.new ≡ 0 }
-    ensures gone { HaveGone turns.old turns.new posts.old posts.new }
+    requires { deque_len workers.old + deque_len tasks.old ≤ deque_capacity workers.old }
+    ensures played { deque_len workers.old ≡ 0 → WerePlayed (map (asked patience) tasks.old.items) workers.new.items }
+    ensures none { deque_len tasks.new ≡ 0 }
+    ensures gone { HaveGone tasks.old tasks.new workers.old workers.new }
 {
-    while let Some(turn) = turns.pop_front() {
-        posts.push_back_reserved(join_post(rt, patience, turn));
+    while let Some(task) = tasks.pop_front() {
+        workers.push_back_reserved(join_worker(rt, patience, task));
     }
 }
 
 // Joins the brooms, in order.
-fn join_sweepers<R: Threads>(
+fn join_collectors<R: Threads>(
     rt: &R,
-    sweeping: &mut VecDeque<BroomThread>,
-    sweepers: &mut VecDeque<Sweeper>,
+    collecting: &mut VecDeque<BroomThread>,
+    collectors: &mut VecDeque<Collector>,
 )
-    requires { deque_len sweepers.old + deque_len sweeping.old ≤ deque_capacity sweepers.old }
-    ensures swept { deque_len sweepers.old ≡ 0 → HaveSwept (map given_to sweeping.old.items) sweepers.new.items }
-    ensures none { deque_len sweeping.new ≡ 0 }
-    ensures gone { HaveGone sweeping.old sweeping.new sweepers.old sweepers.new }
+    requires { deque_len collectors.old + deque_len collecting.old ≤ deque_capacity collectors.old }
+    ensures collected { deque_len collectors.old ≡ 0 → HaveCollected (map given_to collecting.old.items) collectors.new.items }
+    ensures none { deque_len collecting.new ≡ 0 }
+    ensures gone { HaveGone collecting.old collecting.new collectors.old collectors.new }
 {
-    while let Some(next) = sweeping.pop_front() {
-        sweepers.push_back_reserved(join_sweeper(rt, next));
+    while let Some(next) = collecting.pop_front() {
+        collectors.push_back_reserved(join_collector(rt, next));
     }
 }
 
@@ -144,40 +148,47 @@ fn run_all<'s, E, R: Threads + Wait + Clock + Sync, G: Gate + Send>(
     scope: &Scope<'s, E>,
     rt: &'s R,
     round: Round<'s, G>,
-) -> Result<Team, NoShift>
-    requires posts { length round.team.posts.items ≡ length round.post_gates.now }
-    requires sweepers { length round.team.sweepers.items ≡ length round.sweeper_gates.now }
-    ensures played { IfOk result (λ team. HavePlayed round.entry.patience round.entry.team.posts.items team.posts.items) }
-    ensures swept { IfOk result (λ team. HaveSwept round.entry.team.sweepers.items team.sweepers.items) }
+) -> Result<Team, RoundFault>
+    requires workers { length round.team.workers.items ≡ length round.worker_gates.now }
+    requires collectors { length round.team.collectors.items ≡ length round.collector_gates.now }
+    ensures played { IfOk result (λ team. HavePlayed round.entry.patience round.entry.team.workers.items team.workers.items) }
+    ensures collected { IfOk result (λ team. HaveCollected round.entry.team.collectors.items team.collectors.items) }
 {
     let Round {
         team,
-        post_gates,
-        sweeper_gates,
+        worker_gates,
+        collector_gates,
         stop,
         patience,
     } = round;
     let Team {
-        posts,
-        sweepers,
-        mut turns,
-        mut sweeping,
+        workers,
+        collectors,
+        mut tasks,
+        mut collecting,
     } = team;
-    let mut posts = VecDeque::from_vec(posts);
-    let mut sweepers = VecDeque::from_vec(sweepers);
-    let mut started = start_sweepers(scope, rt, &mut sweepers, stop, sweeper_gates, &mut sweeping);
+    let mut workers = VecDeque::from_vec(workers);
+    let mut collectors = VecDeque::from_vec(collectors);
+    let mut started = start_collectors(
+        scope,
+        rt,
+        &mut collectors,
+        stop,
+        collector_gates,
+        &mut collecting,
+    );
     if started.is_ok() {
-        started = start_posts(scope, &mut posts, patience, post_gates, &mut turns);
+        started = start_workers(scope, &mut workers, patience, worker_gates, &mut tasks);
     }
-    join_posts(rt, patience, &mut turns, &mut posts);
+    join_workers(rt, patience, &mut tasks, &mut workers);
     stop.store(true, Ordering::SeqCst);
-    join_sweepers(rt, &mut sweeping, &mut sweepers);
+    join_collectors(rt, &mut collecting, &mut collectors);
     started?;
     Ok(Team {
-        posts: posts.into_vec(),
-        sweepers: sweepers.into_vec(),
-        turns,
-        sweeping,
+        workers: workers.into_vec(),
+        collectors: collectors.into_vec(),
+        tasks,
+        collecting,
     })
 }
 
@@ -185,42 +196,42 @@ fn run_all<'s, E, R: Threads + Wait + Clock + Sync, G: Gate + Send>(
 fn shift<'a, R: Threads + Wait + Clock + Sync, G: Gate + Send>(
     rt: &'a R,
     round: Round<'a, G>,
-) -> Result<Team, NoShift>
-    requires posts { length round.team.posts.items ≡ length round.post_gates.now }
-    requires sweepers { length round.team.sweepers.items ≡ length round.sweeper_gates.now }
-    ensures played { IfOk result (λ team. HavePlayed round.entry.patience round.entry.team.posts.items team.posts.items) }
-    ensures swept { IfOk result (λ team. HaveSwept round.entry.team.sweepers.items team.sweepers.items) }
+) -> Result<Team, RoundFault>
+    requires workers { length round.team.workers.items ≡ length round.worker_gates.now }
+    requires collectors { length round.team.collectors.items ≡ length round.collector_gates.now }
+    ensures played { IfOk result (λ team. HavePlayed round.entry.patience round.entry.team.workers.items team.workers.items) }
+    ensures collected { IfOk result (λ team. HaveCollected round.entry.team.collectors.items team.collectors.items) }
 {
     thread::scope(
         thread::scope_env(),
         rt,
-        move |scope| -> Result<Team, NoShift>
-            requires posts { length round.team.posts.items ≡ length round.post_gates.now }
-            requires sweepers { length round.team.sweepers.items ≡ length round.sweeper_gates.now }
-            ensures played { IfOk result (λ team. HavePlayed round.entry.patience round.entry.team.posts.items team.posts.items) }
-            ensures swept { IfOk result (λ team. HaveSwept round.entry.team.sweepers.items team.sweepers.items) }
+        move |scope| -> Result<Team, RoundFault>
+            requires workers { length round.team.workers.items ≡ length round.worker_gates.now }
+            requires collectors { length round.team.collectors.items ≡ length round.collector_gates.now }
+            ensures played { IfOk result (λ team. HavePlayed round.entry.patience round.entry.team.workers.items team.workers.items) }
+            ensures collected { IfOk result (λ team. HaveCollected round.entry.team.collectors.items team.collectors.items) }
         { run_all(scope, rt, round) },
     )
 }
 
-/// Plays a round: each worker with a line has a thread that plays its post, and brooms collect at the same time until the last worker is joined.
+/// Plays a round: each worker with a line has a thread that plays its lines, and brooms collect at the same time until the last worker is joined.
 /// There is a gate for each worker, and then one for each broom. After a fault no thread runs, and all passes and brooms are given up.
-pub fn play_posts<R: Threads + Wait + Clock + Sync, G: Gate + Send>(
+pub fn play_workers<R: Threads + Wait + Clock + Sync, G: Gate + Send>(
     rt: &R,
     team: Team,
     patience: u32,
     gates: &mut [G],
-) -> Result<Team, NoShift>
-    requires gates { length team.posts.items + length team.sweepers.items ≡ length gates.old }
-    ensures played { IfOk result (λ r. HavePlayed patience team.posts.items r.posts.items) }
-    ensures swept { IfOk result (λ r. HaveSwept team.sweepers.items r.sweepers.items) }
+) -> Result<Team, RoundFault>
+    requires gates { length team.workers.items + length team.collectors.items ≡ length gates.old }
+    ensures played { IfOk result (λ r. HavePlayed patience team.workers.items r.workers.items) }
+    ensures collected { IfOk result (λ r. HaveCollected team.collectors.items r.collectors.items) }
 {
     let stop = AtomicBool::new(false);
-    let (post_gates, sweeper_gates) = gates.split_at_mut(team.posts.len());
+    let (worker_gates, collector_gates) = gates.split_at_mut(team.workers.len());
     let round = Round {
         team,
-        post_gates,
-        sweeper_gates,
+        worker_gates,
+        collector_gates,
         stop: &stop,
         patience,
     };

@@ -8,16 +8,16 @@ use Rattle.volume.specs.declared.volume.Volume.{Volume}
 use Rattle.volume.specs.Volume.{flash_of}
 use Rattle.flash_table.specs.Flash.{geometry_of}
 use Rattle.rounds.specs.Plans.{ends_of}
-use Rattle.workers.specs.Posts.{answers_kept}
+use Rattle.workers.specs.Workers.{answers_kept}
 use Rattle.workers.specs.Runs.{HasBegun}
 use Rattle.workers.proofs.Ended.{all_paged, all_played}
-use Rattle.workers.proofs.Swept.{swept_long}
+use Rattle.workers.proofs.Collected.{collected_long}
 use Rattle.workers.proofs.commands.play_commands.Goals as goal
 
-pub fold_sweepers-requires-clause-room : goal.fold_sweepers-requires-clause-room
-fold_sweepers-requires-clause-room g c =
-    let long = swept_long c.in_ok-volume.team.sweepers.items c.in_ok-team.team.sweepers.items c.in_ok-team.ensures.swept in
-    let dealt = c.in_ok-volume.ensures.sweepers in
+pub fold_collectors-requires-clause-room : goal.fold_collectors-requires-clause-room
+fold_collectors-requires-clause-room g c =
+    let long = collected_long c.in_ok-volume.team.collectors.items c.in_ok-team.team.collectors.items c.in_ok-team.ensures.collected in
+    let dealt = c.in_ok-volume.ensures.collectors in
     let count = c.brooms.ensures.value in
     let room = c.in_ok-brooms.ensures.capacity in omega arith
 
@@ -26,7 +26,7 @@ returns-clause-rows g c =
     let geometry : geometry_of (flash_of c.deref-2.result.now) ≡ c.args.geometry.now = ap (λ (v : Volume). geometry_of (flash_of v)) c.deref-2.ensures ∙ c.in_ok-volume.ensures.geometry in
     let all = c.in_ok-team.ensures.manned.all ∙ ap hosts_of geometry in
     let are = ap (length {A = Answers}) c.hand_out.ensures in
-    omega (arith, length-map c.in_ok-team.team.posts.items answers_kept)
+    omega (arith, length-map c.in_ok-team.team.workers.items answers_kept)
 
 pub returns-clause-played : goal.returns-clause-played
 returns-clause-played g c =
@@ -34,12 +34,12 @@ returns-clause-played g c =
     let volume = c.deref-2.result.now in
     let ends : ends_of cs ≡ c.deref-3.result.now =
     ap ends_of (sym c.deref.ensures) ∙ (sym c.in_ok-places.ensures.ends ∙ sym c.deref-3.ensures.value) in
-    let begun : HasBegun volume cs c.deref-3.result.now c.in_ok-volume.team.posts.items =
-    subst (λ (x : Volume × List ℕ). HasBegun x.0 cs x.1 c.in_ok-volume.team.posts.items) (λ i. (sym c.deref-2.ensures i, ends i)) c.in_ok-volume.ensures.begun in
-    all_played volume c.args.geometry.now c.args.patience cs c.in_ok-volume.team.posts.items c.in_ok-team.team.posts.items c.hand_out.new.rows.items
+    let begun : HasBegun volume cs c.deref-3.result.now c.in_ok-volume.team.workers.items =
+    subst (λ (x : Volume × List ℕ). HasBegun x.0 cs x.1 c.in_ok-volume.team.workers.items) (λ i. (sym c.deref-2.ensures i, ends i)) c.in_ok-volume.ensures.begun in
+    all_played volume c.args.geometry.now c.args.patience cs c.in_ok-volume.team.workers.items c.in_ok-team.team.workers.items c.hand_out.new.rows.items
     (ap (λ (v : Volume). geometry_of (flash_of v)) c.deref-2.ensures ∙ c.in_ok-volume.ensures.geometry) c.in_ok-team.ensures.manned (c.in_ok-team.ensures.run cs begun) c.hand_out.ensures
 
 pub returns-clause-pages : goal.returns-clause-pages
 returns-clause-pages g c =
-    all_paged c.deref-2.result.now c.args.geometry.now c.in_ok-team.team.posts.items c.hand_out.new.rows.items
+    all_paged c.deref-2.result.now c.args.geometry.now c.in_ok-team.team.workers.items c.hand_out.new.rows.items
     (ap (λ (v : Volume). geometry_of (flash_of v)) c.deref-2.ensures ∙ c.in_ok-volume.ensures.geometry) c.in_ok-team.ensures.manned c.hand_out.ensures

@@ -14,8 +14,8 @@ use Rattle.volume.specs.declared.volume.Volume.{Volume}
 use Rattle.volume.specs.Brooms.{IsBroomReady}
 use Rattle.volume.specs.Volume.{flash_of}
 use Rattle.rounds.specs.Plans.{ends_of}
-use Rattle.workers.specs.declared.post.Post.{Post}
-use Rattle.workers.specs.declared.sweeper.Sweeper.{Sweeper}
+use Rattle.workers.specs.declared.worker.Worker.{Worker}
+use Rattle.workers.specs.declared.collector.Collector.{Collector}
 use Rattle.workers.specs.Meetings.{IsAt}
 use Rattle.workers.specs.Runs.{AreManned, HasBegun}
 use Rattle.workers.specs.Shares.{HasFitShare, IsOwner, with_commands, work_in}
@@ -25,104 +25,104 @@ use Rattle.workers.proofs.dealing.deal.Goals as goal
 pub make_shares-requires : goal.make_shares-requires
 make_shares-requires c = rows_doable c.args.geometry.now (hosts_of c.args.geometry.now) (arc_value c.args.commands.now) c.args.rows.items c.requires.playable c.requires.rows
 
-pub seat_posts-requires-clause-ready : goal.seat_posts-requires-clause-ready
-seat_posts-requires-clause-ready c =
+pub seat_workers-requires-clause-ready : goal.seat_workers-requires-clause-ready
+seat_workers-requires-clause-ready c =
     subst (λ (v : Volume). All (IsReady (flash_of v)) c.into_parts-volume.result.1.items) (sym c.deref.ensures) c.into_parts-volume.ensures.ready.passes_ready
 
-pub seat_posts-requires-clause-fit : goal.seat_posts-requires-clause-fit
-seat_posts-requires-clause-fit c =
+pub seat_workers-requires-clause-fit : goal.seat_workers-requires-clause-fit
+seat_workers-requires-clause-fit c =
     let same : geometry_of (flash_of c.deref.result.now) ≡ c.args.geometry.now =
     ap (λ (v : Volume). geometry_of (flash_of v)) (c.deref.ensures ∙ c.into_parts-volume.ensures.volume) ∙ c.in_ok-unseated.ensures.geometry in
     subst (λ (g : Geometry). All (HasFitShare g) c.in_ok-shares.shares.items) (sym same) c.in_ok-shares.ensures.fit
 
-pub seat_posts-requires-clause-owners : goal.seat_posts-requires-clause-owners
-seat_posts-requires-clause-owners c =
-    subst (λ (v : Volume). All (IsOwner v) c.in_ok-post_owners.post_owners.items) (sym (c.deref.ensures ∙ c.into_parts-volume.ensures.volume)) c.in_ok-post_owners.ensures.same
+pub seat_workers-requires-clause-owners : goal.seat_workers-requires-clause-owners
+seat_workers-requires-clause-owners c =
+    subst (λ (v : Volume). All (IsOwner v) c.in_ok-worker_owners.worker_owners.items) (sym (c.deref.ensures ∙ c.into_parts-volume.ensures.volume)) c.in_ok-worker_owners.ensures.same
 
-pub seat_posts-requires-clause-shares_count : goal.seat_posts-requires-clause-shares_count
-seat_posts-requires-clause-shares_count c =
+pub seat_workers-requires-clause-shares_count : goal.seat_workers-requires-clause-shares_count
+seat_workers-requires-clause-shares_count c =
     let rows = row_count (hosts_of c.args.geometry.now) (arc_value c.args.commands.now) c.args.rows.items c.requires.rows in
     let work = ap (length {A = List Command × List ℕ}) c.in_ok-shares.ensures.work in
     let passes = ap (length {A = Pass}) c.into_parts-volume.ensures.passes in
     let new = c.in_ok-unseated.ensures.playing in
     omega (arith, length-map c.in_ok-shares.shares.items work_in, length-map c.args.rows.items (with_commands (arc_value c.args.commands.now)))
 
-pub seat_posts-requires-clause-owners_count : goal.seat_posts-requires-clause-owners_count
-seat_posts-requires-clause-owners_count c =
-    let owners = c.in_ok-post_owners.ensures.count in
+pub seat_workers-requires-clause-owners_count : goal.seat_workers-requires-clause-owners_count
+seat_workers-requires-clause-owners_count c =
+    let owners = c.in_ok-worker_owners.ensures.count in
     let hosts = c.hosts-hosts.ensures in
     let passes = ap (length {A = Pass}) c.into_parts-volume.ensures.passes in
     let new = c.in_ok-unseated.ensures.playing in
     omega arith
 
-pub seat_posts-requires-clause-none : goal.seat_posts-requires-clause-none
-seat_posts-requires-clause-none c = ap (length {A = Post}) c.in_ok-posts.ensures.items
+pub seat_workers-requires-clause-none : goal.seat_workers-requires-clause-none
+seat_workers-requires-clause-none c = ap (length {A = Worker}) c.in_ok-workers.ensures.items
 
-pub seat_posts-requires-clause-room : goal.seat_posts-requires-clause-room
-seat_posts-requires-clause-room c =
-    let room = c.in_ok-posts.ensures.capacity in
+pub seat_workers-requires-clause-room : goal.seat_workers-requires-clause-room
+seat_workers-requires-clause-room c =
+    let room = c.in_ok-workers.ensures.capacity in
     let hosts = c.hosts-hosts.ensures in
     let passes = ap (length {A = Pass}) c.into_parts-volume.ensures.passes in
     let new = c.in_ok-unseated.ensures.playing in
     omega arith
 
-pub seat_sweepers-requires-clause-ready : goal.seat_sweepers-requires-clause-ready
-seat_sweepers-requires-clause-ready c =
+pub seat_collectors-requires-clause-ready : goal.seat_collectors-requires-clause-ready
+seat_collectors-requires-clause-ready c =
     subst (λ (v : Volume). All (IsBroomReady v) c.into_parts-volume.result.2.items) (sym c.deref-2.ensures) c.into_parts-volume.ensures.ready.brooms_ready
 
-pub seat_sweepers-requires-clause-owners : goal.seat_sweepers-requires-clause-owners
-seat_sweepers-requires-clause-owners c =
-    subst (λ (v : Volume). All (IsOwner v) c.in_ok-sweeper_owners.sweeper_owners.items) (sym (c.deref-2.ensures ∙ c.into_parts-volume.ensures.volume)) c.in_ok-sweeper_owners.ensures.same
+pub seat_collectors-requires-clause-owners : goal.seat_collectors-requires-clause-owners
+seat_collectors-requires-clause-owners c =
+    subst (λ (v : Volume). All (IsOwner v) c.in_ok-collector_owners.collector_owners.items) (sym (c.deref-2.ensures ∙ c.into_parts-volume.ensures.volume)) c.in_ok-collector_owners.ensures.same
 
-pub seat_sweepers-requires-clause-count : goal.seat_sweepers-requires-clause-count
-seat_sweepers-requires-clause-count c =
-    let owners = c.in_ok-sweeper_owners.ensures.count in
+pub seat_collectors-requires-clause-count : goal.seat_collectors-requires-clause-count
+seat_collectors-requires-clause-count c =
+    let owners = c.in_ok-collector_owners.ensures.count in
     let count = c.brooms-brooms.ensures in
     let brooms = ap (length {A = Broom}) c.into_parts-volume.ensures.brooms in
-    let new = c.in_ok-unseated.ensures.sweeping in
+    let new = c.in_ok-unseated.ensures.collecting in
     omega arith
 
-pub seat_sweepers-requires-clause-none : goal.seat_sweepers-requires-clause-none
-seat_sweepers-requires-clause-none c = ap (length {A = Sweeper}) c.in_ok-sweepers.ensures.items
+pub seat_collectors-requires-clause-none : goal.seat_collectors-requires-clause-none
+seat_collectors-requires-clause-none c = ap (length {A = Collector}) c.in_ok-collectors.ensures.items
 
-pub seat_sweepers-requires-clause-room : goal.seat_sweepers-requires-clause-room
-seat_sweepers-requires-clause-room c =
-    let room = c.in_ok-sweepers.ensures.capacity in
+pub seat_collectors-requires-clause-room : goal.seat_collectors-requires-clause-room
+seat_collectors-requires-clause-room c =
+    let room = c.in_ok-collectors.ensures.capacity in
     let count = c.brooms-brooms.ensures in
     let brooms = ap (length {A = Broom}) c.into_parts-volume.ensures.brooms in
-    let new = c.in_ok-unseated.ensures.sweeping in
+    let new = c.in_ok-unseated.ensures.collecting in
     omega arith
 
 pub returns-clause-geometry : goal.returns-clause-geometry
 returns-clause-geometry c = ap (λ (v : Volume). geometry_of (flash_of v)) c.into_parts-volume.ensures.volume ∙ c.in_ok-unseated.ensures.geometry
 
-pub returns-clause-sweepers : goal.returns-clause-sweepers
-returns-clause-sweepers c =
-    let same = ap (length {A = Sweeper}) c.in_ok-new.ensures.sweepers in
+pub returns-clause-collectors : goal.returns-clause-collectors
+returns-clause-collectors c =
+    let same = ap (length {A = Collector}) c.in_ok-new.ensures.collectors in
     let brooms = ap (length {A = Broom}) c.into_parts-volume.ensures.brooms in
-    same ∙ (c.seat_sweepers.ensures ∙ (brooms ∙ c.in_ok-unseated.ensures.sweeping))
+    same ∙ (c.seat_collectors.ensures ∙ (brooms ∙ c.in_ok-unseated.ensures.collecting))
 
 pub returns-clause-begun : goal.returns-clause-begun
 returns-clause-begun c =
     let new = c.in_ok-unseated.ensures in
     let parts = c.into_parts-volume.ensures in
     let cs = arc_value c.args.commands.now in
-    subst (HasBegun (arc_value c.into_parts-volume.result.0) cs (ends_of cs)) (sym c.in_ok-new.ensures.posts)
-    (begun (arc_value c.into_parts-volume.result.0) c.args.geometry.now (arc_value c.args.commands.now) c.args.rows.items c.into_parts-volume.result.1.items c.seat_posts.new.posts.items
+    subst (HasBegun (arc_value c.into_parts-volume.result.0) cs (ends_of cs)) (sym c.in_ok-new.ensures.workers)
+    (begun (arc_value c.into_parts-volume.result.0) c.args.geometry.now (arc_value c.args.commands.now) c.args.rows.items c.into_parts-volume.result.1.items c.seat_workers.new.workers.items
     (ap (λ (v : Volume). geometry_of (flash_of v)) parts.volume ∙ new.geometry) c.requires.hosts c.requires.playable c.requires.rows
     (ap (length {A = Pass}) parts.passes ∙ new.playing)
     (subst (λ (x : Volume × List Pass). (t : ℕ) (p : Pass) → slice_get x.1 t ≡ Some p → view_of p ≡ first_view (device (flash_of x.0)) t) (λ i. (sym parts.volume i, sym parts.passes i)) new.first)
-    c.seat_posts.ensures.passes (c.seat_posts.ensures.work ∙ c.in_ok-shares.ensures.work)
-    (subst (λ (v : Volume). All (IsAt v) c.seat_posts.new.posts.items) c.deref.ensures c.seat_posts.ensures.at) c.seat_posts.ensures.none)
+    c.seat_workers.ensures.passes (c.seat_workers.ensures.work ∙ c.in_ok-shares.ensures.work)
+    (subst (λ (v : Volume). All (IsAt v) c.seat_workers.new.workers.items) c.deref.ensures c.seat_workers.ensures.at) c.seat_workers.ensures.none)
 
 pub returns-clause-manned : goal.returns-clause-manned
 returns-clause-manned c =
     let new = c.in_ok-unseated.ensures in
     let parts = c.into_parts-volume.ensures in
-    subst (AreManned (arc_value c.into_parts-volume.result.0)) (sym c.in_ok-new.ensures.posts)
-    (manned (arc_value c.into_parts-volume.result.0) c.args.geometry.now (arc_value c.args.commands.now) c.args.rows.items c.into_parts-volume.result.1.items c.seat_posts.new.posts.items
+    subst (AreManned (arc_value c.into_parts-volume.result.0)) (sym c.in_ok-new.ensures.workers)
+    (manned (arc_value c.into_parts-volume.result.0) c.args.geometry.now (arc_value c.args.commands.now) c.args.rows.items c.into_parts-volume.result.1.items c.seat_workers.new.workers.items
     (ap (λ (v : Volume). geometry_of (flash_of v)) parts.volume ∙ new.geometry) c.requires.hosts c.requires.playable c.requires.rows
     (ap (length {A = Pass}) parts.passes ∙ new.playing)
     (subst (λ (x : Volume × List Pass). (t : ℕ) (p : Pass) → slice_get x.1 t ≡ Some p → view_of p ≡ first_view (device (flash_of x.0)) t) (λ i. (sym parts.volume i, sym parts.passes i)) new.first)
-    c.seat_posts.ensures.passes (c.seat_posts.ensures.work ∙ c.in_ok-shares.ensures.work)
-    (subst (λ (v : Volume). All (IsAt v) c.seat_posts.new.posts.items) c.deref.ensures c.seat_posts.ensures.at) c.seat_posts.ensures.none)
+    c.seat_workers.ensures.passes (c.seat_workers.ensures.work ∙ c.in_ok-shares.ensures.work)
+    (subst (λ (v : Volume). All (IsAt v) c.seat_workers.new.workers.items) c.deref.ensures c.seat_workers.ensures.at) c.seat_workers.ensures.none)

@@ -2,8 +2,8 @@ use Rattle.std.proofs.Common.{arith}
 use Rattle.std.proofs.lemmas.Grind.{common_steps}
 use Rattle.workers.proofs.leaving.hand_out.Goals as goal
 
-pub loop-post-init : goal.loop-post-init
-loop-post-init c = grind (arith, common_steps)
+pub loop-worker-init : goal.loop-worker-init
+loop-worker-init c = grind (arith, common_steps)
 
-pub loop-post-preserved : goal.loop-post-preserved
-loop-post-preserved c = grind (arith, common_steps)
+pub loop-worker-preserved : goal.loop-worker-preserved
+loop-worker-preserved c = grind (arith, common_steps)

@@ -2,9 +2,9 @@ use Rattle.std.proofs.Common.{◌≡◌, ◌<◌, arith, refl, ◌∙◌, get_or
 use Rattle.std.proofs.lemmas.List.{get_or_default, length-map}
 use Rattle.volume.specs.Volume.{flash_of}
 use Rattle.volume.proofs.Looks.{begins, met_each}
-use Rattle.workers.specs.declared.post.Post.{Post}
+use Rattle.workers.specs.declared.worker.Worker.{Worker}
 use Rattle.workers.specs.Meetings.{passes_of}
-use Rattle.workers.proofs.Sweeping.{ready_at, all_ready, same_at, all_same_at, meets_more, rests_kept}
+use Rattle.workers.proofs.Meeting.{ready_at, all_ready, same_at, all_same_at, meets_more, rests_kept}
 use Rattle.workers.proofs.meetings.meet_others.Goals as goal
 
 pub loop-other-init : goal.loop-other-init
@@ -49,4 +49,4 @@ loop-other-preserved c =
 pub returns-clause-told : goal.returns-clause-told
 returns-clause-told c =
     met_each (flash_of c.args.volume.now) c.args.first.now.pass c.loop-other.first.pass (passes_of c.args.others.now) (passes_of c.loop-other.others) c.loop-other.other-index c.loop-other.invariant.met
-    (let past = c.loop-other-test.false in omega (arith, past, length-map c.args.others.now (λ (p : Post). p.pass)))
+    (let past = c.loop-other-test.false in omega (arith, past, length-map c.args.others.now (λ (p : Worker). p.pass)))

@@ -1,0 +1,45 @@
+use Rattle.std.proofs.Common.{All, subst}
+use Rattle.std.proofs.lemmas.List.Elements.{All-head, All-tail}
+use Rattle.workers.specs.Meetings.{IsAt}
+use Rattle.workers.proofs.Meeting.{same_at, all_same_at, workers_met, workers_seated, rests_met}
+use Rattle.workers.proofs.meetings.meet_all.Goals as goal
+
+pub meet_others-requires-2-clause-others : goal.meet_others-requires-2-clause-others
+meet_others-requires-2-clause-others c =
+    let volume = c.args.volume.now in
+    all_same_at volume c.in-Some.others.now c.meet_others.new.others c.meet_others.ensures.others
+    (All-tail (IsAt volume) c.in-Some.first.now c.in-Some.others.now (subst (All (IsAt volume)) c.in-Some.ensures.cases.0 c.requires.at))
+
+pub returns-clause-all_met : goal.returns-clause-all_met
+returns-clause-all_met c =
+    workers_met c.args.volume.now c.args.workers.now c.in-Some.first.now c.meet_others.new.first c.meet_others-2.new.first c.in-Some.others.now c.meet_others.new.others c.meet_others-2.new.others
+    c.in-Some.ensures.cases.0 c.requires.at c.requires.seated c.meet_others.ensures.told c.meet_others-2.ensures.told c.requires.all
+    c.meet_others.ensures.first c.meet_others-2.ensures.first c.meet_others.ensures.others c.meet_others-2.ensures.others
+
+pub returns-clause-seated : goal.returns-clause-seated
+returns-clause-seated c =
+    workers_seated c.args.volume.now c.args.workers.now c.in-Some.first.now c.meet_others.new.first c.meet_others-2.new.first c.in-Some.others.now c.meet_others.new.others c.meet_others-2.new.others
+    c.in-Some.ensures.cases.0 c.requires.at c.requires.seated c.meet_others.ensures.told c.meet_others-2.ensures.told
+
+pub returns-clause-rest : goal.returns-clause-rest
+returns-clause-rest c =
+    rests_met c.args.volume.now c.args.workers.now c.in-Some.first.now c.meet_others.new.first c.meet_others-2.new.first c.in-Some.others.now c.meet_others.new.others c.meet_others-2.new.others
+    c.in-Some.ensures.cases.0 c.requires.at c.requires.seated c.meet_others.ensures.told c.meet_others-2.ensures.told
+    c.meet_others.ensures.first c.meet_others-2.ensures.first c.meet_others.ensures.others c.meet_others-2.ensures.others
+
+pub meet_others-requires-clause-first : goal.meet_others-requires-clause-first
+meet_others-requires-clause-first c =
+    let volume = c.args.volume.now in
+    All-head (IsAt volume) c.in-Some.first.now c.in-Some.others.now (subst (All (IsAt volume)) c.in-Some.ensures.cases.0 c.requires.at)
+
+pub meet_others-requires-clause-others : goal.meet_others-requires-clause-others
+meet_others-requires-clause-others c =
+    let volume = c.args.volume.now in
+    All-tail (IsAt volume) c.in-Some.first.now c.in-Some.others.now (subst (All (IsAt volume)) c.in-Some.ensures.cases.0 c.requires.at)
+
+pub meet_others-requires-2-clause-first : goal.meet_others-requires-2-clause-first
+meet_others-requires-2-clause-first c =
+    let volume = c.args.volume.now in
+    let first = c.in-Some.first.now in
+    let at : IsAt volume first = All-head (IsAt volume) first c.in-Some.others.now (subst (All (IsAt volume)) c.in-Some.ensures.cases.0 c.requires.at) in
+    same_at volume first c.meet_others.new.first c.meet_others.ensures.first at

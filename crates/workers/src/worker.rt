@@ -1,0 +1,61 @@
+//! A worker: its pass, all lines that are its own, and which of these are the round's.
+ghost use Rattle.std.specs.Prelude.{◌≡◌, ◌≤◌, length};
+ghost use Rattle.std.specs.Arc.{arc_value};
+ghost use Rattle.rounds.specs.Answers.{said_in};
+ghost use Rattle.workers.specs.Able.{IsAble, IsAble-prop};
+
+use flash_table::Pass;
+use rounds::Answers;
+use std::alloc::Global;
+use std::sync::Arc;
+use trace::Commands;
+use volume::Volume;
+
+/// What a worker needs for a run: its pass, the indices of its lines in the trace, their answers so far with room for the others, and a buffer of
+/// one page. In a round it plays the lines that have no answer yet, up to an index of its row. If a worker is dropped, its pass is given up.
+pub struct Worker {
+    pub volume: Arc<Volume, Global>,
+    pub commands: Arc<Commands, Global>,
+    pub pass: Pass,
+    pub places: Vec<usize>,
+    pub answers: Answers,
+    pub buffer: Vec<u8>,
+    pub to: usize,
+    pub ghost able: { IsAble (arc_value volume) (arc_value commands) pass places.items answers buffer.items } by { IsAble-prop (arc_value volume) (arc_value commands) pass places.items answers buffer.items },
+    pub ghost order: { length (said_in answers) ≤ to },
+    pub ghost within: { to ≤ length places.items },
+}
+
+impl Drop for Worker {
+    fn drop(self) {
+        let Worker {
+            volume,
+            commands: _,
+            pass,
+            places: _,
+            answers: _,
+            buffer: _,
+            to: _,
+        } = self;
+        volume.retire(pass);
+    }
+}
+
+impl Worker {
+    // The answers. The pass is given up.
+    pub(crate) fn into_answers(self) -> Answers
+        ensures { result ≡ self.answers }
+    {
+        let Worker {
+            volume,
+            commands: _,
+            pass,
+            places: _,
+            answers,
+            buffer: _,
+            to: _,
+        } = self;
+        volume.retire(pass);
+        answers
+    }
+}
