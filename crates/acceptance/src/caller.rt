@@ -6,7 +6,7 @@ use geometry::Geometry;
 use std::alloc::Global;
 use std::test::Fail;
 
-// What is written to sector 0 reads back, although sector 1 is overwritten and trimmed meanwhile.
+// What was written to sector 0 is read back, although sector 1 was overwritten and trimmed in between.
 fn reads_back(alloc: Global, geometry: &Geometry, page: &[u8], buffer: &mut [u8]) -> Option<()>
     requires one_thread { hosts_of geometry.now ≡ 0 }
     requires sectors { 1 < sectors_of geometry.now }

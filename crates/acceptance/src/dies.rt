@@ -9,7 +9,7 @@ use std::process::Abort;
 use std::test::Fail;
 
 const FIRST: PageAddr = PageAddr { block: 0, page: 0 };
-// What a read of a page shows that isn't programmed.
+// What a read of an unprogrammed page returns.
 const EMPTY: ([u8; 8], u64) = ([255; 8], 0xffff_ffff_ffff_ffff);
 
 // A die of one LUN, three blocks of two pages of one word, and endurance 2.
@@ -62,7 +62,7 @@ impl Bench {
         self.die.erase(block)
     }
 
-    // What a read of a page shows: its bytes and its stamp.
+    // What a read of a page returns: its bytes and its stamp.
     fn read(&self, rt: &impl Abort, at: PageAddr) -> ([u8; 8], u64) {
         assert!(rt; self.is_usable(at.block));
         let mut out = [0; 8];

@@ -36,7 +36,7 @@ const ENDS: [[u32; 8]; 13] = [
     [1, 1000, 1048, 15, 8216, 10, 0, 0],
 ];
 
-// And the first that are refused, and further ones.
+// The first numbers that are refused, and further ones.
 const BEYOND: [([u32; 8], GeometryFault); 25] = [
     ([0, 2, 2, 1, 3, 10, 0, 0], GeometryFault::Luns),
     ([2, 3, 2, 1, 3, 10, 0, 0], GeometryFault::Blocks),
@@ -65,7 +65,7 @@ const BEYOND: [([u32; 8], GeometryFault); 25] = [
     ([1, 512, 2, 1, 25, 10, 500, 0], GeometryFault::TooFewBlocks),
     ([1, 66, 2, 1, 3, 10, 1, 32], GeometryFault::TooFewBlocks),
     ([1, 65, 2, 1, 2, 10, 1, 32], GeometryFault::TooFewBlocks),
-    // a table of a word more
+    // a table of one word more
     (
         [1, 1000, 1048, 15, 8217, 10, 0, 0],
         GeometryFault::TooManyWords,

@@ -32,7 +32,7 @@ impl Bench {
         })
     }
 
-    // What the sector was, or nothing where the layer is worn out.
+    // What the sector was, or nothing if the layer is worn out.
     fn write(&mut self, rt: &impl Abort, sector: u32, byte: u8) -> Option<Was> {
         assert!(rt; sector < self.ftl.geometry().sectors());
         self.ftl.write(sector, &[byte, 0, 0, 0, 0, 0, 0, 0]).ok()
@@ -48,7 +48,7 @@ impl Bench {
         self.ftl.trim(sector)
     }
 
-    // The sector's byte, if it is written: the page that is lent, and the one that is read.
+    // The sector's byte, if it is written: of the page that is lent, and of the one that is read.
     fn read(&self, rt: &impl Abort, sector: u32) -> Option<u8> {
         assert!(rt; sector < self.ftl.geometry().sectors());
         let mut page = [99; 8];
@@ -224,7 +224,7 @@ fn a_written_sector_is_refused_before_a_page_is_programmed(rt: HostRuntime) -> R
     Ok(())
 }
 
-// Two sectors are written by turns. The victims are blocks 0, 1, 2 and 0, whose second erase fails.
+// Two sectors are written in turns. The victims are blocks 0, 1, 2 and 0, whose second erase fails.
 #[test]
 fn the_blocks_tell_their_wear(rt: HostRuntime) -> Result<(), Fail> {
     let mut bench = Bench::new(&rt, 1, 3, 2, 3, 2)?;
@@ -237,7 +237,7 @@ fn the_blocks_tell_their_wear(rt: HostRuntime) -> Result<(), Fail> {
     Ok(())
 }
 
-// A store that programs pages in order and collects nothing: where each sector's byte stands.
+// A store that programs pages in order and collects nothing: where each sector's byte is.
 #[derive(Drop)]
 struct Plain {
     pages: Vec<u8>,
@@ -280,7 +280,7 @@ impl Plain {
     }
 }
 
-// The next number of a pseudo-random row.
+// The next number of a pseudo-random sequence.
 fn following(seed: u32) -> u32 {
     seed.wrapping_mul(1_664_525).wrapping_add(1_013_904_223)
 }

@@ -1,4 +1,4 @@
-//! Tests of the public calls of the lower crates, by worked rows. They stand in a crate of their own, since a
+//! Tests of the public calls of the lower crates, by worked rows. They have a crate of their own, since a
 //! crate with tests is proved twice.
 #![tactic(auto)]
 

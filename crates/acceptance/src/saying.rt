@@ -1,4 +1,4 @@
-//! What a test says of a row that doesn't hold, and what a value says of itself.
+//! What a test reports for a row that doesn't hold, and how a value is shown.
 use std::alloc::Global;
 use std::fmt::{Debug, Display};
 use std::process::Abort;

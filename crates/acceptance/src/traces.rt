@@ -23,7 +23,7 @@ fn at(line: u64, kind: TraceFaultKind) -> Option<TraceFault> {
     Some(TraceFault { line, kind })
 }
 
-// Whether each of some texts, which stand between bars, has this first fault, or none.
+// Whether each of these texts, which are divided by bars, has this first fault, or none.
 fn all_have(alloc: Global, geometry: &Geometry, texts: &str, fault: Option<TraceFault>) -> bool {
     for text in texts.split('|') {
         if parse(alloc, text.as_bytes(), geometry).err() != fault {
@@ -33,21 +33,21 @@ fn all_have(alloc: Global, geometry: &Geometry, texts: &str, fault: Option<Trace
     true
 }
 
-// Records that are none. Fields: three, five, an open quote in the fifth field, a quoted comma, a quoted line end, commas behind two
+// Invalid records. Fields: three, five, an open quote in the fifth field, a quoted comma, a quoted line end, commas after two
 // quotes, and a quote that isn't closed.
 const FIELDS: &str =
     "0,read,2|0,read,2,,|0,read,2,,\"|\"0,read\",0,|\"0,read,0,\n0,read,0,\n|\"\",,,,,,|\"0,read,0,";
-// Workers: too large, no number, behind a space, of eight digits.
+// Workers: too large, not a number, after a space, with eight digits.
 const WORKER: &str = "500,read,0,|x,read,0,| 0,read,0,|00000000,read,0,";
 // Ops: in upper case, with a quote within.
 const OP: &str = "0,READ,0,|0,re\"ad,0,";
 // Sectors: with a sign, too large.
 const SECTOR: &str = "0,read,-1,|0,read,3,";
-// Data: an odd number of digits, no hexadecimal digit, 15 digits.
+// Data: an odd number of digits, a character that isn't a hexadecimal digit, 15 digits.
 const HEX: &str = "0,write,0,4|0,write,0,4g|0,write,0,010203040506070";
 // 18 digits.
 const TOO_LONG: &str = "0,write,0,010203040506070809";
-// The data of a read and of a trim, the worker and the sector of a meet.
+// Data of a read and of a trim, a worker and a sector of a meet.
 const UNUSED: &str = "0,read,0,41|0,trim,0,41|1,meet,0,|0,meet,1,";
 
 #[test]
@@ -166,11 +166,11 @@ fn accepted_records_are_commands(rt: HostRuntime) -> Result<(), Fail> {
     Ok(())
 }
 
-// Texts of no record: no byte, and empty lines alone.
+// Texts without a record: no byte, and only empty lines.
 const NONE: &str = "|\n\r\n\n";
-// Texts of one: no line end, and a byte order mark.
+// Texts of one record: without a line end, and with a byte order mark.
 const ONE: &str = "0,read,0,|\u{feff}0,read,0,\n";
-// Texts of two: LF, CRLF, CR alone, empty lines between, a mark before a quote, and a quoted line end that is none.
+// Texts of two records: LF, CRLF, CR alone, empty lines between, a mark before a quote, and a quoted line end, which ends no record.
 const TWO: &str =
     "0,read,0,\n0,read,1,\n|0,read,0,\r\n0,read,1,\r\n|0,read,0,\r0,read,1,\r|\n0,read,0,\n\n\n0,read,1,\
     |\u{feff}\"0\",read,0,\n0,read,1,\n|0,write,0,\"\"\n0,trim,0,\"\"\n";
@@ -186,8 +186,8 @@ fn records_end_as_csv_says(rt: HostRuntime) -> Result<(), Fail> {
     Ok(())
 }
 
-// Texts by the fault of their second record: behind an empty line, which is no record, and behind a plain one, a sector; before another
-// fault and behind a quoted record, fields; a mark behind a plain record and behind a quoted one, a worker.
+// Texts by the fault of their second record: a sector after an empty line, which isn't a record, and after a plain one; fields before
+// another fault and after a quoted record; a worker after a mark behind a plain record and behind a quoted one.
 const SECOND_SECTOR: &str = "0,read,0,\n\n0,read,9,\n|0,read,0,\n0,\"read\",3,\n";
 
 const SECOND_FIELDS: &str = "0,read,0,\n0,read,1\n0,READ,0,\n|0,\"read\",0,\n0,read,0,,\n";
@@ -242,7 +242,7 @@ fn bytes_that_are_no_text_fail_their_check(rt: HostRuntime) -> Result<(), Fail> 
     Ok(())
 }
 
-// A text, and so many bytes more.
+// A text, and this many bytes more.
 fn padded(alloc: Global, front: &str, byte: u8, count: u32) -> Result<Vec<u8>, Fail> {
     let mut text = Vec::from_slice(alloc, front.as_bytes())?;
     text.resize(front.len() + count as usize, byte)?;
@@ -310,7 +310,7 @@ fn a_fault_prints_its_line_and_kind(rt: HostRuntime) -> Result<(), Fail> {
     Ok(())
 }
 
-// Gives a text in pieces of so many bytes, and then fails at a place, if it has one.
+// Returns a text in pieces of this many bytes, and fails at a place if it has one.
 #[derive(Drop)]
 struct Pieces<'a> {
     rest: &'a [u8],
@@ -331,7 +331,7 @@ impl Read for Pieces<'_> {
     }
 }
 
-// Line ends without an end.
+// Line ends that never stop.
 #[derive(Drop)]
 struct Endless;
 
@@ -365,7 +365,7 @@ fn a_trace_is_read_to_its_end(rt: HostRuntime) -> Result<(), Fail> {
     Ok(())
 }
 
-// So many writes of a page, and then one of its first byte.
+// This many writes of a page, and then one of its first byte.
 fn long_trace(alloc: Global, line: &[u8], lines: usize) -> Result<Vec<u8>, Fail> {
     let mut text = Vec::new(alloc);
     for _ in 0..lines {
@@ -418,7 +418,7 @@ fn a_load_ends_where_its_reader_fails_or_has_no_end(rt: HostRuntime) {
     assert!(rt; (failing.failures(), endless.failures()) == (1, 0));
 }
 
-// Takes so many bytes, and then nothing; its flush fails.
+// Accepts this many bytes, and then none; its flush fails.
 #[derive(Drop)]
 struct Full {
     room: usize,
@@ -450,7 +450,7 @@ fn a_write_that_takes_nothing_is_a_failure(rt: HostRuntime) -> Result<(), Fail> 
     Ok(())
 }
 
-// Reads and writes all that it is asked to, and counts its flushes.
+// Reads and writes all that it is asked for, and counts its flushes.
 #[derive(Drop)]
 struct Steady {
     flushes: u64,

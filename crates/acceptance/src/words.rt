@@ -22,7 +22,7 @@ fn a_map_word_names_generation_block_and_page(rt: HostRuntime) -> Result<(), Fai
     Ok(())
 }
 
-// The words of block 0 in a volume of two pages a block, from its first write until it is free again; and that of a block that two read.
+// The words of block 0, on a volume with two pages in a block, from its first write until it is free again; and that of a block with two readers.
 const PIN_WORDS: [(u64, PinWord); 9] = [
     (
         0x0,
@@ -107,7 +107,7 @@ const PIN_WORDS: [(u64, PinWord); 9] = [
     ),
 ];
 
-// Words that are no block's: of a phase that stands open and of one that there isn't, and of a free block with a page.
+// Words that no block has: with a later phase than free and no taken bit, with a phase that doesn't exist, and of a free block with a page.
 const NO_PIN_WORDS: [u64; 3] = [0x2000, 0xd000, 0x1_0000];
 
 #[test]

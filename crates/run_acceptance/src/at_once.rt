@@ -1,4 +1,4 @@
-//! Workers run at once.
+//! Workers run at the same time.
 use crate::run::{play, small, told};
 use flash_table::{Gate, Point};
 use std::sync::atomic::{AtomicBool, Ordering};
@@ -6,7 +6,7 @@ use std::test::Fail;
 
 const TURNS: u32 = 200000000;
 
-// At its first pin the worker sets its flag, and waits until it sees the other's, at most so many turns.
+// At its first pin the worker sets its flag, and waits until it sees the other's, for at most this many turns.
 #[derive(Drop)]
 struct Waiting<'a> {
     own: &'a AtomicBool,
@@ -29,7 +29,7 @@ impl Gate for Waiting<'_> {
     }
 }
 
-// Workers that run one after the other do not see each other's flags.
+// Workers that run one after the other don't see each other's flags.
 #[test]
 fn two_workers_wait_for_each_other(rt: HostRuntime) -> Result<(), Fail> {
     let trace = b"0,write,0,41\n1,write,1,42\n0,meet,0,\n0,read,0,\n1,read,1,\n".as_slice();

@@ -11,10 +11,10 @@ use std::thread::Threads;
 use std::time::Clock;
 use trace::Watched;
 
-// A broom drains one block by each survey, so each of its claims is made by a drain with a survey of its own.
+// A broom drains one block by each survey, so each of its claims belongs to a drain with a survey of its own.
 const DRAINS: u32 = 1;
 
-// A write yields at each sixteenth of its tries, so a busy machine gives a broom its turn long before the last one.
+// A write yields at each sixteenth of its tries, so even on a busy machine a broom runs long before the last one.
 const PATIENCE: u32 = 10_000_000;
 
 // A gate's number, and how often it was asked at each point.
@@ -83,7 +83,7 @@ fn unasked() -> [Visits; 3] {
     ]
 }
 
-// What a run writes, with these gates.
+// The output of a run with these gates.
 fn text_of<R: Threads + Wait + Clock + Sync + Abort + AllocGlobal>(
     rt: &R,
     blocks: u32,
@@ -112,7 +112,7 @@ fn text_of<R: Threads + Wait + Clock + Sync + Abort + AllocGlobal>(
     Ok(writer.into_inner())
 }
 
-// A trace of three workers without brooms, what it answers, and the visits of each worker's gate.
+// A trace of three workers without brooms, its answers, and the visits of each worker's gate.
 const ROWS: [(&str, &str, [[u64; 4]; 3]); 4] = [
     ("", "end\n", [[0; 4]; 3]),
     (
@@ -149,7 +149,7 @@ fn each_worker_asks_its_own_gate(rt: HostRuntime) -> Result<(), Fail> {
     Ok(())
 }
 
-// Whether only a worker's points were reached, after so many answers.
+// Whether only a worker's points were reached, after this many answers.
 fn is_by_worker(visits: &Visits, number: usize, answered: u64) -> bool {
     visits.number == number
         && visits.answered == answered
@@ -168,7 +168,7 @@ fn is_by_broom(visits: &Visits) -> bool {
         && visits.answered == 0
 }
 
-// The device has ten pages, so the writes behind the tenth wait for the broom's erase, however late the broom is. The second worker reads
+// The device has ten pages, so the writes after the tenth wait for the broom's erase, however late it comes. The second worker reads
 // once.
 #[test]
 fn the_broom_asks_the_gate_behind_the_workers(rt: HostRuntime) -> Result<(), Fail> {

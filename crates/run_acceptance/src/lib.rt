@@ -1,5 +1,5 @@
-//! Tests of a run by many workers: rows with the same answers in every schedule, values that were written, and workers that run at
-//! once.
+//! Tests of a run by many workers: rows with the same answers in every schedule, values that were written, and workers that run at the
+//! same time.
 #![tactic(auto)]
 
 #[cfg(test)]

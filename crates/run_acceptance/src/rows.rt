@@ -4,7 +4,7 @@ use crate::saying::expect;
 use rounds::{Answer, Kind};
 use std::test::Fail;
 
-// Hosts, brooms, blocks, tries of a write; a trace, and what its workers are answered.
+// Hosts, brooms, blocks, tries of a write; a trace, and the answers of its workers.
 const ROWS: [(u32, u32, u32, u32, &str, &str); 9] = [
     (2, 1, 6, 1000000, "", "| | "),
     (
@@ -92,7 +92,7 @@ fn is_written(answer: &Answer) -> bool {
     }
 }
 
-// So many times this text.
+// This text, repeated this many times.
 fn repeated(rt: &impl AllocGlobal, lines: &str, times: u32) -> Result<String, Fail> {
     let mut trace = String::new(rt.alloc());
     for _ in 0..times {
@@ -113,7 +113,8 @@ fn each_read_finds_a_value_that_was_written(rt: HostRuntime) -> Result<(), Fail>
     Ok(())
 }
 
-// The second of these three rounds isn't disjoint. Which of its two writes is the later one depends on the schedule, and all workers read that one in the third round.
+// The second of these three rounds isn't disjoint. The schedule decides which of its two writes is later, and all workers read that one in
+// the third round.
 #[test]
 fn a_later_round_reads_what_an_earlier_one_left(rt: HostRuntime) -> Result<(), Fail> {
     let trace =

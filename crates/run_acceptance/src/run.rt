@@ -1,4 +1,4 @@
-//! Playing a trace, and what it answered as text.
+//! Plays a trace, and returns its answers as text.
 use answers::read_commands;
 use flash_table::{Gate, NoGate};
 use geometry::Geometry;
@@ -15,7 +15,7 @@ use workers::{RoundFault, play_commands};
 // How many blocks a broom drains by one survey.
 const DRAINS: u32 = 4;
 
-/// A device of so many blocks of two pages of one word, with two sectors.
+/// A device of this many blocks of two pages of one word, with two sectors.
 pub(crate) fn small(blocks: u32, hosts: u32, brooms: u32) -> Result<Geometry, Fail> {
     Ok(Geometry::new(1, blocks, 2, 1, 2, 1000, hosts, brooms)?)
 }
@@ -70,7 +70,7 @@ pub(crate) fn play_freely<R: Threads + Wait + Clock + Sync + Abort + AllocGlobal
     Ok(play(rt, geometry, trace, patience, &mut gates)??)
 }
 
-// Adds a word for an answer: a page is told by its first byte, which is a letter.
+// Adds a word for an answer: that of a page is its first byte, which is a letter.
 fn tell(text: &mut String, answer: &Answer) -> Result<(), Fail> {
     match answer.kind {
         Kind::Empty => text.push_str("empty ")?,
@@ -87,7 +87,7 @@ fn tell(text: &mut String, answer: &Answer) -> Result<(), Fail> {
     Ok(())
 }
 
-/// What the workers were answered: a word for each line, and a bar behind each worker's.
+/// The answers of the workers: a word for each line, and a bar after each worker's.
 pub(crate) fn told(alloc: Global, rows: &[Vec<Answer>]) -> Result<String, Fail> {
     let mut text = String::new(alloc);
     for row in rows {
@@ -99,7 +99,7 @@ pub(crate) fn told(alloc: Global, rows: &[Vec<Answer>]) -> Result<String, Fail> 
     Ok(text)
 }
 
-/// What the workers are answered, with gates that do nothing.
+/// The answers of the workers, with gates that do nothing.
 pub(crate) fn answers_of<R: Threads + Wait + Clock + Sync + Abort + AllocGlobal>(
     rt: &R,
     geometry: &Geometry,

@@ -1,4 +1,4 @@
-//! What a test says of a row that doesn't hold.
+//! What a test reports for a row that doesn't hold.
 use std::fmt::Debug;
 use std::process::Abort;
 

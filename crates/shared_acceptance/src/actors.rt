@@ -120,7 +120,7 @@ impl<'a, H: Home> Host<'a, H> {
         }
     }
 
-    // The answer of a call that holds nothing.
+    // The answer of a call by which nothing is held.
     fn answer<G: Gate>(&mut self, call: Call, gate: &mut G) -> Done {
         let sectors = self.volume.geometry().sectors();
         match call {
@@ -221,7 +221,7 @@ impl<'a, H: Home> Holder<'a, H> {
         (Actor::Holder(holder), done)
     }
 
-    // A broom stands by the page.
+    // A broom makes a `stand` with the hold.
     fn stand(self, sweeper: &mut Sweeper<'a, H>) -> Holder<'a, H> {
         let Holder { volume, held, of } = self;
         let held = volume.stand(held, &mut sweeper.broom);
@@ -274,7 +274,7 @@ impl<H: Home> Drop for Sweeper<'_, H> {
 }
 
 impl<'a, H: Home> Sweeper<'a, H> {
-    /// A broom is given up.
+    /// Folds a broom.
     pub(crate) fn fold(self, rt: &impl Wait) {
         let Sweeper {
             volume,
@@ -284,7 +284,7 @@ impl<'a, H: Home> Sweeper<'a, H> {
         volume.fold(rt, broom);
     }
 
-    // What comes of a block of the device; any other number is that of no drained block.
+    // The result of erasing a block of the device; any other number names no drained block.
     fn erase<G: Gate>(&mut self, block: u32, gate: &mut G) -> Erase {
         if block >= self.volume.geometry().blocks() {
             return Erase::Stale;
@@ -360,7 +360,7 @@ impl<'a, H: Home> Actor<'a, H> {
         }
     }
 
-    /// Two hosts, one of which may hold a page, two brooms, or one that holds a page and a broom. The answer is false for others, which
+    /// Two hosts, one of which may hold a page; two brooms; or a holder of a page and a broom. Returns false for other pairs, which
     /// don't meet.
     pub(crate) fn meet(self, other: Actor<'a, H>) -> (Actor<'a, H>, Actor<'a, H>, bool) {
         match self {
@@ -388,7 +388,7 @@ impl<'a, H: Home> Actor<'a, H> {
         (actor, Some(block))
     }
 
-    /// How many sectors have their page in each block, as a host finds them.
+    /// How many sectors have their page in each block, found by a host.
     pub(crate) fn count_live(self, rt: &impl Wait) -> (Actor<'a, H>, [u32; 10]) {
         let mut actor = self;
         let mut counts = [0u32; 10];
@@ -405,12 +405,12 @@ impl<'a, H: Home> Actor<'a, H> {
     }
 }
 
-/// An actor is given up, if there is one. The answer is whether there was.
+/// Drops an actor, if there is one. Returns whether there was.
 pub(crate) fn dismiss<H: Home>(actor: Option<Actor<'_, H>>) -> bool {
     actor.is_some()
 }
 
-/// A call of the actor at a place, which is empty only meanwhile.
+/// A call of the actor at a place, which is empty only during the call.
 pub(crate) fn call_at<H: Home>(
     place: &mut Option<Actor<'_, H>>,
     rt: &impl Wait,

@@ -1,4 +1,4 @@
-//! A plain model of the brooms, which judges their answers: the queue of drained blocks, and what each broom has.
+//! A plain model of the brooms that checks their answers: the queue of drained blocks, and what each broom has.
 ghost use Rattle.std.specs.Prelude.{◌<◌};
 
 use crate::drawn::Drawn;
@@ -6,7 +6,7 @@ use crate::judge::BLOCKS;
 use arrayvec::ArrayVec;
 use broom::{Drain, Erase};
 
-// What a broom has between two calls: whether it has a spare, how many pages are left in the block that it copies to, 0 where there is
+// What a broom has between two calls: whether it has a spare, how many pages are left in the block that it copies to, 0 if there is
 // none, the block that it has set aside, and which blocks may still be marked by its last survey.
 #[derive(Clone, Copy)]
 struct Kit {
@@ -24,23 +24,23 @@ impl Kit {
     }
 }
 
-// Whether this drain is one by the last survey.
+// Whether this drain uses the last survey.
 fn is_next(drawn: Drawn) -> bool {
     matches!(drawn.kind, 5..8 | 9)
 }
 
-/// What a call of a broom begins with.
+/// The state in which a call of a broom begins.
 #[derive(Clone, Copy)]
 pub(crate) struct Start {
-    /// The block that is to be erased, if it is an erase and there is one.
+    /// The block to erase, if the call is an erase and there is one.
     pub block: Option<u32>,
     was_drained: bool,
-    // Whether a block is set aside that the queue has no room for.
+    // Whether a block is set aside because the queue has no room for it.
     is_stuck: bool,
 }
 
 impl Start {
-    /// Of a call that erases nothing.
+    /// For a call that erases nothing.
     pub(crate) fn none() -> Start {
         Start {
             block: None,
@@ -50,13 +50,13 @@ impl Start {
     }
 }
 
-/// What is known of a broom's call beside its answer.
+/// What is known of a broom's call in addition to its answer.
 #[derive(Clone, Copy)]
 pub(crate) struct Course {
     pub start: Start,
     /// How many pages it tried to move.
     pub moves: u32,
-    /// Whether nobody else made a call meanwhile.
+    /// Whether nobody else made a call during it.
     pub alone: bool,
 }
 
@@ -67,12 +67,12 @@ pub(crate) struct BroomJudge {
     queue: ArrayVec<u32, 10>,
     drained: [bool; 10],
     pages: u32,
-    /// Whether each answer so far was one that can be.
+    /// Whether each answer so far was possible.
     pub right: bool,
 }
 
 impl BroomJudge {
-    /// Two brooms of a device that is not used yet, with blocks of so many pages.
+    /// Two brooms of a device that is not used yet, with blocks of this many pages.
     pub(crate) fn new(pages: u32) -> BroomJudge {
         let kit = Kit {
             has_spare: true,
@@ -93,7 +93,7 @@ impl BroomJudge {
         self.right = self.right && holds;
     }
 
-    /// The first block that is drained, or else this one.
+    /// The first drained block, or this one if there is none.
     pub(crate) fn drained_or(&self, block: u32) -> u32
         requires { block < 10 }
         ensures { result < 10 }
@@ -113,12 +113,12 @@ impl BroomJudge {
         }
     }
 
-    // Puts a block into the queue. The answer is false where it is full.
+    // Puts a block into the queue. Returns false if the queue is full.
     fn put(&mut self, block: u32) -> bool {
         self.queue.try_push(block).is_ok()
     }
 
-    // Puts what is set aside. The answer is false where the queue is full.
+    // Puts what is set aside into the queue. Returns false if the queue is full.
     fn relieve(&mut self, broom: usize) -> bool
         requires { broom < 2 }
     {
@@ -132,7 +132,7 @@ impl BroomJudge {
         true
     }
 
-    // Takes what is set aside, or else the queue's first block.
+    // Takes what is set aside, or the queue's first block if nothing is.
     fn fetch(&mut self, broom: usize) -> Option<u32>
         requires { broom < 2 }
     {
@@ -182,7 +182,7 @@ impl BroomJudge {
         }
     }
 
-    // The broom has copied so many pages: the spare becomes the block that it copies to where there is none.
+    // The broom has copied this many pages: the spare becomes the block that it copies to if there is none.
     fn copy(&mut self, broom: usize, pages: u32)
         requires { broom < 2 }
     {
@@ -197,7 +197,7 @@ impl BroomJudge {
         }
     }
 
-    /// A drain has answered.
+    /// A drain has returned.
     pub(crate) fn drain(&mut self, broom: usize, drawn: Drawn, course: Course, drain: Drain)
         requires { broom < 2 }
     {
@@ -218,7 +218,7 @@ impl BroomJudge {
         }
     }
 
-    // A drain makes a survey, by which all closed blocks are marked. One by the last survey makes none, and its block was still marked.
+    // A drain makes a survey, which marks all closed blocks. A drain with the last survey makes none, and its block was still marked.
     fn survey(&mut self, broom: usize, drawn: Drawn, drain: Drain)
         requires { broom < 2 }
     {
@@ -244,7 +244,7 @@ impl BroomJudge {
         self.kits[broom].has_spare = has_spare;
     }
 
-    /// An erase has answered.
+    /// An erase has returned.
     pub(crate) fn erase(&mut self, broom: usize, drawn: Drawn, course: Course, erase: Erase)
         requires { broom < 2 }
     {

@@ -1,4 +1,4 @@
-//! Brooms that drain and erase blocks beside two hosts.
+//! Brooms that drain and erase blocks while two hosts make calls.
 use crate::calls::{Call, Done, EMPTY, WRITTEN};
 use crate::cast::Who;
 use crate::playing_rows::{Device, Row, check_row};
@@ -28,7 +28,7 @@ const DRAINED: Told = (
     }),
 );
 
-// One that moved a page.
+// A drain that moved a page.
 const MOVED: Told = (
     Call::Drain,
     Done::Drained(Drain::Drained {
@@ -127,7 +127,7 @@ const DRAINS_A_PINNED_BLOCK_BESIDE: [(Who, Told); 4] = [
     (Who::First, PINNED),
 ];
 
-// At the first look both sectors are written, and the block that they were in is drained and erased.
+// At the first look both sectors are written, and the block that had them is drained and erased.
 const LOOKS_TWICE: [Step; 3] = [
     Step::By(Who::A, (Call::Write(0, 1), EMPTY)),
     Step::By(Who::A, (Call::Write(1, 2), EMPTY)),

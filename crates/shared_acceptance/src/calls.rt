@@ -1,4 +1,4 @@
-//! Calls on a small device, with what they answer.
+//! Calls on a small device, with their answers.
 use broom::{Drain, Erase};
 use geometry::{Got, Was, put_word, word_at};
 
@@ -65,21 +65,21 @@ pub(crate) enum Call {
     Erase(u32),
     DrainOne,
     EraseOne,
-    /// A drain by the broom's last survey, and one over the queue.
+    /// A drain with the broom's last survey, and one with the queue.
     DrainNext,
     DrainNextOne,
     Restock,
 }
 
-/// What a call answers.
+/// The answer of a call.
 #[derive(Clone, Copy, PartialEq, Eq)]
 pub(crate) enum Done {
-    /// Nobody makes this call who is as its caller is.
+    /// An actor of the caller's kind can't make this call.
     Nothing,
-    /// What the sector was, or nothing where no block is left. A write of an empty sector changes no other.
+    /// What the sector was, or nothing if no block is left. A write of an empty sector doesn't change a written one.
     Wrote(Option<Was>),
     Trimmed(Was),
-    /// The number of the sector's page, or nothing for an empty sector, after so many looks.
+    /// The number of the sector's page, or nothing for an empty sector, after this many looks.
     Read(Option<u64>, u64),
     /// Whether the sector is written.
     Asked(bool),
@@ -87,7 +87,7 @@ pub(crate) enum Done {
     Holds(Option<(u32, u32)>),
     /// The number of the page that is held.
     Looked(u64),
-    /// What was found is no page of a number.
+    /// What was found isn't the page of any number.
     Torn,
     Opened(bool),
     Released,
@@ -97,7 +97,7 @@ pub(crate) enum Done {
     Restocked(bool),
 }
 
-/// What a read answers by its buffer, in which all bytes were 99.
+/// The answer of a read by its buffer, in which all bytes were 99.
 pub(crate) fn read_done(got: Got, out: &[u8; BYTES], tries: u64) -> Done {
     match got {
         Got::Data => match number_of(out) {
@@ -118,5 +118,5 @@ pub(crate) const WRITTEN: Done = Done::Wrote(Some(Was::Written));
 /// No block is left.
 pub(crate) const FULL: Done = Done::Wrote(None);
 
-/// The sector that is trimmed was written.
+/// The trimmed sector was written.
 pub(crate) const TRIMMED: Done = Done::Trimmed(Was::Written);

@@ -1,4 +1,4 @@
-//! The actors that are inside no call.
+//! The actors that aren't in a call.
 use crate::actors::{Actor, Home, dismiss};
 
 /// Three hosts and two brooms.
@@ -11,7 +11,7 @@ pub(crate) enum Who {
     Second,
 }
 
-/// The place of an actor that is inside a call is empty, and so is that of one that isn't there.
+/// The place of an actor that is in a call is empty, and so is that of an actor that doesn't exist.
 #[derive(Drop)]
 pub(crate) struct Cast<'a, H: Home> {
     pub a: Option<Actor<'a, H>>,
@@ -32,22 +32,22 @@ impl<'a, H: Home> Cast<'a, H> {
         }
     }
 
-    /// An actor goes into a call, or leaves.
+    /// An actor begins a call, or leaves.
     pub(crate) fn take(&mut self, who: Who) -> Option<Actor<'a, H>> {
         self.place(who).take()
     }
 
-    /// An actor comes back. The answer is whether its place was empty.
+    /// An actor ends its call. Returns whether its place was empty.
     pub(crate) fn put(&mut self, who: Who, actor: Actor<'a, H>) -> bool {
         !dismiss(self.place(who).replace(actor))
     }
 
-    /// Whether no host is inside a call.
+    /// Whether no host is in a call.
     pub(crate) fn has_hosts(&self) -> bool {
         self.a.is_some() && self.b.is_some() && self.c.is_some()
     }
 
-    /// Whether no broom but this one is inside a call.
+    /// Whether no broom except this one is in a call.
     pub(crate) fn has_other_broom(&self, broom: Who) -> bool {
         match broom {
             Who::First => self.second.is_some(),
@@ -55,8 +55,8 @@ impl<'a, H: Home> Cast<'a, H> {
         }
     }
 
-    /// Two hosts, one of which may hold a page, two brooms, or one that holds a page and a broom meet, and come back. The answer is nothing
-    /// where one of them isn't there, and false where others don't meet.
+    /// Two hosts, one of which may hold a page, two brooms, or a holder of a page and a broom meet, and end their calls. Returns nothing
+    /// if one of them isn't there, and false for other pairs, which don't meet.
     pub(crate) fn meet(&mut self, first: Who, second: Who) -> Option<bool> {
         let a = self.take(first)?;
         let Some(b) = self.take(second) else {

@@ -1,4 +1,4 @@
-//! A device is closed, and its sectors are looked at.
+//! Closes a device, and examines its sectors.
 ghost use Rattle.std.specs.Prelude.{◌<◌, All, length};
 ghost use Rattle.host.specs.Ready.{IsReady};
 ghost use Rattle.volume.specs.Volume.{flash_of};
@@ -15,7 +15,7 @@ pub(crate) fn has(sectors: &[Option<Vec<u8>>], sector: usize, value: &[u8]) -> b
     }
 }
 
-/// The sectors of a device whose passes are given up.
+/// The sectors of a device whose passes are retired.
 pub(crate) fn close(
     rt: &(impl Abort + AllocGlobal),
     volume: Volume,

@@ -1,4 +1,4 @@
-//! Three hosts and two brooms at once, each in a thread of its own.
+//! Three hosts and two brooms at the same time, each in its own thread.
 ghost use Rattle.std.specs.Prelude.{◌≡◌, ◌<◌, All, length};
 ghost use Rattle.host.specs.Ready.{IsReady};
 ghost use Rattle.volume.specs.Brooms.{IsBroomReady};
@@ -24,8 +24,8 @@ use std::test::Fail;
 use std::thread::{Threads, for_each_mut};
 use volume::Volume;
 
-// How many rounds are played where the environment names no number by ROUNDS. In each a host makes a hundred calls and a broom three
-// hundred turns. All writes of a round have room in the device, but those of six rounds don't: so the writes go on only where blocks are
+// How many rounds are played if the environment has no ROUNDS. In each a host makes a hundred calls, and a broom takes three
+// hundred turns. The device has room for all writes of one round, but not for those of six: so writes succeed only if blocks are
 // drained and erased, in whatever order the threads run.
 const ROUNDS: u64 = 100;
 
@@ -35,7 +35,7 @@ const CALLS: u32 = 100;
 
 const TURNS: u32 = 300;
 
-// Who takes part: an actor at its place, what it knows as a host, and what it did as a broom. A broom hands its blocks on by the queue, or
+// Who takes part: an actor at its place, what it knows as a host, and what it did as a broom. A broom passes its blocks on by the queue, or
 // names the blocks that it erases.
 #[derive(Drop)]
 struct Player<'a, H: Home> {
@@ -74,7 +74,7 @@ impl<'a, H: Home> Player<'a, H> {
         }
     }
 
-    // A broom drains and erases, asks for a spare, and drains twice by its last survey.
+    // A broom drains and erases, asks for a spare, and drains twice with its last survey.
     fn sweep(&mut self, rt: &impl Wait, block: u32) {
         let (drain, next, erase) = if self.has_queue {
             (Call::DrainOne, Call::DrainNextOne, Call::EraseOne)
@@ -108,7 +108,7 @@ impl<'a, H: Home> Player<'a, H> {
     }
 }
 
-// A host gives its pass back, and tells what it knows.
+// Returns a host's pass, and what the host knows.
 fn end_host<H: Home>(
     volume: &Volume,
     player: Option<Player<'_, H>>,
@@ -128,7 +128,7 @@ fn end_host<H: Home>(
     Some(notes)
 }
 
-// A broom is given up, and tells what it did.
+// Folds a broom, and returns what it did.
 fn end_broom<H: Home>(rt: &impl Wait, player: Option<Player<'_, H>>) -> Option<BroomCalls> {
     let Player {
         place,
@@ -154,7 +154,7 @@ fn agree<H: Home>(players: &[Player<'_, H>]) -> bool {
     true
 }
 
-// A round: each player has a thread of its own. The answer is whether the hosts agree after it.
+// A round: each player has its own thread. Returns whether the hosts agree after it.
 fn play_round<R: Threads + Wait + Sync, H: Home + Send + Sync>(
     rt: &R,
     players: &mut [Player<'_, H>],
@@ -171,7 +171,7 @@ struct Ended {
     agreed: bool,
 }
 
-// Plays so many rounds, and gives the passes back.
+// Plays this many rounds, and returns the passes.
 fn play<'x, R: Threads + Wait + Sync, H: Home + Send + Sync>(
     rt: &R,
     volume: &'x Volume,
@@ -212,7 +212,7 @@ fn play<'x, R: Threads + Wait + Sync, H: Home + Send + Sync>(
     (passes, ended)
 }
 
-// A host finds what the device holds at its end. Was it right in all?
+// Whether a host finds what the device holds at its end, and was right throughout.
 fn finds_last(host: &mut Option<Notes>, sectors: &[Option<Vec<u8>>]) -> bool {
     let Some(notes) = host else {
         return false;
@@ -232,7 +232,7 @@ fn finds_last(host: &mut Option<Notes>, sectors: &[Option<Vec<u8>>]) -> bool {
     notes.is_right()
 }
 
-// How many rounds are to be played.
+// How many rounds to play.
 fn rounds(rt: &(impl Env + AllocGlobal)) -> u64 {
     match env::var(rt, "ROUNDS") {
         Ok(number) => number.as_str().parse::<u64>().unwrap_or(ROUNDS),
@@ -240,7 +240,7 @@ fn rounds(rt: &(impl Env + AllocGlobal)) -> u64 {
     }
 }
 
-// Whether the brooms, taken together, drained, moved pages, erased blocks, found some that were read, and drained by a survey again.
+// Whether the brooms together drained, moved pages, erased blocks, found some with readers, and drained with a survey made before.
 fn did_all(a: BroomCalls, b: BroomCalls) -> bool {
     (a.drained > 0 || b.drained > 0)
         && (a.copied > 0 || b.copied > 0)

@@ -1,4 +1,4 @@
-//! What a host of a crowd knows, with the judge of its answers.
+//! What a host of a crowd knows, and the checks of its answers.
 ghost use Rattle.std.specs.Prelude.{◌<◌};
 
 use crate::calls::{Call, Done};
@@ -7,7 +7,7 @@ use crate::draws::Draws;
 use crate::jury::Next;
 use geometry::Was;
 
-/// A host's number, what it knows of each sector, and how often it tried to write and was not refused. Sector 0 is written by host 0
+/// A host's number, what it knows of each sector, and how often it tried to write and how often it was not refused. Sector 0 is written by host 0
 /// alone, 1 by host 1, 2 by host 2, and the others by all.
 #[derive(Drop)]
 pub(crate) struct Notes {
@@ -19,7 +19,7 @@ pub(crate) struct Notes {
     pub holds: u64,
     // The number of the page that is held.
     held: Option<u64>,
-    /// Whether each answer so far was one that can be.
+    /// Whether each answer so far was possible.
     pub right: bool,
     ghost below: { host < 3 },
 }
@@ -40,7 +40,7 @@ impl Notes {
         }
     }
 
-    /// Something that was to hold of an answer.
+    /// A condition that an answer has to meet.
     pub(crate) fn expect(&mut self, holds: bool) {
         self.right = self.right && holds;
     }
@@ -90,7 +90,7 @@ impl Notes {
         }
     }
 
-    // The sector was found with this value, or empty. One that nobody else writes has just what was written last.
+    // The sector was found with this value, or empty. A sector that nobody else writes has exactly what was written last.
     fn find(&mut self, sector: u32, found: Option<Value>)
         requires { sector < 6 }
     {
@@ -103,7 +103,7 @@ impl Notes {
         }
     }
 
-    /// The same, of the number of its page.
+    /// The same for the number of its page.
     pub(crate) fn find_page(&mut self, sector: u32, number: Option<u64>)
         requires { sector < 6 }
     {
@@ -124,7 +124,7 @@ impl Notes {
         self.expect(same || sector != self.host);
     }
 
-    // The host has changed the sector, which was so before.
+    // The host has changed the sector, which held this before.
     fn change(&mut self, sector: u32, was: Was, value: Option<Value>)
         requires { sector < 6 }
     {
@@ -133,7 +133,7 @@ impl Notes {
         self.expect(is_new);
     }
 
-    // A write has answered.
+    // A write has returned.
     fn judge_write(&mut self, call: Call, was: Was) {
         self.done = self.done.wrapping_add(1);
         match call {
@@ -147,7 +147,7 @@ impl Notes {
         }
     }
 
-    /// A call has answered. What is still to be done?
+    /// A call has returned. Returns what remains to be done.
     pub(crate) fn judge(&mut self, call: Call, done: Done) -> Next {
         match (call, done) {
             (_, Done::Wrote(Some(was))) => self.judge_write(call, was),
@@ -190,7 +190,7 @@ impl Notes {
         self.held = None;
     }
 
-    /// Whether this host has found no value that the other one didn't write.
+    /// Whether this host has found no write of the other host beyond those that the other host made.
     pub(crate) fn agrees_with(&self, other: &Notes) -> bool {
         let writer = other.host as usize;
         for sector in 0..6 {
@@ -201,7 +201,7 @@ impl Notes {
         true
     }
 
-    /// Whether the host was right, wrote at least half of what it tried to, and held pages.
+    /// Whether the host was right, did at least half of its writes, and held pages.
     pub(crate) fn is_right(&self) -> bool {
         self.right && self.tried / 2 <= self.done && self.done > 0 && self.holds > 0
     }

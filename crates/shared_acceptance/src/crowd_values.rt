@@ -12,7 +12,7 @@ pub(crate) struct Value {
     pub number: u32,
 }
 
-/// The number of the page of a value. It has the writer, the sector and the number.
+/// The number of the page of a value, made of the writer, the sector and the write's number.
 pub(crate) fn page_number(sector: u32, value: Value) -> u64 {
     u64::from(value.writer) << 40 | u64::from(sector) << 32 | u64::from(value.number)
 }
@@ -31,7 +31,7 @@ pub(crate) fn value_of(sector: u32, found: u64) -> Option<Value> {
     }
 }
 
-/// What a host has found or written in a sector last, and of each writer the highest number that it has found or written there.
+/// What a host found or wrote last in a sector, and for each writer the highest number that it has found or written there.
 #[derive(Clone, Copy)]
 pub(crate) struct Known {
     pub last: Option<Value>,
@@ -39,7 +39,7 @@ pub(crate) struct Known {
 }
 
 impl Known {
-    /// Of a sector that is empty and was never read.
+    /// For a sector that is empty and was never read.
     pub(crate) fn new() -> Known {
         Known {
             last: None,
@@ -47,7 +47,7 @@ impl Known {
         }
     }
 
-    /// Takes in what was found, and says whether that can be: it is what was known last, or newer than all that is known of its writer.
+    /// Notes what was found, and returns whether it is possible: it is what was known last, or newer than all that is known of its writer.
     pub(crate) fn find(&mut self, found: Option<Value>) -> bool {
         let can_be = match found {
             Some(value) if self.last != found => self.raise(value),
@@ -57,7 +57,7 @@ impl Known {
         can_be
     }
 
-    // Takes in a number, and says whether it is higher than those before.
+    // Notes a number, and returns whether it is higher than those before.
     fn raise(&mut self, value: Value) -> bool {
         let Some(newest) = self.newest.get_mut(value.writer as usize) else {
             return false;

@@ -1,4 +1,4 @@
-//! Hosts that race, each in a thread of its own, where no broom is.
+//! Hosts that race, each in its own thread, without a broom.
 ghost use Rattle.std.specs.Prelude.{All};
 ghost use Rattle.host.specs.Ready.{IsReady};
 ghost use Rattle.volume.specs.Volume.{flash_of};
@@ -21,7 +21,7 @@ use volume::Volume;
 // What a host does in a round.
 #[derive(Clone, Copy)]
 enum Job {
-    /// Writes 1 to 100 to this sector, which is empty, and which nobody else writes.
+    /// Writes 1 to 100 to this sector, which is empty, and which no other host writes.
     WriteHundred(u32),
     /// Reads sector 0 a thousand times, while at most one other writes 1 to 100 to it. Each read finds a value that was written, at its first
     /// look, and none finds an earlier one than the read before.
@@ -31,7 +31,7 @@ enum Job {
     Rest,
 }
 
-// A host at its place, and whether it was answered what it has to be; of a write of an empty sector, whether it has written.
+// A host at its place, and whether it got the expected answers; for a write of an empty sector, whether it has written.
 #[derive(Drop)]
 struct Racer<'a, H: Home> {
     place: Option<Actor<'a, H>>,
@@ -74,7 +74,7 @@ impl<'a, H: Home> Racer<'a, H> {
         }
     }
 
-    // Writes to an empty sector, and says whether it was found empty or written.
+    // Writes to an empty sector, and returns whether it was found empty or written.
     fn write_new(&mut self, rt: &impl Wait, number: u64) {
         let done = call_at(&mut self.place, rt, Call::New(0, number));
         self.has_written = done == EMPTY;
@@ -91,7 +91,7 @@ impl<'a, H: Home> Racer<'a, H> {
     }
 }
 
-// After a round of writes of an empty sector just one of two has written. One of them reads what the winner wrote, and the other trims it.
+// After a round of writes of an empty sector exactly one of the two has written. One of them reads what was written, and the other trims it.
 fn settle<H: Home>(rt: &impl Wait, racers: &mut [Racer<'_, H>; 3]) {
     if let (Job::WriteNew(first), Job::WriteNew(second)) = (racers[0].job, racers[1].job) {
         let first_won = racers[0].has_written;
@@ -102,7 +102,7 @@ fn settle<H: Home>(rt: &impl Wait, racers: &mut [Racer<'_, H>; 3]) {
     }
 }
 
-// The jobs of three hosts over a device of so many blocks, in so many rounds; and what the sectors hold at the end, 0 for an empty one.
+// The jobs of three hosts on a device of this many blocks, in this many rounds; and what the sectors hold at the end, 0 for an empty one.
 #[derive(Clone, Copy)]
 struct Race {
     blocks: u32,
@@ -120,7 +120,7 @@ fn find_last<H: Home>(rt: &impl Wait, cast: &mut Cast<'_, H>, sectors: [u64; 2])
     have_met == Some(true) && first == found(one) && third == found(zero)
 }
 
-// What a read answers at its first look that finds this number, or an empty sector.
+// The answer of a read whose first look finds this number, or an empty sector.
 fn found(number: u64) -> Done {
     match number {
         0 => Done::Read(None, 1),
@@ -136,7 +136,7 @@ fn end<H: Home>(racer: Option<Racer<'_, H>>) -> (Option<Actor<'_, H>>, bool) {
     }
 }
 
-// Runs a race, and gives the passes back. Was each answer right?
+// Runs a race, and returns the passes and whether each answer was right.
 fn run_race<'x, R: Threads + Wait + Sync, H: Home + Send + Sync>(
     rt: &R,
     volume: &'x Volume,

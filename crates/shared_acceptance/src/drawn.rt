@@ -1,4 +1,4 @@
-//! The calls of a schedule, as they are drawn.
+//! The calls of a schedule, drawn from a seed.
 ghost use Rattle.std.specs.Prelude.{◌<◌};
 
 use crate::broom_judge::Start;
@@ -19,7 +19,7 @@ pub(crate) fn actor_of(k: u32) -> Who {
     }
 }
 
-/// What is drawn for a call: which one it is of twenty, its sector or block, and the number that a write writes.
+/// What is drawn for a call: which of twenty it is, its sector or block, and the number that a write writes.
 #[derive(Clone, Copy)]
 pub(crate) struct Drawn {
     pub kind: u32,
@@ -31,7 +31,7 @@ pub(crate) struct Drawn {
 }
 
 impl Drawn {
-    /// As a host makes it.
+    /// The call if a host makes it.
     pub(crate) fn of_host(self) -> Call {
         match self.kind {
             0..8 => Call::Write(self.sector, self.number),
@@ -43,7 +43,7 @@ impl Drawn {
         }
     }
 
-    /// As a broom makes it.
+    /// The call if a broom makes it.
     pub(crate) fn of_broom(self) -> Call {
         match self.kind {
             0..5 => Call::DrainOne,
@@ -57,7 +57,7 @@ impl Drawn {
     }
 }
 
-/// A call on its way: who makes it, what was drawn for it, what it begins with, and which one it is of all.
+/// A call that has begun: who makes it, what was drawn for it, the state in which it began, and its number among all calls.
 #[derive(Clone, Copy)]
 pub(crate) struct Begun {
     pub k: u32,

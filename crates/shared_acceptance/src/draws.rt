@@ -1,7 +1,7 @@
-//! Numbers that a seed draws.
+//! Numbers that are drawn from a seed.
 ghost use Rattle.std.specs.Prelude.{◌<◌};
 
-/// A linear congruential generator with the factor and the increment of Knuth's MMIX; the upper bits are drawn.
+/// A linear congruential generator with the factor and the increment of Knuth's MMIX; it returns the upper bits.
 #[derive(Clone, Copy)]
 pub(crate) struct Draws {
     state: u64,
@@ -23,7 +23,7 @@ impl Draws {
         (self.state >> 33) as u32 % limit
     }
 
-    /// How many calls are made at a gate: mostly few, and now and then so many that blocks are drained and erased.
+    /// How many calls are made at a gate: mostly few, and sometimes enough to drain and erase blocks.
     pub(crate) fn burst(&mut self) -> u32 {
         match self.below(8) {
             0 => 10,

@@ -1,4 +1,4 @@
-//! Actors come from the passes and brooms of a device, and go back into them.
+//! Makes actors from the passes and brooms of a device, and takes them apart again.
 ghost use Rattle.std.specs.Prelude.{◌≡◌, ◌-◌, All, length};
 ghost use Rattle.host.specs.Ready.{IsReady};
 ghost use Rattle.volume.specs.Brooms.{IsBroomReady};
@@ -48,7 +48,7 @@ pub(crate) fn next_broom<'a, H: Home>(
     }))
 }
 
-/// A host gives its pass back where there is room for it, and else retires it.
+/// Returns a host's pass if there is room for it, and otherwise retires it.
 pub(crate) fn give_back<H: Home>(
     volume: &Volume,
     actor: Option<Actor<'_, H>>,
@@ -74,7 +74,7 @@ pub(crate) fn give_back<H: Home>(
     }
 }
 
-/// A broom is given up.
+/// Folds a broom.
 pub(crate) fn fold<H: Home>(rt: &impl Wait, actor: Option<Actor<'_, H>>) {
     let Some(actor) = actor else {
         return;
@@ -87,7 +87,7 @@ pub(crate) fn fold<H: Home>(rt: &impl Wait, actor: Option<Actor<'_, H>>) {
     }
 }
 
-/// All leave: the brooms are given up, and the hosts give their passes back.
+/// All leave: the brooms are folded, and the hosts' passes are returned.
 pub(crate) fn disband<H: Home>(
     rt: &impl Wait,
     volume: &Volume,

@@ -1,4 +1,4 @@
-//! Two hosts at a device, without a broom or beside one that does nothing.
+//! Two hosts at a device, without a broom or with one that does nothing.
 use crate::calls::{Call, Done, EMPTY, FULL, TRIMMED, WRITTEN};
 use crate::cast::Who;
 use crate::playing_rows::{Device, Row, check_row};
@@ -85,7 +85,7 @@ const HOLDS: [Step; 11] = [
     Step::By(Who::B, (Call::Read(0), Done::Read(Some(3), 1))),
 ];
 
-// Each way round, the page stays, and so does what the other host finds.
+// In both orders the page doesn't change, nor does what the other host finds.
 const MEETS_WHILE_IT_HOLDS: [Step; 11] = [
     Step::By(Who::A, (Call::Write(0, 1), EMPTY)),
     Step::By(Who::B, (Call::Hold(0), Done::Holds(Some((0, 0))))),
@@ -100,7 +100,7 @@ const MEETS_WHILE_IT_HOLDS: [Step; 11] = [
     Step::By(Who::B, (Call::Read(0), Done::Read(Some(2), 1))),
 ];
 
-// A host that is given up keeps no block.
+// A host that is retired keeps no block.
 const LEAVES: [Step; 12] = [
     Step::By(Who::A, (Call::Write(0, 1), EMPTY)),
     Step::Leave(Who::A),

@@ -1,4 +1,4 @@
-//! The plain array that judges each answer, with the number of erases of each block.
+//! The plain array that checks each answer, with the number of erases of each block.
 ghost use Rattle.std.specs.Prelude.{◌<◌};
 
 use broom::{Drain, Erase};
@@ -11,7 +11,7 @@ pub(crate) const BLOCKS: u32 = 10;
 /// The numbers that the sectors hold, 0 for an empty one.
 pub(crate) type Numbers = [u64; 3];
 
-/// The array as it is to be, and the number that was written last. Of each block, how often it was erased, and whether it is retired; of
+/// The expected array, and the number that was written last. For each block, how often it was erased, and whether it is retired; for
 /// each host, the block of the page that it holds, with the page's number.
 #[derive(Clone, Copy)]
 pub(crate) struct Judge {
@@ -22,10 +22,10 @@ pub(crate) struct Judge {
     retired: [bool; 10],
     held: [Option<u32>; 3],
     held_numbers: [u64; 3],
-    // Of each host, how many pages of its open block it has programmed; and which blocks are known to be full, and not drained since.
+    // For each host, how many pages of its open block it has programmed; and which blocks are known to be full, and were not drained since.
     programmed: [u32; 3],
     full: [bool; 10],
-    /// Whether each answer so far was the one that was to be.
+    /// Whether each answer so far was the expected one.
     pub right: bool,
 }
 
@@ -51,7 +51,7 @@ impl Judge {
         self.last
     }
 
-    /// Something that was to hold of an answer.
+    /// A condition that an answer has to meet.
     pub(crate) fn expect(&mut self, holds: bool) {
         self.right = self.right && holds;
     }
@@ -65,7 +65,7 @@ impl Judge {
         }
     }
 
-    /// A write or a trim, which writes 0, has answered what the sector was.
+    /// A write or a trim, which writes 0, has returned what the sector was.
     pub(crate) fn put(&mut self, sector: u32, number: u64, was: Was) -> bool
         requires { sector < 3 }
     {
@@ -74,7 +74,7 @@ impl Judge {
         true
     }
 
-    /// A write of an empty sector has answered what the sector was. Has it written?
+    /// A write of an empty sector has returned what the sector was. Returns whether it has written.
     pub(crate) fn put_new(&mut self, sector: u32, number: u64, was: Was) -> bool
         requires { sector < 3 }
     {
@@ -85,7 +85,7 @@ impl Judge {
         was == Was::Empty
     }
 
-    /// A read has found this number, where its last look came upon these numbers.
+    /// A read has found this number, and these were the numbers at its last look.
     pub(crate) fn read(&mut self, sector: u32, found: Option<u64>, numbers: &Numbers)
         requires { sector < 3 }
     {
@@ -131,7 +131,7 @@ impl Judge {
         self.held[host] = None;
     }
 
-    /// A host has programmed a page. The answer is whether its block is full by that.
+    /// A host has programmed a page. Returns whether this has filled its block.
     pub(crate) fn program(&mut self, host: usize, pages: u32) -> bool
         requires { host < 3 }
     {
@@ -140,7 +140,7 @@ impl Judge {
         programmed == pages
     }
 
-    /// The page that a host has written last was found in this block, which is full by it, and so it is closed.
+    /// The page that a host wrote last was found in this block. It has filled the block, which is therefore closed.
     pub(crate) fn fill(&mut self, found: Option<u32>) {
         let Some(block) = found else {
             self.right = false;
@@ -156,7 +156,7 @@ impl Judge {
         block.is_some() && (a == block || b == block || c == block)
     }
 
-    /// A drain has answered. A block that is retired is never drained.
+    /// A drain has returned. A block that is retired is never drained.
     pub(crate) fn drain(&mut self, drain: Drain, pages: u32) {
         if let Drain::Drained { block, copied } = drain {
             self.expect(block < BLOCKS && !self.retired[(block % BLOCKS) as usize]);
@@ -165,14 +165,14 @@ impl Judge {
         }
     }
 
-    /// A drain found nothing to gain, where each block has so many live pages: no closed block has a dead one.
+    /// A drain found nothing to gain, and each block has this many live pages: no closed block has a dead one.
     pub(crate) fn gain_nothing(&mut self, live: &[u32; 10], pages: u32) {
         for block in 0..10 {
             self.expect(!self.full[block] || live[block] == pages);
         }
     }
 
-    /// An erase has answered. A block that is held is not erased, and the last of its erases retires it.
+    /// An erase has returned. A block that is held is not erased, and the last of its erases retires it.
     pub(crate) fn erase(&mut self, erase: Erase) {
         let (block, retires) = match erase {
             Erase::Erased { block, kept: _ } => (block, false),

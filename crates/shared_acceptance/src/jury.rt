@@ -1,4 +1,4 @@
-//! What draws the calls of a schedule, and judges their answers: the plain array, the model of the brooms, and what happened so far.
+//! Draws the calls of a schedule, and checks their answers: the plain array, the model of the brooms, and what happened so far.
 ghost use Rattle.std.specs.Prelude.{◌<◌};
 
 use crate::actors::Role;
@@ -12,12 +12,12 @@ use broom::{Drain, Erase};
 use flash_table::Point;
 use geometry::Was;
 
-/// How often a call has looked, and the numbers that the sectors held when it looked last.
+/// How often a call has looked, and the numbers that the sectors held at its last look.
 #[derive(Clone, Copy)]
 pub(crate) struct Looks {
     pub count: u64,
     pub numbers: Numbers,
-    /// How often it stood before a move of a page.
+    /// How often it was about to move a page.
     pub moves: u32,
 }
 
@@ -30,7 +30,7 @@ impl Looks {
         }
     }
 
-    /// Those of a call that is not gated: it looks once, and no move of a page fails.
+    /// For an ungated call: it looks once, and no move of a page fails.
     pub(crate) fn alone(numbers: Numbers, done: Done) -> Looks {
         let moves = match done {
             Done::Drained(Drain::Drained { block: _, copied }) => copied,
@@ -54,16 +54,16 @@ impl Looks {
     }
 }
 
-/// What is still to be done once a call has answered.
+/// What remains to be done after a call has returned.
 #[derive(Clone, Copy)]
 pub(crate) enum Next {
     Nothing,
-    /// The page that was written is to be found, since its block is full by it.
+    /// Find the page that was written, since it has filled its block.
     Find,
-    /// The page that is held now is to be looked at.
+    /// Look at the page that is held now.
     Look,
     Release,
-    /// The live pages are to be counted.
+    /// Count the live pages.
     Count,
 }
 
@@ -104,7 +104,7 @@ impl Jury {
         }
     }
 
-    /// Whether each answer so far was one that can be.
+    /// Whether each answer so far was possible.
     pub(crate) fn is_right(&self) -> bool {
         self.judge.right && self.brooms.right
     }
@@ -121,7 +121,7 @@ impl Jury {
         self.draws.burst()
     }
 
-    /// Whether two actors are to meet.
+    /// Whether two actors meet next.
     pub(crate) fn draw_meeting(&mut self) -> bool {
         self.draws.below(4) == 0
     }
@@ -136,7 +136,7 @@ impl Jury {
         }
     }
 
-    // The same, for a broom.
+    // The same for a broom.
     fn draw_broom(&mut self) -> Drawn {
         let drawn = self.draw();
         if !self.names_blocks || drawn.kind < 11 {
@@ -150,7 +150,7 @@ impl Jury {
         }
     }
 
-    /// An actor goes into a call.
+    /// An actor begins a call.
     pub(crate) fn begin(&mut self, k: u32, role: Role) -> Begun
         requires { k < 5 }
     {
@@ -185,7 +185,7 @@ impl Jury {
         }
     }
 
-    // What a write answered. Where it has filled its block, the block is asked for.
+    // A write has returned this. If it has filled its block, asks for the block.
     fn judge_write(&mut self, begun: Begun, was: Option<Was>) -> Next {
         let drawn = begun.drawn;
         self.tally.hosts.writes = self.tally.hosts.writes.wrapping_add(1);
@@ -204,7 +204,7 @@ impl Jury {
         }
     }
 
-    // What a read answered, whose looks were these.
+    // A read with these looks has returned this.
     fn judge_read(&mut self, drawn: Drawn, found: Option<u64>, tries: u64, looks: &Looks) {
         self.tally.hosts.reads = self.tally.hosts.reads.wrapping_add(1);
         if looks.count > 1 {
@@ -226,7 +226,7 @@ impl Jury {
         Next::Look
     }
 
-    // What a look at a page that is held found. The page is now and then released then.
+    // What a look at a held page found. Sometimes the page is then released.
     fn judge_look(&mut self, begun: Begun, number: u64) -> Next {
         self.tally.hosts.looks_at_held = self.tally.hosts.looks_at_held.wrapping_add(1);
         self.judge.look(host_of(begun.k), number);
@@ -237,7 +237,7 @@ impl Jury {
         }
     }
 
-    /// What the look right behind a hold found.
+    /// What the look directly after a hold found.
     pub(crate) fn judge_held(&mut self, begun: Begun, done: Done) {
         match done {
             Done::Looked(number) => self.judge.look(host_of(begun.k), number),
@@ -270,13 +270,13 @@ impl Jury {
         self.brooms.restock(broom_of(begun.k), has_spare);
     }
 
-    /// Each block has so many live pages where a drain found nothing to gain.
+    /// The live pages of each block when a drain found nothing to gain.
     pub(crate) fn judge_no_gain(&mut self, live: &[u32; 10]) {
         self.tally.brooms.surveyed = self.tally.brooms.surveyed.wrapping_add(1);
         self.judge.gain_nothing(live, self.pages);
     }
 
-    // An erase that nobody else has disturbed finds readers only where a page of the block is held.
+    // An erase that runs alone finds readers only if a page of the block is held.
     fn judge_erase(&mut self, begun: Begun, erase: Erase, looks: &Looks, are_idle: bool) {
         self.tally.brooms.note_erase(erase);
         self.judge.erase(erase);
@@ -289,7 +289,7 @@ impl Jury {
         }
     }
 
-    /// A call has answered, whose looks were these, while all hosts were idle or not.
+    /// A call with these looks has returned, while all hosts were idle or not.
     pub(crate) fn judge(
         &mut self,
         begun: Begun,

@@ -1,5 +1,5 @@
-//! Tests of the shared device's public calls: rows of calls with their answers, calls of hosts and brooms that interleave at every point of
-//! a gate as seeds draw them, judged by a plain array, the words of its table after each call, and crowds in real threads. They stand in a
+//! Tests of the shared device's public calls: rows of calls with their answers; calls of hosts and brooms that interleave at each point of
+//! a gate, drawn from seeds and checked by a plain array; the words of the table after each call; and crowds in real threads. They have a
 //! crate of their own, since a crate with tests is proved twice.
 #![tactic(auto)]
 

@@ -1,4 +1,4 @@
-//! The actors of a schedule, and the gates at which they act while others are inside a call: at a gate of `Nested` an actor makes a call
+//! The actors of a schedule, and the gates at which they act while others are in a call: at a gate of `Nested` an actor makes a call
 //! that is gated by `Crew`, and at a gate of `Crew` one that is not gated.
 use crate::actors::{Actor, Home, Role};
 use crate::calls::{Call, Done};
@@ -8,7 +8,7 @@ use crate::jury::{Jury, Looks, Next};
 use flash_table::{Gate, NoGate, Point};
 use std::sync::Wait;
 
-/// The actors that are inside no call, the jury, and what the innermost gated call has looked at.
+/// The actors that aren't in a call, the jury, and what the innermost gated call has looked at.
 pub(crate) struct Crew<'a, R: Wait, H: Home> {
     pub rt: &'a R,
     pub cast: Cast<'a, H>,
@@ -17,7 +17,7 @@ pub(crate) struct Crew<'a, R: Wait, H: Home> {
 }
 
 impl<'a, R: Wait, H: Home> Crew<'a, R, H> {
-    // An actor that goes into a call, unless it is inside one, and the call.
+    // An actor that begins a call, unless it is in one, and the call.
     fn begin(&mut self) -> Option<(Actor<'a, H>, Begun)> {
         let k = self.jury.draw_actor();
         let actor = self.cast.take(actor_of(k))?;
@@ -25,13 +25,13 @@ impl<'a, R: Wait, H: Home> Crew<'a, R, H> {
         Some((actor, begun))
     }
 
-    // An actor comes back. Its place is empty, since nobody else takes it.
+    // An actor ends its call. Its place is empty, since nobody else takes it.
     fn put(&mut self, who: Who, actor: Actor<'a, H>) {
         let was_empty = self.cast.put(who, actor);
         self.jury.judge.expect(was_empty);
     }
 
-    // How many sectors have their page in each block, if there is a host on the stage that can look.
+    // How many sectors have their page in each block, if a host on the stage can look.
     fn count_live(&mut self) -> Option<[u32; 10]> {
         for k in 0..3 {
             let who = actor_of(k);
@@ -48,7 +48,7 @@ impl<'a, R: Wait, H: Home> Crew<'a, R, H> {
         None
     }
 
-    // A drain found nothing to gain. That is judged where the other broom is inside no call.
+    // A drain found nothing to gain. This is checked if the other broom isn't in a call.
     fn judge_no_gain(&mut self, begun: Begun) {
         if self.cast.has_other_broom(actor_of(begun.k))
             && let Some(live) = self.count_live()
@@ -57,7 +57,7 @@ impl<'a, R: Wait, H: Home> Crew<'a, R, H> {
         }
     }
 
-    // What is still to be done of a call that has answered.
+    // What remains to be done after a call has returned.
     fn follow(&mut self, next: Next, begun: Begun, actor: Actor<'a, H>) -> Actor<'a, H> {
         match next {
             Next::Nothing => actor,
@@ -82,7 +82,7 @@ impl<'a, R: Wait, H: Home> Crew<'a, R, H> {
         }
     }
 
-    // What a call answered, whose looks were these. The actor comes back.
+    // A call with these looks has returned this. The actor ends its call.
     fn finish(&mut self, begun: Begun, actor: Actor<'a, H>, done: Done, looks: Looks) {
         let are_idle = self.cast.has_hosts();
         let next = self.jury.judge(begun, done, &looks, are_idle);
@@ -90,7 +90,7 @@ impl<'a, R: Wait, H: Home> Crew<'a, R, H> {
         self.put(actor_of(begun.k), actor);
     }
 
-    // One call that is not gated, of an actor that is on the stage.
+    // One ungated call of an actor on the stage.
     fn step_alone(&mut self) {
         let Some((actor, begun)) = self.begin() else {
             return;
@@ -100,7 +100,7 @@ impl<'a, R: Wait, H: Home> Crew<'a, R, H> {
         self.finish(begun, actor, done, Looks::alone(numbers, done));
     }
 
-    // Two actors that are on the stage meet: two hosts, two brooms, or a page that is held and a host or a broom.
+    // Two actors on the stage meet: two hosts, two brooms, or a holder of a page and a host or a broom.
     fn meet(&mut self) {
         let first = self.jury.draw_actor();
         let second = self.jury.draw_actor();
@@ -122,7 +122,7 @@ impl<R: Wait, H: Home> Gate for Crew<'_, R, H> {
     }
 }
 
-/// The crew, while an actor is inside a call, with what this call has looked at.
+/// The crew, while an actor is in a call, with what this call has looked at.
 pub(crate) struct Nested<'a, R: Wait, H: Home> {
     pub crew: Crew<'a, R, H>,
     pub looks: Looks,

@@ -1,4 +1,4 @@
-//! Brooms that go on draining by their last survey, and brooms that have lost their spare, beside two hosts.
+//! Brooms that drain again with their last survey, and brooms that have lost their spare, while two hosts make calls.
 use crate::calls::{Call, Done, EMPTY, FULL, TRIMMED, WRITTEN};
 use crate::cast::Who;
 use crate::playing_rows::{Device, Row, check_row};
@@ -174,7 +174,7 @@ const FREES_FOUR: Told = (
 
 const RETIRES_TWO: Told = (Call::Erase(2), Done::Erased(Erase::Retired { block: 2 }));
 
-// Of block 0 the page of sector 1 is live, of block 1 none, and of block 2 that of sector 0.
+// In block 0 the page of sector 1 is live, in block 1 none, and in block 2 that of sector 0.
 const GOES_ON: [Step; 9] = [
     Step::By(Who::A, (Call::Write(0, 1), EMPTY)),
     Step::By(Who::A, (Call::Write(1, 2), EMPTY)),
@@ -275,7 +275,7 @@ const HAS_NO_SURVEY: [Step; 14] = [
     Step::By(Who::First, NOTHING),
 ];
 
-// The spare is block 4, then block 2, and then none is free.
+// The spare is block 4, then block 2; then no block is free.
 const RESTOCKS_ONCE: [Step; 22] = [
     Step::By(Who::A, (Call::Write(0, 1), EMPTY)),
     Step::By(Who::A, (Call::Write(1, 2), EMPTY)),

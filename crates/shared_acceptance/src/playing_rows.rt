@@ -1,4 +1,4 @@
-//! A row is played on a device of its own, which is closed at its end.
+//! Plays a row on a device of its own, which is closed at the end.
 ghost use Rattle.std.specs.Prelude.{◌≤◌, All, length};
 ghost use Rattle.host.specs.Ready.{IsReady};
 ghost use Rattle.volume.specs.Brooms.{IsBroomReady};
@@ -22,7 +22,7 @@ use std::test::Fail;
 use volume::Volume;
 
 /// A device with two sectors, two hosts, and blocks of two pages: how many blocks it has, how often each may be erased, and how
-/// many brooms it has, two at most.
+/// many brooms it has, at most two.
 #[derive(Clone, Copy)]
 pub(crate) struct Device {
     pub blocks: u32,
@@ -30,7 +30,7 @@ pub(crate) struct Device {
     pub brooms: u32,
 }
 
-/// What is done on a device of its own, and what the sectors hold at the end.
+/// What is done on one device, and what the sectors hold at the end.
 #[derive(Clone, Copy)]
 pub(crate) struct Row<'a> {
     pub name: &'a str,
@@ -42,7 +42,7 @@ pub(crate) struct Row<'a> {
     pub sectors: [u64; 2],
 }
 
-// Makes the steps up to the first whose call answers otherwise, and says how many were right.
+// Makes the steps up to the first one whose call returns another answer, and returns how many were right.
 fn play<'x, 's, R: Wait, H: Home>(
     rt: &'x R,
     volume: &'x Volume,
@@ -90,7 +90,7 @@ fn play<'x, 's, R: Wait, H: Home>(
     (passes, done)
 }
 
-/// Plays a row. Each call answers what it has to, and the sectors hold what they have to.
+/// Plays a row. Each call has to return its expected answer, and the sectors have to hold the expected values.
 pub(crate) fn check_row<R: Wait + Abort + AllocGlobal>(rt: &R, row: Row<'_>) -> Result<(), Fail> {
     let Row {
         name,

@@ -1,4 +1,4 @@
-//! A player stops at its gate when it has kept an answer.
+//! A player stops at its gate after it has kept an answer.
 ghost use Rattle.std.specs.Bool.{OnTrue};
 ghost use Rattle.std.specs.Prelude.{◌≡◌, ◌<◌, Some, length, slice_get};
 ghost use Rattle.geometry.specs.Geometry.{sectors_of, page_bytes_of};
@@ -38,7 +38,7 @@ fn is_trim(line: &Command<'_>) -> bool
     line.op == Op::Trim && line.sector < 2
 }
 
-// Plays the line, and then the first of the commands, which is the same. The answer is how many answers were kept.
+// Plays the line, and then the first of the commands, which is the same. Returns how many answers were kept.
 fn play_twice(
     volume: &Volume,
     pass: Pass,

@@ -9,7 +9,7 @@ use std::sync::Wait;
 use std::test::Fail;
 use std::thread::{Threads, for_each_mut};
 
-// What a thread does so often: it puts numbers from the first one on, each by this step above the one before, or it takes numbers.
+// What a thread does this many times: it puts numbers from the first one on, each by this step above the one before, or it takes numbers.
 #[derive(Clone, Copy)]
 enum Job {
     Put {
@@ -22,7 +22,7 @@ enum Job {
     },
 }
 
-// Who works in a thread: its pass, and how often it has taken each number.
+// What a thread works with: its pass, and how often it has taken each number.
 #[derive(Drop)]
 struct Worker<'a> {
     hand: Hand<'a>,
@@ -56,7 +56,7 @@ impl Worker<'_> {
     }
 }
 
-// Four threads share a queue with so many places. Each number below that is taken so often in all, and no other one.
+// Four threads share a queue with this many places. Each number below that is taken this many times in all, and no other number is.
 #[derive(Clone, Copy)]
 struct Crowd {
     places: usize,
@@ -109,7 +109,7 @@ const CROWDS: [(&str, Crowd); 2] = [
     ),
 ];
 
-// Whether each number was taken as often as it had to be.
+// Whether each number was taken as often as expected.
 fn are_taken(workers: &[Worker<'_>; 4], crowd: Crowd) -> bool {
     for block in 0..1000 {
         let mut count = 0u32;
@@ -137,7 +137,7 @@ fn new_worker<'a>(queue: &'a EraseQueue, passes: &mut Vec<QueuePass>, job: Job) 
     }
 }
 
-// Whether all that was put was taken, as often as it had to be, and nothing is left.
+// Whether all that was put was taken, as often as expected, and nothing is left.
 fn is_right<R: Threads + Wait + Sync>(
     rt: &R,
     queue: &EraseQueue,

@@ -11,7 +11,7 @@ use std::thread::yield_now;
 pub enum QueueCall {
     Put(usize, bool),
     Take(Option<usize>),
-    /// So often the pass has found the queue full, and empty.
+    /// How often the pass has found the queue full, and empty.
     Counts(u64, u64),
 }
 
@@ -23,7 +23,7 @@ pub struct Hand<'a> {
     ghost pass_of: { IsPassOf queue.now pass },
 }
 
-/// The next hand of these passes.
+/// The next of these passes.
 pub(crate) fn next_hand<'a>(queue: &'a EraseQueue, passes: &mut Vec<QueuePass>) -> Hand<'a>
     requires some { 0 < length passes.old.items }
     requires passes { All (IsNewPass queue.now) passes.old.items }
@@ -37,7 +37,7 @@ pub(crate) fn next_hand<'a>(queue: &'a EraseQueue, passes: &mut Vec<QueuePass>) 
 }
 
 impl Hand<'_> {
-    /// Whether these calls, one after another, answer what they have to.
+    /// Whether these calls, one after another, return their expected answers.
     pub(crate) fn answers(&mut self, rt: &impl Wait, calls: &[QueueCall]) -> bool {
         for call in calls {
             if !self.answers_one(rt, *call) {
@@ -59,7 +59,7 @@ impl Hand<'_> {
         }
     }
 
-    /// Puts a number, once there is room for it.
+    /// Puts a number as soon as there is room for it.
     pub(crate) fn put(&mut self, rt: &impl Wait, block: usize) {
         for _ in rt.forever() {
             if block >= self.queue.limit() || self.queue.put(rt, &mut self.pass, block) {

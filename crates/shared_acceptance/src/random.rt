@@ -1,4 +1,4 @@
-//! Schedules that seeds draw.
+//! Schedules that are drawn from seeds.
 ghost use Rattle.std.specs.Prelude.{◌≡◌, All, length};
 ghost use Rattle.host.specs.Ready.{IsReady};
 ghost use Rattle.volume.specs.Brooms.{IsBroomReady};
@@ -26,12 +26,12 @@ use std::sync::Wait;
 use std::test::Fail;
 use volume::Volume;
 
-// How many schedules are played where the environment names no number by SCHEDULES, and the calls of each that are inside no other one.
+// How many schedules are played if the environment has no SCHEDULES, and how many outermost calls each has.
 const SCHEDULES: u64 = 2000;
 
 const CALLS: u32 = 250;
 
-// Plays a schedule, and gives the passes back, with the jury.
+// Plays a schedule, and returns the passes and the jury.
 fn play<'x, R: Wait + Abort + AllocGlobal, H: Home>(
     rt: &'x R,
     volume: &'x Volume,
@@ -77,7 +77,7 @@ fn play<'x, R: Wait + Abort + AllocGlobal, H: Home>(
     (passes, jury)
 }
 
-// Plays the schedule of a seed over a device of its own, and says what has happened so far.
+// Plays the schedule of a seed on a device of its own, and returns what has happened so far.
 fn play_seed<R: Wait + Abort + AllocGlobal>(
     rt: &R,
     seed: u64,
@@ -96,7 +96,7 @@ fn play_seed<R: Wait + Abort + AllocGlobal>(
     Ok(jury.tally)
 }
 
-// How many schedules are to be played.
+// How many schedules to play.
 fn schedules(rt: &(impl Env + AllocGlobal)) -> u64 {
     match env::var(rt, "SCHEDULES") {
         Ok(number) => number.as_str().parse::<u64>().unwrap_or(SCHEDULES),

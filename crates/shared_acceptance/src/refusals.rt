@@ -1,5 +1,5 @@
-//! A device is opened and closed where memory may be refused once. `examples/short_of_memory` runs this test alone, refuses each allocation
-//! of the two calls in turn, and reads what is told here.
+//! Opens and closes a device while memory may be refused once. `examples/short_of_memory` runs only this test, refuses each allocation
+//! of the two calls in turn, and reads what this test prints.
 ghost use Rattle.std.specs.Prelude.{◌≡◌, ◌<◌, All, IfOk, length};
 ghost use Rattle.geometry.specs.Geometry.{hosts_of};
 ghost use Rattle.flash_table.specs.Flash.{geometry_of};
@@ -15,7 +15,7 @@ use std::process::Abort;
 use std::test::Fail;
 use volume::{Closed, Volume};
 
-// A device. Where its memory is refused, that is told, and it is opened again.
+// Opens a device. If its memory is refused, prints this and opens it again.
 fn open(
     rt: &(impl Print + AllocGlobal),
     geometry: &Geometry,
@@ -34,7 +34,7 @@ fn open(
     Ok(Volume::open(rt.alloc(), geometry)?)
 }
 
-// What a device holds. Where the memory for it is refused, that is told, and what came back is closed again.
+// What a device holds. If the memory for it is refused, prints this and closes again what was returned.
 fn close(rt: &(impl Abort + Print + AllocGlobal), volume: Volume, passes: Vec<Pass>) -> Closed
     requires some { 0 < length passes.items }
     requires passes { All (IsReady (flash_of volume)) passes.items }
@@ -51,7 +51,7 @@ fn close(rt: &(impl Abort + Print + AllocGlobal), volume: Volume, passes: Vec<Pa
     }
 }
 
-// Gives all brooms up.
+// Retires all brooms.
 fn retire_all(volume: &Volume, brooms: Vec<Broom>)
     requires { All (IsBroomReady volume.now) brooms.items }
 {

@@ -1,4 +1,4 @@
-//! A device of as many blocks and sectors as there can be.
+//! A device with the most blocks and sectors.
 use crate::closing::{close, has};
 use crate::opening::last_broom;
 use broom::Drain;

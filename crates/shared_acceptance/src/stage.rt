@@ -1,27 +1,27 @@
-//! The steps of a row are made one after another, and at the points of a gate.
+//! Makes the steps of a row one after another, and at the points of a gate.
 use crate::actors::{Home, dismiss};
 use crate::calls::{Call, Done};
 use crate::cast::{Cast, Who};
 use flash_table::{Gate, NoGate, Point};
 use std::sync::Wait;
 
-/// A call, with the answer that it has to give.
+/// A call, with the answer that it has to return.
 pub(crate) type Told = (Call, Done);
 
 /// A step of a row.
 #[derive(Clone, Copy)]
 pub(crate) enum Step {
-    /// A call, beside which nobody acts.
+    /// A call during which nobody else acts.
     By(Who, Told),
-    /// A call, and the row's calls of others at a point of its gate: so many at each visit.
+    /// A call, and the row's calls of others at a point of its gate: this many at each visit.
     During(Who, Told, Point, usize),
-    /// Two hosts, one of which may hold a page, two brooms, or one that holds a page and a broom.
+    /// Two hosts, one of which may hold a page; two brooms; or a holder of a page and a broom.
     Meet(Who, Who),
-    /// One that makes no more calls.
+    /// An actor that makes no more calls.
     Leave(Who),
 }
 
-/// The actors, what is to be done at a gate, and whether each call so far answered what it had to.
+/// The actors, what to do at a gate, and whether each call so far returned its expected answer.
 #[derive(Drop)]
 pub(crate) struct Stage<'a, 's, R: Wait, H: Home> {
     pub rt: &'a R,
@@ -46,7 +46,7 @@ impl<'s, R: Wait, H: Home> Stage<'_, 's, R, H> {
         self.expect(is_back && done == told.1);
     }
 
-    // A call that is gated by the stage. All that was to be done at its gate is done then.
+    // A call that is gated by the stage. Afterwards everything to do at its gate has been done.
     fn call_gated(&mut self, who: Who, told: Told) {
         let Some(actor) = self.cast.take(who) else {
             return self.expect(false);

@@ -1,4 +1,4 @@
-//! What happened in the schedules, in numbers.
+//! Counts of what happened in the schedules.
 use crate::calls::Done;
 use broom::{Drain, Erase};
 use flash_table::Point;
@@ -67,7 +67,7 @@ impl HostCalls {
     }
 }
 
-/// What the brooms answered.
+/// The answers of the brooms.
 #[derive(Clone, Copy, Debug, Default)]
 pub(crate) struct BroomCalls {
     pub drained: u64,
@@ -89,7 +89,7 @@ pub(crate) struct BroomCalls {
 }
 
 impl BroomCalls {
-    /// Whether each answer was given, and nothing to gain was judged by the live pages.
+    /// Whether each answer was returned, and `NothingToGain` was checked by the live pages.
     pub(crate) fn gave_all(&self) -> bool {
         self.has_drained() && self.has_erased()
     }
@@ -137,7 +137,7 @@ impl BroomCalls {
         }
     }
 
-    /// A drain by the last survey, or by one of its own, has answered.
+    /// A drain with the last survey, or with one of its own, has returned.
     pub(crate) fn note_next(&mut self, is_next: bool, drain: Drain) {
         match drain {
             Drain::Drained { .. } if is_next => {

@@ -1,4 +1,4 @@
-//! Brooms that take turns over the queue of drained blocks, beside two hosts.
+//! Brooms that take turns with the queue of drained blocks, while two hosts make calls.
 use crate::calls::{Call, Done, EMPTY, FULL, WRITTEN};
 use crate::cast::Who;
 use crate::playing_rows::{Device, Row, check_row};
@@ -92,7 +92,7 @@ const PINNED: Told = (Call::EraseOne, Done::Erased(Erase::Pinned));
 
 const STALE: Told = (Call::EraseOne, Done::Erased(Erase::Stale));
 
-// The broom stands by the page that is held.
+// The broom makes a `stand` with the hold.
 const PUTS_A_HELD_BLOCK_BACK: [Step; 14] = [
     Step::By(Who::A, (Call::Write(0, 1), EMPTY)),
     Step::By(Who::A, (Call::Write(1, 2), EMPTY)),
@@ -133,7 +133,7 @@ const RETIRES_A_HELD_BLOCK: [Step; 14] = [
     Step::By(Who::A, (Call::Hold(0), Done::Holds(Some((2, 0))))),
 ];
 
-// Block 0 stays, and the others wear out.
+// Block 0 isn't erased, and the others wear out.
 const HOLDS_WHILE_OTHERS_WEAR_OUT: [Step; 46] = [
     Step::By(Who::A, (Call::Write(0, 1), EMPTY)),
     Step::By(Who::A, (Call::Write(1, 2), EMPTY)),
@@ -199,7 +199,7 @@ const FREES_ONE: Told = (
     }),
 );
 
-// The second broom fills the queue, and erases the blocks beside it.
+// The second broom fills the queue, and erases the blocks that aren't in it.
 const SETS_A_BLOCK_ASIDE: [Step; 38] = [
     Step::By(Who::A, (Call::Write(0, 1), EMPTY)),
     Step::By(Who::A, (Call::Write(1, 2), EMPTY)),

@@ -114,7 +114,7 @@ fn words(flash: &Flash, seat: &mut BroomSeat) -> [u64; 5]
     [first, second, zero, one, spare]
 }
 
-// The words of an open device, and after each call on it.
+// The words of a device after it was opened, and after each call on it.
 const WORDS: [[u64; 5]; 10] = [
     [0, 0, 0, 0, 0x1000],
     [0x8000_0000_0000_0000, 0, 0x11000, 0, 0x1000],
@@ -191,8 +191,8 @@ fn wipe_all(flash: &Flash, seat: &mut BroomSeat)
     }
 }
 
-// Erases a drained block in its last generation, step by step. The answer is its pin word between the condemn and the retirement, as another seat
-// reads it, or none where the block is no such block.
+// Erases a drained block in its last generation, step by step. Returns its pin word between the condemn and the retirement, as another seat
+// reads it, or none if it isn't such a block.
 fn erase_in_steps(
     flash: &Flash,
     seat: &mut BroomSeat,
@@ -276,7 +276,7 @@ fn each_call_leaves_the_words_of_the_table(rt: HostRuntime) -> Result<(), Fail> 
     Ok(())
 }
 
-// The block is condemned with the pages that were written in it, and open to nobody.
+// The block is condemned with the pages that were written in it, and belongs to no pass.
 #[test]
 fn a_condemned_block_has_the_word_of_the_table(rt: HostRuntime) -> Result<(), Fail> {
     let Table {
