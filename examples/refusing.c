@@ -1,9 +1,9 @@
-// Stands between a program and the C library, and refuses or cuts short what the environment names:
+// Wraps calls of the C library, and refuses or shortens those that the environment names:
 //   REFUSE_ALLOCATION=K  the K-th allocation        REFUSE_READ=K, REFUSE_WRITE=K  the K-th read of standard input, write to
-//   REFUSE_WITH=E        by this error number       standard output (with error 0 a write takes nothing)
+//   REFUSE_WITH=E        by this error number       standard output (with error 0 a write accepts nothing)
 //   REFUSE_FILE=K        the K-th write to a file of its own, by the same error number
 //   REFUSE_THREAD=K      the K-th start of a thread
-//   MOST=N               a read gives, and a write takes, N bytes at most; with SEED=S from 1 to N at random
+//   MOST=N               a read returns, and a write accepts, N bytes at most; with SEED=S from 1 to N at random
 //   AFTER_WRITE=W        allocations are counted from the W-th write to standard output, and only until the next one
 //   REPORT=FILE          gets the numbers of allocations, of reads and writes, of writes to files, of threads, of writes to standard
 //                        error, and of yields at the end
