@@ -1,5 +1,5 @@
 # make           proves every function and builds flashplay; needs the toolchain
-# make install   puts flashplay, its page, the tools, the libraries, a Python wheel and the documents below DESTDIR and PREFIX
+# make install   installs flashplay, its manual page, the tools, the libraries, a Python wheel and the documents below DESTDIR and PREFIX
 # make dist      packs them into out/dist, as mintlintel_VERSION_amd64.deb and mintlintel-VERSION-amd64.tar.gz
 # make clean     removes out/, with the programs that ./flashplay keeps there
 PREFIX ?= /usr/local

@@ -16,7 +16,7 @@
  *  - There is no call from a signal handler, or in the forked child of a process with threads.
  * A handle that is not closed keeps its memory.
  *
- * The calls of all hosts of a shared device stand in one order, which has the calls of each handle in their order: they are sequentially
+ * The calls of all hosts of a shared device are in one order, which has the calls of each handle in their order: they are sequentially
  * consistent, and not claimed to be linearizable. There is no mintlintel_host_meet, which would tie what two hosts have seen, since nothing
  * shows that two handles are of one device, and no mintlintel_broom_block, since loading a block's state spoils the broom's last survey.
  *
@@ -144,7 +144,7 @@ uint32_t mintlintel_one_numbers(struct mintlintel_one *handle, struct mintlintel
 /* ---- A device that threads share ---- */
 
 /* A handle of one seat: `struct mintlintel_seat hosts[4] = {{0}};`. An open seat is a host, a host that holds a page, or a broom;
- * a call for another kind answers 9 and changes nothing. */
+ * a call for another kind returns 9 and changes nothing. */
 struct mintlintel_seat { void *at; uint64_t is_open; };
 
 /* A page that a host holds: its block, in this generation of the block. */
@@ -155,7 +155,7 @@ struct mintlintel_page { uint32_t block, generation; };
 uint32_t mintlintel_shared_open(struct mintlintel_seat *hosts, size_t host_count, struct mintlintel_seat *brooms, size_t broom_count,
                                 uint32_t luns, uint32_t blocks, uint32_t pages, uint32_t words, uint32_t sectors, uint32_t endurance);
 
-/* Gives the seat up. The device goes with its last handle. A closed handle stays closed. */
+/* Closes the seat. The last close frees the device. A closed handle stays closed. */
 void mintlintel_seat_close(struct mintlintel_seat *handle);
 
 /* The device's numbers, of a seat of any kind: 0; 2 leaves `numbers` as it was. */
@@ -178,7 +178,7 @@ uint32_t mintlintel_host_trim(struct mintlintel_seat *handle, uint32_t sector);
 uint32_t mintlintel_host_look(struct mintlintel_seat *handle, uint32_t sector);
 
 /* Holds the page that has the sector's value: 1 if it is held from now on, up to the release; 0 if the sector is empty; 2, 3 or 9. The block of
- * a held page is not erased. A host that holds answers 9 to every call but those of the next four lines, seat_numbers and seat_close. */
+ * a held page is not erased. For a host that holds, every call returns 9 except those of the next four lines, seat_numbers and seat_close. */
 uint32_t mintlintel_host_hold(struct mintlintel_seat *handle, uint32_t sector);
 
 /* The page that is held, into `out`: 1; 2, 4, or 9 if the handle holds none, with `out` as it was. */
@@ -187,7 +187,7 @@ uint32_t mintlintel_host_copy(struct mintlintel_seat *handle, uint8_t *out, size
 /* Word i of the page that is held, its bytes 8 i to 8 i + 7 as a little-endian number: 0; 2, 9 or 10 leave `word` as it was. */
 uint32_t mintlintel_host_word(struct mintlintel_seat *handle, uint32_t i, uint64_t *word);
 
-/* Where the page that is held stands: 0; 2 or 9 leave `page` as it was. */
+/* The place of the page that is held: 0; with 2 or 9 `page` is unchanged. */
 uint32_t mintlintel_host_held(struct mintlintel_seat *handle, struct mintlintel_page *page);
 
 /* Gives the page up, and the handle is a host as before: 0; 2 or 9. */

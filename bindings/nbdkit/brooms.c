@@ -39,7 +39,7 @@ void brooms_end(struct brooms *brooms) {
     free((void *) brooms->is_retired);
 }
 
-// A code that no call of a broom should give. It is told once.
+// A code that no call of a broom should return. It is reported once.
 static void fail(struct broom *broom, const char *call, uint32_t code) {
     if (!broom->has_failed)
         nbdkit_error("broom %" PRIu32 ": %s: %s (%" PRIu32 ")", broom->number, call, mintlintel_code_name(code), code);
@@ -57,7 +57,7 @@ static void count_erase(struct broom *broom, uint32_t block) {
     atomic_fetch_add_explicit(&broom->all->erases[block], 1, memory_order_relaxed);
 }
 
-// Erases a drained block. 0 where somebody reads it, so that it has to wait.
+// Erases a drained block. 0 if a host reads it, so that it has to wait.
 static int erase(struct broom *broom, uint32_t block) {
     uint32_t code = mintlintel_broom_erase(announced(broom->seat), block);
     switch (code) {
@@ -83,7 +83,7 @@ static int erase(struct broom *broom, uint32_t block) {
     return 1;
 }
 
-// Erases what waits for it. 1 where there was something, even if somebody still reads it: then a later round will erase it.
+// Erases the blocks that wait. 1 if there were any, even if a host still reads one: then a later round will erase it.
 static int erase_drained(struct broom *broom) {
     int was_there = broom->drained_count > 0;
     for (uint32_t i = 0; i < broom->drained_count;) {
@@ -97,7 +97,7 @@ static int erase_drained(struct broom *broom) {
     return was_there;
 }
 
-// Drains the best block of the survey that the broom keeps, and of a new one where that has none.
+// Drains the best block of the survey that the broom keeps, or of a new one if that has none.
 static uint32_t drain_one(struct broom *broom, uint32_t *block, uint32_t *moved) {
     if (broom->drains_of_survey > 0 && broom->drains_of_survey < DRAINS_OF_A_SURVEY) {
         uint32_t code = mintlintel_broom_drain_next(announced(broom->seat), block, moved);
@@ -127,7 +127,7 @@ static int restock(struct broom *broom) {
     return 0;
 }
 
-// Drains a block. 0 where there is nothing to gain, or nowhere to copy to.
+// Drains a block. 0 if there is nothing to gain, or no place to copy to.
 static int drain(struct broom *broom) {
     uint32_t block = 0, moved = 0, code = drain_one(broom, &block, &moved);
     switch (code) {

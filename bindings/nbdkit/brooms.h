@@ -28,11 +28,11 @@ struct brooms {
     _Atomic uint8_t *is_retired; // of each block
 };
 
-// 0, or -1 where there is no memory, with an error told.
+// 0, or -1 with an error reported if there is no memory.
 int brooms_begin(struct brooms *brooms, const struct options *options, struct stock *stock, struct mintlintel_seat *seats);
 void brooms_end(struct brooms *brooms);
 
-// Starts the threads: 0, or -1 with an error told. They end behind stock_stop, and brooms_join waits for them.
+// Starts the threads: 0, or -1 with an error reported. They end after stock_stop, and brooms_join waits for them.
 int brooms_start(struct brooms *brooms);
 void brooms_join(struct brooms *brooms);
 

@@ -200,7 +200,7 @@ int counts_mind_signals(void) {
     return -1;
 }
 
-// All threads of the server start behind this one, so none of them is interrupted by the signal.
+// All threads of the server start after this one, so none of them is interrupted by the signal.
 int counts_start(struct device *device) {
     sigset_t signals;
     one_signal(&signals);

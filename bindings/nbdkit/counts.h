@@ -4,16 +4,16 @@
 
 #include "device.h"
 
-// From here on SIGUSR1 does no harm, and what comes before the thread is there writes nothing: 0, or -1 with an error told.
+// From here on SIGUSR1 does no harm; one that comes before the thread has started writes nothing. 0, or -1 with an error reported.
 int counts_mind_signals(void);
 
-// Starts the thread that writes the file at each SIGUSR1: 0, or -1 with an error told.
+// Starts the thread that writes the file at each SIGUSR1: 0, or -1 with an error reported.
 int counts_start(struct device *device);
 
 // Ends that thread.
 void counts_stop(struct device *device);
 
-// Writes the file, in one step for whoever opens it: 0, or -1 with an error told.
+// Writes the file, and replaces the old one in one step: 0, or -1 with an error reported.
 int counts_write(struct device *device);
 
 #endif

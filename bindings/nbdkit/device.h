@@ -24,19 +24,19 @@ struct device {
     int is_open; // the seats are open
 };
 
-// 0, or -1 with an error told.
+// 0, or -1 with an error reported.
 int device_open(struct device *device);
 int device_start(struct device *device);
 void device_stop(struct device *device);
 void device_close(struct device *device);
 
-// The requests: 0, or -1 with an error set and told.
+// The requests: 0, or -1 with an error set and reported.
 int device_read(struct device *device, uint8_t *to, uint32_t count, uint64_t offset);
 int device_write(struct device *device, const uint8_t *from, uint32_t count, uint64_t offset);
 int device_zero(struct device *device, uint32_t count, uint64_t offset, int may_trim);
 int device_trim(struct device *device, uint32_t count, uint64_t offset);
 
-// Whether a sector is empty: 1 or 0, or -1 with an error set and told. A handle is taken for a run of such looks.
+// Whether a sector is empty: 1 or 0, or -1 with an error set and reported. A handle is taken for a run of such looks.
 int device_is_empty(struct host *host, uint32_t sector);
 
 #endif

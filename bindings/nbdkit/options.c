@@ -123,9 +123,9 @@ int options_set(struct options *options, const char *key, const char *value) {
         uint32_t least, most, *number;
     } numbers[] = {
         {"luns", 1, MAX_LUNS, &options->luns},
-        {"blocks", 1, UINT32_MAX, &options->blocks}, // the library has the limits, and its refusal is told in bytes
+        {"blocks", 1, UINT32_MAX, &options->blocks}, // the library has the limits, and its refusal is reported in bytes
         {"pages", 1, MAX_PAGES, &options->pages},
-        {"sectors", 1, UINT32_MAX, &options->sectors}, // its limit is told in bytes, once the page is known
+        {"sectors", 1, UINT32_MAX, &options->sectors}, // its limit is reported in bytes, as soon as the page is known
         {"endurance", 1, MAX_ENDURANCE, &options->endurance},
         {"hosts", 1, MAX_HOSTS, &options->hosts},
         {"brooms", 0, MAX_BROOMS, &options->brooms},
@@ -197,7 +197,7 @@ static int choose_blocks(struct options *options) {
     uint64_t blocks =
         (options->sectors * (100 + (uint64_t) options->spare) + hundred_pages - 1) / hundred_pages + kept_blocks(options);
     blocks = (blocks + options->luns - 1) / options->luns * options->luns;
-    // More than a device may have are told as such by the library.
+    // The library refuses more than a device may have.
     options->blocks = blocks > UINT32_MAX ? UINT32_MAX : (uint32_t) blocks;
     return 0;
 }
@@ -207,7 +207,7 @@ static uint32_t within(uint64_t number, uint32_t least, uint32_t most) {
 }
 
 // Brooms rest with a few blocks free for the writes to come. The marks are low enough to be reached with every sector written:
-// a broom that never rests copies pages that would soon have been written anew.
+// a broom that never rests copies pages that would soon have been overwritten.
 static int choose_marks(struct options *options) {
     uint64_t used = (options->sectors + (uint64_t) options->pages - 1) / options->pages + kept_blocks(options);
     uint64_t spare = options->blocks > used ? options->blocks - used : 0;

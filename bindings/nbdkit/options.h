@@ -11,7 +11,7 @@ struct options {
     uint32_t luns, blocks, pages, sectors, endurance;
     uint32_t hosts, brooms; // handles of the pool, and threads that collect
     uint32_t low, high;     // brooms start below `low` free blocks, and go on to `high`
-    uint32_t wait;          // milliseconds that a write waits while no block comes free
+    uint32_t wait;          // milliseconds that a write waits while no block becomes free
     int64_t size;           // bytes, or -1
     uint32_t spare;         // percent of the sectors
     int has_spare;
@@ -24,10 +24,10 @@ void options_begin(struct options *options);
 // Frees what the options hold.
 void options_end(struct options *options);
 
-// One parameter. 0, or -1 with an error told.
+// One parameter. 0, or -1 with an error reported.
 int options_set(struct options *options, const char *key, const char *value);
 
-// Works out what wasn't given. 0, or -1 with an error told.
+// Computes what wasn't given. 0, or -1 with an error reported.
 int options_complete(struct options *options);
 
 // Tells why the library made no device of these numbers.

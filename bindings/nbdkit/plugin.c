@@ -68,7 +68,7 @@ static void *open_connection(int is_readonly) {
     return NBDKIT_HANDLE_NOT_NEEDED;
 }
 
-// A page is preferred where it is a size that NBD can prefer.
+// The size of a page is preferred if NBD can prefer it.
 static int block_size(void *handle, uint32_t *minimum, uint32_t *preferred, uint32_t *maximum) {
     (void) handle;
     uint32_t page = device.options.page;
@@ -102,7 +102,7 @@ static int write_request(void *handle, const void *from, uint32_t count, uint64_
     return device_write(&device, from, count, offset);
 }
 
-// Without leave to trim, zeros are as slow as a write, and the client has asked to be told so.
+// If trimming isn't allowed, zeros are as slow as a write, and the client has asked for a refusal then.
 static int zero_request(void *handle, uint32_t count, uint64_t offset, uint32_t flags) {
     (void) handle;
     int may_trim = (flags & NBDKIT_FLAG_MAY_TRIM) != 0;

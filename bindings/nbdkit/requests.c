@@ -1,5 +1,5 @@
-// The requests, page by page. A page that is changed has its sector's lock from before its handle is taken until after it is
-// given back, a whole page too: else a part's old bytes could be written over a whole page that was answered meanwhile.
+// The requests, page by page. A page that is changed, also a whole one, has its sector's lock from before its handle is taken until
+// after it is returned: otherwise a part's old bytes could overwrite a whole page that was answered in between.
 #define NBDKIT_API_VERSION 2
 #include <errno.h>
 #include <inttypes.h>
@@ -8,10 +8,10 @@
 
 #include "device.h"
 
-// A long read lets others have its handle after so many pages.
+// A long read lets others have its handle after this many pages.
 enum { PAGES_OF_A_TURN = 16 };
 
-// What is left of a request, and the part of it that lies in one sector.
+// The rest of a request, and its part in one sector.
 struct range {
     uint64_t offset;
     uint32_t count, page;
@@ -45,7 +45,7 @@ static int fail(const char *call, uint32_t code) {
     return -1;
 }
 
-// No block is free, and none came free in time. It is told once: a client may ask for it over and over.
+// No block is free, and none became free in time. It is reported once: a client may repeat the request many times.
 static int fail_full(struct device *device) {
     if (!atomic_exchange(&device->has_told_full, 1))
         nbdkit_error("no block is free, and the brooms win none: the device is full or worn out (told once)");
@@ -53,7 +53,7 @@ static int fail_full(struct device *device) {
     return -1;
 }
 
-// A sector's page, with zeros where it is empty. `is_empty` is set as well, or -1 is returned with an error set and told.
+// A sector's page, with zeros if it is empty. `is_empty` is set too, or -1 is returned with an error set and reported.
 static int load(struct device *device, struct host *host, uint32_t sector, uint8_t *page, int *is_empty) {
     uint32_t code = mintlintel_host_read(announced(host->seat), sector, page, device->options.page);
     tally_add(&host->reads, 1);
@@ -109,7 +109,7 @@ static int store(struct device *device, uint32_t sector, const uint8_t *page) {
     }
 }
 
-// Puts bytes, or zeros where there are none, into a part of a sector whose lock is held. Zeros leave an empty sector empty if
+// Puts bytes, or zeros if there are none, into a part of a sector whose lock is held. Zeros leave an empty sector empty if
 // they may trim.
 static int change(struct device *device, const struct piece *piece, const uint8_t *from, int may_trim) {
     uint8_t page[MAX_PAGE_BYTES];

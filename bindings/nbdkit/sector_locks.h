@@ -1,4 +1,4 @@
-// A lock for each sector: whoever changes a sector, or a part of it, holds its lock. Some sectors share one.
+// A lock for each sector: a thread that changes a sector, or a part of it, holds its lock. Some sectors share one.
 #ifndef NBDKIT_SECTOR_LOCKS_H
 #define NBDKIT_SECTOR_LOCKS_H
 

@@ -7,8 +7,8 @@
 
 enum {
     LOOK_AGAIN_MS = 10, // a waiting write looks again by itself
-    PAUSE_MS = 2,       // a broom that found nothing, and for which nobody waits
-    MAX_WAITS = 10,     // a write waits no longer than so many times the wait, even if blocks do come free
+    PAUSE_MS = 2,       // a broom that found nothing while no request waits
+    MAX_WAITS = 10,     // a write waits at most this many times the wait, even if blocks do become free
     TURN_MS = 1,        // a long request that lets others have its handle takes one again
     MAX_BATCH = 8,      // free blocks that waiting writes wait for, if brooms can win as many
 };
@@ -85,7 +85,7 @@ static void put_idle(struct stock *stock, struct host *host) {
     atomic_fetch_or(&idle->words[number / HOSTS_OF_A_WORD], (uint64_t) 1 << number % HOSTS_OF_A_WORD);
 }
 
-// The handle of the lowest number, so that few blocks are open. NULL where none is idle.
+// The idle handle with the lowest number, so that few blocks are open. NULL if none is idle.
 static struct host *take_idle(struct stock *stock, struct idle *idle) {
     for (uint32_t at = 0; at * HOSTS_OF_A_WORD < stock->host_count; at++) {
         uint64_t bits = atomic_load(&idle->words[at]);
@@ -171,7 +171,7 @@ static struct host *take_any(struct stock *stock) {
     return host;
 }
 
-// A handle with room, or one that may take a free block; NULL where neither is there. No block is opened before it is needed.
+// A handle with room, or one that may take a free block; NULL if there is neither. No block is opened before it is needed.
 static struct host *take_with_room(struct stock *stock) {
     struct host *host = take_idle(stock, &stock->roomy);
     if (host || !may_open(stock))
@@ -211,7 +211,7 @@ static void count_change(struct stock *stock) {
     atomic_fetch_add(&stock->changes, 1);
 }
 
-// Whether a write has waited as long as a write may, whatever came free meanwhile.
+// Whether a write has waited as long as a write may, even if blocks became free in between.
 static int is_over(const struct stock *stock, const struct attempt *attempt) {
     return attempt->began != 0 && now() - attempt->began >= MAX_WAITS * stock->wait_ns;
 }
@@ -254,7 +254,7 @@ static int is_wanted(struct stock *stock, uint32_t broom) {
     return stock->is_collecting && stock->fruitless_at[broom] != atomic_load(&stock->changes);
 }
 
-// Waits for a mark of free blocks, or, where the broom has found nothing, for a change.
+// Waits for a threshold of free blocks or, if the broom has found nothing, for a change.
 static void rest(struct stock *stock, uint32_t broom) {
     uint32_t listens = (uint32_t) stock->is_collecting;
     atomic_fetch_add(&stock->listening, listens);
@@ -265,7 +265,7 @@ static void rest(struct stock *stock, uint32_t broom) {
 
 // ---- The mutex is not held from here on.
 
-// Puts a handle back, and tells those who wait, if there are any; brooms only where something has changed.
+// Puts a handle back, and wakes those who wait, if there are any; brooms only if something has changed.
 static void put_and_tell(struct stock *stock, struct host *host, int has_changed) {
     int has_room = host->room > 0;
     put_idle(stock, host);

@@ -30,7 +30,7 @@ static inline uint64_t tally_of(tally *count) {
     return atomic_load_explicit(count, memory_order_relaxed);
 }
 
-// A host's handle. Only who has taken it uses it.
+// A host's handle. Only the thread that has taken it uses it.
 struct host {
     _Alignas(64) struct mintlintel_seat *seat;
     uint32_t room; // pages that are left in its open block
@@ -66,7 +66,7 @@ struct stock {
     uint64_t waits, waited_ns, gave_up, miscounts;
 };
 
-// 0, or -1 where there is no memory, with an error told. The seats are those of an open device.
+// 0, or -1 with an error reported if there is no memory. The seats are those of an open device.
 int stock_begin(struct stock *stock, const struct options *options, struct mintlintel_seat *seats);
 void stock_end(struct stock *stock);
 
@@ -91,7 +91,7 @@ void stock_give_written(struct stock *stock, struct host *host, const struct att
 void stock_give_refused(struct stock *stock, struct host *host, struct attempt *attempt);
 void stock_give_trimmed(struct stock *stock, struct host *host);
 
-// A broom waits for work: 0 where the brooms are to stop. `known` is what it hands on at the end of its round.
+// A broom waits for work: 0 if the brooms have to stop. `known` is what it passes on at the end of its round.
 int stock_begin_round(struct stock *stock, uint32_t broom, uint64_t *known);
 void stock_end_round(struct stock *stock, uint32_t broom, uint64_t known, int was_fruitless);
 

@@ -1,5 +1,5 @@
 """Packs the package with the shared object as a wheel: PEP 517, without any other package. The shared object is that of the
-folder that MINTLINTEL_LIB names, or else it is made by make, which needs the toolchain."""
+folder that MINTLINTEL_LIB names, or it is made by make, which needs the toolchain."""
 
 import base64
 import hashlib
@@ -35,7 +35,7 @@ def build_wheel(wheel_directory, config_settings=None, metadata_directory=None):
     files[f"{described}/WHEEL"] = f"Wheel-Version: 1.0\nGenerator: packing\nRoot-Is-Purelib: false\nTag: {TAG}\n".encode()
     record = "".join(f"{path},sha256={digest(data)},{len(data)}\n" for path, data in files.items())
     files[f"{described}/RECORD"] = (record + f"{described}/RECORD,,\n").encode()
-    # The same files make the same wheel: their time is SOURCE_DATE_EPOCH, or else the first that a zip file can have.
+    # The same files make the same wheel: their time is SOURCE_DATE_EPOCH or, if it isn't set, the first that a zip file can have.
     made = time.gmtime(max(int(os.environ.get("SOURCE_DATE_EPOCH", "0")), 315_532_800))[:6]
     with zipfile.ZipFile(Path(wheel_directory) / name, "w") as wheel:
         for path, data in files.items():

@@ -1,4 +1,4 @@
-//! Links the static library: of the folder that `MINTLINTEL_LIB` names, or made by `make`, which needs the toolchain.
+//! Links the static library: that of the folder that `MINTLINTEL_LIB` names, or one made by `make`, which needs the toolchain.
 use std::path::{Path, PathBuf};
 use std::process::Command;
 use std::{env, fs};

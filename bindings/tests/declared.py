@@ -23,7 +23,7 @@ def codes(text):
 
 
 def fields(text, name):
-    """The fields of a struct of C, with their places, by the rule of C: each stands at a multiple of its size."""
+    """The fields of a struct of C, with their places, by the rule of C: each is at a multiple of its size."""
     body = re.search(rf"#\[repr\(C\)\][^{{}}]*pub struct {name} \{{(.*?)\}}", text, re.S)
     offset = 0
     for field, kind in re.findall(r"pub (\w+): (\w+),", body[1]):

@@ -114,7 +114,7 @@ static void one_call(struct input *in)
     one_as_model();
 }
 
-/* the code of a seat that is of another kind than a call wants, or 0 */
+/* the code if the seat is of another kind than the call needs, or 0 */
 static uint32_t unfit(uint32_t seat, enum kind wanted)
 {
     return kinds[seat] == CLOSED ? MINTLINTEL_CLOSED : kinds[seat] != wanted ? MINTLINTEL_WRONG_KIND : 0;

@@ -15,7 +15,7 @@ static void fill(uint8_t *page, uint32_t sector, uint32_t number)
     page[3] = (uint8_t)number;
 }
 
-/* Writes a sector anew, and collects until there is room, or until the broom has no spare left. The held block, once it is drained, answers
+/* Overwrites a sector, and collects until there is room, or until the broom has no spare left. For the held block, once it is drained, an erase returns
  * that somebody reads it. */
 static void overwrite(uint32_t number, const struct mintlintel_page *held, long *pinned, uint32_t *waiting)
 {

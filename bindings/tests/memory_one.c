@@ -29,7 +29,7 @@ static long refuse_in_turn(void)
     return 0;
 }
 
-/* An open handle takes no memory, so it answers as it is when none is left. */
+/* An open handle takes no memory, so a second open of it returns the same code if no memory is left. */
 static void open_without_memory(void)
 {
     struct mintlintel_one device = {0};

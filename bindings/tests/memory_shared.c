@@ -45,7 +45,7 @@ static long refuse_in_turn(void)
     return 0;
 }
 
-/* One handle that is open: the others stay closed, and the open one goes on. */
+/* One handle is open: the others stay closed, and the open one can still be used. */
 static void one_open_handle(void)
 {
     struct mintlintel_seat other_broom[1] = {{0}};

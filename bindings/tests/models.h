@@ -1,5 +1,5 @@
 /* What each call has to return, while one thread calls: two models, written from the descriptions of docs/ARCHITECTURE.md and not from the
- * library. They say of each block where its pages went, so that no call may return a code that only sounds right. */
+ * library. They know where the pages of each block are, so that no call may return a code that is only plausible. */
 #ifndef MODELS_H
 #define MODELS_H
 
@@ -215,7 +215,7 @@ static inline void make_survey(const struct shared_model *m, struct survey *s)
     }
 }
 
-/* Moves a page that is live to the destination, which is the spare where there is none yet. */
+/* Moves a page that is live to the destination, which is the spare if there is none yet. */
 static inline void move_page(struct shared_model *m, struct broom_model *b, int block, int page)
 {
     uint32_t sector = (uint32_t)m->blocks[block].stamps[page];
@@ -286,7 +286,7 @@ static inline uint32_t shared_restock(struct shared_model *m, int broom)
     return m->brooms[broom].spare == NONE ? MINTLINTEL_NO_SPARE : MINTLINTEL_DONE;
 }
 
-/* A block that a seat has open is full for the others once the seat is given up. */
+/* A block that a seat has open counts as full as soon as the seat is closed. */
 static inline void give_up(struct shared_model *m, int *opened)
 {
     if (*opened != NONE)

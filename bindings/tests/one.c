@@ -146,7 +146,7 @@ static void refuse_once(struct shadow *s, uint32_t sector, uint32_t drawn_number
     read_as_shadow(s, sector);
 }
 
-/* Random calls on a device of these numbers, up to so many, or to the wear of its last page. */
+/* Random calls on a device of these numbers, up to this many, or until its last page is worn. */
 static void play(struct mintlintel_numbers numbers, uint32_t most)
 {
     struct shadow s = {.numbers = numbers};
@@ -173,7 +173,7 @@ static void play(struct mintlintel_numbers numbers, uint32_t most)
     CHECK(s.device.is_open == 0 && s.device.at == NULL);
 }
 
-/* A closed handle: each call answers so, and writes nothing of what it was given. */
+/* A closed handle: each call returns that code, and changes nothing that it was passed. */
 static void closed_handle(void)
 {
     struct mintlintel_one device = {0}, zero = {0};
@@ -195,7 +195,7 @@ static void closed_handle(void)
     CHECK(memcmp(&device, &zero, sizeof device) == 0);
 }
 
-/* Each fault of the numbers, by the limits of docs/FORMATS.md: a device that breaks two answers by the first. */
+/* Each fault of the numbers, by the limits of docs/FORMATS.md: for a device that breaks two, the code is that of the first. */
 static void faults(void)
 {
     static const uint32_t rows[][7] = {

@@ -1,7 +1,7 @@
 /* The fuzzer's calls by random bytes, the same in each run: each call has returned each of its codes, and no other one. */
 #include "fuzz.c"
 
-/* The codes of each call, but for 6 of an open, and 22 of a drain, which needs another thread. */
+/* The codes of each call, except 6 of an open, and 22 of a drain, which needs another thread. */
 static const char *codes_of[CALLS] = {
     [CALL_one_open] = "0 8 102", [CALL_one_read] = "0 1 2 3 4", [CALL_one_write] = "0 1 2 3 4 5", [CALL_one_write_new] = "0 1 2 3 4 5",
     [CALL_one_trim] = "0 1 2 3", [CALL_one_counts] = "0 2", [CALL_one_block] = "0 2 10", [CALL_shared_open] = "0 8 104",

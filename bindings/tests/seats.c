@@ -41,7 +41,7 @@ static uint32_t block_of(struct mintlintel_seat *host, uint32_t sector)
     return page.block;
 }
 
-/* A drain returns this, and where it is done, names this block and so many pages. Else both numbers stay. */
+/* A drain returns this and, if it is done, this block and this many pages. Otherwise both numbers are unchanged. */
 static void drains(uint32_t code, uint32_t block, uint32_t moved)
 {
     uint32_t number = 77, count = 78;
@@ -81,7 +81,7 @@ static void closed_holder_leaves_no_pin(void)
     end();
 }
 
-/* A held page of a drained block stands until the release, and the erase after it is not put off. */
+/* A held page of a drained block stays until the release, and the erase after it isn't refused. */
 static void released_page_leaves_no_pin(void)
 {
     uint8_t page[PAGE], wanted[PAGE];
@@ -166,7 +166,7 @@ static void spare(void)
     end();
 }
 
-/* A drain by the last survey takes the next best block of it, says 22 once a block has another state than then, and never names one twice. */
+/* A drain by the last survey takes the next best block of it, returns 22 if a block has changed its state since, and never names one twice. */
 static void by_the_last_survey(void)
 {
     uint32_t block = 77, moved = 78;

@@ -1,4 +1,4 @@
-/* Four hosts and two brooms at one device, each in a thread of its own, and again at one that wears out. A page names its writer, its sector
+/* Four hosts and two brooms on one device, each in its own thread, and again on one that wears out. A page names its writer, its sector
  * and the writer's count. Every read is whole, a page that is held stays, and no thread reads a value again that it has seen gone. Under
  * ThreadSanitizer each handle is announced as written before a call, so that two threads in one handle are reported. */
 #include "testing.h"
@@ -25,7 +25,7 @@ struct thread { uint32_t number; long writes, reads, holds, no_block, given_up; 
 /* what a broom's calls returned, by code */
 struct sweep { uint32_t number; long moved, drains[32], erases[32]; };
 
-/* how often a write is tried again that finds no block; none is given up where blocks don't wear out */
+/* how often a write that finds no block is tried again; if blocks don't wear out, each write succeeds in the end */
 static long most_tries;
 
 static void fill(uint8_t *page, uint32_t writer, uint32_t sector, uint32_t count)
@@ -169,7 +169,7 @@ static void *run_broom(void *argument)
     return NULL;
 }
 
-/* each sector's page, and where it stands */
+/* each sector's page, and its place */
 struct shown { uint32_t code; uint8_t page[PAGE]; struct mintlintel_page place; };
 
 static void show(struct shown *sectors)
@@ -185,7 +185,7 @@ static void show(struct shown *sectors)
     }
 }
 
-/* A call for another kind of seat answers 9 and changes nothing; so do wrong sectors, lengths and blocks by their codes. */
+/* A call for another kind of seat returns 9 and changes nothing; wrong sectors, lengths and blocks have their codes. */
 static void refused_calls(void)
 {
     static struct shown before[SECTORS], after[SECTORS];
@@ -242,7 +242,7 @@ static void all_agree(struct thread *threads)
     }
 }
 
-/* Each call on a closed handle answers so, and writes nothing of what it was given. */
+/* Each call on a closed handle returns that code, and changes nothing that it was passed. */
 static void closed_seat(void)
 {
     struct mintlintel_seat closed = {0}, zero = {0};

@@ -1,1 +1,1 @@
-"""Traces, reports and sweeps round `flashplay`. None of it is proved."""
+"""Traces, reports and sweeps for `flashplay`. None of it is proved."""

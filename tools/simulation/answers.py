@@ -5,7 +5,7 @@ from dataclasses import dataclass, field
 from .faults import BROKEN, Fault, LineFault
 from .lines import number_in, numbered_lines, shown
 
-# What each op may answer; a read may also answer the page.
+# The answers of each op; a read may also return the page.
 ANSWERS = {
     b"read": {b"empty"},
     b"write": {b"empty", b"written", b"worn", b"full"},
@@ -27,13 +27,13 @@ KINDS = {
     **{(b"trim", answer): TRIM for answer in (b"empty", b"written")},
     (b"meet", b"met"): MEET,
 }
-# The totals of a run by one thread; a run by many ends with the first of these words alone.
+# The totals of a run by one thread; a run by workers ends with only the first of these words.
 TOTALS = (b"end", b"programs", b"copies", b"erases")
 
 
 @dataclass
 class Answers:
-    """How many lines of each op gave each answer; the kind of each; the pages of the reads; and the totals, where the run tells them."""
+    """How many lines of each op gave each answer; the kind of each; the pages of the reads; and the totals, if the run has them."""
 
     lines: int = 0
     counts: dict = field(default_factory=dict)
@@ -60,7 +60,7 @@ class Answers:
         return 0 < line <= self.lines and self.kinds[line - 1] == WRITE_DONE
 
     def programs_within(self, before, end):
-        """The writes that were done behind line `before` up to line `end`."""
+        """The writes that were done after line `before`, up to line `end`."""
         return self.kinds.count(WRITE_DONE, before, end)
 
     def write_amplification(self):
@@ -69,7 +69,7 @@ class Answers:
 
 
 def read_answers(source):
-    """Reads the answers of a whole run, and counts them. They may be the last line alone."""
+    """Reads the answers of a whole run, and counts them. They may be only the last line."""
     answers = Answers()
     ended = False
     for number, line in numbered_lines(source):
@@ -93,7 +93,7 @@ def _count(answers, number, line):
     if number_in(counted, number, "line number") != number:
         raise LineFault(number, f"it is counted as line {counted.decode()}")
     if op not in ANSWERS:
-        raise LineFault(number, f"{shown(op)} is no op")
+        raise LineFault(number, f"{shown(op)} isn't an op")
     number_in(sector, number, "sector")
     if answer not in ANSWERS[op]:
         answer = _page(answers, number, op, answer)
@@ -107,18 +107,18 @@ def _count(answers, number, line):
 
 def _page(answers, number, op, digits):
     if op != b"read" or len(digits) % 16 or not digits:
-        raise LineFault(number, f"{shown(digits)} is no answer of a {op.decode()}")
+        raise LineFault(number, f"{shown(digits)} isn't an answer of a {op.decode()}")
     if answers.page_bytes is None:
         answers.page_bytes = len(digits) // 2
     if len(digits) != 2 * answers.page_bytes:
-        raise LineFault(number, f"a page of {len(digits) // 2} bytes, where others have {answers.page_bytes}")
+        raise LineFault(number, f"a page of {len(digits) // 2} bytes, but others have {answers.page_bytes}")
     return b"data"
 
 
 def _end(answers, number, line):
     fields = line.split(b",")
     if fields[0] != b"end" or len(fields) not in (1, len(TOTALS)):
-        raise LineFault(number, f"{shown(line)} is no last line")
+        raise LineFault(number, f"{shown(line)} isn't a last line")
     if len(fields) == len(TOTALS):
         names = (name.decode() for name in TOTALS[1:])
         answers.programs, answers.copies, answers.erases = (number_in(text, number, name) for text, name in zip(fields[1:], names))

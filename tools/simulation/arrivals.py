@@ -1,4 +1,4 @@
-"""Arrival times: a line for each line of a trace, in microseconds with at most three digits behind the point. Within the tools they are
+"""Arrival times: a line for each line of a trace, in microseconds with at most three digits after the point. In the tools they are
 whole nanoseconds."""
 
 import math
@@ -15,7 +15,7 @@ LINE = re.compile(rb"\d{1,12}(?:\.\d{1,3})?")
 
 
 class ArrivalsWriter:
-    """Writes the arrival of each line of a trace, at the times that an iterator gives."""
+    """Writes the arrival of each line of a trace, at the times that an iterator yields."""
 
     def __init__(self, sink, times):
         self._sink = sink
@@ -34,7 +34,7 @@ class ArrivalsWriter:
 
 
 class Clock:
-    """The time of the request whose lines are being written, from that of the first one on."""
+    """The time of the request whose lines are being written, since that of the first one."""
 
     def __init__(self):
         self._first = self._now = None
@@ -48,7 +48,7 @@ class Clock:
 
     def turn(self, request):
         if self._now is not None and request.time < self._now:
-            raise LineFault(request.line, f"its time lies before that of line {self._line:,}: sort the log by time first")
+            raise LineFault(request.line, f"its time is before that of line {self._line:,}: sort the log by time first")
         self._first = request.time if self._first is None else self._first
         self._now, self._line = request.time, request.line
 
@@ -77,7 +77,7 @@ def _exponential(seeded, mean):
 
 
 def read_arrivals(source):
-    """The times, each not before the one in front of it."""
+    """The times, none before the one that precedes it."""
     import numpy
 
     parts, line, rest = [], 0, b""
@@ -90,7 +90,7 @@ def read_arrivals(source):
     times = numpy.concatenate(parts) if parts else numpy.zeros(0, dtype=numpy.int64)
     backwards = numpy.flatnonzero(times[1:] < times[:-1])
     if len(backwards):
-        raise LineFault(int(backwards[0]) + 2, "an arrival before that of the line in front of it")
+        raise LineFault(int(backwards[0]) + 2, "an arrival before that of the line before it")
     return times
 
 
@@ -98,7 +98,7 @@ def _times(numpy, text, before):
     lines = text.split(b"\n")[:-1]
     if not LINES.fullmatch(text):
         number, line = next((number, line) for number, line in enumerate(lines, before + 1) if not LINE.fullmatch(line))
-        raise LineFault(number, f"{shown(line)} is no time in microseconds, with at most 12 digits and 3 behind the point")
+        raise LineFault(number, f"{shown(line)} isn't a time in microseconds, with at most 12 digits and 3 after the point")
     return numpy.rint(numpy.array(list(map(float, lines))) * NANOSECONDS).astype(numpy.int64)
 
 

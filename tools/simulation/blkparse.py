@@ -13,7 +13,7 @@ EVENT = re.compile(rb"\s*\d+,\d+\s")
 SUMMARY = re.compile(rb"CPU ?\d+ \(|Total \(")
 OPS = {b"R": READ, b"W": WRITE, b"D": TRIM}
 HEAD_FIELDS = 7
-# The events that can be taken: where a request is queued, issued to the driver, and complete, which tells its error last.
+# The events that can be selected: a request is queued, issued to the driver, or complete, which ends with its error.
 QUEUED, ISSUED, COMPLETE = b"Q", b"D", b"C"
 
 
@@ -26,7 +26,7 @@ def requests(lines, action):
         elif SUMMARY.match(line):
             in_summary = True
         elif line.strip() and not in_summary and not line.startswith(b"Input file "):
-            raise LineFault(number, f"{shown(line)} is no event of blkparse")
+            raise LineFault(number, f"{shown(line)} isn't an event of blkparse")
 
 
 def _event(line, text, wanted):
@@ -39,14 +39,14 @@ def _event(line, text, wanted):
     number_in(process, line, "process")
     nanoseconds = _nanoseconds(time, line)
     if not action.isalpha():
-        raise LineFault(line, f"{shown(action)} is no action of blkparse")
+        raise LineFault(line, f"{shown(action)} isn't an action of blkparse")
     if action != wanted:
         return PassedOver("other action")
     return _of_kind(line, device, action, kind, fields[HEAD_FIELDS:], nanoseconds)
 
 
 def _nanoseconds(time, line):
-    """Seconds with a point are nanoseconds without it, once nine digits stand behind the point."""
+    """Seconds with nine digits after the point are nanoseconds without it."""
     number_in(time.replace(b".", b"", 1), line, "time")
     seconds, _, rest = time.partition(b".")
     return int(seconds or b"0") * SECOND + int(rest[:9].ljust(9, b"0"))

@@ -34,12 +34,12 @@ class DeviceCounts:
 
     @property
     def share_of_endurance(self):
-        """The pages programmed, of all that the blocks stand."""
+        """The share of all possible programs that were done."""
         return (self.programs + self.copies) / (self.numbers["blocks"] * self.pages * self.endurance)
 
 
 def read_counts_or_answers(source):
-    """Counts where the text begins as they do, and else the answers of a run."""
+    """The counts if the text begins like them, and otherwise the answers of a run."""
     return read_counts(source) if source.peek(len(HEAD))[: len(HEAD)] == HEAD else read_answers(source)
 
 
@@ -52,7 +52,7 @@ def read_counts(source):
             break
         name, _, value = line.partition(b",")
         if not name.decode("ascii", "replace").isidentifier():
-            raise LineFault(number, f"{shown(name)} is no name of a count")
+            raise LineFault(number, f"{shown(name)} isn't the name of a count")
         counts.numbers[name.decode()] = number_in(value, number, name.decode())
     counts.blocks.extend(_block(number, line, len(counts.blocks)) for number, line in lines)
     _check(counts)
@@ -65,7 +65,7 @@ def _block(number, line, wanted):
         raise LineFault(number, f"a block has 3 fields, and this line {len(fields)}")
     block, erases, retired = (number_in(text, number, name) for text, name in zip(fields, ("block", "erases", "mark of a retired block")))
     if block != wanted:
-        raise LineFault(number, f"block {wanted} is wanted here")
+        raise LineFault(number, f"block {wanted} is expected here")
     if retired > 1:
         raise LineFault(number, "a block is retired (1) or not (0)")
     return Block(erases, 0, retired == 1)

@@ -103,7 +103,7 @@ def _broom(number: int, line: bytes, wanted: int) -> Broom:
 
 
 def check(log: Collections, answers):
-    """A log is that of the answers: each collection stands at a write that was done, and together they are the totals."""
+    """Checks that a log belongs to the answers: each collection is at a write that was done, and their sums are the totals."""
     copied, erased = sum(log.copied), len(log)
     if (answers.copies, answers.erases) != (copied, erased):
         totals = f"{_total(answers.erases)} and {_total(answers.copies)}"
@@ -118,7 +118,7 @@ def _total(number) -> str:
 
 
 def as_object(log) -> dict:
-    """Flat keys; what a run of this kind doesn't tell is None."""
+    """Flat keys; what isn't known of this kind of run is None."""
     brooms = log if isinstance(log, list) else None
     told = {f"broom_{name}": None if brooms is None else sum(getattr(broom, name) for broom in brooms) for name in COUNTS}
     if brooms is not None or log is None:

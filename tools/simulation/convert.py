@@ -30,7 +30,7 @@ def positive(text):
 
 
 def convert(options, source, writer, clock=None):
-    """Converts a log line by line; answers how many requests it had, and how many lines of each kind were passed over. The clock, if
+    """Converts a log line by line; returns how many requests it had, and how many lines of each kind were skipped. The clock, if
     there is one, is turned to the time of each request."""
     devices = Devices(options.device.encode() if options.device else None, several=options.dense)
     placement = Folded(options.sectors) if options.wrap else Dense(options.sectors) if options.dense else Within(options.sectors)

@@ -1,5 +1,5 @@
-"""The packages of Python that some tools need: numpy and matplotlib. Debian's packages serve Debian's Python, which takes over
-where another Python runs that doesn't have them."""
+"""The packages of Python that some tools need: numpy and matplotlib. Debian's packages are for Debian's Python, which runs the
+tool instead if another Python doesn't have them."""
 
 import importlib.util
 import os

@@ -18,7 +18,7 @@ READ_AT_ONCE = 1 << 20
 
 @dataclass
 class Totals:
-    """What a run tells at its end, and how many of its writes were refused."""
+    """The totals of a run, and how many of its writes were refused."""
 
     lines: int
     programs: int
@@ -55,24 +55,24 @@ def words_of(device):
 
 
 def build():
-    """Has the launcher build the program where it isn't built."""
+    """Lets the launcher build the program if it isn't built."""
     done = subprocess.run([LAUNCHER, "--help"], stdin=subprocess.DEVNULL, stdout=subprocess.DEVNULL)
     if done.returncode != 0:
         raise Fault(f"{LAUNCHER} failed with status {done.returncode}")
 
 
 def play(device, feed):
-    """Plays the trace that `feed` writes, and answers its totals. The answers are read as they come, and let go."""
+    """Plays the trace that `feed` writes, and returns its totals. The answers are read as they come, and not kept."""
     lines, worn, tail = run(device, feed, _read_answers)
     programs, copies, erases = (int(text) for text in tail.split(b",")[1:])
     return Totals(lines - 1, programs, copies, erases, worn)
 
 
 def run(device, feed, reader, further=()):
-    """Plays the trace that `feed` writes, with further options, and answers what `reader` makes of the answers."""
+    """Plays the trace that `feed` writes, with further options, and returns what `reader` returns for the answers."""
     words = [*words_of(device), *further]
     with subprocess.Popen([LAUNCHER, *words], stdin=subprocess.PIPE, stdout=subprocess.PIPE, stderr=subprocess.PIPE) as run:
-        # The program answers nothing before it has read the whole trace; if it reads no more, it says why.
+        # The program writes nothing before it has read the whole trace; if it stops reading, it reports why.
         with contextlib.suppress(BrokenPipeError):
             feed(run.stdin)
         with contextlib.suppress(BrokenPipeError):

@@ -1,4 +1,4 @@
-"""What goes wrong, and the status with which a tool ends then."""
+"""Failures, and the status with which a tool then ends."""
 
 import os
 import signal
@@ -10,7 +10,7 @@ BROKEN = 3
 
 
 class Fault(Exception):
-    """A failure to tell on standard error, with the exit status of the tool."""
+    """A failure to report on standard error, with the exit status of the tool."""
 
     def __init__(self, text, status=FAILED):
         super().__init__(text)

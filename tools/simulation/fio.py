@@ -24,19 +24,19 @@ def requests(lines, timed=False):
         if not fields:
             continue
         if line.strip() in VERSIONS:
-            raise LineFault(number, "a second iolog begins here, as where two jobs write into one file: convert each by itself")
+            raise LineFault(number, "a second iolog begins here, as if two jobs wrote into one file: convert each by itself")
         time = number_in(fields.pop(0), number, "timestamp") * MICROSECOND if version == 3 else None
         yield _request(number, fields, time)
 
 
 def _request(line, fields, time):
     if len(fields) < 2:
-        raise LineFault(line, "a file and an action are wanted")
+        raise LineFault(line, "a file and an action are expected")
     name, action, *numbers = fields
     op = OPS.get(action)
     if op is None:
         if action not in FILE_ACTIONS and action not in NO_DATA:
-            raise LineFault(line, f"{shown(action)} is no action of an iolog")
+            raise LineFault(line, f"{shown(action)} isn't an action of an iolog")
         for field in numbers:
             number_in(field, line, "number")
         return PassedOver("file action" if action in FILE_ACTIONS else action.decode())

@@ -28,7 +28,7 @@ class Point:
 
 
 def numbers_in(text):
-    """`50,60,70`, `50:95:5` (from, to, step), or both: `50:90:10,95`. An empty range is refused, since nobody means it."""
+    """`50,60,70`, `50:95:5` (from, to, step), or both: `50:90:10,95`. An empty range is refused, since it is a mistake."""
     numbers = []
     for part in text.split(","):
         bounds = [float(bound) for bound in part.split(":")]

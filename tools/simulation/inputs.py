@@ -56,7 +56,7 @@ def _told_as_broken(name):
 
 @contextlib.contextmanager
 def _zstd(source, name):
-    """Debian's zstd decompresses, and what it says is told."""
+    """Debian's zstd decompresses, and its message is reported."""
     if shutil.which("zstd") is None:
         raise Fault(f"{name} is compressed by zstd, which isn't installed: apt-get install zstd")
     with subprocess.Popen(["zstd", "-dcq"], stdin=subprocess.PIPE, stdout=subprocess.PIPE, stderr=subprocess.PIPE) as run:
@@ -71,7 +71,7 @@ def _zstd(source, name):
             feeder.join()
             errors = run.stderr.read().decode("utf-8", "replace").strip()
             run.wait()
-            # What the reader said of the text that was cut off gives way to the reason.
+            # The reason replaces what the reader reported for the text that was cut off.
             if ended and run.returncode != 0:
                 raise Fault(f"{name} isn't a complete zstd file: {errors}", BROKEN)
 

@@ -16,10 +16,10 @@ def numbered_lines(source):
 
 
 def number_in(field, line, what):
-    """The whole number that a field is."""
+    """A field as a whole number."""
     if field.isdigit() and len(field) <= 20:
         return int(field)
-    raise LineFault(line, f"the {what} {shown(field)} is no whole number")
+    raise LineFault(line, f"the {what} {shown(field)} isn't a whole number")
 
 
 def shown(field):

@@ -10,7 +10,7 @@ from . import traces
 
 
 def add_options(parser, sized=True):
-    """The options of a trace that is made; without `sized` the caller gives the sectors and the lines."""
+    """The options of `trace make`; without `sized` the caller passes the sectors and the lines."""
     parser.add_argument("kind", choices=("uniform", "sequential", "zipf", "hot-cold"), help="which sectors the lines name")
     if sized:
         parser.add_argument("--sectors", type=int, required=True, metavar="N", help="sectors of the device")
@@ -30,7 +30,7 @@ def add_options(parser, sized=True):
 
 
 def check(options):
-    """Raises `argparse.ArgumentTypeError` where the numbers make no trace."""
+    """Raises `argparse.ArgumentTypeError` if no trace can be made by the numbers."""
     shares = [options.reads, options.trims, options.meets, options.hot_sectors, options.hot_share]
     if any(not 0 <= share <= 100 for share in shares) or sum(shares[:3]) > 100:
         raise argparse.ArgumentTypeError("shares are percents from 0 to 100, and those of the ops are 100 together at most")

@@ -1,5 +1,5 @@
 """A model of the layer for one thread, written from its description and not from the program: blocks are taken from the lowest,
-the last block is the spare, and where no block is left the closed block with the fewest live pages is copied into the spare."""
+the last block is the spare, and if no block is left the closed block with the fewest live pages is copied into the spare."""
 
 import csv
 import io
@@ -50,7 +50,7 @@ class Model:
         self.collections = []
 
     def answer(self, line, op, sector, data):
-        """What a line answers."""
+        """The answer of a line."""
         if op == "meet":
             return "met"
         was = "empty" if self.places[sector] is None else "written"

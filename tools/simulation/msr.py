@@ -26,10 +26,10 @@ def requests(lines):
 
 
 def _refuse(line, text):
-    """Says what is wrong with a line that is no request."""
+    """Reports what is wrong with a line that isn't a request."""
     fields = text.split(b",")
     if len(fields) != FIELDS:
-        raise LineFault(line, f"{FIELDS} fields are wanted, and these are {len(fields)}")
+        raise LineFault(line, f"{FIELDS} fields are expected, and these are {len(fields)}")
     timestamp, _, disk, kind, offset, size, response = fields
     if kind.lower() not in OPS:
         raise LineFault(line, f"the type {shown(kind)} is neither Read nor Write")

@@ -134,7 +134,7 @@ def _victims(run):
     counts = collected.live_pages(run.log)
     total = len(run.log)
     mean = sum(run.log.copied) / total
-    text = f"{total:,} victims had {counts[0][0]:,} to {counts[-1][0]:,} live pages, {mean:.2f} in the mean."
+    text = f"{total:,} victims had {counts[0][0]:,} to {counts[-1][0]:,} live pages, {mean:.2f} on average."
     rows = [(name, f"{count:,}", f"{100 * count / total:.1f} %") for name, count in _grouped(counts)]
 
     def draw(sink):
@@ -181,7 +181,7 @@ def _tails(run):
 
 def _told(told, group) -> str:
     mean, hundredth, longest = (f"{_figure(told, group, key):,.1f} µs" for key in ("mean", "p99", "longest"))
-    return f"{group.capitalize()} take {mean} in the mean; one in a hundred takes more than {hundredth}, and the longest {longest}."
+    return f"{group.capitalize()} take {mean} on average; one in a hundred takes more than {hundredth}, and the longest {longest}."
 
 
 def _figure(told, group, key):

@@ -11,14 +11,14 @@ GRID = "#dddddd"
 SIZE = (7.2, 4.2)
 FORMATS = (".svg", ".png")
 DOTS_AN_INCH = 150
-# Up to so many blocks have a bar each.
+# Up to this many blocks have a bar each.
 MOST_BARS = 200
 AMPLIFICATION = "write amplification (pages programmed / pages written)"
 LINE = "line of the trace"
 
 
 def want():
-    """Ends the tool where matplotlib is missing."""
+    """Ends the tool if matplotlib is missing."""
     debian.want("matplotlib", "pictures")
 
 
@@ -47,7 +47,7 @@ def new_axes(across, up, title="", size=SIZE):
 
 
 def whole(*axes):
-    """Ticks at whole numbers alone."""
+    """Ticks only at whole numbers."""
     from matplotlib.ticker import MaxNLocator
 
     for axis in axes:
@@ -62,7 +62,7 @@ def legend_above(axes):
 
 
 def save(figure, path, title=""):
-    """By the name an SVG or a PNG; `path` may also be a text that takes the SVG. The title stands in its metadata too."""
+    """Writes an SVG or a PNG, by the name; `path` may also be a text stream for the SVG. The title is in its metadata too."""
     from matplotlib import pyplot
 
     titled = {"Title": title} if title else {}

@@ -10,7 +10,7 @@ READ, WRITE, TRIM = "read", "write", "trim"
 
 @dataclass(slots=True)
 class Request:
-    """Some bytes of a device, read, written or trimmed; `line` is the log's line, and the time is in nanoseconds where it is told."""
+    """Some bytes of a device, read, written or trimmed; `line` is the log's line, and the time is in nanoseconds if the log has it."""
 
     line: int
     op: str
@@ -22,13 +22,13 @@ class Request:
 
 @dataclass(slots=True)
 class PassedOver:
-    """A line that touches no data, and what it is."""
+    """A line that touches no data, and its kind."""
 
     what: str
 
 
 def pages_of(request, page_bytes):
-    """The pages that a request touches. Of a trim those that lie in it whole, since the rest of a page stays."""
+    """The pages that a request touches. For a trim, only those that lie in it completely, since the rest of a page stays."""
     end = request.offset + request.length
     if request.op == TRIM:
         return range(-(-request.offset // page_bytes), end // page_bytes)
@@ -36,7 +36,7 @@ def pages_of(request, page_bytes):
 
 
 class Within:
-    """Each page is the sector of its number; past the device's end it is refused."""
+    """Each page is the sector with its number; a page past the device's end is refused."""
 
     def __init__(self, sectors):
         self._sectors = sectors
@@ -45,13 +45,13 @@ class Within:
         if pages and pages[-1] >= self._sectors:
             raise LineFault(
                 request.line,
-                f"page {pages[-1]:,} lies past the device of {self._sectors:,} sectors; --wrap folds such pages into it, and --dense numbers the pages anew",
+                f"page {pages[-1]:,} is past the end of the device of {self._sectors:,} sectors; --wrap maps such pages into it, and --dense renumbers the pages",
             )
         return pages
 
 
 class Folded:
-    """Each page is the sector of its number modulo the device's sectors."""
+    """Each page is the sector with its number modulo the device's sectors."""
 
     def __init__(self, sectors):
         self._sectors = sectors
@@ -93,8 +93,8 @@ class Dense:
 
 
 class Devices:
-    """Which requests are taken: those of the device that is asked for, else those of all where several may stand side by side,
-    else those of the only device that the log names."""
+    """Which requests are taken: those of the device that was selected; otherwise those of all devices, if several are allowed;
+    otherwise those of the only device that the log names."""
 
     def __init__(self, wanted, several):
         self._wanted = wanted
@@ -108,5 +108,7 @@ class Devices:
             self._only = request.device
         if self._only != request.device:
             first, second = (name.decode("utf-8", "backslashreplace") for name in (self._only, request.device))
-            raise LineFault(request.line, f"the log names a second device, {second} beside {first}; --device takes one of them, and --dense all")
+            raise LineFault(
+                request.line, f"the log names a second device, {second} in addition to {first}; --device selects one of them, and --dense takes all"
+            )
         return True

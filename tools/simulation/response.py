@@ -20,7 +20,7 @@ GROUPS = ("reads", "writes", "all")
 
 @dataclass
 class Response:
-    """Of each line its kind, arrival, service, how much of its response the device was collecting, and when it is begun and done (arrays
+    """For each line its kind, arrival and service, how much of its response the device was collecting, and when it is begun and done (arrays
     of numpy); and the totals of their collections. `collects` says which lines had a collection of their own."""
 
     part: part.Part
@@ -41,7 +41,7 @@ class Response:
         return self.done - self.arrival
 
     def of(self, group: str):
-        """Which lines a group has. A meet is no request."""
+        """The lines of a group. A meet isn't a request."""
         if group == "reads":
             return self.kind <= kinds.READ_EMPTY
         if group == "writes":
@@ -50,7 +50,7 @@ class Response:
 
 
 def respond(answers, log, of_part, times=None, speed=1.0, first_line=1) -> Response:
-    """The response of each line from `first_line` on; what lies before it is played too, and not reported."""
+    """The response of each line from `first_line` on; the lines before it are played too, but not reported."""
     import numpy
 
     if answers.quiet:
@@ -75,7 +75,7 @@ def respond(answers, log, of_part, times=None, speed=1.0, first_line=1) -> Respo
 
 
 def _own_times(numpy, kind, of_part):
-    """What each line takes beside its collection: a read of data and a write that was done, and nothing else, take time."""
+    """The time of each line without its collection: only a read of data and a write that was done take time."""
     by_kind = numpy.zeros(1 + max(kinds.KINDS.values()), dtype=numpy.int64)
     by_kind[kinds.READ_DATA], by_kind[kinds.WRITE_DONE] = of_part.of_read(), of_part.of_program()
     return by_kind[kind]
@@ -96,27 +96,27 @@ def _as_fast(numpy, times, speed):
 
 
 def _queue(numpy, arrival, service):
-    """When each line is begun and done: a line begins at its arrival, or when the one in front of it is done, whichever is later. With
-    `ahead` the service of all lines in front, it begins at `ahead` and the largest difference of an arrival and its `ahead` so far."""
+    """When each line is begun and done: a line begins at its arrival, or when the one before it is done, whichever is later. If
+    `ahead` is the service of all lines before it, it begins at `ahead` and the largest difference of an arrival and its `ahead` so far."""
     ahead = numpy.cumsum(service) - service
     begin = ahead + numpy.maximum.accumulate(arrival - ahead)
     return begin, begin + service
 
 
 def _collected_within(numpy, arrival, begin, collection):
-    """How much of each line's response the device was collecting: for this line, or for one in front of it. Of a line the collection comes
+    """How much of each line's response the device was collecting: for this line, or for one before it. A line's collection comes
     first, and begins when the line does."""
     before = numpy.cumsum(collection) - collection
     # The last line that had begun when this one arrived.
     last = numpy.searchsorted(begin, arrival, side="right") - 1
-    # A line that arrives at a device without work has itself begun at its arrival, if nothing stands before it.
+    # A line that arrives at a device without work has itself begun at its arrival, if no line is before it.
     last = numpy.maximum(last, 0)
     at_arrival = before[last] + numpy.clip(arrival - begin[last], 0, collection[last])
     return before + collection - at_arrival
 
 
 def figures(numpy, times) -> dict:
-    """Mean, percentiles and the longest in microseconds. A percentile is the least time that so many lines don't exceed."""
+    """Mean, percentiles and the longest in microseconds. A percentile is the least time that this share of the lines doesn't exceed."""
     count = len(times)
     if not count:
         return {"count": 0, **dict.fromkeys(FIGURES)}
@@ -177,7 +177,7 @@ def _load(told: Response, busy):
 
 
 def _owed(told: Response) -> int:
-    """What the device still had to do for lines in front of the first that is reported, when that one arrived."""
+    """What the device still had to do for the lines before the first reported one, when that one arrived."""
     return int(told.begin[0] - told.arrival[0]) if len(told.begin) else 0
 
 
@@ -209,4 +209,4 @@ def _met(told) -> str:
     if not told["collection_met_share"]:
         return "no line"
     mean, longest = told["collection_met_mean_us"], told["collection_met_longest_us"]
-    return f"{100 * told['collection_met_share']:.2f} % of the lines, for {mean:,.1f} µs in the mean and {longest:,.1f} µs at most"
+    return f"{100 * told['collection_met_share']:.2f} % of the lines, for {mean:,.1f} µs on average and {longest:,.1f} µs at most"

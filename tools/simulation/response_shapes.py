@@ -4,7 +4,7 @@ from dataclasses import dataclass
 
 from .response import MICROSECOND, SECOND
 
-# So many points a curve has at most, and so many parts a run.
+# The most points of a curve, and the most parts of a run.
 POINTS, PARTS = 300, 200
 
 
@@ -20,7 +20,7 @@ def tail(times) -> list:
     # Ranks from the shortest to the longest, close together at the long end.
     longer = numpy.unique(numpy.rint(numpy.geomspace(1, count, POINTS)).astype(numpy.int64))[::-1] - 1
     values = ordered[count - 1 - longer]
-    # Of equal times the last one tells how many lines are longer.
+    # For equal times the last one gives the number of longer lines.
     shares = (count - numpy.searchsorted(ordered, values, side="right")) / count
     points = {float(value) / MICROSECOND: float(share) for value, share in zip(values, shares) if value > 0}
     return sorted(points.items())
@@ -38,7 +38,7 @@ class Part:
 
 
 def over_time(told, first_line=1) -> list:
-    """A run in parts of as many lines as can be each. Meets are left out."""
+    """A run in parts with equally many lines, as far as possible. Meets are left out."""
     import numpy
 
     lines = numpy.flatnonzero(told.of("all"))

@@ -1,4 +1,4 @@
-"""What a report says of a run, as text and as one flat object."""
+"""A report on a run, as text and as one flat object."""
 
 from dataclasses import asdict, dataclass
 
@@ -11,7 +11,7 @@ SPREAD = ("least", "quartile_1", "median", "quartile_3", "most")
 
 @dataclass
 class Summary:
-    """What can't be known from what was given is None."""
+    """What the given files don't show is None."""
 
     lines: int | None
     reads_empty: int | None
@@ -44,7 +44,7 @@ class Summary:
 
 
 def summarise(answers, page_bytes, blocks):
-    """A summary of the answers. The size that a page counts for may be None, and is that of the reads then; so may the blocks' wear."""
+    """A summary of the answers. If the size of a page is None, it is that of the pages that reads returned. The wear may be None too."""
     size_from = "option" if page_bytes else "reads" if answers.page_bytes else None
     page_bytes = page_bytes or answers.page_bytes
     writes = answers.programs if answers.quiet else answers.accepted_writes()
@@ -67,7 +67,7 @@ def summarise(answers, page_bytes, blocks):
 
 
 def _counts(answers):
-    """How many lines gave each answer; the last line alone doesn't tell."""
+    """How many lines gave each answer; the last line alone doesn't show it."""
     counts = {
         "lines": answers.lines,
         "reads_empty": answers.count("read", "empty"),

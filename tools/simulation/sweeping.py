@@ -27,7 +27,7 @@ SWEEP = device.TOP / "tools/sweep"
 
 
 def maker(text, point, lines):
-    """The options of `trace make` that the text gives, for a point's device."""
+    """The options of `trace make` in the text, for a point's device."""
     parser = argparse.ArgumentParser(prog="sweep --make", exit_on_error=False)
     make.add_options(parser, sized=False)
     try:
@@ -104,7 +104,7 @@ def lines_of(rounds, point):
 
 
 def feeder(options, point, rounds):
-    """Writes the trace, as far as so many lines for each page of the device, behind the fill of one that is made."""
+    """Writes the trace up to this many lines for each page of the device, after the fill if the trace is made."""
     lines = lines_of(rounds, point)
     if options.trace:
         trace = files_of(options)["trace"].found()
@@ -129,7 +129,7 @@ def copy_lines(path, lines, sink):
 
 
 def want_parallel():
-    """Ends the tool where GNU parallel is missing; another program has the same name."""
+    """Ends the tool if GNU parallel is missing; another program has the same name."""
     try:
         told = subprocess.run(["parallel", "--version"], stdin=subprocess.DEVNULL, capture_output=True, text=True).stdout
     except FileNotFoundError:
@@ -143,7 +143,7 @@ KEPT = ("sweep.json", "jobs.log", "sweep.csv", "sweep.svg")
 
 
 def begin(options, points):
-    """The sweep's folder: a new one, or one of just this sweep to go on with; --force takes away what an earlier sweep left there."""
+    """The sweep's folder: a new one, or that of the same sweep, to continue it; --force removes what an earlier sweep left there."""
     told = json.dumps({"points": [str(point) for point in points], "call": words_of_play(options)}, indent=1)
     plan = options.out / "sweep.json"
     if plan.exists() and options.force:
@@ -161,7 +161,7 @@ def begin(options, points):
 
 @dataclass
 class File:
-    """A file that each point reads: where it lies, or a copy of its name that was handed over; its sum says that it is the one."""
+    """A file that each point reads: its path, or a copy with its name that was transferred; its sum shows that it is the same file."""
 
     path: pathlib.Path
     sum: str
@@ -180,14 +180,14 @@ def sum_of(path):
 
 
 def files_of(options):
-    """The files that each point reads, looked at before anything is played."""
+    """The files that each point reads, examined before anything is played."""
     given = {"trace": options.trace, "arrivals": options.arrivals}
     sums = {"trace": options.trace_sum, "arrivals": options.arrivals_sum}
     return {name: File(path.resolve(), sums[name] or sum_of(path)) for name, path in given.items() if path}
 
 
 def words_of_play(options):
-    """What the call for a point says beside the point."""
+    """The options of the call for a point, without the point."""
     words = [] if options.trace else ["--make", options.make]
     for name, file in files_of(options).items():
         words += [f"--{name}", str(file.path), f"--{name}-sum", file.sum]
@@ -200,7 +200,7 @@ def words_of_play(options):
 
 
 def play_all(options, points):
-    """Has GNU parallel play each point, which keeps what each wrote in the folder; answers what parallel told."""
+    """Lets GNU parallel play each point, and keep its output in the folder; returns the messages of parallel."""
     call = shlex.join([sys.executable if options.sshloginfile is None else "python3", str(SWEEP), *words_of_play(options), "--point"]) + " {}"
     words = ["parallel", "--joblog", str(options.joblog or options.out / "jobs.log"), "--results", f"{options.out}/points/{{}}/"]
     if options.resume:
@@ -220,13 +220,13 @@ def play_all(options, points):
 
 
 def _handed_over(options):
-    """Other machines get the files of the sweep in a folder of their own, which is taken away at the end."""
+    """Other machines get the files of the sweep in a folder of their own, which is removed at the end."""
     files = [word for file in files_of(options).values() for word in ("--basefile", f"{file.path.parent}/./{file.path.name}")]
     return ["--workdir", f"/tmp/flashplay-sweep-{uuid.uuid4()}", "--cleanup", *files] if files else []
 
 
 def gather(options, points, told_by_parallel):
-    """Writes the rows of all points into one file, in the grid's order; answers them, and the points that failed with their reasons."""
+    """Writes the rows of all points into one file, in the grid's order; returns them, and the points that failed with their reasons."""
     rows, failures, columns = [], [], columns_of(options)
     for point in points:
         folder = options.out / "points" / str(point)
@@ -242,7 +242,7 @@ def gather(options, points, told_by_parallel):
 
 
 def label_of(column):
-    """What an axis of a plot says of a column."""
+    """The label of an axis of a plot for a column."""
     labels = {
         "utilisation": "utilisation (sectors, % of physical pages)",
         "write_amplification": pictures.AMPLIFICATION,
@@ -259,13 +259,13 @@ def label_of(column):
 
 
 def name_of(column, number):
-    """What a legend says of the lines of a plot that have one number of a column."""
+    """The legend for the lines of a plot that have one number of a column."""
     what = {"utilisation": "% utilisation", "pages": "pages per block", "words": "words per page", "luns": "LUNs"}.get(column, column)
     return f"{number:,g} {what}"
 
 
 def title_of(options, points):
-    """What all points of a sweep have in common: the numbers of the device that stay, and the trace."""
+    """What all points of a sweep have in common: the numbers of the device that don't vary, and the trace."""
     same = {name: number for name, number in points[0].device.items() if len({point.device[name] for point in points}) == 1}
     told = [f"{number:,} {name}" for name, number in same.items() if name in ("luns", "blocks", "pages", "sectors") and (name, number) != ("luns", 1)]
     return " · ".join([*([", ".join(told)] if told else []), options.make or options.trace.name])

@@ -1,4 +1,4 @@
-"""What a report says of the device and the trace of a run."""
+"""The device and the trace of a run, as a report shows them."""
 
 import pathlib
 
@@ -17,7 +17,7 @@ def title_of(options, blocks) -> str:
 
 
 def check_device(options, answers, blocks, log):
-    """A device that the options name is the one that the files are of, as far as they tell."""
+    """Checks that the device of the options is that of the files, as far as they show it."""
     if not device.is_named(options):
         return
     numbers = device.numbers_of(options)

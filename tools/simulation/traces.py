@@ -2,13 +2,13 @@
 
 from .faults import Fault
 
-# The most bytes of a trace that `flashplay` takes.
+# The most bytes of a trace that `flashplay` accepts.
 MOST_BYTES = 268_435_456
 CHUNK = 65_536
 
 
 class TraceWriter:
-    """Writes the lines of a trace, and their arrivals. Each command is of worker 0; what a write holds is up to `data`, by the number
+    """Writes the lines of a trace, and their arrivals. Each command is of worker 0; `data` returns the data of a write, from the number
     of its line."""
 
     def __init__(self, sink, data, arrivals=None):
@@ -54,7 +54,7 @@ class TraceWriter:
 
 
 def line_number(line):
-    """Eight digits: in a read's answer they tell the line of the write that it saw, in hexadecimal."""
+    """Eight digits: in a read's answer they are the line of the write that it saw, in hexadecimal."""
     return b"%08x" % line
 
 

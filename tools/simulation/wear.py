@@ -35,7 +35,7 @@ def _block(number, line, wanted):
     names = ("block", "erases", "live pages", "mark of a retired block")
     block, erases, live, retired = (number_in(text, number, name) for text, name in zip(fields, names))
     if block != wanted:
-        raise LineFault(number, f"block {wanted} is wanted here")
+        raise LineFault(number, f"block {wanted} is expected here")
     if retired > 1:
         raise LineFault(number, "a block is retired (1) or not (0)")
     return Block(erases, live, retired == 1)

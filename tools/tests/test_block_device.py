@@ -41,10 +41,10 @@ class CountsOfABlockDevice(unittest.TestCase):
             (counts(waits=None), "the counts lack waits"),
             (counts("block,erases,retired\n0,1,0\n1,5,1\n"), "cut short: 2 of 3 blocks"),
             (counts(erases=7), "the blocks' erases aren't the erases of the device"),
-            (counts(BLOCKS.replace("2,0,0", "3,0,0")), "block 2 is wanted here"),
+            (counts(BLOCKS.replace("2,0,0", "3,0,0")), "block 2 is expected here"),
             (counts(BLOCKS.replace("2,0,0", "2,0")), "a block has 3 fields"),
             (counts(BLOCKS.replace("2,0,0", "2,0,2")), "a block is retired (1) or not (0)"),
-            (counts(programs="many"), "the programs 'many' is no whole number"),
+            (counts(programs="many"), "the programs 'many' isn't a whole number"),
         ]
         for text, told in rows:
             done = report(text)

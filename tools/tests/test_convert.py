@@ -90,7 +90,7 @@ class Places(unittest.TestCase):
     def test_what_lies_past_the_device_is_refused_and_named(self):
         done = convert("msr", self.log, sectors=11)
         self.assertEqual((done.status, done.text), (3, ""))
-        self.assertIn("line 1: page 11 lies past the device of 11 sectors", done.errors)
+        self.assertIn("line 1: page 11 is past the end of the device of 11 sectors", done.errors)
 
     def test_it_is_folded_into_the_device_by_wrap(self):
         self.assertEqual(convert("msr", self.log, "--wrap", sectors=8).lines, ["0,write,2,00000001", "0,write,3,00000002", "0,write,2,00000003", "0,read,2,"])
@@ -115,7 +115,7 @@ class Places(unittest.TestCase):
         log = b"1,a,0,Read,0,1,1\n2,a,1,Write,0,1,1\n"
         refused = convert("msr", log)
         self.assertEqual((refused.status, refused.lines), (3, ["0,read,0,"]))
-        self.assertIn("line 2: the log names a second device, a_1 beside a_0", refused.errors)
+        self.assertIn("line 2: the log names a second device, a_1 in addition to a_0", refused.errors)
         self.assertEqual(convert("msr", log, "--device", "a_1").lines, ["0,write,0,00000001"])
         self.assertEqual(convert("msr", log, "--dense").lines, ["0,read,0,", "0,write,1,00000002"])
         self.assertEqual(convert("msr", log, "--device", "b_0").errors, "trace: no request is of the device b_0\n")
@@ -138,30 +138,30 @@ class BrokenLines(unittest.TestCase):
             (b"", 1, "an iolog begins with"),
             (b"fio version 1 iolog\n", 1, "an iolog begins with"),
             (b"fio version 2 iolog\nf write 0 4096\nf write 0\n", 3, "a write has an offset and a length, and this one 1 numbers"),
-            (b"fio version 2 iolog\nf write 0 -1\n", 2, "the length '-1' is no whole number"),
-            (b"fio version 2 iolog\nf\n", 2, "a file and an action are wanted"),
+            (b"fio version 2 iolog\nf write 0 -1\n", 2, "the length '-1' isn't a whole number"),
+            (b"fio version 2 iolog\nf\n", 2, "a file and an action are expected"),
             (b"fio version 2 iolog\nf write 0 4096\nfio version 2 iolog\nf write 0 4096\n", 3, "a second iolog begins here"),
             (b"fio version 3 iolog\n1 f write 0 4096\nfio version 3 iolog\n", 3, "a second iolog begins here"),
-            (b"fio version 3 iolog\n1 f add\nf write 0 4096\n", 3, "the timestamp 'f' is no whole number"),
-            (b"fio version 3 iolog\n1 f write 0 1\n2 f erase 0 1\n", 3, "'erase' is no action of an iolog"),
+            (b"fio version 3 iolog\n1 f add\nf write 0 4096\n", 3, "the timestamp 'f' isn't a whole number"),
+            (b"fio version 3 iolog\n1 f write 0 1\n2 f erase 0 1\n", 3, "'erase' isn't an action of an iolog"),
         ])
 
     def test_of_msr_cambridge_are_named(self):
         self.refuses("msr", [
-            (b"1,hm,0,Read,0,1\n", 1, "7 fields are wanted, and these are 6"),
+            (b"1,hm,0,Read,0,1\n", 1, "7 fields are expected, and these are 6"),
             (b"1,hm,0,Read,0,1,1\n1,hm,0,Trim,0,1,1\n", 2, "the type 'Trim' is neither Read nor Write"),
-            (b"1,hm,0,Read,x,1,1\n", 1, "the offset 'x' is no whole number"),
-            (b"1,hm,0,Read,0,\xff,1\n", 1, "the size '\\\\xff' is no whole number"),
+            (b"1,hm,0,Read,x,1,1\n", 1, "the offset 'x' isn't a whole number"),
+            (b"1,hm,0,Read,0,\xff,1\n", 1, "the size '\\\\xff' isn't a whole number"),
             (b"1,hm,0,Read,0,1,1\n" + b"x" * 70_000, 2, "more than 65,536 bytes"),
         ])
 
     def test_of_blkparse_are_named(self):
         self.refuses("blkparse", [
-            (b"no event\n", 1, "'no event' is no event of blkparse"),
+            (b"no event\n", 1, "'no event' isn't an event of blkparse"),
             (b"8,0 0 1 0.1 5 D\n", 1, "the event is cut short"),
             (b"8,0 0 1 0.1 5 D W 0 + 8 [a]\n8,0 0 2 0.2 5 D W 8 + 8\n", 2, "the event is cut short"),
-            (b"8,0 0 1 0.1 5 D W z + 8 [a]\n", 1, "the sector 'z' is no whole number"),
-            (b"8,0 0 x 0.1 5 D W 0 + 8 [a]\n", 1, "the sequence number 'x' is no whole number"),
+            (b"8,0 0 1 0.1 5 D W z + 8 [a]\n", 1, "the sector 'z' isn't a whole number"),
+            (b"8,0 0 x 0.1 5 D W 0 + 8 [a]\n", 1, "the sequence number 'x' isn't a whole number"),
         ])
 
     def test_stop_the_trace_behind_what_came_before(self):

@@ -18,7 +18,7 @@ def played(trace, words):
     with tempfile.TemporaryDirectory() as folder:
         wear, log = (pathlib.Path(folder) / name for name in ("wear", "log"))
         done = subprocess.run([device.LAUNCHER, *words, "--wear", wear, "--collections", log], input=trace, capture_output=True)
-        # What the launcher says of the build is no fault of the trace.
+        # The launcher's messages about a build aren't faults of the trace.
         told = "".join(line for line in done.stderr.decode().splitlines(keepends=True) if not line.startswith("flashplay: "))
         return done.returncode, done.stdout.decode(), told, *(file.read_text() if file.exists() else "" for file in (wear, log))
 
@@ -34,7 +34,7 @@ class Rows(unittest.TestCase):
             self.assertEqual((done.status, done.text, done.errors, wear.read_text(), log.read_text()), played(trace.encode(), words.split()))
 
     def test_the_collection_of_the_example_is_that_of_its_fifth_line(self):
-        # Blocks 0 and 1 are full; sectors 0 and 2 are written anew, so block 0 has sector 1 alone.
+        # Blocks 0 and 1 are full; sectors 0 and 2 are written again, so block 0 has only sector 1.
         trace = (TOP / "examples/collection.csv").read_text()
         self.tells("--blocks 3 --pages 2 --words 1 --sectors 3 --endurance 10", trace, "5,0,1,1,1,freed\n")
 

@@ -80,9 +80,9 @@ class Refused(unittest.TestCase):
             (b"1,write,0,empty\n", "the answers don't end with a line `end`: they are cut short after line 1"),
             (b"1,write,0\nend,0,0,0\n", "line 1: an answer has 4 fields"),
             (b"2,write,0,empty\nend,1,0,0\n", "line 1: it is counted as line 2"),
-            (b"1,write,0,met\nend,1,0,0\n", "line 1: 'met' is no answer of a write"),
-            (b"1,read,0,0102030405\nend,0,0,0\n", "line 1: '0102030405' is no answer of a read"),
-            (b"1,read,0,0102030405060708\n2,read,0," + b"00" * 16 + b"\nend,0,0,0\n", "line 2: a page of 16 bytes, where others have 8"),
+            (b"1,write,0,met\nend,1,0,0\n", "line 1: 'met' isn't an answer of a write"),
+            (b"1,read,0,0102030405\nend,0,0,0\n", "line 1: '0102030405' isn't an answer of a read"),
+            (b"1,read,0,0102030405060708\n2,read,0," + b"00" * 16 + b"\nend,0,0,0\n", "line 2: a page of 16 bytes, but others have 8"),
             (b"1,write,0,empty\nend,2,0,0\n", "line 2: 2 programs, where 1 writes were accepted"),
             (b"end,0,0,0\n1,read,0,empty\n", "line 2: the run has ended"),
         ]:
@@ -96,7 +96,7 @@ class Refused(unittest.TestCase):
             for text, told in [
                 (WEAR.replace(b"0,1,", b"0,2,"), "the wear file has 2 erases and the answers 1"),
                 (WEAR.replace(b"block,", b"blocks,"), "line 1: a wear file begins with"),
-                (WEAR.replace(b"\n1,", b"\n2,"), "line 3: block 1 is wanted here"),
+                (WEAR.replace(b"\n1,", b"\n2,"), "line 3: block 1 is expected here"),
                 (WEAR[:-5], "line 4: a block has 4 fields"),
             ]:
                 wear.seek(0)

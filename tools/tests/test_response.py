@@ -142,13 +142,13 @@ class Queues(Timed):
 
     def test_arrivals_that_are_none_are_named(self):
         for times, told in [
-            ((0, 1, 2, 1, 5, 6), "line 4: an arrival before that of the line in front of it"),
+            ((0, 1, 2, 1, 5, 6), "line 4: an arrival before that of the line before it"),
             ((0, 1, 2), "line 4: there are 3 arrivals, and 6 answers: they are of two traces"),
             ((0, 1, 2, 3, 4, 5, 6), "line 7: there are 7 arrivals, and 6 answers"),
-            ((0, 1, "x", 3, 4, 5), "line 3: 'x' is no time in microseconds"),
-            ((0, 1, 2, 3, -4, 5), "line 5: '-4' is no time in microseconds"),
-            ((0, 1, 2, "1e3", 4, 5), "line 4: '1e3' is no time in microseconds"),
-            ((0, 1, "", 3, 4, 5), "line 3: '' is no time in microseconds"),
+            ((0, 1, "x", 3, 4, 5), "line 3: 'x' isn't a time in microseconds"),
+            ((0, 1, 2, 3, -4, 5), "line 5: '-4' isn't a time in microseconds"),
+            ((0, 1, 2, "1e3", 4, 5), "line 4: '1e3' isn't a time in microseconds"),
+            ((0, 1, "", 3, 4, 5), "line 3: '' isn't a time in microseconds"),
         ]:
             with self.subTest(times):
                 self.file("answers", self.answers.encode())
@@ -279,7 +279,7 @@ class Arrivals(InARoom):
     def test_that_go_backwards_or_are_not_there_are_named(self):
         done, _ = self.convert("msr", b"2,hm,1,Write,0,1,413\n1,hm,1,Read,0,1,9\n")
         self.assertEqual(done.status, 3)
-        self.assertIn("line 2: its time lies before that of line 1", done.errors)
+        self.assertIn("line 2: its time is before that of line 1", done.errors)
         done, _ = self.convert("fio", b"fio version 2 iolog\ndisk write 0 4096\n")
         self.assertIn("an iolog of version 2 has no times", done.errors)
 

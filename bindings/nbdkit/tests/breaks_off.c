@@ -33,7 +33,7 @@ static void fill(uint32_t *page, uint32_t sector, uint32_t round) {
     }
 }
 
-// Begins a write of the next pages of the connection's own, each once in a round. 0 where they are all written.
+// Begins a write of the connection's next own pages, each once in a round. 0 if they are all written.
 static int begin_write(struct connection *connection, struct request *request, uint32_t round) {
     uint32_t left = connection->pages - connection->next, pages = 1 + (uint32_t) lrand48() % MOST_PAGES;
     request->pages = pages < left ? pages : left;
@@ -77,7 +77,7 @@ static int renew(struct connection *connection, uint32_t round) {
     return in_flight;
 }
 
-// Sends no more, whatever is in flight, and hears the server out: if its answers found no reader, nbdkit 1.32 would end by an
+// Sends no more, whatever is in flight, and reads all that the server still sends: if its answers found no reader, nbdkit 1.32 would end by an
 // assertion of its own.
 static int break_off(struct connection *connection, uint32_t round) {
     static char heard[65536];

@@ -1,4 +1,4 @@
-"""A file system and a database on the device: by FUSE, or, where the kernel has none, by copies of an image."""
+"""A file system and a database on the device: by FUSE or, if the kernel has none, by copies of an image."""
 
 import contextlib
 import os
@@ -73,7 +73,7 @@ def a_file_system(shop, server):
 
 
 def transactions(count):
-    """As many transactions as asked, an insert or an update each, and what the table has to hold behind them."""
+    """As many transactions as asked, an insert or an update each, and what the table has to hold after them."""
     draw = random.Random(4)
     lines, rows = ["pragma journal_mode=delete;", "create table t(k integer primary key, v text);"], {}
     for number in range(count - 1):
@@ -132,7 +132,7 @@ def carried(shop, server, text, wanted):
 
 
 def the_page(shop):
-    """The lines of docs/BLOCK_DEVICE.md as they stand, but for make and the folder."""
+    """The lines of docs/BLOCK_DEVICE.md unchanged, except for make and the folder."""
     if not has_fuse(shop):
         return "this kernel has no FUSE, so the page's lines were not run"
     page = (HERE.parents[1] / "docs/BLOCK_DEVICE.md").read_text()
@@ -155,7 +155,7 @@ def the_page(shop):
 
 
 def as_nobody():
-    """Words that run a program as nobody, where root runs the check and everybody may use FUSE."""
+    """Words that run a program as the user nobody, if root runs the check and everybody may use FUSE."""
     may_all = os.stat("/dev/fuse").st_mode & 0o006 == 0o006
     return ["setpriv", "--reuid=65534", "--regid=65534", "--clear-groups"] if os.geteuid() == 0 and may_all else []
 

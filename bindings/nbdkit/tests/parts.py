@@ -165,7 +165,7 @@ def overlaps(shop):
 
 
 def stock_by_itself(shop):
-    """The counts of free blocks, and who waits for whom, over a library that says what each test wants."""
+    """The counts of free blocks, and which thread waits for which, with a library that returns what each test needs."""
     source, include = shop.source(), f"-I{os.environ.get('INCLUDE', HERE.parent / 'include')}"
     for kind in ("address", "thread"):
         program = shop.folder / f"stock_{kind}"
@@ -190,7 +190,7 @@ def handles(shop):
 
 
 def broken_clients(shop, brooms=1):
-    """Connections are shut down in mid-write, over and over, beside a client that checks a half of its own. What they wrote to the other
+    """Connections are shut down in mid-write, over and over, while a client checks a half of its own. What they wrote to the other
     half is old or new, page by page."""
     server = Server(shop, *AGED, f"brooms={brooms}")
     age(shop, server)
@@ -235,7 +235,7 @@ def resting_brooms(shop):
 
 
 def worn_out(shop):
-    """Until the device is worn out: refusals are ENOSPC and come at once, and each page that was answered is there."""
+    """Until the device is worn out: refusals are ENOSPC and come at once, and each page whose write was answered is there."""
     told = []
     for brooms in (1, 2):
         for pattern in ("uniform", "zipf"):
@@ -271,7 +271,7 @@ def share(counts):
 
 
 def sanitized(shop, kind):
-    """All kinds of requests on a plugin under a sanitizer, and counts that are written meanwhile."""
+    """All kinds of requests on a plugin under a sanitizer, while counts are written."""
     server = Server(shop, "size=8M", "spare=4", "hosts=3", "brooms=2", kind=kind)
     with copying(server, "fio"):
         load = shop.start(["fio", "--name=load", "--thread", "--ioengine=nbd", f"--uri={server.uri}", "--rw=randwrite", "--bsrange=512-16k", "--bs_unaligned=1", "--blockalign=512",

@@ -63,7 +63,7 @@ class Shop:
         return HERE / "out" / "clients" / name
 
     def limit(self, seconds):
-        """From now on so many seconds are left, and more on a busy machine."""
+        """From now on this many seconds are left, and more on a busy machine."""
         self.slow = slowness()
         signal.alarm(round(seconds * self.slow))
 
@@ -134,7 +134,7 @@ def kill(process):
 
 
 def end_fio(shop, process, log):
-    """Ends a fio by a signal, upon which it waits for the answers to what it has sent."""
+    """Ends a fio by a signal; it then waits for the answers to what it has sent."""
     want(process.poll() is None, log.read_text()[-2000:])
     process.send_signal(signal.SIGINT)
     try:
@@ -266,7 +266,7 @@ def copying(server, what):
 
 @contextlib.contextmanager
 def loaded(shop, server, offset="40m", size="8m"):
-    """Random writes to a part of the device meanwhile, so that brooms collect beside a quiet client."""
+    """Random writes to a part of the device, so that brooms collect while a client does nothing."""
     log = shop.folder / "background"
     load = shop.start(["fio", "--name=load", "--thread", "--ioengine=nbd", f"--uri={server.uri}", "--rw=randwrite", "--bs=4k", f"--offset={offset}", f"--size={size}",
                        "--iodepth=4", "--time_based", "--runtime=600", "--norandommap"], log)

@@ -1,4 +1,4 @@
-// The stock and the brooms over a library that says what each test wants: counts that come late, spares that can't be had, and
+// The stock and the brooms with a library that returns what each test needs: counts that come late, spares that aren't available, and
 // handles that are all in use. It prints what failed, and ends with the number of failures.
 #define NBDKIT_API_VERSION 2
 #include "../stock.h"
@@ -115,7 +115,7 @@ static void a_block_that_is_counted_late(void) {
     stock_end(&stock);
 }
 
-// Whatever the count says: if no block is there, none is open, and no broom finds anything, a write gives up.
+// Whatever the count says: if no block is there, none is open, and no broom finds anything, a write is refused.
 static void a_count_that_is_too_high(void) {
     begin(2, 1, 4, 1);
     fill();
@@ -176,7 +176,7 @@ static void *take_and_give(void *took) {
     return NULL;
 }
 
-// A long request has the only handle, and others want it too.
+// A long request has the only handle, and others need it too.
 static void a_long_request(void) {
     begin(1, 1, 4, 1);
     pthread_t others[4];
@@ -201,7 +201,7 @@ struct user {
 };
 static _Atomic int in_use[4];
 
-// Takes handles of all kinds, each of which nobody else may have.
+// Takes handles of all kinds; no other thread may have the same one.
 static void *use(void *argument) {
     struct user *user = argument;
     for (int i = 0; i < 20000; i++) {
@@ -219,7 +219,7 @@ static void *use(void *argument) {
     return NULL;
 }
 
-// More requests than handles: none is had by two, none is lost, and whoever waits is told.
+// More requests than handles: no two have the same one, none is lost, and each that waits is woken.
 static void many_requests(void) {
     begin(3, 0, 100000, 1);
     struct user users[8];

@@ -16,7 +16,7 @@ elif TYPE_CHECKING:
     import mmap
 
     class _Counted(Protocol):
-        """An array of another package, such as numpy, which tells how many bytes it has."""
+        """An array of another package, such as numpy, which reports how many bytes it has."""
 
         @property
         def nbytes(self) -> int: ...
@@ -61,6 +61,6 @@ def bytes_of(buffer: Buffer, writable: bool = False) -> Iterator[Tuple[int, int]
 
 
 def new_bytes(length: int) -> Tuple[bytes, int]:
-    """New bytes, and their address, where C fills them before anything else sees them: Python's way to make bytes without a copy."""
+    """New bytes, and their address, so that C fills them before anything else sees them: Python's way to make bytes without a copy."""
     made = _NEW_BYTES(None, length)
     return made, _START(made)

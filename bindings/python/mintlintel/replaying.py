@@ -27,7 +27,7 @@ def _pages_of(request: Request, page_bytes: int) -> range:
 
 
 def replay(device: Device, requests: Iterable[_RequestType], *, wrap: bool = False) -> Iterator[_RequestType]:
-    """Plays each request on the device, and yields it once it is played. Only the next request is read ahead of that, so a log may have
+    """Plays each request on the device, and yields it as soon as it was played. Only the next request is read ahead, so a log may have
     any length, and the device's counts can be had after each request.
 
     A write writes whole pages of zeros. An object without an `op` touches no data, and is passed over. A page past the device is

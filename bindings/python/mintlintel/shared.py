@@ -238,7 +238,7 @@ class SharedDevice:
         hosts, brooms = min(number(hosts), _TOO_MANY_HOSTS), min(number(brooms), _TOO_MANY_BROOMS)
         host_handles, broom_handles = (_library.Handle * (hosts or 1))(), (_library.Handle * (brooms or 1))()
         checked(LIBRARY.mintlintel_shared_open(host_handles, hosts, broom_handles, brooms, luns, blocks, pages, words, sectors, endurance))
-        # A handle stays where it is: each seat has it in the row, which lives as long as any of them.
+        # A handle isn't moved: each seat has it in the array, which lives as long as any of them.
         self.hosts: List[Host] = [Host(host_handles[i], 8 * words) for i in range(hosts)]
         self.brooms: List[Broom] = [Broom(broom_handles[i], 8 * words) for i in range(brooms)]
         self.page_bytes = 8 * words

@@ -27,7 +27,7 @@ pub enum Drain {
     NothingToGain,
     /// The broom has no block to copy to: erase something, or restock.
     NoSpare,
-    /// The state of the block changed meanwhile: try again.
+    /// The state of the block changed in between: try again.
     Lost,
 }
 

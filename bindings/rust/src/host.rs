@@ -172,7 +172,7 @@ impl Host {
     }
 }
 
-/// Where a held page stands: its block, in this generation of the block.
+/// The place of a held page: its block, in this generation of the block.
 ///
 /// ```
 /// # use mintlintel::{Geometry, PagePlace, SharedDevice};
@@ -277,7 +277,7 @@ impl Held<'_> {
         Ok(word)
     }
 
-    /// Where the page stands.
+    /// The place of the page.
     pub fn place(&mut self) -> Result<PagePlace, Fault> {
         let mut page = Page::default();
         Fault::check(unsafe { raw::mintlintel_host_held(&mut self.host.seat.handle, &mut page) })?;

@@ -44,7 +44,7 @@ pub struct Geometry {
 }
 
 impl Geometry {
-    /// One LUN, and all else to be set.
+    /// One LUN, and everything else still to be set.
     pub const ONE_LUN: Geometry = Geometry {
         luns: 1,
         blocks: 0,

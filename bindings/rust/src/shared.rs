@@ -13,7 +13,7 @@ pub(crate) struct Seat {
     pub(crate) handle: Handle,
 }
 
-// As of a `Device`: a handle may go to another thread, and every call takes it by `&mut`. The device behind it is shared by its own words.
+// As for a `Device`: a handle may go to another thread, and every call takes it by `&mut`. The device behind it is shared by its own words.
 unsafe impl Send for Seat {}
 
 impl Seat {
@@ -65,7 +65,7 @@ pub struct SharedDevice {
 }
 
 impl SharedDevice {
-    /// A device with every sector empty, for so many hosts and brooms.
+    /// A device with every sector empty, for this many hosts and brooms.
     ///
     /// ```
     /// # use mintlintel::{Geometry, OpenFault, SharedDevice};
