@@ -31,11 +31,12 @@ entry_of b p = record { block = b; phase = p.phase; generation = p.generation; w
 abbrev pub freed_as : Owned → Owned
 freed_as o = record { block = o.block; phase = Free; generation = o.generation + 1; written = 0 }
 
--- The block's state is now the one in which it was given up, or a later one
+-- The block is in a later generation than when it was given up, or in the same one, in the same phase or a later one, and with at least
+-- as many pages written
 abbrev pub IsReached : Owned → PinWord → Type 0
 IsReached o p = (o.generation < p.generation) ⊎ ((o.generation ≡ p.generation) × (rank o.phase ≤ rank p.phase) × (o.written ≤ p.written))
 
--- The block is as it was when the device was made: no seat ever owned it
+-- The block is as it was when the device was made: free, in generation 0, with no page written
 pub record IsUnused (p : PinWord) : Type 0 where
   pub free : p.phase ≡ Free
   pub generation : p.generation ≡ 0
@@ -57,7 +58,7 @@ pub record IsSameTurn (o e : Owned) : Type 0 where
   pub phase : o.phase ≡ e.phase
   pub generation : o.generation ≡ e.generation
 
--- the phase of a drained block
+-- whether this is the phase of a drained block
 abbrev pub is_drained : Phase → Bool
 is_drained Free = false
 is_drained Open = false
@@ -67,14 +68,15 @@ is_drained Drained = true
 is_drained Erasing = false
 is_drained Retired = false
 
--- the blocks that were given up drained, in order
+-- the blocks that were given up drained, each with its generation, in order
 abbrev pub drained_of : List Owned → List Cycle
 drained_of [] = []
 drained_of (o ∷ os) = if is_drained o.phase then (record { block = o.block; generation = o.generation } ∷ drained_of os) else drained_of os
 
--- GIVEN UP. A block has reached at least each state in which it was given up; no block is given up twice in the same phase of the same
--- generation, by any seats; a seat's drains are exactly the blocks that it gave up drained; a block that no seat owns is as it was when the
--- device was made, or exactly as some seat gave it up; and a seat that may not own blocks gave none up
+-- GIVEN UP. Each block that was given up is one of the device's, and has reached at least the state in which it was given up; no block is
+-- given up twice in the same phase of the same generation, by any seats; a seat's drains are exactly the blocks that it gave up drained, in
+-- order; a block that no seat owns is as it was when the device was made, or exactly as some seat gave it up; and a seat that may not own
+-- blocks gave none up
 pub record LawfulCeded (z : Numbers) (pins : ℕ → PinWord) (vs : List View) : Type 0 where
   pub reached : (id k : ℕ) (o : Owned) → IsCededBy vs id k o → (o.block < z.blocks) × IsReached o (pins o.block)
   pub once : (id k : ℕ) (o : Owned) (j i : ℕ) (e : Owned) → IsCededBy vs id k o → IsCededBy vs j i e → IsSameTurn o e → (id ≡ j) × (k ≡ i)

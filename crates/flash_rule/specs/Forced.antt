@@ -20,7 +20,7 @@ use Rattle.flash_rule.specs.Seats.{Ruled}
 use Rattle.flash_rule.specs.Plays.{Sitter, IsOn, CanCount, CanClose, take_told, pin_told, unpin_told, count_told, close_told}
 use Rattle.flash_rule.specs.BroomPlays.{CanClaim, CanDrain, CanCondemn, CanRenew, CanRetire, claim_told, drain_told, condemn_told, freed_told, kept_told, retired_told}
 
--- The table meets the rule, and this is the seat that makes the step
+-- The table meets the rule and has this many slots; this is the seat that makes the step; and word k fits into 64 bits
 pub record SitsAt (z : Numbers) (slots id : ℕ) (me : Sitter) (k : ℕ) (t : State (Unit {0}) View) : Type 0 where
   pub ruled : Ruled z t
   pub homes : length t.homes ≡ slots
@@ -33,15 +33,15 @@ abbrev pub Forces : Numbers → ℕ → ℕ → Sitter → ℕ → (ℕ → ℕ)
 Forces z slots id me k f told =
     (other : ℕ → ℕ) → Allows (Ruled z) slots id me k other told → (t : State (Unit {0}) View) → SitsAt z slots id me k t → other (slice_index t.words k) ≡ f (slice_index t.words k)
 
--- what each play says of each table, seat and pair of operands
+-- the law, for the numbers of each device, each number of slots, each seat and each pair of operands
 abbrev pub AtEach : (Numbers → ℕ → ℕ → Sitter → ℕ → ℕ → Type 0) → Type 0
 AtEach law = (z : Numbers) (slots id : ℕ) (me : Sitter) (first second : ℕ) → law z slots id me first second
 
--- a number added to a word
+-- the sum of a word and a number, modulo 2^64
 abbrev pub plus : ℕ → ℕ → ℕ
 plus x n = (n + x) % 2 ^ 64
 
--- an exchange of the word of a block in this state for that of the next phase
+-- an exchange: the word of a block in this state becomes that of the next phase, and any other word stays
 abbrev pub to_next_phase : PinWord → ℕ → ℕ
 to_next_phase p n = either (n == pin_word p) (pin_word p + NEXT_PHASE) n
 

@@ -75,8 +75,7 @@ Erases z g n list =
     (k : ℕ) (c : Cycle) → slice_get list k ≡ Some c
     → (c.block < z.blocks) × (2 * c.generation < age_of (g.pins c.block)) × (g.eraser c.block c.generation ≡ Some (n, k))
 
--- LAWFUL PINS. An accepted pin's block is intact in its generation and its page has the value. A candidate's block is in no earlier
--- generation, isn't free in that one, and if it is intact in it, the page has the value; the age known for it is the one at the look
+-- LAWFUL PINS. The block of an accepted pin is intact in the pinned generation, and the pinned page is written and has the value
 pub record IsAccepted (z : Numbers) (g : World) (m : MapWord) (value : List ℕ) : Type 0 where
   pub block : m.block < z.blocks
   pub intact : Intact (g.pins m.block) m.generation
@@ -84,8 +83,8 @@ pub record IsAccepted (z : Numbers) (g : World) (m : MapWord) (value : List ℕ)
   pub stands : HoldsValue z (g.pages m.block m.page) value
   pub whole : IsValue z value
 
--- The page that a look named. Its block has reached that generation, and while it is intact in it, the page is written and has the value;
--- after that nothing is said of the page
+-- The page that a look named. Its block is in no earlier generation, and isn't free in that one. While the block is intact in it, the page
+-- is written and has the value; after that nothing is said of the page. The age that the seat knows of the block is twice that generation
 pub record IsCandidate (z : Numbers) (g : World) (known : List ℕ) (m : MapWord) (value : List ℕ) : Type 0 where
   pub block : m.block < z.blocks
   pub reached : m.generation ≤ (g.pins m.block).generation
@@ -101,12 +100,12 @@ LawfulPin z g known (Candidate m value) = IsCandidate z g known m value
 LawfulPin z g known (Accepted m value) = IsAccepted z g m value
 LawfulPin z g known (Stray b) = b < z.blocks
 
--- A player of this number has been handed out
+-- A player with this number has been dealt
 abbrev pub IsDealt : World → Name → Type 0
 IsDealt g (Pass t) = t < g.passes
 IsDealt g (Broom i) = i < g.brooms
 
--- NOTES. The player of the copies has been handed out, and is another one. What it had seen, by the copy, begins the history; the copied
+-- NOTES. The player of the copies has been dealt, and is not the seat's own. What it had seen, by the copy, begins the history; the copied
 -- lists begin that player's lists, so no entry is missing from them; and each of their entries is that player's, by its index
 pub record LawfulCopy (z : Numbers) (g : World) (role : Role) (c : Carried) : Type 0 where
   pub dealt : IsDealt g c.of
@@ -127,8 +126,9 @@ abbrev pub ReclaimsOne : List Owned → Type 0
 ReclaimsOne owns =
     (b c : ℕ) (o e : Owned) → owned_at b owns ≡ Some o → owned_at c owns ≡ Some e → is_reclaimed o.phase ≡ true → is_reclaimed e.phase ≡ true → b ≡ c
 
--- What a view says by itself, whatever the table is: the table's numbers, which fields its role uses, that it drains or erases at most one
--- of its own blocks, and that a player with a guest also has its own badge
+-- What holds of a view alone, whatever the table is: it has the device's numbers; a pass knows an age for each block, and owns only open
+-- blocks; only a pass has a pin, and only a player has work, a source, and lists of programs and erases; a role that may not own blocks owns
+-- none; at most one of its blocks is being drained or erased; and a player with a guest also has its own badge
 pub record LawfulKind (z : Numbers) (v : View) : Type 0 where
   pub numbers : is_live_role v.role ≡ true → v.numbers ≡ z
   pub known : is_pass v.role ≡ true → length v.known ≡ z.blocks
@@ -198,9 +198,9 @@ pub record LawfulSource (z : Numbers) (g : World) (owns : List Owned) (cleared :
   pub stamp : g.pages x.page.block x.page.page z.words ≡ x.stamp
   pub value : (value : List ℕ) → x.value ≡ Some value → HoldsValue z (g.pages x.page.block x.page.page) value × IsValue z value
 
--- What belongs to one seat alone: its name, its calls in the history, its lists of what it programmed and erased, which are all that its
--- player did, its blocks, its work, its source and its badges. A note is what its badge has with it, and a badge at home has nothing with
--- it
+-- What belongs to one seat alone: its name; its calls, which are all of its pass in the history, and which it has seen; its lists of what
+-- it programmed and erased, which are all that its player did; its blocks, its work and its source; and its badges. A note has the copies
+-- that its badge has with it, and a badge at home has none. The dealer is seat 0, and counts the passes and brooms that were dealt
 pub record LawfulHolding (z : Numbers) (g : World) (id : ℕ) (v : View) : Type 0 where
   pub name : (n : Name) → v.role ≡ Player n → (g.seat n ≡ id) × IsDealt g n
   pub calls : (t : ℕ) → v.role ≡ Player (Pass t) → (calls_of t g.history ≡ v.mine) × (calls_of t v.seen ≡ v.mine)
@@ -220,8 +220,9 @@ pub record LawfulView (z : Numbers) (g : World) (id : ℕ) (v : View) : Type 0 w
   pub knowledge : LawfulKnowledge z g v
   pub holding : LawfulHolding z g id v
 
--- The rule, over the sectors, the calls, the blocks and the seats. Each call of the history is of a host, passes not handed out yet have no
--- calls, the seats count for as many passes as there are hosts, and the blocks given up are as they were given up
+-- The rule: the numbers are within their limits; the sectors, the blocks, the seats and the blocks given up are lawful; each call of the
+-- history is of a host, and a pass that wasn't dealt yet has no calls; the seats count for as many passes as there are hosts, and no more
+-- passes than hosts were dealt
 pub record Lawful (z : Numbers) (g : World) (vs : List View) : Type 0 where
   pub limits : IsWithinLimits z
   pub sectors : (s : ℕ) → s < z.sectors → LawfulSector z g s
