@@ -82,7 +82,7 @@ def counts_table(rows):
 
 def dearest_table(rows):
     """The functions that executed most, of both programs."""
-    cells = [["Work", "Ours: the five dearest functions, million", "Plain Rust"]]
+    cells = [["Work", "Ours: the five costliest functions, million", "Plain Rust"]]
     for label, *counted, _ in rows:
         cells.append([label, *("; ".join(f"`{name}` {millions(count)}" for name, count in it.dearest()) for it in counted)])
     return table(cells)

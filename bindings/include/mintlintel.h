@@ -4,7 +4,7 @@
  * `struct mintlintel_seat` is one place at a device that threads share: a host, which reads and writes, or a broom, which
  * drains and erases. docs/LINKING.md describes each call.
  *
- * What the caller owes, and nothing checks:
+ * What the caller has to ensure, and nothing checks:
  *  - A handle begins as all zero bytes, as with `= {0}`. After that only these calls write to it, and its bytes are never
  *    copied: a copy would be a second handle of the same memory. It may be moved as a whole, if the old place is not used again.
  *  - There is only one call at a time on a handle. A handle may pass from one thread to another if a lock, a join or a

@@ -113,7 +113,7 @@ fn look(writer: &mut Writer, sector: u32) -> Option<[u8; 8]> {
     }
 }
 
-// Gives up a writer's pass, which may not be dropped.
+// Retires a writer's pass, which may not be dropped.
 fn give_up(writer: Writer) {
     let Writer {
         volume,

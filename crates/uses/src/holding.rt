@@ -34,7 +34,7 @@ pub fn held_through_collection(
     ensures later { Begins (view_of reader).seen (view_of result.0).seen }
     ensures found { Answers (held (sectors_of (geometry_of (flash_of volume.now))) (view_of result.0).seen sector) result.1 before.old before.new }
 
-    // And what was read last is the same, whatever was written, drained and erased meanwhile, here and by other threads.
+    // And what was read last is the same, whatever was written, drained and erased in between, here and by other threads.
     ensures same { result.1 ≡ got.Data → after.new ≡ before.new }
 {
     let mut held = match volume.hold(reader, sector) {

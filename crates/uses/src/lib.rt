@@ -1,4 +1,4 @@
-//! Proved callers, to be copied: each contract says what its caller may rely on.
+//! Proved callers to copy: each contract says what its caller may rely on.
 #![tactic(auto)]
 
 mod closing;

@@ -22,7 +22,7 @@ pub struct Writer<'a> {
 }
 
 impl Writer<'_> {
-    // Whether the value was written: it isn't where no block is free.
+    // Whether the value was written: it isn't if no block is free.
     fn write(&mut self) -> bool
         ensures stored { IsStored self.old.sector self.old.value.now (view_of self.old.pass) result (view_of self.new.pass) }
         ensures volume { self.new.volume ≡ self.old.volume }
@@ -52,7 +52,7 @@ impl Sweeper<'_> {
     }
 }
 
-// A writer's turn and a broom's, each in a thread of its own. The answer is the writer's.
+// A writer's turn and a broom's, each in its own thread. Returns the writer's answer.
 fn write_beside_broom<R: Threads + Sync>(rt: &R, writer: &mut Writer, sweeper: &mut Sweeper) -> bool
     ensures stored { IsStored writer.old.sector writer.old.value.now (view_of writer.old.pass) result (view_of writer.new.pass) }
     ensures volume { writer.new.volume ≡ writer.old.volume }
@@ -70,7 +70,7 @@ pub fn two_writers_and_a_broom<R: Threads + Sync>(
 ) -> (bool, bool)
     requires { second.old.volume.now ≡ first.old.volume.now }
 
-    // Each has made its own write, or none, whatever the broom and other threads did meanwhile.
+    // Each has made its own write, or none, whatever the broom and other threads did in between.
     ensures first { IsStored first.old.sector first.old.value.now (view_of first.old.pass) result.0 (view_of first.new.pass) }
     ensures second { IsStored second.old.sector second.old.value.now (view_of second.old.pass) result.1 (view_of second.new.pass) }
 
