@@ -24,6 +24,7 @@ use Rattle.flash_rule.proofs.Frames.{counted, knowledge_kept, lists_stay}
 use Rattle.flash_rule.proofs.Assembly.{owner_kept}
 use Rattle.flash_rule.proofs.Still.{pin_stays}
 use Rattle.flash_rule.proofs.Splitting.{Owner, split_with, current_kept, player_same}
+use Rattle.flash_rule.proofs.Keeping.{kind_with, knowledge_as}
 
 -- the dealer's spares, one by one
 pub first_spare : (n from : ℕ) → owned_at from (spares (suc n) from) ≡ Some (spare from)
@@ -81,17 +82,10 @@ module _ (z : Numbers) (id : ℕ) (v : View) where
       let elsewhere : (c : ℕ) (o : Owned) → owned_at c (without b v.owns) ≡ Some o → c ≢ b = λ c o is same.
       absurd (none_some o (sym (without_here b v.owns) ∙ (ap (λ j. owned_at j (without b v.owns)) (sym same) ∙ is))) in
       let own : LawfulView z g' id (dealt_broom v) = record {
-        kind = record {
-          numbers = kind.numbers;
-          host = kind.host;
-          known = kind.known;
-          opens = λ is. let no : true ≡ false = sym is ∙ ap is_pass role in absurd (cc);
-          unpinned = kind.unpinned;
-          idle = kind.idle;
-          owns_none = λ is. ap (λ l. without b l) (kind.owns_none is);
-          reclaims = one_without b v.owns kind.reclaims;
-        };
-        knowledge = record { seen = knows.seen; pin = knows.pin; known = knows.known; programs = knows.programs; erases = knows.erases; copy = knows.copy; older = knows.older; out = knows.out };
+        kind = kind_with kind refl
+            (λ is. let no : true ≡ false = sym is ∙ ap is_pass role in absurd (cc))
+            kind.idle (λ is. ap (λ l. without b l) (kind.owns_none is)) (one_without b v.owns kind.reclaims);
+        knowledge = knowledge_as knows refl;
         holding = record {
           name = λ m is. absurd (not_player m is);
           calls = λ t is. absurd (not_player (Pass t) is);

@@ -1,6 +1,7 @@
 pub mod Points
 pub mod Values
 pub mod Owning
+pub mod Keeping
 pub mod Frames
 pub mod Places
 pub mod Assembly

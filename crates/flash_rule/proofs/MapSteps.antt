@@ -23,6 +23,7 @@ use Rattle.flash_rule.proofs.Frames.{counted, knowledge_kept, lists_stay}
 use Rattle.flash_rule.proofs.Assembly.{assembled, block_kept, sector_kept}
 use Rattle.flash_rule.proofs.Ceding.{ceded_still}
 use Rattle.flash_rule.proofs.Still.{pin_stays, pass_numbers}
+use Rattle.flash_rule.proofs.Keeping.{kind_as, owned_with, work_with}
 
 calls_else : (t : ℕ) (h : List Call) (c : Call) → caller c ≢ t → calls_of t (h ++ c ∷ []) ≡ calls_of t h
 calls_else t [] c apart = rw (ne_eqb (caller c) t apart) refl
@@ -95,7 +96,7 @@ module _ (z : Numbers) (g : World) (vs : List View) (id : ℕ) (v : View) (t s :
       let calls : (u : ℕ) → v.role ≡ Player (Pass u) → calls_of u (g.history ++ c ∷ []) ≡ v.mine ++ c ∷ [] = λ u is.
       let same : t ≡ u = pass_same t u (sym role ∙ is) in calls_here u g.history c (by_me ∙ same) ∙ ap (λ l. l ++ c ∷ []) (holds.calls u is).0 in
       let after : LawfulView z g' id placer = record {
-        kind = record { numbers = kind.numbers; host = kind.host; known = kind.known; opens = kind.opens; unpinned = kind.unpinned; idle = kind.idle; owns_none = kind.owns_none; reclaims = kind.reclaims };
+        kind = kind_as kind refl refl (refl, refl, refl, refl);
         knowledge = record { seen = Begins-refl (g.history ++ c ∷ []); pin = knows.pin; known = knows.known; programs = knows.programs; erases = knows.erases; copy = knows.copy; older = knows.older; out = knows.out };
         holding = record {
           name = holds.name;
@@ -103,31 +104,12 @@ module _ (z : Numbers) (g : World) (vs : List View) (id : ℕ) (v : View) (t s :
           lists = holds.lists;
           owned = λ b o owns.
               let k = holds.owned b o owns in
-              record {
-                block = k.block;
-                low = k.low;
-                owner = k.owner;
-                owned = k.owned;
-                phase = k.phase;
-                generation = k.generation;
-                written = k.written;
-                rest = k.rest;
-                dead = λ victim. let e : Open ≡ Victim = sym (kind.opens is_a_pass b o owns) ∙ victim in absurd (cc);
-                clean = k.clean;
-              };
+              owned_with k refl refl k.rest
+              (λ victim. let e : Open ≡ Victim = sym (kind.opens is_a_pass b o owns) ∙ victim in absurd (cc))
+              k.clean;
           work = λ x is.
               let k = holds.work x is in
-              record {
-                entry = k.entry;
-                own = k.own;
-                opened = k.opened;
-                generation = k.generation;
-                page = k.page;
-                counted = k.counted;
-                short = k.short;
-                full = k.full;
-                stands = k.stands;
-              };
+              work_with k k.own (λ _. refl);
           source = λ x is.
               let k = holds.source x is in
               let e : Open ≡ Victim = sym (kind.opens is_a_pass x.page.block k.entry k.own) ∙ k.victim in absurd (cc);

@@ -29,6 +29,7 @@ use Rattle.flash_rule.proofs.Ceding.{ceded_still}
 use Rattle.flash_rule.proofs.Still.{pin_stays, met_now}
 use Rattle.flash_rule.proofs.Calls.{filled}
 use Rattle.flash_rule.proofs.BroomSteps.{numbers_same, callers_now, clears, seer, sees, its, source_named, source_clears, source_value}
+use Rattle.flash_rule.proofs.Keeping.{holding_with, kind_with, owned_with, work_with}
 
 not_both : (f : Phase) → f ≡ Open → f ≡ Victim → ⊥
 not_both f opened victim = let e : Open ≡ Victim = sym opened ∙ victim in absurd (cc)
@@ -95,20 +96,11 @@ module _ (z : Numbers) (g : World) (vs : List View) (id : ℕ) (v : View) (n : N
 
     still_owned : (b : ℕ) (o : Owned) → LawfulOwned z g id v.work v.cleared v.wiped b o → LawfulOwned z exchanged_world id v.work v.cleared v.wiped b o
     still_owned b o h =
-        record {
-          block = h.block;
-          low = h.low;
-          owner = h.owner;
-          owned = h.owned;
-          phase = h.phase;
-          generation = h.generation;
-          written = h.written;
-          rest = h.rest;
-          dead = λ victim p s below s_low is. put_all g.map x.stamp (Some copy) (λ j y. j < z.sectors → y ≡ Some (record { generation = o.generation; block = b; page = p }) → ⊥)
-              (λ _ here. copy_open b (record { generation = o.generation; block = b; page = p }) (some_same copy (record { generation = o.generation; block = b; page = p }) here) refl (h.phase ∙ victim))
-              (λ j _ j_low there. h.dead victim p j below j_low there) s s_low is;
-          clean = h.clean;
-        }
+        owned_with h refl refl h.rest
+        (λ victim p s below s_low is. put_all g.map x.stamp (Some copy) (λ j y. j < z.sectors → y ≡ Some (record { generation = o.generation; block = b; page = p }) → ⊥)
+        (λ _ here. copy_open b (record { generation = o.generation; block = b; page = p }) (some_same copy (record { generation = o.generation; block = b; page = p }) here) refl (h.phase ∙ victim))
+        (λ j _ j_low there. h.dead victim p j below j_low there) s s_low is)
+        h.clean
 
     -- nothing names the source's page any more
     unnamed : (s : ℕ) → s < z.sectors → ¬ (exchanged_world.map s ≡ Some (record { generation = (its z g vs id v n law at role x can.is).entry.generation; block = x.page.block; page = v.cleared }))
@@ -127,32 +119,16 @@ module _ (z : Numbers) (g : World) (vs : List View) (id : ℕ) (v : View) (n : N
         let source = its z g vs id v n law at role x can.is in
         let knows = knowledge_kept z g exchanged_world id id move_onward v (λ b is below. counted vs law id v at b is below) h.knowledge in
         record {
-          kind = record {
-            numbers = kind.numbers;
-            host = kind.host;
-            known = kind.known;
-            opens = kind.opens;
-            unpinned = kind.unpinned;
-            idle = λ is. let no : true ≡ false = sym (ap is_player role) ∙ is in absurd (cc);
-            owns_none = kind.owns_none;
-            reclaims = kind.reclaims;
-          };
+          kind = kind_with kind refl kind.opens
+              (λ is. let no : true ≡ false = sym (ap is_player role) ∙ is in absurd (cc))
+              kind.owns_none kind.reclaims;
           knowledge = record { seen = Begins-refl g.history; pin = knows.pin; known = knows.known; programs = knows.programs; erases = knows.erases; copy = knows.copy; older = knows.older; out = knows.out };
-          holding = record {
-            name = holds.name;
-            calls = λ t is. let c = (holds.calls t is).0 in (c, c);
-            lists = holds.lists;
-            owned = λ b o own. clears z exchanged_world id v.work v.cleared v.wiped v.owns x.page.block source.entry kind.reclaims source.own source.victim unnamed b o own (still_owned b o (holds.owned b o own));
-            work = λ w is.
-                let k = holds.work w is in
-                record { entry = k.entry; own = k.own; opened = k.opened; generation = k.generation; page = k.page; counted = k.counted; short = k.short; full = k.full; stands = k.stands };
-            source = λ y none. absurd (none_some y none);
-            whole = holds.whole;
-            guest = holds.guest;
-            note = holds.note;
-            home = holds.home;
-            dealer = holds.dealer;
-          };
+          holding = holding_with holds refl refl (λ t is. let c = (holds.calls t is).0 in (c, c)) holds.lists
+              (λ b o own. clears z exchanged_world id v.work v.cleared v.wiped v.owns x.page.block source.entry kind.reclaims source.own source.victim unnamed b o own (still_owned b o (holds.owned b o own)))
+              (λ w is.
+              let k = holds.work w is in
+              work_with k k.own (λ _. refl))
+              (λ y none. absurd (none_some y none));
         }
 
     pub moves_page : Lawful z exchanged_world (set vs id (mover (v.moves + 1)))

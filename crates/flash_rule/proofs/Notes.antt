@@ -31,6 +31,7 @@ use Rattle.flash_rule.proofs.Frames.{begins_same, lists_stay, counted, others, k
 use Rattle.flash_rule.proofs.Assembly.{owner_kept}
 use Rattle.flash_rule.proofs.Still.{pin_stays}
 use Rattle.flash_rule.proofs.Splitting.{split, current_kept, player_same}
+use Rattle.flash_rule.proofs.Keeping.{knowledge_as, owned_as, source_with, work_with}
 
 -- the table with one badge moved, and what it has with it
 abbrev pub badged : World → Name → ℕ → Option Carried → World
@@ -167,14 +168,14 @@ module _ (z : Numbers) (id : ℕ) (v : View) (n : Name) (role : v.role ≡ Playe
       let holds = h.holding in
       let own : LawfulView z g' id (lender v) = record {
         kind = record { numbers = kind.numbers; host = λ _ m _ is. absurd (none_some m (sym alone ∙ is)); known = kind.known; opens = kind.opens; unpinned = kind.unpinned; idle = kind.idle; owns_none = kind.owns_none; reclaims = kind.reclaims };
-        knowledge = record { seen = knows.seen; pin = knows.pin; known = knows.known; programs = knows.programs; erases = knows.erases; copy = knows.copy; older = knows.older; out = knows.out };
+        knowledge = knowledge_as knows refl;
         holding = record {
           name = λ m is. let k = holds.name m is in (k.0, as_dealt g n new (Some (carried v)) m k.1);
           calls = holds.calls;
           lists = holds.lists;
-          owned = λ b o is. let k = holds.owned b o is in record { block = k.block; low = k.low; owner = k.owner; owned = k.owned; phase = k.phase; generation = k.generation; written = k.written; rest = k.rest; dead = k.dead; clean = k.clean };
-          work = λ w is. let k = holds.work w is in record { entry = k.entry; own = k.own; opened = k.opened; generation = k.generation; page = k.page; counted = k.counted; short = k.short; full = k.full; stands = k.stands };
-          source = λ x is. let k = holds.source x is in record { entry = k.entry; own = k.own; victim = k.victim; generation = k.generation; page = k.page; written = k.written; stamp = k.stamp; value = k.value };
+          owned = λ b o is. let k = holds.owned b o is in owned_as k refl refl refl refl;
+          work = λ w is. let k = holds.work w is in work_with k k.own (λ _. refl);
+          source = λ x is. let k = holds.source x is in source_with k k.own refl (λ _. refl);
           whole = λ is. absurd (cc);
           guest = λ m is. absurd (none_some m (sym alone ∙ is));
           note = λ m is. let e : Player n ≡ Note = sym role ∙ is in absurd (cc);
@@ -212,14 +213,14 @@ module _ (z : Numbers) (id : ℕ) (v : View) (n : Name) (role : v.role ≡ Playe
       let holds = h.holding in
       let own : LawfulView z g' id (giver v) = record {
         kind = record { numbers = kind.numbers; host = λ _ k _ is. absurd (none_some k is); known = kind.known; opens = kind.opens; unpinned = kind.unpinned; idle = kind.idle; owns_none = kind.owns_none; reclaims = kind.reclaims };
-        knowledge = record { seen = knows.seen; pin = knows.pin; known = knows.known; programs = knows.programs; erases = knows.erases; copy = knows.copy; older = knows.older; out = knows.out };
+        knowledge = knowledge_as knows refl;
         holding = record {
           name = λ k is. let t = holds.name k is in (t.0, as_dealt g m new (Some (carried v)) k t.1);
           calls = holds.calls;
           lists = holds.lists;
-          owned = λ b o is. let k = holds.owned b o is in record { block = k.block; low = k.low; owner = k.owner; owned = k.owned; phase = k.phase; generation = k.generation; written = k.written; rest = k.rest; dead = k.dead; clean = k.clean };
-          work = λ w is. let k = holds.work w is in record { entry = k.entry; own = k.own; opened = k.opened; generation = k.generation; page = k.page; counted = k.counted; short = k.short; full = k.full; stands = k.stands };
-          source = λ x is. let k = holds.source x is in record { entry = k.entry; own = k.own; victim = k.victim; generation = k.generation; page = k.page; written = k.written; stamp = k.stamp; value = k.value };
+          owned = λ b o is. let k = holds.owned b o is in owned_as k refl refl refl refl;
+          work = λ w is. let k = holds.work w is in work_with k k.own (λ _. refl);
+          source = λ x is. let k = holds.source x is in source_with k k.own refl (λ _. refl);
           whole = λ is k role'. name_else g.badge m new k (λ same. apart (role' ∙ ap Player same)) ∙ holds.whole is k role';
           guest = λ k is. absurd (none_some k is);
           note = λ k is. let e : Player n ≡ Note = sym role ∙ is in absurd (cc);
@@ -362,9 +363,9 @@ module _ (z : Numbers) (id other : ℕ) (v w : View) (n m : Name) (c : Carried) 
           name = λ x is. let t = holds.name x is in (t.0, as_dealt g m id None x t.1);
           calls = holds.calls;
           lists = holds.lists;
-          owned = λ b o is. let k = holds.owned b o is in record { block = k.block; low = k.low; owner = k.owner; owned = k.owned; phase = k.phase; generation = k.generation; written = k.written; rest = k.rest; dead = k.dead; clean = k.clean };
-          work = λ x is. let k = holds.work x is in record { entry = k.entry; own = k.own; opened = k.opened; generation = k.generation; page = k.page; counted = k.counted; short = k.short; full = k.full; stands = k.stands };
-          source = λ x is. let k = holds.source x is in record { entry = k.entry; own = k.own; victim = k.victim; generation = k.generation; page = k.page; written = k.written; stamp = k.stamp; value = k.value };
+          owned = λ b o is. let k = holds.owned b o is in owned_as k refl refl refl refl;
+          work = λ x is. let k = holds.work x is in work_with k k.own (λ _. refl);
+          source = λ x is. let k = holds.source x is in source_with k k.own refl (λ _. refl);
           whole = λ is x role'. name_else g.badge m id x (λ same. names (player_same n x (sym role ∙ role') ∙ same)) ∙ holds.whole is x role';
           guest = λ x is.
               let same : m ≡ x = some_same m x (sym guest ∙ is) in
@@ -414,9 +415,9 @@ module _ (z : Numbers) (id other : ℕ) (v w : View) (n m : Name) (c : Carried) 
           name = λ x is. let t = holds.name x is in (t.0, as_dealt g m id None x t.1);
           calls = holds.calls;
           lists = holds.lists;
-          owned = λ b o is. let k = holds.owned b o is in record { block = k.block; low = k.low; owner = k.owner; owned = k.owned; phase = k.phase; generation = k.generation; written = k.written; rest = k.rest; dead = k.dead; clean = k.clean };
-          work = λ x is. let k = holds.work x is in record { entry = k.entry; own = k.own; opened = k.opened; generation = k.generation; page = k.page; counted = k.counted; short = k.short; full = k.full; stands = k.stands };
-          source = λ x is. let k = holds.source x is in record { entry = k.entry; own = k.own; victim = k.victim; generation = k.generation; page = k.page; written = k.written; stamp = k.stamp; value = k.value };
+          owned = λ b o is. let k = holds.owned b o is in owned_as k refl refl refl refl;
+          work = λ x is. let k = holds.work x is in work_with k k.own (λ _. refl);
+          source = λ x is. let k = holds.source x is in source_with k k.own refl (λ _. refl);
           whole = λ _ x role'.
               let same : m ≡ x = mine ∙ player_same n x (sym role ∙ role') in
               let P : Name → Type 0 = λ x. g'.badge x ≡ id in

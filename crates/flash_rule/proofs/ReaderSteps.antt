@@ -33,6 +33,7 @@ use Rattle.flash_rule.proofs.Assembly.{owner_kept, state_fits}
 use Rattle.flash_rule.proofs.Ceding.{ceded_read}
 use Rattle.flash_rule.proofs.PinSteps.{deeds, moved, pin_moves, pin_turned_nameable}
 use Rattle.flash_rule.proofs.Still.{sum_set, sum_below, age_low, pass_numbers}
+use Rattle.flash_rule.proofs.Keeping.{holding_with, source_with, work_with}
 
 module _ (z : Numbers) (g : World) (vs : List View) (id : ℕ) (v : View) (b : ℕ) (readers : ℕ) (pin : Pin) (known : List ℕ) (law : Lawful z g vs) (at : get_elem? vs id ≡ some v) (pass : is_pass v.role ≡ true) (low : b < z.blocks) where
   abbrev pub read_state : PinWord
@@ -95,19 +96,9 @@ module _ (z : Numbers) (g : World) (vs : List View) (id : ℕ) (v : View) (b : �
           older = knows.older;
           out = knows.out;
         };
-        holding = record {
-          name = holds.name;
-          calls = holds.calls;
-          lists = holds.lists;
-          owned = λ c o owns. owned_read c o (holds.owned c o owns);
-          work = λ w is. let k = holds.work w is in record { entry = k.entry; own = k.own; opened = k.opened; generation = k.generation; page = k.page; counted = k.counted; short = k.short; full = k.full; stands = k.stands };
-          source = λ x is. let k = holds.source x is in record { entry = k.entry; own = k.own; victim = k.victim; generation = k.generation; page = k.page; written = k.written; stamp = k.stamp; value = k.value };
-          whole = holds.whole;
-          guest = holds.guest;
-          note = holds.note;
-          home = holds.home;
-          dealer = holds.dealer;
-        };
+        holding = holding_with holds refl refl holds.calls holds.lists (λ c o owns. owned_read c o (holds.owned c o owns))
+            (λ w is. let k = holds.work w is in work_with k k.own (λ _. refl))
+            (λ x is. let k = holds.source x is in source_with k k.own refl (λ _. refl));
       } in
       pin_turned_nameable z g vs id v reader b q (g.owner b) (deeds g) law at on own
       (λ named. (refl, named, omega arith))

@@ -30,6 +30,7 @@ use Rattle.flash_rule.proofs.Ceding.{ceded_split}
 use Rattle.flash_rule.proofs.Frames.{counted, others, knowledge_kept, lists_stay}
 use Rattle.flash_rule.proofs.Assembly.{owner_kept, sector_kept}
 use Rattle.flash_rule.proofs.Still.{pin_stays}
+use Rattle.flash_rule.proofs.Keeping.{kind_as, knowledge_as, owned_as}
 
 at_end : {X : Type 0} (xs : List X) (x y : X) (j : ℕ) → get_elem? (xs ++ x ∷ []) j ≡ some y → (get_elem? xs j ≡ some y) ⊎ ((j ≡ length xs) × (x ≡ y))
 at_end [] x y zero e = inr (refl, some-injective x y e)
@@ -172,15 +173,15 @@ module _ (z : Numbers) (id : ℕ) (v : View) where
       let not_player : (m : Name) → v.role ≡ Player m → ⊥ = λ m is. let e : Dealer ≡ Player m = sym role ∙ is in absurd (cc) in
       let holds = h.holding in
       let own : LawfulView z g' id (dealt_pass v) = record {
-        kind = record { numbers = kind.numbers; host = kind.host; known = kind.known; opens = kind.opens; unpinned = kind.unpinned; idle = kind.idle; owns_none = kind.owns_none; reclaims = kind.reclaims };
-        knowledge = record { seen = knows.seen; pin = knows.pin; known = knows.known; programs = knows.programs; erases = knows.erases; copy = knows.copy; older = knows.older; out = knows.out };
+        kind = kind_as kind refl refl (refl, refl, refl, refl);
+        knowledge = knowledge_as knows refl;
         holding = record {
           name = λ m is. absurd (not_player m is);
           calls = λ t is. absurd (not_player (Pass t) is);
           lists = λ m is. absurd (not_player m is);
           owned = λ b o is.
               let k = holds.owned b o is in
-              record { block = k.block; low = k.low; owner = k.owner; owned = k.owned; phase = k.phase; generation = k.generation; written = k.written; rest = k.rest; dead = k.dead; clean = k.clean };
+              owned_as k refl refl refl refl;
           work = λ w is. absurd (none_some w (sym (kind.idle (ap is_player role)).0 ∙ is));
           source = λ x is. absurd (none_some x (sym (kind.idle (ap is_player role)).1 ∙ is));
           whole = λ _ m is. absurd (not_player m is);

@@ -32,6 +32,7 @@ use Rattle.flash_rule.proofs.Frames.{lists_stay}
 use Rattle.flash_rule.proofs.Assembly.{assembled, block_kept}
 use Rattle.flash_rule.proofs.Ceding.{ceded_still}
 use Rattle.flash_rule.proofs.Owning.{some_same}
+use Rattle.flash_rule.proofs.Keeping.{holding_with}
 
 pub pin_stays : (p : PinWord) → PinOnward p p
 pin_stays p = record { generation = omega arith; age = omega arith; written = λ _. omega arith; held = λ _ intact. (refl, intact); was = λ _ intact _. intact; free = λ _ free. free }
@@ -203,19 +204,7 @@ module _ (z : Numbers) (g : World) (vs : List View) (id : ℕ) (v : View) (s : �
       (record {
         kind = record { numbers = kind.numbers; host = kind.host; known = λ _. long; opens = kind.opens; unpinned = λ not. let no : true ≡ false = sym pass ∙ not in absurd (cc); idle = kind.idle; owns_none = kind.owns_none; reclaims = kind.reclaims };
         knowledge = record { seen = Begins-refl g.history; pin = lawful; known = ages; programs = knows.programs; erases = knows.erases; copy = knows.copy; older = knows.older; out = knows.out };
-        holding = record {
-          name = holds.name;
-          calls = λ t is. let c = (holds.calls t is).0 in (c, c);
-          lists = holds.lists;
-          owned = holds.owned;
-          work = holds.work;
-          source = holds.source;
-          whole = holds.whole;
-          guest = holds.guest;
-          note = holds.note;
-          home = holds.home;
-          dealer = holds.dealer;
-        };
+        holding = holding_with holds refl refl (λ t is. let c = (holds.calls t is).0 in (c, c)) holds.lists holds.owned holds.work holds.source;
       })
       (λ b. no_pin pin free b ∙ sym (no_pin v.pin unpinned b)) refl refl refl refl refl
 
