@@ -1,29 +1,11 @@
 -- What a broom finds out of its victim's pages: looks, stamps and the words of a source.
-use Rattle.std.proofs.Common.{◌≡◌, ℕ, ◌+◌, ◌<◌, ◌≤◌, ◌⊎◌, inl, inr, ⊎_elim, true, false, List, [], ◌∷◌, ◌++◌, Option, None, Some, set, sym, refl, ap, ◌∙◌, subst, arith}
-use mathlib.Core.Option.{some}
-use mathlib.Core.Logic.{dite}
-use native.Mathlib.Decide.{ℕ_discrete, dec_lt}
-use lib.ListN.{get_elem?}
-use Rattle.geometry.specs.History.{Call, Begins, held}
-use Rattle.geometry.proofs.Histories.{Begins-refl}
-use Rattle.geometry.specs.Limits.{Numbers}
-use Rattle.geometry.specs.MapWords.{map_word, FitsMap}
-use Rattle.geometry.proofs.PinBits.{map_same}
-use Rattle.geometry.specs.declared.map_word.MapWord.{MapWord}
-use Rattle.geometry.specs.declared.pin_word.Phase.TheVariants.{Victim}
-use Rattle.flash_rule.specs.declared.facts.Name.{Name}
-use Rattle.flash_rule.specs.declared.facts.Name.TheVariants.{Pass}
-use Rattle.flash_rule.specs.declared.facts.Role.TheVariants.{Player}
-use Rattle.flash_rule.specs.declared.facts.Owned.{Owned}
-use Rattle.flash_rule.specs.declared.facts.Work.{Work}
-use Rattle.flash_rule.specs.declared.facts.Source.{Source}
-use Rattle.flash_rule.specs.declared.carried.Carried.{Carried}
-use Rattle.flash_rule.specs.declared.view.View.{View}
-use Rattle.flash_rule.specs.Views.{is_player, is_live_role, owned_at, AreOfHosts, calls_of}
-use Rattle.flash_rule.specs.World.{World, is_reclaimed, sector_word, data_word, HoldsValue}
-use Rattle.flash_rule.specs.Rule.{IsValue, IsCurrent, ReclaimsOne, LawfulOwned, LawfulSource, Lawful}
-use Rattle.flash_rule.specs.Plays.{Met}
-use Rattle.flash_rule.specs.BroomPlays.{Named, CanGetStamp, GotStamp, victim_page}
+use Rattle.flash_rule.proofs.Words.{◌≡◌, ℕ, ◌+◌, ◌<◌, ◌≤◌, ◌⊎◌, inl, inr, ⊎_elim, true, false, List, [], ◌∷◌, ◌++◌, Option, None, Some, set, sym, refl}
+use Rattle.flash_rule.proofs.Words.{ap, ◌∙◌, subst, arith, some, dite, ℕ_discrete, dec_lt, get_elem?, Call, Begins, held, Begins-refl, Numbers}
+use Rattle.flash_rule.proofs.Words.{map_word, FitsMap, map_same, MapWord, Victim, Name, Pass, Player, Owned, Work, Source, Carried, View, is_player}
+use Rattle.flash_rule.proofs.Words.{is_live_role, owned_at, AreOfHosts, calls_of, World, is_reclaimed, sector_word, data_word, IsValue, IsCurrent}
+use Rattle.flash_rule.proofs.Words.{ReclaimsOne, LawfulOwned, LawfulSource, Lawful, Met, Named, CanGetStamp, GotStamp}
+use Rattle.flash_rule.specs.World.{HoldsValue}
+use Rattle.flash_rule.specs.BroomPlays.{victim_page}
 use Rattle.flash_rule.proofs.Owning.{some_same, none_some}
 use Rattle.flash_rule.proofs.Still.{still, met_now, map_fits}
 use Rattle.flash_rule.proofs.MapSteps.{word_empty, word_named}

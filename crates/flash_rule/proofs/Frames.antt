@@ -1,31 +1,14 @@
 -- What a step leaves to the seats that don't make it.
-use Rattle.std.proofs.Common.{◌≡◌, ℕ, ◌<◌, ◌≤◌, inl, inr, ⊎_elim, true, List, [], ◌∷◌, Some, zero, suc, sym, refl, ap, ◌∙◌, subst, arith}
-use mathlib.Core.Option.{some, some-injective, some-ne-none}
-use mathlib.Core.Logic.{dite}
-use native.Mathlib.Decide.{ℕ_discrete}
-use lib.ListN.{get_elem?}
+use Rattle.flash_rule.proofs.Words.{◌≡◌, ℕ, ◌<◌, ◌≤◌, inl, inr, ⊎_elim, true, List, [], ◌∷◌, Some, zero, suc, sym, refl, ap, ◌∙◌, subst, arith, some}
+use Rattle.flash_rule.proofs.Words.{some-injective, some-ne-none, dite, ℕ_discrete, get_elem?, Begins, Numbers, MapWord, PinWord, Name, Pass, Role}
+use Rattle.flash_rule.proofs.Words.{Owned, Pin, Clear, Candidate, Accepted, Stray, Work, Source, Cycle, Carried, View, one_if, total, pin_is_on}
+use Rattle.flash_rule.proofs.Words.{pins_on, World, is_owned, IsProgrammed, Programs, Erases, IsCandidate, LawfulPin, LawfulCopy, Grown}
+use Rattle.flash_rule.proofs.Words.{LawfulKnowledge, LawfulOwned, LawfulWork, LawfulSource, LawfulHolding, LawfulView, Lawful, PinOnward, Untouched}
+use Rattle.flash_rule.proofs.Words.{ListsOnward, Onward}
 use Rattle.std.proofs.lemmas.List.{append-nil}
-use Rattle.geometry.specs.History.{Begins}
-use Rattle.geometry.specs.Limits.{Numbers}
 use Rattle.geometry.proofs.Histories.{Begins-trans}
-use Rattle.geometry.specs.declared.map_word.MapWord.{MapWord}
-use Rattle.geometry.specs.declared.pin_word.PinWord.{PinWord}
-use Rattle.flash_rule.specs.declared.facts.Name.{Name}
-use Rattle.flash_rule.specs.declared.facts.Name.TheVariants.{Pass}
-use Rattle.flash_rule.specs.declared.facts.Role.{Role}
-use Rattle.flash_rule.specs.declared.facts.Owned.{Owned}
-use Rattle.flash_rule.specs.declared.facts.Pin.{Pin}
-use Rattle.flash_rule.specs.declared.facts.Pin.TheVariants.{Clear, Candidate, Accepted, Stray}
-use Rattle.flash_rule.specs.declared.facts.Work.{Work}
-use Rattle.flash_rule.specs.declared.facts.Source.{Source}
-use Rattle.flash_rule.specs.declared.facts.Cycle.{Cycle}
-use Rattle.flash_rule.specs.declared.carried.Carried.{Carried}
-use Rattle.flash_rule.specs.declared.view.View.{View}
-use Rattle.flash_rule.specs.Views.{one_if, total, pin_is_on, pins_on}
-use Rattle.flash_rule.specs.World.{World, is_owned}
-use Rattle.flash_rule.specs.Rule.{IsProgrammed, Programs, Erases, IsAccepted, IsCandidate, LawfulPin, LawfulCopy, Grown, LawfulKnowledge, LawfulOwned, LawfulWork, LawfulSource, LawfulHolding, LawfulView, Lawful}
+use Rattle.flash_rule.specs.Rule.{IsAccepted}
 use Rattle.flash_rule.proofs.Points.{eq_self}
-use Rattle.flash_rule.specs.Onward.{PinOnward, Untouched, ListsOnward, Onward}
 use Rattle.flash_rule.proofs.Keeping.{source_with, work_with}
 
 pub programmed_onward : {p q : PinWord} (m : MapWord) → PinOnward p q → IsProgrammed p m → IsProgrammed q m

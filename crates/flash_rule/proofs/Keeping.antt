@@ -1,19 +1,8 @@
 -- What a step leaves as it is to the seat that makes it.
-use Rattle.std.proofs.Common.{◌≡◌, ℕ, ◌+◌, ◌*◌, ◌<◌, ◌≤◌, false, true, List, [], Option, None, Some, refl, ap, ◌∙◌, sym, subst}
-use Rattle.geometry.specs.Limits.{Numbers}
-use Rattle.geometry.specs.declared.pin_word.PinWord.{PinWord}
-use Rattle.geometry.specs.declared.pin_word.Phase.TheVariants.{Free, Open, Victim, Erasing}
-use Rattle.flash_rule.specs.declared.facts.Name.{Name}
-use Rattle.flash_rule.specs.declared.facts.Name.TheVariants.{Pass}
-use Rattle.flash_rule.specs.declared.facts.Role.TheVariants.{Player}
-use Rattle.flash_rule.specs.declared.facts.Owned.{Owned}
-use Rattle.flash_rule.specs.declared.facts.Work.{Work}
-use Rattle.flash_rule.specs.declared.facts.Source.{Source}
-use Rattle.flash_rule.specs.declared.view.View.{View}
-use Rattle.flash_rule.specs.Views.{is_pass, is_player, may_own, owned_at, calls_of}
-use Rattle.flash_rule.specs.World.{World, IsBlank, blank_word}
-use Rattle.flash_rule.specs.Rule.{IsFilling, ReclaimsOne, LawfulKind, LawfulKnowledge, LawfulOwned, LawfulWork, LawfulSource, LawfulHolding}
-use Rattle.flash_rule.specs.Seats.{gone}
+use Rattle.flash_rule.proofs.Words.{◌≡◌, ℕ, ◌+◌, ◌*◌, ◌<◌, ◌≤◌, false, true, List, [], Option, None, Some, refl, ap, ◌∙◌, sym, subst, Numbers, PinWord}
+use Rattle.flash_rule.proofs.Words.{Free, Open, Victim, Erasing, Name, Pass, Player, Owned, Work, Source, View, is_pass, is_player, may_own, owned_at}
+use Rattle.flash_rule.proofs.Words.{calls_of, World, IsBlank, blank_word, IsFilling, ReclaimsOne, LawfulKind, LawfulKnowledge, LawfulOwned, LawfulWork}
+use Rattle.flash_rule.proofs.Words.{LawfulSource, LawfulHolding, gone}
 
 -- what is said of a view's kind, but for its blocks and work
 abbrev kind_of : View → View

@@ -1,3 +1,4 @@
+pub mod Words
 pub mod Points
 pub mod Values
 pub mod Owning

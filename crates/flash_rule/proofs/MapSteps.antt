@@ -1,23 +1,10 @@
 -- One map word changes, and the history with it: what a place does.
-use Rattle.std.proofs.Common.{◌≡◌, ◌≢◌, ℕ, ◌<◌, ◌⊎◌, inl, eq-eqb, ne_eqb, true, List, [], ◌∷◌, ◌++◌, Option, None, Some, set, sym, refl, ap, ◌∙◌, subst, arith}
+use Rattle.flash_rule.proofs.Words.{◌≡◌, ◌≢◌, ℕ, ◌<◌, ◌⊎◌, inl, eq-eqb, ne_eqb, true, List, [], ◌∷◌, ◌++◌, Option, None, Some, set, sym, refl, ap, ◌∙◌}
+use Rattle.flash_rule.proofs.Words.{subst, arith, some, dite, ℕ_discrete, get_elem?, Call, held, Begins-refl, Numbers, MapWord, Open, Victim, Pass}
+use Rattle.flash_rule.proofs.Words.{Dealer, Player, View, is_pass, AreOfHosts, calls_of, caller, World, put, sector_word, LawfulSector, LawfulView}
+use Rattle.flash_rule.proofs.Words.{Lawful, Onward, Placed}
 use Rattle.std.proofs.lemmas.List.Elements.{All-push}
-use mathlib.Core.Option.{some}
-use mathlib.Core.Logic.{dite}
-use native.Mathlib.Decide.{ℕ_discrete}
-use lib.ListN.{get_elem?}
-use Rattle.geometry.specs.History.{Call, held}
-use Rattle.geometry.proofs.Histories.{Begins-refl, Begins-push}
-use Rattle.geometry.specs.Limits.{Numbers}
-use Rattle.geometry.specs.declared.map_word.MapWord.{MapWord}
-use Rattle.geometry.specs.declared.pin_word.Phase.TheVariants.{Open, Victim}
-use Rattle.flash_rule.specs.declared.facts.Name.TheVariants.{Pass}
-use Rattle.flash_rule.specs.declared.facts.Role.TheVariants.{Dealer, Player}
-use Rattle.flash_rule.specs.declared.view.View.{View}
-use Rattle.flash_rule.specs.Views.{is_pass, AreOfHosts, calls_of, caller}
-use Rattle.flash_rule.specs.World.{World, put, sector_word}
-use Rattle.flash_rule.specs.Rule.{LawfulSector, LawfulView, Lawful}
-use Rattle.flash_rule.specs.Onward.{Onward}
-use Rattle.flash_rule.specs.Plays.{Placed}
+use Rattle.geometry.proofs.Histories.{Begins-push}
 use Rattle.flash_rule.proofs.Points.{put_else, put_all}
 use Rattle.flash_rule.proofs.Frames.{counted, knowledge_kept, lists_stay}
 use Rattle.flash_rule.proofs.Assembly.{assembled, block_kept, sector_kept}

@@ -1,26 +1,8 @@
 -- A broom exchanges a map word: from the page of its source to a copy of it.
-use Rattle.std.proofs.Common.{◌≡◌, ℕ, ◌+◌, ◌<◌, ◌⊎◌, inl, inr, true, false, List, None, Some, set, sym, refl, ap, ◌∙◌, subst, arith}
-use mathlib.Core.Option.{some}
-use mathlib.Core.Logic.{dite}
-use native.Mathlib.Decide.{ℕ_discrete}
-use lib.ListN.{get_elem?}
-use Rattle.geometry.specs.History.{held}
-use Rattle.geometry.proofs.Histories.{Begins-refl}
-use Rattle.geometry.specs.Limits.{Numbers}
-use Rattle.geometry.specs.MapWords.{map_word}
-use Rattle.geometry.specs.declared.map_word.MapWord.{MapWord}
-use Rattle.geometry.specs.declared.pin_word.Phase.{Phase}
-use Rattle.geometry.specs.declared.pin_word.Phase.TheVariants.{Open, Victim}
-use Rattle.flash_rule.specs.declared.facts.Name.{Name}
-use Rattle.flash_rule.specs.declared.facts.Role.TheVariants.{Player}
-use Rattle.flash_rule.specs.declared.facts.Owned.{Owned}
-use Rattle.flash_rule.specs.declared.facts.Source.{Source}
-use Rattle.flash_rule.specs.declared.view.View.{View}
-use Rattle.flash_rule.specs.Views.{is_player}
-use Rattle.flash_rule.specs.World.{World, put, sector_word}
-use Rattle.flash_rule.specs.Rule.{IsCurrent, LawfulSector, LawfulOwned, LawfulView, Lawful}
-use Rattle.flash_rule.specs.Onward.{Onward}
-use Rattle.flash_rule.specs.BroomPlays.{CanMove, Moved}
+use Rattle.flash_rule.proofs.Words.{◌≡◌, ℕ, ◌+◌, ◌<◌, ◌⊎◌, inl, inr, true, false, List, None, Some, set, sym, refl, ap, ◌∙◌, subst, arith, some, dite}
+use Rattle.flash_rule.proofs.Words.{ℕ_discrete, get_elem?, held, Begins-refl, Numbers, map_word, MapWord, Phase, Open, Victim, Name, Player, Owned}
+use Rattle.flash_rule.proofs.Words.{Source, View, is_player, World, put, sector_word, IsCurrent, LawfulSector, LawfulOwned, LawfulView, Lawful, Onward}
+use Rattle.flash_rule.proofs.Words.{CanMove, Moved}
 use Rattle.flash_rule.proofs.Points.{put_here, put_else, put_all}
 use Rattle.flash_rule.proofs.Owning.{some_same, none_some}
 use Rattle.flash_rule.proofs.Frames.{counted, knowledge_kept, lists_stay}

@@ -1,29 +1,11 @@
 -- The moves of notes: lend, take in, give back, come home.
-use Rattle.std.proofs.Common.{◌≡◌, ◌≢◌, ℕ, ◌⊎◌, inl, inr, ⊎_elim, Bool, true, false, List, [], Option, None, Some, length, set, sym, refl, ap, ◌∙◌, subst, arith}
-use mathlib.Core.Option.{some, some-injective}
-use mathlib.Core.Logic.{dite}
-use native.Mathlib.Decide.{ℕ_discrete}
-use lib.ListN.{get_elem?}
-use Rattle.atomic_table.specs.Table.{Splits, Joins}
-use Rattle.atomic_table.proofs.Lists.{at_set, set_else}
-use Rattle.geometry.proofs.Histories.{Begins-refl}
-use Rattle.geometry.specs.History.{Begins}
-use Rattle.geometry.specs.Limits.{Numbers}
-use Rattle.flash_rule.specs.declared.facts.Name.{Name}
-use Rattle.flash_rule.specs.declared.facts.Name.TheVariants.{Pass, Broom}
-use Rattle.flash_rule.specs.declared.facts.Role.{Role}
-use Rattle.flash_rule.specs.declared.facts.Role.TheVariants.{Dealer, Player, Note}
-use Rattle.flash_rule.specs.declared.facts.Owned.{Owned}
-use Rattle.flash_rule.specs.declared.facts.Pin.{Pin}
-use Rattle.flash_rule.specs.declared.facts.Pin.TheVariants.{Clear}
-use Rattle.flash_rule.specs.declared.carried.Carried.{Carried}
-use Rattle.flash_rule.specs.declared.view.View.{View}
-use Rattle.flash_rule.specs.Views.{one_if, is_pass, is_live_role, may_own, pin_is_on, pins_on, weight, role_weight, owned_at, same_name}
-use Rattle.std.specs.Prelude.{if◌then◌else◌}
-use Rattle.flash_rule.specs.World.{World, put_name}
-use Rattle.flash_rule.specs.Rule.{LawfulBlock, LawfulCopy, Grown, LawfulKnowledge, LawfulView, Lawful, IsDealt}
-use Rattle.flash_rule.specs.Onward.{Onward}
-use Rattle.flash_rule.specs.Seats.{Ruled, newcomer, name_of, carried, lender, lent_note, host_of, giver, given_note, home, gone}
+use Rattle.flash_rule.proofs.Words.{◌≡◌, ◌≢◌, ℕ, ◌⊎◌, inl, inr, ⊎_elim, Bool, true, false, List, [], Option, None, Some, length, set, sym, refl, ap}
+use Rattle.flash_rule.proofs.Words.{◌∙◌, subst, arith, some, some-injective, dite, ℕ_discrete, get_elem?, Splits, at_set, set_else, Begins-refl}
+use Rattle.flash_rule.proofs.Words.{Begins, Numbers, Name, Pass, Broom, Role, Dealer, Player, Note, Owned, Pin, Clear, Carried, View, one_if, is_pass}
+use Rattle.flash_rule.proofs.Words.{is_live_role, may_own, pin_is_on, pins_on, weight, role_weight, owned_at, same_name, if◌then◌else◌, World}
+use Rattle.flash_rule.proofs.Words.{put_name, LawfulBlock, LawfulCopy, Grown, LawfulKnowledge, LawfulView, Lawful, IsDealt, Onward, Ruled, gone}
+use Rattle.atomic_table.specs.Table.{Joins}
+use Rattle.flash_rule.specs.Seats.{newcomer, name_of, carried, lender, lent_note, host_of, giver, given_note, home}
 use Rattle.flash_rule.proofs.Points.{total_set, name_here, name_else, name_all}
 use Rattle.flash_rule.proofs.Owning.{some_same, none_some}
 use Rattle.flash_rule.proofs.Ceding.{ceded_split, ceded_gone}

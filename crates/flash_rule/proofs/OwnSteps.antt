@@ -1,28 +1,12 @@
 -- The owner's steps on the pin word of an open block: count and close.
-use Rattle.std.proofs.Common.{◌≡◌, ◌≢◌, ℕ, ◌+◌, ◌<◌, ◌≤◌, ◌⊎◌, inl, inr, ⊎_elim, true, false, List, [], ◌∷◌, ◌++◌, Option, None, Some, length, set, slice_get, sym, refl, ap, ◌∙◌, subst, arith}
+use Rattle.flash_rule.proofs.Words.{◌≡◌, ◌≢◌, ℕ, ◌+◌, ◌<◌, ◌≤◌, ◌⊎◌, inl, inr, ⊎_elim, true, false, List, [], ◌∷◌, ◌++◌, Option, None, Some, length}
+use Rattle.flash_rule.proofs.Words.{set, slice_get, sym, refl, ap, ◌∙◌, subst, arith, some, dite, ℕ_discrete, get_elem?, Begins, Numbers, Begins-refl}
+use Rattle.flash_rule.proofs.Words.{MapWord, PinWord, Free, Open, Closed, Victim, Owned, Name, Role, Dealer, Player, Note, Gone, Work, View, is_player}
+use Rattle.flash_rule.proofs.Words.{may_own, pins_on, owned_at, without, with_owned, World, put, put_name, is_owned, is_intact, is_still, half_cycle}
+use Rattle.flash_rule.proofs.Words.{rank, IsProgrammed, IsDealt, IsFilling, LawfulKind, LawfulOwned, LawfulWork, LawfulView, Lawful, ListsOnward}
+use Rattle.flash_rule.proofs.Words.{Onward, next_page}
 use Rattle.std.proofs.lemmas.List.{append-nil}
-use mathlib.Core.Option.{some}
-use mathlib.Core.Logic.{dite}
-use native.Mathlib.Decide.{ℕ_discrete}
-use lib.ListN.{get_elem?}
-use Rattle.geometry.specs.History.{Begins}
-use Rattle.geometry.specs.Limits.{Numbers}
-use Rattle.geometry.proofs.Histories.{Begins-refl}
-use Rattle.geometry.specs.declared.map_word.MapWord.{MapWord}
-use Rattle.geometry.specs.declared.pin_word.PinWord.{PinWord}
-use Rattle.geometry.specs.declared.pin_word.Phase.TheVariants.{Free, Open, Closed, Victim}
-use Rattle.flash_rule.specs.declared.facts.Owned.{Owned}
-use Rattle.flash_rule.specs.declared.facts.Name.{Name}
-use Rattle.flash_rule.specs.declared.facts.Role.{Role}
-use Rattle.flash_rule.specs.declared.facts.Role.TheVariants.{Dealer, Player, Note, Gone}
-use Rattle.flash_rule.specs.declared.facts.Work.{Work}
-use Rattle.flash_rule.specs.declared.view.View.{View}
-use Rattle.flash_rule.specs.Views.{is_player, may_own, pins_on, owned_at, without, with_owned}
-use Rattle.flash_rule.specs.World.{World, put, put_name, is_owned, is_intact, is_still, half_cycle}
-use Rattle.flash_rule.specs.Ceded.{rank}
-use Rattle.flash_rule.specs.Rule.{IsProgrammed, IsDealt, IsFilling, LawfulKind, LawfulOwned, LawfulWork, LawfulView, Lawful}
-use Rattle.flash_rule.specs.Onward.{ListsOnward, Onward}
-use Rattle.flash_rule.specs.Plays.{next_page, IsSettled}
+use Rattle.flash_rule.specs.Plays.{IsSettled}
 use Rattle.flash_rule.proofs.Points.{put_here, total_set, name_here, name_else, name_all}
 use Rattle.flash_rule.proofs.Owning.{owns_none_else, may_own_else, some_same, none_some, with_here, with_else, without_here, without_else, one_with_open, one_without, get_last, put3, put3_here, put3_else}
 use Rattle.flash_rule.proofs.Frames.{counted, knowledge_kept}

@@ -1,28 +1,10 @@
 -- Steps on page words: put and get.
-use Rattle.std.proofs.Common.{◌≡◌, ◌≢◌, ℕ, zero, suc, ◌*◌, ◌<◌, ◌≤◌, inl, inr, ⊎_elim, eq-eqb, ne_eqb, true, false, List, [], ◌∷◌, ◌++◌, Option, None, Some, length, set, sym, refl, ap, ◌∙◌, subst, arith, length-append}
-use Rattle.std.proofs.Math.ListN.{get_or}
-use mathlib.Core.Option.{some}
-use mathlib.Core.Logic.{dite}
-use native.Mathlib.Decide.{ℕ_discrete}
-use lib.ListN.{get_elem?}
-use Rattle.geometry.proofs.Histories.{Begins-refl}
-use Rattle.geometry.specs.Limits.{Numbers}
-use Rattle.geometry.specs.declared.map_word.MapWord.{MapWord}
-use Rattle.geometry.specs.declared.pin_word.Phase.TheVariants.{Open, Victim, Erasing}
-use Rattle.flash_rule.specs.declared.facts.Pin.{Pin}
-use Rattle.flash_rule.specs.declared.facts.Owned.{Owned}
-use Rattle.flash_rule.specs.declared.facts.Name.TheVariants.{Pass, Broom}
-use Rattle.flash_rule.specs.declared.facts.Role.{Role}
-use Rattle.flash_rule.specs.declared.facts.Role.TheVariants.{Dealer, Player, Note, Gone}
-use Rattle.flash_rule.specs.declared.facts.Pin.TheVariants.{Clear, Accepted}
-use Rattle.flash_rule.specs.declared.facts.Work.{Work}
-use Rattle.flash_rule.specs.declared.carried.Carried.{Carried}
-use Rattle.flash_rule.specs.declared.view.View.{View}
-use Rattle.flash_rule.specs.Views.{is_pass, is_player, owned_at}
-use Rattle.flash_rule.specs.World.{World, put_word, is_still, age_of, data_word}
-use Rattle.flash_rule.specs.Rule.{IsFilling, LawfulOwned, LawfulWork, LawfulView, Lawful, LawfulPin}
-use Rattle.flash_rule.specs.Onward.{Onward}
-use Rattle.flash_rule.specs.Plays.{next_page, words_in, SettledBut, Spared}
+use Rattle.flash_rule.proofs.Words.{◌≡◌, ◌≢◌, ℕ, zero, suc, ◌*◌, ◌<◌, ◌≤◌, inl, inr, ⊎_elim, eq-eqb, ne_eqb, true, false, List, [], ◌∷◌, ◌++◌, Option}
+use Rattle.flash_rule.proofs.Words.{None, Some, length, set, sym, refl, ap, ◌∙◌, subst, arith, length-append, get_or, some, dite, ℕ_discrete}
+use Rattle.flash_rule.proofs.Words.{get_elem?, Begins-refl, Numbers, MapWord, Open, Victim, Erasing, Pin, Owned, Pass, Broom, Role, Dealer, Player}
+use Rattle.flash_rule.proofs.Words.{Note, Gone, Clear, Accepted, Work, Carried, View, is_pass, is_player, owned_at, World, put_word, is_still, age_of}
+use Rattle.flash_rule.proofs.Words.{data_word, IsFilling, LawfulOwned, LawfulWork, LawfulView, Lawful, LawfulPin, Onward, next_page, words_in}
+use Rattle.flash_rule.specs.Plays.{SettledBut, Spared}
 use Rattle.flash_rule.proofs.Points.{eq_self}
 use Rattle.flash_rule.proofs.Owning.{some_same}
 use Rattle.flash_rule.proofs.Frames.{counted, knowledge_kept, lists_stay}

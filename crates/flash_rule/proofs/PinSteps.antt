@@ -1,27 +1,10 @@
 -- Steps that change one pin word: take, count, close.
-use Rattle.std.proofs.Common.{◌≡◌, ◌≢◌, ℕ, zero, suc, ◌+◌, ◌*◌, ◌<◌, ◌≤◌, inl, inr, true, false, List, [], ◌∷◌, ◌++◌, Option, Some, set, sym, refl, ap, ◌∙◌, subst, arith}
-use mathlib.Core.Option.{some, some-ne-none}
-use mathlib.Core.Logic.{dite}
-use native.Mathlib.Decide.{ℕ_discrete}
-use lib.ListN.{get_elem?}
-use Rattle.geometry.specs.Limits.{Numbers}
-use Rattle.geometry.proofs.Histories.{Begins-refl}
-use Rattle.geometry.specs.declared.map_word.MapWord.{MapWord}
-use Rattle.geometry.specs.declared.pin_word.PinWord.{PinWord}
-use Rattle.geometry.specs.declared.pin_word.Phase.{Phase}
-use Rattle.geometry.specs.declared.pin_word.Phase.TheVariants.{Free, Open}
-use Rattle.flash_rule.specs.declared.facts.Owned.{Owned}
-use Rattle.flash_rule.specs.declared.facts.Cycle.{Cycle}
-use Rattle.flash_rule.specs.declared.facts.Name.{Name}
-use Rattle.flash_rule.specs.declared.facts.Role.{Role}
-use Rattle.flash_rule.specs.declared.facts.Role.TheVariants.{Dealer, Player, Note, Gone}
-use Rattle.flash_rule.specs.declared.facts.Work.{Work}
-use Rattle.flash_rule.specs.declared.view.View.{View}
-use Rattle.flash_rule.specs.Views.{is_player, may_own, pins_on, weight, owned_at, with_owned}
-use Rattle.flash_rule.specs.World.{World, put, is_owned, is_intact, is_nameable, is_still, half_cycle, age_of}
-use Rattle.flash_rule.specs.Ceded.{rank, LawfulCeded}
-use Rattle.flash_rule.specs.Rule.{IsCurrent, IsProgrammed, IsFilling, LawfulBlock, LawfulOwned, LawfulView, Lawful, IsDealt}
-use Rattle.flash_rule.specs.Onward.{PinOnward, Untouched, ListsOnward, Onward}
+use Rattle.flash_rule.proofs.Words.{◌≡◌, ◌≢◌, ℕ, zero, suc, ◌+◌, ◌*◌, ◌<◌, ◌≤◌, inl, inr, true, false, List, [], ◌∷◌, ◌++◌, Option, Some, set, sym}
+use Rattle.flash_rule.proofs.Words.{refl, ap, ◌∙◌, subst, arith, some, some-ne-none, dite, ℕ_discrete, get_elem?, Numbers, Begins-refl, MapWord}
+use Rattle.flash_rule.proofs.Words.{PinWord, Phase, Free, Open, Owned, Cycle, Name, Role, Dealer, Player, Note, Gone, Work, View, is_player, may_own}
+use Rattle.flash_rule.proofs.Words.{pins_on, weight, owned_at, with_owned, World, put, is_owned, is_intact, is_nameable, is_still, half_cycle, age_of}
+use Rattle.flash_rule.proofs.Words.{rank, LawfulCeded, IsCurrent, IsProgrammed, IsFilling, LawfulBlock, LawfulOwned, LawfulView, Lawful, IsDealt}
+use Rattle.flash_rule.proofs.Words.{PinOnward, Untouched, ListsOnward, Onward}
 use Rattle.flash_rule.proofs.Points.{put_here, put_else, put_all, total_set}
 use Rattle.flash_rule.proofs.Owning.{some_same, with_here, with_else, owned_else, one_with_open}
 use Rattle.flash_rule.proofs.Frames.{counted, knowledge_kept, lists_stay}

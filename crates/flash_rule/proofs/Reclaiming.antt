@@ -1,28 +1,10 @@
 -- A change of one pin word by which a seat gets a block to drain or erase, or is done with it: what the six steps have in common.
-use Rattle.std.proofs.Common.{◌≡◌, ◌≢◌, ℕ, ◌*◌, ◌<◌, ◌≤◌, inl, true, false, List, [], Option, None, Some, set, sym, refl, ap, ◌∙◌, subst, arith}
-use mathlib.Core.Option.{some}
-use mathlib.Core.Logic.{dite}
-use native.Mathlib.Decide.{ℕ_discrete}
-use lib.ListN.{get_elem?}
-use Rattle.geometry.specs.History.{Begins}
-use Rattle.geometry.specs.Limits.{Numbers}
-use Rattle.geometry.proofs.Histories.{Begins-refl}
-use Rattle.geometry.specs.declared.map_word.MapWord.{MapWord}
-use Rattle.geometry.specs.declared.pin_word.PinWord.{PinWord}
-use Rattle.geometry.specs.declared.pin_word.Phase.TheVariants.{Free, Open}
-use Rattle.flash_rule.specs.declared.facts.Name.{Name}
-use Rattle.flash_rule.specs.declared.facts.Role.{Role}
-use Rattle.flash_rule.specs.declared.facts.Role.TheVariants.{Dealer, Player, Note, Gone}
-use Rattle.flash_rule.specs.declared.facts.Name.TheVariants.{Pass, Broom}
-use Rattle.flash_rule.specs.declared.facts.Owned.{Owned}
-use Rattle.flash_rule.specs.declared.facts.Source.{Source}
-use Rattle.flash_rule.specs.declared.facts.Cycle.{Cycle}
-use Rattle.flash_rule.specs.declared.view.View.{View}
-use Rattle.flash_rule.specs.Views.{is_pass, is_broom, is_player, is_live_role, may_own, pins_on, owned_at, without, with_owned}
-use Rattle.flash_rule.specs.World.{World, put, is_owned, is_nameable, is_still, age_of, IsBlank}
-use Rattle.flash_rule.specs.Ceded.{LawfulCeded}
-use Rattle.flash_rule.specs.Rule.{IsCurrent, Erases, ReclaimsOne, LawfulOwned, LawfulSource, LawfulKind, LawfulView, Lawful, IsDealt}
-use Rattle.flash_rule.specs.Onward.{PinOnward, Onward}
+use Rattle.flash_rule.proofs.Words.{◌≡◌, ◌≢◌, ℕ, ◌*◌, ◌<◌, ◌≤◌, inl, true, false, List, [], Option, None, Some, set, sym, refl, ap, ◌∙◌, subst, arith}
+use Rattle.flash_rule.proofs.Words.{some, dite, ℕ_discrete, get_elem?, Begins, Numbers, Begins-refl, MapWord, PinWord, Free, Open, Name, Role, Dealer}
+use Rattle.flash_rule.proofs.Words.{Player, Note, Gone, Pass, Broom, Owned, Source, Cycle, View, is_pass, is_broom, is_player, is_live_role, may_own}
+use Rattle.flash_rule.proofs.Words.{pins_on, owned_at, without, with_owned, World, put, is_owned, is_nameable, is_still, age_of, IsBlank, LawfulCeded}
+use Rattle.flash_rule.proofs.Words.{IsCurrent, Erases, ReclaimsOne, LawfulOwned, LawfulSource, LawfulKind, LawfulView, Lawful, IsDealt, PinOnward}
+use Rattle.flash_rule.proofs.Words.{Onward}
 use Rattle.flash_rule.proofs.Points.{put_here, put_else, total_set}
 use Rattle.flash_rule.proofs.Owning.{owns_none_else, some_same, none_some, with_here, without_here, owned_else}
 use Rattle.flash_rule.proofs.Frames.{counted, knowledge_kept}

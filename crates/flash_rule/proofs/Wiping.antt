@@ -1,23 +1,9 @@
 -- A broom sets the next word of its erasing block to all ones.
-use Rattle.std.proofs.Common.{◌≡◌, ◌≢◌, ℕ, zero, suc, ◌+◌, ◌-◌, ◌*◌, ◌<◌, ◌≤◌, inl, true, false, List, Some, set, sym, refl, ap, ◌∙◌, subst, arith, suc-mul}
+use Rattle.flash_rule.proofs.Words.{◌≡◌, ◌≢◌, ℕ, zero, suc, ◌+◌, ◌-◌, ◌*◌, ◌<◌, ◌≤◌, inl, true, false, List, Some, set, sym, refl, ap, ◌∙◌, subst}
+use Rattle.flash_rule.proofs.Words.{arith, suc-mul, some, dite, ℕ_discrete, dec_lt, get_elem?, Begins-refl, Numbers, page_index, Open, Victim, Erasing}
+use Rattle.flash_rule.proofs.Words.{Name, Player, Owned, View, is_player, owned_at, World, put_word, is_intact, is_nameable, is_reclaimed, is_still}
+use Rattle.flash_rule.proofs.Words.{blank_word, LawfulOwned, LawfulView, Lawful, Onward, IsErasing, wiper}
 use Rattle.std.proofs.Math.Nat.{add-mul}
-use mathlib.Core.Option.{some}
-use mathlib.Core.Logic.{dite}
-use native.Mathlib.Decide.{ℕ_discrete, dec_lt}
-use lib.ListN.{get_elem?}
-use Rattle.geometry.proofs.Histories.{Begins-refl}
-use Rattle.geometry.specs.Limits.{Numbers}
-use Rattle.geometry.specs.TableOrder.{page_index}
-use Rattle.geometry.specs.declared.pin_word.Phase.TheVariants.{Open, Victim, Erasing}
-use Rattle.flash_rule.specs.declared.facts.Name.{Name}
-use Rattle.flash_rule.specs.declared.facts.Role.TheVariants.{Player}
-use Rattle.flash_rule.specs.declared.facts.Owned.{Owned}
-use Rattle.flash_rule.specs.declared.view.View.{View}
-use Rattle.flash_rule.specs.Views.{is_player, owned_at}
-use Rattle.flash_rule.specs.World.{World, put_word, is_intact, is_nameable, is_reclaimed, is_still, blank_word}
-use Rattle.flash_rule.specs.Rule.{LawfulOwned, LawfulView, Lawful}
-use Rattle.flash_rule.specs.Onward.{Onward}
-use Rattle.flash_rule.specs.BroomPlays.{IsErasing, wiper}
 use Rattle.flash_rule.proofs.Owning.{some_same}
 use Rattle.flash_rule.proofs.Frames.{counted, knowledge_kept, lists_stay}
 use Rattle.flash_rule.proofs.Places.{row_same}
