@@ -1,25 +1,9 @@
 -- The rule after a step, from what the step does to its own seat, to the sectors and to the blocks.
-use Rattle.std.proofs.Common.{◌≡◌, ◌≢◌, ℕ, zero, suc, ◌-◌, ◌<◌, ◌≤◌, ⊎_elim, Bool, true, false, List, [], ◌∷◌, Some, set, sym, refl, ap, ◌∙◌, subst, arith}
-use mathlib.Core.Option.{some, some-injective, some-ne-none}
-use mathlib.Core.Logic.{dite}
-use native.Mathlib.Decide.{ℕ_discrete}
-use lib.ListN.{get_elem?}
-use Rattle.atomic_table.proofs.Lists.{at_set, set_else}
-use Rattle.geometry.specs.History.{held}
-use Rattle.geometry.specs.Limits.{Numbers}
-use Rattle.geometry.specs.PinWords.{FitsPin}
-use Rattle.geometry.specs.declared.map_word.MapWord.{MapWord}
-use Rattle.flash_rule.specs.declared.facts.Owned.{Owned}
-use Rattle.flash_rule.specs.declared.facts.Name.TheVariants.{Pass, Broom}
-use Rattle.flash_rule.specs.declared.facts.Role.{Role}
-use Rattle.flash_rule.specs.declared.facts.Role.TheVariants.{Dealer, Player, Note, Gone}
-use Rattle.flash_rule.specs.declared.facts.Pin.TheVariants.{Clear}
-use Rattle.flash_rule.specs.declared.view.View.{View}
-use Rattle.flash_rule.specs.Views.{one_if, total, is_pass, pin_is_on, pins_on, weight, role_weight, owned_at, AreOfHosts, calls_of}
-use Rattle.flash_rule.specs.World.{World, is_owned, is_nameable, is_still}
-use Rattle.flash_rule.specs.Ceded.{LawfulCeded}
-use Rattle.flash_rule.specs.Rule.{IsCurrent, LawfulSector, LawfulBlock, LawfulKind, LawfulView, Lawful}
-use Rattle.flash_rule.specs.Onward.{Onward}
+use Rattle.flash_rule.proofs.Words.{◌≡◌, ◌≢◌, ℕ, zero, suc, ◌-◌, ◌<◌, ◌≤◌, ⊎_elim, Bool, true, false, List, [], ◌∷◌, Some, set, sym, refl, ap, ◌∙◌}
+use Rattle.flash_rule.proofs.Words.{subst, arith, some, some-injective, some-ne-none, dite, ℕ_discrete, get_elem?, at_set, set_else, held, Numbers}
+use Rattle.flash_rule.proofs.Words.{FitsPin, MapWord, Owned, Pass, Broom, Role, Dealer, Player, Note, Gone, Clear, View, one_if, total, is_pass}
+use Rattle.flash_rule.proofs.Words.{pin_is_on, pins_on, weight, role_weight, owned_at, AreOfHosts, calls_of, World, is_owned, is_nameable, is_still}
+use Rattle.flash_rule.proofs.Words.{LawfulCeded, IsCurrent, LawfulSector, LawfulBlock, LawfulKind, LawfulView, Lawful, Onward}
 use Rattle.flash_rule.proofs.Points.{total_set}
 use Rattle.flash_rule.proofs.Frames.{others}
 

@@ -1,25 +1,9 @@
 -- Each kind of step that a broom makes on map words and page words, as the table asks for it: whatever the table is, the step keeps the rule and tells what it says.
-use Rattle.std.proofs.Common.{◌≡◌, ℕ, ◌+◌, ◌*◌, ◌<◌, ◌≤◌, ◌==◌, eq-eqb, ne_eqb, true, Some, set, sym, refl, ap, ◌∙◌, subst, arith}
-use Rattle.std.proofs.Math.ListN.{get_or}
-use mathlib.Core.Option.{none}
-use mathlib.Core.Logic.{dite}
-use native.Mathlib.Decide.{ℕ_discrete}
-use prog.Atomic.{either}
-use Rattle.atomic_table.specs.Table.{Act, Valid, step, keeps, stepped, carried_after, Allows}
-use Rattle.atomic_table.proofs.Lists.{set_again}
-use Rattle.geometry.specs.Limits.{Numbers}
-use Rattle.geometry.specs.MapWords.{map_word}
-use Rattle.geometry.specs.TableOrder.{page_index}
-use Rattle.geometry.specs.declared.map_word.MapWord.{MapWord}
-use Rattle.flash_rule.specs.declared.facts.Owned.{Owned}
-use Rattle.flash_rule.specs.declared.facts.Source.{Source}
-use Rattle.flash_rule.specs.declared.view.View.{View}
-use Rattle.flash_rule.specs.Views.{is_player, owned_at}
-use Rattle.flash_rule.specs.World.{World, Fits, sector_word, blank_word}
-use Rattle.flash_rule.specs.Rule.{Lawful}
-use Rattle.flash_rule.specs.Seats.{Ruled}
-use Rattle.flash_rule.specs.Plays.{Sitter}
-use Rattle.flash_rule.specs.BroomPlays.{Named, CanGetStamp, GotStamp, CanMove, Moved, CanWipe, wiper, broom_look_told, stamp_told, source_told, move_told, wipe_told}
+use Rattle.flash_rule.proofs.Words.{◌≡◌, ℕ, ◌+◌, ◌*◌, ◌<◌, ◌≤◌, ◌==◌, eq-eqb, ne_eqb, true, Some, set, sym, refl, ap, ◌∙◌, subst, arith, get_or, none}
+use Rattle.flash_rule.proofs.Words.{dite, ℕ_discrete, either, Act, Valid, step, keeps, stepped, carried_after, Allows, set_again, Numbers, map_word}
+use Rattle.flash_rule.proofs.Words.{page_index, MapWord, Owned, Source, View, is_player, owned_at, World, Fits, sector_word, blank_word, Lawful, Ruled}
+use Rattle.flash_rule.proofs.Words.{Sitter, Named, CanGetStamp, GotStamp, CanMove, Moved, wiper}
+use Rattle.flash_rule.specs.BroomPlays.{CanWipe, broom_look_told, stamp_told, source_told, move_told, wipe_told}
 use Rattle.flash_rule.proofs.Owning.{some_same}
 use Rattle.flash_rule.proofs.Places.{fits_load, fits_map, fits_page, page_within, page_same}
 use Rattle.flash_rule.proofs.OwnSteps.{player_of}

@@ -1,33 +1,16 @@
 -- What a broom finds out of its victim's pages: looks, stamps and the words of a source.
-use Rattle.std.proofs.Common.{◌≡◌, ℕ, ◌+◌, ◌<◌, ◌≤◌, ◌⊎◌, inl, inr, ⊎_elim, true, false, List, [], ◌∷◌, ◌++◌, Option, None, Some, set, sym, refl, ap, ◌∙◌, subst, arith}
-use mathlib.Core.Option.{some}
-use mathlib.Core.Logic.{dite}
-use native.Mathlib.Decide.{ℕ_discrete, dec_lt}
-use lib.ListN.{get_elem?}
-use Rattle.geometry.specs.History.{Call, Begins, held}
-use Rattle.geometry.proofs.Histories.{Begins-refl}
-use Rattle.geometry.specs.Limits.{Numbers}
-use Rattle.geometry.specs.MapWords.{map_word, FitsMap}
-use Rattle.geometry.proofs.PinBits.{map_same}
-use Rattle.geometry.specs.declared.map_word.MapWord.{MapWord}
-use Rattle.geometry.specs.declared.pin_word.Phase.TheVariants.{Victim}
-use Rattle.flash_rule.specs.declared.facts.Name.{Name}
-use Rattle.flash_rule.specs.declared.facts.Name.TheVariants.{Pass}
-use Rattle.flash_rule.specs.declared.facts.Role.TheVariants.{Player}
-use Rattle.flash_rule.specs.declared.facts.Owned.{Owned}
-use Rattle.flash_rule.specs.declared.facts.Work.{Work}
-use Rattle.flash_rule.specs.declared.facts.Source.{Source}
-use Rattle.flash_rule.specs.declared.carried.Carried.{Carried}
-use Rattle.flash_rule.specs.declared.view.View.{View}
-use Rattle.flash_rule.specs.Views.{is_player, is_live_role, owned_at, AreOfHosts, calls_of}
-use Rattle.flash_rule.specs.World.{World, is_reclaimed, sector_word, data_word, HoldsValue}
-use Rattle.flash_rule.specs.Rule.{IsValue, IsCurrent, ReclaimsOne, LawfulOwned, LawfulSource, Lawful}
-use Rattle.flash_rule.specs.Plays.{Met}
-use Rattle.flash_rule.specs.BroomPlays.{Named, CanGetStamp, GotStamp, victim_page}
+use Rattle.flash_rule.proofs.Words.{◌≡◌, ℕ, ◌+◌, ◌<◌, ◌≤◌, ◌⊎◌, inl, inr, ⊎_elim, true, false, List, [], ◌∷◌, ◌++◌, Option, None, Some, set, sym, refl}
+use Rattle.flash_rule.proofs.Words.{ap, ◌∙◌, subst, arith, some, dite, ℕ_discrete, dec_lt, get_elem?, Call, Begins, held, Begins-refl, Numbers}
+use Rattle.flash_rule.proofs.Words.{map_word, FitsMap, map_same, MapWord, Victim, Name, Pass, Player, Owned, Work, Source, Carried, View, is_player}
+use Rattle.flash_rule.proofs.Words.{is_live_role, owned_at, AreOfHosts, calls_of, World, is_reclaimed, sector_word, data_word, IsValue, IsCurrent}
+use Rattle.flash_rule.proofs.Words.{ReclaimsOne, LawfulOwned, LawfulSource, Lawful, Met, Named, CanGetStamp, GotStamp}
+use Rattle.flash_rule.specs.World.{HoldsValue}
+use Rattle.flash_rule.specs.BroomPlays.{victim_page}
 use Rattle.flash_rule.proofs.Owning.{some_same, none_some}
 use Rattle.flash_rule.proofs.Still.{still, met_now, map_fits}
 use Rattle.flash_rule.proofs.MapSteps.{word_empty, word_named}
 use Rattle.flash_rule.proofs.Values.{value_same}
+use Rattle.flash_rule.proofs.Keeping.{holding_with, kind_with, owned_with}
 
 some_or_none : {X : Type 0} (x : Option X) → (x ≡ None) ⊎ ((y : X) × (x ≡ Some y))
 some_or_none None = inl refl
@@ -39,23 +22,14 @@ pub clears : (z : Numbers) (g : World) (id : ℕ) (doing : Option Work) (cleared
     → ((s : ℕ) → s < z.sectors → ¬ (g.map s ≡ Some (record { generation = victim.generation; block = c; page = cleared })))
     → (b : ℕ) (o : Owned) → owned_at b owns ≡ Some o → LawfulOwned z g id doing cleared wiped b o → LawfulOwned z g id doing (cleared + 1) wiped b o
 clears z g id doing cleared wiped owns c victim one its phase unnamed b o is h =
-    record {
-      block = h.block;
-      low = h.low;
-      owner = h.owner;
-      owned = h.owned;
-      phase = h.phase;
-      generation = h.generation;
-      written = h.written;
-      rest = h.rest;
-      dead = λ reclaimed p s below low named.
-          let same : b ≡ c = one b c o victim is its (ap is_reclaimed reclaimed) (ap is_reclaimed phase) in
-          let entry : o ≡ victim = some_same o victim (sym is ∙ (ap (λ j. owned_at j owns) same ∙ its)) in
-          dite (ℕ_discrete p cleared)
-          (λ last. unnamed s low (named ∙ λ i. Some (record { generation = (entry i).generation; block = same i; page = last i })))
-          (λ other. h.dead reclaimed p s (omega arith) low named);
-      clean = h.clean;
-    }
+    owned_with h refl refl h.rest
+    (λ reclaimed p s below low named.
+    let same : b ≡ c = one b c o victim is its (ap is_reclaimed reclaimed) (ap is_reclaimed phase) in
+    let entry : o ≡ victim = some_same o victim (sym is ∙ (ap (λ j. owned_at j owns) same ∙ its)) in
+    dite (ℕ_discrete p cleared)
+    (λ last. unnamed s low (named ∙ λ i. Some (record { generation = (entry i).generation; block = same i; page = last i })))
+    (λ other. h.dead reclaimed p s (omega arith) low named))
+    h.clean
 
 module _ (z : Numbers) (g : World) (vs : List View) (id : ℕ) (v : View) (n : Name) (law : Lawful z g vs) (at : get_elem? vs id ≡ some v) (role : v.role ≡ Player n) where
   pub numbers_same : v.numbers ≡ z
@@ -78,30 +52,11 @@ module _ (z : Numbers) (g : World) (vs : List View) (id : ℕ) (v : View) (n : N
       let holds = h.holding in
       still z g vs id v (seer seen named source cleared moves) law at
       (record {
-        kind = record {
-          numbers = kind.numbers;
-          host = kind.host;
-          known = kind.known;
-          opens = kind.opens;
-          unpinned = kind.unpinned;
-          idle = λ is. let no : true ≡ false = sym (ap is_player role) ∙ is in absurd (cc);
-          owns_none = kind.owns_none;
-          reclaims = kind.reclaims;
-        };
+        kind = kind_with kind refl kind.opens
+            (λ is. let no : true ≡ false = sym (ap is_player role) ∙ is in absurd (cc))
+            kind.owns_none kind.reclaims;
         knowledge = record { seen = begins; pin = knows.pin; known = knows.known; programs = knows.programs; erases = knows.erases; copy = knows.copy; older = knows.older; out = knows.out };
-        holding = record {
-          name = holds.name;
-          calls = λ t is. ((holds.calls t is).0, own_calls t is);
-          lists = holds.lists;
-          owned = owned;
-          work = holds.work;
-          source = lawful;
-          whole = holds.whole;
-          guest = holds.guest;
-          note = holds.note;
-          home = holds.home;
-          dealer = holds.dealer;
-        };
+        holding = holding_with holds refl refl (λ t is. ((holds.calls t is).0, own_calls t is)) holds.lists owned holds.work lawful;
       })
       (λ b. refl) refl refl refl refl refl
 

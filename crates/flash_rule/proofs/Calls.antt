@@ -1,22 +1,8 @@
 -- The calls that place, a trim, a write and a write of an empty sector, and the page that a write names.
-use Rattle.std.proofs.Common.{◌≡◌, ℕ, ◌<◌, ◌≤◌, inl, inr, List, Option, None, Some, set, sym, refl, ap, ◌∙◌, subst, arith}
-use Rattle.std.proofs.Math.ListN.{get_or}
-use mathlib.Core.Option.{some}
-use lib.ListN.{get_elem?}
-use Rattle.geometry.specs.History.{Call, Write, WriteNew, Trim, held}
+use Rattle.flash_rule.proofs.Words.{◌≡◌, ℕ, ◌<◌, ◌≤◌, inl, inr, List, Option, None, Some, set, sym, refl, ap, ◌∙◌, subst, arith, get_or, some}
+use Rattle.flash_rule.proofs.Words.{get_elem?, Call, Write, WriteNew, Trim, held, Numbers, MapWord, Open, Name, Pass, Player, Owned, View}
+use Rattle.flash_rule.proofs.Words.{is_live_role, owned_at, World, is_nameable, IsCurrent, Lawful, IsValue, CanPlace}
 use Rattle.geometry.proofs.Histories.{held_written, held_trimmed, held_new, after_refused, held_by_write, held_by_new, held_by_trim}
-use Rattle.geometry.specs.Limits.{Numbers}
-use Rattle.geometry.specs.declared.map_word.MapWord.{MapWord}
-use Rattle.geometry.specs.declared.pin_word.Phase.TheVariants.{Open}
-use Rattle.flash_rule.specs.declared.facts.Name.{Name}
-use Rattle.flash_rule.specs.declared.facts.Name.TheVariants.{Pass}
-use Rattle.flash_rule.specs.declared.facts.Role.TheVariants.{Player}
-use Rattle.flash_rule.specs.declared.facts.Owned.{Owned}
-use Rattle.flash_rule.specs.declared.view.View.{View}
-use Rattle.flash_rule.specs.Views.{is_live_role, owned_at}
-use Rattle.flash_rule.specs.World.{World, is_nameable}
-use Rattle.flash_rule.specs.Rule.{IsCurrent, Lawful, IsValue}
-use Rattle.flash_rule.specs.Plays.{CanPlace}
 use Rattle.flash_rule.proofs.Points.{put_here}
 use Rattle.flash_rule.proofs.Owning.{some_same, none_some}
 use Rattle.flash_rule.proofs.Assembly.{sector_kept}

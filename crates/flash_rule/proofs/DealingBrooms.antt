@@ -1,22 +1,10 @@
 -- The dealer hands out the next broom, with the first of the spares that it still owns.
-use Rattle.std.proofs.Common.{◌≡◌, ◌≢◌, ℕ, zero, suc, ◌+◌, ◌<◌, ◌≤◌, ◌⊎◌, inl, ne_eqb, true, false, [], ◌∷◌, ◌++◌, None, Some, length, set, sym, refl, ap, ◌∙◌, subst, arith, length-set}
-use mathlib.Core.Logic.{dite}
-use native.Mathlib.Decide.{ℕ_discrete}
-use lib.ListN.{get_elem?}
-use Rattle.atomic_table.specs.Table.{Splits}
-use Rattle.atomic_table.proofs.Lists.{at_longer, at_last}
-use Rattle.geometry.proofs.Histories.{Begins-refl}
-use Rattle.geometry.specs.Limits.{Numbers}
-use Rattle.flash_rule.specs.declared.facts.Name.{Name}
-use Rattle.flash_rule.specs.declared.facts.Name.TheVariants.{Pass, Broom}
-use Rattle.flash_rule.specs.declared.facts.Role.TheVariants.{Dealer, Player, Note}
-use Rattle.flash_rule.specs.declared.facts.Owned.{Owned}
-use Rattle.flash_rule.specs.declared.view.View.{View}
-use Rattle.flash_rule.specs.Views.{is_pass, is_player, is_live_role, weight, owned_at, without}
-use Rattle.flash_rule.specs.World.{World, put, put_name, is_owned}
-use Rattle.flash_rule.specs.Rule.{LawfulOwned, LawfulView, IsDealt, IsFilling}
-use Rattle.flash_rule.specs.Onward.{Onward}
-use Rattle.flash_rule.specs.Seats.{Ruled, spare, spares, next_spare, new_broom, dealt_broom}
+use Rattle.flash_rule.proofs.Words.{◌≡◌, ◌≢◌, ℕ, zero, suc, ◌+◌, ◌<◌, ◌≤◌, ◌⊎◌, inl, ne_eqb, true, false, [], ◌∷◌, ◌++◌, None, Some, length, set, sym}
+use Rattle.flash_rule.proofs.Words.{refl, ap, ◌∙◌, subst, arith, length-set, dite, ℕ_discrete, get_elem?, Splits, at_longer, Begins-refl, Numbers}
+use Rattle.flash_rule.proofs.Words.{Name, Pass, Broom, Dealer, Player, Note, Owned, View, is_pass, is_player, is_live_role, weight, owned_at, without}
+use Rattle.flash_rule.proofs.Words.{World, put, put_name, is_owned, LawfulOwned, LawfulView, IsDealt, IsFilling, Onward, Ruled, spare, spares}
+use Rattle.atomic_table.proofs.Lists.{at_last}
+use Rattle.flash_rule.specs.Seats.{next_spare, new_broom, dealt_broom}
 use Rattle.flash_rule.proofs.Points.{put_here, put_else, eq_self, name_here, name_else, name_all}
 use Rattle.flash_rule.proofs.Owning.{some_same, none_some, nothing, with_here, with_else, without_here, without_else, owned_else, one_with_open, one_without}
 use Rattle.flash_rule.proofs.Ceding.{ceded_split}
@@ -24,6 +12,7 @@ use Rattle.flash_rule.proofs.Frames.{counted, knowledge_kept, lists_stay}
 use Rattle.flash_rule.proofs.Assembly.{owner_kept}
 use Rattle.flash_rule.proofs.Still.{pin_stays}
 use Rattle.flash_rule.proofs.Splitting.{Owner, split_with, current_kept, player_same}
+use Rattle.flash_rule.proofs.Keeping.{kind_with, knowledge_as}
 
 -- the dealer's spares, one by one
 pub first_spare : (n from : ℕ) → owned_at from (spares (suc n) from) ≡ Some (spare from)
@@ -81,17 +70,10 @@ module _ (z : Numbers) (id : ℕ) (v : View) where
       let elsewhere : (c : ℕ) (o : Owned) → owned_at c (without b v.owns) ≡ Some o → c ≢ b = λ c o is same.
       absurd (none_some o (sym (without_here b v.owns) ∙ (ap (λ j. owned_at j (without b v.owns)) (sym same) ∙ is))) in
       let own : LawfulView z g' id (dealt_broom v) = record {
-        kind = record {
-          numbers = kind.numbers;
-          host = kind.host;
-          known = kind.known;
-          opens = λ is. let no : true ≡ false = sym is ∙ ap is_pass role in absurd (cc);
-          unpinned = kind.unpinned;
-          idle = kind.idle;
-          owns_none = λ is. ap (λ l. without b l) (kind.owns_none is);
-          reclaims = one_without b v.owns kind.reclaims;
-        };
-        knowledge = record { seen = knows.seen; pin = knows.pin; known = knows.known; programs = knows.programs; erases = knows.erases; copy = knows.copy; older = knows.older; out = knows.out };
+        kind = kind_with kind refl
+            (λ is. let no : true ≡ false = sym is ∙ ap is_pass role in absurd (cc))
+            kind.idle (λ is. ap (λ l. without b l) (kind.owns_none is)) (one_without b v.owns kind.reclaims);
+        knowledge = knowledge_as knows refl;
         holding = record {
           name = λ m is. absurd (not_player m is);
           calls = λ t is. absurd (not_player (Pass t) is);

@@ -1,20 +1,9 @@
 -- The eraser's steps on the pin word of its block: the wiped block gets free or is kept in its next generation, or it retires.
-use Rattle.std.proofs.Common.{◌≡◌, ◌≢◌, ℕ, ◌+◌, ◌*◌, ◌<◌, inl, inr, true, false, List, [], ◌∷◌, ◌++◌, Some, set, sym, refl, ap, ◌∙◌, subst, arith}
+use Rattle.flash_rule.proofs.Words.{◌≡◌, ◌≢◌, ℕ, ◌+◌, ◌*◌, ◌<◌, inl, inr, true, false, List, [], ◌∷◌, ◌++◌, Some, set, sym, refl, ap, ◌∙◌, subst}
+use Rattle.flash_rule.proofs.Words.{arith, some, get_elem?, Numbers, Begins-refl, PinWord, Free, Open, Victim, Erasing, Retired, Owned, Source, View}
+use Rattle.flash_rule.proofs.Words.{may_own, owned_at, without, with_owned, World, put, is_intact, is_nameable, half_cycle, IsBlank, rank, freed_as}
+use Rattle.flash_rule.proofs.Words.{LawfulOwned, LawfulSource, Lawful, IsErasing, CanRenew}
 use Rattle.std.proofs.lemmas.List.{append-nil}
-use mathlib.Core.Option.{some}
-use lib.ListN.{get_elem?}
-use Rattle.geometry.specs.Limits.{Numbers}
-use Rattle.geometry.proofs.Histories.{Begins-refl}
-use Rattle.geometry.specs.declared.pin_word.PinWord.{PinWord}
-use Rattle.geometry.specs.declared.pin_word.Phase.TheVariants.{Free, Open, Victim, Erasing, Retired}
-use Rattle.flash_rule.specs.declared.facts.Owned.{Owned}
-use Rattle.flash_rule.specs.declared.facts.Source.{Source}
-use Rattle.flash_rule.specs.declared.view.View.{View}
-use Rattle.flash_rule.specs.Views.{may_own, owned_at, without, with_owned}
-use Rattle.flash_rule.specs.World.{World, put, is_intact, is_nameable, half_cycle, IsBlank}
-use Rattle.flash_rule.specs.Ceded.{rank, freed_as}
-use Rattle.flash_rule.specs.Rule.{LawfulOwned, LawfulSource, Lawful}
-use Rattle.flash_rule.specs.BroomPlays.{IsErasing, CanRenew}
 use Rattle.flash_rule.proofs.Points.{put_here}
 use Rattle.flash_rule.proofs.Places.{row_within}
 use Rattle.flash_rule.proofs.Owning.{owns_none_else, may_own_else, some_same, with_here, with_else, without_else, one_with_open, one_without}

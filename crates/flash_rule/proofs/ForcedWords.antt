@@ -1,34 +1,14 @@
 -- For each step on a pin word: what its play fixes of the seat, and so the one operation that is allowed.
-use Rattle.std.proofs.Common.{◌≡◌, ℕ, ◌+◌, ◌%◌, ◌^◌, ◌-◌, ◌<◌, ⊎_elim, true, List, [], ◌∷◌, ◌++◌, Some, bit_or, sym, refl, ap, ◌∙◌, subst, arith}
-use Rattle.std.proofs.Math.ListN.{get_or}
-use prog.Atomic.{either}
-use mathlib.Core.Option.{some, none}
-use mathlib.Core.Logic.{dite}
-use native.Mathlib.Decide.{ℕ_discrete}
-use lib.ListN.{get_elem?}
-use Rattle.atomic_table.specs.Table.{State, step, Allows}
-use Rattle.geometry.specs.Limits.{Numbers}
-use Rattle.geometry.specs.PinWords.{pin_word, FitsPin, freed_added, kept_added}
-use Rattle.geometry.specs.TableOrder.{pin_index}
-use Rattle.geometry.specs.declared.map_word.MapWord.{MapWord}
-use Rattle.geometry.specs.declared.pin_word.PinWord.{PinWord}
-use Rattle.geometry.specs.declared.pin_word.Phase.{Phase}
-use Rattle.geometry.specs.declared.pin_word.Phase.TheVariants.{Free, Open}
-use Rattle.geometry.specs.declared.pin_word.TheConstants.{READER, PAGE_WRITTEN, NEXT_PHASE, TAKEN}
+use Rattle.flash_rule.proofs.Words.{◌≡◌, ℕ, ◌+◌, ◌%◌, ◌^◌, ◌-◌, ◌<◌, ⊎_elim, true, List, [], ◌∷◌, ◌++◌, Some, sym, refl, ap, ◌∙◌, subst, arith, get_or}
+use Rattle.flash_rule.proofs.Words.{either, some, none, dite, ℕ_discrete, get_elem?, State, step, Allows, Numbers, pin_word, FitsPin, freed_added}
+use Rattle.flash_rule.proofs.Words.{kept_added, pin_index, MapWord, PinWord, Phase, Free, Open, READER, PAGE_WRITTEN, NEXT_PHASE, TAKEN, Owned, Role}
+use Rattle.flash_rule.proofs.Words.{Dealer, Player, Note, Gone, Candidate, Work, View, is_pass, is_broom, is_player, owned_at, with_owned, is_intact}
+use Rattle.flash_rule.proofs.Words.{Intact, Lawful, Ruled, Sitter, IsOn, CanCount, CanClose, Took, Pinned, take_told, pin_told, unpin_told, count_told}
+use Rattle.flash_rule.proofs.Words.{close_told, CanClaim, CanDrain, CanCondemn, CanRenew, CanRetire, Claimed, Condemned, claim_told, drain_told}
+use Rattle.flash_rule.proofs.Words.{condemn_told, freed_told, kept_told, retired_told, SitsAt, Forces}
+use Rattle.std.proofs.Common.{bit_or}
 use Rattle.geometry.proofs.PinBits as bits
-use Rattle.flash_rule.specs.declared.facts.Owned.{Owned}
-use Rattle.flash_rule.specs.declared.facts.Role.{Role}
-use Rattle.flash_rule.specs.declared.facts.Role.TheVariants.{Dealer, Player, Note, Gone}
-use Rattle.flash_rule.specs.declared.facts.Pin.TheVariants.{Candidate}
-use Rattle.flash_rule.specs.declared.facts.Work.{Work}
-use Rattle.flash_rule.specs.declared.view.View.{View}
-use Rattle.flash_rule.specs.Views.{is_pass, is_broom, is_player, owned_at, with_owned}
-use Rattle.flash_rule.specs.World.{is_intact, Intact}
-use Rattle.flash_rule.specs.Rule.{Lawful}
-use Rattle.flash_rule.specs.Seats.{Ruled}
-use Rattle.flash_rule.specs.Plays.{Sitter, IsOn, CanCount, CanClose, Took, Pinned, take_told, pin_told, unpin_told, count_told, close_told}
-use Rattle.flash_rule.specs.BroomPlays.{CanClaim, CanDrain, CanCondemn, CanRenew, CanRetire, Claimed, Condemned, claim_told, drain_told, condemn_told, freed_told, kept_told, retired_told}
-use Rattle.flash_rule.specs.Forced.{SitsAt, Forces, plus, to_next_phase, TakeSets, PinAdds, UnpinTakesOff, CountAdds, CloseAdds, ClaimExchanges, DrainAdds, CondemnExchanges, FreeAdds, KeepAdds, RetireAdds}
+use Rattle.flash_rule.specs.Forced.{plus, to_next_phase, TakeSets, PinAdds, UnpinTakesOff, CountAdds, CloseAdds, ClaimExchanges, DrainAdds, CondemnExchanges, FreeAdds, KeepAdds, RetireAdds}
 use Rattle.flash_rule.proofs.OwnSteps.{worker, own_low}
 use Rattle.flash_rule.proofs.Reclaiming.{owner_numbers, broom_live}
 use Rattle.flash_rule.proofs.EraseSteps.{erasing_low}

@@ -1,27 +1,9 @@
 -- The states of all blocks follow from what the seats own, gave up and have pinned; so a step on a pin word can leave one word alone.
-use Rattle.std.proofs.Common.{◌≡◌, ◌≢◌, ℕ, zero, suc, ◌+◌, ◌<◌, ◌≤◌, ◌⊎◌, inl, inr, ⊎_elim, Bool, true, false, List, Some, length, set, slice_get, sym, refl, ap, ◌∙◌, subst, arith}
-use Rattle.std.proofs.Math.ListN.{get_or}
-use Rattle.std.proofs.lemmas.List.{get_or-set_same}
-use mathlib.Core.Option.{some}
-use lib.ListN.{get_elem?}
-use Rattle.atomic_table.specs.Table.{State, Allows}
-use Rattle.atomic_table.proofs.Lists.{at_set, set_else}
-use Rattle.geometry.specs.Limits.{Numbers}
-use Rattle.geometry.specs.PinWords.{pin_word}
-use Rattle.geometry.specs.TableOrder.{pin_index}
-use Rattle.geometry.specs.declared.pin_word.PinWord.{PinWord}
-use Rattle.geometry.specs.declared.pin_word.Phase.{Phase}
-use Rattle.geometry.specs.declared.pin_word.Phase.TheVariants.{Free, Open, Closed, Victim, Drained, Erasing, Retired}
-use Rattle.flash_rule.specs.declared.facts.Owned.{Owned}
-use Rattle.flash_rule.specs.declared.facts.Pin.{Pin}
-use Rattle.flash_rule.specs.declared.view.View.{View}
-use Rattle.flash_rule.specs.Views.{one_if, pin_is_on, pins_on, owned_at}
-use Rattle.flash_rule.specs.World.{World, is_owned}
-use Rattle.flash_rule.specs.Ceded.{rank, entry_of, IsReached, IsUnused, IsCededBy, IsCeded}
-use Rattle.flash_rule.specs.Rule.{Lawful}
-use Rattle.flash_rule.specs.Seats.{Ruled}
-use Rattle.flash_rule.specs.Plays.{Sitter}
-use Rattle.flash_rule.specs.Forced.{SitsAt, Forces}
+use Rattle.flash_rule.proofs.Words.{◌≡◌, ◌≢◌, ℕ, zero, suc, ◌+◌, ◌<◌, ◌≤◌, ◌⊎◌, inl, inr, ⊎_elim, Bool, true, false, List, Some, length, set}
+use Rattle.flash_rule.proofs.Words.{slice_get, sym, refl, ap, ◌∙◌, subst, arith, get_or, get_or-set_same, some, get_elem?, State, Allows, at_set}
+use Rattle.flash_rule.proofs.Words.{set_else, Numbers, pin_word, pin_index, PinWord, Phase, Free, Open, Closed, Victim, Drained, Erasing, Retired}
+use Rattle.flash_rule.proofs.Words.{Owned, Pin, View, one_if, pin_is_on, pins_on, owned_at, World, is_owned, rank, entry_of, IsReached, IsUnused}
+use Rattle.flash_rule.proofs.Words.{IsCededBy, IsCeded, Lawful, Ruled, Sitter, SitsAt, Forces}
 use Rattle.flash_rule.proofs.Points.{total_set}
 use Rattle.flash_rule.proofs.Places.{pin_within}
 use Rattle.flash_rule.proofs.Ceding.{view_set}

@@ -1,31 +1,15 @@
 -- What a step leaves to the seats that don't make it.
-use Rattle.std.proofs.Common.{◌≡◌, ℕ, ◌<◌, ◌≤◌, inl, inr, ⊎_elim, true, List, [], ◌∷◌, Some, zero, suc, sym, ap, ◌∙◌, subst, arith}
-use mathlib.Core.Option.{some, some-injective, some-ne-none}
-use mathlib.Core.Logic.{dite}
-use native.Mathlib.Decide.{ℕ_discrete}
-use lib.ListN.{get_elem?}
+use Rattle.flash_rule.proofs.Words.{◌≡◌, ℕ, ◌<◌, ◌≤◌, inl, inr, ⊎_elim, true, List, [], ◌∷◌, Some, zero, suc, sym, refl, ap, ◌∙◌, subst, arith, some}
+use Rattle.flash_rule.proofs.Words.{some-injective, some-ne-none, dite, ℕ_discrete, get_elem?, Begins, Numbers, MapWord, PinWord, Name, Pass, Role}
+use Rattle.flash_rule.proofs.Words.{Owned, Pin, Clear, Candidate, Accepted, Stray, Work, Source, Cycle, Carried, View, one_if, total, pin_is_on}
+use Rattle.flash_rule.proofs.Words.{pins_on, World, is_owned, IsProgrammed, Programs, Erases, IsCandidate, LawfulPin, LawfulCopy, Grown}
+use Rattle.flash_rule.proofs.Words.{LawfulKnowledge, LawfulOwned, LawfulWork, LawfulSource, LawfulHolding, LawfulView, Lawful, PinOnward, Untouched}
+use Rattle.flash_rule.proofs.Words.{ListsOnward, Onward}
 use Rattle.std.proofs.lemmas.List.{append-nil}
-use Rattle.geometry.specs.History.{Begins}
-use Rattle.geometry.specs.Limits.{Numbers}
 use Rattle.geometry.proofs.Histories.{Begins-trans}
-use Rattle.geometry.specs.declared.map_word.MapWord.{MapWord}
-use Rattle.geometry.specs.declared.pin_word.PinWord.{PinWord}
-use Rattle.flash_rule.specs.declared.facts.Name.{Name}
-use Rattle.flash_rule.specs.declared.facts.Name.TheVariants.{Pass}
-use Rattle.flash_rule.specs.declared.facts.Role.{Role}
-use Rattle.flash_rule.specs.declared.facts.Owned.{Owned}
-use Rattle.flash_rule.specs.declared.facts.Pin.{Pin}
-use Rattle.flash_rule.specs.declared.facts.Pin.TheVariants.{Clear, Candidate, Accepted, Stray}
-use Rattle.flash_rule.specs.declared.facts.Work.{Work}
-use Rattle.flash_rule.specs.declared.facts.Source.{Source}
-use Rattle.flash_rule.specs.declared.facts.Cycle.{Cycle}
-use Rattle.flash_rule.specs.declared.carried.Carried.{Carried}
-use Rattle.flash_rule.specs.declared.view.View.{View}
-use Rattle.flash_rule.specs.Views.{one_if, total, pin_is_on, pins_on}
-use Rattle.flash_rule.specs.World.{World, is_owned}
-use Rattle.flash_rule.specs.Rule.{IsProgrammed, Programs, Erases, IsAccepted, IsCandidate, LawfulPin, LawfulCopy, Grown, LawfulKnowledge, LawfulOwned, LawfulWork, LawfulSource, LawfulHolding, LawfulView, Lawful}
+use Rattle.flash_rule.specs.Rule.{IsAccepted}
 use Rattle.flash_rule.proofs.Points.{eq_self}
-use Rattle.flash_rule.specs.Onward.{PinOnward, Untouched, ListsOnward, Onward}
+use Rattle.flash_rule.proofs.Keeping.{source_with, work_with}
 
 pub programmed_onward : {p q : PinWord} (m : MapWord) → PinOnward p q → IsProgrammed p m → IsProgrammed q m
 programmed_onward {p} {q} m on (inl older) = let h = on.generation in inl (omega arith)
@@ -167,31 +151,12 @@ module _ (z : Numbers) (g g' : World) (id other : ℕ) (on : Onward z g g' id ot
     pub work_kept : (v : View) (w : Work) → LawfulHolding z g at v → LawfulWork z g v.owns w → LawfulWork z g' v.owns w
     work_kept v w held h =
         let same = untouched v w.page.block h.entry (held.owned w.page.block h.entry h.own) in
-        record {
-          entry = h.entry;
-          own = h.own;
-          opened = h.opened;
-          generation = h.generation;
-          page = h.page;
-          counted = h.counted;
-          short = h.short;
-          full = h.full;
-          stands = λ i low. same.pages w.page.page i ∙ h.stands i low;
-        }
+        work_with h h.own (λ i. same.pages w.page.page i)
 
     pub source_kept : (v : View) (x : Source) → LawfulHolding z g at v → LawfulSource z g v.owns v.cleared x → LawfulSource z g' v.owns v.cleared x
     source_kept v x held h =
         let same = untouched v x.page.block h.entry (held.owned x.page.block h.entry h.own) in
-        record {
-          entry = h.entry;
-          own = h.own;
-          victim = h.victim;
-          generation = h.generation;
-          page = h.page;
-          written = h.written;
-          stamp = same.pages x.page.page z.words ∙ h.stamp;
-          value = λ value is. let k = h.value value is in ((λ i low. same.pages x.page.page i ∙ k.0 i low), k.1);
-        }
+        source_with h h.own refl (λ j. same.pages x.page.page j)
 
     pub holding_kept : (v : View) → ¬ (at ≡ other) → LawfulHolding z g at v → LawfulHolding z g' at v
     holding_kept v apart' h =

@@ -1,12 +1,10 @@
 -- The calls of each host in a history that only grows: where no host has made a call in between, two histories are one.
-use Rattle.std.proofs.Common.{◌≡◌, ℕ, ◌<◌, eq-eqb, ne_eqb, List, [], ◌∷◌, ◌++◌, length, sym, refl, ap, ◌∙◌, subst, arith, append-nil, length-append}
+use Rattle.flash_rule.proofs.Words.{◌≡◌, ℕ, ◌<◌, eq-eqb, ne_eqb, List, [], ◌∷◌, ◌++◌, length, sym, refl, ap, ◌∙◌, subst, arith, length-append, All-nil}
+use Rattle.flash_rule.proofs.Words.{dite, ℕ_discrete, Call, Begins, caller, calls_of}
+use Rattle.std.proofs.Common.{append-nil}
 use Rattle.std.specs.Prelude.{All}
 use Rattle.std.proofs.lemmas.List.{append_cancel_left, nil_from_length}
-use Rattle.std.proofs.lemmas.List.Elements.{All-head, All-tail, All-nil, All-cons}
-use mathlib.Core.Logic.{dite}
-use native.Mathlib.Decide.{ℕ_discrete}
-use Rattle.geometry.specs.History.{Call, Begins}
-use Rattle.flash_rule.specs.Views.{caller, calls_of}
+use Rattle.std.proofs.lemmas.List.Elements.{All-head, All-tail, All-cons}
 
 -- a pass's calls in two parts of a history
 pub calls_of-append : (t : ℕ) (h k : List Call) → calls_of t (h ++ k) ≡ calls_of t h ++ calls_of t k

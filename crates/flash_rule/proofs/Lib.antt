@@ -1,6 +1,8 @@
+pub mod Words
 pub mod Points
 pub mod Values
 pub mod Owning
+pub mod Keeping
 pub mod Frames
 pub mod Places
 pub mod Assembly

@@ -1,28 +1,16 @@
 -- One map word changes, and the history with it: what a place does.
-use Rattle.std.proofs.Common.{◌≡◌, ◌≢◌, ℕ, ◌<◌, ◌⊎◌, inl, eq-eqb, ne_eqb, true, List, [], ◌∷◌, ◌++◌, Option, None, Some, set, sym, refl, ap, ◌∙◌, subst, arith}
+use Rattle.flash_rule.proofs.Words.{◌≡◌, ◌≢◌, ℕ, ◌<◌, ◌⊎◌, inl, eq-eqb, ne_eqb, true, List, [], ◌∷◌, ◌++◌, Option, None, Some, set, sym, refl, ap, ◌∙◌}
+use Rattle.flash_rule.proofs.Words.{subst, arith, some, dite, ℕ_discrete, get_elem?, Call, held, Begins-refl, Numbers, MapWord, Open, Victim, Pass}
+use Rattle.flash_rule.proofs.Words.{Dealer, Player, View, is_pass, AreOfHosts, calls_of, caller, World, put, sector_word, LawfulSector, LawfulView}
+use Rattle.flash_rule.proofs.Words.{Lawful, Onward, Placed}
 use Rattle.std.proofs.lemmas.List.Elements.{All-push}
-use mathlib.Core.Option.{some}
-use mathlib.Core.Logic.{dite}
-use native.Mathlib.Decide.{ℕ_discrete}
-use lib.ListN.{get_elem?}
-use Rattle.geometry.specs.History.{Call, held}
-use Rattle.geometry.proofs.Histories.{Begins-refl, Begins-push}
-use Rattle.geometry.specs.Limits.{Numbers}
-use Rattle.geometry.specs.declared.map_word.MapWord.{MapWord}
-use Rattle.geometry.specs.declared.pin_word.Phase.TheVariants.{Open, Victim}
-use Rattle.flash_rule.specs.declared.facts.Name.TheVariants.{Pass}
-use Rattle.flash_rule.specs.declared.facts.Role.TheVariants.{Dealer, Player}
-use Rattle.flash_rule.specs.declared.view.View.{View}
-use Rattle.flash_rule.specs.Views.{is_pass, AreOfHosts, calls_of, caller}
-use Rattle.flash_rule.specs.World.{World, put, sector_word}
-use Rattle.flash_rule.specs.Rule.{LawfulSector, LawfulView, Lawful}
-use Rattle.flash_rule.specs.Onward.{Onward}
-use Rattle.flash_rule.specs.Plays.{Placed}
+use Rattle.geometry.proofs.Histories.{Begins-push}
 use Rattle.flash_rule.proofs.Points.{put_else, put_all}
 use Rattle.flash_rule.proofs.Frames.{counted, knowledge_kept, lists_stay}
 use Rattle.flash_rule.proofs.Assembly.{assembled, block_kept, sector_kept}
 use Rattle.flash_rule.proofs.Ceding.{ceded_still}
 use Rattle.flash_rule.proofs.Still.{pin_stays, pass_numbers}
+use Rattle.flash_rule.proofs.Keeping.{kind_as, owned_with, work_with}
 
 calls_else : (t : ℕ) (h : List Call) (c : Call) → caller c ≢ t → calls_of t (h ++ c ∷ []) ≡ calls_of t h
 calls_else t [] c apart = rw (ne_eqb (caller c) t apart) refl
@@ -95,7 +83,7 @@ module _ (z : Numbers) (g : World) (vs : List View) (id : ℕ) (v : View) (t s :
       let calls : (u : ℕ) → v.role ≡ Player (Pass u) → calls_of u (g.history ++ c ∷ []) ≡ v.mine ++ c ∷ [] = λ u is.
       let same : t ≡ u = pass_same t u (sym role ∙ is) in calls_here u g.history c (by_me ∙ same) ∙ ap (λ l. l ++ c ∷ []) (holds.calls u is).0 in
       let after : LawfulView z g' id placer = record {
-        kind = record { numbers = kind.numbers; host = kind.host; known = kind.known; opens = kind.opens; unpinned = kind.unpinned; idle = kind.idle; owns_none = kind.owns_none; reclaims = kind.reclaims };
+        kind = kind_as kind refl refl (refl, refl, refl, refl);
         knowledge = record { seen = Begins-refl (g.history ++ c ∷ []); pin = knows.pin; known = knows.known; programs = knows.programs; erases = knows.erases; copy = knows.copy; older = knows.older; out = knows.out };
         holding = record {
           name = holds.name;
@@ -103,31 +91,12 @@ module _ (z : Numbers) (g : World) (vs : List View) (id : ℕ) (v : View) (t s :
           lists = holds.lists;
           owned = λ b o owns.
               let k = holds.owned b o owns in
-              record {
-                block = k.block;
-                low = k.low;
-                owner = k.owner;
-                owned = k.owned;
-                phase = k.phase;
-                generation = k.generation;
-                written = k.written;
-                rest = k.rest;
-                dead = λ victim. let e : Open ≡ Victim = sym (kind.opens is_a_pass b o owns) ∙ victim in absurd (cc);
-                clean = k.clean;
-              };
+              owned_with k refl refl k.rest
+              (λ victim. let e : Open ≡ Victim = sym (kind.opens is_a_pass b o owns) ∙ victim in absurd (cc))
+              k.clean;
           work = λ x is.
               let k = holds.work x is in
-              record {
-                entry = k.entry;
-                own = k.own;
-                opened = k.opened;
-                generation = k.generation;
-                page = k.page;
-                counted = k.counted;
-                short = k.short;
-                full = k.full;
-                stands = k.stands;
-              };
+              work_with k k.own (λ _. refl);
           source = λ x is.
               let k = holds.source x is in
               let e : Open ≡ Victim = sym (kind.opens is_a_pass x.page.block k.entry k.own) ∙ k.victim in absurd (cc);

@@ -1,26 +1,8 @@
 -- A broom exchanges a map word: from the page of its source to a copy of it.
-use Rattle.std.proofs.Common.{◌≡◌, ℕ, ◌+◌, ◌<◌, ◌⊎◌, inl, inr, true, false, List, None, Some, set, sym, refl, ap, ◌∙◌, subst, arith}
-use mathlib.Core.Option.{some}
-use mathlib.Core.Logic.{dite}
-use native.Mathlib.Decide.{ℕ_discrete}
-use lib.ListN.{get_elem?}
-use Rattle.geometry.specs.History.{held}
-use Rattle.geometry.proofs.Histories.{Begins-refl}
-use Rattle.geometry.specs.Limits.{Numbers}
-use Rattle.geometry.specs.MapWords.{map_word}
-use Rattle.geometry.specs.declared.map_word.MapWord.{MapWord}
-use Rattle.geometry.specs.declared.pin_word.Phase.{Phase}
-use Rattle.geometry.specs.declared.pin_word.Phase.TheVariants.{Open, Victim}
-use Rattle.flash_rule.specs.declared.facts.Name.{Name}
-use Rattle.flash_rule.specs.declared.facts.Role.TheVariants.{Player}
-use Rattle.flash_rule.specs.declared.facts.Owned.{Owned}
-use Rattle.flash_rule.specs.declared.facts.Source.{Source}
-use Rattle.flash_rule.specs.declared.view.View.{View}
-use Rattle.flash_rule.specs.Views.{is_player}
-use Rattle.flash_rule.specs.World.{World, put, sector_word}
-use Rattle.flash_rule.specs.Rule.{IsCurrent, LawfulSector, LawfulOwned, LawfulView, Lawful}
-use Rattle.flash_rule.specs.Onward.{Onward}
-use Rattle.flash_rule.specs.BroomPlays.{CanMove, Moved}
+use Rattle.flash_rule.proofs.Words.{◌≡◌, ℕ, ◌+◌, ◌<◌, ◌⊎◌, inl, inr, true, false, List, None, Some, set, sym, refl, ap, ◌∙◌, subst, arith, some, dite}
+use Rattle.flash_rule.proofs.Words.{ℕ_discrete, get_elem?, held, Begins-refl, Numbers, map_word, MapWord, Phase, Open, Victim, Name, Player, Owned}
+use Rattle.flash_rule.proofs.Words.{Source, View, is_player, World, put, sector_word, IsCurrent, LawfulSector, LawfulOwned, LawfulView, Lawful, Onward}
+use Rattle.flash_rule.proofs.Words.{CanMove, Moved}
 use Rattle.flash_rule.proofs.Points.{put_here, put_else, put_all}
 use Rattle.flash_rule.proofs.Owning.{some_same, none_some}
 use Rattle.flash_rule.proofs.Frames.{counted, knowledge_kept, lists_stay}
@@ -29,6 +11,7 @@ use Rattle.flash_rule.proofs.Ceding.{ceded_still}
 use Rattle.flash_rule.proofs.Still.{pin_stays, met_now}
 use Rattle.flash_rule.proofs.Calls.{filled}
 use Rattle.flash_rule.proofs.BroomSteps.{numbers_same, callers_now, clears, seer, sees, its, source_named, source_clears, source_value}
+use Rattle.flash_rule.proofs.Keeping.{holding_with, kind_with, owned_with, work_with}
 
 not_both : (f : Phase) → f ≡ Open → f ≡ Victim → ⊥
 not_both f opened victim = let e : Open ≡ Victim = sym opened ∙ victim in absurd (cc)
@@ -95,20 +78,11 @@ module _ (z : Numbers) (g : World) (vs : List View) (id : ℕ) (v : View) (n : N
 
     still_owned : (b : ℕ) (o : Owned) → LawfulOwned z g id v.work v.cleared v.wiped b o → LawfulOwned z exchanged_world id v.work v.cleared v.wiped b o
     still_owned b o h =
-        record {
-          block = h.block;
-          low = h.low;
-          owner = h.owner;
-          owned = h.owned;
-          phase = h.phase;
-          generation = h.generation;
-          written = h.written;
-          rest = h.rest;
-          dead = λ victim p s below s_low is. put_all g.map x.stamp (Some copy) (λ j y. j < z.sectors → y ≡ Some (record { generation = o.generation; block = b; page = p }) → ⊥)
-              (λ _ here. copy_open b (record { generation = o.generation; block = b; page = p }) (some_same copy (record { generation = o.generation; block = b; page = p }) here) refl (h.phase ∙ victim))
-              (λ j _ j_low there. h.dead victim p j below j_low there) s s_low is;
-          clean = h.clean;
-        }
+        owned_with h refl refl h.rest
+        (λ victim p s below s_low is. put_all g.map x.stamp (Some copy) (λ j y. j < z.sectors → y ≡ Some (record { generation = o.generation; block = b; page = p }) → ⊥)
+        (λ _ here. copy_open b (record { generation = o.generation; block = b; page = p }) (some_same copy (record { generation = o.generation; block = b; page = p }) here) refl (h.phase ∙ victim))
+        (λ j _ j_low there. h.dead victim p j below j_low there) s s_low is)
+        h.clean
 
     -- nothing names the source's page any more
     unnamed : (s : ℕ) → s < z.sectors → ¬ (exchanged_world.map s ≡ Some (record { generation = (its z g vs id v n law at role x can.is).entry.generation; block = x.page.block; page = v.cleared }))
@@ -127,32 +101,16 @@ module _ (z : Numbers) (g : World) (vs : List View) (id : ℕ) (v : View) (n : N
         let source = its z g vs id v n law at role x can.is in
         let knows = knowledge_kept z g exchanged_world id id move_onward v (λ b is below. counted vs law id v at b is below) h.knowledge in
         record {
-          kind = record {
-            numbers = kind.numbers;
-            host = kind.host;
-            known = kind.known;
-            opens = kind.opens;
-            unpinned = kind.unpinned;
-            idle = λ is. let no : true ≡ false = sym (ap is_player role) ∙ is in absurd (cc);
-            owns_none = kind.owns_none;
-            reclaims = kind.reclaims;
-          };
+          kind = kind_with kind refl kind.opens
+              (λ is. let no : true ≡ false = sym (ap is_player role) ∙ is in absurd (cc))
+              kind.owns_none kind.reclaims;
           knowledge = record { seen = Begins-refl g.history; pin = knows.pin; known = knows.known; programs = knows.programs; erases = knows.erases; copy = knows.copy; older = knows.older; out = knows.out };
-          holding = record {
-            name = holds.name;
-            calls = λ t is. let c = (holds.calls t is).0 in (c, c);
-            lists = holds.lists;
-            owned = λ b o own. clears z exchanged_world id v.work v.cleared v.wiped v.owns x.page.block source.entry kind.reclaims source.own source.victim unnamed b o own (still_owned b o (holds.owned b o own));
-            work = λ w is.
-                let k = holds.work w is in
-                record { entry = k.entry; own = k.own; opened = k.opened; generation = k.generation; page = k.page; counted = k.counted; short = k.short; full = k.full; stands = k.stands };
-            source = λ y none. absurd (none_some y none);
-            whole = holds.whole;
-            guest = holds.guest;
-            note = holds.note;
-            home = holds.home;
-            dealer = holds.dealer;
-          };
+          holding = holding_with holds refl refl (λ t is. let c = (holds.calls t is).0 in (c, c)) holds.lists
+              (λ b o own. clears z exchanged_world id v.work v.cleared v.wiped v.owns x.page.block source.entry kind.reclaims source.own source.victim unnamed b o own (still_owned b o (holds.owned b o own)))
+              (λ w is.
+              let k = holds.work w is in
+              work_with k k.own (λ _. refl))
+              (λ y none. absurd (none_some y none));
         }
 
     pub moves_page : Lawful z exchanged_world (set vs id (mover (v.moves + 1)))

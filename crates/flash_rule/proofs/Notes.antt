@@ -1,29 +1,11 @@
 -- The moves of notes: lend, take in, give back, come home.
-use Rattle.std.proofs.Common.{◌≡◌, ◌≢◌, ℕ, ◌⊎◌, inl, inr, ⊎_elim, Bool, true, false, List, [], Option, None, Some, length, set, sym, refl, ap, ◌∙◌, subst, arith}
-use mathlib.Core.Option.{some, some-injective}
-use mathlib.Core.Logic.{dite}
-use native.Mathlib.Decide.{ℕ_discrete}
-use lib.ListN.{get_elem?}
-use Rattle.atomic_table.specs.Table.{Splits, Joins}
-use Rattle.atomic_table.proofs.Lists.{at_set, set_else}
-use Rattle.geometry.proofs.Histories.{Begins-refl}
-use Rattle.geometry.specs.History.{Begins}
-use Rattle.geometry.specs.Limits.{Numbers}
-use Rattle.flash_rule.specs.declared.facts.Name.{Name}
-use Rattle.flash_rule.specs.declared.facts.Name.TheVariants.{Pass, Broom}
-use Rattle.flash_rule.specs.declared.facts.Role.{Role}
-use Rattle.flash_rule.specs.declared.facts.Role.TheVariants.{Dealer, Player, Note}
-use Rattle.flash_rule.specs.declared.facts.Owned.{Owned}
-use Rattle.flash_rule.specs.declared.facts.Pin.{Pin}
-use Rattle.flash_rule.specs.declared.facts.Pin.TheVariants.{Clear}
-use Rattle.flash_rule.specs.declared.carried.Carried.{Carried}
-use Rattle.flash_rule.specs.declared.view.View.{View}
-use Rattle.flash_rule.specs.Views.{one_if, is_pass, is_live_role, may_own, pin_is_on, pins_on, weight, role_weight, owned_at, same_name}
-use Rattle.std.specs.Prelude.{if◌then◌else◌}
-use Rattle.flash_rule.specs.World.{World, put_name}
-use Rattle.flash_rule.specs.Rule.{LawfulBlock, LawfulCopy, Grown, LawfulKnowledge, LawfulView, Lawful, IsDealt}
-use Rattle.flash_rule.specs.Onward.{Onward}
-use Rattle.flash_rule.specs.Seats.{Ruled, newcomer, name_of, carried, lender, lent_note, host_of, giver, given_note, home, gone}
+use Rattle.flash_rule.proofs.Words.{◌≡◌, ◌≢◌, ℕ, ◌⊎◌, inl, inr, ⊎_elim, Bool, true, false, List, [], Option, None, Some, length, set, sym, refl, ap}
+use Rattle.flash_rule.proofs.Words.{◌∙◌, subst, arith, some, some-injective, dite, ℕ_discrete, get_elem?, Splits, at_set, set_else, Begins-refl}
+use Rattle.flash_rule.proofs.Words.{Begins, Numbers, Name, Pass, Broom, Role, Dealer, Player, Note, Owned, Pin, Clear, Carried, View, one_if, is_pass}
+use Rattle.flash_rule.proofs.Words.{is_live_role, may_own, pin_is_on, pins_on, weight, role_weight, owned_at, same_name, if◌then◌else◌, World}
+use Rattle.flash_rule.proofs.Words.{put_name, LawfulBlock, LawfulCopy, Grown, LawfulKnowledge, LawfulView, Lawful, IsDealt, Onward, Ruled, gone}
+use Rattle.atomic_table.specs.Table.{Joins}
+use Rattle.flash_rule.specs.Seats.{newcomer, name_of, carried, lender, lent_note, host_of, giver, given_note, home}
 use Rattle.flash_rule.proofs.Points.{total_set, name_here, name_else, name_all}
 use Rattle.flash_rule.proofs.Owning.{some_same, none_some}
 use Rattle.flash_rule.proofs.Ceding.{ceded_split, ceded_gone}
@@ -31,6 +13,7 @@ use Rattle.flash_rule.proofs.Frames.{begins_same, lists_stay, counted, others, k
 use Rattle.flash_rule.proofs.Assembly.{owner_kept}
 use Rattle.flash_rule.proofs.Still.{pin_stays}
 use Rattle.flash_rule.proofs.Splitting.{split, current_kept, player_same}
+use Rattle.flash_rule.proofs.Keeping.{knowledge_as, owned_as, source_with, work_with}
 
 -- the table with one badge moved, and what it has with it
 abbrev pub badged : World → Name → ℕ → Option Carried → World
@@ -167,14 +150,14 @@ module _ (z : Numbers) (id : ℕ) (v : View) (n : Name) (role : v.role ≡ Playe
       let holds = h.holding in
       let own : LawfulView z g' id (lender v) = record {
         kind = record { numbers = kind.numbers; host = λ _ m _ is. absurd (none_some m (sym alone ∙ is)); known = kind.known; opens = kind.opens; unpinned = kind.unpinned; idle = kind.idle; owns_none = kind.owns_none; reclaims = kind.reclaims };
-        knowledge = record { seen = knows.seen; pin = knows.pin; known = knows.known; programs = knows.programs; erases = knows.erases; copy = knows.copy; older = knows.older; out = knows.out };
+        knowledge = knowledge_as knows refl;
         holding = record {
           name = λ m is. let k = holds.name m is in (k.0, as_dealt g n new (Some (carried v)) m k.1);
           calls = holds.calls;
           lists = holds.lists;
-          owned = λ b o is. let k = holds.owned b o is in record { block = k.block; low = k.low; owner = k.owner; owned = k.owned; phase = k.phase; generation = k.generation; written = k.written; rest = k.rest; dead = k.dead; clean = k.clean };
-          work = λ w is. let k = holds.work w is in record { entry = k.entry; own = k.own; opened = k.opened; generation = k.generation; page = k.page; counted = k.counted; short = k.short; full = k.full; stands = k.stands };
-          source = λ x is. let k = holds.source x is in record { entry = k.entry; own = k.own; victim = k.victim; generation = k.generation; page = k.page; written = k.written; stamp = k.stamp; value = k.value };
+          owned = λ b o is. let k = holds.owned b o is in owned_as k refl refl refl refl;
+          work = λ w is. let k = holds.work w is in work_with k k.own (λ _. refl);
+          source = λ x is. let k = holds.source x is in source_with k k.own refl (λ _. refl);
           whole = λ is. absurd (cc);
           guest = λ m is. absurd (none_some m (sym alone ∙ is));
           note = λ m is. let e : Player n ≡ Note = sym role ∙ is in absurd (cc);
@@ -212,14 +195,14 @@ module _ (z : Numbers) (id : ℕ) (v : View) (n : Name) (role : v.role ≡ Playe
       let holds = h.holding in
       let own : LawfulView z g' id (giver v) = record {
         kind = record { numbers = kind.numbers; host = λ _ k _ is. absurd (none_some k is); known = kind.known; opens = kind.opens; unpinned = kind.unpinned; idle = kind.idle; owns_none = kind.owns_none; reclaims = kind.reclaims };
-        knowledge = record { seen = knows.seen; pin = knows.pin; known = knows.known; programs = knows.programs; erases = knows.erases; copy = knows.copy; older = knows.older; out = knows.out };
+        knowledge = knowledge_as knows refl;
         holding = record {
           name = λ k is. let t = holds.name k is in (t.0, as_dealt g m new (Some (carried v)) k t.1);
           calls = holds.calls;
           lists = holds.lists;
-          owned = λ b o is. let k = holds.owned b o is in record { block = k.block; low = k.low; owner = k.owner; owned = k.owned; phase = k.phase; generation = k.generation; written = k.written; rest = k.rest; dead = k.dead; clean = k.clean };
-          work = λ w is. let k = holds.work w is in record { entry = k.entry; own = k.own; opened = k.opened; generation = k.generation; page = k.page; counted = k.counted; short = k.short; full = k.full; stands = k.stands };
-          source = λ x is. let k = holds.source x is in record { entry = k.entry; own = k.own; victim = k.victim; generation = k.generation; page = k.page; written = k.written; stamp = k.stamp; value = k.value };
+          owned = λ b o is. let k = holds.owned b o is in owned_as k refl refl refl refl;
+          work = λ w is. let k = holds.work w is in work_with k k.own (λ _. refl);
+          source = λ x is. let k = holds.source x is in source_with k k.own refl (λ _. refl);
           whole = λ is k role'. name_else g.badge m new k (λ same. apart (role' ∙ ap Player same)) ∙ holds.whole is k role';
           guest = λ k is. absurd (none_some k is);
           note = λ k is. let e : Player n ≡ Note = sym role ∙ is in absurd (cc);
@@ -362,9 +345,9 @@ module _ (z : Numbers) (id other : ℕ) (v w : View) (n m : Name) (c : Carried) 
           name = λ x is. let t = holds.name x is in (t.0, as_dealt g m id None x t.1);
           calls = holds.calls;
           lists = holds.lists;
-          owned = λ b o is. let k = holds.owned b o is in record { block = k.block; low = k.low; owner = k.owner; owned = k.owned; phase = k.phase; generation = k.generation; written = k.written; rest = k.rest; dead = k.dead; clean = k.clean };
-          work = λ x is. let k = holds.work x is in record { entry = k.entry; own = k.own; opened = k.opened; generation = k.generation; page = k.page; counted = k.counted; short = k.short; full = k.full; stands = k.stands };
-          source = λ x is. let k = holds.source x is in record { entry = k.entry; own = k.own; victim = k.victim; generation = k.generation; page = k.page; written = k.written; stamp = k.stamp; value = k.value };
+          owned = λ b o is. let k = holds.owned b o is in owned_as k refl refl refl refl;
+          work = λ x is. let k = holds.work x is in work_with k k.own (λ _. refl);
+          source = λ x is. let k = holds.source x is in source_with k k.own refl (λ _. refl);
           whole = λ is x role'. name_else g.badge m id x (λ same. names (player_same n x (sym role ∙ role') ∙ same)) ∙ holds.whole is x role';
           guest = λ x is.
               let same : m ≡ x = some_same m x (sym guest ∙ is) in
@@ -414,9 +397,9 @@ module _ (z : Numbers) (id other : ℕ) (v w : View) (n m : Name) (c : Carried) 
           name = λ x is. let t = holds.name x is in (t.0, as_dealt g m id None x t.1);
           calls = holds.calls;
           lists = holds.lists;
-          owned = λ b o is. let k = holds.owned b o is in record { block = k.block; low = k.low; owner = k.owner; owned = k.owned; phase = k.phase; generation = k.generation; written = k.written; rest = k.rest; dead = k.dead; clean = k.clean };
-          work = λ x is. let k = holds.work x is in record { entry = k.entry; own = k.own; opened = k.opened; generation = k.generation; page = k.page; counted = k.counted; short = k.short; full = k.full; stands = k.stands };
-          source = λ x is. let k = holds.source x is in record { entry = k.entry; own = k.own; victim = k.victim; generation = k.generation; page = k.page; written = k.written; stamp = k.stamp; value = k.value };
+          owned = λ b o is. let k = holds.owned b o is in owned_as k refl refl refl refl;
+          work = λ x is. let k = holds.work x is in work_with k k.own (λ _. refl);
+          source = λ x is. let k = holds.source x is in source_with k k.own refl (λ _. refl);
           whole = λ _ x role'.
               let same : m ≡ x = mine ∙ player_same n x (sym role ∙ role') in
               let P : Name → Type 0 = λ x. g'.badge x ≡ id in

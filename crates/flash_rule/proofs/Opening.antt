@@ -1,27 +1,15 @@
 -- The table at the start meets the rule.
-use Rattle.std.proofs.Common.{◌≡◌, ℕ, zero, suc, ◌*◌, ◌+◌, ◌-◌, ◌<◌, ◌≤◌, inl, eq-eqb, ne_eqb, true, false, List, [], ◌∷◌, ◌++◌, None, Some, length, replicate, slice_get, sym, refl, ap, ◌∙◌, subst, arith, length-append}
-use Rattle.std.proofs.lemmas.List.{length-replicate}
-use Rattle.std.proofs.lemmas.List.Elements.{All-nil}
-use Rattle.std.proofs.Math.ListN.{get_or}
-use Rattle.std.specs.Prelude.{if◌then◌else◌, nat_lt}
-use mathlib.Core.Option.{some, some-injective, some-ne-none}
-use mathlib.Core.Logic.{dite}
-use native.Mathlib.Decide.{ℕ_discrete, dec_lt}
-use lib.ListN.{get_elem?}
+use Rattle.flash_rule.proofs.Words.{◌≡◌, ℕ, zero, suc, ◌*◌, ◌+◌, ◌-◌, ◌<◌, ◌≤◌, inl, eq-eqb, ne_eqb, true, false, List, [], ◌∷◌, ◌++◌, None, Some}
+use Rattle.flash_rule.proofs.Words.{length, replicate, slice_get, sym, refl, ap, ◌∙◌, subst, arith, length-append, length-replicate, All-nil, get_or}
+use Rattle.flash_rule.proofs.Words.{if◌then◌else◌, some, some-injective, some-ne-none, dite, ℕ_discrete, dec_lt, get_elem?, Begins-refl, Numbers}
+use Rattle.flash_rule.proofs.Words.{pin_index, page_index, PinWord, Free, Open, Owned, View, owned_at, caller, World, Fits, is_owned, is_reclaimed}
+use Rattle.flash_rule.proofs.Words.{blank_word, IsCededBy, drained_of, LawfulCeded, LawfulBlock, LawfulOwned, LawfulView, Lawful, Ruled, spare, spares}
+use Rattle.std.specs.Prelude.{nat_lt}
 use Rattle.atomic_table.specs.Table.{opening}
-use Rattle.geometry.proofs.Histories.{Begins-refl, held_at_first}
-use Rattle.geometry.specs.Limits.{Numbers, IsWithinLimits}
+use Rattle.geometry.proofs.Histories.{held_at_first}
+use Rattle.geometry.specs.Limits.{IsWithinLimits}
 use Rattle.geometry.specs.PinWords.{phase_bits}
-use Rattle.geometry.specs.TableOrder.{pin_index, page_index}
-use Rattle.geometry.specs.declared.pin_word.PinWord.{PinWord}
-use Rattle.geometry.specs.declared.pin_word.Phase.TheVariants.{Free, Open}
-use Rattle.flash_rule.specs.declared.facts.Owned.{Owned}
-use Rattle.flash_rule.specs.declared.view.View.{View}
-use Rattle.flash_rule.specs.Views.{owned_at, caller}
-use Rattle.flash_rule.specs.World.{World, Fits, is_owned, is_reclaimed, blank_word}
-use Rattle.flash_rule.specs.Ceded.{IsCededBy, drained_of, LawfulCeded}
-use Rattle.flash_rule.specs.Rule.{LawfulBlock, LawfulOwned, LawfulView, Lawful}
-use Rattle.flash_rule.specs.Seats.{Ruled, spare, spares, dealer, opening_words}
+use Rattle.flash_rule.specs.Seats.{dealer, opening_words}
 use Rattle.flash_rule.proofs.Owning.{none_some, some_same, nothing}
 use Rattle.flash_rule.proofs.Places.{row_within}
 use Rattle.std.proofs.lemmas.Bool.Decides.{nat_tests}

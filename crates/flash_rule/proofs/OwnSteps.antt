@@ -1,33 +1,18 @@
 -- The owner's steps on the pin word of an open block: count and close.
-use Rattle.std.proofs.Common.{◌≡◌, ◌≢◌, ℕ, ◌+◌, ◌<◌, ◌≤◌, ◌⊎◌, inl, inr, ⊎_elim, true, false, List, [], ◌∷◌, ◌++◌, Option, None, Some, length, set, slice_get, sym, refl, ap, ◌∙◌, subst, arith}
+use Rattle.flash_rule.proofs.Words.{◌≡◌, ◌≢◌, ℕ, ◌+◌, ◌<◌, ◌≤◌, ◌⊎◌, inl, inr, ⊎_elim, true, false, List, [], ◌∷◌, ◌++◌, Option, None, Some, length}
+use Rattle.flash_rule.proofs.Words.{set, slice_get, sym, refl, ap, ◌∙◌, subst, arith, some, dite, ℕ_discrete, get_elem?, Begins, Numbers, Begins-refl}
+use Rattle.flash_rule.proofs.Words.{MapWord, PinWord, Free, Open, Closed, Victim, Owned, Name, Role, Dealer, Player, Note, Gone, Work, View, is_player}
+use Rattle.flash_rule.proofs.Words.{may_own, pins_on, owned_at, without, with_owned, World, put, put_name, is_owned, is_intact, is_still, half_cycle}
+use Rattle.flash_rule.proofs.Words.{rank, IsProgrammed, IsDealt, IsFilling, LawfulKind, LawfulOwned, LawfulWork, LawfulView, Lawful, ListsOnward}
+use Rattle.flash_rule.proofs.Words.{Onward, next_page}
 use Rattle.std.proofs.lemmas.List.{append-nil}
-use mathlib.Core.Option.{some}
-use mathlib.Core.Logic.{dite}
-use native.Mathlib.Decide.{ℕ_discrete}
-use lib.ListN.{get_elem?}
-use Rattle.geometry.specs.History.{Begins}
-use Rattle.geometry.specs.Limits.{Numbers}
-use Rattle.geometry.proofs.Histories.{Begins-refl}
-use Rattle.geometry.specs.declared.map_word.MapWord.{MapWord}
-use Rattle.geometry.specs.declared.pin_word.PinWord.{PinWord}
-use Rattle.geometry.specs.declared.pin_word.Phase.TheVariants.{Free, Open, Closed, Victim}
-use Rattle.flash_rule.specs.declared.facts.Owned.{Owned}
-use Rattle.flash_rule.specs.declared.facts.Name.{Name}
-use Rattle.flash_rule.specs.declared.facts.Role.{Role}
-use Rattle.flash_rule.specs.declared.facts.Role.TheVariants.{Dealer, Player, Note, Gone}
-use Rattle.flash_rule.specs.declared.facts.Work.{Work}
-use Rattle.flash_rule.specs.declared.view.View.{View}
-use Rattle.flash_rule.specs.Views.{is_player, may_own, pins_on, owned_at, without, with_owned}
-use Rattle.flash_rule.specs.World.{World, put, put_name, is_owned, is_intact, is_still, half_cycle}
-use Rattle.flash_rule.specs.Ceded.{rank}
-use Rattle.flash_rule.specs.Rule.{IsProgrammed, IsDealt, IsFilling, LawfulKind, LawfulOwned, LawfulWork, LawfulView, Lawful}
-use Rattle.flash_rule.specs.Onward.{ListsOnward, Onward}
-use Rattle.flash_rule.specs.Plays.{next_page, IsSettled}
+use Rattle.flash_rule.specs.Plays.{IsSettled}
 use Rattle.flash_rule.proofs.Points.{put_here, total_set, name_here, name_else, name_all}
 use Rattle.flash_rule.proofs.Owning.{owns_none_else, may_own_else, some_same, none_some, with_here, with_else, without_here, without_else, one_with_open, one_without, get_last, put3, put3_here, put3_else}
 use Rattle.flash_rule.proofs.Frames.{counted, knowledge_kept}
 use Rattle.flash_rule.proofs.Ceding.{ceded_owned, ceded_last}
 use Rattle.flash_rule.proofs.PinSteps.{Deeds, deeds, turned, moved, pin_turns, pin_moves, pin_turned_nameable, turned_else, seat_set}
+use Rattle.flash_rule.proofs.Keeping.{holding_with, kind_with, knowledge_as, source_with}
 
 -- a seat with work is a player's
 pub player_of : (r : Role) → is_player r ≡ true → (n : Name) × (r ≡ Player n)
@@ -143,18 +128,13 @@ module _ (z : Numbers) (g : World) (vs : List View) (id : ℕ) (v : View) (o : O
         let same_entry : (c : ℕ) (e : Owned) → c ≡ b → owned_at c (with_owned more v.owns) ≡ Some e → more ≡ e = λ c e same owns.
         some_same more e (sym (with_here more v.owns) ∙ (ap (λ j. owned_at j (with_owned more v.owns)) (sym same) ∙ owns)) in
         let mine_after : LawfulView z g' id counter = record {
-          kind = record {
-            numbers = kind.numbers;
-            host = kind.host;
-            known = kind.known;
-            opens = λ is c e owns. dite (ℕ_discrete c b)
-                (λ same. sym (ap (λ (x : Owned). x.phase) (same_entry c e same owns)) ∙ opened)
-                (λ unlike. kind.opens is c e (sym (with_else more c v.owns unlike) ∙ owns));
-            unpinned = kind.unpinned;
-            idle = λ is. let no : true ≡ false = sym (ap is_player role) ∙ is in absurd (cc);
-            owns_none = λ is. let no : true ≡ false = sym (ap may_own role) ∙ is in absurd (cc);
-            reclaims = one_with_open more v.owns opened kind.reclaims;
-          };
+          kind = kind_with kind refl
+              (λ is c e owns. dite (ℕ_discrete c b)
+              (λ same. sym (ap (λ (x : Owned). x.phase) (same_entry c e same owns)) ∙ opened)
+              (λ unlike. kind.opens is c e (sym (with_else more c v.owns unlike) ∙ owns)))
+              (λ is. let no : true ≡ false = sym (ap is_player role) ∙ is in absurd (cc))
+              (λ is. let no : true ≡ false = sym (ap may_own role) ∙ is in absurd (cc))
+              (one_with_open more v.owns opened kind.reclaims);
           knowledge = record {
             seen = knows.seen;
             pin = knows.pin;
@@ -180,53 +160,36 @@ module _ (z : Numbers) (g : World) (vs : List View) (id : ℕ) (v : View) (o : O
             older = knows.older;
             out = knows.out;
           };
-          holding = record {
-            name = holds.name;
-            calls = holds.calls;
-            lists = λ n' role'.
-                let same_name : n ≡ n' = player_same n n' (sym role ∙ role') in
-                let P : Name → Type 0 = λ k. (listed n k ≡ counter.programs) × (g.erases k ≡ v.erases) in
-                let its : P n = (name_here g.programs n (v.programs ++ x.page ∷ []), (holds.lists n role).1) in subst P same_name its;
-            owned = λ c e owns. dite (ℕ_discrete c b)
-                (λ same. let P : ℕ × Owned → Type 0 = λ x. LawfulOwned z g' id v.work v.cleared v.wiped x.0 x.1 in subst P (λ i. (sym same i, same_entry c e same owns i)) now)
-                (λ unlike. turned_else z g vs id v counter b q id (count_deeds n) law at v.work v.work v.cleared v.wiped c e unlike (λ p _ f. f) (holds.owned c e (sym (with_else more c v.owns unlike) ∙ owns)));
-            work = λ y is.
-                let k = holds.work x doing in
-                let same : x ≡ y = some_same x y (sym doing ∙ is) in
-                subst (λ (y : Work). LawfulWork z g' (with_owned more v.owns) y) same
-                (record {
-                  entry = more;
-                  own = ap (λ c. owned_at c (with_owned more v.owns)) page_block ∙ with_here more v.owns;
-                  opened = opened;
-                  generation = sym page_generation;
-                  page = k.page;
-                  counted = inl (omega arith);
-                  short = k.short;
-                  full = λ _. full;
-                  stands = k.stands;
-                });
-            source = λ y is.
-                let k = holds.source y is in
-                let unlike : y.page.block ≢ b = λ same.
-                let P : ℕ → Type 0 = λ c. owned_at c v.owns ≡ Some k.entry in
-                let e : o ≡ k.entry = some_same o k.entry (sym own ∙ subst P same k.own) in
-                let f : Open ≡ Victim = sym opened ∙ (ap (λ (x : Owned). x.phase) e ∙ k.victim) in absurd (cc) in
-                record {
-                  entry = k.entry;
-                  own = with_else more y.page.block v.owns unlike ∙ k.own;
-                  victim = k.victim;
-                  generation = k.generation;
-                  page = k.page;
-                  written = k.written;
-                  stamp = k.stamp;
-                  value = k.value;
-                };
-            whole = holds.whole;
-            guest = holds.guest;
-            note = holds.note;
-            home = holds.home;
-            dealer = holds.dealer;
-          };
+          holding = holding_with holds refl refl holds.calls
+              (λ n' role'.
+              let same_name : n ≡ n' = player_same n n' (sym role ∙ role') in
+              let P : Name → Type 0 = λ k. (listed n k ≡ counter.programs) × (g.erases k ≡ v.erases) in
+              let its : P n = (name_here g.programs n (v.programs ++ x.page ∷ []), (holds.lists n role).1) in subst P same_name its)
+              (λ c e owns. dite (ℕ_discrete c b)
+              (λ same. let P : ℕ × Owned → Type 0 = λ x. LawfulOwned z g' id v.work v.cleared v.wiped x.0 x.1 in subst P (λ i. (sym same i, same_entry c e same owns i)) now)
+              (λ unlike. turned_else z g vs id v counter b q id (count_deeds n) law at v.work v.work v.cleared v.wiped c e unlike (λ p _ f. f) (holds.owned c e (sym (with_else more c v.owns unlike) ∙ owns))))
+              (λ y is.
+              let k = holds.work x doing in
+              let same : x ≡ y = some_same x y (sym doing ∙ is) in
+              subst (λ (y : Work). LawfulWork z g' (with_owned more v.owns) y) same
+              (record {
+                entry = more;
+                own = ap (λ c. owned_at c (with_owned more v.owns)) page_block ∙ with_here more v.owns;
+                opened = opened;
+                generation = sym page_generation;
+                page = k.page;
+                counted = inl (omega arith);
+                short = k.short;
+                full = λ _. full;
+                stands = k.stands;
+              }))
+              (λ y is.
+              let k = holds.source y is in
+              let unlike : y.page.block ≢ b = λ same.
+              let P : ℕ → Type 0 = λ c. owned_at c v.owns ≡ Some k.entry in
+              let e : o ≡ k.entry = some_same o k.entry (sym own ∙ subst P same k.own) in
+              let f : Open ≡ Victim = sym opened ∙ (ap (λ (x : Owned). x.phase) e ∙ k.victim) in absurd (cc) in
+              source_with k (with_else more y.page.block v.owns unlike ∙ k.own) refl (λ _. refl));
         } in
         pin_turned_nameable z g vs id v counter b q id (count_deeds n) law at on mine_after
         (λ named. (refl, named, omega arith))
@@ -287,48 +250,24 @@ module _ (z : Numbers) (g : World) (vs : List View) (id : ℕ) (v : View) (o : O
       let s = settled f.work e f.is (subst P (sym f.block) owns) in
       let l = f.page in absurd (omega arith) in
       let after : LawfulView z g' id closer = record {
-        kind = record {
-          numbers = kind.numbers;
-          host = kind.host;
-          known = kind.known;
-          opens = λ is c e owns. kind.opens is c e (sym (without_else b c v.owns (elsewhere c e owns)) ∙ owns);
-          unpinned = kind.unpinned;
-          idle = λ is. let i = kind.idle is in (refl, i.1, i.2, i.3);
-          owns_none = λ is. ap (λ l. without b l) (kind.owns_none is);
-          reclaims = one_without b v.owns kind.reclaims;
-        };
-        knowledge = record { seen = knows.seen; pin = knows.pin; known = knows.known; programs = knows.programs; erases = knows.erases; copy = knows.copy; older = knows.older; out = knows.out };
-        holding = record {
-          name = holds.name;
-          calls = holds.calls;
-          lists = holds.lists;
-          owned = λ c e owns.
-              let unlike = elsewhere c e owns in
-              let was = sym (without_else b c v.owns unlike) ∙ owns in
-              turned_else z g vs id v closer b q id (deeds g) law at v.work None v.cleared v.wiped c e unlike (λ p from f. absurd (not_filling c p e was from f)) (holds.owned c e was);
-          work = λ y is. absurd (none_some y is);
-          source = λ y is.
-              let k = holds.source y is in
-              let unlike : y.page.block ≢ b = λ same.
-              let P : ℕ → Type 0 = λ c. owned_at c v.owns ≡ Some k.entry in
-              let e : o ≡ k.entry = some_same o k.entry (sym own ∙ subst P same k.own) in
-              let f : Open ≡ Victim = sym opened ∙ (ap (λ (x : Owned). x.phase) e ∙ k.victim) in absurd (cc) in
-              record {
-                entry = k.entry;
-                own = without_else b y.page.block v.owns unlike ∙ k.own;
-                victim = k.victim;
-                generation = k.generation;
-                page = k.page;
-                written = k.written;
-                stamp = k.stamp;
-                value = k.value;
-              };
-          whole = holds.whole;
-          guest = holds.guest;
-          note = holds.note;
-          home = holds.home;
-          dealer = holds.dealer;
-        };
+        kind = kind_with kind refl
+            (λ is c e owns. kind.opens is c e (sym (without_else b c v.owns (elsewhere c e owns)) ∙ owns))
+            (λ is. let i = kind.idle is in (refl, i.1, i.2, i.3)) (λ is. ap (λ l. without b l) (kind.owns_none is))
+            (one_without b v.owns kind.reclaims);
+        knowledge = knowledge_as knows refl;
+        holding = holding_with holds refl refl holds.calls holds.lists
+            (λ c e owns.
+            let unlike = elsewhere c e owns in
+            let was = sym (without_else b c v.owns unlike) ∙ owns in
+            turned_else z g vs id v closer b q id (deeds g) law at v.work None v.cleared v.wiped c e unlike (λ p from f. absurd (not_filling c p e was from f)) (holds.owned c e was))
+            (λ y is. absurd (none_some y is))
+            (λ y is.
+            let k = holds.source y is in
+            let unlike : y.page.block ≢ b = λ same.
+            let P : ℕ → Type 0 = λ c. owned_at c v.owns ≡ Some k.entry in
+            let e : o ≡ k.entry = some_same o k.entry (sym own ∙ subst P same k.own) in
+            let f : Open ≡ Victim = sym opened ∙ (ap (λ (x : Owned). x.phase) e ∙ k.victim) in absurd (cc) in
+            source_with k (without_else b y.page.block v.owns unlike ∙ k.own) refl (λ _. refl));
       } in
       pin_turned_nameable z g vs id v closer b q id (deeds g) law at on after
       (λ named. (refl, refl, omega arith))

@@ -1,18 +1,8 @@
 -- The blocks that a seat owns, one entry changed; and what an owned block keeps while another one changes.
-use Rattle.std.proofs.Common.{◌≡◌, ◌≢◌, ℕ, zero, suc, ◌≤◌, ◌⊎◌, inl, inr, ⊎_elim, eq-eqb, ne_eqb, true, false, List, [], ◌∷◌, ◌++◌, Option, None, Some, length, slice_get, sym, refl, ap, ◌∙◌}
-use mathlib.Core.Logic.{dite}
-use native.Mathlib.Decide.{ℕ_discrete}
-use Rattle.geometry.specs.Limits.{Numbers}
-use Rattle.geometry.specs.declared.map_word.MapWord.{MapWord}
-use Rattle.geometry.specs.declared.pin_word.PinWord.{PinWord}
-use Rattle.geometry.specs.declared.pin_word.Phase.TheVariants.{Open}
-use Rattle.flash_rule.specs.declared.facts.Owned.{Owned}
-use Rattle.flash_rule.specs.declared.facts.Role.{Role}
-use Rattle.flash_rule.specs.declared.facts.Role.TheVariants.{Dealer, Player, Note, Gone}
-use Rattle.flash_rule.specs.declared.facts.Work.{Work}
-use Rattle.flash_rule.specs.Views.{may_own, owned_at, without, with_owned}
-use Rattle.flash_rule.specs.World.{World, put, is_reclaimed}
-use Rattle.flash_rule.specs.Rule.{IsFilling, LawfulOwned, ReclaimsOne}
+use Rattle.flash_rule.proofs.Words.{◌≡◌, ◌≢◌, ℕ, zero, suc, ◌≤◌, ◌⊎◌, inl, inr, ⊎_elim, eq-eqb, ne_eqb, true, false, List, [], ◌∷◌, ◌++◌, Option, None}
+use Rattle.flash_rule.proofs.Words.{Some, length, slice_get, sym, refl, ap, ◌∙◌, dite, ℕ_discrete, Numbers, MapWord, PinWord, Open, Owned, Role}
+use Rattle.flash_rule.proofs.Words.{Dealer, Player, Note, Gone, Work, may_own, owned_at, without, with_owned, World, put, is_reclaimed, IsFilling}
+use Rattle.flash_rule.proofs.Words.{LawfulOwned, ReclaimsOne}
 use Rattle.flash_rule.proofs.Points.{eq_self}
 
 pub some_same : {X : Type 0} (x y : X) → Some x ≡ Some y → x ≡ y

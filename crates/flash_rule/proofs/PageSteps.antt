@@ -1,34 +1,17 @@
 -- Steps on page words: put and get.
-use Rattle.std.proofs.Common.{◌≡◌, ◌≢◌, ℕ, zero, suc, ◌*◌, ◌<◌, ◌≤◌, inl, inr, ⊎_elim, eq-eqb, ne_eqb, true, false, List, [], ◌∷◌, ◌++◌, Option, None, Some, length, set, sym, refl, ap, ◌∙◌, subst, arith, length-append}
-use Rattle.std.proofs.Math.ListN.{get_or}
-use mathlib.Core.Option.{some}
-use mathlib.Core.Logic.{dite}
-use native.Mathlib.Decide.{ℕ_discrete}
-use lib.ListN.{get_elem?}
-use Rattle.geometry.proofs.Histories.{Begins-refl}
-use Rattle.geometry.specs.Limits.{Numbers}
-use Rattle.geometry.specs.declared.map_word.MapWord.{MapWord}
-use Rattle.geometry.specs.declared.pin_word.Phase.TheVariants.{Open, Victim, Erasing}
-use Rattle.flash_rule.specs.declared.facts.Pin.{Pin}
-use Rattle.flash_rule.specs.declared.facts.Owned.{Owned}
-use Rattle.flash_rule.specs.declared.facts.Name.TheVariants.{Pass, Broom}
-use Rattle.flash_rule.specs.declared.facts.Role.{Role}
-use Rattle.flash_rule.specs.declared.facts.Role.TheVariants.{Dealer, Player, Note, Gone}
-use Rattle.flash_rule.specs.declared.facts.Pin.TheVariants.{Clear, Accepted}
-use Rattle.flash_rule.specs.declared.facts.Work.{Work}
-use Rattle.flash_rule.specs.declared.carried.Carried.{Carried}
-use Rattle.flash_rule.specs.declared.view.View.{View}
-use Rattle.flash_rule.specs.Views.{is_pass, is_player, owned_at}
-use Rattle.flash_rule.specs.World.{World, put_word, is_still, age_of, data_word}
-use Rattle.flash_rule.specs.Rule.{IsFilling, LawfulOwned, LawfulWork, LawfulView, Lawful, LawfulPin}
-use Rattle.flash_rule.specs.Onward.{Onward}
-use Rattle.flash_rule.specs.Plays.{next_page, words_in, SettledBut, Spared}
+use Rattle.flash_rule.proofs.Words.{◌≡◌, ◌≢◌, ℕ, zero, suc, ◌*◌, ◌<◌, ◌≤◌, inl, inr, ⊎_elim, eq-eqb, ne_eqb, true, false, List, [], ◌∷◌, ◌++◌, Option}
+use Rattle.flash_rule.proofs.Words.{None, Some, length, set, sym, refl, ap, ◌∙◌, subst, arith, length-append, get_or, some, dite, ℕ_discrete}
+use Rattle.flash_rule.proofs.Words.{get_elem?, Begins-refl, Numbers, MapWord, Open, Victim, Erasing, Pin, Owned, Pass, Broom, Role, Dealer, Player}
+use Rattle.flash_rule.proofs.Words.{Note, Gone, Clear, Accepted, Work, Carried, View, is_pass, is_player, owned_at, World, put_word, is_still, age_of}
+use Rattle.flash_rule.proofs.Words.{data_word, IsFilling, LawfulOwned, LawfulWork, LawfulView, Lawful, LawfulPin, Onward, next_page, words_in}
+use Rattle.flash_rule.specs.Plays.{SettledBut, Spared}
 use Rattle.flash_rule.proofs.Points.{eq_self}
 use Rattle.flash_rule.proofs.Owning.{some_same}
 use Rattle.flash_rule.proofs.Frames.{counted, knowledge_kept, lists_stay}
 use Rattle.flash_rule.proofs.Assembly.{assembled, block_kept, sector_kept}
 use Rattle.flash_rule.proofs.Ceding.{ceded_still}
 use Rattle.flash_rule.proofs.Still.{pin_stays, pass_of, intact_age, met, programs_once}
+use Rattle.flash_rule.proofs.Keeping.{holding_with, kind_with, knowledge_as, owned_with, source_with}
 
 pub word_here : (f : ℕ → ℕ → ℕ → ℕ) (b p i x : ℕ) → put_word f b p i x b p i ≡ x
 word_here f b p i x = rw (eq_self b) (rw (eq_self p) (rw (eq_self i) refl))
@@ -127,97 +110,56 @@ module _ (z : Numbers) (g : World) (vs : List View) (id : ℕ) (v : View) (o : O
       let e : k.entry.written ≡ o.written = ap (λ (y : Owned). y.written) same in
       let l = f.page in
       ⊎_elim (λ (t : f.work.page.page < k.entry.written). absurd (omega arith)) (λ (t : f.work.page.page ≡ k.entry.written). absurd (later (omega arith))) k.counted in
-      let now : LawfulOwned z g' id (Some put_work) v.cleared v.wiped b o = record {
-        block = mine.block;
-        low = mine.low;
-        owner = mine.owner;
-        owned = mine.owned;
-        phase = mine.phase;
-        generation = mine.generation;
-        written = mine.written;
-        rest = λ is q from below not.
-            let later : q ≢ p = λ same. not (record { work = put_work; is = refl; block = refl; page = sym same }) in
-            λ j most. else_page b q j later ∙ mine.rest is q from below (λ f. not_filling_later q from later f) j most;
-        dead = mine.dead;
-        clean = λ is. let e : Open ≡ Erasing = sym opened ∙ is in absurd (cc);
-      } in
+      let now : LawfulOwned z g' id (Some put_work) v.cleared v.wiped b o = owned_with mine refl refl
+      (λ is q from below not.
+      let later : q ≢ p = λ same. not (record { work = put_work; is = refl; block = refl; page = sym same }) in
+      λ j most. else_page b q j later ∙ mine.rest is q from below (λ f. not_filling_later q from later f) j most)
+      mine.dead
+      (λ is. let e : Open ≡ Erasing = sym opened ∙ is in absurd (cc)) in
       let after : LawfulView z g' id putter = record {
-        kind = record {
-          numbers = kind.numbers;
-          host = kind.host;
-          known = kind.known;
-          opens = kind.opens;
-          unpinned = kind.unpinned;
-          idle = λ is. let no : true ≡ false = sym player ∙ is in absurd (cc);
-          owns_none = kind.owns_none;
-          reclaims = kind.reclaims;
-        };
-        knowledge = record { seen = knows.seen; pin = knows.pin; known = knows.known; programs = knows.programs; erases = knows.erases; copy = knows.copy; older = knows.older; out = knows.out };
-        holding = record {
-          name = holds.name;
-          calls = holds.calls;
-          lists = holds.lists;
-          owned = λ c e owns. dite (ℕ_discrete c b)
-              (λ same.
-              let P : ℕ → Type 0 = λ c. owned_at c v.owns ≡ Some e in
-              let same_entry : o ≡ e = some_same o e (sym own ∙ subst P same owns) in
-              let Q : ℕ × Owned → Type 0 = λ y. LawfulOwned z g' id (Some put_work) v.cleared v.wiped y.0 y.1 in subst Q (λ t. (sym same t, same_entry t)) now)
-              (λ unlike.
-              let k = holds.owned c e owns in
-              record {
-                block = k.block;
-                low = k.low;
-                owner = k.owner;
-                owned = k.owned;
-                phase = k.phase;
-                generation = k.generation;
-                written = k.written;
-                rest = λ is q from below _ j most. else_block c q j unlike ∙ k.rest is q from below (λ f. not_filling c q e owns unlike from f) j most;
-                dead = k.dead;
-                clean = λ is q j low most below. else_block c q j unlike ∙ k.clean is q j low most below;
-              });
-          work = λ y is.
-              let same : put_work ≡ y = some_same put_work y is in
-              subst (λ (y : Work). LawfulWork z g' v.owns y) same
-              (record {
-                entry = o;
-                own = own;
-                opened = opened;
-                generation = refl;
-                page = room;
-                counted = inr refl;
-                short = (let l = length-append (words_in v.work o) (x ∷ []) in omega arith);
-                full = λ low. absurd (omega arith);
-                stands = λ j low. dite (ℕ_discrete j i)
-                    (λ last. ap (λ k. put_word g.pages b p i x b p k) last ∙ (word_here g.pages b p i x ∙ sym (get_end (words_in v.work o) x j last)))
-                    (λ other.
-                    let l = length-append (words_in v.work o) (x ∷ []) in
-                    let within : j < length (words_in v.work o) = omega arith in
-                    word_else g.pages b p i x b p j (λ same. other same.2)
-                    ∙ (words_stand z g v.owns v.work o holds.work j within ∙ sym (get_front (words_in v.work o) (x ∷ []) j within)));
-              });
-          source = λ y is.
-              let k = holds.source y is in
-              let unlike : y.page.block ≢ b = λ same.
-              let P : ℕ → Type 0 = λ c. owned_at c v.owns ≡ Some k.entry in
-              let e : o ≡ k.entry = some_same o k.entry (sym own ∙ subst P same k.own) in
-              let f : Open ≡ Victim = sym opened ∙ (ap (λ (x : Owned). x.phase) e ∙ k.victim) in absurd (cc) in
-              record {
-                entry = k.entry;
-                own = k.own;
-                victim = k.victim;
-                generation = k.generation;
-                page = k.page;
-                written = k.written;
-                stamp = else_block y.page.block y.page.page z.words unlike ∙ k.stamp;
-                value = λ value is. let t = k.value value is in ((λ j low. else_block y.page.block y.page.page j unlike ∙ t.0 j low), t.1);
-              };
-          whole = holds.whole;
-          guest = holds.guest;
-          note = holds.note;
-          home = holds.home;
-          dealer = holds.dealer;
-        };
+        kind = kind_with kind refl kind.opens
+            (λ is. let no : true ≡ false = sym player ∙ is in absurd (cc))
+            kind.owns_none kind.reclaims;
+        knowledge = knowledge_as knows refl;
+        holding = holding_with holds refl refl holds.calls holds.lists
+            (λ c e owns. dite (ℕ_discrete c b)
+            (λ same.
+            let P : ℕ → Type 0 = λ c. owned_at c v.owns ≡ Some e in
+            let same_entry : o ≡ e = some_same o e (sym own ∙ subst P same owns) in
+            let Q : ℕ × Owned → Type 0 = λ y. LawfulOwned z g' id (Some put_work) v.cleared v.wiped y.0 y.1 in subst Q (λ t. (sym same t, same_entry t)) now)
+            (λ unlike.
+            let k = holds.owned c e owns in
+            owned_with k refl refl
+            (λ is q from below _ j most. else_block c q j unlike ∙ k.rest is q from below (λ f. not_filling c q e owns unlike from f) j most)
+            k.dead
+            (λ is q j low most below. else_block c q j unlike ∙ k.clean is q j low most below)))
+            (λ y is.
+            let same : put_work ≡ y = some_same put_work y is in
+            subst (λ (y : Work). LawfulWork z g' v.owns y) same
+            (record {
+              entry = o;
+              own = own;
+              opened = opened;
+              generation = refl;
+              page = room;
+              counted = inr refl;
+              short = (let l = length-append (words_in v.work o) (x ∷ []) in omega arith);
+              full = λ low. absurd (omega arith);
+              stands = λ j low. dite (ℕ_discrete j i)
+                  (λ last. ap (λ k. put_word g.pages b p i x b p k) last ∙ (word_here g.pages b p i x ∙ sym (get_end (words_in v.work o) x j last)))
+                  (λ other.
+                  let l = length-append (words_in v.work o) (x ∷ []) in
+                  let within : j < length (words_in v.work o) = omega arith in
+                  word_else g.pages b p i x b p j (λ same. other same.2)
+                  ∙ (words_stand z g v.owns v.work o holds.work j within ∙ sym (get_front (words_in v.work o) (x ∷ []) j within)));
+            }))
+            (λ y is.
+            let k = holds.source y is in
+            let unlike : y.page.block ≢ b = λ same.
+            let P : ℕ → Type 0 = λ c. owned_at c v.owns ≡ Some k.entry in
+            let e : o ≡ k.entry = some_same o k.entry (sym own ∙ subst P same k.own) in
+            let f : Open ≡ Victim = sym opened ∙ (ap (λ (x : Owned). x.phase) e ∙ k.victim) in absurd (cc) in
+            source_with k k.own refl (λ j. else_block y.page.block y.page.page j unlike));
       } in
       assembled z g g' vs id v putter law at on after
       (λ s low. sector_kept z g g' s (law.sectors s low) refl refl (λ c below named. (refl, named, omega arith, λ q j written. programmed_stays c q j written)))

@@ -1,33 +1,17 @@
 -- Steps that change one pin word: take, count, close.
-use Rattle.std.proofs.Common.{◌≡◌, ◌≢◌, ℕ, zero, suc, ◌+◌, ◌*◌, ◌<◌, ◌≤◌, inl, inr, true, false, List, [], ◌∷◌, ◌++◌, Option, Some, set, sym, refl, ap, ◌∙◌, subst, arith}
-use mathlib.Core.Option.{some, some-ne-none}
-use mathlib.Core.Logic.{dite}
-use native.Mathlib.Decide.{ℕ_discrete}
-use lib.ListN.{get_elem?}
-use Rattle.geometry.specs.Limits.{Numbers}
-use Rattle.geometry.proofs.Histories.{Begins-refl}
-use Rattle.geometry.specs.declared.map_word.MapWord.{MapWord}
-use Rattle.geometry.specs.declared.pin_word.PinWord.{PinWord}
-use Rattle.geometry.specs.declared.pin_word.Phase.{Phase}
-use Rattle.geometry.specs.declared.pin_word.Phase.TheVariants.{Free, Open}
-use Rattle.flash_rule.specs.declared.facts.Owned.{Owned}
-use Rattle.flash_rule.specs.declared.facts.Cycle.{Cycle}
-use Rattle.flash_rule.specs.declared.facts.Name.{Name}
-use Rattle.flash_rule.specs.declared.facts.Role.{Role}
-use Rattle.flash_rule.specs.declared.facts.Role.TheVariants.{Dealer, Player, Note, Gone}
-use Rattle.flash_rule.specs.declared.facts.Work.{Work}
-use Rattle.flash_rule.specs.declared.view.View.{View}
-use Rattle.flash_rule.specs.Views.{is_player, may_own, pins_on, weight, owned_at, with_owned}
-use Rattle.flash_rule.specs.World.{World, put, is_owned, is_intact, is_nameable, is_still, half_cycle, age_of}
-use Rattle.flash_rule.specs.Ceded.{rank, LawfulCeded}
-use Rattle.flash_rule.specs.Rule.{IsCurrent, IsProgrammed, IsFilling, LawfulBlock, LawfulOwned, LawfulView, Lawful, IsDealt}
-use Rattle.flash_rule.specs.Onward.{PinOnward, Untouched, ListsOnward, Onward}
+use Rattle.flash_rule.proofs.Words.{◌≡◌, ◌≢◌, ℕ, zero, suc, ◌+◌, ◌*◌, ◌<◌, ◌≤◌, inl, inr, true, false, List, [], ◌∷◌, ◌++◌, Option, Some, set, sym}
+use Rattle.flash_rule.proofs.Words.{refl, ap, ◌∙◌, subst, arith, some, some-ne-none, dite, ℕ_discrete, get_elem?, Numbers, Begins-refl, MapWord}
+use Rattle.flash_rule.proofs.Words.{PinWord, Phase, Free, Open, Owned, Cycle, Name, Role, Dealer, Player, Note, Gone, Work, View, is_player, may_own}
+use Rattle.flash_rule.proofs.Words.{pins_on, weight, owned_at, with_owned, World, put, is_owned, is_intact, is_nameable, is_still, half_cycle, age_of}
+use Rattle.flash_rule.proofs.Words.{rank, LawfulCeded, IsCurrent, IsProgrammed, IsFilling, LawfulBlock, LawfulOwned, LawfulView, Lawful, IsDealt}
+use Rattle.flash_rule.proofs.Words.{PinOnward, Untouched, ListsOnward, Onward}
 use Rattle.flash_rule.proofs.Points.{put_here, put_else, put_all, total_set}
 use Rattle.flash_rule.proofs.Owning.{some_same, with_here, with_else, owned_else, one_with_open}
 use Rattle.flash_rule.proofs.Frames.{counted, knowledge_kept, lists_stay}
 use Rattle.flash_rule.proofs.Assembly.{assembled, block_kept, named_kept}
 use Rattle.flash_rule.proofs.Ceding.{ceded_owned}
 use Rattle.flash_rule.proofs.Still.{pin_stays, still}
+use Rattle.flash_rule.proofs.Keeping.{holding_with, kind_as, kind_with, knowledge_as, source_with, work_with}
 
 pub seat_set : (vs : List View) (id : ℕ) (v w : View) → get_elem? vs id ≡ some v → get_elem? (set vs id w) id ≡ some w
 seat_set [] id v w at = absurd (some-ne-none v (sym at))
@@ -198,59 +182,26 @@ module _ (z : Numbers) (g : World) (vs : List View) (id : ℕ) (v : View) (b : �
         clean = λ is. absurd (cc);
       } in
       let own : LawfulView z taken id taker = record {
-        kind = record {
-          numbers = kind.numbers;
-          host = kind.host;
-          known = kind.known;
-          opens = λ is c o owns. dite (ℕ_discrete c b)
-              (λ same. let e : newly_owned ≡ o = some_same newly_owned o (sym (with_here newly_owned v.owns) ∙ (ap (λ j. owned_at j (with_owned newly_owned v.owns)) (sym same) ∙ owns)) in sym (ap (λ (x : Owned). x.phase) e))
-              (λ unlike. kind.opens is c o (sym (with_else newly_owned c v.owns unlike) ∙ owns));
-          unpinned = kind.unpinned;
-          idle = kind.idle;
-          owns_none = λ is. let no : true ≡ false = sym (player_may_own v.role player) ∙ is in absurd (cc);
-          reclaims = one_with_open newly_owned v.owns refl kind.reclaims;
-        };
-        knowledge = record { seen = knows.seen; pin = knows.pin; known = knows.known; programs = knows.programs; erases = knows.erases; copy = knows.copy; older = knows.older; out = knows.out };
-        holding = record {
-          name = holds.name;
-          calls = holds.calls;
-          lists = holds.lists;
-          owned = λ c o owns. dite (ℕ_discrete c b)
-              (λ same.
-              let e : newly_owned ≡ o = some_same newly_owned o (sym (with_here newly_owned v.owns) ∙ (ap (λ j. owned_at j (with_owned newly_owned v.owns)) (sym same) ∙ owns)) in
-              let P : ℕ × Owned → Type 0 = λ x. LawfulOwned z taken id v.work v.cleared v.wiped x.0 x.1 in subst P (λ i. (sym same i, e i)) fresh)
-              (λ unlike. turned_else z g vs id v taker b taken_state id (deeds g) law at v.work v.work v.cleared v.wiped c o unlike (λ p _ f. f) (holds.owned c o (sym (with_else newly_owned c v.owns unlike) ∙ owns)));
-          work = λ x is.
-              let k = holds.work x is in
-              record {
-                entry = k.entry;
-                own = with_else newly_owned x.page.block v.owns (not_mine x.page.block k.entry k.own) ∙ k.own;
-                opened = k.opened;
-                generation = k.generation;
-                page = k.page;
-                counted = k.counted;
-                short = k.short;
-                full = k.full;
-                stands = k.stands;
-              };
-          source = λ x is.
-              let k = holds.source x is in
-              record {
-                entry = k.entry;
-                own = with_else newly_owned x.page.block v.owns (not_mine x.page.block k.entry k.own) ∙ k.own;
-                victim = k.victim;
-                generation = k.generation;
-                page = k.page;
-                written = k.written;
-                stamp = k.stamp;
-                value = k.value;
-              };
-          whole = holds.whole;
-          guest = holds.guest;
-          note = holds.note;
-          home = holds.home;
-          dealer = holds.dealer;
-        };
+        kind = kind_with kind refl
+            (λ is c o owns. dite (ℕ_discrete c b)
+            (λ same. let e : newly_owned ≡ o = some_same newly_owned o (sym (with_here newly_owned v.owns) ∙ (ap (λ j. owned_at j (with_owned newly_owned v.owns)) (sym same) ∙ owns)) in sym (ap (λ (x : Owned). x.phase) e))
+            (λ unlike. kind.opens is c o (sym (with_else newly_owned c v.owns unlike) ∙ owns)))
+            kind.idle
+            (λ is. let no : true ≡ false = sym (player_may_own v.role player) ∙ is in absurd (cc))
+            (one_with_open newly_owned v.owns refl kind.reclaims);
+        knowledge = knowledge_as knows refl;
+        holding = holding_with holds refl refl holds.calls holds.lists
+            (λ c o owns. dite (ℕ_discrete c b)
+            (λ same.
+            let e : newly_owned ≡ o = some_same newly_owned o (sym (with_here newly_owned v.owns) ∙ (ap (λ j. owned_at j (with_owned newly_owned v.owns)) (sym same) ∙ owns)) in
+            let P : ℕ × Owned → Type 0 = λ x. LawfulOwned z taken id v.work v.cleared v.wiped x.0 x.1 in subst P (λ i. (sym same i, e i)) fresh)
+            (λ unlike. turned_else z g vs id v taker b taken_state id (deeds g) law at v.work v.work v.cleared v.wiped c o unlike (λ p _ f. f) (holds.owned c o (sym (with_else newly_owned c v.owns unlike) ∙ owns))))
+            (λ x is.
+            let k = holds.work x is in
+            work_with k (with_else newly_owned x.page.block v.owns (not_mine x.page.block k.entry k.own) ∙ k.own) (λ _. refl))
+            (λ x is.
+            let k = holds.source x is in
+            source_with k (with_else newly_owned x.page.block v.owns (not_mine x.page.block k.entry k.own) ∙ k.own) refl (λ _. refl));
       } in
       pin_turned_nameable z g vs id v taker b taken_state id (deeds g) law at on own
       (λ named. let no : true ≡ false = sym named ∙ ap is_nameable free in absurd (cc))
@@ -280,8 +231,8 @@ module _ (z : Numbers) (g : World) (vs : List View) (id : ℕ) (v : View) (b : �
       let holds = h.holding in
       still z g vs id v (record v { denied = v.denied ++ b ∷ [] }) law at
       (record {
-        kind = record { numbers = kind.numbers; host = kind.host; known = kind.known; opens = kind.opens; unpinned = kind.unpinned; idle = kind.idle; owns_none = kind.owns_none; reclaims = kind.reclaims };
-        knowledge = record { seen = knows.seen; pin = knows.pin; known = knows.known; programs = knows.programs; erases = knows.erases; copy = knows.copy; older = knows.older; out = knows.out };
-        holding = record { name = holds.name; calls = holds.calls; lists = holds.lists; owned = holds.owned; work = holds.work; source = holds.source; whole = holds.whole; guest = holds.guest; note = holds.note; home = holds.home; dealer = holds.dealer };
+        kind = kind_as kind refl refl (refl, refl, refl, refl);
+        knowledge = knowledge_as knows refl;
+        holding = holding_with holds refl refl holds.calls holds.lists holds.owned holds.work holds.source;
       })
       (λ c. refl) refl refl refl refl refl

@@ -1,15 +1,9 @@
 -- Each word of the table has one place, so a change of one word changes the map, the pins or the pages at one point.
-use Rattle.std.proofs.Common.{◌≡◌, ◌≢◌, ℕ, zero, suc, ◌+◌, ◌*◌, ◌<◌, ◌≤◌, List, [], ◌∷◌, Option, set, sym, refl, ap, ◌∙◌, subst, arith, length-set, mul-le-mul_right, suc-mul}
-use Rattle.std.proofs.Math.ListN.{get_or}
-use Rattle.std.proofs.lemmas.List.{get_or-set_same, get_or-set_other}
-use mathlib.Core.Logic.{dite}
-use native.Mathlib.Decide.{dec_lt}
-use Rattle.geometry.specs.Limits.{Numbers, table_words_of}
-use Rattle.geometry.specs.TableOrder.{pin_index, page_index}
-use Rattle.geometry.specs.PinWords.{pin_word}
-use Rattle.geometry.specs.declared.map_word.MapWord.{MapWord}
-use Rattle.geometry.specs.declared.pin_word.PinWord.{PinWord}
-use Rattle.flash_rule.specs.World.{put, put_word, sector_word, Fits}
+use Rattle.flash_rule.proofs.Words.{◌≡◌, ◌≢◌, ℕ, zero, suc, ◌+◌, ◌*◌, ◌<◌, ◌≤◌, List, [], ◌∷◌, Option, set, sym, refl, ap, ◌∙◌, subst, arith}
+use Rattle.flash_rule.proofs.Words.{length-set, suc-mul, get_or, get_or-set_same, get_or-set_other, dite, dec_lt, Numbers, pin_index, page_index}
+use Rattle.flash_rule.proofs.Words.{pin_word, MapWord, PinWord, put, put_word, sector_word, Fits}
+use Rattle.std.proofs.Common.{mul-le-mul_right}
+use Rattle.geometry.specs.Limits.{table_words_of}
 use Rattle.flash_rule.proofs.Points.{put_all}
 
 -- rows of one length don't overlap

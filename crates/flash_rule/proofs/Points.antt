@@ -1,14 +1,7 @@
 -- A function with one value replaced, numbers and names compared by test, and totals over a list of views.
-use Rattle.std.proofs.Common.{◌≡◌, ◌≢◌, ℕ, zero, suc, ◌+◌, eq-eqb, ne_eqb, ◌==◌, Bool, true, false, List, [], ◌∷◌, set, sym, refl, ap, ◌∙◌, subst, arith}
-use mathlib.Core.Logic.{dite}
-use mathlib.Core.Option.{some, some-injective, some-ne-none}
-use native.Mathlib.Decide.{ℕ_discrete}
-use lib.ListN.{get_elem?}
-use Rattle.flash_rule.specs.declared.view.View.{View}
-use Rattle.flash_rule.specs.declared.facts.Name.{Name}
-use Rattle.flash_rule.specs.declared.facts.Name.TheVariants.{Pass, Broom}
-use Rattle.flash_rule.specs.Views.{total, same_name}
-use Rattle.flash_rule.specs.World.{put, put_name}
+use Rattle.flash_rule.proofs.Words.{◌≡◌, ◌≢◌, ℕ, zero, suc, ◌+◌, eq-eqb, ne_eqb, ◌==◌, Bool, true, false, List, [], ◌∷◌, set, sym, refl, ap, ◌∙◌}
+use Rattle.flash_rule.proofs.Words.{subst, arith, dite, some, some-injective, some-ne-none, ℕ_discrete, get_elem?, View, Name, Pass, Broom, total}
+use Rattle.flash_rule.proofs.Words.{same_name, put, put_name}
 
 pub eq_self : (n : ℕ) → (n == n) ≡ true
 eq_self n = eq-eqb n n refl

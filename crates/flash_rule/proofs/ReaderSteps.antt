@@ -1,38 +1,20 @@
 -- The readers' steps on a pin word: pin and unpin.
-use Rattle.std.proofs.Common.{◌≡◌, ◌≢◌, ℕ, ◌*◌, ◌+◌, ◌-◌, ◌%◌, ◌^◌, ◌<◌, ◌≤◌, ◌⊎◌, inl, inr, ⊎_elim, eq-eqb, ne_eqb, Bool, true, false, List, [], length, set, sym, refl, ap, ◌∙◌, subst, arith, length-set}
-use Rattle.std.proofs.Math.ListN.{get_or}
-use Rattle.std.proofs.lemmas.List.{get_or-set_same, get_or-set_other}
-use mathlib.Core.Option.{some, none}
-use mathlib.Core.Logic.{dite}
-use native.Mathlib.Decide.{ℕ_discrete}
-use lib.ListN.{get_elem?}
-use Rattle.atomic_table.specs.Table.{Act, Valid, step, keeps, stepped, carried_after, Allows}
-use Rattle.geometry.specs.Limits.{Numbers}
-use Rattle.geometry.specs.PinWords.{pin_word, FitsPin}
-use Rattle.geometry.specs.TableOrder.{pin_index}
-use Rattle.geometry.specs.declared.map_word.MapWord.{MapWord}
-use Rattle.geometry.specs.declared.pin_word.PinWord.{PinWord}
-use Rattle.geometry.specs.declared.pin_word.TheConstants.{READER}
-use Rattle.geometry.specs.declared.pin_word.Phase.{Phase}
-use Rattle.geometry.specs.declared.pin_word.Phase.TheVariants.{Free, Open, Closed, Victim, Drained, Erasing, Retired}
-use Rattle.flash_rule.specs.declared.facts.Owned.{Owned}
-use Rattle.flash_rule.specs.declared.facts.Pin.{Pin}
-use Rattle.flash_rule.specs.declared.facts.Pin.TheVariants.{Clear, Candidate, Accepted, Stray}
-use Rattle.flash_rule.specs.declared.view.View.{View}
-use Rattle.flash_rule.specs.Views.{one_if, is_pass, pin_is_on, pins_on, sum_of}
-use Rattle.flash_rule.specs.World.{World, Fits, put, is_owned, is_intact, is_still, half_cycle, age_of, Intact}
-use Rattle.flash_rule.specs.Rule.{IsCandidate, LawfulPin, LawfulOwned, LawfulView, Lawful}
-use Rattle.flash_rule.specs.Onward.{Onward}
-use Rattle.flash_rule.specs.Seats.{Ruled}
-use Rattle.flash_rule.specs.Plays.{Sitter, Pinned, IsOn, pin_told, unpin_told}
+use Rattle.flash_rule.proofs.Words.{◌≡◌, ◌≢◌, ℕ, ◌*◌, ◌+◌, ◌-◌, ◌%◌, ◌^◌, ◌<◌, ◌≤◌, ◌⊎◌, inl, inr, ⊎_elim, eq-eqb, ne_eqb, Bool, true, false, List, []}
+use Rattle.flash_rule.proofs.Words.{length, set, sym, refl, ap, ◌∙◌, subst, arith, length-set, get_or, get_or-set_same, get_or-set_other, some, none}
+use Rattle.flash_rule.proofs.Words.{dite, ℕ_discrete, get_elem?, Act, Valid, step, keeps, stepped, carried_after, Allows, Numbers, pin_word, FitsPin}
+use Rattle.flash_rule.proofs.Words.{pin_index, MapWord, PinWord, READER, Phase, Free, Open, Closed, Victim, Drained, Erasing, Retired, Owned, Pin}
+use Rattle.flash_rule.proofs.Words.{Clear, Candidate, Accepted, Stray, View, one_if, is_pass, pin_is_on, pins_on, sum_of, World, Fits, put, is_owned}
+use Rattle.flash_rule.proofs.Words.{is_intact, is_still, half_cycle, age_of, Intact, IsCandidate, LawfulPin, LawfulOwned, LawfulView, Lawful, Onward}
+use Rattle.flash_rule.proofs.Words.{Ruled, Sitter, Pinned, IsOn, pin_told, unpin_told, adds}
 use Rattle.flash_rule.proofs.Points.{put_here, put_all, total_set, eq_self}
-use Rattle.geometry.proofs.PinBits.{adds, takes_off, reads}
+use Rattle.geometry.proofs.PinBits.{takes_off, reads}
 use Rattle.flash_rule.proofs.Places.{fits_pin}
 use Rattle.flash_rule.proofs.Frames.{counted, knowledge_kept}
 use Rattle.flash_rule.proofs.Assembly.{owner_kept, state_fits}
 use Rattle.flash_rule.proofs.Ceding.{ceded_read}
 use Rattle.flash_rule.proofs.PinSteps.{deeds, moved, pin_moves, pin_turned_nameable}
 use Rattle.flash_rule.proofs.Still.{sum_set, sum_below, age_low, pass_numbers}
+use Rattle.flash_rule.proofs.Keeping.{holding_with, source_with, work_with}
 
 module _ (z : Numbers) (g : World) (vs : List View) (id : ℕ) (v : View) (b : ℕ) (readers : ℕ) (pin : Pin) (known : List ℕ) (law : Lawful z g vs) (at : get_elem? vs id ≡ some v) (pass : is_pass v.role ≡ true) (low : b < z.blocks) where
   abbrev pub read_state : PinWord
@@ -95,19 +77,9 @@ module _ (z : Numbers) (g : World) (vs : List View) (id : ℕ) (v : View) (b : �
           older = knows.older;
           out = knows.out;
         };
-        holding = record {
-          name = holds.name;
-          calls = holds.calls;
-          lists = holds.lists;
-          owned = λ c o owns. owned_read c o (holds.owned c o owns);
-          work = λ w is. let k = holds.work w is in record { entry = k.entry; own = k.own; opened = k.opened; generation = k.generation; page = k.page; counted = k.counted; short = k.short; full = k.full; stands = k.stands };
-          source = λ x is. let k = holds.source x is in record { entry = k.entry; own = k.own; victim = k.victim; generation = k.generation; page = k.page; written = k.written; stamp = k.stamp; value = k.value };
-          whole = holds.whole;
-          guest = holds.guest;
-          note = holds.note;
-          home = holds.home;
-          dealer = holds.dealer;
-        };
+        holding = holding_with holds refl refl holds.calls holds.lists (λ c o owns. owned_read c o (holds.owned c o owns))
+            (λ w is. let k = holds.work w is in work_with k k.own (λ _. refl))
+            (λ x is. let k = holds.source x is in source_with k k.own refl (λ _. refl));
       } in
       pin_turned_nameable z g vs id v reader b q (g.owner b) (deeds g) law at on own
       (λ named. (refl, named, omega arith))

@@ -1,32 +1,13 @@
 -- Each step of a broom on a pin word, as the table asks for it: whatever the table is, the step keeps the rule and tells what it says.
-use Rattle.std.proofs.Common.{◌≡◌, ◌≢◌, ℕ, ◌+◌, ◌%◌, ◌^◌, ◌<◌, ◌≤◌, ◌⊎◌, inl, inr, ⊎_elim, ◌==◌, eq-eqb, ne_eqb, true, List, [], ◌∷◌, ◌++◌, Some, set, sym, refl, ap, ◌∙◌, subst, arith}
-use Rattle.std.proofs.Math.ListN.{get_or}
-use prog.Atomic.{either}
-use mathlib.Core.Option.{some, none}
-use mathlib.Core.Logic.{dite}
-use native.Mathlib.Decide.{ℕ_discrete}
-use lib.ListN.{get_elem?}
-use Rattle.atomic_table.specs.Table.{State, Act, Valid, step, keeps, stepped, carried_after, Allows}
-use Rattle.geometry.specs.Limits.{Numbers}
-use Rattle.geometry.specs.PinWords.{pin_word, FitsPin, freed_added, kept_added}
-use Rattle.geometry.specs.TableOrder.{pin_index}
-use Rattle.geometry.specs.declared.pin_word.PinWord.{PinWord}
-use Rattle.geometry.specs.declared.pin_word.Phase.{Phase}
-use Rattle.geometry.specs.declared.pin_word.Phase.TheVariants.{Free, Open, Closed, Victim, Drained, Erasing, Retired}
-use Rattle.geometry.specs.declared.pin_word.TheConstants.{NEXT_PHASE}
+use Rattle.flash_rule.proofs.Words.{◌≡◌, ◌≢◌, ℕ, ◌+◌, ◌%◌, ◌^◌, ◌<◌, ◌≤◌, ◌⊎◌, inl, inr, ⊎_elim, ◌==◌, eq-eqb, ne_eqb, true, List, [], ◌∷◌, ◌++◌, Some}
+use Rattle.flash_rule.proofs.Words.{set, sym, refl, ap, ◌∙◌, subst, arith, get_or, either, some, none, dite, ℕ_discrete, get_elem?, State, Act, Valid}
+use Rattle.flash_rule.proofs.Words.{step, keeps, stepped, carried_after, Allows, Numbers, pin_word, FitsPin, freed_added, kept_added, pin_index}
+use Rattle.flash_rule.proofs.Words.{PinWord, Phase, Free, Open, Closed, Victim, Drained, Erasing, Retired, NEXT_PHASE, Name, Role, Dealer, Player}
+use Rattle.flash_rule.proofs.Words.{Note, Gone, Owned, View, is_broom, owned_at, without, with_owned, World, Fits, put, is_owned, freed_as, Lawful}
+use Rattle.flash_rule.proofs.Words.{Ruled, Sitter, CanClaim, Claimed, CanCondemn, Condemned, CanDrain, CanRenew, CanRetire, owned_as, cycle_of}
+use Rattle.flash_rule.proofs.Words.{claim_told, condemn_told, drain_told, freed_told, kept_told, retired_told}
 use Rattle.geometry.proofs.PinBits as bits
-use Rattle.flash_rule.specs.declared.facts.Name.{Name}
-use Rattle.flash_rule.specs.declared.facts.Role.{Role}
-use Rattle.flash_rule.specs.declared.facts.Role.TheVariants.{Dealer, Player, Note, Gone}
-use Rattle.flash_rule.specs.declared.facts.Owned.{Owned}
-use Rattle.flash_rule.specs.declared.view.View.{View}
-use Rattle.flash_rule.specs.Views.{is_broom, owned_at, without, with_owned}
-use Rattle.flash_rule.specs.World.{World, Fits, put, is_owned}
-use Rattle.flash_rule.specs.Ceded.{freed_as}
-use Rattle.flash_rule.specs.Rule.{Lawful}
-use Rattle.flash_rule.specs.Seats.{Ruled}
-use Rattle.flash_rule.specs.Plays.{Sitter}
-use Rattle.flash_rule.specs.BroomPlays.{Loaded, CanClaim, Claimed, CanCondemn, Condemned, CanDrain, CanRenew, CanRetire, owned_as, cycle_of, state_told, claim_told, condemn_told, drain_told, freed_told, kept_told, retired_told}
+use Rattle.flash_rule.specs.BroomPlays.{Loaded, state_told}
 use Rattle.flash_rule.proofs.Points.{put_here}
 use Rattle.flash_rule.proofs.Places.{fits_load, fits_pin, pin_within}
 use Rattle.flash_rule.proofs.Owning.{some_same}

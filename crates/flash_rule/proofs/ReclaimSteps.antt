@@ -1,23 +1,10 @@
 -- A broom's steps on the pin word of a block up to its erase: claim, drain, condemn.
-use Rattle.std.proofs.Common.{◌≡◌, ℕ, ◌*◌, ◌<◌, inr, ⊎_elim, true, false, List, [], ◌∷◌, ◌++◌, Option, Some, length, set, slice_get, sym, refl, ap, ◌∙◌, subst, arith}
-use mathlib.Core.Option.{some}
-use lib.ListN.{get_elem?}
-use Rattle.geometry.specs.History.{Begins}
-use Rattle.geometry.specs.Limits.{Numbers}
-use Rattle.geometry.proofs.Histories.{Begins-refl}
-use Rattle.geometry.specs.declared.pin_word.PinWord.{PinWord}
-use Rattle.geometry.specs.declared.pin_word.Phase.TheVariants.{Open, Closed, Victim, Drained, Erasing}
-use Rattle.flash_rule.specs.declared.facts.Name.{Name}
-use Rattle.flash_rule.specs.declared.facts.Role.TheVariants.{Player}
-use Rattle.flash_rule.specs.declared.facts.Owned.{Owned}
-use Rattle.flash_rule.specs.declared.facts.Source.{Source}
-use Rattle.flash_rule.specs.declared.facts.Cycle.{Cycle}
-use Rattle.flash_rule.specs.declared.view.View.{View}
-use Rattle.flash_rule.specs.Views.{is_pass, is_broom, may_own, owned_at, without, with_owned}
-use Rattle.flash_rule.specs.World.{World, put, put_name, is_owned, is_intact, is_nameable, is_still, half_cycle, age_of}
-use Rattle.flash_rule.specs.Ceded.{rank}
-use Rattle.flash_rule.specs.Rule.{Erases, LawfulOwned, Lawful}
-use Rattle.flash_rule.specs.BroomPlays.{owned_as, cycle_of, IsAtRest, CanDrain}
+use Rattle.flash_rule.proofs.Words.{◌≡◌, ℕ, ◌*◌, ◌<◌, inr, ⊎_elim, true, false, List, [], ◌∷◌, ◌++◌, Option, Some, length, set, slice_get, sym, refl}
+use Rattle.flash_rule.proofs.Words.{ap, ◌∙◌, subst, arith, some, get_elem?, Begins, Numbers, Begins-refl, PinWord, Open, Closed, Victim, Drained}
+use Rattle.flash_rule.proofs.Words.{Erasing, Name, Player, Owned, Source, Cycle, View, is_pass, is_broom, may_own, owned_at, without, with_owned}
+use Rattle.flash_rule.proofs.Words.{World, put, put_name, is_owned, is_intact, is_nameable, is_still, half_cycle, age_of, rank, Erases, LawfulOwned}
+use Rattle.flash_rule.proofs.Words.{Lawful, owned_as, cycle_of, CanDrain}
+use Rattle.flash_rule.specs.BroomPlays.{IsAtRest}
 use Rattle.flash_rule.proofs.Points.{put_here, name_here, name_else, name_all}
 use Rattle.flash_rule.proofs.Owning.{owns_none_else, may_own_else, some_same, with_here, with_else, without_else, one_at_rest, one_without, get_last, put2, put2_here, put2_else}
 use Rattle.flash_rule.proofs.Ceding.{ceded_owned, ceded_last}

@@ -1,33 +1,16 @@
 -- A change of one pin word by which a seat gets a block to drain or erase, or is done with it: what the six steps have in common.
-use Rattle.std.proofs.Common.{◌≡◌, ◌≢◌, ℕ, ◌*◌, ◌<◌, ◌≤◌, inl, true, false, List, [], Option, None, Some, set, sym, refl, ap, ◌∙◌, subst, arith}
-use mathlib.Core.Option.{some}
-use mathlib.Core.Logic.{dite}
-use native.Mathlib.Decide.{ℕ_discrete}
-use lib.ListN.{get_elem?}
-use Rattle.geometry.specs.History.{Begins}
-use Rattle.geometry.specs.Limits.{Numbers}
-use Rattle.geometry.proofs.Histories.{Begins-refl}
-use Rattle.geometry.specs.declared.map_word.MapWord.{MapWord}
-use Rattle.geometry.specs.declared.pin_word.PinWord.{PinWord}
-use Rattle.geometry.specs.declared.pin_word.Phase.TheVariants.{Free, Open}
-use Rattle.flash_rule.specs.declared.facts.Name.{Name}
-use Rattle.flash_rule.specs.declared.facts.Role.{Role}
-use Rattle.flash_rule.specs.declared.facts.Role.TheVariants.{Dealer, Player, Note, Gone}
-use Rattle.flash_rule.specs.declared.facts.Name.TheVariants.{Pass, Broom}
-use Rattle.flash_rule.specs.declared.facts.Owned.{Owned}
-use Rattle.flash_rule.specs.declared.facts.Source.{Source}
-use Rattle.flash_rule.specs.declared.facts.Cycle.{Cycle}
-use Rattle.flash_rule.specs.declared.view.View.{View}
-use Rattle.flash_rule.specs.Views.{is_pass, is_broom, is_player, is_live_role, may_own, pins_on, owned_at, without, with_owned}
-use Rattle.flash_rule.specs.World.{World, put, is_owned, is_nameable, is_still, age_of, IsBlank}
-use Rattle.flash_rule.specs.Ceded.{LawfulCeded}
-use Rattle.flash_rule.specs.Rule.{IsCurrent, Erases, ReclaimsOne, LawfulOwned, LawfulSource, LawfulKind, LawfulView, Lawful, IsDealt}
-use Rattle.flash_rule.specs.Onward.{PinOnward, Onward}
+use Rattle.flash_rule.proofs.Words.{◌≡◌, ◌≢◌, ℕ, ◌*◌, ◌<◌, ◌≤◌, inl, true, false, List, [], Option, None, Some, set, sym, refl, ap, ◌∙◌, subst, arith}
+use Rattle.flash_rule.proofs.Words.{some, dite, ℕ_discrete, get_elem?, Begins, Numbers, Begins-refl, MapWord, PinWord, Free, Open, Name, Role, Dealer}
+use Rattle.flash_rule.proofs.Words.{Player, Note, Gone, Pass, Broom, Owned, Source, Cycle, View, is_pass, is_broom, is_player, is_live_role, may_own}
+use Rattle.flash_rule.proofs.Words.{pins_on, owned_at, without, with_owned, World, put, is_owned, is_nameable, is_still, age_of, IsBlank, LawfulCeded}
+use Rattle.flash_rule.proofs.Words.{IsCurrent, Erases, ReclaimsOne, LawfulOwned, LawfulSource, LawfulKind, LawfulView, Lawful, IsDealt, PinOnward}
+use Rattle.flash_rule.proofs.Words.{Onward}
 use Rattle.flash_rule.proofs.Points.{put_here, put_else, total_set}
 use Rattle.flash_rule.proofs.Owning.{owns_none_else, some_same, none_some, with_here, without_here, owned_else}
 use Rattle.flash_rule.proofs.Frames.{counted, knowledge_kept}
 use Rattle.flash_rule.proofs.Still.{still}
 use Rattle.flash_rule.proofs.PinSteps.{Deeds, deeds, turned, pin_turns, pin_turned, seat_set}
+use Rattle.flash_rule.proofs.Keeping.{holding_with, kind_as, kind_with, knowledge_as, owned_with, source_with, work_with}
 
 -- ---- a broom's role
 pub broom_player : (r : Role) → is_broom r ≡ true → is_player r ≡ true
@@ -93,9 +76,9 @@ module _ (z : Numbers) (g : World) (vs : List View) (id : ℕ) (v : View) (law :
       let holds = h.holding in
       still z g vs id v (record v { loaded = loaded; lost = lost; busy = busy; stale = stale }) law at
       (record {
-        kind = record { numbers = kind.numbers; host = kind.host; known = kind.known; opens = kind.opens; unpinned = kind.unpinned; idle = kind.idle; owns_none = kind.owns_none; reclaims = kind.reclaims };
-        knowledge = record { seen = knows.seen; pin = knows.pin; known = knows.known; programs = knows.programs; erases = knows.erases; copy = knows.copy; older = knows.older; out = knows.out };
-        holding = record { name = holds.name; calls = holds.calls; lists = holds.lists; owned = holds.owned; work = holds.work; source = holds.source; whole = holds.whole; guest = holds.guest; note = holds.note; home = holds.home; dealer = holds.dealer };
+        kind = kind_as kind refl refl (refl, refl, refl, refl);
+        knowledge = knowledge_as knows refl;
+        holding = holding_with holds refl refl holds.calls holds.lists holds.owned holds.work holds.source;
       })
       (λ c. refl) refl refl refl refl refl
 
@@ -151,70 +134,26 @@ module _ (z : Numbers) (g : World) (vs : List View) (id : ℕ) (v : View) (b : �
       let fewer = t.cleared in
       let less = t.wiped in
       owned_else z g g' id v.work v.work cleared wiped c e (put_else g.pins b q c unlike) (put_else g.owner b id c unlike) (λ p i. refl) (λ s m is _. inl is) (λ p _ f. f)
-      (record {
-        block = k.block;
-        low = k.low;
-        owner = k.owner;
-        owned = k.owned;
-        phase = k.phase;
-        generation = k.generation;
-        written = k.written;
-        rest = k.rest;
-        dead = λ victim p s below. k.dead victim p s (omega arith);
-        clean = λ erasing p i below most under. k.clean erasing p i below most (omega arith);
-      }) in
+      (owned_with k refl refl k.rest (λ victim p s below. k.dead victim p s (omega arith))
+      (λ erasing p i below most under. k.clean erasing p i below most (omega arith))) in
       let own : LawfulView z g' id turner = record {
-        kind = record {
-          numbers = kind.numbers;
-          host = kind.host;
-          known = kind.known;
-          opens = λ is c e has. dite (ℕ_discrete c b) (λ same. t.opens is e (ap (λ j. owned_at j owns) (sym same) ∙ has)) (λ unlike. kind.opens is c e (sym (t.there c unlike) ∙ has));
-          unpinned = kind.unpinned;
-          idle = λ is. let i = kind.idle is in (i.0, i.1, i.2, t.idle is);
-          owns_none = t.owns_none;
-          reclaims = t.reclaims;
-        };
+        kind = kind_with kind refl
+            (λ is c e has. dite (ℕ_discrete c b) (λ same. t.opens is e (ap (λ j. owned_at j owns) (sym same) ∙ has)) (λ unlike. kind.opens is c e (sym (t.there c unlike) ∙ has)))
+            (λ is. let i = kind.idle is in (i.0, i.1, i.2, t.idle is)) t.owns_none t.reclaims;
         knowledge = record { seen = knows.seen; pin = knows.pin; known = knows.known; programs = knows.programs; erases = λ n is. t.erases n is (knows.erases n is); copy = knows.copy; older = knows.older; out = knows.out };
-        holding = record {
-          name = holds.name;
-          calls = holds.calls;
-          lists = λ n is. ((holds.lists n is).0, t.listed n is (holds.lists n is).1);
-          owned = λ c e has. dite (ℕ_discrete c b)
-              (λ same. subst (λ j. LawfulOwned z g' id v.work cleared wiped j e) (sym same) (t.here e (ap (λ j. owned_at j owns) (sym same) ∙ has)))
-              (λ unlike. elsewhere c e unlike (holds.owned c e (sym (t.there c unlike) ∙ has)));
-          work = λ x is.
-              let k = holds.work x is in
-              let unlike : x.page.block ≢ b = λ same. t.shut (ap (λ j. (g.pins j).phase) (sym same) ∙ ((holds.owned x.page.block k.entry k.own).phase ∙ k.opened)) in
-              record {
-                entry = k.entry;
-                own = t.there x.page.block unlike ∙ k.own;
-                opened = k.opened;
-                generation = k.generation;
-                page = k.page;
-                counted = k.counted;
-                short = k.short;
-                full = k.full;
-                stands = k.stands;
-              };
-          source = λ x is.
-              let k = holds.source x is in
-              let s = t.source x is k in
-              record {
-                entry = k.entry;
-                own = t.there x.page.block s.0 ∙ k.own;
-                victim = k.victim;
-                generation = k.generation;
-                page = k.page ∙ sym s.1;
-                written = k.written;
-                stamp = k.stamp;
-                value = k.value;
-              };
-          whole = holds.whole;
-          guest = holds.guest;
-          note = holds.note;
-          home = holds.home;
-          dealer = holds.dealer;
-        };
+        holding = holding_with holds refl refl holds.calls
+            (λ n is. ((holds.lists n is).0, t.listed n is (holds.lists n is).1))
+            (λ c e has. dite (ℕ_discrete c b)
+            (λ same. subst (λ j. LawfulOwned z g' id v.work cleared wiped j e) (sym same) (t.here e (ap (λ j. owned_at j owns) (sym same) ∙ has)))
+            (λ unlike. elsewhere c e unlike (holds.owned c e (sym (t.there c unlike) ∙ has))))
+            (λ x is.
+            let k = holds.work x is in
+            let unlike : x.page.block ≢ b = λ same. t.shut (ap (λ j. (g.pins j).phase) (sym same) ∙ ((holds.owned x.page.block k.entry k.own).phase ∙ k.opened)) in
+            work_with k (t.there x.page.block unlike ∙ k.own) (λ _. refl))
+            (λ x is.
+            let k = holds.source x is in
+            let s = t.source x is k in
+            source_with k (t.there x.page.block s.0 ∙ k.own) s.1 (λ _. refl));
       } in
       pin_turned z g vs id v turner b q id (erased_as g eraser listed) law at on own t.named
       (record {

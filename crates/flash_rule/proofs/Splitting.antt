@@ -1,35 +1,18 @@
 -- Seats that are split off another and joined into one: passes dealt, and the moves of notes.
-use Rattle.std.proofs.Common.{◌≡◌, ◌≢◌, ℕ, zero, suc, ◌+◌, ◌-◌, ◌<◌, ◌≤◌, ◌⊎◌, inl, inr, ⊎_elim, true, List, [], ◌∷◌, ◌++◌, None, Some, length, set, replicate, sym, refl, ap, ◌∙◌, subst, arith, length-set}
-use Rattle.std.proofs.lemmas.List.{length-replicate}
-use Rattle.std.proofs.Math.ListN.{get_or}
-use mathlib.Core.Option.{some, some-injective, some-ne-none}
-use lib.ListN.{get_elem?}
-use Rattle.atomic_table.specs.Table.{Splits}
-use Rattle.atomic_table.proofs.Lists.{at_set, at_longer}
-use Rattle.geometry.proofs.Histories.{Begins-refl}
-use Rattle.geometry.specs.Limits.{Numbers}
-use Rattle.geometry.specs.declared.pin_word.PinWord.{PinWord}
-use Rattle.flash_rule.specs.declared.facts.Name.{Name}
-use Rattle.flash_rule.specs.declared.facts.Name.TheVariants.{Pass, Broom}
-use Rattle.flash_rule.specs.declared.facts.Role.TheVariants.{Dealer, Player, Note}
-use Rattle.flash_rule.specs.declared.facts.Owned.{Owned}
-use Rattle.flash_rule.specs.declared.facts.Pin.{Pin}
-use Rattle.flash_rule.specs.declared.facts.Pin.TheVariants.{Clear}
-use Rattle.flash_rule.specs.declared.view.View.{View}
-use Rattle.flash_rule.specs.Views.{one_if, total, is_player, is_live_role, pin_is_on, pins_on, weight, role_weight, owned_at, AreOfHosts, calls_of}
-use Rattle.flash_rule.specs.World.{World, put_name, is_owned, is_still, is_nameable}
-use Rattle.flash_rule.specs.Ceded.{LawfulCeded}
-use Rattle.geometry.specs.History.{held}
-use Rattle.geometry.specs.declared.pin_word.Phase.TheVariants.{Free}
-use Rattle.flash_rule.specs.Rule.{LawfulSector, LawfulBlock, LawfulView, Lawful, IsDealt}
-use Rattle.flash_rule.specs.Onward.{Onward}
-use Rattle.flash_rule.specs.Seats.{Ruled, new_pass, dealt_pass}
+use Rattle.flash_rule.proofs.Words.{◌≡◌, ◌≢◌, ℕ, zero, suc, ◌+◌, ◌-◌, ◌<◌, ◌≤◌, ◌⊎◌, inl, inr, ⊎_elim, true, List, [], ◌∷◌, ◌++◌, None, Some, length}
+use Rattle.flash_rule.proofs.Words.{set, replicate, sym, refl, ap, ◌∙◌, subst, arith, length-set, length-replicate, get_or, some, some-injective}
+use Rattle.flash_rule.proofs.Words.{some-ne-none, get_elem?, Splits, at_set, at_longer, Begins-refl, Numbers, PinWord, Name, Pass, Broom, Dealer}
+use Rattle.flash_rule.proofs.Words.{Player, Note, Owned, Pin, Clear, View, one_if, total, is_player, is_live_role, pin_is_on, pins_on, weight}
+use Rattle.flash_rule.proofs.Words.{role_weight, owned_at, AreOfHosts, calls_of, World, put_name, is_owned, is_still, is_nameable, LawfulCeded, held}
+use Rattle.flash_rule.proofs.Words.{Free, LawfulSector, LawfulBlock, LawfulView, Lawful, IsDealt, Onward, Ruled}
+use Rattle.flash_rule.specs.Seats.{new_pass, dealt_pass}
 use Rattle.flash_rule.proofs.Points.{total_set, name_here, name_else, name_all}
 use Rattle.flash_rule.proofs.Owning.{none_some, nothing}
 use Rattle.flash_rule.proofs.Ceding.{ceded_split}
 use Rattle.flash_rule.proofs.Frames.{counted, others, knowledge_kept, lists_stay}
 use Rattle.flash_rule.proofs.Assembly.{owner_kept, sector_kept}
 use Rattle.flash_rule.proofs.Still.{pin_stays}
+use Rattle.flash_rule.proofs.Keeping.{kind_as, knowledge_as, owned_as}
 
 at_end : {X : Type 0} (xs : List X) (x y : X) (j : ℕ) → get_elem? (xs ++ x ∷ []) j ≡ some y → (get_elem? xs j ≡ some y) ⊎ ((j ≡ length xs) × (x ≡ y))
 at_end [] x y zero e = inr (refl, some-injective x y e)
@@ -172,15 +155,15 @@ module _ (z : Numbers) (id : ℕ) (v : View) where
       let not_player : (m : Name) → v.role ≡ Player m → ⊥ = λ m is. let e : Dealer ≡ Player m = sym role ∙ is in absurd (cc) in
       let holds = h.holding in
       let own : LawfulView z g' id (dealt_pass v) = record {
-        kind = record { numbers = kind.numbers; host = kind.host; known = kind.known; opens = kind.opens; unpinned = kind.unpinned; idle = kind.idle; owns_none = kind.owns_none; reclaims = kind.reclaims };
-        knowledge = record { seen = knows.seen; pin = knows.pin; known = knows.known; programs = knows.programs; erases = knows.erases; copy = knows.copy; older = knows.older; out = knows.out };
+        kind = kind_as kind refl refl (refl, refl, refl, refl);
+        knowledge = knowledge_as knows refl;
         holding = record {
           name = λ m is. absurd (not_player m is);
           calls = λ t is. absurd (not_player (Pass t) is);
           lists = λ m is. absurd (not_player m is);
           owned = λ b o is.
               let k = holds.owned b o is in
-              record { block = k.block; low = k.low; owner = k.owner; owned = k.owned; phase = k.phase; generation = k.generation; written = k.written; rest = k.rest; dead = k.dead; clean = k.clean };
+              owned_as k refl refl refl refl;
           work = λ w is. absurd (none_some w (sym (kind.idle (ap is_player role)).0 ∙ is));
           source = λ x is. absurd (none_some x (sym (kind.idle (ap is_player role)).1 ∙ is));
           whole = λ _ m is. absurd (not_player m is);

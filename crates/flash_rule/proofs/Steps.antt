@@ -1,40 +1,19 @@
 -- Each kind of step of a pass, as the table asks for it: whatever the table is, the step keeps the rule and tells what it says.
-use Rattle.std.proofs.Common.{◌≡◌, ℕ, ◌+◌, ◌%◌, ◌^◌, ◌<◌, ◌≤◌, ◌==◌, eq-eqb, ne_eqb, ◌⊎◌, inl, inr, ⊎_elim, true, List, [], ◌∷◌, ◌++◌, Option, None, Some, length, set, sym, refl, ap, ◌∙◌, subst, arith}
-use Rattle.std.proofs.Math.ListN.{get_or}
+use Rattle.flash_rule.proofs.Words.{◌≡◌, ℕ, ◌+◌, ◌%◌, ◌^◌, ◌<◌, ◌≤◌, ◌==◌, eq-eqb, ne_eqb, ◌⊎◌, inl, inr, ⊎_elim, true, List, [], ◌∷◌, ◌++◌, Option}
+use Rattle.flash_rule.proofs.Words.{None, Some, length, set, sym, refl, ap, ◌∙◌, subst, arith, get_or, some, none, get_elem?, Act, Valid, step, keeps}
+use Rattle.flash_rule.proofs.Words.{stepped, carried_after, Allows, set_again, dite, ℕ_discrete, either, Call, Write, WriteNew, Trim, Numbers}
+use Rattle.flash_rule.proofs.Words.{map_word, FitsMap, pin_word, FitsPin, pin_index, page_index, MapWord, PinWord, Phase, Free, Open, Closed, Victim}
+use Rattle.flash_rule.proofs.Words.{Drained, Erasing, Retired, TAKEN, NEXT_PHASE, PAGE_WRITTEN, Role, Dealer, Player, Note, Gone, Owned, Accepted}
+use Rattle.flash_rule.proofs.Words.{Work, View, is_pass, is_player, is_live_role, owned_at, without, with_owned, World, Fits, is_owned, sector_word}
+use Rattle.flash_rule.proofs.Words.{Lawful, Ruled, Sitter, Looked, Placed, Took, CanPlace, CanCount, CanClose, words_in, next_page, take_told}
+use Rattle.flash_rule.proofs.Words.{count_told, close_told, is_unpinned, adds, map_same}
 use Rattle.std.specs.Int.Bits.{bit_or}
-use mathlib.Core.Option.{some, none}
-use lib.ListN.{get_elem?}
-use Rattle.atomic_table.specs.Table.{Act, Valid, step, keeps, stepped, carried_after, Allows}
-use Rattle.atomic_table.proofs.Lists.{set_again}
-use mathlib.Core.Logic.{dite}
-use native.Mathlib.Decide.{ℕ_discrete}
-use prog.Atomic.{either}
-use Rattle.geometry.specs.History.{Call, Write, WriteNew, Trim}
 use Rattle.geometry.specs.Sectors.{was_of}
 use Rattle.geometry.specs.declared.answer.Was.{Was}
 use Rattle.geometry.specs.declared.answer.Was.TheVariants.{Empty, Written}
-use Rattle.geometry.specs.Limits.{Numbers}
-use Rattle.geometry.specs.MapWords.{map_word, FitsMap}
-use Rattle.geometry.specs.PinWords.{pin_word, FitsPin}
-use Rattle.geometry.specs.TableOrder.{pin_index, page_index}
-use Rattle.geometry.specs.declared.map_word.MapWord.{MapWord}
 use Rattle.geometry.specs.declared.map_word.TheConstants.{UNMAPPED}
-use Rattle.geometry.specs.declared.pin_word.PinWord.{PinWord}
-use Rattle.geometry.specs.declared.pin_word.Phase.{Phase}
-use Rattle.geometry.specs.declared.pin_word.Phase.TheVariants.{Free, Open, Closed, Victim, Drained, Erasing, Retired}
-use Rattle.geometry.specs.declared.pin_word.TheConstants.{TAKEN, NEXT_PHASE, PAGE_WRITTEN}
-use Rattle.flash_rule.specs.declared.facts.Role.{Role}
-use Rattle.flash_rule.specs.declared.facts.Role.TheVariants.{Dealer, Player, Note, Gone}
-use Rattle.flash_rule.specs.declared.facts.Owned.{Owned}
-use Rattle.flash_rule.specs.declared.facts.Pin.TheVariants.{Accepted}
-use Rattle.flash_rule.specs.declared.facts.Work.{Work}
-use Rattle.flash_rule.specs.declared.view.View.{View}
-use Rattle.flash_rule.specs.Views.{is_pass, is_player, is_live_role, owned_at, without, with_owned}
-use Rattle.flash_rule.specs.World.{World, Fits, is_owned, sector_word}
-use Rattle.flash_rule.specs.Rule.{Lawful}
-use Rattle.flash_rule.specs.Seats.{Ruled}
-use Rattle.flash_rule.specs.Plays.{Sitter, Looked, Placed, Took, CanPlace, CanPut, CanCount, CanClose, words_in, next_page, look_told, write_told, new_told, trim_told, take_told, put_told, get_told, Called, count_told, close_told, is_unpinned}
-use Rattle.geometry.proofs.PinBits.{adds, next_phase, counts, takes_free, takes_taken, map_same}
+use Rattle.flash_rule.specs.Plays.{CanPut, look_told, write_told, new_told, trim_told, put_told, get_told, Called}
+use Rattle.geometry.proofs.PinBits.{next_phase, counts, takes_free, takes_taken}
 use Rattle.flash_rule.proofs.Places.{fits_load, fits_pin, fits_map, fits_page, pin_within, page_within, page_same}
 use Rattle.flash_rule.proofs.Owning.{some_same}
 use Rattle.flash_rule.proofs.Assembly.{state_fits}

@@ -1,12 +1,11 @@
 -- A page's words tell its bytes.
-use Rattle.std.proofs.Common.{◌≡◌, ℕ, zero, suc, ◌+◌, ◌*◌, ◌<◌, List, [], ◌∷◌, ◌++◌, length, take, drop, sym, refl, ap, ◌∙◌, subst, arith}
-use Rattle.std.proofs.Math.ListN.{get_or}
+use Rattle.flash_rule.proofs.Words.{◌≡◌, ℕ, zero, suc, ◌+◌, ◌*◌, ◌<◌, List, [], ◌∷◌, ◌++◌, length, sym, refl, ap, ◌∙◌, subst, arith, get_or, Numbers}
+use Rattle.flash_rule.proofs.Words.{IsValue}
+use Rattle.std.proofs.Common.{take, drop}
 use Rattle.std.proofs.lemmas.List.{get_or-drop, take-append-drop, drop-drop, length-drop, length-take}
 use Rattle.std.proofs.lemmas.Nat.{le_bytes_8}
 use Rattle.std.specs.Int.{from_le_bytes, w64}
-use Rattle.geometry.specs.Limits.{Numbers}
 use Rattle.flash_rule.specs.World.{data_word}
-use Rattle.flash_rule.specs.Rule.{IsValue}
 
 take_bytes : (u : List ℕ) (n : ℕ) → ((k : ℕ) → get_or u k 0 < 256) → (k : ℕ) → get_or (take n u) k 0 < 256
 take_bytes [] zero h k = h k

@@ -1,23 +1,9 @@
 -- A broom sets the next word of its erasing block to all ones.
-use Rattle.std.proofs.Common.{◌≡◌, ◌≢◌, ℕ, zero, suc, ◌+◌, ◌-◌, ◌*◌, ◌<◌, ◌≤◌, inl, true, false, List, Some, set, sym, refl, ap, ◌∙◌, subst, arith, suc-mul}
+use Rattle.flash_rule.proofs.Words.{◌≡◌, ◌≢◌, ℕ, zero, suc, ◌+◌, ◌-◌, ◌*◌, ◌<◌, ◌≤◌, inl, true, false, List, Some, set, sym, refl, ap, ◌∙◌, subst}
+use Rattle.flash_rule.proofs.Words.{arith, suc-mul, some, dite, ℕ_discrete, dec_lt, get_elem?, Begins-refl, Numbers, page_index, Open, Victim, Erasing}
+use Rattle.flash_rule.proofs.Words.{Name, Player, Owned, View, is_player, owned_at, World, put_word, is_intact, is_nameable, is_reclaimed, is_still}
+use Rattle.flash_rule.proofs.Words.{blank_word, LawfulOwned, LawfulView, Lawful, Onward, IsErasing, wiper}
 use Rattle.std.proofs.Math.Nat.{add-mul}
-use mathlib.Core.Option.{some}
-use mathlib.Core.Logic.{dite}
-use native.Mathlib.Decide.{ℕ_discrete, dec_lt}
-use lib.ListN.{get_elem?}
-use Rattle.geometry.proofs.Histories.{Begins-refl}
-use Rattle.geometry.specs.Limits.{Numbers}
-use Rattle.geometry.specs.TableOrder.{page_index}
-use Rattle.geometry.specs.declared.pin_word.Phase.TheVariants.{Open, Victim, Erasing}
-use Rattle.flash_rule.specs.declared.facts.Name.{Name}
-use Rattle.flash_rule.specs.declared.facts.Role.TheVariants.{Player}
-use Rattle.flash_rule.specs.declared.facts.Owned.{Owned}
-use Rattle.flash_rule.specs.declared.view.View.{View}
-use Rattle.flash_rule.specs.Views.{is_player, owned_at}
-use Rattle.flash_rule.specs.World.{World, put_word, is_intact, is_nameable, is_reclaimed, is_still, blank_word}
-use Rattle.flash_rule.specs.Rule.{LawfulOwned, LawfulView, Lawful}
-use Rattle.flash_rule.specs.Onward.{Onward}
-use Rattle.flash_rule.specs.BroomPlays.{IsErasing, wiper}
 use Rattle.flash_rule.proofs.Owning.{some_same}
 use Rattle.flash_rule.proofs.Frames.{counted, knowledge_kept, lists_stay}
 use Rattle.flash_rule.proofs.Places.{row_same}
@@ -25,6 +11,7 @@ use Rattle.flash_rule.proofs.Assembly.{assembled, block_kept, sector_kept}
 use Rattle.flash_rule.proofs.Ceding.{ceded_still}
 use Rattle.flash_rule.proofs.Still.{pin_stays}
 use Rattle.flash_rule.proofs.PageSteps.{word_here, word_else}
+use Rattle.flash_rule.proofs.Keeping.{holding_with, kind_with, knowledge_as, owned_with, source_with, work_with}
 
 -- a place in rows of one length is one of some row
 pub row_of : (rows n k : ℕ) → k < rows * n → (p : ℕ) × (i : ℕ) × (p < rows) × (i < n) × (p * n + i ≡ k)
@@ -83,40 +70,24 @@ module _ (z : Numbers) (g : World) (vs : List View) (id : ℕ) (v : View) (n : N
   -- one word more of the block is all ones
   wiped_more : LawfulOwned z wipe_world id v.work v.cleared (wiper v).wiped o.block o
   wiped_more =
-      record {
-        block = mine.block;
-        low = mine.low;
-        owner = mine.owner;
-        owned = mine.owned;
-        phase = mine.phase;
-        generation = mine.generation;
-        written = mine.written;
-        rest = λ opened. let e : Open ≡ Erasing = sym opened ∙ erasing.erasing in absurd (cc);
-        dead = mine.dead;
-        clean = λ is q j low most below. dite (ℕ_discrete (q * (z.words + 1) + j) v.wiped)
-            (λ last.
-            let here = row_same q p (z.words + 1) j i (omega arith) (omega arith) (last ∙ sym next) in
-            (λ t. put_word g.pages o.block p i blank_word o.block (here.0 t) (here.1 t)) ∙ word_here g.pages o.block p i blank_word)
-            (λ earlier.
-            word_else g.pages o.block p i blank_word o.block q j (λ same. earlier ((λ t. same.1 t * (z.words + 1) + same.2 t) ∙ next)) ∙ mine.clean is q j low most (omega arith));
-      }
+      owned_with mine refl refl
+      (λ opened. let e : Open ≡ Erasing = sym opened ∙ erasing.erasing in absurd (cc))
+      mine.dead
+      (λ is q j low most below. dite (ℕ_discrete (q * (z.words + 1) + j) v.wiped)
+      (λ last.
+      let here = row_same q p (z.words + 1) j i (omega arith) (omega arith) (last ∙ sym next) in
+      (λ t. put_word g.pages o.block p i blank_word o.block (here.0 t) (here.1 t)) ∙ word_here g.pages o.block p i blank_word)
+      (λ earlier.
+      word_else g.pages o.block p i blank_word o.block q j (λ same. earlier ((λ t. same.1 t * (z.words + 1) + same.2 t) ∙ next)) ∙ mine.clean is q j low most (omega arith)))
 
   wiped_else : (c : ℕ) (e : Owned) → c ≢ o.block → owned_at c v.owns ≡ Some e → LawfulOwned z wipe_world id v.work v.cleared (wiper v).wiped c e
   wiped_else c e unlike owns =
       let h = law.views id v at in
       let k = h.holding.owned c e owns in
-      record {
-        block = k.block;
-        low = k.low;
-        owner = k.owner;
-        owned = k.owned;
-        phase = k.phase;
-        generation = k.generation;
-        written = k.written;
-        rest = λ opened q from below not j most. other_block c q j unlike ∙ k.rest opened q from below not j most;
-        dead = k.dead;
-        clean = λ is. absurd (unlike (h.kind.reclaims c o.block e o owns erasing.own (ap is_reclaimed is) (ap is_reclaimed erasing.erasing)));
-      }
+      owned_with k refl refl
+      (λ opened q from below not j most. other_block c q j unlike ∙ k.rest opened q from below not j most)
+      k.dead
+      (λ is. absurd (unlike (h.kind.reclaims c o.block e o owns erasing.own (ap is_reclaimed is) (ap is_reclaimed erasing.erasing))))
 
   wiper_lawful : LawfulView z wipe_world id (wiper v)
   wiper_lawful =
@@ -128,59 +99,24 @@ module _ (z : Numbers) (g : World) (vs : List View) (id : ℕ) (v : View) (n : N
       let apart : (c : ℕ) (e : Owned) → owned_at c v.owns ≡ Some e → ¬ (e.phase ≡ Erasing) → c ≢ o.block = λ c e owns not same.
       let entry : e ≡ o = some_same e o (sym owns ∙ (ap (λ j. owned_at j v.owns) same ∙ erasing.own)) in not (ap (λ (y : Owned). y.phase) entry ∙ erasing.erasing) in
       record {
-        kind = record {
-          numbers = kind.numbers;
-          host = kind.host;
-          known = kind.known;
-          opens = kind.opens;
-          unpinned = kind.unpinned;
-          idle = λ is. let no : true ≡ false = sym (ap is_player role) ∙ is in absurd (cc);
-          owns_none = kind.owns_none;
-          reclaims = kind.reclaims;
-        };
-        knowledge = record { seen = knows.seen; pin = knows.pin; known = knows.known; programs = knows.programs; erases = knows.erases; copy = knows.copy; older = knows.older; out = knows.out };
-        holding = record {
-          name = holds.name;
-          calls = holds.calls;
-          lists = holds.lists;
-          owned = λ c e owns. dite (ℕ_discrete c o.block)
-              (λ same.
-              let entry : o ≡ e = some_same o e (sym erasing.own ∙ (ap (λ j. owned_at j v.owns) (sym same) ∙ owns)) in
-              let P : ℕ × Owned → Type 0 = λ y. LawfulOwned z wipe_world id v.work v.cleared (wiper v).wiped y.0 y.1 in subst P (λ t. (sym same t, entry t)) wiped_more)
-              (λ unlike. wiped_else c e unlike owns);
-          work = λ w is.
-              let k = holds.work w is in
-              let unlike = apart w.page.block k.entry k.own (λ erased. let e : Open ≡ Erasing = sym k.opened ∙ erased in absurd (cc)) in
-              record {
-                entry = k.entry;
-                own = k.own;
-                opened = k.opened;
-                generation = k.generation;
-                page = k.page;
-                counted = k.counted;
-                short = k.short;
-                full = k.full;
-                stands = λ j low. other_block w.page.block w.page.page j unlike ∙ k.stands j low;
-              };
-          source = λ x is.
-              let k = holds.source x is in
-              let unlike = apart x.page.block k.entry k.own (λ erased. let e : Victim ≡ Erasing = sym k.victim ∙ erased in absurd (cc)) in
-              record {
-                entry = k.entry;
-                own = k.own;
-                victim = k.victim;
-                generation = k.generation;
-                page = k.page;
-                written = k.written;
-                stamp = other_block x.page.block x.page.page z.words unlike ∙ k.stamp;
-                value = λ value live. let t = k.value value live in ((λ j low. other_block x.page.block x.page.page j unlike ∙ t.0 j low), t.1);
-              };
-          whole = holds.whole;
-          guest = holds.guest;
-          note = holds.note;
-          home = holds.home;
-          dealer = holds.dealer;
-        };
+        kind = kind_with kind refl kind.opens
+            (λ is. let no : true ≡ false = sym (ap is_player role) ∙ is in absurd (cc))
+            kind.owns_none kind.reclaims;
+        knowledge = knowledge_as knows refl;
+        holding = holding_with holds refl refl holds.calls holds.lists
+            (λ c e owns. dite (ℕ_discrete c o.block)
+            (λ same.
+            let entry : o ≡ e = some_same o e (sym erasing.own ∙ (ap (λ j. owned_at j v.owns) (sym same) ∙ owns)) in
+            let P : ℕ × Owned → Type 0 = λ y. LawfulOwned z wipe_world id v.work v.cleared (wiper v).wiped y.0 y.1 in subst P (λ t. (sym same t, entry t)) wiped_more)
+            (λ unlike. wiped_else c e unlike owns))
+            (λ w is.
+            let k = holds.work w is in
+            let unlike = apart w.page.block k.entry k.own (λ erased. let e : Open ≡ Erasing = sym k.opened ∙ erased in absurd (cc)) in
+            work_with k k.own (λ j. other_block w.page.block w.page.page j unlike))
+            (λ x is.
+            let k = holds.source x is in
+            let unlike = apart x.page.block k.entry k.own (λ erased. let e : Victim ≡ Erasing = sym k.victim ∙ erased in absurd (cc)) in
+            source_with k k.own refl (λ j. other_block x.page.block x.page.page j unlike));
       }
 
   pub wipes_word : Lawful z wipe_world (set vs id (wiper v))
