@@ -49,11 +49,13 @@ def call(words, folder=TOP):
 
 
 def build_plain(names, words=(), suffix=""):
-    """Plain Rust's programs, by `rustc` with these words more."""
+    """Plain Rust's programs, by `rustc` with these words more; a program that is newer than all sources stays."""
     OUT.mkdir(exist_ok=True)
+    changed = max(path.stat().st_mtime for path in (BENCH / "plain").iterdir())
     for name in names:
-        source = BENCH / "plain" / f"{name}.rs"
-        call(["rustc", "-O", *words, "--edition", "2024", source, "-o", OUT / f"plain_{name}{suffix}"])
+        source, program = BENCH / "plain" / f"{name}.rs", OUT / f"plain_{name}{suffix}"
+        if not program.exists() or program.stat().st_mtime < changed:
+            call(["rustc", "-O", *words, "--edition", "2024", source, "-o", program])
 
 
 def build_program():
