@@ -188,9 +188,13 @@ class OfCollections(InARoom):
                 self.assertIn(told, done.errors)
 
     def test_arguments_that_make_no_report_are_refused(self):
-        for words in (("--erases-picture", "x.svg"), ("--victims-picture", "x.svg"), ("--collections", "log", "--victims-picture", "x.gif"), ("--pieces", "0")):
+        for words in (("--victims-picture", "x.svg"), ("--collections", "log", "--victims-picture", "x.gif"), ("--pieces", "0")):
             with self.subTest(words):
                 self.assertEqual(Run("report", COLLECTION, *words).status, 2)
+
+    @needs("matplotlib")
+    def test_a_picture_of_the_erases_needs_the_wear(self):
+        self.assertEqual(Run("report", COLLECTION, "--erases-picture", "x.svg").status, 2)
 
 
 class OverTime(unittest.TestCase):
