@@ -128,6 +128,7 @@ class OfCollections(InARoom):
         text = Run("report", COLLECTION, "--collections", log).text
         self.assertIn("collections          1, the first at line 5; 1.00 pages copied each, 100.0 % of them by copyback\n", text)
 
+    @needs("numpy", "matplotlib")
     def test_what_brooms_did_is_told_as_sums(self):
         log = self.file("log", BROOMS)
         told = json.loads(report(b"1,write,0,empty\nend\n", "--json", "--collections", log).text)
