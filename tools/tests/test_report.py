@@ -128,6 +128,7 @@ class OfCollections(InARoom):
         text = Run("report", COLLECTION, "--collections", log).text
         self.assertIn("collections          1, the first at line 5; 1.00 pages copied each, 100.0 % of them by copyback\n", text)
 
+    @needs("numpy", "matplotlib")
     def test_what_brooms_did_is_told_as_sums(self):
         log = self.file("log", BROOMS)
         told = json.loads(report(b"1,write,0,empty\nend\n", "--json", "--collections", log).text)
@@ -188,9 +189,13 @@ class OfCollections(InARoom):
                 self.assertIn(told, done.errors)
 
     def test_arguments_that_make_no_report_are_refused(self):
-        for words in (("--erases-picture", "x.svg"), ("--victims-picture", "x.svg"), ("--collections", "log", "--victims-picture", "x.gif"), ("--pieces", "0")):
+        for words in (("--victims-picture", "x.svg"), ("--collections", "log", "--victims-picture", "x.gif"), ("--pieces", "0")):
             with self.subTest(words):
                 self.assertEqual(Run("report", COLLECTION, *words).status, 2)
+
+    @needs("matplotlib")
+    def test_a_picture_of_the_erases_needs_the_wear(self):
+        self.assertEqual(Run("report", COLLECTION, "--erases-picture", "x.svg").status, 2)
 
 
 class OverTime(unittest.TestCase):

@@ -1,4 +1,4 @@
-//! A trace's commands read whole, its answers as text, and how a text goes out.
+//! Reads a trace's commands, makes its answers as text, and writes a text.
 #![tactic(auto)]
 
 mod delivery;

@@ -1,4 +1,4 @@
-//! The lines of a run's output, put into a buffer; each says where it ends.
+//! Puts the lines of a run's output into a buffer; each call returns where its line ends.
 ghost use Rattle.std.specs.Prelude.{◌≡◌, ◌+◌, ◌*◌, ◌≤◌, ◌++◌, codes, length};
 ghost use Rattle.hex.specs.Hex.{encode_lower};
 ghost use Rattle.answers.specs.Answers.{collection_line, collection_names, end_text, line_text, totals_text, wear_line, wear_names};

@@ -1,4 +1,4 @@
-//! Texts put at a place in a buffer. What stands behind a text may change, as far as its room goes.
+//! Puts texts at a place in a buffer. The bytes after a text may change, within its room.
 ghost use Rattle.std.specs.Prelude.{◌≡◌, ◌+◌, ◌*◌, ◌<◌, ◌≤◌, [], ◌∷◌, ◌++◌, length, take, decimal};
 ghost use Rattle.hex.specs.Hex.{encode_lower};
 ghost use Rattle.answers.specs.Placed.{Placed, four_digits, short_of, two_digits};
@@ -66,7 +66,7 @@ pub(crate) fn put_number(buffer: &mut [u8], at: usize, number: u64, end: u8) -> 
     last + 1
 }
 
-// Puts a number in decimal digits; where they end.
+// Puts a number in decimal digits. Returns where they end.
 #[inline(always)]
 fn put_digits(buffer: &mut [u8], at: usize, number: u64) -> usize
     requires { at + NUMBER_BYTES ≤ length buffer.old }
@@ -140,7 +140,7 @@ fn put_two(buffer: &mut [u8], at: usize, digits: u32)
     buffer[at + 1] = ones;
 }
 
-// Puts the digits of a number that has more than eight; where they end.
+// Puts the digits of a number that has more than eight. Returns where they end.
 #[cold]
 fn put_long(buffer: &mut [u8], at: usize, number: u64) -> usize
     requires { at + NUMBER_BYTES ≤ length buffer.old }

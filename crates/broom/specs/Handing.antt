@@ -41,7 +41,7 @@ IsBelow blocks drain.QueueFull = Unit {0}
 abbrev pub IsElse : Broom → Broom → Type 0
 IsElse before after = after ≡ record before { place = place_of after; aside = aside_of after }
 
--- A drained block was handed on: its number was put, or the queue was full and it is set aside
+-- A drained block was passed on: its number was put, or the queue was full and it is set aside
 pub record HandedOn (limit : ℕ) (before : Broom) (block : ℕ) (after : Broom) : Type 0 where
   pub rest : IsElse before after
   pub went : (WasPut (place_of before) block (place_of after) × (aside_of after ≡ None)) ⊎ (WasFull limit (place_of before) (place_of after) × (aside_of after ≡ Some block))
@@ -80,7 +80,7 @@ pub record DrainedAfterPut (Told : Broom → Drain → Broom → Type 0) (before
   pub drain : Told relieved answer after
   pub apart : HandsNothing relieved after
 
--- What was set aside was put first. Then the broom drained this block, and handed it on
+-- What was set aside was put first. Then the broom drained this block, and passed it on
 pub record DrainedAndHandedOn (Told : Broom → Drain → Broom → Type 0) (limit : ℕ) (before : Broom) (block copied : ℕ) (after : Broom) : Type 0 where
   pub drained : Broom
   pub drain : DrainedAfterPut Told before (drain.Drained block copied) drained
@@ -111,7 +111,7 @@ pub record FetchedAndErased (before : Broom) (block : ℕ) (answer : Erase) (aft
   pub marks : Unmarks fetched block after
   pub apart : HandsNothing fetched after
 
--- A block was fetched and not erased, since it had readers, and was handed on again
+-- A block was fetched and not erased, since it had readers, and was passed on again
 pub record FetchedAndHandedOn (limit : ℕ) (before after : Broom) : Type 0 where
   pub block : ℕ
   pub found : Broom

@@ -1,4 +1,4 @@
--- How a broom that drains its victim goes on, and what each part of it records.
+-- How a broom drains its victim step by step, and what each part of this records.
 use Rattle.std.specs.Prelude.{◌≡◌, ℕ, ◌+◌, ◌-◌, ◌<◌, ◌≤◌, ◌⊎◌, false, List, [], ◌∷◌, ◌++◌, Option, None, Some, length, MatchOption}
 use Rattle.geometry.specs.Geometry.{blocks_of, pages_of, endurance_of}
 use Rattle.geometry.specs.History.{Begins}

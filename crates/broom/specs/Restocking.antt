@@ -16,7 +16,7 @@ pub record HadSpare (v : View) (x : BroomBlocks) (w : View) (y : BroomBlocks) : 
   pub blocks : y ≡ x
 
 -- The broom had no spare. The blocks below this one were tried in order and found taken, and this one was free, in some generation less
--- than the endurance: now the broom owns it as its spare beside what it owned, open and with nothing written. Nothing else has changed
+-- than the endurance: now the broom owns it as its spare in addition to what it owned, open and with nothing written. Nothing else has changed
 pub record DidRestock (v : View) (x : BroomBlocks) (w : View) (y : BroomBlocks) : Type 0 where
   pub none : x.spare ≡ None
   pub block : ℕ

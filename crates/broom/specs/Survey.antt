@@ -31,7 +31,7 @@ loads_of states = enumerate_from 0 (map pin_word states)
 abbrev pub looks_of : List (Option MapWord) → List (ℕ × ℕ)
 looks_of pages = enumerate_from 0 (map sector_word pages)
 
--- whether a sector's page lies in this block, in this generation
+-- whether a sector's page is in this block, in this generation
 abbrev pub lies_in : ℕ → ℕ → Option MapWord → Bool
 lies_in b generation None = false
 lies_in b generation (Some m) = m.block == b && m.generation == generation

@@ -28,7 +28,7 @@ const NOT_LOADED: PinWord = PinWord {
     generation: 0,
 };
 
-// A row of so many values.
+// A list of this many values.
 fn row<T: Copy>(alloc: Global, places: usize, value: T) -> Result<Vec<T>, AllocError>
     ensures { IfOk result (λ v. v.items ≡ replicate places value) }
 {

@@ -1,4 +1,4 @@
-//! How a broom hands its drained blocks on: by its place in the queue, or set aside where the queue is full.
+//! How a broom passes its drained blocks on: by its place in the queue, or set aside if the queue is full.
 ghost use Rattle.std.specs.Prelude.{◌≡◌, ◌<◌, ◌≤◌, ◌^◌, None, IfSome, MatchBool, MatchOption};
 ghost use Rattle.erase_queue.specs.Queue.{limit_of};
 ghost use Rattle.broom.specs.Handing.{IsQueued, HandedOn, Relieved, Stuck, Fetched, FoundNone, IsElse, aside_of};
@@ -7,7 +7,7 @@ use crate::broom::Broom;
 use erase_queue::EraseQueue;
 use std::sync::Wait;
 
-// Puts a block's number into the queue, or sets it aside where the queue is full.
+// Puts a block's number into the queue, or sets it aside if the queue is full.
 pub(crate) fn hand_on(queue: &EraseQueue, rt: &impl Wait, broom: &mut Broom, block: u32)
     requires queued { IsQueued queue.now broom.old }
     requires aside { aside_of broom.old ≡ None }
@@ -21,7 +21,7 @@ pub(crate) fn hand_on(queue: &EraseQueue, rt: &impl Wait, broom: &mut Broom, blo
     }
 }
 
-// Puts what is set aside. The answer is false where the queue is full.
+// Puts what is set aside into the queue. Returns false if the queue is full.
 pub(crate) fn relieve(queue: &EraseQueue, rt: &impl Wait, broom: &mut Broom) -> bool
     requires { IsQueued queue.now broom.old }
     ensures told { MatchBool result (Relieved broom.old broom.new) (Stuck (limit_of queue.now) broom.old broom.new) }

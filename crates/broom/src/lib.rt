@@ -1,4 +1,4 @@
-//! Garbage collection on the shared device: a broom copies what is live out of a block, and erases it, beside the hosts. Only `Broom::new`
+//! Garbage collection on the shared device: a broom copies what is live out of a block, and erases it, while hosts work. Only `Broom::new`
 //! takes memory, and only the calls that take a runtime handle, which put into the queue of drained blocks and take from it, may wait.
 #![tactic(auto)]
 

@@ -5,7 +5,7 @@ ghost use Rattle.broom.specs.Ranking.{IsRanked, Ranks, key_of};
 
 use std::alloc::{AllocError, Global};
 
-// A block's number is below this, and stands in a key below the count of its live pages.
+// A block's number is below this, and is in a key below the count of its live pages.
 const ONE_PAGE: u64 = 0x1_0000_0000;
 
 // The keys of the blocks that were marked when the ranking was made, in rising order, and the place of the first one that isn't done with.
@@ -26,7 +26,7 @@ fn key(count: u32, block: usize) -> u64
 }
 
 impl Ranking {
-    // The room for a ranking of so many blocks, which isn't made yet.
+    // The room for a ranking of this many blocks, which isn't made yet.
     pub(crate) fn new(alloc: Global, blocks: usize) -> Result<Ranking, AllocError>
         ensures { IfOk result (λ ranking. (blocks ≤ vec_capacity ranking.keys) × (ranking.made ≡ false)) }
     {
@@ -38,7 +38,7 @@ impl Ranking {
         })
     }
 
-    // A new survey was made, by which the next choice ranks the blocks anew.
+    // A new survey was made, by which the next choice ranks the blocks again.
     pub(crate) fn forget(&mut self)
         ensures { self.new ≡ record self.old { made = false } }
     {

@@ -40,7 +40,7 @@ fn live_sector(flash: &Flash, seat: &mut BroomSeat, page: MapWord) -> Option<u32
     }
 }
 
-// Makes the spare the destination, where there is none.
+// Makes the spare the destination, if there is none.
 fn open_destination(seat: &mut BroomSeat)
     ensures told { Opened seat.old seat.new }
     ensures broom { (f : Flash) → IsBroomOf f seat.old → IsBroomOf f seat.new }

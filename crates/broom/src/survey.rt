@@ -84,7 +84,7 @@ pub(crate) fn choose(flash: &Flash, broom: &mut Broom) -> Option<u32>
     gains(flash, broom, victim)
 }
 
-// Chooses the block to be drained next by the last survey, if there is something to gain. It ranks the blocks where the survey is new.
+// Chooses the block to drain next by the last survey, if there is something to gain. It ranks the blocks if the survey is new.
 pub(crate) fn choose_next(flash: &Flash, broom: &mut Broom) -> Option<u32>
     requires { IsReady flash.now broom.old }
     ensures told { MatchOption result (GainsNothingNext broom.old) (IsNext broom.old) }

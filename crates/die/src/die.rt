@@ -61,7 +61,7 @@ impl Die {
         self.geometry
     }
 
-    // Where a page stands in the storage.
+    // The place of a page in the storage.
     fn place_of(&self, at: PageAddr) -> usize
         requires block { at.block < blocks_of (geometry_of self.now) }
         requires page { at.page < pages_of (geometry_of self.now) }

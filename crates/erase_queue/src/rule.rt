@@ -36,7 +36,7 @@ impl Split<Sight> for Begin {
     ghost right = { λ v. gone };
 }
 
-/// A pass is handed out.
+/// A pass is dealt.
 pub struct Deal;
 
 impl Split<Sight> for Deal {

@@ -9,7 +9,7 @@ use std::marker::Model;
 pub enum Role {
     /// It sets the limit of the numbers.
     Counter,
-    /// It hands out the passes.
+    /// It deals the passes.
     Dealer,
     /// It puts and takes numbers.
     User,

@@ -1,4 +1,4 @@
--- What a struct keeps beside a hold.
+-- What a struct keeps together with a hold.
 use Rattle.std.specs.Prelude.{ℕ, List, []}
 use Rattle.std.proofs.Props.{props}
 use Rattle.flash_rule.specs.declared.facts.Pin.{Pin}
@@ -19,6 +19,6 @@ pinned_value (pin.Stray block) = []
 abbrev pub held_value : Held → List ℕ
 held_value h = pinned_value (view_of (pass_of h)).pin
 
--- that a value is held is a fact with at most one proof, so that a struct can keep it beside its hold
+-- that a value is held is a fact with at most one proof, so that a struct can keep it together with its hold
 pub Holds-prop : (f : Flash) (h : Held) (value : List ℕ) → IsProp (Holds f h value)
 Holds-prop f h value = hlevel props

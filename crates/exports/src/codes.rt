@@ -32,7 +32,7 @@ pub const BAD_SEATS: u32 = 107;
 pub const NOTHING_TO_GAIN: u32 = 20;
 /// A broom has no spare to drain into, or a restock finds no block for one.
 pub const NO_SPARE: u32 = 21;
-/// The state of a drain's block changed meanwhile.
+/// The state of a drain's block changed in between.
 pub const LOST: u32 = 22;
 /// An erase was the block's last.
 pub const RETIRED: u32 = 23;

@@ -65,7 +65,7 @@ impl Handle {
         slot.end();
     }
 
-    /// Puts a seat into a closed handle. Without memory for it the seat is given up, and the handle stays closed.
+    /// Puts a seat into a closed handle. If there is no memory for it, the seat is dropped, and the handle stays closed.
     pub(crate) fn fill(&mut self, alloc: Global, seat: Seat) -> bool
         requires { seat_of self.old ≡ None }
         ensures filled { result ≡ true → seat_of self.new ≡ Some seat }

@@ -57,7 +57,7 @@ impl Host {
         }
     }
 
-    // Writes bytes to a sector, and answers what it was.
+    // Writes bytes to a sector, and returns what it was.
     pub(crate) fn write(&mut self, sector: u32, bytes: &[u8]) -> u32
         ensures device { self.new.volume ≡ self.old.volume }
         ensures code { result ≡ by_place (numbers_of (host_volume self.old)) sector (length bytes.now) 3 4 (block_found result) }
@@ -104,7 +104,7 @@ impl Host {
         }
     }
 
-    // Empties a sector, and answers what it was.
+    // Empties a sector, and returns what it was.
     pub(crate) fn trim(&mut self, sector: u32) -> u32
         ensures device { self.new.volume ≡ self.old.volume }
         ensures code { result ≡ if nat_le (sectors_of (numbers_of (host_volume self.old))) sector then 3 else (if nat_le result 1 then result else 0) }

@@ -27,7 +27,7 @@ pub(crate) fn read(layer: &OneFtl, sector: u32, out: &mut [u8]) -> u32
     }
 }
 
-// Writes bytes to a sector, and answers what it was.
+// Writes bytes to a sector, and returns what it was.
 pub(crate) fn write(layer: &mut OneFtl, sector: u32, bytes: &[u8]) -> u32
     ensures code { result ≡ (write_on sector bytes.now (machine_of layer.old)).code }
     ensures state { Open (machine_of layer.new) ≡ (write_on sector bytes.now (machine_of layer.old)).state }
@@ -64,7 +64,7 @@ pub(crate) fn write_new(layer: &mut OneFtl, sector: u32, bytes: &[u8]) -> u32
     }
 }
 
-// Empties a sector, and answers what it was.
+// Empties a sector, and returns what it was.
 pub(crate) fn trim(layer: &mut OneFtl, sector: u32) -> u32
     ensures code { result ≡ (trim_on sector (machine_of layer.old)).code }
     ensures state { Open (machine_of layer.new) ≡ (trim_on sector (machine_of layer.old)).state }

@@ -49,7 +49,7 @@ fn retire_brooms(volume: &Volume, brooms: Vec<Broom>)
     brooms.destroy_empty();
 }
 
-// A pass into a closed handle. Without memory it is given up, and the handle stays closed.
+// Puts a pass into a closed handle. If memory runs out, it is retired, and the handle stays closed.
 fn seat_host(alloc: Global, volume: &Arc<Volume, Global>, pass: Pass, handle: &mut Handle) -> bool
     requires pass { IsReady (flash_of (arc_value volume.now)) pass }
     requires closed { IsClosed handle.old }
@@ -63,7 +63,7 @@ fn seat_host(alloc: Global, volume: &Arc<Volume, Global>, pass: Pass, handle: &m
     handle.fill(alloc, Seat::Host(Host { volume, pass }))
 }
 
-// A broom into a closed handle. Without memory it is given up, and the handle stays closed.
+// Puts a broom into a closed handle. If memory runs out, it is retired, and the handle stays closed.
 fn seat_broom(
     alloc: Global,
     volume: &Arc<Volume, Global>,
@@ -82,7 +82,7 @@ fn seat_broom(
     handle.fill(alloc, Seat::Sweeper(Sweeper { volume, broom }))
 }
 
-// A pass into each of these handles, pass t into handle t. Without memory all stay closed, and the passes are given up.
+// Puts a pass into each of these handles, pass t into handle t. If memory runs out, all stay closed, and the passes are retired.
 fn seat_hosts(
     alloc: Global,
     volume: &Arc<Volume, Global>,
@@ -110,7 +110,7 @@ fn seat_hosts(
     true
 }
 
-// A broom into each of these handles, broom i into handle i. Without memory all stay closed, and the brooms are given up.
+// Puts a broom into each of these handles, broom i into handle i. If memory runs out, all stay closed, and the brooms are retired.
 fn seat_brooms(
     alloc: Global,
     volume: &Arc<Volume, Global>,

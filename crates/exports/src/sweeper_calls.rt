@@ -15,7 +15,7 @@ use crate::seat::Sweeper;
 use volume::{Drain, Erase, NoGate};
 
 impl Sweeper {
-    // Drains a block. With 0 its number and how many pages moved are handed out.
+    // Drains a block. With 0 it reports the block's number and how many pages moved.
     pub(crate) fn drain(&mut self, block: &mut u32, moved: &mut u32) -> u32
         ensures device { self.new.volume ≡ self.old.volume }
         ensures code { result ≡ if result == 0 then 0 else (if result == 20 then 20 else (if result == 21 then 21 else 22)) }
@@ -30,7 +30,7 @@ impl Sweeper {
         hand_out(answer, block, moved)
     }
 
-    // Drains the next block by the survey that the broom made last. With 0 its number and how many pages moved are handed out.
+    // Drains the next block by the survey that the broom made last. With 0 it reports the block's number and how many pages moved.
     pub(crate) fn drain_next(&mut self, block: &mut u32, moved: &mut u32) -> u32
         ensures device { self.new.volume ≡ self.old.volume }
         ensures code { result ≡ if result == 0 then 0 else (if result == 20 then 20 else (if result == 21 then 21 else 22)) }
@@ -80,7 +80,7 @@ impl Sweeper {
     }
 }
 
-// The code of a drain's answer. The number of a drained block, and how many pages moved, are handed out.
+// The code of a drain's answer. Reports the number of a drained block, and how many pages moved.
 fn hand_out(answer: Drain, block: &mut u32, moved: &mut u32) -> u32
     ensures code { result ≡ if result == 0 then 0 else (if result == 20 then 20 else (if result == 21 then 21 else 22)) }
     ensures answer { answer ≢ drain.QueueFull → drain_by result block.new moved.new ≡ answer }

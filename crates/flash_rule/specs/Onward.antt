@@ -12,7 +12,7 @@ use Rattle.flash_rule.specs.Views.{calls_of}
 use Rattle.flash_rule.specs.World.{World, is_owned, is_intact, age_of}
 use Rattle.flash_rule.specs.Rule.{IsProgrammed, IsDealt}
 
--- A block's state goes on: it gets no younger, loses no written page within a generation, and stays intact while it has readers; it is
+-- A block's state goes forward: it gets no younger, loses no written page within a generation, and stays intact while it has readers; it is
 -- intact only if it was intact or was taken while free; and it becomes free only in a new generation
 pub record PinOnward (p q : PinWord) : Type 0 where
   pub generation : p.generation ≤ q.generation

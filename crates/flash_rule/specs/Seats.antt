@@ -1,4 +1,4 @@
--- The views that the dealer hands out, and the rule as the table has it.
+-- The views that the dealer deals, and the rule in the form of the table.
 use Rattle.std.specs.Prelude.{ℕ, zero, suc, ◌+◌, ◌-◌, ◌*◌, false, true, List, [], ◌∷◌, ◌++◌, None, Some, replicate}
 use Rattle.atomic_table.specs.Table.{State}
 use Rattle.geometry.specs.Limits.{Numbers}
@@ -65,7 +65,7 @@ abbrev pub spares : ℕ → ℕ → List Owned
 spares zero from = []
 spares (suc n) from = spare from ∷ spares n (from + 1)
 
--- the dealer owns the brooms' spares, which are the last blocks, until it hands them out
+-- the dealer owns the brooms' spares, which are the last blocks, until it deals them
 abbrev pub dealer : Numbers → View
 dealer z = record (newcomer z Dealer) { owns = spares z.brooms (z.blocks - z.brooms) }
 
@@ -73,7 +73,7 @@ dealer z = record (newcomer z Dealer) { owns = spares z.brooms (z.blocks - z.bro
 abbrev pub new_pass : View → View
 new_pass v = record (newcomer v.numbers (Player (Pass v.passes))) { known = replicate v.numbers.blocks 0; whole = true }
 
--- the dealer has handed out one pass more
+-- the dealer has dealt one pass more
 abbrev pub dealt_pass : View → View
 dealt_pass v = record v { passes = v.passes + 1 }
 
@@ -85,7 +85,7 @@ next_spare v = v.numbers.blocks - v.numbers.brooms + v.brooms
 abbrev pub new_broom : View → View
 new_broom v = record (newcomer v.numbers (Player (Broom v.brooms))) { owns = spares 1 (next_spare v); whole = true }
 
--- the dealer has handed out one broom more, and no longer owns its spare
+-- the dealer has dealt one broom more, and no longer owns its spare
 abbrev pub dealt_broom : View → View
 dealt_broom v = record v { brooms = v.brooms + 1; owns = without (next_spare v) v.owns }
 

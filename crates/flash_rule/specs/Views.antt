@@ -65,7 +65,7 @@ same_name (Pass t) (Broom j) = false
 same_name (Broom i) (Pass u) = false
 same_name (Broom i) (Broom j) = i == j
 
--- for how many passes a role counts: a pass for one, and the dealer for as many as it still has to hand out
+-- for how many passes a role counts: a pass for one, and the dealer for as many as it still has to deal
 abbrev pub role_weight : ℕ → Role → ℕ → ℕ
 role_weight hosts (Player (Pass t)) passes = 1
 role_weight hosts (Player (Broom i)) passes = 0

@@ -27,7 +27,7 @@ pub record World : Type 0 where
   pub pages : ℕ → ℕ → ℕ → ℕ
   -- the seat that owns a block, if one does
   pub owner : ℕ → ℕ
-  -- how many passes and brooms have been handed out, and the seat of each
+  -- how many passes and brooms have been dealt, and the seat of each
   pub passes : ℕ
   pub brooms : ℕ
   pub seat : Name → ℕ

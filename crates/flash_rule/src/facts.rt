@@ -11,7 +11,7 @@ pub enum Name {
 
 /// What a seat is for.
 pub enum Role {
-    /// It hands out the passes and brooms.
+    /// It deals the passes and brooms.
     Dealer,
     Player(Name),
     /// It carries copies of a player's lists to another one.

@@ -82,7 +82,7 @@ impl Play<(), View> for RemoveReader {
     ghost then = { unpin_told };
 }
 
-/// The dealer hands out the next pass.
+/// The dealer deals the next pass.
 pub struct DealPass;
 
 impl Split<View> for DealPass {
@@ -91,7 +91,7 @@ impl Split<View> for DealPass {
     ghost right = { new_pass };
 }
 
-/// The dealer hands out the next broom, with its spare block.
+/// The dealer deals the next broom, with its spare block.
 pub struct DealBroom;
 
 impl Split<View> for DealBroom {

@@ -57,7 +57,7 @@ pub struct View {
     /// The blocks that were found with readers, and those that were found not drained.
     pub ghost busy: { List ℕ },
     pub ghost stale: { List ℕ },
-    /// How many passes and how many brooms the dealer has handed out.
+    /// How many passes and how many brooms the dealer has dealt.
     pub ghost passes: { ℕ },
     pub ghost brooms: { ℕ },
     /// Whether the seat has its own badge.

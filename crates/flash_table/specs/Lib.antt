@@ -5,5 +5,5 @@ pub mod Erasing
 pub mod GivingUp
 pub mod Steps
 pub mod Spares
--- Internal: the plain data of a seat beside its view.
+-- Internal: the plain data of a seat and its view.
 pub mod Owning

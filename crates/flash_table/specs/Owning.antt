@@ -1,4 +1,4 @@
--- The plain data of a seat, beside the blocks that it owns.
+-- The plain data of a seat, and the blocks that it owns.
 use Rattle.std.specs.Prelude.{◌≡◌, ℕ, List, [], ◌∷◌, ◌++◌, Option, None, Some}
 use Rattle.std.proofs.Props.{props}
 use Rattle.geometry.specs.declared.pin_word.Phase.{Phase}

@@ -9,7 +9,7 @@ use Rattle.flash_table.specs.Owning.{owned_of}
 abbrev pub fresh_block : ℕ → ℕ → OpenBlock
 fresh_block block generation = record { block = block; generation = generation; written = 0 }
 
--- The block was free, in some generation less than the endurance, and is now the broom's spare beside what it owned, open and with nothing
+-- The block was free, in some generation less than the endurance, and is now the broom's spare in addition to what it owned, open and with nothing
 -- written
 pub record GotSpare (v : View) (x : BroomBlocks) (block : ℕ) (w : View) (y : BroomBlocks) : Type 0 where
   pub generation : ℕ

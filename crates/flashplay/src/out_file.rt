@@ -5,7 +5,7 @@ use std::io;
 use std::io::Write;
 use std::os::unix::fs::{FileTypeExt, MetadataExt};
 
-/// Where the run's file stands that was opened last, by its device and its number there.
+/// The file of the run that was opened last, by its device and its number there.
 pub type Place = Cell<Option<(u64, u64)>>;
 
 /// A file that a run writes in addition to its answers. It is emptied when its first bytes are written.
@@ -15,7 +15,7 @@ pub struct OutFile<'a> {
     // That of another file of the run, until this one is opened.
     other: &'a Place,
     file: Option<File>,
-    // Whether bytes of another run may stand in it.
+    // Whether it may contain bytes of another run.
     is_old: bool,
 }
 
@@ -65,7 +65,7 @@ impl Write for OutFile<'_> {
     }
 }
 
-// Opens a file as it stands, or makes it.
+// Opens a file with its contents, or makes it.
 fn open(runtime: &HostRuntime, name: &str) -> io::Result<(File, Metadata)> {
     let file = OpenOptions::new()
         .write(true)

@@ -20,7 +20,7 @@ pub fn fewest_beside(counts: &[u16], left_out: usize) -> usize
     left_out + 1 + first_of(above, least)
 }
 
-// The smallest count, or the largest number where there is none.
+// The smallest count, or the largest number if there is none.
 fn least_of(counts: &[u16]) -> u16
     ensures { IsLeast counts.now (length counts.now) result }
 {
@@ -31,7 +31,7 @@ fn least_of(counts: &[u16]) -> u16
     least
 }
 
-// The first place of a count, or the length where there is none.
+// The first place of a count, or the length if there is none.
 fn first_of(counts: &[u16], count: u16) -> usize
     ensures { IsFirst counts.now count result }
 {
@@ -45,7 +45,7 @@ fn first_of(counts: &[u16], count: u16) -> usize
     at
 }
 
-// Whether a count stands at one of the next places. All are looked at, by vector instructions.
+// Whether a count is at one of the next places. All are compared, by vector instructions.
 #[inline(always)]
 fn stands_within(counts: &[u16], at: usize, count: u16) -> bool
     requires { at + LANES ≤ length counts.now }

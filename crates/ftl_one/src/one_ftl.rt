@@ -259,7 +259,7 @@ impl OneFtl {
         }
     }
 
-    // How many of so many copies are copybacks: all within one LUN, and none to another.
+    // How many of this many copies are copybacks: all within one LUN, and none to another.
     fn copybacks(&self, victim: u32, spare: u32, copied: u32) -> u32
         requires victim { victim < blocks_of (store_geometry_of self.now.store) }
         requires spare { spare < blocks_of (store_geometry_of self.now.store) }

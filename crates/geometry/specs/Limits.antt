@@ -23,7 +23,7 @@ numbers luns blocks pages words sectors endurance hosts brooms =
 abbrev pub table_words_of : ℕ → ℕ → ℕ → ℕ → ℕ
 table_words_of blocks pages words sectors = sectors + blocks + blocks * pages * (words + 1)
 
--- the sectors fit beside what collection needs: with one thread a spare block and one page, and in a shared device a block for each host
+-- the sectors fit in addition to what collection needs: with one thread a spare block and one page, and in a shared device a block for each host
 -- and two for each broom
 abbrev pub has_room_of : ℕ → ℕ → ℕ → ℕ → ℕ → Bool
 has_room_of blocks pages sectors hosts brooms =

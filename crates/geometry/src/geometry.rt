@@ -197,7 +197,7 @@ impl Geometry {
         self.words as usize * WORD_BYTES as usize
     }
 
-    /// The LUN in which a block lies.
+    /// The LUN of a block.
     pub fn lun_of(&self, block: u32) -> u32
         requires { block < blocks_of self.now }
         ensures value { result ≡ lun_of self.now block }
@@ -220,7 +220,7 @@ fn table_words(blocks: u32, pages: u32, words: u32, sectors: u32) -> u64
         + u64::from(blocks) * u64::from(pages) * (u64::from(words) + 1)
 }
 
-// Whether the sectors fit beside what collection needs.
+// Whether the sectors fit in addition to what collection needs.
 fn has_room(blocks: u32, pages: u32, sectors: u32, hosts: u32, brooms: u32) -> bool
     requires blocks_low { MIN_BLOCKS ≤ blocks }
     requires blocks_high { blocks ≤ MAX_BLOCKS }

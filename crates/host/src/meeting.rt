@@ -1,4 +1,4 @@
-//! What two passes have seen is tied; and a pass is given up.
+//! Ties what two passes have seen, and retires a pass.
 ghost use Rattle.std.specs.Prelude.{◌≡◌, ℕ, List};
 ghost use Rattle.flash_table.specs.Flash.{view_of, opened_of};
 ghost use Rattle.flash_table.specs.Leaving.{retired_view};

@@ -114,7 +114,7 @@ pub record Filing : Type 1 where
   pub is_opened_as : Text → Type 0
   pub stream : Passage
 
--- What a clause sees of the files that a run writes beside its answers
+-- What a clause sees of the files that a run writes in addition to its answers
 pub record Filings : Type 1 where
   pub wear : Filing
   pub collections : Filing

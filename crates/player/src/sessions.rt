@@ -48,7 +48,7 @@ pub fn session<'a, T: Threads + Wait + Clock + Sync, R: Read, W: Write, E: Write
         (over E.contents errors.old errors.new)
         (filings F.opened_as F.contents files.old files.new) }
 
-    // A session that ends well tells nothing there.
+    // A session that ends well writes nothing there.
     ensures quiet { result ≡ 0 → stream_of E.contents errors.new ≡ stream_of E.contents errors.old }
 {
     match attempt(rt, alloc, words, reader, writer, files) {
@@ -155,7 +155,7 @@ fn open_files<F: NamedFile>(given: Options<'_>, files: &mut RunFiles<F>) -> Resu
     Ok(())
 }
 
-// Opens a file, where it is named.
+// Opens a file, if it is named.
 fn open_file<F: NamedFile>(name: Option<&str>, file: &mut Watched<F>) -> Result<(), FileStop>
     ensures opened { OnOk result (IsOpened (option_map (λ n. n.now) name.entry) (filing F.opened_as F.contents file.old file.new)) }
     ensures why { IfErr result (λ why. (fault : OpenFault) × (why ≡ stop_of_open fault)) }

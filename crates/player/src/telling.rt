@@ -38,7 +38,7 @@ fn tell_text<E: Write>(text: &str, errors: &mut Watched<E>)
     let _ = send(errors, text.as_bytes());
 }
 
-// The line that tells a stop. It is empty where the text is clap's.
+// The line that reports a stop. It is empty if the text is clap's.
 fn line(stop: &Stop) -> Line
     ensures { result.bytes ≡ line_of stop.now }
 {
@@ -56,7 +56,7 @@ fn line(stop: &Stop) -> Line
     }
 }
 
-// The line that tells why a run stopped.
+// The line that reports why a run stopped.
 fn run_line(fault: RunFault) -> Line
     ensures { result.bytes ≡ run_text fault ++ codes "\n" }
 {

@@ -84,6 +84,6 @@ abbrev pub rounds_of : List Command → List (List Command)
 rounds_of [] = [] ∷ []
 rounds_of (c ∷ cs) = if is_meet c.op then [] ∷ rounds_of cs else in_first_round c (rounds_of cs)
 
--- in each round the workers' lines are at disjoint sectors, but for sectors that the round only reads
+-- in each round the workers' lines are at disjoint sectors, except for sectors that the round only reads
 abbrev pub IsDisjointTrace : List Command → Type 0
 IsDisjointTrace cs = All AreDisjointCommands (rounds_of cs)

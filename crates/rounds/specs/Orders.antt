@@ -14,8 +14,8 @@ made calls xs = flat_map calls xs
 abbrev pub lines_of : {X : Type 0} → (X → ℕ) → ℕ → List X → List X
 lines_of worker t xs = filter (λ x. worker x == t) xs
 
--- One worker has played its lines between two histories: each line was rightly answered at a history of its own, which begins with that of the line before and
--- its calls, and the last history begins with that of the last line and its calls
+-- One worker has played its lines between two histories: each line was answered correctly at a history of its own, which begins with that of
+-- the line before and its calls, and the last history begins with that of the last line and its calls
 abbrev pub Plays : {X : Type 0} → (X → ℕ) → (X → List Call) → (X → Sector → Type 0) → ℕ → List Call → List X → List Call → Type 0
 Plays sector calls right n seen [] last = Begins seen last
 Plays sector calls right n seen (x ∷ xs) last =

@@ -1,4 +1,4 @@
--- What is written to the files of a run beside its answers.
+-- What is written to the files of a run, in addition to its answers.
 use Rattle.std.specs.Prelude.{◌≡◌, ◌≢◌, ℕ, Bool, true, false, List, Result, Ok, Err}
 use Rattle.geometry.specs.declared.geometry.Geometry.{Geometry}
 use Rattle.answers.specs.Streams.{Passage, Sends, SendsBeginning, Stream, Tells, TellsPart}

@@ -18,7 +18,7 @@ pub record IsWholeTextOfSome (n : ℕ) (commands : List Command) (text : List �
   pub whole : text ≡ lines ++ end_text
 
 -- This is a text of the commands that these bytes mean: a line for each command with its worker's next answer, and the last line. All
--- lines were answered at one history, and where the trace is disjoint, they are the answers of the trace, with the writes turned away at
+-- lines were answered at one history, and if the trace is disjoint, they are the answers of the trace, with the writes turned away at
 -- some set of lines
 pub record IsTextOf (geo : Geometry) (bytes text : List ℕ) : Type 0 where
   pub commands : List Command

@@ -61,7 +61,7 @@ impl Desk {
             .answer(line, command.op, command.sector, reply, &self.page);
     }
 
-    // Adds the answer line of a read. A page is told from where it stands.
+    // Adds the answer line of a read. A page is encoded where it is.
     fn answer_read(&mut self, ftl: &OneFtl, sector: u32, line: u64)
         requires sector { sector < sectors_of (geometry_of ftl.now) }
         requires page { vec_len self.old.page ≡ page_bytes_of (geometry_of ftl.now) }

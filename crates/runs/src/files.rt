@@ -1,7 +1,7 @@
 use answers::OutputFailed;
 use trace::Watched;
 
-/// The files that a run writes beside its answers.
+/// The files that a run writes in addition to its answers.
 #[derive(Drop)]
 pub struct RunFiles<F> {
     /// The collections, as they are made.

@@ -57,7 +57,7 @@ pub fn run<R: Read, W: Write>(
 }
 
 /// Plays a trace as `run` does, and writes the wanted files: the log of its collections as they are made, and the wear of the device after
-/// it. If a file fails, the run goes on without it, and its answers are whole.
+/// it. If a file fails, the run continues without it, and its answers are complete.
 pub fn run_with_files<R: Read, W: Write, V: Write>(
     alloc: Global,
     reader: &mut Watched<R>,
@@ -76,7 +76,7 @@ pub fn run_with_files<R: Read, W: Write, V: Write>(
     ensures collections { IfOk result (λ written. EndsFile wanted.collections (IsLogOf geometry.now) (stream_of R.remaining reader.old) (over V.contents files.old.collections files.new.collections) written.collections) }
     ensures wear { IfOk result (λ written. EndsFile wanted.wear (IsWearOf geometry.now) (stream_of R.remaining reader.old) (over V.contents files.old.wear files.new.wear) written.wear) }
 
-    // After a fault of the run no wear was written, and of the log only where the answers could not be written.
+    // After a fault of the run no wear was written, and a part of the log only if the answers could not be written.
     ensures why { IfErr result (ExplainsRun IsTextOf geometry.now (over R.remaining reader.old reader.new) (over W.contents writer.old writer.new)) }
     ensures log_left { IfErr result (λ fault. LeavesLog fault wanted.collections geometry.now (stream_of R.remaining reader.old) (over V.contents files.old.collections files.new.collections)) }
     ensures no_wear { OnErr result (stream_of V.contents files.new.wear ≡ stream_of V.contents files.old.wear) }
@@ -99,7 +99,7 @@ pub fn run_with_files<R: Read, W: Write, V: Write>(
     }
 }
 
-// Plays a trace and writes its log, where one is wanted; gives back the device, the desk and the log after it.
+// Plays a trace and writes its log, if one is wanted; returns the device, the desk and the log after it.
 fn run_out<R: Read, W: Write, V: Write>(
     alloc: Global,
     reader: &mut Watched<R>,
@@ -139,7 +139,7 @@ fn run_out<R: Read, W: Write, V: Write>(
     }
 }
 
-// Plays commands on an unused layer, writes the answers, and tells the log their collections.
+// Plays commands on an unused layer, writes the answers, and adds their collections to the log.
 fn play<W: Write, V: Write>(
     ftl: &mut OneFtl,
     commands: &Commands,

@@ -30,10 +30,10 @@ abbrev pub IsHome : Option Volume → Volume → Type 0
 IsHome home v =
     (home ≡ Some v) × (page_bytes_of (geometry_of (flash_of v)) ≡ 32) × (words_of (geometry_of (flash_of v)) ≡ 4)
 
--- that this value is held is a fact with at most one proof, so that a struct can keep it beside its hold
+-- that this value is held is a fact with at most one proof, so that a struct can keep it together with its hold
 pub Holds-prop : (f : Flash) (h : Held) (value : List ℕ) → IsProp (Holds f h value)
 Holds-prop f h value = hlevel props
 
--- that a broom's seat rests is a fact with at most one proof, so that a struct can keep it beside its seat
+-- that a broom's seat rests is a fact with at most one proof, so that a struct can keep it together with its seat
 pub IsRested-prop : (f : Flash) (s : BroomSeat) → IsProp (IsRested f s)
 IsRested-prop f s = hlevel (props, number-prop, filed-prop)

@@ -48,17 +48,17 @@ pub record Joins (s : State) (text : List ℕ) (start end : ℕ) : Type 0 where
   pub high : end ≤ length text
   pub runs : Runs default_config s (take (end - start) (drop start text))
 
--- a field without open quotes goes on from the one place to the other, where it ends
+-- a field without open quotes continues from the one place to the other, where it ends
 pub record EndsPlain (text : List ℕ) (start end : ℕ) : Type 0 where
   pub joins : Joins st.InField text start end
   pub stops : ends_field (drop end text) ≡ true
 
--- a field with open quotes goes on from the one place to the next quote, or to the end of the text
+-- a field with open quotes continues from the one place to the next quote, or to the end of the text
 pub record EndsQuoted (text : List ℕ) (start end : ℕ) : Type 0 where
   pub joins : Joins st.InQuoted text start end
   pub stops : end ≢ length text → begins_with 34 (drop end text) ≡ true
 
--- a field of this value goes from the one place to the other, where it ends
+-- a field of this value reaches from the one place to the other, where it ends
 pub record IsField (text : List ℕ) (start end : ℕ) (value : List ℕ) : Type 0 where
   pub low : start ≤ end
   pub high : end ≤ length text

@@ -143,7 +143,7 @@ fn digits_at<'a>(text: &'a [u8], odd: &'a [u8], stored: &Stored) -> &'a [u8]
     }
 }
 
-// How many bytes the page of a command has, where a page has `size`.
+// How many bytes the page of a command has, if a page has `size`.
 pub(crate) fn page_len(op: Op, size: u16) -> u16
     ensures { result ≡ page_len op size }
 {

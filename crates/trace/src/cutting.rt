@@ -1,5 +1,5 @@
-// Where the records of a text stand. Their fields are cut at commas and line ends, and nothing is
-// copied: what stands between quotes is only passed over.
+// The places of the records of a text. Their fields are cut at commas and line ends, and nothing is
+// copied: the text between quotes is only skipped.
 
 ghost use Rattle.std.specs.Prelude.{◌≡◌, ◌≤◌, length, drop, true};
 ghost use Rattle.csv.specs.declared.parser.State.TheVariants.{InField};
@@ -85,7 +85,7 @@ fn plain_row<'t>(
     })
 }
 
-// Behind a byte order mark that stands at this place.
+// The place after a byte order mark at this place.
 fn mark_end(text: &[u8], at: usize) -> usize
     requires { at ≤ length text.now }
     ensures { IsMarkEnd text.now at result }
@@ -97,7 +97,7 @@ fn mark_end(text: &[u8], at: usize) -> usize
     }
 }
 
-// Behind the line ends that stand at this place.
+// The place after the line ends at this place.
 fn record_start(text: &[u8], from: usize) -> usize
     requires { from ≤ length text.now }
     ensures { StartsRecord text.now from result }
@@ -122,7 +122,7 @@ fn is_field_end(byte: u8) -> bool
     byte == b',' || is_line_end(byte)
 }
 
-// Whether this byte stands at a place.
+// Whether this byte is at a place.
 #[inline(always)]
 pub(crate) fn has(text: &[u8], at: usize, byte: u8) -> bool
     ensures { result ≡ begins_with byte (drop at text.now) }
@@ -171,7 +171,7 @@ fn plain_end(text: &[u8], start: usize) -> usize
     far_end(text, start, near)
 }
 
-// Where a field ends that goes on as far as a place. Most fields are short, and are not looked at in blocks.
+// The end of a field that reaches at least to a place. Most fields are short, and are not examined in blocks.
 #[inline(never)]
 fn far_end(text: &[u8], start: usize, from: usize) -> usize
     requires { Joins InField text.now start from }
@@ -193,7 +193,7 @@ fn far_end(text: &[u8], start: usize, from: usize) -> usize
     text.len()
 }
 
-// Where a field that begins with a quote ends. Two quotes between its quotes stand for one.
+// The end of a field that begins with a quote. Two quotes between its quotes mean one.
 #[inline(never)]
 fn quoted_end(text: &[u8], start: usize) -> usize
     requires { begins_with 34 (drop start text.now) ≡ true }

@@ -7,7 +7,7 @@ ghost use Rattle.trace.specs.Digits.{EndsDigits, bytes_of};
 
 use crate::lanes::{LANES, decode_block, digit_run};
 
-// The value of each byte as a digit, and 16 where it is none.
+// The value of each byte as a digit, and 16 if it is none.
 #[rattlefmt::skip]
 static VALUES: [u8; 256] = [
     16, 16, 16, 16, 16, 16, 16, 16, 16, 16, 16, 16, 16, 16, 16, 16,

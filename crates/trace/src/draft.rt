@@ -31,7 +31,7 @@ pub(crate) struct Stored {
 const _: () = prove!(size_of::<Stored>() == 16);
 
 impl Stored {
-    // A line whose digits stand at a place.
+    // A line whose digits are at a place.
     fn new(head: Head, start: usize, digits: u16) -> Stored
         requires { head.sector < 2 ^ 24 }
         ensures head { head_of result ≡ head }

@@ -26,7 +26,7 @@ pub fn parse(alloc: Global, text: &[u8], geometry: &Geometry) -> Result<Commands
     ensures commands { IfOk result (λ commands. commands_of text.now geometry.now ≡ Ok commands) }
     ensures each { IfOk result (λ commands. AreCommands (checked geometry.now text.now) commands) }
 
-    // The first record that is none is the fault; only running out of memory stands for it.
+    // The first invalid record is the fault; only running out of memory may be reported instead.
     ensures fault { IfErr result (λ fault. MatchBool (is_of_record fault.kind)
         (commands_of text.now geometry.now ≡ Err fault)
         (fault ≡ whole_fault Memory)) }
@@ -57,7 +57,7 @@ pub fn parse_owned(
     }
 }
 
-// The commands of a text, which is to be kept beside them.
+// The commands of a text, which is kept with them.
 fn parse_lines(alloc: Global, text: &[u8], geometry: &Geometry) -> Result<Draft, TraceFault>
     ensures kept { IfOk result (AreKept text.now) }
     ensures commands { IfOk result (λ draft. commands_of text.now geometry.now ≡ Ok (drafted text.now draft)) }
@@ -88,7 +88,7 @@ fn parse_lines(alloc: Global, text: &[u8], geometry: &Geometry) -> Result<Draft,
     }
 }
 
-// Adds the commands of lines of the usual form from a place on, and gives the place where the last one ends.
+// Adds the commands of lines of the usual form from a place on, and returns the place at which the last one ends.
 fn add_usual_lines(
     text: &[u8],
     from: usize,
@@ -212,7 +212,7 @@ fn add_read(
     }
 }
 
-// Checks a record, and gives what it says beside its digits.
+// Checks a record, and returns what it says without its digits.
 fn check(row: &Row, geometry: &Geometry) -> Result<Head, TraceFaultKind>
     ensures checked { IfOk result (IsChecked geometry.now row.now) }
     ensures refused { IfErr result (λ kind. command_of geometry.now (fields_of_row row.now) ≡ Err kind) }

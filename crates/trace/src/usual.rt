@@ -20,14 +20,14 @@ pub(crate) struct UsualLine {
     pub(crate) end: usize,
 }
 
-// A number, and where the comma behind it stands.
+// A number, and the place of the comma after it.
 #[derive(Clone, Copy)]
 struct Number {
     value: u32,
     end: usize,
 }
 
-// An op, and where the comma behind its name stands.
+// An op, and the place of the comma after its name.
 #[derive(Clone, Copy)]
 struct OpName {
     op: Op,
@@ -56,7 +56,7 @@ pub(crate) fn usual_line(text: &[u8], at: usize, geometry: &Geometry) -> Option<
     })
 }
 
-// Behind a line feed that stands at this place.
+// The place after a line feed at this place.
 #[inline(always)]
 fn line_start(text: &[u8], at: usize) -> usize
     requires { at ≤ length text.now }
@@ -119,7 +119,7 @@ fn usual_op(text: &[u8], start: usize) -> Option<OpName>
     None
 }
 
-// Whether these bytes stand at a place.
+// Whether these bytes are at a place.
 #[inline(always)]
 fn has_all(text: &[u8], start: usize, bytes: &[u8]) -> bool
     requires { start ≤ length text.now }

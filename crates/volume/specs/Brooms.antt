@@ -29,6 +29,6 @@ pub record IsFresh (f : Flash) (q : EraseQueue) (b : Broom) : Type 0 where
 abbrev pub IsUnused : Flash → ℕ → Broom → Type 0
 IsUnused f i b = (view_of_broom b ≡ first_broom (device f) i) × (blocks_of_broom b ≡ first_blocks (device f) i)
 
--- that a broom is ready is a fact with at most one proof, so that a struct can keep it beside its broom
+-- that a broom is ready is a fact with at most one proof, so that a struct can keep it together with its broom
 pub IsBroomReady-prop : (v : Volume) (b : Broom) → IsProp (IsBroomReady v b)
 IsBroomReady-prop v b = hlevel (props, IsReady-prop, IsQueued-prop)

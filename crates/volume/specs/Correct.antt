@@ -1,4 +1,4 @@
--- What holds of each read, look, write, write of an empty sector and trim, whatever other threads do meanwhile: it is one step of an array
+-- What holds of each read, look, write, write of an empty sector and trim, whatever other threads do during it: it is one step of an array
 -- of sectors, at a place of one history that only grows, and not before anything that its pass had seen.
 use Rattle.std.specs.Prelude.{◌≡◌, ℕ, Bool, List, [], ◌∷◌, ◌++◌, is_some}
 use Rattle.geometry.specs.Sectors.{Answers}

@@ -1,4 +1,4 @@
--- What holds of each call of a broom, whatever other threads do meanwhile: it changes no sector.
+-- What holds of each call of a broom, whatever other threads do during it: it changes no sector.
 use Rattle.std.specs.Prelude.{◌≡◌, ℕ, ◌<◌, All}
 use Rattle.geometry.specs.History.{Call, Write, WriteNew, Trim, held, Begins}
 use Rattle.flash_rule.specs.Views.{AreOfHosts}

@@ -1,4 +1,4 @@
--- What holds of a page from when a pass has pinned it until it is released, whatever other threads do meanwhile: its block is not erased,
+-- What holds of a page from when a pass has pinned it until it is released, whatever other threads do during it: its block is not erased,
 -- and none of its programmed pages is programmed again.
 use Rattle.std.specs.Prelude.{◌≡◌, ℕ, ◌<◌, List, Option, Some, IfSome, slice_get}
 use Rattle.geometry.specs.declared.map_word.MapWord.{MapWord}

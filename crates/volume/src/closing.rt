@@ -1,4 +1,4 @@
-//! The end of a device: what its sectors hold when all passes are given up.
+//! The end of a device: what its sectors hold when all passes are retired.
 ghost use Rattle.std.specs.Prelude.{◌≡◌, ◌<◌, All, Some, IfOk, IfErr, length, slice_get, option_map};
 ghost use Rattle.std.specs.Vec.Iter.{into_iter_items};
 ghost use Rattle.geometry.specs.Geometry.{sectors_of, hosts_of};
@@ -98,7 +98,7 @@ fn gather(
     // What all others had seen, the first pass has seen before it reads.
     meet_each(flash, first, others);
     let sectors = read_all(flash, alloc, first)?;
-    // What it has read after, they have seen too; so none of them has called meanwhile.
+    // They have also seen all after which it has read; so none of them has made a call in between.
     meet_each(flash, first, others);
     Ok(sectors)
 }
@@ -126,7 +126,7 @@ impl Volume {
         ensures read { IfOk result (λ closed. AreRead (device (flash_of self)) passes.items (last_view closed).seen (sectors_left closed)) }
         ensures first { IfOk result (λ closed. (p : Pass) → slice_get passes.items 0 ≡ Some p → HasLeft (view_of p) (last_view closed)) }
 
-        // All is handed back as it was, but that the passes have looked.
+        // Everything is returned unchanged, except that the passes have looked.
         ensures volume { IfErr result (λ back. back.0 ≡ self) }
         ensures looked { IfErr result (λ back. HaveLooked passes.items back.1.items) }
         ensures ready { IfErr result (λ back. All (IsReady (flash_of back.0)) back.1.items) }

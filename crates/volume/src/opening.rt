@@ -35,7 +35,7 @@ fn fold_all(flash: &Flash, brooms: Vec<Broom>)
     brooms.destroy_empty();
 }
 
-// A broom for each seat, in their order, with a place at the queue. `Err` is out of memory, and all seats are given up.
+// A broom for each seat, in their order, with a place at the queue. `Err` is out of memory, and all seats are folded.
 pub(crate) fn make_brooms(
     flash: &Flash,
     queue: &EraseQueue,

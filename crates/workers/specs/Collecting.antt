@@ -1,4 +1,4 @@
--- What a broom does beside the workers of a round: one call after another.
+-- What a broom does while the workers of a round play: one call after another.
 use Rattle.std.specs.Prelude.{◌≡◌, ℕ, Bool, List, [], ◌∷◌}
 use Rattle.std.specs.Arc.{arc_value}
 use Rattle.erase_queue.specs.Queue.{limit_of}

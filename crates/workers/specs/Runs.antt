@@ -20,7 +20,7 @@ use Rattle.workers.specs.Workers.{answered}
 use Rattle.workers.specs.Shares.{HasPlayedNone}
 use Rattle.workers.specs.Tasks.{HavePlayed}
 
--- The worker goes on to its next round: up to the lines of its share before an end, after those of the round before. Nothing else of it
+-- The worker continues with its next round: up to the lines of its share before an end, after those of the round before. Nothing else of it
 -- changes
 pub record IsAdvanced (end : ℕ) (p q : Worker) : Type 0 where
   pub volume : arc_value q.volume ≡ arc_value p.volume

@@ -1,4 +1,4 @@
-//! What a broom does beside the workers of a round.
+//! What a broom does while the workers of a round play.
 ghost use Rattle.std.specs.Prelude.{[], ◌∷◌};
 ghost use Rattle.workers.specs.declared.broom_answer.BroomAnswer.TheVariants as by;
 ghost use Rattle.workers.specs.Collecting.{HasCollected, HasCollectedBy};
@@ -75,7 +75,7 @@ impl Collector {
         has_spare
     }
 
-    // What follows a drain: an erase, and a restock where neither left a spare. The answer is whether anything was gained.
+    // What follows a drain: an erase, and a restock if neither left a spare. Returns whether anything was gained.
     fn follow<G: Gate>(&mut self, drain: Drain, rt: &impl Wait, gate: &mut G) -> bool
         ensures { HasCollected self.old self.new }
     {
@@ -110,7 +110,7 @@ impl Collector {
     }
 }
 
-// A rest: a yield, or a sleep of so many microseconds. The answer is how long the next one is, at most this long.
+// A rest: a yield, or a sleep of this many microseconds. Returns how long the next one is, at most this long.
 fn rest(clock: &impl Clock, micros: u64, longest: u64) -> u64 {
     if micros == 0 {
         thread::yield_now();
@@ -120,7 +120,7 @@ fn rest(clock: &impl Clock, micros: u64, longest: u64) -> u64 {
     micros.saturating_mul(2).min(longest)
 }
 
-// Takes turns until the flag is set, and rests where a turn has gained nothing.
+// Takes turns until the flag is set, and rests if a turn has gained nothing.
 #[tactic(auto, using(crate::proofs::Collected::collected_none))]
 pub(crate) fn collect<R: Wait + Clock, G: Gate>(
     rt: &R,

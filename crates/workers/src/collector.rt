@@ -16,7 +16,7 @@ use std::alloc::Global;
 use std::sync::{Arc, Wait};
 use volume::Volume;
 
-/// A broom at its device, how many blocks it drains by one survey, and what it has done so far. A collector that is dropped gives up its broom.
+/// A broom at its device, how many blocks it drains by one survey, and what it has done so far. A collector that is dropped retires its broom.
 pub struct Collector {
     pub volume: Arc<Volume, Global>,
     pub broom: Broom,

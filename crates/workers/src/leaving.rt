@@ -1,4 +1,4 @@
-//! The ends of a run. At the good one the brooms are folded, and the workers' answers are handed out.
+//! The ends of a run. After a good run the brooms are folded, and the workers' answers are returned.
 ghost use Rattle.std.specs.Prelude.{◌≡◌, ◌≤◌, All, length, map, vec_capacity};
 ghost use Rattle.std.specs.Vec.Iter.{into_iter_items};
 ghost use Rattle.host.specs.Ready.{IsReady};
@@ -30,7 +30,7 @@ pub fn fold_collectors<R: Wait>(rt: &R, collectors: Vec<Collector>, ends: &mut V
     }
 }
 
-/// Lists each worker's answers, in the order of the workers, and gives up the passes.
+/// Lists each worker's answers, in the order of the workers, and retires the passes.
 pub fn hand_out(workers: Vec<Worker>, rows: &mut Vec<Answers>)
     requires none { length rows.old.items ≡ 0 }
     requires room { length workers.items ≤ vec_capacity rows.old }

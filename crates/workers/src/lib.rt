@@ -1,4 +1,4 @@
-//! Playing a trace on a shared device by many workers at once: each is a thread with a pass of its own, and brooms collect garbage beside them.
+//! Plays a trace on a shared device by many workers at the same time: each is a thread with its own pass, and brooms collect garbage meanwhile.
 #![tactic(auto)]
 
 mod broom_answer;

@@ -11,7 +11,7 @@ use std::alloc::{AllocError, Global};
 use std::sync::Arc;
 use volume::Volume;
 
-// A new device. `Err` is out of memory, and then its passes and brooms are given up.
+// A new device. `Err` is out of memory, and then its passes and brooms are retired.
 pub(crate) fn open_shared(alloc: Global, geometry: &Geometry) -> Result<Unseated, AllocError>
     requires { 0 < hosts_of geometry.now }
     ensures { IfOk result (λ u. AreNew geometry.now (arc_value u.volume) u.passes.items u.brooms.items) }

@@ -27,17 +27,17 @@ fn found(got: Got) -> Kind
     }
 }
 
-// How many tries of a write that are turned away stand between two yields.
+// How many refused tries of a write are between two yields.
 const TRIES_A_YIELD: u32 = 16;
 
-// A write was turned away, after so many tries that were. Now and then the processor is given to another thread, as to a broom.
+// A try of a write was refused, after this many others. Sometimes this yields the processor to another thread, such as a broom.
 fn rest_after(turned_away: u32) {
     if turned_away % TRIES_A_YIELD == 0 {
         thread::yield_now();
     }
 }
 
-// Writes a page to a sector, in so many tries.
+// Writes a page to a sector, in at most this many tries.
 fn write_patiently<G: Gate>(
     volume: &Volume,
     pass: &mut Pass,
@@ -61,7 +61,7 @@ fn write_patiently<G: Gate>(
     Kind::Full
 }
 
-// Writes a page to a sector if it is empty, in so many tries.
+// Writes a page to a sector if it is empty, in at most this many tries.
 fn write_new_patiently<G: Gate>(
     volume: &Volume,
     pass: &mut Pass,

@@ -16,14 +16,14 @@ use std::thread::Threads;
 use std::time::Clock;
 use volume::Volume;
 
-// The worker goes on to its lines before this end.
+// The worker continues with its lines before this end.
 fn advance(worker: &mut Worker, end: usize)
     ensures { IsAdvanced end worker.old worker.new }
 {
     worker.to = past(&worker.places, worker.to, end);
 }
 
-// All workers go on to their lines before this end.
+// All workers continue with their lines before this end.
 fn advance_all(workers: &mut [Worker], end: usize)
     ensures { AreAdvanced end workers.old workers.new }
 {
@@ -87,7 +87,7 @@ pub fn play_round<R: Threads + Wait + Clock + Sync, G: Gate + Send>(
     Ok(team)
 }
 
-/// Plays all rounds of a trace, which `ends` separate. After a fault no thread runs, and all passes and brooms are given up.
+/// Plays all rounds of a trace, which `ends` separate. After a fault no thread runs, and all passes and brooms are retired.
 pub fn play_rounds<R: Threads + Wait + Clock + Sync, G: Gate + Send>(
     rt: &R,
     volume: &Volume,

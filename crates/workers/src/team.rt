@@ -33,7 +33,7 @@ pub struct Team {
 }
 
 impl Team {
-    /// These workers and brooms, with room for their threads. `Err` means out of memory; then all passes and brooms are given up.
+    /// These workers and brooms, with room for their threads. `Err` means out of memory; then all passes and brooms are retired.
     pub fn new(
         alloc: Global,
         workers: Vec<Worker>,
@@ -53,7 +53,7 @@ impl Team {
     }
 }
 
-// A round of a team: a gate for each worker and for each broom, and the flag that tells the brooms to stop.
+// A round of a team: a gate for each worker and for each broom, and the flag by which the brooms stop.
 #[derive(Drop)]
 struct Round<'a, G> {
     team: Team,
@@ -215,7 +215,7 @@ fn shift<'a, R: Threads + Wait + Clock + Sync, G: Gate + Send>(
 }
 
 /// Plays a round: each worker with a line has a thread that plays its lines, and brooms collect at the same time until the last worker is joined.
-/// There is a gate for each worker, and then one for each broom. After a fault no thread runs, and all passes and brooms are given up.
+/// There is a gate for each worker, and then one for each broom. After a fault no thread runs, and all passes and brooms are retired.
 pub fn play_workers<R: Threads + Wait + Clock + Sync, G: Gate + Send>(
     rt: &R,
     team: Team,

@@ -10,7 +10,7 @@ use std::alloc::Global;
 use std::sync::Arc;
 use volume::Volume;
 
-/// A device with passes and brooms that have no thread yet. If it is dropped, they are given up.
+/// A device with passes and brooms that have no thread yet. If it is dropped, they are retired.
 pub(crate) struct Unseated {
     pub volume: Arc<Volume, Global>,
     pub passes: Vec<Pass>,

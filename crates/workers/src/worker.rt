@@ -12,7 +12,7 @@ use trace::Commands;
 use volume::Volume;
 
 /// What a worker needs for a run: its pass, the indices of its lines in the trace, their answers so far with room for the others, and a buffer of
-/// one page. In a round it plays the lines that have no answer yet, up to an index of its row. If a worker is dropped, its pass is given up.
+/// one page. In a round it plays the lines that have no answer yet, up to an index of its row. If a worker is dropped, its pass is retired.
 pub struct Worker {
     pub volume: Arc<Volume, Global>,
     pub commands: Arc<Commands, Global>,
@@ -42,7 +42,7 @@ impl Drop for Worker {
 }
 
 impl Worker {
-    // The answers. The pass is given up.
+    // The answers. The pass is retired.
     pub(crate) fn into_answers(self) -> Answers
         ensures { result ≡ self.answers }
     {
