@@ -11,7 +11,7 @@ use Rattle.flash_rule.proofs.Ceding.{ceded_split}
 use Rattle.flash_rule.proofs.Frames.{counted, knowledge_kept, lists_stay}
 use Rattle.flash_rule.proofs.Assembly.{owner_kept}
 use Rattle.flash_rule.proofs.Still.{pin_stays}
-use Rattle.flash_rule.proofs.Splitting.{Owner, split_with, current_kept, player_same}
+use Rattle.flash_rule.proofs.Splitting.{Owner, split_with, current_kept, player_same, dealt_world, dealt_onward, dealer_holding, new_knowledge, new_holding}
 use Rattle.flash_rule.proofs.Keeping.{kind_with, knowledge_as}
 
 -- the dealer's spares, one by one
@@ -45,28 +45,14 @@ module _ (z : Numbers) (id : ℕ) (v : View) where
       let b : ℕ = next_spare v in
       let n : Name = Broom v.brooms in
       let new : ℕ = length vs in
-      let g' : World = record g { owner = put g.owner b new; brooms = g.brooms + 1; seat = put_name g.seat n new; programs = put_name g.programs n []; erases = put_name g.erases n []; badge = put_name g.badge n new; carries = put_name g.carries n None } in
+      let g' : World = dealt_world g n new g.passes (g.brooms + 1) (put g.owner b new) in
       let mine = holds.owned b (spare b) has in
       let not_yet : (m : Name) → IsDealt g m → ¬ (m ≡ n) = fresh_broom g v.brooms (omega arith) in
       let still_dealt : (m : Name) → IsDealt g m → IsDealt g' m = dealt_more g g' refl (omega arith) in
-      let on : Onward z g g' id id = record {
-        history = Begins-refl g.history;
-        calls = λ t _. refl;
-        seat = λ m dealt. (name_else g.seat n new m (not_yet m dealt), still_dealt m dealt);
-        pins = λ c _. pin_stays (g.pins c);
-        owned = λ c _ other _. record { owner = put_else g.owner b new c (λ same. other (ap g.owner same ∙ mine.owner)); phase = refl; generation = refl; written = refl; pages = λ p i. refl };
-        pages = λ c p i _ _ _. refl;
-        named = λ s m is. inl is;
-        programmer = λ m _. refl;
-        eraser = λ c k _. refl;
-        lists = λ m dealt. lists_stay g g' id m (name_else g.programs n [] m (not_yet m dealt)) (name_else g.erases n [] m (not_yet m dealt));
-        dealer = λ apart. absurd (apart d.0);
-        badge = λ m dealt _ _. (name_else g.badge n new m (not_yet m dealt), name_else g.carries n None m (not_yet m dealt));
-        carries = λ m c. name_all g.carries n None (λ k x. x ≡ Some c → (g.carries k ≡ Some c) ⊎ ((c.programs ≡ g.programs c.of) × (c.erases ≡ g.erases c.of)))
-            (λ is. absurd (none_some c is)) (λ k _ is. inl is) m;
-      } in
+      let on : Onward z g g' id id = dealt_onward z g id new n g.passes (g.brooms + 1) (put g.owner b new) not_yet still_dealt d.0
+      (λ c other. put_else g.owner b new c (λ same. other (ap g.owner same ∙ mine.owner))) in
       let knows = knowledge_kept z g g' id id on v (λ c is below. counted vs law id v at c is below) h.knowledge in
-      let not_player : (m : Name) → v.role ≡ Player m → ⊥ = λ m is. let e : Dealer ≡ Player m = sym role ∙ is in absurd (cc) in
+      let none = kind.idle (ap is_player role) in
       let elsewhere : (c : ℕ) (o : Owned) → owned_at c (without b v.owns) ≡ Some o → c ≢ b = λ c o is same.
       absurd (none_some o (sym (without_here b v.owns) ∙ (ap (λ j. owned_at j (without b v.owns)) (sym same) ∙ is))) in
       let own : LawfulView z g' id (dealt_broom v) = record {
@@ -74,22 +60,12 @@ module _ (z : Numbers) (id : ℕ) (v : View) where
             (λ is. let no : true ≡ false = sym is ∙ ap is_pass role in absurd (cc))
             kind.idle (λ is. ap (λ l. without b l) (kind.owns_none is)) (one_without b v.owns kind.reclaims);
         knowledge = knowledge_as knows refl;
-        holding = record {
-          name = λ m is. absurd (not_player m is);
-          calls = λ t is. absurd (not_player (Pass t) is);
-          lists = λ m is. absurd (not_player m is);
-          owned = λ c o is.
-              let unlike = elsewhere c o is in
-              owned_else z g g' id v.work v.work v.cleared v.wiped c o refl (put_else g.owner b new c unlike) (λ p i. refl) (λ s m named _. inl named) (λ p _ f. f)
-              (holds.owned c o (sym (without_else b c v.owns unlike) ∙ is));
-          work = λ w is. absurd (none_some w (sym (kind.idle (ap is_player role)).0 ∙ is));
-          source = λ x is. absurd (none_some x (sym (kind.idle (ap is_player role)).1 ∙ is));
-          whole = λ _ m is. absurd (not_player m is);
-          guest = λ m is. let k = holds.guest m is in (name_else g.badge n new m (not_yet m k.1) ∙ k.0, still_dealt m k.1);
-          note = λ m is. let e : Dealer ≡ Note = sym role ∙ is in absurd (cc);
-          home = λ m is. absurd (not_player m is);
-          dealer = λ _. (d.0, d.1, ap (λ k. k + 1) d.2);
-        };
+        holding = dealer_holding z g id new n g.passes (g.brooms + 1) (put g.owner b new) not_yet still_dealt (dealt_broom v) role (none.0, none.1) holds.guest
+            (λ c o is.
+            let unlike = elsewhere c o is in
+            owned_else z g g' id v.work v.work v.cleared v.wiped c o refl (put_else g.owner b new c unlike) (λ p i. refl) (λ s m named _. inl named) (λ p _ f. f)
+            (holds.owned c o (sym (without_else b c v.owns unlike) ∙ is)))
+            (d.0, d.1, ap (λ k. k + 1) d.2);
       } in
       let idle : (p : ℕ) → IsFilling v.work b p → ⊥ = λ p f. none_some f.work (sym (kind.idle (ap is_player role)).0 ∙ f.is) in
       let its : LawfulOwned z g' new None 0 0 b (spare b) = record {
@@ -115,39 +91,13 @@ module _ (z : Numbers) (id : ℕ) (v : View) where
           owns_none = λ is. absurd (cc);
           reclaims = one_with_open (spare b) [] refl (λ c e x y is. absurd (none_some x is));
         };
-        knowledge = record {
-          seen = (g.history, refl);
-          pin = tt;
-          known = λ c _. omega arith;
-          programs = λ m is k x at. absurd (nothing k x at);
-          erases = λ m is k x at. absurd (nothing k x at);
-          copy = λ c is. absurd (none_some c is);
-          older = λ o c is. absurd (none_some o is);
-          out = λ m c d _ is. absurd (none_some c is);
-        };
-        holding = record {
-          name = λ m is.
-              let same : n ≡ m = player_same n m is in
-              let P : Name → Type 0 = λ m. (g'.seat m ≡ new) × IsDealt g' m in
-              let here : P n = (name_here g.seat n new, omega arith) in subst P same here;
-          calls = λ t is. absurd (cc);
-          lists = λ m is.
-              let same : n ≡ m = player_same n m is in
-              let P : Name → Type 0 = λ m. (g'.programs m ≡ []) × (g'.erases m ≡ []) in
-              let here : P n = (name_here g.programs n [], name_here g.erases n []) in subst P same here;
-          owned = λ c o is. dite (ℕ_discrete c b)
-              (λ same.
-              let entry : spare b ≡ o = some_same (spare b) o (sym (with_here (spare b) []) ∙ (ap (λ j. owned_at j (spares 1 b)) (sym same) ∙ is)) in
-              let P : ℕ × Owned → Type 0 = λ x. LawfulOwned z g' new None 0 0 x.0 x.1 in subst P (λ i. (sym same i, entry i)) its)
-              (λ unlike. absurd (none_some o (sym (with_else (spare b) c [] unlike) ∙ is)));
-          work = λ w is. absurd (none_some w is);
-          source = λ x is. absurd (none_some x is);
-          whole = λ _ m is. let same : n ≡ m = player_same n m is in let P : Name → Type 0 = λ m. g'.badge m ≡ new in let here : P n = name_here g.badge n new in subst P same here;
-          guest = λ m is. absurd (none_some m is);
-          note = λ m is. absurd (cc);
-          home = λ m is _. let same : n ≡ m = player_same n m is in let P : Name → Type 0 = λ m. g'.carries m ≡ None in let here : P n = name_here g.carries n None in subst P same here;
-          dealer = λ is. absurd (cc);
-        };
+        knowledge = new_knowledge z g id new n g.passes (g.brooms + 1) (put g.owner b new) not_yet still_dealt v.numbers [] (spares 1 b) (λ c _. omega arith);
+        holding = new_holding z g id new n g.passes (g.brooms + 1) (put g.owner b new) not_yet still_dealt v.numbers [] (spares 1 b) (omega arith) (λ t is. absurd (cc))
+            (λ c o is. dite (ℕ_discrete c b)
+            (λ same.
+            let entry : spare b ≡ o = some_same (spare b) o (sym (with_here (spare b) []) ∙ (ap (λ j. owned_at j (spares 1 b)) (sym same) ∙ is)) in
+            let P : ℕ × Owned → Type 0 = λ x. LawfulOwned z g' new None 0 0 x.0 x.1 in subst P (λ i. (sym same i, entry i)) its)
+            (λ unlike. absurd (none_some o (sym (with_else (spare b) c [] unlike) ∙ is))));
       } in
       let owners : (c : ℕ) → c < z.blocks → is_owned (g.pins c).phase ≡ true → Owner g' (set vs id (dealt_broom v) ++ new_broom v ∷ []) c = λ c low owned.
       dite (ℕ_discrete c b)

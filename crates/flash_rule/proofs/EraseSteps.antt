@@ -1,15 +1,15 @@
 -- The eraser's steps on the pin word of its block: the wiped block gets free or is kept in its next generation, or it retires.
-use Rattle.flash_rule.proofs.Words.{◌≡◌, ◌≢◌, ℕ, ◌+◌, ◌*◌, ◌<◌, inl, inr, true, false, List, [], ◌∷◌, ◌++◌, Some, set, sym, refl, ap, ◌∙◌, subst}
-use Rattle.flash_rule.proofs.Words.{arith, some, get_elem?, Numbers, Begins-refl, PinWord, Free, Open, Victim, Erasing, Retired, Owned, Source, View}
-use Rattle.flash_rule.proofs.Words.{may_own, owned_at, without, with_owned, World, put, is_intact, is_nameable, half_cycle, IsBlank, rank, freed_as}
+use Rattle.flash_rule.proofs.Words.{◌≡◌, ◌≢◌, ℕ, ◌+◌, ◌*◌, ◌<◌, inl, inr, true, false, List, [], ◌∷◌, ◌++◌, set, sym, refl, ap, ◌∙◌}
+use Rattle.flash_rule.proofs.Words.{arith, some, get_elem?, Numbers, PinWord, Free, Open, Victim, Erasing, Retired, Owned, Source, View}
+use Rattle.flash_rule.proofs.Words.{may_own, without, with_owned, World, put, is_intact, is_nameable, half_cycle, IsBlank, rank, freed_as}
 use Rattle.flash_rule.proofs.Words.{LawfulOwned, LawfulSource, Lawful, IsErasing, CanRenew}
 use Rattle.std.proofs.lemmas.List.{append-nil}
 use Rattle.flash_rule.proofs.Points.{put_here}
 use Rattle.flash_rule.proofs.Places.{row_within}
-use Rattle.flash_rule.proofs.Owning.{owns_none_else, may_own_else, some_same, with_here, with_else, without_else, one_with_open, one_without}
+use Rattle.flash_rule.proofs.Owning.{owns_none_else, may_own_else, with_here, one_with_open, blocks_apart}
 use Rattle.flash_rule.proofs.PinSteps.{deeds, turned}
 use Rattle.flash_rule.proofs.Ceding.{ceded_owned, ceded_last}
-use Rattle.flash_rule.proofs.Reclaiming.{turns, entry_set, entry_gone, owner_numbers}
+use Rattle.flash_rule.proofs.Reclaiming.{turns, owner_numbers, no_erase, given_up, got, turned_block}
 
 module _ (z : Numbers) (g : World) (vs : List View) (id : ℕ) (v : View) (o : Owned) (law : Lawful z g vs) (at : get_elem? vs id ≡ some v) (erasing : IsErasing v o) where
   entry : LawfulOwned z g id v.work v.cleared v.wiped o.block o
@@ -26,10 +26,7 @@ module _ (z : Numbers) (g : World) (vs : List View) (id : ℕ) (v : View) (o : O
 
   -- the block of a source is another one
   source_else : (x : Source) → LawfulSource z g v.owns v.cleared x → x.page.block ≢ o.block
-  source_else x k same =
-      let P : ℕ → Type 0 = λ c. owned_at c v.owns ≡ Some k.entry in
-      let e : o ≡ k.entry = some_same o k.entry (sym erasing.own ∙ subst P same k.own) in
-      let no : Erasing ≡ Victim = sym erasing.erasing ∙ (ap (λ (y : Owned). y.phase) e ∙ k.victim) in absurd (cc)
+  source_else x k = blocks_apart v.owns o k.entry x.page.block erasing.own k.own (λ e. let no : Erasing ≡ Victim = sym erasing.erasing ∙ (e ∙ k.victim) in absurd (cc))
 
   not_intact : is_intact (g.pins o.block).phase ≡ true → ⊥
   not_intact is = let no : true ≡ false = sym is ∙ ap is_intact is_erasing in absurd (cc)
@@ -80,7 +77,6 @@ module _ (z : Numbers) (g : World) (vs : List View) (id : ℕ) (v : View) (o : O
         };
         alone = λ other _. other entry.owner;
         shut = not_open;
-        eraser = λ c n _. refl;
         readers = refl;
         written = block.written;
         generation = block.generation;
@@ -88,15 +84,8 @@ module _ (z : Numbers) (g : World) (vs : List View) (id : ℕ) (v : View) (o : O
         rest = λ is. absurd (cc);
         owner = λ is. absurd (cc);
         named = λ s m _ _ same current. absurd (not_named (ap (λ j. is_nameable (g.pins j).phase) (sym same) ∙ current.phase));
-        there = λ c unlike. without_else b c v.owns unlike;
-        here = λ e is. absurd (entry_gone b e v.owns is);
-        opens = λ _ e is. absurd (entry_gone b e v.owns is);
-        owns_none = λ is. ap (λ l. without b l) (h.kind.owns_none is);
-        reclaims = one_without b v.owns h.kind.reclaims;
-        idle = λ is. (h.kind.idle is).3;
-        erases = λ n _ old. old;
-        lists = λ n _. (Begins-refl (g.erases n), λ _. refl);
-        listed = λ n _ its. its;
+        listing = no_erase z g id v b retired_state (law.views id v at).kind;
+        owning = given_up z (turned_block g b retired_state id) id v b v.cleared v.wiped (law.views id v at).kind;
         cleared = omega arith;
         wiped = omega arith;
         source = λ x _ k. (source_else x k, refl);
@@ -146,7 +135,6 @@ module _ (z : Numbers) (g : World) (vs : List View) (id : ℕ) (v : View) (o : O
         };
         alone = λ other _. other entry.owner;
         shut = not_open;
-        eraser = λ c n _. refl;
         readers = refl;
         written = omega arith;
         generation = young can;
@@ -154,15 +142,8 @@ module _ (z : Numbers) (g : World) (vs : List View) (id : ℕ) (v : View) (o : O
         rest = λ _ p _ below. all_blank can p below;
         owner = λ is. absurd (cc);
         named = λ s m _ _ same current. absurd (not_named (ap (λ j. is_nameable (g.pins j).phase) (sym same) ∙ current.phase));
-        there = λ c unlike. without_else b c v.owns unlike;
-        here = λ e is. absurd (entry_gone b e v.owns is);
-        opens = λ _ e is. absurd (entry_gone b e v.owns is);
-        owns_none = λ is. ap (λ l. without b l) (h.kind.owns_none is);
-        reclaims = one_without b v.owns h.kind.reclaims;
-        idle = λ is. (h.kind.idle is).3;
-        erases = λ n _ old. old;
-        lists = λ n _. (Begins-refl (g.erases n), λ _. refl);
-        listed = λ n _ its. its;
+        listing = no_erase z g id v b freed_state (law.views id v at).kind;
+        owning = given_up z (turned_block g b freed_state id) id v b v.cleared v.wiped (law.views id v at).kind;
         cleared = omega arith;
         wiped = omega arith;
         source = λ x _ k. (source_else x k, refl);
@@ -212,7 +193,6 @@ module _ (z : Numbers) (g : World) (vs : List View) (id : ℕ) (v : View) (o : O
         };
         alone = λ other _. other entry.owner;
         shut = not_open;
-        eraser = λ c n _. refl;
         readers = refl;
         written = omega arith;
         generation = young can;
@@ -220,15 +200,8 @@ module _ (z : Numbers) (g : World) (vs : List View) (id : ℕ) (v : View) (o : O
         rest = λ is. absurd (cc);
         owner = λ _. (kept_block, with_here kept_block v.owns);
         named = λ s m _ _ same current. absurd (not_named (ap (λ j. is_nameable (g.pins j).phase) (sym same) ∙ current.phase));
-        there = λ c unlike. with_else kept_block c v.owns unlike;
-        here = λ e is. subst (λ (y : Owned). LawfulOwned z keep_world id v.work v.cleared v.wiped b y) (entry_set kept_block e v.owns is) fresh;
-        opens = λ _ e is. sym (ap (λ (y : Owned). y.phase) (entry_set kept_block e v.owns is));
-        owns_none = λ is. absurd (owns_none_else v.owns o erasing.own (h.kind.owns_none is));
-        reclaims = one_with_open kept_block v.owns refl h.kind.reclaims;
-        idle = λ is. (h.kind.idle is).3;
-        erases = λ n _ old. old;
-        lists = λ n _. (Begins-refl (g.erases n), λ _. refl);
-        listed = λ n _ its. its;
+        listing = no_erase z g id v b kept_state (law.views id v at).kind;
+        owning = got z keep_world id v kept_block v.cleared v.wiped fresh (λ _. refl) (λ is. owns_none_else v.owns o erasing.own ((law.views id v at).kind.owns_none is)) (one_with_open kept_block v.owns refl h.kind.reclaims);
         cleared = omega arith;
         wiped = omega arith;
         source = λ x _ k. (source_else x k, refl);

@@ -1,17 +1,16 @@
 -- For each step on a pin word: what its play fixes of the seat, and so the one operation that is allowed.
-use Rattle.flash_rule.proofs.Words.{◌≡◌, ℕ, ◌+◌, ◌%◌, ◌^◌, ◌-◌, ◌<◌, ⊎_elim, true, List, [], ◌∷◌, ◌++◌, Some, sym, refl, ap, ◌∙◌, subst, arith, get_or}
-use Rattle.flash_rule.proofs.Words.{either, some, none, dite, ℕ_discrete, get_elem?, State, step, Allows, Numbers, pin_word, FitsPin, freed_added}
-use Rattle.flash_rule.proofs.Words.{kept_added, pin_index, MapWord, PinWord, Phase, Free, Open, READER, PAGE_WRITTEN, NEXT_PHASE, TAKEN, Owned, Role}
-use Rattle.flash_rule.proofs.Words.{Dealer, Player, Note, Gone, Candidate, Work, View, is_pass, is_broom, is_player, owned_at, with_owned, is_intact}
-use Rattle.flash_rule.proofs.Words.{Intact, Lawful, Ruled, Sitter, IsOn, CanCount, CanClose, Took, Pinned, take_told, pin_told, unpin_told, count_told}
-use Rattle.flash_rule.proofs.Words.{close_told, CanClaim, CanDrain, CanCondemn, CanRenew, CanRetire, Claimed, Condemned, claim_told, drain_told}
-use Rattle.flash_rule.proofs.Words.{condemn_told, freed_told, kept_told, retired_told, SitsAt, Forces}
+use Rattle.flash_rule.proofs.Words.{◌≡◌, ℕ, ◌+◌, ◌^◌, ◌-◌, ◌<◌, ⊎_elim, true, List, [], ◌∷◌, ◌++◌, Some, sym, refl, ap, ◌∙◌, subst}
+use Rattle.flash_rule.proofs.Words.{none, dite, ℕ_discrete, State, step, Numbers, pin_word, freed_added}
+use Rattle.flash_rule.proofs.Words.{kept_added, pin_index, MapWord, PinWord, Free, Open, READER, PAGE_WRITTEN, NEXT_PHASE, TAKEN, Owned}
+use Rattle.flash_rule.proofs.Words.{Work, View, is_pass, is_broom, is_player, owned_at, with_owned}
+use Rattle.flash_rule.proofs.Words.{Intact, Lawful, Sitter, Took, Pinned, take_told, pin_told, unpin_told, count_told}
+use Rattle.flash_rule.proofs.Words.{close_told, Claimed, Condemned, claim_told, drain_told}
+use Rattle.flash_rule.proofs.Words.{condemn_told, freed_told, kept_told, retired_told, SitsAt}
 use Rattle.std.proofs.Common.{bit_or}
 use Rattle.geometry.proofs.PinBits as bits
 use Rattle.flash_rule.specs.Forced.{plus, to_next_phase, TakeSets, PinAdds, UnpinTakesOff, CountAdds, CloseAdds, ClaimExchanges, DrainAdds, CondemnExchanges, FreeAdds, KeepAdds, RetireAdds}
-use Rattle.flash_rule.proofs.OwnSteps.{worker, own_low}
+use Rattle.flash_rule.proofs.OwnSteps.{worker}
 use Rattle.flash_rule.proofs.Reclaiming.{owner_numbers, broom_live}
-use Rattle.flash_rule.proofs.EraseSteps.{erasing_low}
 use Rattle.flash_rule.proofs.Still.{pass_numbers}
 use Rattle.flash_rule.proofs.Steps.{free_or_not, player_live, take_allowed, count_allowed, close_allowed}
 use Rattle.flash_rule.proofs.ReaderSteps.{intact_or_not, pin_allowed, unpin_allowed}

@@ -1,9 +1,9 @@
 -- The states of all blocks follow from what the seats own, gave up and have pinned; so a step on a pin word can leave one word alone.
-use Rattle.flash_rule.proofs.Words.{◌≡◌, ◌≢◌, ℕ, zero, suc, ◌+◌, ◌<◌, ◌≤◌, ◌⊎◌, inl, inr, ⊎_elim, Bool, true, false, List, Some, length, set}
-use Rattle.flash_rule.proofs.Words.{slice_get, sym, refl, ap, ◌∙◌, subst, arith, get_or, get_or-set_same, some, get_elem?, State, Allows, at_set}
+use Rattle.flash_rule.proofs.Words.{◌≡◌, ◌≢◌, ℕ, zero, suc, ◌<◌, inl, inr, ⊎_elim, Bool, true, false, List, length, set}
+use Rattle.flash_rule.proofs.Words.{slice_get, sym, refl, ap, ◌∙◌, arith, get_or, get_or-set_same, some, get_elem?, Allows, at_set}
 use Rattle.flash_rule.proofs.Words.{set_else, Numbers, pin_word, pin_index, PinWord, Phase, Free, Open, Closed, Victim, Drained, Erasing, Retired}
 use Rattle.flash_rule.proofs.Words.{Owned, Pin, View, one_if, pin_is_on, pins_on, owned_at, World, is_owned, rank, entry_of, IsReached, IsUnused}
-use Rattle.flash_rule.proofs.Words.{IsCededBy, IsCeded, Lawful, Ruled, Sitter, SitsAt, Forces}
+use Rattle.flash_rule.proofs.Words.{IsCededBy, IsCeded, Lawful, Ruled, Sitter, Forces}
 use Rattle.flash_rule.proofs.Points.{total_set}
 use Rattle.flash_rule.proofs.Places.{pin_within}
 use Rattle.flash_rule.proofs.Ceding.{view_set}

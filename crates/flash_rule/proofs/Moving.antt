@@ -5,10 +5,10 @@ use Rattle.flash_rule.proofs.Words.{Source, View, is_player, World, put, sector_
 use Rattle.flash_rule.proofs.Words.{CanMove, Moved}
 use Rattle.flash_rule.proofs.Points.{put_here, put_else, put_all}
 use Rattle.flash_rule.proofs.Owning.{some_same, none_some}
-use Rattle.flash_rule.proofs.Frames.{counted, knowledge_kept, lists_stay}
+use Rattle.flash_rule.proofs.Frames.{counted, knowledge_kept}
 use Rattle.flash_rule.proofs.Assembly.{assembled, block_kept, sector_kept}
 use Rattle.flash_rule.proofs.Ceding.{ceded_still}
-use Rattle.flash_rule.proofs.Still.{pin_stays, met_now}
+use Rattle.flash_rule.proofs.Still.{met_now, onward_of}
 use Rattle.flash_rule.proofs.Calls.{filled}
 use Rattle.flash_rule.proofs.BroomSteps.{numbers_same, callers_now, clears, seer, sees, its, source_named, source_clears, source_value}
 use Rattle.flash_rule.proofs.Keeping.{holding_with, kind_with, owned_with, work_with}
@@ -55,22 +55,10 @@ module _ (z : Numbers) (g : World) (vs : List View) (id : ℕ) (v : View) (n : N
 
     move_onward : Onward z g exchanged_world id id
     move_onward =
-        record {
-          history = Begins-refl g.history;
-          calls = λ t _. refl;
-          seat = λ m dealt. (refl, dealt);
-          pins = λ b _. pin_stays (g.pins b);
-          owned = λ b _ _ _. record { owner = refl; phase = refl; generation = refl; written = refl; pages = λ p i. refl };
-          pages = λ b p i _ _ _. refl;
-          named = λ s m is. put_all g.map x.stamp (Some copy) (λ j y. y ≡ Some m → (g.map j ≡ Some m) ⊎ (g.owner m.block ≡ id))
-              (λ is. inr (ap (λ (y : MapWord). g.owner y.block) (sym (some_same copy m is)) ∙ the_copy.0)) (λ j _ is. inl is) s is;
-          programmer = λ m _. refl;
-          eraser = λ b k _. refl;
-          lists = λ m _. lists_stay g exchanged_world id m refl refl;
-          dealer = λ _. (refl, refl);
-          badge = λ m _ _ _. (refl, refl);
-          carries = λ m c is. inl is;
-        }
+        onward_of z g id id exchanged_world.map g.pages g.badge g.carries (λ _ _ p i. refl) (λ b p i _ _. refl)
+        (λ s m is. put_all g.map x.stamp (Some copy) (λ j y. y ≡ Some m → (g.map j ≡ Some m) ⊎ (g.owner m.block ≡ id))
+        (λ is. inr (ap (λ (y : MapWord). g.owner y.block) (sym (some_same copy m is)) ∙ the_copy.0)) (λ j _ is. inl is) s is)
+        (λ n _ _. (refl, refl)) (λ n c is. inl is)
 
     -- the copy is in no victim
     copy_open : (b : ℕ) (m : MapWord) → copy ≡ m → m.block ≡ b → (g.pins b).phase ≡ Victim → ⊥

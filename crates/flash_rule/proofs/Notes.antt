@@ -9,9 +9,9 @@ use Rattle.flash_rule.specs.Seats.{newcomer, name_of, carried, lender, lent_note
 use Rattle.flash_rule.proofs.Points.{total_set, name_here, name_else, name_all}
 use Rattle.flash_rule.proofs.Owning.{some_same, none_some}
 use Rattle.flash_rule.proofs.Ceding.{ceded_split, ceded_gone}
-use Rattle.flash_rule.proofs.Frames.{begins_same, lists_stay, counted, others, knowledge_kept, copy_kept}
+use Rattle.flash_rule.proofs.Frames.{begins_same, counted, others, knowledge_kept, copy_kept}
 use Rattle.flash_rule.proofs.Assembly.{owner_kept}
-use Rattle.flash_rule.proofs.Still.{pin_stays}
+use Rattle.flash_rule.proofs.Still.{onward_of}
 use Rattle.flash_rule.proofs.Splitting.{split, current_kept, player_same}
 use Rattle.flash_rule.proofs.Keeping.{knowledge_as, owned_as, source_with, work_with}
 
@@ -23,27 +23,12 @@ badged g n seat c = record g { badge = put_name g.badge n seat; carries = put_na
 pub badge_moves : (z : Numbers) (g : World) (id other : ℕ) (n : Name) (seat : ℕ) (c : Option Carried) → (g.badge n ≡ id) ⊎ (g.badge n ≡ other)
     → ((d : Carried) → c ≡ Some d → (d.programs ≡ g.programs d.of) × (d.erases ≡ g.erases d.of)) → Onward z g (badged g n seat c) id other
 badge_moves z g id other n seat c was all =
-    record {
-      history = Begins-refl g.history;
-      calls = λ t _. refl;
-      seat = λ m dealt. (refl, as_dealt m dealt);
-      pins = λ b _. pin_stays (g.pins b);
-      owned = λ b _ _ _. record { owner = refl; phase = refl; generation = refl; written = refl; pages = λ p i. refl };
-      pages = λ b p i _ _ _. refl;
-      named = λ s m is. inl is;
-      programmer = λ m _. refl;
-      eraser = λ b k _. refl;
-      lists = λ m _. lists_stay g (badged g n seat c) id m refl refl;
-      dealer = λ _. (refl, refl);
-      badge = λ m _ apart apart'.
-          let other_name : ¬ (m ≡ n) = λ same. ⊎_elim (λ e. apart (ap g.badge same ∙ e)) (λ e. apart' (ap g.badge same ∙ e)) was in
-          (name_else g.badge n seat m other_name, name_else g.carries n c m other_name);
-      carries = λ m d. name_all g.carries n c (λ k x. x ≡ Some d → (g.carries k ≡ Some d) ⊎ ((d.programs ≡ g.programs d.of) × (d.erases ≡ g.erases d.of))) (λ is. inr (all d is)) (λ k _ is. inl is) m;
-    }
-  where
-    as_dealt : (m : Name) → IsDealt g m → IsDealt (badged g n seat c) m
-    as_dealt (Pass t) low = low
-    as_dealt (Broom i) low = low
+    onward_of z g id other g.map g.pages (put_name g.badge n seat) (put_name g.carries n c) (λ _ _ p i. refl) (λ b p i _ _. refl) (λ s m is. inl is)
+    (λ m apart apart'.
+    let other_name : ¬ (m ≡ n) = λ same. ⊎_elim (λ e. apart (ap g.badge same ∙ e)) (λ e. apart' (ap g.badge same ∙ e)) was in
+    (name_else g.badge n seat m other_name, name_else g.carries n c m other_name))
+    (λ m d. name_all g.carries n c (λ k x. x ≡ Some d → (g.carries k ≡ Some d) ⊎ ((d.programs ≡ g.programs d.of) × (d.erases ≡ g.erases d.of)))
+    (λ is. inr (all d is)) (λ k _ is. inl is) m)
 
 pub as_dealt : (g : World) (n : Name) (seat : ℕ) (c : Option Carried) (m : Name) → IsDealt g m → IsDealt (badged g n seat c) m
 as_dealt g n seat c (Pass t) low = low

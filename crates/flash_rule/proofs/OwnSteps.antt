@@ -1,14 +1,14 @@
 -- The owner's steps on the pin word of an open block: count and close.
 use Rattle.flash_rule.proofs.Words.{◌≡◌, ◌≢◌, ℕ, ◌+◌, ◌<◌, ◌≤◌, ◌⊎◌, inl, inr, ⊎_elim, true, false, List, [], ◌∷◌, ◌++◌, Option, None, Some, length}
 use Rattle.flash_rule.proofs.Words.{set, slice_get, sym, refl, ap, ◌∙◌, subst, arith, some, dite, ℕ_discrete, get_elem?, Begins, Numbers, Begins-refl}
-use Rattle.flash_rule.proofs.Words.{MapWord, PinWord, Free, Open, Closed, Victim, Owned, Name, Role, Dealer, Player, Note, Gone, Work, View, is_player}
+use Rattle.flash_rule.proofs.Words.{MapWord, PinWord, Free, Open, Closed, Owned, Name, Role, Dealer, Player, Note, Gone, Work, View, is_player}
 use Rattle.flash_rule.proofs.Words.{may_own, pins_on, owned_at, without, with_owned, World, put, put_name, is_owned, is_intact, is_still, half_cycle}
 use Rattle.flash_rule.proofs.Words.{rank, IsProgrammed, IsDealt, IsFilling, LawfulKind, LawfulOwned, LawfulWork, LawfulView, Lawful, ListsOnward}
 use Rattle.flash_rule.proofs.Words.{Onward, next_page}
 use Rattle.std.proofs.lemmas.List.{append-nil}
 use Rattle.flash_rule.specs.Plays.{IsSettled}
 use Rattle.flash_rule.proofs.Points.{put_here, total_set, name_here, name_else, name_all}
-use Rattle.flash_rule.proofs.Owning.{owns_none_else, may_own_else, some_same, none_some, with_here, with_else, without_here, without_else, one_with_open, one_without, get_last, put3, put3_here, put3_else}
+use Rattle.flash_rule.proofs.Owning.{owns_none_else, may_own_else, some_same, none_some, with_here, with_else, without_here, without_else, one_with_open, one_without, get_last, put3, put3_here, put3_else, blocks_apart, open_victim}
 use Rattle.flash_rule.proofs.Frames.{counted, knowledge_kept}
 use Rattle.flash_rule.proofs.Ceding.{ceded_owned, ceded_last}
 use Rattle.flash_rule.proofs.PinSteps.{Deeds, deeds, turned, moved, pin_turns, pin_moves, pin_turned_nameable, turned_else, seat_set}
@@ -185,10 +185,7 @@ module _ (z : Numbers) (g : World) (vs : List View) (id : ℕ) (v : View) (o : O
               }))
               (λ y is.
               let k = holds.source y is in
-              let unlike : y.page.block ≢ b = λ same.
-              let P : ℕ → Type 0 = λ c. owned_at c v.owns ≡ Some k.entry in
-              let e : o ≡ k.entry = some_same o k.entry (sym own ∙ subst P same k.own) in
-              let f : Open ≡ Victim = sym opened ∙ (ap (λ (x : Owned). x.phase) e ∙ k.victim) in absurd (cc) in
+              let unlike = blocks_apart v.owns o k.entry y.page.block own k.own (open_victim o k.entry opened k.victim) in
               source_with k (with_else more y.page.block v.owns unlike ∙ k.own) refl (λ _. refl));
         } in
         pin_turned_nameable z g vs id v counter b q id (count_deeds n) law at on mine_after
@@ -263,10 +260,7 @@ module _ (z : Numbers) (g : World) (vs : List View) (id : ℕ) (v : View) (o : O
             (λ y is. absurd (none_some y is))
             (λ y is.
             let k = holds.source y is in
-            let unlike : y.page.block ≢ b = λ same.
-            let P : ℕ → Type 0 = λ c. owned_at c v.owns ≡ Some k.entry in
-            let e : o ≡ k.entry = some_same o k.entry (sym own ∙ subst P same k.own) in
-            let f : Open ≡ Victim = sym opened ∙ (ap (λ (x : Owned). x.phase) e ∙ k.victim) in absurd (cc) in
+            let unlike = blocks_apart v.owns o k.entry y.page.block own k.own (open_victim o k.entry opened k.victim) in
             source_with k (without_else b y.page.block v.owns unlike ∙ k.own) refl (λ _. refl));
       } in
       pin_turned_nameable z g vs id v closer b q id (deeds g) law at on after

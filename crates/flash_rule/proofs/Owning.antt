@@ -1,9 +1,10 @@
 -- The blocks that a seat owns, one entry changed; and what an owned block keeps while another one changes.
-use Rattle.flash_rule.proofs.Words.{◌≡◌, ◌≢◌, ℕ, zero, suc, ◌≤◌, ◌⊎◌, inl, inr, ⊎_elim, eq-eqb, ne_eqb, true, false, List, [], ◌∷◌, ◌++◌, Option, None}
-use Rattle.flash_rule.proofs.Words.{Some, length, slice_get, sym, refl, ap, ◌∙◌, dite, ℕ_discrete, Numbers, MapWord, PinWord, Open, Owned, Role}
+use Rattle.flash_rule.proofs.Words.{Victim, ◌≡◌, ◌≢◌, ℕ, zero, suc, ◌≤◌, ◌⊎◌, inl, inr, ⊎_elim, eq-eqb, ne_eqb, true, false, List, [], ◌∷◌, ◌++◌, Option, None}
+use Rattle.flash_rule.proofs.Words.{Some, length, slice_get, sym, refl, ap, ◌∙◌, dite, ℕ_discrete, Numbers, MapWord, Open, Owned, Role}
 use Rattle.flash_rule.proofs.Words.{Dealer, Player, Note, Gone, Work, may_own, owned_at, without, with_owned, World, put, is_reclaimed, IsFilling}
 use Rattle.flash_rule.proofs.Words.{LawfulOwned, ReclaimsOne}
 use Rattle.flash_rule.proofs.Points.{eq_self}
+use Rattle.flash_rule.proofs.Keeping.{owned_with}
 
 pub some_same : {X : Type 0} (x y : X) → Some x ≡ Some y → x ≡ y
 some_same x y e = cc
@@ -121,15 +122,16 @@ pub owned_else : (z : Numbers) (g g' : World) (id : ℕ) (doing doing' : Option 
     → ((p : ℕ) → o.written ≤ p → IsFilling doing b p → IsFilling doing' b p)
     → LawfulOwned z g id doing cleared wiped b o → LawfulOwned z g' id doing' cleared wiped b o
 owned_else z g g' id doing doing' cleared wiped b o pin owner pages named filling h =
-    record {
-      block = h.block;
-      low = h.low;
-      owner = owner ∙ h.owner;
-      owned = h.owned;
-      phase = ap (λ (p : PinWord). p.phase) pin ∙ h.phase;
-      generation = ap (λ (p : PinWord). p.generation) pin ∙ h.generation;
-      written = ap (λ (p : PinWord). p.written) pin ∙ h.written;
-      rest = λ opened p from below not i most. pages p i ∙ h.rest opened p from below (λ f. not (filling p from f)) i most;
-      dead = λ victim p s low in_range is. ⊎_elim (λ (t : g.map s ≡ _). h.dead victim p s low in_range t) (λ (t : g.owner b ≢ id). t h.owner) (named s _ is refl);
-      clean = λ erasing p i low most below. pages p i ∙ h.clean erasing p i low most below;
-    }
+    owned_with h pin owner
+    (λ opened p from below not i most. pages p i ∙ h.rest opened p from below (λ f. not (filling p from f)) i most)
+    (λ victim p s low in_range is. ⊎_elim (λ (t : g.map s ≡ _). h.dead victim p s low in_range t) (λ (t : g.owner b ≢ id). t h.owner) (named s _ is refl))
+    (λ erasing p i low most below. pages p i ∙ h.clean erasing p i low most below)
+
+-- two own blocks in two phases are two blocks
+pub blocks_apart : (owns : List Owned) (o e : Owned) (c : ℕ) → owned_at o.block owns ≡ Some o → owned_at c owns ≡ Some e → ¬ (o.phase ≡ e.phase) → c ≢ o.block
+blocks_apart owns o e c here there unlike same =
+    unlike (ap (λ (y : Owned). y.phase) (some_same o e (sym here ∙ (ap (λ j. owned_at j owns) (sym same) ∙ there))))
+
+-- an open block and a victim are in two phases
+pub open_victim : (o e : Owned) → o.phase ≡ Open → e.phase ≡ Victim → ¬ (o.phase ≡ e.phase)
+open_victim o e opened victim same = let no : Open ≡ Victim = sym opened ∙ (same ∙ victim) in absurd (cc)

@@ -1,16 +1,16 @@
 -- Steps on page words: put and get.
 use Rattle.flash_rule.proofs.Words.{◌≡◌, ◌≢◌, ℕ, zero, suc, ◌*◌, ◌<◌, ◌≤◌, inl, inr, ⊎_elim, eq-eqb, ne_eqb, true, false, List, [], ◌∷◌, ◌++◌, Option}
 use Rattle.flash_rule.proofs.Words.{None, Some, length, set, sym, refl, ap, ◌∙◌, subst, arith, length-append, get_or, some, dite, ℕ_discrete}
-use Rattle.flash_rule.proofs.Words.{get_elem?, Begins-refl, Numbers, MapWord, Open, Victim, Erasing, Pin, Owned, Pass, Broom, Role, Dealer, Player}
+use Rattle.flash_rule.proofs.Words.{get_elem?, Numbers, MapWord, Open, Erasing, Pin, Owned, Pass, Broom, Role, Dealer, Player}
 use Rattle.flash_rule.proofs.Words.{Note, Gone, Clear, Accepted, Work, Carried, View, is_pass, is_player, owned_at, World, put_word, is_still, age_of}
 use Rattle.flash_rule.proofs.Words.{data_word, IsFilling, LawfulOwned, LawfulWork, LawfulView, Lawful, LawfulPin, Onward, next_page, words_in}
 use Rattle.flash_rule.specs.Plays.{SettledBut, Spared}
 use Rattle.flash_rule.proofs.Points.{eq_self}
-use Rattle.flash_rule.proofs.Owning.{some_same}
-use Rattle.flash_rule.proofs.Frames.{counted, knowledge_kept, lists_stay}
+use Rattle.flash_rule.proofs.Owning.{some_same, blocks_apart, open_victim}
+use Rattle.flash_rule.proofs.Frames.{counted, knowledge_kept}
 use Rattle.flash_rule.proofs.Assembly.{assembled, block_kept, sector_kept}
 use Rattle.flash_rule.proofs.Ceding.{ceded_still}
-use Rattle.flash_rule.proofs.Still.{pin_stays, pass_of, intact_age, met, programs_once}
+use Rattle.flash_rule.proofs.Still.{pass_of, intact_age, met, programs_once, onward_of}
 use Rattle.flash_rule.proofs.Keeping.{holding_with, kind_with, knowledge_as, owned_with, source_with}
 
 pub word_here : (f : ℕ → ℕ → ℕ → ℕ) (b p i x : ℕ) → put_word f b p i x b p i ≡ x
@@ -83,21 +83,9 @@ module _ (z : Numbers) (g : World) (vs : List View) (id : ℕ) (v : View) (o : O
       let else_page : (c q j : ℕ) → q ≢ p → g'.pages c q j ≡ g.pages c q j = λ c q j unlike. word_else g.pages b p i x c q j (λ same. unlike same.1) in
       let programmed_stays : (c q j : ℕ) → q < (g.pins c).written → g'.pages c q j ≡ g.pages c q j = λ c q j low.
       word_else g.pages b p i x c q j (λ same. let P : ℕ → Type 0 = λ c. q < (g.pins c).written in let l : q < (g.pins b).written = subst P same.0 low in let w = mine.written in let e = same.1 in absurd (omega arith)) in
-      let on : Onward z g g' id id = record {
-        history = Begins-refl g.history;
-        calls = λ t _. refl;
-        seat = λ n dealt. (refl, dealt);
-        pins = λ c _. pin_stays (g.pins c);
-        owned = λ c low other owned. record { owner = refl; phase = refl; generation = refl; written = refl; pages = λ q j. else_block c q j (λ same. other (ap g.owner same ∙ mine.owner)) };
-        pages = λ c q j _ _ low. programmed_stays c q j low;
-        named = λ s m is. inl is;
-        programmer = λ m _. refl;
-        eraser = λ c n _. refl;
-        lists = λ n _. lists_stay g g' id n refl refl;
-        dealer = λ _. (refl, refl);
-        badge = λ n _ _ _. (refl, refl);
-        carries = λ n c is. inl is;
-      } in
+      let on : Onward z g g' id id = onward_of z g id id g.map g'.pages g.badge g.carries
+      (λ c other q j. else_block c q j (λ same. other (ap g.owner same ∙ mine.owner)))
+      (λ c q j _ low. programmed_stays c q j low) (λ s m is. inl is) (λ n _ _. (refl, refl)) (λ n c is. inl is) in
       let knows = knowledge_kept z g g' id id on v (λ c is below. counted vs law id v at c is below) h.knowledge in
       let not_filling : (c q : ℕ) (e : Owned) → owned_at c v.owns ≡ Some e → c ≢ b → e.written ≤ q → IsFilling v.work c q → ⊥ = λ c q e owns unlike from f.
       let P : ℕ → Type 0 = λ c. owned_at c v.owns ≡ Some e in
@@ -155,10 +143,7 @@ module _ (z : Numbers) (g : World) (vs : List View) (id : ℕ) (v : View) (o : O
             }))
             (λ y is.
             let k = holds.source y is in
-            let unlike : y.page.block ≢ b = λ same.
-            let P : ℕ → Type 0 = λ c. owned_at c v.owns ≡ Some k.entry in
-            let e : o ≡ k.entry = some_same o k.entry (sym own ∙ subst P same k.own) in
-            let f : Open ≡ Victim = sym opened ∙ (ap (λ (x : Owned). x.phase) e ∙ k.victim) in absurd (cc) in
+            let unlike = blocks_apart v.owns o k.entry y.page.block own k.own (open_victim o k.entry opened k.victim) in
             source_with k k.own refl (λ j. else_block y.page.block y.page.page j unlike));
       } in
       assembled z g g' vs id v putter law at on after

@@ -112,85 +112,80 @@ module _ (z : Numbers) (slots id : ℕ) (me : Sitter) where
       (record { state = p; fits = fitting; young = young; within = within; found = found; ready = λ drained _. absurd (other drained); busy = λ drained _. absurd (other drained); stale = λ _. refl }))
       (drained_or_not p.phase)
 
-  -- ---- claim
+  -- ---- an exchange
+  -- it finds the expected word, and the block turns, or it finds another one, and only the seat's notes change
+  exchange : (b : ℕ) (p q : PinWord) (d : Deeds) (won lost : View) (Tells : View → Type 0) (t : State (Unit {0}) View) (g : World) → Fits z g.map g.pins g.pages t.words
+      → Lawful z g t.views → b < z.blocks → FitsPin p → (g.pins b ≡ p → pin_word (g.pins b) + NEXT_PHASE ≡ pin_word q)
+      → (get_or t.words (pin_index z b) 0 ≡ pin_word p → g.pins b ≡ p → Lawful z (turned g b q id d) (set t.views id won) × Tells won)
+      → (get_or t.words (pin_index z b) 0 ≢ pin_word p → Lawful z g (set t.views id lost) × Tells lost)
+      → (w : View) × Ruled z (stepped t (pin_index z b) (either (get_or t.words (pin_index z b) 0 == pin_word p) (pin_word p + NEXT_PHASE) (get_or t.words (pin_index z b) 0)) id me.1 w keeps) × Tells w
+  exchange b p q d won lost Tells t g fits law low fitting next wins loses =
+      let n : ℕ = get_or t.words (pin_index z b) 0 in
+      let old : ℕ = pin_word p in
+      let new : ℕ = pin_word p + NEXT_PHASE in
+      let found : n ≡ pin_word (g.pins b) = fits.blocks b low in
+      dite (ℕ_discrete n old)
+      (λ (is : n ≡ old).
+      let same : g.pins b ≡ p = bits.pin_same (g.pins b) p (state_fits z g t.views law b low) fitting (sym found ∙ is) in
+      let now : either (n == old) new n ≡ pin_word q = exchanged n old new is ∙ (ap (λ (y : PinWord). pin_word y + NEXT_PHASE) (sym same) ∙ next same) in
+      let k = wins is same in (won, ruled_as z id me t g fits b low q d won (either (n == old) new n) now k.0, k.1))
+      (λ (other : n ≢ old).
+      let k = loses other in (lost, ruled_still z id me t g fits b low lost (either (n == old) new n) (left_alone n old new other) k.0, k.1))
+
+  -- what it records is of the block and of the state that were asked for
+  told_of : (Won : ℕ → PinWord → Type 0) (b : ℕ) (p : PinWord) → me.0.numbers ≡ z → FitsPin p → Won b p → (c : ℕ) (q : PinWord) → FitsPin q → pin_index z b ≡ pin_index me.0.numbers c
+      → pin_word p ≡ pin_word q → Won c q
+  told_of Won b p numbers fitting told c q fitting' is first =
+      let same : p ≡ q = bits.pin_same p q fitting fitting' first in subst (λ (x : ℕ × PinWord). Won x.0 x.1) (λ i. (same_block numbers b c is i, same i)) told
+
+  low_block : (b : ℕ) → me.0.numbers ≡ z → b < me.0.numbers.blocks → b < z.blocks
+  low_block b numbers low = let e : me.0.numbers.blocks ≡ z.blocks = ap (λ (y : Numbers). y.blocks) numbers in omega arith
+
   -- a broom exchanges a closed block's word for a victim's
   pub claim_allowed : (b : ℕ) (p : PinWord) → is_broom me.0.role ≡ true → CanClaim me.0 b p
       → Allows (Ruled z) slots id me (pin_index z b) (λ n. either (n == pin_word p) (pin_word p + NEXT_PHASE) n) (claim_told (step slots (pin_index z b) (pin_word p) (pin_word p + NEXT_PHASE) none) me)
   claim_allowed b p broom can t (g, fits, law) _ at _ =
       let v : View = me.0 in
-      let k : ℕ = pin_index z b in
-      let n : ℕ = get_or t.words k 0 in
-      let old : ℕ = pin_word p in
-      let new : ℕ = pin_word p + NEXT_PHASE in
+      let n : ℕ = get_or t.words (pin_index z b) 0 in
       let numbers = numbers_now g t.views law at broom in
-      let low : b < z.blocks = let l = can.low in let e : v.numbers.blocks ≡ z.blocks = ap (λ (y : Numbers). y.blocks) numbers in omega arith in
-      let found : n ≡ pin_word (g.pins b) = fits.blocks b low in
-      let answer : (w : View) → Ruled z (stepped t k (either (n == old) new n) id me.1 w keeps) → Claimed v b p n w
-      → (w : View) × (a : Act (Unit {0})) × Valid t.homes me.1 a × Ruled z (stepped t k (either (n == old) new n) id me.1 w a) × claim_told (step slots k old new none) me n (w, carried_after me.1 a) = λ w ruled told. (
-        w,
-        keeps,
-        tt,
-        ruled,
-        (
-          refl,
-          λ c q can' is first.
-              let same : p ≡ q = bits.pin_same p q can.fits can'.fits first in subst (λ (x : ℕ × PinWord). Claimed v x.0 x.1 n w) (λ i. (same_block numbers b c is i, same i)) told,
-        ),
-      ) in
-      dite (ℕ_discrete n old)
-      (λ (is : n ≡ old).
-      let same : g.pins b ≡ p = bits.pin_same (g.pins b) p (state_fits z g t.views law b low) can.fits (sym found ∙ is) in
-      let phase : (g.pins b).phase ≡ Closed = ap (λ (y : PinWord). y.phase) same ∙ can.closed in
-      let q : PinWord = claimed_state z g t.views id v b law at broom low can.rested in
-      let w : View = claimer z g t.views id v b law at broom low can.rested in
-      let now : either (n == old) new n ≡ pin_word q = exchanged n old new is ∙ (ap (λ (y : PinWord). pin_word y + NEXT_PHASE) (sym same) ∙ bits.next_phase (g.pins b) Closed Victim phase refl) in
-      answer w (ruled_as z id me t g fits b low q (deeds g) w (either (n == old) new n) now (claims z g t.views id v b law at broom low can.rested phase))
-      (record { fresh = λ _. unowned z g t.views id v law at b (ap is_owned phase); won = λ _. ap (λ (y : PinWord). record v { owns = with_owned (owned_as b y Victim) v.owns; cleared = 0 }) same; lost = λ not. absurd (not is) }))
-      (λ (other : n ≢ old).
-      let w : View = record v { lost = v.lost ++ b ∷ [] } in
-      answer w (ruled_still z id me t g fits b low w (either (n == old) new n) (left_alone n old new other) (notes z g t.views id v law at v.loaded (v.lost ++ b ∷ []) v.busy v.stale))
-      (record { fresh = λ is. absurd (other is); won = λ is. absurd (other is); lost = λ _. refl }))
+      let low = low_block b numbers can.low in
+      let closed : g.pins b ≡ p → (g.pins b).phase ≡ Closed = λ same. ap (λ (y : PinWord). y.phase) same ∙ can.closed in
+      let e = exchange b p (claimed_state z g t.views id v b law at broom low can.rested) (deeds g) (claimer z g t.views id v b law at broom low can.rested) (record v { lost = v.lost ++ b ∷ [] })
+      (Claimed v b p n) t g fits law low can.fits (λ same. bits.next_phase (g.pins b) Closed Victim (closed same) refl)
+      (λ is same. (
+        claims z g t.views id v b law at broom low can.rested (closed same),
+        record {
+          fresh = λ _. unowned z g t.views id v law at b (ap is_owned (closed same));
+          won = λ _. ap (λ (y : PinWord). record v { owns = with_owned (owned_as b y Victim) v.owns; cleared = 0 }) same;
+          lost = λ not. absurd (not is);
+        },
+      ))
+      (λ other. (notes z g t.views id v law at v.loaded (v.lost ++ b ∷ []) v.busy v.stale, record { fresh = λ is. absurd (other is); won = λ is. absurd (other is); lost = λ _. refl })) in
+      (e.0, keeps, tt, e.1, (refl, λ c y can' is first. told_of (λ c y. Claimed v c y n e.0) b p numbers can.fits e.2 c y can'.fits is first))
 
-  -- ---- condemn
   -- a broom exchanges the word of a drained block without readers for an erasing one's
   pub condemn_allowed : (b : ℕ) (p : PinWord) → is_broom me.0.role ≡ true → CanCondemn me.0 b p
       → Allows (Ruled z) slots id me (pin_index z b) (λ n. either (n == pin_word p) (pin_word p + NEXT_PHASE) n) (condemn_told (step slots (pin_index z b) (pin_word p) (pin_word p + NEXT_PHASE) none) me)
   condemn_allowed b p broom can t (g, fits, law) _ at _ =
       let v : View = me.0 in
-      let k : ℕ = pin_index z b in
-      let n : ℕ = get_or t.words k 0 in
-      let old : ℕ = pin_word p in
-      let new : ℕ = pin_word p + NEXT_PHASE in
+      let n : ℕ = get_or t.words (pin_index z b) 0 in
       let numbers = numbers_now g t.views law at broom in
-      let low : b < z.blocks = let l = can.low in let e : v.numbers.blocks ≡ z.blocks = ap (λ (y : Numbers). y.blocks) numbers in omega arith in
-      let found : n ≡ pin_word (g.pins b) = fits.blocks b low in
-      let answer : (w : View) → Ruled z (stepped t k (either (n == old) new n) id me.1 w keeps) → Condemned v b p n w
-      → (w : View) × (a : Act (Unit {0})) × Valid t.homes me.1 a × Ruled z (stepped t k (either (n == old) new n) id me.1 w a) × condemn_told (step slots k old new none) me n (w, carried_after me.1 a) = λ w ruled told. (
-        w,
-        keeps,
-        tt,
-        ruled,
-        (
-          refl,
-          λ c q can' is first.
-              let same : p ≡ q = bits.pin_same p q can.fits can'.fits first in subst (λ (x : ℕ × PinWord). Condemned v x.0 x.1 n w) (λ i. (same_block numbers b c is i, same i)) told,
-        ),
-      ) in
-      dite (ℕ_discrete n old)
-      (λ (is : n ≡ old).
-      let same : g.pins b ≡ p = bits.pin_same (g.pins b) p (state_fits z g t.views law b low) can.fits (sym found ∙ is) in
-      let phase : (g.pins b).phase ≡ Drained = ap (λ (y : PinWord). y.phase) same ∙ can.drained in
-      let unread : (g.pins b).readers ≡ 0 = ap (λ (y : PinWord). y.readers) same ∙ can.unread in
+      let low = low_block b numbers can.low in
       let name = broom_name v.role broom in
-      let q : PinWord = condemned_state z g t.views id v b law at broom low can.rested in
-      let w : View = condemner z g t.views id v b law at broom low can.rested in
-      let now : either (n == old) new n ≡ pin_word q = exchanged n old new is ∙ (ap (λ (y : PinWord). pin_word y + NEXT_PHASE) (sym same) ∙ bits.next_phase (g.pins b) Drained Erasing phase refl) in
-      answer w (ruled_as z id me t g fits b low q (condemn_deeds z g t.views id v b law at broom low can.rested name.0) w (either (n == old) new n) now (condemns z g t.views id v b law at broom low can.rested name.0 name.1 phase unread))
-      (record { fresh = λ _. unowned z g t.views id v law at b (ap is_owned phase); won = λ _. ap (λ (y : PinWord). record v { owns = with_owned (owned_as b y Erasing) v.owns; erases = v.erases ++ cycle_of (owned_as b y Erasing) ∷ []; wiped = 0 }) same; busy = λ not. absurd (not is) }))
-      (λ (other : n ≢ old).
-      let w : View = record v { busy = v.busy ++ b ∷ [] } in
-      answer w (ruled_still z id me t g fits b low w (either (n == old) new n) (left_alone n old new other) (notes z g t.views id v law at v.loaded v.lost (v.busy ++ b ∷ []) v.stale))
-      (record { fresh = λ is. absurd (other is); won = λ is. absurd (other is); busy = λ _. refl }))
+      let drained : g.pins b ≡ p → (g.pins b).phase ≡ Drained = λ same. ap (λ (y : PinWord). y.phase) same ∙ can.drained in
+      let e = exchange b p (condemned_state z g t.views id v b law at broom low can.rested) (condemn_deeds z g t.views id v b law at broom low can.rested name.0)
+      (condemner z g t.views id v b law at broom low can.rested) (record v { busy = v.busy ++ b ∷ [] })
+      (Condemned v b p n) t g fits law low can.fits (λ same. bits.next_phase (g.pins b) Drained Erasing (drained same) refl)
+      (λ is same. (
+        condemns z g t.views id v b law at broom low can.rested name.0 name.1 (drained same) (ap (λ (y : PinWord). y.readers) same ∙ can.unread),
+        record {
+          fresh = λ _. unowned z g t.views id v law at b (ap is_owned (drained same));
+          won = λ _. ap (λ (y : PinWord). record v { owns = with_owned (owned_as b y Erasing) v.owns; erases = v.erases ++ cycle_of (owned_as b y Erasing) ∷ []; wiped = 0 }) same;
+          busy = λ not. absurd (not is);
+        },
+      ))
+      (λ other. (notes z g t.views id v law at v.loaded v.lost (v.busy ++ b ∷ []) v.stale, record { fresh = λ is. absurd (other is); won = λ is. absurd (other is); busy = λ _. refl })) in
+      (e.0, keeps, tt, e.1, (refl, λ c y can' is first. told_of (λ c y. Condemned v c y n e.0) b p numbers can.fits e.2 c y can'.fits is first))
 
   -- ---- drain
   -- the owner of a cleared victim gives it up

@@ -6,10 +6,10 @@ use Rattle.flash_rule.proofs.Words.{World, put, put_name, is_owned, is_intact, i
 use Rattle.flash_rule.proofs.Words.{Lawful, owned_as, cycle_of, CanDrain}
 use Rattle.flash_rule.specs.BroomPlays.{IsAtRest}
 use Rattle.flash_rule.proofs.Points.{put_here, name_here, name_else, name_all}
-use Rattle.flash_rule.proofs.Owning.{owns_none_else, may_own_else, some_same, with_here, with_else, without_else, one_at_rest, one_without, get_last, put2, put2_here, put2_else}
+use Rattle.flash_rule.proofs.Owning.{owns_none_else, may_own_else, some_same, with_here, one_at_rest, get_last, put2, put2_here, put2_else}
 use Rattle.flash_rule.proofs.Ceding.{ceded_owned, ceded_last}
 use Rattle.flash_rule.proofs.PinSteps.{Deeds, deeds, turned}
-use Rattle.flash_rule.proofs.Reclaiming.{erased_as, turns, broom_player, broom_no_pass, broom_may_own, entry_set, entry_gone}
+use Rattle.flash_rule.proofs.Reclaiming.{erased_as, turns, broom_player, broom_no_pass, broom_may_own, no_erase, given_up, got, turned_block}
 
 player_same : (n m : Name) → Player n ≡ Player m → n ≡ m
 player_same n m e = cc
@@ -72,7 +72,6 @@ module _ (z : Numbers) (g : World) (vs : List View) (id : ℕ) (v : View) (b : �
         };
         alone = λ _ is. let no : true ≡ false = sym is ∙ ap is_owned closed in absurd (cc);
         shut = λ is. let no : Closed ≡ Open = sym closed ∙ is in absurd (cc);
-        eraser = λ c n _. refl;
         readers = refl;
         written = block.written;
         generation = block.generation;
@@ -80,15 +79,8 @@ module _ (z : Numbers) (g : World) (vs : List View) (id : ℕ) (v : View) (b : �
         rest = λ _. block.rest (ap is_still closed);
         owner = λ _. (claimed_block, with_here claimed_block v.owns);
         named = λ s m _ _ _ _. (refl, refl, omega arith);
-        there = λ c unlike. with_else claimed_block c v.owns unlike;
-        here = λ e is. subst (λ (y : Owned). LawfulOwned z claim_world id v.work 0 v.wiped b y) (entry_set claimed_block e v.owns is) fresh;
-        opens = λ is. absurd (not_pass is);
-        owns_none = λ is. absurd (owns_some is);
-        reclaims = one_at_rest claimed_block v.owns rested;
-        idle = λ is. ((law.views id v at).kind.idle is).3;
-        erases = λ n _ old. old;
-        lists = λ n _. (Begins-refl (g.erases n), λ _. refl);
-        listed = λ n _ its. its;
+        listing = no_erase z g id v b q (law.views id v at).kind;
+        owning = got z claim_world id v claimed_block 0 v.wiped fresh (λ is. absurd (not_pass is)) owns_some (one_at_rest claimed_block v.owns rested);
         cleared = omega arith;
         wiped = omega arith;
         source = λ x is _. absurd (no_source x is);
@@ -163,9 +155,6 @@ module _ (z : Numbers) (g : World) (vs : List View) (id : ℕ) (v : View) (b : �
         };
         alone = λ _ is. let no : true ≡ false = sym is ∙ ap is_owned drained in absurd (cc);
         shut = λ is. let no : Drained ≡ Open = sym drained ∙ is in absurd (cc);
-        eraser = λ c k older. put2_else g.eraser b (g.pins b).generation (Some (n, length v.erases)) c k (λ same.
-            let at_b : 2 * k < age_of (g.pins b) = subst (λ j. 2 * k < age_of (g.pins j)) same.0 older in
-            let e = same.1 in absurd (omega arith));
         readers = refl;
         written = block.written;
         generation = block.generation;
@@ -173,18 +162,19 @@ module _ (z : Numbers) (g : World) (vs : List View) (id : ℕ) (v : View) (b : �
         rest = λ is. absurd (cc);
         owner = λ _. (condemned_block, with_here condemned_block v.owns);
         named = λ s m _ _ same current. let no : true ≡ false = sym (ap (λ j. is_nameable (g.pins j).phase) (sym same) ∙ current.phase) ∙ ap is_nameable drained in absurd (cc);
-        there = λ c unlike. with_else condemned_block c v.owns unlike;
-        here = λ e is. subst (λ (y : Owned). LawfulOwned z (condemn_world n) id v.work v.cleared 0 b y) (entry_set condemned_block e v.owns is) fresh;
-        opens = λ is. absurd (not_pass is);
-        owns_none = λ is. absurd (owns_some is);
-        reclaims = one_at_rest condemned_block v.owns rested;
-        idle = λ is. let no : true ≡ false = sym (broom_player v.role broom) ∙ is in absurd (cc);
-        erases = erase_listed n role;
-        lists = λ m _. (
-          name_all g.erases n condemner.erases (λ k l. Begins (g.erases k) l) (cycle_of condemned_block ∷ [], ap (λ l. l ++ cycle_of condemned_block ∷ []) (holds.lists n role).1) (λ k _. Begins-refl (g.erases k)) m,
-          λ other. name_else g.erases n condemner.erases m (λ same. other (ap g.seat same ∙ (holds.name n role).0)),
-        );
-        listed = λ m role' _. subst (λ (k : Name). all_erases n k ≡ condemner.erases) (player_same n m (sym role ∙ role')) (name_here g.erases n condemner.erases);
+        listing = record {
+          eraser = λ c k older. put2_else g.eraser b (g.pins b).generation (Some (n, length v.erases)) c k (λ same.
+              let at_b : 2 * k < age_of (g.pins b) = subst (λ j. 2 * k < age_of (g.pins j)) same.0 older in
+              let e = same.1 in absurd (omega arith));
+          idle = λ is. let no : true ≡ false = sym (broom_player v.role broom) ∙ is in absurd (cc);
+          erases = erase_listed n role;
+          lists = λ m _. (
+            name_all g.erases n condemner.erases (λ k l. Begins (g.erases k) l) (cycle_of condemned_block ∷ [], ap (λ l. l ++ cycle_of condemned_block ∷ []) (holds.lists n role).1) (λ k _. Begins-refl (g.erases k)) m,
+            λ other. name_else g.erases n condemner.erases m (λ same. other (ap g.seat same ∙ (holds.name n role).0)),
+          );
+          listed = λ m role' _. subst (λ (k : Name). all_erases n k ≡ condemner.erases) (player_same n m (sym role ∙ role')) (name_here g.erases n condemner.erases);
+        };
+        owning = got z (condemn_world n) id v condemned_block v.cleared 0 fresh (λ is. absurd (not_pass is)) owns_some (one_at_rest condemned_block v.owns rested);
         cleared = omega arith;
         wiped = omega arith;
         source = λ x is _. absurd (no_source x is);
@@ -230,27 +220,18 @@ module _ (z : Numbers) (g : World) (vs : List View) (id : ℕ) (v : View) (o : O
         };
         alone = λ other _. other mine.owner;
         shut = λ is. let no : Victim ≡ Open = sym victim ∙ is in absurd (cc);
-        eraser = λ c n _. refl;
         readers = refl;
         written = block.written;
         generation = block.generation;
         free = λ is. absurd (cc);
         rest = λ _. block.rest (ap is_still victim);
         owner = λ is. absurd (cc);
-        -- no map word names a page of it
         named = λ s m in_range is same current.
             let page : m.page < (g.pins b).written = subst (λ j. m.page < (g.pins j).written) same current.written in
             let generation : m.generation ≡ o.generation = sym current.same ∙ (ap (λ j. (g.pins j).generation) same ∙ mine.generation) in
             absurd (mine.dead can.victim m.page s (omega arith) in_range (is ∙ λ i. Some (record { generation = generation i; block = same i; page = m.page })));
-        there = λ c unlike. without_else b c v.owns unlike;
-        here = λ e is. absurd (entry_gone b e v.owns is);
-        opens = λ _ e is. absurd (entry_gone b e v.owns is);
-        owns_none = λ is. ap (λ l. without b l) (h.kind.owns_none is);
-        reclaims = one_without b v.owns h.kind.reclaims;
-        idle = λ is. (h.kind.idle is).3;
-        erases = λ n _ old. old;
-        lists = λ n _. (Begins-refl (g.erases n), λ _. refl);
-        listed = λ n _ its. its;
+        listing = no_erase z g id v b drained_state (law.views id v at).kind;
+        owning = given_up z (turned_block g b drained_state id) id v b v.cleared v.wiped (law.views id v at).kind;
         cleared = omega arith;
         wiped = omega arith;
         source = λ x is k. (

@@ -6,7 +6,7 @@ use Rattle.flash_rule.proofs.Words.{pins_on, owned_at, without, with_owned, Worl
 use Rattle.flash_rule.proofs.Words.{IsCurrent, Erases, ReclaimsOne, LawfulOwned, LawfulSource, LawfulKind, LawfulView, Lawful, IsDealt, PinOnward}
 use Rattle.flash_rule.proofs.Words.{Onward}
 use Rattle.flash_rule.proofs.Points.{put_here, put_else, total_set}
-use Rattle.flash_rule.proofs.Owning.{owns_none_else, some_same, none_some, with_here, without_here, owned_else}
+use Rattle.flash_rule.proofs.Owning.{owns_none_else, some_same, none_some, with_here, without_here, owned_else, without_else, with_else, one_without}
 use Rattle.flash_rule.proofs.Frames.{counted, knowledge_kept}
 use Rattle.flash_rule.proofs.Still.{still}
 use Rattle.flash_rule.proofs.PinSteps.{Deeds, deeds, turned, pin_turns, pin_turned, seat_set}
@@ -86,40 +86,80 @@ module _ (z : Numbers) (g : World) (vs : List View) (id : ℕ) (v : View) (law :
 abbrev pub erased_as : World → (ℕ → ℕ → Option (Name × ℕ)) → (Name → List Cycle) → Deeds
 erased_as g eraser erases = record (deeds g) { eraser = eraser; erases = erases }
 
+-- What the seat lists as erased is all that its player did, which stands behind what it had done, while others' lists stay
+pub record IsListed (z : Numbers) (g g' : World) (id : ℕ) (v : View) (erases' : List Cycle) : Type 0 where
+  pub eraser : (c n : ℕ) → 2 * n < age_of (g.pins c) → g'.eraser c n ≡ g.eraser c n
+  pub idle : is_player v.role ≡ false → erases' ≡ []
+  pub erases : (n : Name) → v.role ≡ Player n → Erases z g' n v.erases → Erases z g' n erases'
+  pub lists : (n : Name) → IsDealt g n → Begins (g.erases n) (g'.erases n) × (¬ (g.seat n ≡ id) → g'.erases n ≡ g.erases n)
+  pub listed : (n : Name) → v.role ≡ Player n → g.erases n ≡ v.erases → g'.erases n ≡ erases'
+
+-- Other blocks of the seat stay, this one is lawful if it is the seat's now, and at most one is drained or erased
+pub record IsOwning (z : Numbers) (g' : World) (id : ℕ) (v : View) (b : ℕ) (owns' : List Owned) (cleared' wiped' : ℕ) : Type 0 where
+  pub there : (c : ℕ) → c ≢ b → owned_at c owns' ≡ owned_at c v.owns
+  pub here : (e : Owned) → owned_at b owns' ≡ Some e → LawfulOwned z g' id v.work cleared' wiped' b e
+  pub opens : is_pass v.role ≡ true → (e : Owned) → owned_at b owns' ≡ Some e → e.phase ≡ Open
+  pub owns_none : may_own v.role ≡ false → owns' ≡ []
+  pub reclaims : ReclaimsOne owns'
+
 -- The state q of the block b, and what its seat has then, fit together: the new state is onward of the old one, which is nobody else's and
--- not open; what a map word names of the block it may still name; other blocks of the seat stay; no more is cleared or wiped than was; and
--- what the seat lists as erased is all that its player did, which stands behind what it had done, while others' lists stay
-pub record IsTurn (z : Numbers) (g : World) (id : ℕ) (v : View) (b : ℕ) (q : PinWord) (owns' : List Owned) (erases' : List Cycle) (cleared' wiped' : ℕ) (eraser' : ℕ → ℕ → Option (Name × ℕ)) (listed' : Name → List Cycle) : Type 0 where
+-- not open; what a map word names of the block it may still name; and no more is cleared or wiped than was
+pub record IsTurn (z : Numbers) (g g' : World) (id : ℕ) (v : View) (b : ℕ) (q : PinWord) (owns' : List Owned) (erases' : List Cycle) (cleared' wiped' : ℕ) : Type 0 where
   pub onward : PinOnward (g.pins b) q
   pub alone : g.owner b ≢ id → ¬ (is_owned (g.pins b).phase ≡ true)
   pub shut : ¬ ((g.pins b).phase ≡ Open)
-  pub eraser : (c n : ℕ) → 2 * n < age_of (g.pins c) → eraser' c n ≡ g.eraser c n
   pub readers : q.readers ≡ (g.pins b).readers
   pub written : q.written ≤ z.pages
   pub generation : q.generation < z.endurance
   pub free : q.phase ≡ Free → q.written ≡ 0
   pub rest : is_still q.phase ≡ true → (p : ℕ) → q.written ≤ p → p < z.pages → IsBlank z (g.pages b p)
   pub owner : is_owned q.phase ≡ true → (e : Owned) × (owned_at b owns' ≡ Some e)
-  pub named : (s : ℕ) (m : MapWord) → s < z.sectors → g.map s ≡ Some m → m.block ≡ b → IsCurrent z g s m → (q.generation ≡ (g.pins b).generation) × (is_nameable q.phase ≡ true) × ((g.pins b).written ≤ q.written)
-  pub there : (c : ℕ) → c ≢ b → owned_at c owns' ≡ owned_at c v.owns
-  pub here : (e : Owned) → owned_at b owns' ≡ Some e → LawfulOwned z (turned g b q id (erased_as g eraser' listed')) id v.work cleared' wiped' b e
-  pub opens : is_pass v.role ≡ true → (e : Owned) → owned_at b owns' ≡ Some e → e.phase ≡ Open
-  pub owns_none : may_own v.role ≡ false → owns' ≡ []
-  pub reclaims : ReclaimsOne owns'
-  pub idle : is_player v.role ≡ false → erases' ≡ []
-  pub erases : (n : Name) → v.role ≡ Player n → Erases z (turned g b q id (erased_as g eraser' listed')) n v.erases → Erases z (turned g b q id (erased_as g eraser' listed')) n erases'
-  pub lists : (n : Name) → IsDealt g n → Begins (g.erases n) (listed' n) × (¬ (g.seat n ≡ id) → listed' n ≡ g.erases n)
-  pub listed : (n : Name) → v.role ≡ Player n → g.erases n ≡ v.erases → listed' n ≡ erases'
+  pub named : (s : ℕ) (m : MapWord) → s < z.sectors → g.map s ≡ Some m → m.block ≡ b → IsCurrent z g s m
+      → (q.generation ≡ (g.pins b).generation) × (is_nameable q.phase ≡ true) × ((g.pins b).written ≤ q.written)
+  pub listing : IsListed z g g' id v erases'
+  pub owning : IsOwning z g' id v b owns' cleared' wiped'
   pub cleared : cleared' ≤ v.cleared
   pub wiped : wiped' ≤ v.wiped
   pub source : (x : Source) → v.source ≡ Some x → LawfulSource z g v.owns v.cleared x → (x.page.block ≢ b) × (cleared' ≡ v.cleared)
+
+-- the table after a turn of the block b by which nothing is erased
+abbrev pub turned_block : World → ℕ → PinWord → ℕ → World
+turned_block g b q id = turned g b q id (erased_as g g.eraser g.erases)
+
+-- then all lists of erases stay
+pub no_erase : (z : Numbers) (g : World) (id : ℕ) (v : View) (b : ℕ) (q : PinWord) → LawfulKind z v → IsListed z g (turned_block g b q id) id v v.erases
+no_erase z g id v b q kind =
+    record { eraser = λ c n _. refl; idle = λ is. (kind.idle is).3; erases = λ n _ old. old; lists = λ n _. (Begins-refl (g.erases n), λ _. refl); listed = λ n _ its. its }
+
+-- a seat that gives a block up owns its others
+pub given_up : (z : Numbers) (g' : World) (id : ℕ) (v : View) (b cleared wiped : ℕ) → LawfulKind z v → IsOwning z g' id v b (without b v.owns) cleared wiped
+given_up z g' id v b cleared wiped kind =
+    record {
+      there = λ c unlike. without_else b c v.owns unlike;
+      here = λ e is. absurd (entry_gone b e v.owns is);
+      opens = λ _ e is. absurd (entry_gone b e v.owns is);
+      owns_none = λ is. ap (λ l. without b l) (kind.owns_none is);
+      reclaims = one_without b v.owns kind.reclaims;
+    }
+
+-- and one that gets a block, or keeps it in another state, owns it and the others
+pub got : (z : Numbers) (g' : World) (id : ℕ) (v : View) (o : Owned) (cleared wiped : ℕ) → LawfulOwned z g' id v.work cleared wiped o.block o → (is_pass v.role ≡ true → o.phase ≡ Open)
+    → ¬ (may_own v.role ≡ false) → ReclaimsOne (with_owned o v.owns) → IsOwning z g' id v o.block (with_owned o v.owns) cleared wiped
+got z g' id v o cleared wiped fresh opened owner reclaims =
+    record {
+      there = λ c unlike. with_else o c v.owns unlike;
+      here = λ e is. subst (λ (y : Owned). LawfulOwned z g' id v.work cleared wiped o.block y) (entry_set o e v.owns is) fresh;
+      opens = λ pass e is. sym (ap (λ (y : Owned). y.phase) (entry_set o e v.owns is)) ∙ opened pass;
+      owns_none = λ is. absurd (owner is);
+      reclaims = reclaims;
+    }
 
 module _ (z : Numbers) (g : World) (vs : List View) (id : ℕ) (v : View) (b : ℕ) (q : PinWord) (owns : List Owned) (erases : List Cycle) (cleared wiped : ℕ) (drains : List Cycle) (ceded : List Owned) (eraser : ℕ → ℕ → Option (Name × ℕ)) (listed : Name → List Cycle) (law : Lawful z g vs) (at : get_elem? vs id ≡ some v) (low : b < z.blocks) where
   abbrev pub turner : View
   turner = record v { owns = owns; erases = erases; cleared = cleared; wiped = wiped; drains = drains; ceded = ceded }
 
   -- the rule after such a change
-  pub turns : LawfulCeded z (put g.pins b q) (set vs id turner) → IsTurn z g id v b q owns erases cleared wiped eraser listed → Lawful z (turned g b q id (erased_as g eraser listed)) (set vs id turner)
+  pub turns : LawfulCeded z (put g.pins b q) (set vs id turner) → IsTurn z g (turned g b q id (erased_as g eraser listed)) id v b q owns erases cleared wiped → Lawful z (turned g b q id (erased_as g eraser listed)) (set vs id turner)
   turns given t =
       let h = law.views id v at in
       let kind = h.kind in
@@ -127,8 +167,8 @@ module _ (z : Numbers) (g : World) (vs : List View) (id : ℕ) (v : View) (b : �
       let block = law.blocks b low in
       let g' : World = turned g b q id (erased_as g eraser listed) in
       let here : put g.pins b q b ≡ q = put_here g.pins b q in
-      let on : Onward z g g' id id = pin_turns z g id b q id (erased_as g eraser listed) t.onward (λ other is. absurd (t.alone other is)) (λ m _. refl) t.eraser
-      (λ n dealt. let l = t.lists n dealt in record { programs = Begins-refl (g.programs n); erases = l.0; others = λ other. (refl, l.1 other) }) in
+      let on : Onward z g g' id id = pin_turns z g id b q id (erased_as g eraser listed) t.onward (λ other is. absurd (t.alone other is)) (λ m _. refl) t.listing.eraser
+      (λ n dealt. let l = t.listing.lists n dealt in record { programs = Begins-refl (g.programs n); erases = l.0; others = λ other. (refl, l.1 other) }) in
       let knows = knowledge_kept z g g' id id on v (λ c is below. counted vs law id v at c is below) h.knowledge in
       let elsewhere : (c : ℕ) (e : Owned) → c ≢ b → LawfulOwned z g id v.work v.cleared v.wiped c e → LawfulOwned z g' id v.work cleared wiped c e = λ c e unlike k.
       let fewer = t.cleared in
@@ -138,22 +178,22 @@ module _ (z : Numbers) (g : World) (vs : List View) (id : ℕ) (v : View) (b : �
       (λ erasing p i below most under. k.clean erasing p i below most (omega arith))) in
       let own : LawfulView z g' id turner = record {
         kind = kind_with kind refl
-            (λ is c e has. dite (ℕ_discrete c b) (λ same. t.opens is e (ap (λ j. owned_at j owns) (sym same) ∙ has)) (λ unlike. kind.opens is c e (sym (t.there c unlike) ∙ has)))
-            (λ is. let i = kind.idle is in (i.0, i.1, i.2, t.idle is)) t.owns_none t.reclaims;
-        knowledge = record { seen = knows.seen; pin = knows.pin; known = knows.known; programs = knows.programs; erases = λ n is. t.erases n is (knows.erases n is); copy = knows.copy; older = knows.older; out = knows.out };
+            (λ is c e has. dite (ℕ_discrete c b) (λ same. t.owning.opens is e (ap (λ j. owned_at j owns) (sym same) ∙ has)) (λ unlike. kind.opens is c e (sym (t.owning.there c unlike) ∙ has)))
+            (λ is. let i = kind.idle is in (i.0, i.1, i.2, t.listing.idle is)) t.owning.owns_none t.owning.reclaims;
+        knowledge = record { seen = knows.seen; pin = knows.pin; known = knows.known; programs = knows.programs; erases = λ n is. t.listing.erases n is (knows.erases n is); copy = knows.copy; older = knows.older; out = knows.out };
         holding = holding_with holds refl refl holds.calls
-            (λ n is. ((holds.lists n is).0, t.listed n is (holds.lists n is).1))
+            (λ n is. ((holds.lists n is).0, t.listing.listed n is (holds.lists n is).1))
             (λ c e has. dite (ℕ_discrete c b)
-            (λ same. subst (λ j. LawfulOwned z g' id v.work cleared wiped j e) (sym same) (t.here e (ap (λ j. owned_at j owns) (sym same) ∙ has)))
-            (λ unlike. elsewhere c e unlike (holds.owned c e (sym (t.there c unlike) ∙ has))))
+            (λ same. subst (λ j. LawfulOwned z g' id v.work cleared wiped j e) (sym same) (t.owning.here e (ap (λ j. owned_at j owns) (sym same) ∙ has)))
+            (λ unlike. elsewhere c e unlike (holds.owned c e (sym (t.owning.there c unlike) ∙ has))))
             (λ x is.
             let k = holds.work x is in
             let unlike : x.page.block ≢ b = λ same. t.shut (ap (λ j. (g.pins j).phase) (sym same) ∙ ((holds.owned x.page.block k.entry k.own).phase ∙ k.opened)) in
-            work_with k (t.there x.page.block unlike ∙ k.own) (λ _. refl))
+            work_with k (t.owning.there x.page.block unlike ∙ k.own) (λ _. refl))
             (λ x is.
             let k = holds.source x is in
             let s = t.source x is k in
-            source_with k (t.there x.page.block s.0 ∙ k.own) s.1 (λ _. refl));
+            source_with k (t.owning.there x.page.block s.0 ∙ k.own) s.1 (λ _. refl));
       } in
       pin_turned z g vs id v turner b q id (erased_as g eraser listed) law at on own t.named
       (record {
@@ -166,4 +206,4 @@ module _ (z : Numbers) (g : World) (vs : List View) (id : ℕ) (v : View) (b : �
             let e = t.owner (sym (ap (λ (p : PinWord). is_owned p.phase) here) ∙ is) in
             (turner, e.0, ap (λ j. get_elem? (set vs id turner) j) (put_here g.owner b id) ∙ seat_set vs id v turner at, e.1);
       })
-      (λ c _. refl) (λ c unlike e is. (e, t.there c unlike ∙ is)) refl given
+      (λ c _. refl) (λ c unlike e is. (e, t.owning.there c unlike ∙ is)) refl given

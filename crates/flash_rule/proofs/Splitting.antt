@@ -5,7 +5,8 @@ use Rattle.flash_rule.proofs.Words.{some-ne-none, get_elem?, Splits, at_set, at_
 use Rattle.flash_rule.proofs.Words.{Player, Note, Owned, Pin, Clear, View, one_if, total, is_player, is_live_role, pin_is_on, pins_on, weight}
 use Rattle.flash_rule.proofs.Words.{role_weight, owned_at, AreOfHosts, calls_of, World, put_name, is_owned, is_still, is_nameable, LawfulCeded, held}
 use Rattle.flash_rule.proofs.Words.{Free, LawfulSector, LawfulBlock, LawfulView, Lawful, IsDealt, Onward, Ruled}
-use Rattle.flash_rule.specs.Seats.{new_pass, dealt_pass}
+use Rattle.flash_rule.proofs.Words.{LawfulHolding, LawfulKnowledge, LawfulOwned, age_of}
+use Rattle.flash_rule.specs.Seats.{newcomer, new_pass, dealt_pass}
 use Rattle.flash_rule.proofs.Points.{total_set, name_here, name_else, name_all}
 use Rattle.flash_rule.proofs.Owning.{none_some, nothing}
 use Rattle.flash_rule.proofs.Ceding.{ceded_split}
@@ -119,6 +120,102 @@ module _ (z : Numbers) (g g' : World) (vs : List View) (id : ℕ) (v l r : View)
             let k = owner_kept z g g' vs id v l b at (law.blocks b low) owned (ap (λ f. f b) owner) (λ o is. (o, ap (λ (x : List Owned). owned_at b x) owns ∙ is)) in
             (k.0, k.1, at_longer (set vs id l) (r ∷ []) (g'.owner b) k.0 k.2, k.3)
 
+-- the table with one player more, which has the seat `new`
+abbrev pub dealt_world : World → Name → ℕ → ℕ → ℕ → (ℕ → ℕ) → World
+dealt_world g n new passes brooms owner =
+    record g {
+      owner = owner;
+      passes = passes;
+      brooms = brooms;
+      seat = put_name g.seat n new;
+      programs = put_name g.programs n [];
+      erases = put_name g.erases n [];
+      badge = put_name g.badge n new;
+      carries = put_name g.carries n None;
+    }
+
+module _ (z : Numbers) (g : World) (id new : ℕ) (n : Name) (passes brooms : ℕ) (owner : ℕ → ℕ) (not_yet : (m : Name) → IsDealt g m → ¬ (m ≡ n)) (still_dealt : (m : Name) → IsDealt g m → IsDealt (dealt_world g n new passes brooms owner) m) where
+  abbrev after_deal : World
+  after_deal = dealt_world g n new passes brooms owner
+
+  -- the other seats see that the dealer gave blocks of its own to the new player, if any
+  pub dealt_onward : id ≡ 0 → ((b : ℕ) → ¬ (g.owner b ≡ id) → owner b ≡ g.owner b) → Onward z g after_deal id id
+  dealt_onward first whose =
+      record {
+        history = Begins-refl g.history;
+        calls = λ t _. refl;
+        seat = λ m dealt. (name_else g.seat n new m (not_yet m dealt), still_dealt m dealt);
+        pins = λ b _. pin_stays (g.pins b);
+        owned = λ b _ other _. record { owner = whose b other; phase = refl; generation = refl; written = refl; pages = λ p i. refl };
+        pages = λ b p i _ _ _. refl;
+        named = λ s m is. inl is;
+        programmer = λ m _. refl;
+        eraser = λ b k _. refl;
+        lists = λ m dealt. lists_stay g after_deal id m (name_else g.programs n [] m (not_yet m dealt)) (name_else g.erases n [] m (not_yet m dealt));
+        dealer = λ apart. absurd (apart first);
+        badge = λ m dealt _ _. (name_else g.badge n new m (not_yet m dealt), name_else g.carries n None m (not_yet m dealt));
+        carries = λ m c. name_all g.carries n None (λ k x. x ≡ Some c → (g.carries k ≡ Some c) ⊎ ((c.programs ≡ g.programs c.of) × (c.erases ≡ g.erases c.of)))
+            (λ is. absurd (none_some c is)) (λ k _ is. inl is) m;
+      }
+
+  -- the dealer has no name, no calls, no lists and no work
+  pub dealer_holding : (w : View) → w.role ≡ Dealer → (w.work ≡ None) × (w.source ≡ None) → ((m : Name) → w.guest ≡ Some m → (g.badge m ≡ id) × IsDealt g m)
+      → ((b : ℕ) (o : Owned) → owned_at b w.owns ≡ Some o → LawfulOwned z after_deal id w.work w.cleared w.wiped b o)
+      → (id ≡ 0) × (w.passes ≡ passes) × (w.brooms ≡ brooms) → LawfulHolding z after_deal id w
+  dealer_holding w role idle guest owned counts =
+      let not_player : (m : Name) → w.role ≡ Player m → ⊥ = λ m is. let e : Dealer ≡ Player m = sym role ∙ is in absurd (cc) in
+      record {
+        name = λ m is. absurd (not_player m is);
+        calls = λ t is. absurd (not_player (Pass t) is);
+        lists = λ m is. absurd (not_player m is);
+        owned = owned;
+        work = λ x is. absurd (none_some x (sym idle.0 ∙ is));
+        source = λ x is. absurd (none_some x (sym idle.1 ∙ is));
+        whole = λ _ m is. absurd (not_player m is);
+        guest = λ m is. let k = guest m is in (name_else g.badge n new m (not_yet m k.1) ∙ k.0, still_dealt m k.1);
+        note = λ m is. let e : Dealer ≡ Note = sym role ∙ is in absurd (cc);
+        home = λ m is. absurd (not_player m is);
+        dealer = λ _. counts;
+      }
+
+  -- the new player knows only ages that all blocks have reached
+  pub new_knowledge : (numbers : Numbers) (known : List ℕ) (owns : List Owned) → ((b : ℕ) → b < z.blocks → get_or known b 0 ≤ age_of (g.pins b))
+      → LawfulKnowledge z after_deal (record (newcomer numbers (Player n)) { known = known; owns = owns; whole = true })
+  new_knowledge numbers known owns ages =
+      record {
+        seen = (g.history, refl);
+        pin = tt;
+        known = ages;
+        programs = λ m is k x at. absurd (nothing k x at);
+        erases = λ m is k x at. absurd (nothing k x at);
+        copy = λ c is. absurd (none_some c is);
+        older = λ o c is. absurd (none_some o is);
+        out = λ m c d _ is. absurd (none_some c is);
+      }
+
+  -- and has its name, its badge, and the blocks that the dealer gave it
+  pub new_holding : (numbers : Numbers) (known : List ℕ) (owns : List Owned) → IsDealt after_deal n → ((t : ℕ) → n ≡ Pass t → calls_of t g.history ≡ [])
+      → ((b : ℕ) (o : Owned) → owned_at b owns ≡ Some o → LawfulOwned z after_deal new None 0 0 b o)
+      → LawfulHolding z after_deal new (record (newcomer numbers (Player n)) { known = known; owns = owns; whole = true })
+  new_holding numbers known owns here none owned =
+      let same : (m : Name) → Player n ≡ Player m → n ≡ m = λ m is. player_same n m is in
+      record {
+        name = λ m is. subst (λ (m : Name). (after_deal.seat m ≡ new) × IsDealt after_deal m) (same m is) (name_here g.seat n new, here);
+        calls = λ t is. (none t (same (Pass t) is), refl);
+        lists = λ m is. subst (λ (m : Name). (after_deal.programs m ≡ []) × (after_deal.erases m ≡ [])) (same m is) (name_here g.programs n [], name_here g.erases n []);
+        owned = owned;
+        work = λ x is. absurd (none_some x is);
+        source = λ x is. absurd (none_some x is);
+        whole = λ _ m is. subst (λ (m : Name). after_deal.badge m ≡ new) (same m is) (name_here g.badge n new);
+        guest = λ m is. absurd (none_some m is);
+        note = λ m is. absurd (cc);
+        home = λ m is _. subst (λ (m : Name). after_deal.carries m ≡ None) (same m is) (name_here g.carries n None);
+        dealer = λ is. absurd (cc);
+      }
+
+passes_same : (t u : ℕ) → Pass t ≡ Pass u → t ≡ u
+passes_same t u e = cc
+
 module _ (z : Numbers) (id : ℕ) (v : View) where
   -- DEAL. The dealer hands out the next pass
   pub deals_pass : v.role ≡ Dealer → v.passes < v.numbers.hosts → Splits (Ruled z) id v (dealt_pass v) (new_pass v)
@@ -132,46 +229,17 @@ module _ (z : Numbers) (id : ℕ) (v : View) where
       let passes_is = d.1 in
       let n : Name = Pass v.passes in
       let new : ℕ = length vs in
-      let g' : World = record g { passes = g.passes + 1; seat = put_name g.seat n new; programs = put_name g.programs n []; erases = put_name g.erases n []; badge = put_name g.badge n new; carries = put_name g.carries n None } in
+      let g' : World = dealt_world g n new (g.passes + 1) g.brooms g.owner in
       let not_yet : (m : Name) → IsDealt g m → ¬ (m ≡ n) = fresh_name g v.passes (omega arith) in
       let still_dealt : (m : Name) → IsDealt g m → IsDealt g' m = dealt_more g g' refl refl in
-      let on : Onward z g g' id id = record {
-        history = Begins-refl g.history;
-        calls = λ t _. refl;
-        seat = λ m dealt. (name_else g.seat n new m (not_yet m dealt), still_dealt m dealt);
-        pins = λ b _. pin_stays (g.pins b);
-        owned = λ b _ _ _. record { owner = refl; phase = refl; generation = refl; written = refl; pages = λ p i. refl };
-        pages = λ b p i _ _ _. refl;
-        named = λ s m is. inl is;
-        programmer = λ m _. refl;
-        eraser = λ b k _. refl;
-        lists = λ m dealt. lists_stay g g' id m (name_else g.programs n [] m (not_yet m dealt)) (name_else g.erases n [] m (not_yet m dealt));
-        dealer = λ apart. absurd (apart d.0);
-        badge = λ m dealt _ _. (name_else g.badge n new m (not_yet m dealt), name_else g.carries n None m (not_yet m dealt));
-        carries = λ m c. name_all g.carries n None (λ k x. x ≡ Some c → (g.carries k ≡ Some c) ⊎ ((c.programs ≡ g.programs c.of) × (c.erases ≡ g.erases c.of)))
-            (λ is. absurd (none_some c is)) (λ k _ is. inl is) m;
-      } in
+      let on : Onward z g g' id id = dealt_onward z g id new n (g.passes + 1) g.brooms g.owner not_yet still_dealt d.0 (λ b _. refl) in
       let knows = knowledge_kept z g g' id id on v (λ b is below. counted vs law id v at b is below) h.knowledge in
-      let not_player : (m : Name) → v.role ≡ Player m → ⊥ = λ m is. let e : Dealer ≡ Player m = sym role ∙ is in absurd (cc) in
-      let holds = h.holding in
+      let idle = kind.idle (ap is_player role) in
       let own : LawfulView z g' id (dealt_pass v) = record {
         kind = kind_as kind refl refl (refl, refl, refl, refl);
         knowledge = knowledge_as knows refl;
-        holding = record {
-          name = λ m is. absurd (not_player m is);
-          calls = λ t is. absurd (not_player (Pass t) is);
-          lists = λ m is. absurd (not_player m is);
-          owned = λ b o is.
-              let k = holds.owned b o is in
-              owned_as k refl refl refl refl;
-          work = λ w is. absurd (none_some w (sym (kind.idle (ap is_player role)).0 ∙ is));
-          source = λ x is. absurd (none_some x (sym (kind.idle (ap is_player role)).1 ∙ is));
-          whole = λ _ m is. absurd (not_player m is);
-          guest = λ m is. let k = holds.guest m is in (name_else g.badge n new m (not_yet m k.1) ∙ k.0, still_dealt m k.1);
-          note = λ m is. let e : Dealer ≡ Note = sym role ∙ is in absurd (cc);
-          home = λ m is. absurd (not_player m is);
-          dealer = λ _. (d.0, ap (λ k. k + 1) d.1, d.2);
-        };
+        holding = dealer_holding z g id new n (g.passes + 1) g.brooms g.owner not_yet still_dealt (dealt_pass v) role (idle.0, idle.1) h.holding.guest
+            (λ b o is. owned_as (h.holding.owned b o is) refl refl refl refl) (d.0, ap (λ k. k + 1) d.1, d.2);
       } in
       let added : LawfulView z g' new (new_pass v) = record {
         kind = record {
@@ -184,36 +252,11 @@ module _ (z : Numbers) (id : ℕ) (v : View) where
           owns_none = λ is. absurd (cc);
           reclaims = λ b c o e is. absurd (none_some o is);
         };
-        knowledge = record {
-          seen = (g.history, refl);
-          pin = tt;
-          known = λ b _. let e = alike v.numbers.blocks b 0 in omega arith;
-          programs = λ m is k x at. absurd (nothing k x at);
-          erases = λ m is k x at. absurd (nothing k x at);
-          copy = λ c is. absurd (none_some c is);
-          older = λ o c is. absurd (none_some o is);
-          out = λ m c d _ is. absurd (none_some c is);
-        };
-        holding = record {
-          name = λ m is.
-              let same : n ≡ m = player_same n m is in
-              let P : Name → Type 0 = λ m. (g'.seat m ≡ new) × IsDealt g' m in
-              let here : P n = (name_here g.seat n new, omega arith) in subst P same here;
-          calls = λ t is.
-              let same : v.passes ≡ t = pass_same v.passes t is in (ap (λ k. calls_of k g.history) (sym same) ∙ law.strangers v.passes (omega arith), refl);
-          lists = λ m is.
-              let same : n ≡ m = player_same n m is in
-              let P : Name → Type 0 = λ m. (g'.programs m ≡ []) × (g'.erases m ≡ []) in
-              let here : P n = (name_here g.programs n [], name_here g.erases n []) in subst P same here;
-          owned = λ b o is. absurd (none_some o is);
-          work = λ w is. absurd (none_some w is);
-          source = λ x is. absurd (none_some x is);
-          whole = λ _ m is. let same : n ≡ m = player_same n m is in let P : Name → Type 0 = λ m. g'.badge m ≡ new in let here : P n = name_here g.badge n new in subst P same here;
-          guest = λ m is. absurd (none_some m is);
-          note = λ m is. absurd (cc);
-          home = λ m is _. let same : n ≡ m = player_same n m is in let P : Name → Type 0 = λ m. g'.carries m ≡ None in let here : P n = name_here g.carries n None in subst P same here;
-          dealer = λ is. absurd (cc);
-        };
+        knowledge = new_knowledge z g id new n (g.passes + 1) g.brooms g.owner not_yet still_dealt v.numbers (replicate v.numbers.blocks 0) []
+            (λ b _. let e = alike v.numbers.blocks b 0 in omega arith);
+        holding = new_holding z g id new n (g.passes + 1) g.brooms g.owner not_yet still_dealt v.numbers (replicate v.numbers.blocks 0) [] (omega arith)
+            (λ t is. ap (λ k. calls_of k g.history) (sym (passes_same v.passes t is)) ∙ law.strangers v.passes (omega arith))
+            (λ b o is. absurd (none_some o is));
       } in
       let weighs : weight z (dealt_pass v) + 1 ≡ weight z v =
       let a : weight z (dealt_pass v) ≡ z.hosts - (v.passes + 1) = ap (λ r. role_weight z.hosts r (v.passes + 1)) role in

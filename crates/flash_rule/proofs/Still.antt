@@ -1,5 +1,5 @@
 -- A step that changes no word: the looks of a pass.
-use Rattle.flash_rule.proofs.Words.{◌≡◌, ◌≢◌, ℕ, zero, suc, ◌*◌, ◌+◌, ◌<◌, ◌≤◌, inl, true, false, List, [], ◌∷◌, Option, None, Some, length, set, sym}
+use Rattle.flash_rule.proofs.Words.{◌⊎◌, ◌≡◌, ◌≢◌, ℕ, zero, suc, ◌*◌, ◌+◌, ◌<◌, ◌≤◌, inl, true, false, List, [], ◌∷◌, Option, None, Some, length, set, sym}
 use Rattle.flash_rule.proofs.Words.{refl, ap, ◌∙◌, subst, arith, length-set, suc-mul, get_or, get_or-set_same, get_or-set_other, some, dite}
 use Rattle.flash_rule.proofs.Words.{ℕ_discrete, get_elem?, Begins, held, Numbers, Begins-refl, map_word, FitsMap, MapWord, PinWord, Phase, Free, Open}
 use Rattle.flash_rule.proofs.Words.{Closed, Victim, Drained, Erasing, Retired, Name, Pass, Broom, Role, Dealer, Player, Note, Gone, Pin, Clear}
@@ -17,23 +17,37 @@ use Rattle.flash_rule.proofs.Keeping.{holding_with}
 pub pin_stays : (p : PinWord) → PinOnward p p
 pin_stays p = record { generation = omega arith; age = omega arith; written = λ _. omega arith; held = λ _ intact. (refl, intact); was = λ _ intact _. intact; free = λ _ free. free }
 
-pub all_stays : (z : Numbers) (g : World) (id other : ℕ) → Onward z g g id other
-all_stays z g id other =
+-- the table with another map, other pages, and badges elsewhere
+abbrev pub with_words : World → (ℕ → Option MapWord) → (ℕ → ℕ → ℕ → ℕ) → (Name → ℕ) → (Name → Option Carried) → World
+with_words g map pages badge carries = record g { map = map; pages = pages; badge = badge; carries = carries }
+
+-- a step that changes these alone, as the other seats see it
+pub onward_of : (z : Numbers) (g : World) (id other : ℕ) (map : ℕ → Option MapWord) (pages : ℕ → ℕ → ℕ → ℕ) (badge : Name → ℕ) (carries : Name → Option Carried)
+    → ((b : ℕ) → ¬ (g.owner b ≡ id) → (p i : ℕ) → pages b p i ≡ g.pages b p i)
+    → ((b p i : ℕ) → is_intact (g.pins b).phase ≡ true → p < (g.pins b).written → pages b p i ≡ g.pages b p i)
+    → ((s : ℕ) (m : MapWord) → map s ≡ Some m → (g.map s ≡ Some m) ⊎ (g.owner m.block ≡ id))
+    → ((n : Name) → ¬ (g.badge n ≡ id) → ¬ (g.badge n ≡ other) → (badge n ≡ g.badge n) × (carries n ≡ g.carries n))
+    → ((n : Name) (c : Carried) → carries n ≡ Some c → (g.carries n ≡ Some c) ⊎ ((c.programs ≡ g.programs c.of) × (c.erases ≡ g.erases c.of)))
+    → Onward z g (with_words g map pages badge carries) id other
+onward_of z g id other map pages badge carries apart readable named badges carried =
     record {
       history = Begins-refl g.history;
       calls = λ t _. refl;
       seat = λ n dealt. (refl, dealt);
       pins = λ b _. pin_stays (g.pins b);
-      owned = λ b _ _ _. record { owner = refl; phase = refl; generation = refl; written = refl; pages = λ p i. refl };
-      pages = λ b p i _ _ _. refl;
-      named = λ s m is. inl is;
+      owned = λ b _ whose _. record { owner = refl; phase = refl; generation = refl; written = refl; pages = apart b whose };
+      pages = λ b p i _ intact low. readable b p i intact low;
+      named = named;
       programmer = λ m _. refl;
       eraser = λ b n _. refl;
-      lists = λ n _. lists_stay g g id n refl refl;
+      lists = λ n _. lists_stay g (with_words g map pages badge carries) id n refl refl;
       dealer = λ _. (refl, refl);
-      badge = λ n _ _ _. (refl, refl);
-      carries = λ n c is. inl is;
+      badge = λ n _ mine its. badges n mine its;
+      carries = carried;
     }
+
+pub all_stays : (z : Numbers) (g : World) (id other : ℕ) → Onward z g g id other
+all_stays z g id other = onward_of z g id other g.map g.pages g.badge g.carries (λ _ _ p i. refl) (λ b p i _ _. refl) (λ s m is. inl is) (λ n _ _. (refl, refl)) (λ n c is. inl is)
 
 -- a seat that keeps its blocks and its pinned block
 pub still : (z : Numbers) (g : World) (vs : List View) (id : ℕ) (v w : View) → Lawful z g vs → get_elem? vs id ≡ some v → LawfulView z g id w

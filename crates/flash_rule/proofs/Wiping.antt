@@ -1,15 +1,15 @@
 -- A broom sets the next word of its erasing block to all ones.
 use Rattle.flash_rule.proofs.Words.{◌≡◌, ◌≢◌, ℕ, zero, suc, ◌+◌, ◌-◌, ◌*◌, ◌<◌, ◌≤◌, inl, true, false, List, Some, set, sym, refl, ap, ◌∙◌, subst}
-use Rattle.flash_rule.proofs.Words.{arith, suc-mul, some, dite, ℕ_discrete, dec_lt, get_elem?, Begins-refl, Numbers, page_index, Open, Victim, Erasing}
+use Rattle.flash_rule.proofs.Words.{arith, suc-mul, some, dite, ℕ_discrete, dec_lt, get_elem?, Numbers, page_index, Open, Victim, Erasing}
 use Rattle.flash_rule.proofs.Words.{Name, Player, Owned, View, is_player, owned_at, World, put_word, is_intact, is_nameable, is_reclaimed, is_still}
 use Rattle.flash_rule.proofs.Words.{blank_word, LawfulOwned, LawfulView, Lawful, Onward, IsErasing, wiper}
 use Rattle.std.proofs.Math.Nat.{add-mul}
 use Rattle.flash_rule.proofs.Owning.{some_same}
-use Rattle.flash_rule.proofs.Frames.{counted, knowledge_kept, lists_stay}
+use Rattle.flash_rule.proofs.Frames.{counted, knowledge_kept}
 use Rattle.flash_rule.proofs.Places.{row_same}
 use Rattle.flash_rule.proofs.Assembly.{assembled, block_kept, sector_kept}
 use Rattle.flash_rule.proofs.Ceding.{ceded_still}
-use Rattle.flash_rule.proofs.Still.{pin_stays}
+use Rattle.flash_rule.proofs.Still.{onward_of}
 use Rattle.flash_rule.proofs.PageSteps.{word_here, word_else}
 use Rattle.flash_rule.proofs.Keeping.{holding_with, kind_with, knowledge_as, owned_with, source_with, work_with}
 
@@ -51,21 +51,9 @@ module _ (z : Numbers) (g : World) (vs : List View) (id : ℕ) (v : View) (n : N
 
   wipe_onward : Onward z g wipe_world id id
   wipe_onward =
-      record {
-        history = Begins-refl g.history;
-        calls = λ t _. refl;
-        seat = λ m dealt. (refl, dealt);
-        pins = λ c _. pin_stays (g.pins c);
-        owned = λ c _ other _. record { owner = refl; phase = refl; generation = refl; written = refl; pages = λ q j. other_block c q j (λ same. other (ap g.owner same ∙ mine.owner)) };
-        pages = λ c q j _ intact _. other_block c q j (not_intact c intact);
-        named = λ s m is. inl is;
-        programmer = λ m _. refl;
-        eraser = λ c k _. refl;
-        lists = λ m _. lists_stay g wipe_world id m refl refl;
-        dealer = λ _. (refl, refl);
-        badge = λ m _ _ _. (refl, refl);
-        carries = λ m c is. inl is;
-      }
+      onward_of z g id id g.map wipe_world.pages g.badge g.carries
+      (λ c other q j. other_block c q j (λ same. other (ap g.owner same ∙ mine.owner)))
+      (λ c q j intact _. other_block c q j (not_intact c intact)) (λ s m is. inl is) (λ n _ _. (refl, refl)) (λ n c is. inl is)
 
   -- one word more of the block is all ones
   wiped_more : LawfulOwned z wipe_world id v.work v.cleared (wiper v).wiped o.block o
