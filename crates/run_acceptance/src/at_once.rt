@@ -1,12 +1,13 @@
 //! Workers run at the same time.
-use crate::run::{play, small, told};
+use crate::saying::expect;
+use crate::shared_text::text_of;
 use flash_table::{Gate, Point};
 use std::sync::atomic::{AtomicBool, Ordering};
 use std::test::Fail;
 
 const TURNS: u32 = 200000000;
 
-// At its first pin the worker sets its flag, and waits until it sees the other's, for at most this many turns.
+// At its first pin the worker sets its flag, and waits until it sees the other's, for at most this many turns. A broom pins nothing.
 #[derive(Drop)]
 struct Waiting<'a> {
     own: &'a AtomicBool,
@@ -29,27 +30,37 @@ impl Gate for Waiting<'_> {
     }
 }
 
-// Workers that run one after the other don't see each other's flags.
+// The gate of a thread with these flags.
+fn gate_with<'a>(own: &'a AtomicBool, other: &'a AtomicBool) -> Waiting<'a> {
+    Waiting {
+        own,
+        other,
+        seen: false,
+    }
+}
+
+const TRACE: &str = "0,write,0,41\n1,write,1,42\n0,meet,0,\n0,read,0,\n1,read,1,\n";
+
+const ANSWERS: &str =
+    "1,write,0,empty\n2,write,1,empty\n3,meet,0,met\n4,read,0,4100000000000000\n5,read,1,4200000000000000\nend\n";
+
+// Workers that run one after the other don't see each other's flags, with a broom or without one.
 #[test]
 fn two_workers_wait_for_each_other(rt: HostRuntime) -> Result<(), Fail> {
-    let trace = b"0,write,0,41\n1,write,1,42\n0,meet,0,\n0,read,0,\n1,read,1,\n".as_slice();
-    let first = AtomicBool::new(false);
-    let second = AtomicBool::new(false);
-    let mut gates = [
-        Waiting {
-            own: &first,
-            other: &second,
-            seen: false,
-        },
-        Waiting {
-            own: &second,
-            other: &first,
-            seen: false,
-        },
-    ];
-    let rows = play(&rt, &small(5, 2, 0)?, trace, 9, &mut gates)??;
-    assert!(rt; gates.iter().all(|gate| gate.seen));
-    let text = told(rt.alloc(), &rows)?;
-    assert!(rt; text.as_str() == "empty A | empty B | ");
+    for brooms in 0..2 {
+        let first = AtomicBool::new(false);
+        let second = AtomicBool::new(false);
+        let third = AtomicBool::new(false);
+        let mut gates = [
+            gate_with(&first, &second),
+            gate_with(&second, &first),
+            gate_with(&third, &third),
+        ];
+        let (used, _) = gates.split_at_mut(2 + brooms as usize);
+        let text = text_of(&rt, 6, 2, brooms, TRACE.as_bytes(), 9, used)?;
+        let seen = [gates[0].seen, gates[1].seen, gates[2].seen];
+        expect(&rt, seen == [true, true, false], &(brooms, seen));
+        expect(&rt, text.as_slice() == ANSWERS.as_bytes(), &brooms);
+    }
     Ok(())
 }

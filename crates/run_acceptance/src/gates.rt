@@ -1,60 +1,11 @@
 //! Each thread of a run asks the gate that has its number: first the workers, then the brooms.
-use crate::run::small;
 use crate::saying::expect;
-use flash_table::{Gate, Point};
-use runs::run_shared;
-use std::alloc::Global;
-use std::process::Abort;
-use std::sync::Wait;
+use crate::shared_text::text_of;
+use crate::visits::{NO_VISITS, Visits};
 use std::test::Fail;
-use std::thread::Threads;
-use std::time::Clock;
-use trace::Watched;
-
-// A broom drains one block by each survey, so each of its claims belongs to a drain with a survey of its own.
-const DRAINS: u32 = 1;
 
 // A write yields at each sixteenth of its tries, so even on a busy machine a broom runs long before the last one.
 const PATIENCE: u32 = 10_000_000;
-
-// A gate's number, and how often it was asked at each point.
-#[derive(Clone, Copy, Debug, Drop, PartialEq, Eq)]
-struct Visits {
-    number: usize,
-    looks: u64,
-    pins: u64,
-    places: u64,
-    claims: u64,
-    moves: u64,
-    erases: u64,
-    answered: u64,
-}
-
-const NO_VISITS: Visits = Visits {
-    number: 0,
-    looks: 0,
-    pins: 0,
-    places: 0,
-    claims: 0,
-    moves: 0,
-    erases: 0,
-    answered: 0,
-};
-
-impl Gate for Visits {
-    fn at(&mut self, point: Point) {
-        let count = match point {
-            Point::AfterLook => &mut self.looks,
-            Point::AfterPin => &mut self.pins,
-            Point::BeforePlace => &mut self.places,
-            Point::BeforeClaim => &mut self.claims,
-            Point::BeforeMove => &mut self.moves,
-            Point::BeforeErase => &mut self.erases,
-            Point::Answered => &mut self.answered,
-        };
-        *count = count.wrapping_add(1);
-    }
-}
 
 // The visits of the worker of this number: after a look, after a pin, before a place, and after an answer.
 fn by_worker(number: usize, [looks, pins, places, answered]: [u64; 4]) -> Visits {
@@ -83,36 +34,7 @@ fn unasked() -> [Visits; 3] {
     ]
 }
 
-// The output of a run with these gates.
-fn text_of<R: Threads + Wait + Clock + Sync + Abort + AllocGlobal>(
-    rt: &R,
-    blocks: u32,
-    hosts: u32,
-    brooms: u32,
-    trace: &[u8],
-    patience: u32,
-    gates: &mut [Visits],
-) -> Result<Vec<u8>, Fail> {
-    let geometry = small(blocks, hosts, brooms)?;
-    assert!(rt; geometry.hosts() > 0);
-    assert!(rt; gates.len() == geometry.hosts() as usize + geometry.brooms() as usize);
-    let alloc: Global = rt.alloc();
-    let mut reader = Watched::new(trace);
-    let mut writer = Watched::new(Vec::new(alloc));
-    run_shared(
-        rt,
-        alloc,
-        &mut reader,
-        &mut writer,
-        &geometry,
-        patience,
-        DRAINS,
-        gates,
-    )?;
-    Ok(writer.into_inner())
-}
-
-// A trace of three workers without brooms, its answers, and the visits of each worker's gate.
+// A trace of three workers without brooms, what it answers, and the visits of each worker's gate.
 const ROWS: [(&str, &str, [[u64; 4]; 3]); 4] = [
     ("", "end\n", [[0; 4]; 3]),
     (
@@ -149,7 +71,7 @@ fn each_worker_asks_its_own_gate(rt: HostRuntime) -> Result<(), Fail> {
     Ok(())
 }
 
-// Whether only a worker's points were reached, after this many answers.
+// Whether only a worker's points were reached, after so many answers.
 fn is_by_worker(visits: &Visits, number: usize, answered: u64) -> bool {
     visits.number == number
         && visits.answered == answered
@@ -168,7 +90,7 @@ fn is_by_broom(visits: &Visits) -> bool {
         && visits.answered == 0
 }
 
-// The device has ten pages, so the writes after the tenth wait for the broom's erase, however late it comes. The second worker reads
+// The device has ten pages, so the writes behind the tenth wait for the broom's erase, however late the broom is. The second worker reads
 // once.
 #[test]
 fn the_broom_asks_the_gate_behind_the_workers(rt: HostRuntime) -> Result<(), Fail> {

@@ -12,3 +12,7 @@ mod rows;
 mod run;
 #[cfg(test)]
 mod saying;
+#[cfg(test)]
+mod shared_text;
+#[cfg(test)]
+mod visits;

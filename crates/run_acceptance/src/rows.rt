@@ -138,7 +138,7 @@ fn count_done(row: &[Answer]) -> usize {
 // There are ten pages, so a block was erased and used again.
 #[test]
 fn a_broom_wins_room_for_a_worker(rt: HostRuntime) -> Result<(), Fail> {
-    let trace = repeated(&rt, "0,write,0,41\n", 100)?;
+    let trace = repeated(&rt, "0,write,0,41\n", 14)?;
     let rows = play_freely(&rt, &small(5, 1, 1)?, trace.as_bytes(), 10000000)?;
     for row in &rows {
         assert!(rt; count_done(row) >= 11);
