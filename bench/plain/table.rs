@@ -364,7 +364,7 @@ impl Broom {
 
 /// The longest sleep of a broom, in microseconds, and by how many sectors it grows on a large device.
 const LONGEST_SLEEP: u64 = 1_000;
-const SECTORS_A_MICROSECOND: u64 = 30;
+const SECTORS_A_MICROSECOND: u64 = 10;
 
 /// A yield, and then a sleep of so many microseconds; how long the next rest is.
 fn rest(micros: u64, longest: u64) -> u64 {

@@ -18,7 +18,7 @@ const FIRST_SLEEP: u64 = 10;
 
 const LONGEST_SLEEP: u64 = 1_000;
 
-const SECTORS_A_MICROSECOND: u64 = 30;
+const SECTORS_A_MICROSECOND: u64 = 10;
 
 fn has_drained(drain: Drain) -> bool {
     match drain {
