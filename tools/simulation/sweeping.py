@@ -1,6 +1,7 @@
 """The points of a sweep: each plays a trace on its device, by GNU parallel, and the rows are gathered."""
 
 import argparse
+import bisect
 import csv
 import hashlib
 import itertools
@@ -43,10 +44,11 @@ def play_point(options, point):
     """The row of a point: what was done after the lines that settle the device."""
     if part.is_named(options):
         row = _responding(options, point)
+    elif options.settle:
+        row = _settled(options, point)
     else:
         whole = device.play(point.device, feeder(options, point, options.rounds))
-        settled = device.play(point.device, feeder(options, point, options.settle)) if options.settle else device.Totals(0, 0, 0, 0, 0)
-        row = _totals(whole.lines - settled.lines, *(getattr(whole, name) - getattr(settled, name) for name in ("programs", "copies", "erases", "worn")))
+        row = _totals(whole.lines, whole.programs, whole.copies, whole.erases, whole.worn)
     row |= {**point.device, "utilisation": f"{point.utilisation():.6g}"}
     return [row[name] for name in columns_of(options)]
 
@@ -56,12 +58,26 @@ def _totals(lines, programs, copies, erases, worn):
     return {"lines": lines, "programs": programs, "copies": copies, "erases": erases, "worn": worn, "write_amplification": amplification}
 
 
+def _lines_to_settle(options, point):
+    """How many lines don't count: the fill, and the rounds that settle the device."""
+    if not options.settle:
+        return 0
+    fill = point.device["sectors"] if options.make and maker(options.make, point, 0).fill else 0
+    return fill + lines_of(options.settle, point)
+
+
+def _settled(options, point):
+    """The totals after the lines that settle the device, from one run and its log."""
+    run, log = _with_log(point.device, feeder(options, point, options.rounds))
+    before = min(_lines_to_settle(options, point), run.lines)
+    first = bisect.bisect_right(log.lines, before)
+    worn = run.kinds.count(answers.WRITE_REFUSED, before)
+    return _totals(run.lines - before, run.programs_within(before, run.lines), sum(log.copied[first:]), len(log) - first, worn)
+
+
 def _responding(options, point):
     """The totals and the response times, from one run and its log."""
-    first_line = 1
-    if options.settle:
-        fill = point.device["sectors"] if options.make and maker(options.make, point, 0).fill else 0
-        first_line += fill + lines_of(options.settle, point)
+    first_line = 1 + _lines_to_settle(options, point)
     run, log = _with_log(point.device, feeder(options, point, options.rounds))
     told = response.respond(run, log, part.part_of(options), times_of(options, point, run.lines), options.speed, first_line)
     figures = response.summarise(told, None)
