@@ -3,7 +3,7 @@ pub mod Cursors
 pub mod Able
 pub mod Walking
 pub mod Going
-pub mod Advancing
+pub mod Manned
 pub mod Looping
 pub mod Lent
 pub mod Dealt

@@ -1,7 +1,7 @@
 -- The state of a run between two rounds: where it begins, one round more, and its end.
 use Rattle.std.proofs.Common.{◌≡◌, ℕ, ◌+◌, ◌-◌, ◌<◌, ◌≤◌, All, List, [], ◌∷◌, ◌++◌, map, length, get_or, take, drop, refl, sym, ap, ◌∙◌, subst, arith, append_assoc, append-nil, length-append, zero-add, ne_eqb}
 use Rattle.std.specs.Prelude.{if◌then◌else◌, not, ◌==◌}
-use Rattle.std.specs.List.{slice_range}
+use Rattle.std.specs.List.{slice_range, take_while}
 use Rattle.std.proofs.Math.Seq.{drop-append_seam, take-append_seam, take-length}
 use Rattle.std.proofs.lemmas.List.{get_or-map, get_or_past, get_or_append_left, get_or-append-add, length-map, take_all, take-take, take-append-drop, drop-take}
 use Rattle.std.proofs.lemmas.List.Elements.{All-nil, All-head, All-tail}
@@ -33,13 +33,15 @@ use Rattle.rounds.proofs.Meetings.{tied_again}
 use Rattle.rounds.proofs.Planning.{places_from-append}
 use Rattle.rounds.proofs.Chains.{flat, flat-append, lines_for-append, line_count-append, rows_count, round_answered, rounds_same, rounds_push, rounds_go_on}
 use Rattle.rounds.proofs.Runs.{run_is_text}
+use Rattle.workers.specs.declared.round_limits.RoundLimits.{RoundLimits}
 use Rattle.workers.specs.declared.worker.Worker.{Worker}
 use Rattle.workers.specs.Meetings.{Rest, passes_of, rest_of, views_of}
-use Rattle.workers.specs.Workers.{HasPlayed, answered, round_lines}
-use Rattle.workers.specs.Runs.{IsAdvanced, RoundPlayed, AreManned, IsDealt, HasBegun, HasEnded, HasRun, answers_of, denied_by, rows_of}
+use Rattle.workers.specs.Workers.{HasPlayed, answered, is_before, round_lines}
+use Rattle.workers.specs.Runs.{RoundPlayed, AreManned, IsDealt, HasBegun, HasEnded, HasRun, answers_of, denied_by, rows_of}
 use Rattle.workers.proofs.Meeting.{ready_at}
-use Rattle.workers.proofs.Advancing.{played_long, played_at, rests_long, rest_at, role_advanced}
-use Rattle.workers.proofs.Walking.{count_places, places_low, places_high, lines_there, past_is, FirstRound, first_round}
+use Rattle.workers.proofs.Cursors.{front_is}
+use Rattle.workers.proofs.Manned.{played_long, played_at, rests_long, rest_at}
+use Rattle.workers.proofs.Walking.{count_places, places_low, places_high, lines_there, FirstRound, first_round}
 use Rattle.workers.proofs.Going.{WorkerRound, run_more, plays_to, round_played, Left, left_is, Closed, closed_is, Next, next_part}
 use Rattle.workers.proofs.Going as going
 
@@ -60,86 +62,72 @@ take_split a b xs order =
     let behind : drop a (take b xs) ≡ slice_range xs a b = subst (λ k. drop a (take k xs) ≡ slice_range xs a b) on (drop-take a (b - a) xs) in
     sym (take-append-drop a (take b xs)) ∙ (λ i. front i ++ behind i)
 
--- the worker has gone past the lines of these commands, and has answered them
-pub record IsBehind (t : ℕ) (done : List Command) (p : Worker) : Type 0 where
-  pub to : p.to ≡ line_count t done
-  pub all : answered p ≡ line_count t done
+-- one worker's round, by the worker before it, after it was played, and after the meetings
+module _ (trace done cs tail : List Command) (t patience end : ℕ) (p b r : Worker) (whole : trace ≡ done ++ (cs ++ tail)) (last : end ≡ length done + length cs) (dealt : IsDealt trace t p) (cursor : answered p ≡ line_count t done)
+    (played : HasPlayed (record { end = end; patience = patience }) p b) (same : rest_of r ≡ rest_of b) where
+  abbrev here : List ℕ
+  here = places_from (length done) t cs
 
--- one worker's round, by the worker before it, gone on to it, played, and after the meetings
-module _ (trace done cs tail : List Command) (t patience end : ℕ) (p q b r : Worker) (whole : trace ≡ done ++ (cs ++ tail)) (last : end ≡ length done + length cs) (dealt : IsDealt trace t p) (cursor : IsBehind t done p)
-    (advance : IsAdvanced end p q) (played : HasPlayed patience q b) (same : rest_of r ≡ rest_of b) where
-  row : p.places.items ≡ places_for t done ++ (places_from (length done) t cs ++ places_from (length done + length cs) t tail)
+  abbrev behind : List ℕ
+  behind = places_from (length done + length cs) t tail
+
+  row : p.places.items ≡ places_for t done ++ (here ++ behind)
   row =
       dealt.places
       ∙ (ap (places_for t) whole
       ∙ (places_from-append 0 t done (cs ++ tail)
       ∙ (ap (λ k. places_for t done ++ places_from k t (cs ++ tail)) (zero-add (length done)) ∙ ap (λ l. places_for t done ++ l) (places_from-append (length done) t cs tail))))
 
-  begins : answered q ≡ length (places_for t done)
-  begins = ap (λ (a : Answers). length (said_in a)) advance.answers ∙ (cursor.all ∙ sym (count_places 0 t done))
+  left : drop (answered p) p.places.items ≡ here ++ behind
+  left = (λ i. drop ((cursor ∙ sym (count_places 0 t done)) i) (row i)) ∙ drop-append_seam (places_for t done) (here ++ behind)
 
-  goes_to : q.to ≡ length (places_for t done) + length (places_from (length done) t cs)
-  goes_to =
-      let within : q.to ≤ length p.places.items = subst (λ l. q.to ≤ length l) advance.places q.within in
-      past_is (places_for t done) (places_from (length done) t cs) (places_from (length done + length cs) t tail) p.to q.to end (cursor.to ∙ sym (count_places 0 t done))
-      (places_low (length done) t cs end last) (places_high (length done + length cs) t tail end (omega (arith, last))) advance.later (subst (λ l. q.to ≤ length l) row within)
-      (subst (λ l. (k : ℕ) → p.to ≤ k → k < q.to → get_or l k 0 < end) row advance.before) (subst (λ l. q.to < length l → end ≤ get_or l q.to 0) row advance.behind)
-
-  to_is : q.to ≡ line_count t done + line_count t cs
-  to_is = (let a = count_places 0 t done in let b = count_places (length done) t cs in let c = goes_to in omega arith)
-
-  lines_are : round_lines q ≡ lines_for t cs
+  lines_are : round_lines end p ≡ lines_for t cs
   lines_are =
-      let P : List Command × List ℕ × ℕ × ℕ → List Command = λ x. lines_at x.0 (slice_range x.1 x.2 x.3) in
-      ap P (λ i. ((advance.commands ∙ (dealt.commands ∙ whole)) i, (advance.places ∙ row) i, begins i, goes_to i))
-      ∙ (ap (lines_at (done ++ (cs ++ tail))) (seam_range (places_for t done) (places_from (length done) t cs) (places_from (length done + length cs) t tail)) ∙ lines_there t done cs tail)
+      (λ i. lines_at ((dealt.commands ∙ whole) i) (take_while (is_before end) (left i)))
+      ∙ (ap (lines_at (done ++ (cs ++ tail))) (front_is here behind end (places_low (length done) t cs end last) (places_high (length done + length cs) t tail end (omega (arith, last)))) ∙ lines_there t done cs tail)
 
   answers_are : r.answers ≡ b.answers
   answers_are = ap (λ (x : Rest). x.3) same
 
   abbrev more : List Said
-  more = added q.answers b.answers
+  more = added p.answers b.answers
 
   grown : said_in r.answers ≡ said_in p.answers ++ more
-  grown = ap said_in answers_are ∙ (played.answers.kept ∙ ap (λ (a : Answers). said_in a ++ more) advance.answers)
+  grown = ap said_in answers_are ∙ played.answers.kept
 
   count_added : length more ≡ line_count t cs
   count_added =
       let lines = ap (λ (l : List Command). length l) lines_are in
       let count = played.answers.count in
-      let kept = ap (λ (l : List Said). length l) played.answers.kept in omega (arith, lines, count, kept, length-append (said_in q.answers) more)
+      let kept = ap (λ (l : List Said). length l) played.answers.kept in omega (arith, lines, count, kept, length-append (said_in p.answers) more)
 
-  count_all : answered r ≡ line_count t done + line_count t cs
-  count_all = (let parts = ap (λ (l : List Said). length l) grown in let all = cursor.all in omega (arith, parts, all, count_added, length-append (said_in p.answers) more))
-
-  pub cursor_on : (r.to ≡ line_count t done + line_count t cs) × (answered r ≡ line_count t done + line_count t cs)
-  cursor_on = (ap (λ (x : Rest). x.5) same ∙ (played.to ∙ to_is), count_all)
+  pub cursor_on : answered r ≡ line_count t done + line_count t cs
+  cursor_on = (let parts = ap (λ (l : List Said). length l) grown in omega (arith, parts, cursor, count_added, length-append (said_in p.answers) more))
 
   pub dealt_on : IsDealt trace t r
   dealt_on = record {
-    commands = ap (λ (x : Rest). x.1) same ∙ (played.commands ∙ (advance.commands ∙ dealt.commands));
-    places = ap (λ (x : Rest). x.2) same ∙ (played.places ∙ (advance.places ∙ dealt.places));
+    commands = ap (λ (x : Rest). x.1) same ∙ (played.commands ∙ dealt.commands);
+    places = ap (λ (x : Rest). x.2) same ∙ (played.places ∙ dealt.places);
   }
 
   kept : take (line_count t done) (said_in p.answers) ≡ take (line_count t done) (said_in r.answers)
   kept =
       let old = said_in p.answers in
-      subst (λ k. take k old ≡ take k (said_in r.answers)) cursor.all (take-length old ∙ sym (ap (take (length old)) grown ∙ take-append_seam old more))
+      subst (λ k. take k old ≡ take k (said_in r.answers)) cursor (take-length old ∙ sym (ap (take (length old)) grown ∙ take-append_seam old more))
 
   part : slice_range (said_in r.answers) (line_count t done) (line_count t done + line_count t cs) ≡ more
   part =
       let old = said_in p.answers in
-      let ends : length old + length more ≡ line_count t done + line_count t cs = (let all = cursor.all in omega (arith, all, count_added)) in
+      let ends : length old + length more ≡ line_count t done + line_count t cs = omega (arith, cursor, count_added) in
       let whole : said_in r.answers ≡ old ++ (more ++ []) = grown ∙ ap (λ l. old ++ l) (sym (append-nil more)) in
-      ap (λ (x : List Said × ℕ × ℕ). slice_range x.0 x.1 x.2) (λ i. (whole i, sym cursor.all i, sym ends i)) ∙ seam_range old more []
+      ap (λ (x : List Said × ℕ × ℕ). slice_range x.0 x.1 x.2) (λ i. (whole i, sym cursor i, sym ends i)) ∙ seam_range old more []
 
   pub worker_round : (view_of p.pass).role ≡ Player (APass t) → WorkerRound t patience done cs (said_in p.answers) (said_in r.answers) (view_of p.pass) (view_of b.pass)
   worker_round role =
-      let told = played.played t (role_advanced end t p q advance role) in
       record {
         kept = kept;
-        enough = (let all = count_all in omega arith);
-        played = subst (λ (x : View × List Command × List Said). Played t patience x.0 x.1 x.2 (view_of b.pass)) (λ i. (ap view_of advance.pass i, lines_are i, sym part i)) told;
+        enough = (let all = cursor_on in omega arith);
+        played = subst (λ (x : List Command × List Said). Played t patience (view_of p.pass) x.0 x.1 (view_of b.pass)) (λ i. (lines_are i, sym part i)) (played.played t role);
       }
 
 -- what the worker at a number knows and has answered
@@ -168,7 +156,7 @@ pub record RunState (volume : Volume) (patience : ℕ) (trace : List Command) (b
   pub known : All (λ c. c.worker < length workers) trace
   pub sectors : All (λ c. c.sector < sectors_of (geometry_of (flash_of volume))) trace
   pub dealt : (t : ℕ) (p : Worker) → t < length workers → IsDealt trace t (get_or workers t p)
-  pub cursor : (t : ℕ) (p : Worker) → t < length workers → IsBehind t done (get_or workers t p)
+  pub cursor : (t : ℕ) (p : Worker) → t < length workers → answered (get_or workers t p) ≡ line_count t done
   pub each : (t : ℕ) → t < length workers → HasRun t patience (denied_by volume before t) (lines_for t done) (take (line_count t done) (rows_of workers t)) (views_of volume (passes_of workers) t)
   pub history : List Call
   pub tied : AreTied (length workers) history (views_of volume (passes_of workers))
@@ -188,7 +176,7 @@ state_begins volume patience trace ends workers b = record {
   known = b.known;
   sectors = b.sectors;
   dealt = b.dealt;
-  cursor = λ t p low. record { to = (b.none t p low).0; all = ap (λ (l : List Said). length l) (b.none t p low).1 };
+  cursor = λ t p low. ap (λ (l : List Said). length l) (b.none t p low);
   each = λ t low. let new = b.new t low in going.run_begins t patience (views_of volume (passes_of workers) t) new.0 new.1 new.2;
   history = [];
   tied = record {
@@ -212,6 +200,9 @@ module _ (volume : Volume) (patience : ℕ) (trace : List Command) (begun : List
   abbrev n : ℕ
   n = sectors_of (geometry_of (flash_of volume))
 
+  abbrev limits : RoundLimits
+  limits = record { end = end; patience = patience }
+
   x : Worker
   x = some_worker workers manned.some
 
@@ -227,11 +218,8 @@ module _ (volume : Volume) (patience : ℕ) (trace : List Command) (begun : List
   whole_now : trace ≡ state.done ++ (cs ++ first.tail)
   whole_now = state.whole ∙ ap (λ l. state.done ++ l) first.whole
 
-  long_advanced : length round.advanced ≡ length workers
-  long_advanced = round.advance.long
-
   long_between : length round.between ≡ length workers
-  long_between = played_long patience round.advanced round.between round.played ∙ round.advance.long
+  long_between = played_long limits workers round.between round.played
 
   long_back : length back ≡ length workers
   long_back = rests_long volume round.between back round.rest ∙ long_between
@@ -252,27 +240,27 @@ module _ (volume : Volume) (patience : ℕ) (trace : List Command) (begun : List
       ap (λ (z : Pass). (view_of z).role) (sym (get_or-map pass workers t p p.pass low)) ∙ manned.seated t p.pass (omega (arith, count))
 
   module _ (t : ℕ) (p : Worker) (low : t < length workers) where
-    played_here : HasPlayed patience (get_or round.advanced t p) (get_or round.between t p)
-    played_here = played_at patience round.advanced round.between round.played t p p (omega (arith, long_advanced))
+    played_here : HasPlayed limits (get_or workers t p) (get_or round.between t p)
+    played_here = played_at limits workers round.between round.played t p p low
 
     rest_here : rest_of (get_or back t p) ≡ rest_of (get_or round.between t p)
     rest_here = rest_at volume round.between back round.rest t p (omega (arith, long_between))
 
     dealt_here : IsDealt trace t (get_or back t p)
     dealt_here =
-        dealt_on trace state.done cs first.tail t patience end (get_or workers t p) (get_or round.advanced t p) (get_or round.between t p) (get_or back t p) whole_now first.last (state.dealt t p low) (state.cursor t p low)
-        (round.advance.each t p p low) played_here rest_here
+        dealt_on trace state.done cs first.tail t patience end (get_or workers t p) (get_or round.between t p) (get_or back t p) whole_now first.last (state.dealt t p low) (state.cursor t p low)
+        played_here rest_here
 
-    cursor_here : ((get_or back t p).to ≡ line_count t state.done + line_count t cs) × (answered (get_or back t p) ≡ line_count t state.done + line_count t cs)
+    cursor_here : answered (get_or back t p) ≡ line_count t state.done + line_count t cs
     cursor_here =
-        cursor_on trace state.done cs first.tail t patience end (get_or workers t p) (get_or round.advanced t p) (get_or round.between t p) (get_or back t p) whole_now first.last (state.dealt t p low) (state.cursor t p low)
-        (round.advance.each t p p low) played_here rest_here
+        cursor_on trace state.done cs first.tail t patience end (get_or workers t p) (get_or round.between t p) (get_or back t p) whole_now first.last (state.dealt t p low) (state.cursor t p low)
+        played_here rest_here
 
     worker_here : WorkerRound t patience state.done cs (rows_of workers t) (rows_of back t) (before t) (played t)
     worker_here =
         let w =
-        worker_round trace state.done cs first.tail t patience end (get_or workers t p) (get_or round.advanced t p) (get_or round.between t p) (get_or back t p) whole_now first.last (state.dealt t p low) (state.cursor t p low)
-        (round.advance.each t p p low) played_here rest_here (role_at t p low) in
+        worker_round trace state.done cs first.tail t patience end (get_or workers t p) (get_or round.between t p) (get_or back t p) whole_now first.last (state.dealt t p low) (state.cursor t p low)
+        played_here rest_here (role_at t p low) in
         subst (λ (y : List Said × List Said × View × View). WorkerRound t patience state.done cs y.0 y.1 y.2 y.3)
         (λ i. (sym (row_at workers t p low) i, sym (row_at back t p (omega (arith, long_back))) i, sym (view_at volume workers t p low) i, sym (view_at volume round.between t p (omega (arith, long_between))) i)) w
 
@@ -357,7 +345,7 @@ module _ (volume : Volume) (patience : ℕ) (trace : List Command) (begun : List
     known = subst (λ k. All (λ c. c.worker < k) trace) (sym long_back) state.known;
     sectors = state.sectors;
     dealt = λ t p low. dealt_here t p (omega (arith, long_back));
-    cursor = λ t p low. let here = cursor_here t p (omega (arith, long_back)) in record { to = here.0 ∙ sym (count_more t); all = here.1 ∙ sym (count_more t) };
+    cursor = λ t p low. cursor_here t p (omega (arith, long_back)) ∙ sym (count_more t);
     each = λ t low. run_here t (omega (arith, long_back));
     history = round.met.history;
     tied = subst (λ k. AreTied k round.met.history after) (sym long_back) (tied_again (length workers) round.met.history played after collected);
@@ -385,7 +373,7 @@ state_ends volume patience trace begun workers manned state =
     let all : state.done ≡ trace = sym (append-nil state.done) ∙ (ap (λ l. state.done ++ l) (sym state.left) ∙ sym state.whole) in
     let long : (t : ℕ) → t < length workers → length (rows_of workers t) ≡ line_count t trace = λ t low.
     let p = some_worker workers manned.some in
-    ap (λ (l : List Said). length l) (row_at workers t p low) ∙ ((state.cursor t p low).all ∙ ap (line_count t) all) in
+    ap (λ (l : List Said). length l) (row_at workers t p low) ∙ (state.cursor t p low ∙ ap (line_count t) all) in
     let row_end : (t : ℕ) → t < length workers → take (line_count t trace) (rows_of workers t) ≡ rows_of workers t = λ t low.
     take_all (line_count t trace) (rows_of workers t) (omega (arith, long t low)) in
     let row_now : (t : ℕ) → t < length workers → take (line_count t state.done) (rows_of workers t) ≡ rows_of workers t = λ t low.

@@ -56,30 +56,6 @@ lines_there t done (c ∷ cs) tail =
     go true rest = λ i. here i ∷ rest i
     go false rest = rest
 
--- A row in three parts: the place behind the second part
-pub past_is : (xs ys zs : List ℕ) (from to end : ℕ) → from ≡ length xs → All (λ p. p < end) ys → All (λ p. end ≤ p) zs → from ≤ to → to ≤ length (xs ++ (ys ++ zs))
-    → ((k : ℕ) → from ≤ k → k < to → get_or (xs ++ (ys ++ zs)) k 0 < end) → (to < length (xs ++ (ys ++ zs)) → end ≤ get_or (xs ++ (ys ++ zs)) to 0) → to ≡ length xs + length ys
-past_is xs ys zs from to end is low high later within before behind =
-    let long = length-append xs (ys ++ zs) in
-    let longer = length-append ys zs in
-    dite (dec_lt to (length xs + length ys))
-    (λ less.
-    let there : get_or (xs ++ (ys ++ zs)) to 0 ≡ get_or ys (to - length xs) 0 =
-    get_or-append_right xs (ys ++ zs) to 0 (omega arith) ∙ get_or_append_left ys zs 0 (to - length xs) (omega arith) in
-    let small = low (to - length xs) 0 (omega arith) in
-    let big = behind (omega (arith, long, longer)) in absurd (omega (arith, there, small, big)))
-    (λ not_less.
-    dite (dec_lt (length xs + length ys) to)
-    (λ more.
-    let there : get_or (xs ++ (ys ++ zs)) (length xs + length ys) 0 ≡ get_or zs 0 0 =
-    get_or-append-add xs (ys ++ zs) (length ys) 0 ∙ seam in
-    let big = high 0 0 (omega (arith, long, longer)) in
-    let small = before (length xs + length ys) (omega arith) more in absurd (omega (arith, there, small, big)))
-    (λ not_more. omega arith))
-  where
-    seam : get_or (ys ++ zs) (length ys) 0 ≡ get_or zs 0 0
-    seam = ap (λ k. get_or (ys ++ zs) k 0) (sym (add-zero (length ys))) ∙ get_or-append-add ys zs 0 0
-
 -- the ends of the rounds of commands, where the first of these stands at this place
 abbrev pub ends_from : ℕ → List Command → List ℕ
 ends_from k cs = meetings_from k cs ++ (k + length cs) ∷ []

@@ -25,11 +25,11 @@ passes_of workers = map (λ p. p.pass) workers
 
 -- what a worker has besides its pass
 abbrev pub Rest : Type 0
-Rest = Volume × List Command × List ℕ × Answers × List ℕ × ℕ
+Rest = Volume × List Command × List ℕ × Answers × List ℕ
 
 -- a worker without its pass
 abbrev pub rest_of : Worker → Rest
-rest_of p = (arc_value p.volume, arc_value p.commands, p.places.items, p.answers, p.buffer.items, p.to)
+rest_of p = (arc_value p.volume, arc_value p.commands, p.places.items, p.answers, p.buffer.items)
 
 -- what the passes know, by their numbers
 abbrev pub views_of : Volume → List Pass → ℕ → View

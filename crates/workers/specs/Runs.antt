@@ -1,5 +1,5 @@
 -- A run over the rounds of a trace: what the workers hold, and what was answered so far.
-use Rattle.std.specs.Prelude.{◌≡◌, ℕ, ◌<◌, ◌≤◌, All, List, [], ◌++◌, map, length, slice_index, slice_index_or}
+use Rattle.std.specs.Prelude.{◌≡◌, ℕ, ◌<◌, All, List, [], ◌++◌, map, length, slice_index_or}
 use Rattle.std.specs.Arc.{arc_value}
 use Rattle.geometry.specs.Geometry.{hosts_of, sectors_of}
 use Rattle.flash_rule.specs.declared.view.View.{View}
@@ -16,33 +16,13 @@ use Rattle.rounds.specs.Rows.{AreAtOneHistory}
 use Rattle.rounds.specs.Texts.{lines_text, IsTextOfSome}
 use Rattle.workers.specs.declared.worker.Worker.{Worker}
 use Rattle.workers.specs.Meetings.{AreSeated, IsAt, PassesMet, passes_of, rest_of, views_of}
-use Rattle.workers.specs.Workers.{answered}
 use Rattle.workers.specs.Shares.{HasPlayedNone}
 use Rattle.workers.specs.Tasks.{HavePlayed}
 
--- The worker continues with its next round: up to the lines of its share before an end, after those of the round before. Nothing else of it
--- changes
-pub record IsAdvanced (end : ℕ) (p q : Worker) : Type 0 where
-  pub volume : arc_value q.volume ≡ arc_value p.volume
-  pub commands : arc_value q.commands ≡ arc_value p.commands
-  pub pass : q.pass ≡ p.pass
-  pub places : q.places.items ≡ p.places.items
-  pub answers : q.answers ≡ p.answers
-  pub later : p.to ≤ q.to
-  pub before : (k : ℕ) → p.to ≤ k → k < q.to → slice_index p.places.items k < end
-  pub behind : q.to < length p.places.items → end ≤ slice_index p.places.items q.to
-
--- and so does each worker of a row
-pub record AreAdvanced (end : ℕ) (ps qs : List Worker) : Type 0 where
-  pub long : length qs ≡ length ps
-  pub each : (k : ℕ) (p q : Worker) → k < length ps → IsAdvanced end (slice_index_or ps k p) (slice_index_or qs k q)
-
--- A round was played: each worker has gone on to it and has played its lines, and then all passes have met
+-- A round was played: each worker has played its lines before the end, and then all passes have met
 pub record RoundPlayed (volume : Volume) (patience end : ℕ) (workers back : List Worker) : Type 0 where
-  pub advanced : List Worker
-  pub advance : AreAdvanced end workers advanced
   pub between : List Worker
-  pub played : HavePlayed patience advanced between
+  pub played : HavePlayed (record { end = end; patience = patience }) workers between
   pub met : PassesMet volume (passes_of between) (passes_of back)
   pub rest : map rest_of back ≡ map rest_of between
 
@@ -52,10 +32,6 @@ pub record AreManned (volume : Volume) (workers : List Worker) : Type 0 where
   pub all : length workers ≡ hosts_of (geometry_of (flash_of volume))
   pub at : All (IsAt volume) workers
   pub seated : AreSeated (passes_of workers)
-
--- the worker has no line in the round
-abbrev pub IsIdle : Worker → Type 0
-IsIdle p = p.to ≤ answered p
 
 -- the answers of a worker's lines
 abbrev pub answers_of : Worker → List Said

@@ -35,7 +35,7 @@ work_of p = (arc_value p.commands, p.places.items)
 
 -- the worker has played no line
 abbrev pub HasPlayedNone : Worker → Type 0
-HasPlayedNone p = (p.to ≡ 0) × (said_in p.answers ≡ [])
+HasPlayedNone p = said_in p.answers ≡ []
 
 -- an owner of this device
 abbrev pub IsOwner : Volume → Arc Volume Global → Type 0

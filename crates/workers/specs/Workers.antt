@@ -1,6 +1,6 @@
 -- What a worker has done in a round.
-use Rattle.std.specs.Prelude.{◌≡◌, ℕ, List, length}
-use Rattle.std.specs.List.{slice_range}
+use Rattle.std.specs.Prelude.{◌≡◌, ℕ, Bool, List, [], drop, length, nat_lt}
+use Rattle.std.specs.List.{take_while}
 use Rattle.std.specs.Arc.{arc_value}
 use Rattle.flash_rule.specs.declared.facts.Name.TheVariants.{Pass as APass}
 use Rattle.flash_rule.specs.declared.facts.Role.TheVariants.{Player}
@@ -10,6 +10,7 @@ use Rattle.rounds.specs.Answers.{said_in}
 use Rattle.rounds.specs.declared.answer_list.Answers.{Answers}
 use Rattle.rounds.specs.Playing.{Played}
 use Rattle.workers.specs.Playable.{HasAnswered, added, lines_at}
+use Rattle.workers.specs.declared.round_limits.RoundLimits.{RoundLimits}
 use Rattle.workers.specs.declared.worker.Worker.{Worker}
 
 -- the answers of a worker's lines so far
@@ -20,20 +21,27 @@ answers_kept p = p.answers
 abbrev pub answered : Worker → ℕ
 answered p = length (said_in p.answers)
 
--- the indexes of the worker's lines of the round
-abbrev pub round_places : Worker → List ℕ
-round_places p = slice_range p.places.items (answered p) p.to
+-- a line at this index comes before the end of a round
+abbrev pub is_before : ℕ → ℕ → Bool
+is_before end place = nat_lt place end
+
+-- the indexes of the worker's lines of the round with this end: of the lines without an answer those before it, up to the first one that isn't
+abbrev pub round_places : ℕ → Worker → List ℕ
+round_places end p = take_while (is_before end) (drop (answered p) p.places.items)
 
 -- the worker's lines of the round
-abbrev pub round_lines : Worker → List Command
-round_lines p = lines_at (arc_value p.commands) (round_places p)
+abbrev pub round_lines : ℕ → Worker → List Command
+round_lines end p = lines_at (arc_value p.commands) (round_places end p)
+
+-- the worker has no line in the round
+abbrev pub IsIdle : ℕ → Worker → Type 0
+IsIdle end p = round_places end p ≡ []
 
 -- The worker's pass has played the lines of the round, in order, and nothing else of the worker has changed except that their answers were
 -- added, and its buffer
-pub record HasPlayed (patience : ℕ) (p r : Worker) : Type 0 where
+pub record HasPlayed (limits : RoundLimits) (p r : Worker) : Type 0 where
   pub volume : arc_value r.volume ≡ arc_value p.volume
   pub commands : arc_value r.commands ≡ arc_value p.commands
   pub places : r.places.items ≡ p.places.items
-  pub to : r.to ≡ p.to
-  pub answers : HasAnswered (round_lines p) p.answers r.answers
-  pub played : (t : ℕ) → (view_of p.pass).role ≡ Player (APass t) → Played t patience (view_of p.pass) (round_lines p) (added p.answers r.answers) (view_of r.pass)
+  pub answers : HasAnswered (round_lines limits.end p) p.answers r.answers
+  pub played : (t : ℕ) → (view_of p.pass).role ≡ Player (APass t) → Played t limits.patience (view_of p.pass) (round_lines limits.end p) (added p.answers r.answers) (view_of r.pass)

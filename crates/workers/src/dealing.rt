@@ -49,7 +49,6 @@ fn seat(volume: Arc<Volume, Global>, pass: Pass, share: Share) -> Worker
         places,
         answers,
         buffer,
-        to: 0,
     }
 }
 

@@ -2,43 +2,28 @@
 ghost use Rattle.std.specs.Prelude.{◌≡◌, ◌+◌, All, IfOk, Ok, length, map, true};
 ghost use Rattle.workers.specs.Collecting.{HaveCollected};
 ghost use Rattle.workers.specs.Meetings.{AreSeated, PassesMet, passes_of, rest_of};
-ghost use Rattle.workers.specs.Runs.{IsAdvanced, AreAdvanced, IsIdle, RoundPlayed, AreManned, EndsRun};
+ghost use Rattle.workers.specs.Runs.{RoundPlayed, AreManned, EndsRun};
 ghost use Rattle.workers.specs.Tasks.{HavePlayed};
+ghost use Rattle.workers.specs.Workers.{IsIdle};
 
 use crate::fault::RoundFault;
 use crate::meetings::meet_all;
+use crate::round_limits::RoundLimits;
 use crate::team::{Team, play_workers};
 use crate::worker::Worker;
 use flash_table::Gate;
-use rounds::past;
 use std::sync::Wait;
 use std::thread::Threads;
 use std::time::Clock;
 use volume::Volume;
 
-// The worker continues with its lines before this end.
-fn advance(worker: &mut Worker, end: usize)
-    ensures { IsAdvanced end worker.old worker.new }
-{
-    worker.to = past(&worker.places, worker.to, end);
-}
-
-// All workers continue with their lines before this end.
-fn advance_all(workers: &mut [Worker], end: usize)
-    ensures { AreAdvanced end workers.old workers.new }
-{
-    for worker in workers.iter_mut() {
-        advance(worker, end);
-    }
-}
-
 // Whether no worker has a line in the round.
-fn have_no_line(workers: &[Worker]) -> bool
-    ensures idle { result ≡ true → All IsIdle workers.now }
-    ensures busy { All IsIdle workers.now → result ≡ true }
+fn have_no_line(workers: &[Worker], end: usize) -> bool
+    ensures idle { result ≡ true → All (IsIdle end) workers.now }
+    ensures busy { All (IsIdle end) workers.now → result ≡ true }
 {
     for worker in workers {
-        if worker.answers.len() < worker.to {
+        if worker.has_line_before(end) {
             return false;
         }
     }
@@ -49,18 +34,18 @@ fn have_no_line(workers: &[Worker]) -> bool
 fn play_team<R: Threads + Wait + Clock + Sync, G: Gate + Send>(
     rt: &R,
     team: Team,
-    patience: u32,
+    limits: RoundLimits,
     gates: &mut [G],
 ) -> Result<Team, RoundFault>
     requires gates { length team.workers.items + length team.collectors.items ≡ length gates.old }
-    ensures idle { All IsIdle team.workers.items → result ≡ Ok team }
-    ensures played { IfOk result (λ back. HavePlayed patience team.workers.items back.workers.items) }
+    ensures idle { All (IsIdle limits.end) team.workers.items → result ≡ Ok team }
+    ensures played { IfOk result (λ back. HavePlayed limits team.workers.items back.workers.items) }
     ensures collected { IfOk result (λ back. HaveCollected team.collectors.items back.collectors.items) }
 {
-    if have_no_line(&team.workers) {
+    if have_no_line(&team.workers, limits.end) {
         return Ok(team);
     }
-    play_workers(rt, team, patience, gates)
+    play_workers(rt, team, limits, gates)
 }
 
 /// Plays the round before an end: each worker with a line in it has a thread, brooms collect at the same time, and after all threads are joined the
@@ -80,9 +65,7 @@ pub fn play_round<R: Threads + Wait + Clock + Sync, G: Gate + Send>(
     ensures count { IfOk result (λ back. length back.workers.items ≡ length team.workers.items) }
     ensures collected { IfOk result (λ back. HaveCollected team.collectors.items back.collectors.items) }
 {
-    let mut team = team;
-    advance_all(&mut team.workers, end);
-    let mut team = play_team(rt, team, patience, gates)?;
+    let mut team = play_team(rt, team, RoundLimits { end, patience }, gates)?;
     meet_all(volume, &mut team.workers);
     Ok(team)
 }

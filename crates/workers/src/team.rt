@@ -9,6 +9,7 @@ ghost use Rattle.workers.specs.Tasks.{asked, HaveGone, HaveSetOut, WerePlayed, H
 use crate::broom_thread::{BroomThread, join_collector, start_collector};
 use crate::collector::Collector;
 use crate::fault::RoundFault;
+use crate::round_limits::RoundLimits;
 use crate::tasks::{Task, join_worker, start_worker};
 use crate::worker::Worker;
 use flash_table::Gate;
@@ -60,7 +61,7 @@ struct Round<'a, G> {
     worker_gates: &'a mut [G],
     collector_gates: &'a mut [G],
     stop: &'a AtomicBool,
-    patience: u32,
+    limits: RoundLimits,
 }
 
 // Starts the brooms.
@@ -91,13 +92,13 @@ fn start_collectors<'s, E, R: Threads + Wait + Clock + Sync, G: Gate + Send>(
 fn start_workers<'s, E, G: Gate + Send>(
     scope: &Scope<'s, E>,
     workers: &mut VecDeque<Worker>,
-    patience: u32,
+    limits: RoundLimits,
     gates: &'s mut [G],
     tasks: &mut VecDeque<Task>,
 ) -> Result<(), RoundFault>
     requires gates { deque_len workers.old ≡ length gates.old }
     requires room { deque_len tasks.old + deque_len workers.old ≤ deque_capacity tasks.old }
-    ensures started { OnOk result (HaveSetOut patience tasks.old.items workers.old.items tasks.new.items) }
+    ensures started { OnOk result (HaveSetOut limits tasks.old.items workers.old.items tasks.new.items) }
     ensures none { OnOk result (deque_len workers.new ≡ 0) }
     ensures gone { HaveGone workers.old workers.new tasks.old tasks.new }
 {
@@ -105,7 +106,7 @@ fn start_workers<'s, E, G: Gate + Send>(
         let Some(worker) = workers.pop_front() else {
             unreachable!()
         };
-        tasks.push_back_reserved(start_worker(scope, worker, patience, gate)?);
+        tasks.push_back_reserved(start_worker(scope, worker, limits, gate)?);
     }
     Ok(())
 }
@@ -113,17 +114,17 @@ fn start_workers<'s, E, G: Gate + Send>(
 // Joins the workers, in order.
 fn join_workers<R: Threads>(
     rt: &R,
-    patience: u32,
+    limits: RoundLimits,
     tasks: &mut VecDeque<Task>,
     workers: &mut VecDeque<Worker>,
 )
     requires { deque_len workers.old + deque_len tasks.old ≤ deque_capacity workers.old }
-    ensures played { deque_len workers.old ≡ 0 → WerePlayed (map (asked patience) tasks.old.items) workers.new.items }
+    ensures played { deque_len workers.old ≡ 0 → WerePlayed (map (asked limits) tasks.old.items) workers.new.items }
     ensures none { deque_len tasks.new ≡ 0 }
     ensures gone { HaveGone tasks.old tasks.new workers.old workers.new }
 {
     while let Some(task) = tasks.pop_front() {
-        workers.push_back_reserved(join_worker(rt, patience, task));
+        workers.push_back_reserved(join_worker(rt, limits, task));
     }
 }
 
@@ -151,7 +152,7 @@ fn run_all<'s, E, R: Threads + Wait + Clock + Sync, G: Gate + Send>(
 ) -> Result<Team, RoundFault>
     requires workers { length round.team.workers.items ≡ length round.worker_gates.now }
     requires collectors { length round.team.collectors.items ≡ length round.collector_gates.now }
-    ensures played { IfOk result (λ team. HavePlayed round.entry.patience round.entry.team.workers.items team.workers.items) }
+    ensures played { IfOk result (λ team. HavePlayed round.entry.limits round.entry.team.workers.items team.workers.items) }
     ensures collected { IfOk result (λ team. HaveCollected round.entry.team.collectors.items team.collectors.items) }
 {
     let Round {
@@ -159,7 +160,7 @@ fn run_all<'s, E, R: Threads + Wait + Clock + Sync, G: Gate + Send>(
         worker_gates,
         collector_gates,
         stop,
-        patience,
+        limits,
     } = round;
     let Team {
         workers,
@@ -178,9 +179,9 @@ fn run_all<'s, E, R: Threads + Wait + Clock + Sync, G: Gate + Send>(
         &mut collecting,
     );
     if started.is_ok() {
-        started = start_workers(scope, &mut workers, patience, worker_gates, &mut tasks);
+        started = start_workers(scope, &mut workers, limits, worker_gates, &mut tasks);
     }
-    join_workers(rt, patience, &mut tasks, &mut workers);
+    join_workers(rt, limits, &mut tasks, &mut workers);
     stop.store(true, Ordering::SeqCst);
     join_collectors(rt, &mut collecting, &mut collectors);
     started?;
@@ -199,7 +200,7 @@ fn shift<'a, R: Threads + Wait + Clock + Sync, G: Gate + Send>(
 ) -> Result<Team, RoundFault>
     requires workers { length round.team.workers.items ≡ length round.worker_gates.now }
     requires collectors { length round.team.collectors.items ≡ length round.collector_gates.now }
-    ensures played { IfOk result (λ team. HavePlayed round.entry.patience round.entry.team.workers.items team.workers.items) }
+    ensures played { IfOk result (λ team. HavePlayed round.entry.limits round.entry.team.workers.items team.workers.items) }
     ensures collected { IfOk result (λ team. HaveCollected round.entry.team.collectors.items team.collectors.items) }
 {
     thread::scope(
@@ -208,7 +209,7 @@ fn shift<'a, R: Threads + Wait + Clock + Sync, G: Gate + Send>(
         move |scope| -> Result<Team, RoundFault>
             requires workers { length round.team.workers.items ≡ length round.worker_gates.now }
             requires collectors { length round.team.collectors.items ≡ length round.collector_gates.now }
-            ensures played { IfOk result (λ team. HavePlayed round.entry.patience round.entry.team.workers.items team.workers.items) }
+            ensures played { IfOk result (λ team. HavePlayed round.entry.limits round.entry.team.workers.items team.workers.items) }
             ensures collected { IfOk result (λ team. HaveCollected round.entry.team.collectors.items team.collectors.items) }
         { run_all(scope, rt, round) },
     )
@@ -219,11 +220,11 @@ fn shift<'a, R: Threads + Wait + Clock + Sync, G: Gate + Send>(
 pub fn play_workers<R: Threads + Wait + Clock + Sync, G: Gate + Send>(
     rt: &R,
     team: Team,
-    patience: u32,
+    limits: RoundLimits,
     gates: &mut [G],
 ) -> Result<Team, RoundFault>
     requires gates { length team.workers.items + length team.collectors.items ≡ length gates.old }
-    ensures played { IfOk result (λ r. HavePlayed patience team.workers.items r.workers.items) }
+    ensures played { IfOk result (λ r. HavePlayed limits team.workers.items r.workers.items) }
     ensures collected { IfOk result (λ r. HaveCollected team.collectors.items r.collectors.items) }
 {
     let stop = AtomicBool::new(false);
@@ -233,7 +234,7 @@ pub fn play_workers<R: Threads + Wait + Clock + Sync, G: Gate + Send>(
         worker_gates,
         collector_gates,
         stop: &stop,
-        patience,
+        limits,
     };
     shift(rt, round)
 }

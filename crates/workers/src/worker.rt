@@ -1,7 +1,6 @@
-//! A worker: its pass, all lines that are its own, and which of these are the round's.
-ghost use Rattle.std.specs.Prelude.{◌≡◌, ◌≤◌, length};
+//! A worker: its pass, all lines that are its own, and their answers so far.
+ghost use Rattle.std.specs.Prelude.{◌≡◌};
 ghost use Rattle.std.specs.Arc.{arc_value};
-ghost use Rattle.rounds.specs.Answers.{said_in};
 ghost use Rattle.workers.specs.Able.{IsAble, IsAble-prop};
 
 use flash_table::Pass;
@@ -12,7 +11,7 @@ use trace::Commands;
 use volume::Volume;
 
 /// What a worker needs for a run: its pass, the indices of its lines in the trace, their answers so far with room for the others, and a buffer of
-/// one page. In a round it plays the lines that have no answer yet, up to an index of its row. If a worker is dropped, its pass is retired.
+/// one page. In a round it plays the lines before the round's end that have no answer yet. If a worker is dropped, its pass is retired.
 pub struct Worker {
     pub volume: Arc<Volume, Global>,
     pub commands: Arc<Commands, Global>,
@@ -20,10 +19,7 @@ pub struct Worker {
     pub places: Vec<usize>,
     pub answers: Answers,
     pub buffer: Vec<u8>,
-    pub to: usize,
     pub ghost able: { IsAble (arc_value volume) (arc_value commands) pass places.items answers buffer.items } by { IsAble-prop (arc_value volume) (arc_value commands) pass places.items answers buffer.items },
-    pub ghost order: { length (said_in answers) ≤ to },
-    pub ghost within: { to ≤ length places.items },
 }
 
 impl Drop for Worker {
@@ -35,7 +31,6 @@ impl Drop for Worker {
             places: _,
             answers: _,
             buffer: _,
-            to: _,
         } = self;
         volume.retire(pass);
     }
@@ -53,7 +48,6 @@ impl Worker {
             places: _,
             answers,
             buffer: _,
-            to: _,
         } = self;
         volume.retire(pass);
         answers
