@@ -1,6 +1,7 @@
 //! A trace's commands read whole, its answers as text, and how a text goes out.
 #![tactic(auto)]
 
+mod broom_line;
 mod delivery;
 mod encoding;
 mod fault;
@@ -13,6 +14,7 @@ mod reply;
 mod text;
 mod words;
 
+pub use broom_line::BroomLine;
 pub use delivery::{OutputFailed, send};
 pub use fault::RunFault;
 pub use lines::Lines;
