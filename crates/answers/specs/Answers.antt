@@ -11,6 +11,7 @@ use Rattle.trace.specs.Trace.{name_of}
 use Rattle.trace.specs.declared.commands.Command.{Command}
 use Rattle.trace.specs.declared.commands.Op.{Op}
 use Rattle.trace.specs.declared.commands.Op.TheVariants as op
+use Rattle.answers.specs.declared.broom_line.BroomLine.{BroomLine}
 
 -- the call by which a command may change the array. The array doesn't depend on which pass makes it, so all calls are made by pass 0
 abbrev pub call_by : Op → ℕ → List ℕ → Option Call
@@ -96,6 +97,17 @@ abbrev pub collection_line : ℕ → ℕ → ℕ → ℕ → ℕ → Bool → Li
 collection_line line victim copied copybacks erases retired =
     decimal line ++ codes "," ++ decimal victim ++ codes "," ++ decimal copied ++ codes "," ++ decimal copybacks ++ codes "," ++ decimal erases ++ codes ","
     ++ outcome_text retired ++ codes "\n"
+
+-- the names of what is reported for each broom
+abbrev pub broom_names : List ℕ
+broom_names = codes "broom,drained,moved,programmed,erased,kept,retired,lost,pinned,stale,idle\n"
+
+-- the line of a broom: its number and its counts
+abbrev pub broom_line : BroomLine → List ℕ
+broom_line it =
+    decimal it.broom ++ codes "," ++ decimal it.drained ++ codes "," ++ decimal it.moved ++ codes "," ++ decimal it.programmed ++ codes ","
+    ++ decimal it.erased ++ codes "," ++ decimal it.kept ++ codes "," ++ decimal it.retired ++ codes "," ++ decimal it.lost ++ codes ","
+    ++ decimal it.pinned ++ codes "," ++ decimal it.stale ++ codes "," ++ decimal it.idle ++ codes "\n"
 
 -- the last line of a run of several threads
 abbrev pub end_text : List ℕ

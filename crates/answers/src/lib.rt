@@ -1,6 +1,7 @@
 //! Reads a trace's commands, makes its answers as text, and writes a text.
 #![tactic(auto)]
 
+mod broom_line;
 mod delivery;
 mod encoding;
 mod fault;
@@ -13,6 +14,7 @@ mod reply;
 mod text;
 mod words;
 
+pub use broom_line::BroomLine;
 pub use delivery::{OutputFailed, send};
 pub use fault::RunFault;
 pub use lines::Lines;

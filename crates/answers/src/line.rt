@@ -1,22 +1,24 @@
 //! Puts the lines of a run's output into a buffer; each call returns where its line ends.
 ghost use Rattle.std.specs.Prelude.{◌≡◌, ◌+◌, ◌*◌, ◌≤◌, ◌++◌, codes, length};
 ghost use Rattle.hex.specs.Hex.{encode_lower};
-ghost use Rattle.answers.specs.Answers.{collection_line, collection_names, end_text, line_text, totals_text, wear_line, wear_names};
+ghost use Rattle.answers.specs.Answers.{broom_line, broom_names, collection_line, collection_names, end_text, line_text, totals_text, wear_line, wear_names};
 ghost use Rattle.answers.specs.Placed.{Placed};
 ghost use Rattle.answers.specs.Replies.{reply_text};
 ghost use Rattle.answers.specs.declared.reply.Reply.TheVariants as replies;
 
+use crate::broom_line::BroomLine;
 use crate::numbering::Numbering;
 use crate::reply::Reply;
 use crate::text::{SHORT_BYTES, put_number, put_page, put_short};
 use crate::words::{
-    BLOCK_ERASES, COPIED_COPYBACKS, END, END_COMMA, ERASES_OUTCOME, LINE_VICTIM, LIVE_RETIRED,
-    op_word, outcome_word, reply_word,
+    BLOCK_ERASES, BROOM_DRAINED, COPIED_COPYBACKS, END, END_COMMA, ERASED_KEPT, ERASES_OUTCOME,
+    IDLE, LINE_VICTIM, LIVE_RETIRED, MOVED_PROGRAMMED, PINNED_STALE, RETIRED_LOST, op_word,
+    outcome_word, reply_word,
 };
 use trace::Op;
 
 /// The most bytes of a line without those of its page, but with the bytes that are stored after its end.
-pub const LINE_BYTES: usize = 128;
+pub const LINE_BYTES: usize = 256;
 
 /// How many bytes of output have to wait before they are written.
 pub const PIECE_BYTES: usize = 65_536;
@@ -104,7 +106,7 @@ pub fn put_wear(
     put_number(buffer, third, u64::from(retired), b'\n')
 }
 
-/// Puts the names of what is told of each
+/// Puts the names of what is reported for each collection.
 pub fn put_collection_names(buffer: &mut [u8], at: usize) -> usize
     requires { at + LINE_BYTES ≤ length buffer.old }
     ensures { Placed buffer.old buffer.new at collection_names result }
@@ -114,7 +116,7 @@ pub fn put_collection_names(buffer: &mut [u8], at: usize) -> usize
     put_short(buffer, second, &ERASES_OUTCOME)
 }
 
-/// Puts the line of a
+/// Puts the line of a collection.
 pub fn put_collection(
     buffer: &mut [u8],
     at: usize,
@@ -134,4 +136,35 @@ pub fn put_collection(
     let fourth = put_number(buffer, third, u64::from(copybacks), b',');
     let fifth = put_number(buffer, fourth, u64::from(erases), b',');
     put_short(buffer, fifth, outcome_word(retired))
+}
+
+/// Puts the names of what is reported for each broom.
+pub fn put_broom_names(buffer: &mut [u8], at: usize) -> usize
+    requires { at + LINE_BYTES ≤ length buffer.old }
+    ensures { Placed buffer.old buffer.new at broom_names result }
+{
+    let first = put_short(buffer, at, &BROOM_DRAINED);
+    let second = put_short(buffer, first, &MOVED_PROGRAMMED);
+    let third = put_short(buffer, second, &ERASED_KEPT);
+    let fourth = put_short(buffer, third, &RETIRED_LOST);
+    let fifth = put_short(buffer, fourth, &PINNED_STALE);
+    put_short(buffer, fifth, &IDLE)
+}
+
+/// Puts the line of a broom.
+pub fn put_broom(buffer: &mut [u8], at: usize, it: BroomLine) -> usize
+    requires { at + LINE_BYTES ≤ length buffer.old }
+    ensures { Placed buffer.old buffer.new at (broom_line it) result }
+{
+    let broom = put_number(buffer, at, it.broom, b',');
+    let drained = put_number(buffer, broom, it.drained, b',');
+    let moved = put_number(buffer, drained, it.moved, b',');
+    let programmed = put_number(buffer, moved, it.programmed, b',');
+    let erased = put_number(buffer, programmed, it.erased, b',');
+    let kept = put_number(buffer, erased, it.kept, b',');
+    let retired = put_number(buffer, kept, it.retired, b',');
+    let lost = put_number(buffer, retired, it.lost, b',');
+    let pinned = put_number(buffer, lost, it.pinned, b',');
+    let stale = put_number(buffer, pinned, it.stale, b',');
+    put_number(buffer, stale, it.idle, b'\n')
 }

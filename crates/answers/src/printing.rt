@@ -3,17 +3,18 @@ ghost use Rattle.std.specs.Io.KnownBytes.{Appends};
 ghost use Rattle.geometry.specs.Geometry.{page_bytes_of};
 ghost use Rattle.hex.specs.Hex.{encode_lower};
 ghost use Rattle.trace.specs.Watched.{failures_of, inner_of};
-ghost use Rattle.answers.specs.Answers.{collection_line, collection_names, end_text, line_text, totals_text, wear_line, wear_names};
+ghost use Rattle.answers.specs.Answers.{broom_line, broom_names, collection_line, collection_names, end_text, line_text, totals_text, wear_line, wear_names};
 ghost use Rattle.answers.specs.Delivery.{AppendsBeginning, IsUnderWay};
 ghost use Rattle.answers.specs.Lines.{page_digits_of, waiting_of};
 ghost use Rattle.answers.specs.Replies.{reply_text};
 ghost use Rattle.answers.specs.declared.line.TheConstants.{PIECE_BYTES};
 ghost use Rattle.answers.specs.declared.reply.Reply.TheVariants as replies;
 
+use crate::broom_line::BroomLine;
 use crate::delivery::{OutputFailed, send};
 use crate::line::{
-    LINE_BYTES, PIECE_BYTES, put_collection, put_collection_names, put_end, put_line, put_totals,
-    put_wear, put_wear_names,
+    LINE_BYTES, PIECE_BYTES, put_broom, put_broom_names, put_collection, put_collection_names,
+    put_end, put_line, put_totals, put_wear, put_wear_names,
 };
 use crate::lines::Lines;
 use crate::numbering::Numbering;
@@ -127,6 +128,24 @@ impl Lines {
             erases,
             retired,
         );
+    }
+
+    /// Adds the names of what is reported for each broom.
+    pub fn broom_names(&mut self)
+        requires room { length (waiting_of self.old) ≤ PIECE_BYTES }
+        ensures waiting { waiting_of self.new ≡ waiting_of self.old ++ broom_names }
+        ensures page { page_digits_of self.new ≡ page_digits_of self.old }
+    {
+        self.used = put_broom_names(&mut self.buffer, self.used);
+    }
+
+    /// Adds the line of a broom.
+    pub fn broom(&mut self, it: BroomLine)
+        requires room { length (waiting_of self.old) ≤ PIECE_BYTES }
+        ensures waiting { waiting_of self.new ≡ waiting_of self.old ++ broom_line it }
+        ensures page { page_digits_of self.new ≡ page_digits_of self.old }
+    {
+        self.used = put_broom(&mut self.buffer, self.used, it);
     }
 
     /// Writes the lines that wait.

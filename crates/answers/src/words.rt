@@ -99,6 +99,36 @@ pub(crate) static ERASES_OUTCOME: Short = Short {
     len: 16,
 };
 
+pub(crate) static BROOM_DRAINED: Short = Short {
+    bytes: *b"broom,drained,\0\0",
+    len: 14,
+};
+
+pub(crate) static MOVED_PROGRAMMED: Short = Short {
+    bytes: *b"moved,programmed",
+    len: 16,
+};
+
+pub(crate) static ERASED_KEPT: Short = Short {
+    bytes: *b",erased,kept,\0\0\0",
+    len: 13,
+};
+
+pub(crate) static RETIRED_LOST: Short = Short {
+    bytes: *b"retired,lost,\0\0\0",
+    len: 13,
+};
+
+pub(crate) static PINNED_STALE: Short = Short {
+    bytes: *b"pinned,stale,\0\0\0",
+    len: 13,
+};
+
+pub(crate) static IDLE: Short = Short {
+    bytes: *b"idle\n\0\0\0\0\0\0\0\0\0\0\0",
+    len: 5,
+};
+
 static FREED: Short = Short {
     bytes: *b"freed\n\0\0\0\0\0\0\0\0\0\0",
     len: 6,

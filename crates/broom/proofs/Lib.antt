@@ -15,3 +15,4 @@ pub mod Sparing
 pub mod Tying
 pub mod Keeping
 pub mod Turning
+pub mod PagesLeft

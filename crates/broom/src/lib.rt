@@ -12,6 +12,7 @@ mod meeting;
 mod ranking;
 mod relocation;
 mod restocking;
+mod room;
 mod survey;
 mod turns;
 

@@ -1,6 +1,7 @@
 -- How a session ends, by how its run did.
 use Rattle.std.proofs.Common.{◌≡◌, ◌≢◌, ◌∙◌, ℕ, Bool, true, false, List, None, Some, Option, refl, inl, inr, ap, subst, sym}
 use Rattle.std.specs.Prelude.{⊤, MatchOption, Result, Ok, Err, OnErr, OnOk, is_some, option_map}
+use Rattle.geometry.specs.Geometry.{hosts_of}
 use Rattle.geometry.specs.declared.geometry.Geometry.{Geometry}
 use Rattle.trace.specs.declared.named_file.OpenFault.{OpenFault}
 use Rattle.trace.specs.declared.named_file.OpenFault.TheVariants as open_fault
@@ -13,8 +14,7 @@ use Rattle.clap.specs.declared.error.Error.{Error}
 use Rattle.clap.specs.declared.error.kind.ErrorKind.{ErrorKind}
 use Rattle.clap.specs.declared.error.kind.ErrorKind.TheVariants as kind
 use Rattle.player.specs.CommandLine.{faults_given}
-use Rattle.runs.specs.Collections.{IsLogOf}
-use Rattle.runs.specs.Files.{EndsFile, LeavesLog}
+use Rattle.runs.specs.Files.{EndsFile}
 use Rattle.runs.specs.Wear.{IsWearOf}
 use Rattle.player.specs.declared.command_line.Options.{Options}
 use Rattle.player.specs.declared.run_files.FileStop.{FileStop}
@@ -22,7 +22,7 @@ use Rattle.player.specs.declared.run_files.FileStop.TheVariants as file_stop
 use Rattle.player.specs.declared.run_files.RunFile.TheVariants as run_file
 use Rattle.player.specs.declared.stop.Stop.{Stop}
 use Rattle.player.specs.declared.stop.Stop.TheVariants as stop
-use Rattle.player.specs.Session.{Answered, AnswersClap, AreUntouched, AsksClap, EndsOn, Explains, Filing, Filings, IsDescribed, IsIdle, IsOpened, IsUntouched, LeavesFiles, LosesFile, LosesOn, OpensFiles, PlaysOn, TellsFile, TellsFiles, name_given, outcome_of, stop_of_open}
+use Rattle.player.specs.Session.{Answered, AnswersClap, AreUntouched, AsksClap, EndsOn, Explains, Filing, Filings, IsDescribed, IsIdle, IsLogFor, IsOpened, IsUntouched, LeavesFiles, LeavesLogBy, LosesFile, LosesOn, OpensFiles, PlaysOn, TellsFile, TellsFiles, name_given, outcome_of, stop_of_open}
 
 -- what two claims come to, by how a file was written
 abbrev pub ByEnd : Result (Unit {0}) OutputFailed → Type 0 → Type 0 → Type 0
@@ -59,7 +59,7 @@ file_ended f o wanted IsTextOf input is_opened_as old mid new r (opened, same) a
 
 -- a run ends by how its log and its wear were written
 pub run_ended : (c w : Result (Unit {0}) OutputFailed) (geo : Geometry) (given : Options) (input output : Passage) (files : Filings) → PlaysOn geo input output
-    → ByEnd c (TellsFile (name_given run_file.Collections given) (IsLogOf geo) input.before files.collections) (LosesFile (name_given run_file.Collections given) (IsLogOf geo) input.before files.collections)
+    → ByEnd c (TellsFile (name_given run_file.Collections given) (IsLogFor geo) input.before files.collections) (LosesFile (name_given run_file.Collections given) (IsLogFor geo) input.before files.collections)
     → ByEnd w (TellsFile (name_given run_file.Wear given) (IsWearOf geo) input.before files.wear) (LosesFile (name_given run_file.Wear given) (IsWearOf geo) input.before files.wear)
     → EndsOn (outcome_of c w) geo given input output files
 run_ended (Err _) (Ok _) geo given input output files plays lost told = (plays, (lost, inl told))
@@ -70,33 +70,17 @@ run_ended (Ok _) (Ok _) geo given input output files plays collections wear = (p
 -- a run that stopped leaves its files, which were opened
 pub files_left : (found : RunFault) (wanted : Bool) (geo : Geometry) (given : Options) (input : Stream) (files : Filings) (mid_wear mid_log : Stream)
     → mid_wear ≡ files.wear.stream.before → mid_log ≡ files.collections.stream.before → wanted ≡ is_some given.collections → files.wear.stream.after ≡ mid_wear
-    → LeavesLog found wanted geo input (record { before = mid_log; after = files.collections.stream.after }) → LeavesFiles found geo given input files
+    → LeavesLogBy (hosts_of geo) found wanted geo input (record { before = mid_log; after = files.collections.stream.after }) → LeavesFiles found geo given input files
 files_left found wanted geo given input files mid_wear mid_log same_wear same_log asked no_wear left = (
   no_wear ∙ same_wear,
-  subst (λ w. LeavesLog found w geo input files.collections.stream) asked
-      (subst (λ (s : Stream). LeavesLog found wanted geo input (record { before = s; after = files.collections.stream.after })) same_log left),
+  subst (λ w. LeavesLogBy (hosts_of geo) found w geo input files.collections.stream) asked
+      (subst (λ (s : Stream). LeavesLogBy (hosts_of geo) found wanted geo input (record { before = s; after = files.collections.stream.after })) same_log left),
 )
 
--- and where none is named there is nothing to leave
-pub nothing_left : (found : RunFault) (geo : Geometry) (given : Options) (input : Stream) (files : Filings) → is_some given.collections ≡ false → AreUntouched files → LeavesFiles found geo given input files
-nothing_left found geo given input files none (wear, same) =
-    (wear, subst (λ w. LeavesLog found w geo input files.collections.stream) (sym none) (untouched found))
-  where
-    untouched : (fault : RunFault) → LeavesLog fault false geo input files.collections.stream
-    untouched (run.Trace why) = same
-    untouched run.Memory = same
-    untouched run.Threads = same
-    untouched run.Output = same
-
-unnamed : {X : Type 0} (f : X → Text) (o : Option X) (IsTextOf : List ℕ → List ℕ → Type 0) (input : Stream) (file : Filing) → is_some o ≡ false → IsUntouched file → TellsFile (option_map f o) IsTextOf input file
+-- a file that is not named
+pub unnamed : {X : Type 0} (f : X → Text) (o : Option X) (IsTextOf : List ℕ → List ℕ → Type 0) (input : Stream) (file : Filing) → is_some o ≡ false → IsUntouched file → TellsFile (option_map f o) IsTextOf input file
 unnamed f None IsTextOf input file none same = same
 unnamed f (Some x) IsTextOf input file none same = cc
-
-pub nothing_told : (geo : Geometry) (given : Options) (input : Stream) (files : Filings) → is_some given.wear ≡ false → is_some given.collections ≡ false → AreUntouched files → TellsFiles geo given input files
-nothing_told geo given input files no_wear no_log (wear, log) = record {
-  wear = unnamed (λ name. name.now) given.wear (IsWearOf geo) input files.wear no_wear wear;
-  collections = unnamed (λ name. name.now) given.collections (IsLogOf geo) input files.collections no_log log;
-}
 
 pub is_named : {X : Type 0} (f : X → Text) (o : Option X) → is_some o ≡ true → is_some (option_map f o) ≡ true
 is_named f o some = sym (is_some_map f o) ∙ some
@@ -137,8 +121,8 @@ from_run words geo device input output files (Err (stop.Geometry found)) never =
 from_run words geo device input output files (Err (stop.Run found)) (why, left) = record { geo = geo; device = device; why = why; left = left }
 from_run words geo device input output files (Err stop.Help) never = absurd never
 from_run words geo device input output files (Err stop.Memory) never = absurd never
-from_run words geo device input output files (Err (stop.File file file_stop.NotWithWorkers)) (shared, asked, idle, same) =
-    ((record { geo = geo; device = device; asked = asked }, shared), idle, same)
+from_run words geo device input output files (Err (stop.File file file_stop.NotWithWorkers)) (shared, wear, asked, idle, same) =
+    (wear, (record { geo = geo; device = device; asked = asked }, shared), idle, same)
 from_run words geo device input output files (Err (stop.File file file_stop.NotOpened)) (asked, idle, fails) =
     (record { geo = geo; device = device; asked = asked }, idle, fails)
 from_run words geo device input output files (Err (stop.File file file_stop.NotItsOwn)) (asked, idle, fails) =

@@ -1,6 +1,6 @@
 -- What a run tells, by whether its device has hosts.
 use Rattle.std.proofs.Common.{◌≡◌, ◌≢◌, ℕ, zero, suc, List, Option, refl, sym, subst}
-use Rattle.std.specs.Prelude.{IfSome}
+use Rattle.std.specs.Prelude.{Bool, IfSome, Result}
 use Rattle.geometry.specs.Geometry.{hosts_of}
 use Rattle.geometry.specs.declared.geometry.Geometry.{Geometry}
 use Rattle.answers.specs.Delivery.{AppendsText}
@@ -8,9 +8,13 @@ use Rattle.answers.specs.Outcome.{ExplainsRun}
 use Rattle.answers.specs.Streams.{Passage, Stream, Tells, TellsPart}
 use Rattle.answers.specs.declared.fault.RunFault.{RunFault}
 use Rattle.answers.specs.declared.fault.RunFault.TheVariants as run
+use Rattle.answers.specs.declared.delivery.OutputFailed.{OutputFailed}
+use Rattle.runs.specs.Brooms.{IsBroomLogOf}
+use Rattle.runs.specs.Collections.{IsLogOf}
+use Rattle.runs.specs.Files.{EndsFile, LeavesLog}
 use Rattle.runs.specs.Playing.{IsTextOf}
 use Rattle.runs.specs.Texts.{IsTextOf as IsSharedTextOf}
-use Rattle.player.specs.Session.{IsTextBy, IsTextFor}
+use Rattle.player.specs.Session.{IsLogBy, IsLogFor, IsTextBy, IsTextFor, LeavesLogBy}
 
 -- without hosts the text is that of one thread
 pub one_text : (geo : Geometry) (input old new : Option (List ℕ)) → hosts_of geo ≡ 0 → IfSome input (λ bytes. AppendsText (IsTextOf geo) bytes old new) → IfSome input (λ bytes. AppendsText (IsTextFor geo) bytes old new)
@@ -38,3 +42,21 @@ shared_why geo run.Memory input output some why = why
 shared_why geo run.Threads input output some why = why
 shared_why geo run.Output input output some (reads, failed, part) =
     (reads, failed, shared_part (hosts_of geo) geo input.before output some part)
+
+-- and so is the log
+pub one_log : (geo : Geometry) (wanted : Bool) (input : Stream) (file : Passage) (r : Result (Unit {0}) OutputFailed) → hosts_of geo ≡ 0 → EndsFile wanted (IsLogOf geo) input file r → EndsFile wanted (IsLogFor geo) input file r
+one_log geo wanted input file r none ends = subst (λ h. EndsFile wanted (IsLogBy h geo) input file r) (sym none) ends
+
+pub one_left : (geo : Geometry) (fault : RunFault) (wanted : Bool) (input : Stream) (file : Passage) → hosts_of geo ≡ 0 → LeavesLog fault wanted geo input file → LeavesLogBy (hosts_of geo) fault wanted geo input file
+one_left geo fault wanted input file none left = subst (λ h. LeavesLogBy h fault wanted geo input file) (sym none) left
+
+shared_end : (hosts : ℕ) (geo : Geometry) (wanted : Bool) (input : Stream) (file : Passage) (r : Result (Unit {0}) OutputFailed) → hosts ≢ 0 → EndsFile wanted (IsBroomLogOf geo) input file r → EndsFile wanted (IsLogBy hosts geo) input file r
+shared_end zero geo wanted input file r some ends = absurd (some refl)
+shared_end (suc others) geo wanted input file r some ends = ends
+
+pub shared_log : (geo : Geometry) (wanted : Bool) (input : Stream) (file : Passage) (r : Result (Unit {0}) OutputFailed) → hosts_of geo ≢ 0 → EndsFile wanted (IsBroomLogOf geo) input file r → EndsFile wanted (IsLogFor geo) input file r
+shared_log geo wanted input file r some ends = shared_end (hosts_of geo) geo wanted input file r some ends
+
+pub shared_left : (hosts : ℕ) (geo : Geometry) (fault : RunFault) (wanted : Bool) (input : Stream) (file : Passage) → hosts ≢ 0 → file.after ≡ file.before → LeavesLogBy hosts fault wanted geo input file
+shared_left zero geo fault wanted input file some same = absurd (some refl)
+shared_left (suc others) geo fault wanted input file some same = same

@@ -1,5 +1,5 @@
 -- How a session of the program ends.
-use Rattle.std.specs.Prelude.{◌≡◌, ◌≢◌, ◌⊎◌, ⊤, ℕ, zero, suc, List, [], true, MatchOption, IfSome, Option, Some, is_some, option_map, Result, Ok, Err}
+use Rattle.std.specs.Prelude.{◌≡◌, ◌≢◌, ◌⊎◌, ⊤, ℕ, zero, suc, Bool, List, [], true, MatchOption, IfSome, Option, Some, is_some, option_map, Result, Ok, Err}
 use Rattle.std.specs.Io.KnownBytes.{IsAtEnd}
 use Rattle.clap.specs.Words.{IsAmong, Text, kind_of}
 use Rattle.clap.specs.declared.error.Error.{Error}
@@ -20,6 +20,7 @@ use Rattle.answers.specs.Streams.{Passage, Sends, SendsBeginning, Stream, Tells,
 use Rattle.answers.specs.declared.fault.RunFault.{RunFault}
 use Rattle.answers.specs.declared.fault.RunFault.TheVariants as run
 use Rattle.answers.specs.declared.delivery.OutputFailed.{OutputFailed}
+use Rattle.runs.specs.Brooms.{IsBroomLogOf}
 use Rattle.runs.specs.Collections.{IsLogOf}
 use Rattle.runs.specs.Files.{LeavesLog}
 use Rattle.runs.specs.Playing.{IsTextOf}
@@ -94,6 +95,20 @@ IsTextBy (suc others) geo bytes text = IsSharedTextOf geo bytes text
 abbrev pub IsTextFor : Geometry → List ℕ → List ℕ → Type 0
 IsTextFor geo bytes text = IsTextBy (hosts_of geo) geo bytes text
 
+-- the log of a run by this many workers: with no worker it lists the collections, and otherwise what each broom has done
+abbrev pub IsLogBy : ℕ → Geometry → List ℕ → List ℕ → Type 0
+IsLogBy zero geo bytes text = IsLogOf geo bytes text
+IsLogBy (suc others) geo bytes text = IsBroomLogOf geo bytes text
+
+-- the log of a run on this device, by a worker for each of its hosts
+abbrev pub IsLogFor : Geometry → List ℕ → List ℕ → Type 0
+IsLogFor geo bytes text = IsLogBy (hosts_of geo) geo bytes text
+
+-- what a run by this many workers that stopped leaves in the file of its log: by workers nothing
+abbrev pub LeavesLogBy : ℕ → RunFault → Bool → Geometry → Stream → Passage → Type 0
+LeavesLogBy zero found wanted geo input file = LeavesLog found wanted geo input file
+LeavesLogBy (suc others) found wanted geo input file = file.after ≡ file.before
+
 -- the trace was played: the input was read to its end, the text of all its bytes was written, and no call failed
 pub record Answered (words : List Text) (input output : Passage) : Type 0 where
   pub geo : Geometry
@@ -165,25 +180,26 @@ LosesFile asked IsTextOf input file =
     MatchOption asked ⊥
     (λ name. file.is_opened_as name × (file.stream.after.failures ≢ file.stream.before.failures) × TellsPart IsTextOf input file.stream)
 
--- the files are written as the options want them: the wear of the device after the trace, and the log of its collections
+-- the files are written as the options want them: the wear of the device after the trace, and the log of its collections or, by workers, of
+-- what the brooms have done
 pub record TellsFiles (geo : Geometry) (given : Options) (input : Stream) (files : Filings) : Type 0 where
   pub wear : TellsFile (name_given run_file.Wear given) (IsWearOf geo) input files.wear
-  pub collections : TellsFile (name_given run_file.Collections given) (IsLogOf geo) input files.collections
+  pub collections : TellsFile (name_given run_file.Collections given) (IsLogFor geo) input files.collections
 
 -- this file failed as it was written. If both did it is the log, which is written first
 abbrev pub LosesOne : RunFile → Geometry → Options → Stream → Filings → Type 0
 LosesOne run_file.Wear geo given input files =
     LosesFile (name_given run_file.Wear given) (IsWearOf geo) input files.wear
-    × TellsFile (name_given run_file.Collections given) (IsLogOf geo) input files.collections
+    × TellsFile (name_given run_file.Collections given) (IsLogFor geo) input files.collections
 LosesOne run_file.Collections geo given input files =
-    LosesFile (name_given run_file.Collections given) (IsLogOf geo) input files.collections
+    LosesFile (name_given run_file.Collections given) (IsLogFor geo) input files.collections
     × (TellsFile (name_given run_file.Wear given) (IsWearOf geo) input files.wear
     ⊎ LosesFile (name_given run_file.Wear given) (IsWearOf geo) input files.wear)
 
--- what a run that stopped leaves in its files: a beginning of the log if the answers could not be written, and otherwise nothing
+-- what a run that stopped leaves in its files: by one thread a beginning of the log if the answers could not be written, and otherwise nothing
 abbrev pub LeavesFiles : RunFault → Geometry → Options → Stream → Filings → Type 0
 LeavesFiles found geo given input files =
-    IsUntouched files.wear × LeavesLog found (is_some given.collections) geo input files.collections.stream
+    IsUntouched files.wear × LeavesLogBy (hosts_of geo) found (is_some given.collections) geo input files.collections.stream
 
 -- the trace was played, and the files written as the options want them
 pub record Played (words : List Text) (input output : Passage) (files : Filings) : Type 0 where
@@ -215,7 +231,7 @@ pub record PlaysOn (geo : Geometry) (input output : Passage) : Type 0 where
 -- why a file of a run on a device is not written
 abbrev pub LosesOn : RunFile → FileStop → Geometry → Options → Passage → Passage → Filings → Type 0
 LosesOn file file_stop.NotWithWorkers geo given input output files =
-    (hosts_of geo ≢ 0) × (is_some (name_given file given) ≡ true) × IsIdle input output × AreUntouched files
+    (hosts_of geo ≢ 0) × (file ≡ run_file.Wear) × (is_some (name_given file given) ≡ true) × IsIdle input output × AreUntouched files
 LosesOn file file_stop.NotOpened geo given input output files = (is_some (name_given file given) ≡ true) × IsIdle input output × FailsToOpen file files
 LosesOn file file_stop.NotItsOwn geo given input output files = (is_some (name_given file given) ≡ true) × IsIdle input output × FailsToOpen file files
 LosesOn file file_stop.Failed geo given input output files =
@@ -282,10 +298,10 @@ pub record AppendsSome (output : Passage) : Type 0 where
   pub part : SendsBeginning output text
   pub failed : output.after.failures ≢ output.before.failures
 
--- why a file of a run was not written: workers are asked for, it was not opened, or it failed as it was written
+-- why a file of a run was not written: it is the wear and workers are asked for, it was not opened, or it failed as it was written
 abbrev pub ExplainsFile : RunFile → FileStop → List Text → Passage → Passage → Filings → Type 0
 ExplainsFile file file_stop.NotWithWorkers words input output files =
-    ((named : NamesFile words file) × (hosts_of named.geo ≢ 0)) × IsIdle input output × AreUntouched files
+    (file ≡ run_file.Wear) × ((named : NamesFile words file) × (hosts_of named.geo ≢ 0)) × IsIdle input output × AreUntouched files
 ExplainsFile file file_stop.NotOpened words input output files = NamesFile words file × IsIdle input output × FailsToOpen file files
 ExplainsFile file file_stop.NotItsOwn words input output files = NamesFile words file × IsIdle input output × FailsToOpen file files
 ExplainsFile file file_stop.Failed words input output files = Lost file words input output files

@@ -139,7 +139,7 @@ fn flashplay<'a>(alloc: Global) -> Result<Command<'a>, AllocError>
         .arg(file(
             alloc,
             "collections",
-            "Writes a line for each collection to this file, as they are made",
+            "Writes a line for each collection to this file, as they are made; by workers a line for each broom",
         ))
 }
 

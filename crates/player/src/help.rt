@@ -41,8 +41,8 @@ Faults, on standard error, with what to do:
                     nothing was played: look at the folder and its permissions
   wear: not a file of its own, collections: not a file of its own
                     it is the trace, the answers, the faults or the other file, and nothing was played: name another file
-  wear: not with workers, collections: not with workers
-                    leave out the option or --workers
+  wear: not with workers
+                    leave out --wear or --workers
   wear: failed, collections: failed
                     the answers are complete, and the file is not: look at its disk, and run again
   memory: refused, line 0: Memory    memory ran out: make the device or the trace smaller

@@ -13,7 +13,7 @@ pub enum RunFile {
 /// Why a file of a run was not written.
 #[derive(Clone, Copy, Debug, PartialEq, Eq)]
 pub enum FileStop {
-    /// The run is by workers, which don't write it.
+    /// It is the wear, and the run is by workers, which don't write it.
     NotWithWorkers,
     /// It could not be opened.
     NotOpened,

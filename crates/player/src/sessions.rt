@@ -113,7 +113,8 @@ fn play_alone<R: Read, W: Write, F: NamedFile>(
     }
 }
 
-// Plays the trace by a worker for each host of the device. Workers write no files.
+// Plays the trace by a worker for each host of the device, and writes the log of the brooms if the options name it. It is opened before the trace
+// is read. Workers write no wear.
 fn play_shared<T: Threads + Wait + Clock + Sync, R: Read, W: Write, F: NamedFile>(
     rt: &T,
     alloc: Global,
@@ -132,12 +133,23 @@ fn play_shared<T: Threads + Wait + Clock + Sync, R: Read, W: Write, F: NamedFile
     if given.wear.is_some() {
         return Err(Stop::File(RunFile::Wear, FileStop::NotWithWorkers));
     }
-    if given.collections.is_some() {
-        return Err(Stop::File(RunFile::Collections, FileStop::NotWithWorkers));
+    if let Err(stop) = open_files(given, files) {
+        return Err(stop);
     }
+    let wanted = given.collections.is_some();
     let (patience, drains) = (given.patience, given.drains);
-    match run_by_workers(rt, alloc, reader, writer, geometry, patience, drains) {
-        Ok(()) => Ok(()),
+    match run_by_workers(
+        rt,
+        alloc,
+        reader,
+        writer,
+        wanted,
+        &mut files.collections,
+        geometry,
+        patience,
+        drains,
+    ) {
+        Ok(log) => outcome(log, Ok(())),
         Err(fault) => Err(Stop::Run(fault)),
     }
 }

@@ -10,7 +10,7 @@ use std::test::Fail;
 use std::thread::Threads;
 use std::time::Clock;
 use trace::Watched;
-use workers::{RoundFault, play_commands};
+use workers::{RoundFault, RunEnd, play_commands};
 
 // How many blocks a broom drains by one survey.
 const DRAINS: u32 = 4;
@@ -48,7 +48,7 @@ pub(crate) fn play<R: Threads + Wait + Clock + Sync + Abort + AllocGlobal, G: Ga
     assert!(rt; gates.len() == geometry.hosts() as usize + geometry.brooms() as usize);
     let alloc = rt.alloc();
     let rows = match play_commands(rt, alloc, geometry, &commands, patience, DRAINS, gates) {
-        Ok(rows) => rows,
+        Ok(RunEnd { rows, brooms: _ }) => rows,
         Err(fault) => return Ok(Err(fault)),
     };
     let mut answers = Vec::new(alloc);

@@ -5,3 +5,4 @@ pub mod Made
 mod Rows
 mod Deliveries
 pub mod Told
+pub mod BroomTexts

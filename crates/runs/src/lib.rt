@@ -1,6 +1,7 @@
 //! Plays a trace and writes its answers: on a flash layer for one thread, or on a shared device by several workers.
 #![tactic(auto)]
 
+mod broom_log;
 mod delivering;
 mod delivery;
 mod desk;

@@ -1,17 +1,20 @@
-ghost use Rattle.std.specs.Prelude.{◌≡◌, ◌+◌, ◌<◌, length, IfErr, OnOk};
+ghost use Rattle.std.specs.Prelude.{◌≡◌, ◌+◌, ◌<◌, length, IfErr, IfOk, OnErr, OnOk};
 ghost use Rattle.std.specs.Io.KnownBytes.{IsAtEnd};
 ghost use Rattle.geometry.specs.Geometry.{brooms_of, hosts_of};
 ghost use Rattle.trace.specs.Watched.{failures_of, inner_of};
 ghost use Rattle.answers.specs.Outcome.{ExplainsRun};
 ghost use Rattle.answers.specs.Streams.{Tells, over, stream_of};
+ghost use Rattle.runs.specs.Brooms.{IsBroomLogOf};
+ghost use Rattle.runs.specs.Files.{EndsFile};
 ghost use Rattle.runs.specs.Texts.{IsTextOf};
 
+use crate::broom_log::{log_room, tell_brooms_if};
 use crate::delivery::Delivery;
 use answers::{OutputFailed, RunFault, read_commands};
 use flash_table::{Gate, NoGate};
 use geometry::{Geometry, MAX_BROOMS, MAX_HOSTS};
 use std::alloc::Global;
-use std::io::{Read, Write};
+use std::io::{self, Read, Write};
 use std::sync::{Arc, Wait};
 use std::thread::Threads;
 use std::time::Clock;
@@ -49,6 +52,47 @@ pub fn run_shared<T: Threads + Wait + Clock + Sync, R: Read, W: Write, G: Gate +
     // A fault says what happened. Only a failed writer has taken bytes, and those are a beginning of a text.
     ensures why { IfErr result (ExplainsRun IsTextOf geometry.now (over R.remaining reader.old reader.new) (over W.contents writer.old writer.new)) }
 {
+    let mut no_log = Watched::new(io::sink());
+    match run_logged(
+        rt,
+        alloc,
+        reader,
+        writer,
+        false,
+        &mut no_log,
+        geometry,
+        patience,
+        drains,
+        gates,
+    ) {
+        Ok(_) => Ok(()),
+        Err(fault) => Err(fault),
+    }
+}
+
+// Plays a trace as `run_shared` does, and then writes what each broom has done, where that is wanted.
+fn run_logged<T: Threads + Wait + Clock + Sync, R: Read, W: Write, V: Write, G: Gate + Send>(
+    rt: &T,
+    alloc: Global,
+    reader: &mut Watched<R>,
+    writer: &mut Watched<W>,
+    wanted: bool,
+    file: &mut Watched<V>,
+    geometry: &Geometry,
+    patience: u32,
+    drains: u32,
+    gates: &mut [G],
+) -> Result<Result<(), OutputFailed>, RunFault>
+    requires hosts { 0 < hosts_of geometry.now }
+    requires gates { length gates.old ≡ hosts_of geometry.now + brooms_of geometry.now }
+    ensures end { OnOk result (IsAtEnd (R.remaining (inner_of reader.new))) }
+    ensures text { OnOk result (Tells (IsTextOf geometry.now) (stream_of R.remaining reader.old) (over W.contents writer.old writer.new)) }
+    ensures reader_unfailed { OnOk result (failures_of reader.new ≡ failures_of reader.old) }
+    ensures writer_unfailed { OnOk result (failures_of writer.new ≡ failures_of writer.old) }
+    ensures log { IfOk result (EndsFile wanted (IsBroomLogOf geometry.now) (stream_of R.remaining reader.old) (over V.contents file.old file.new)) }
+    ensures why { IfErr result (ExplainsRun IsTextOf geometry.now (over R.remaining reader.old reader.new) (over W.contents writer.old writer.new)) }
+    ensures no_log { OnErr result (stream_of V.contents file.new ≡ stream_of V.contents file.old) }
+{
     let commands = match read_commands(alloc, reader, geometry) {
         Ok(commands) => commands,
         Err(fault) => return Err(RunFault::Trace(fault)),
@@ -56,44 +100,59 @@ pub fn run_shared<T: Threads + Wait + Clock + Sync, R: Read, W: Write, G: Gate +
     let Ok(delivery) = Delivery::new(alloc, geometry) else {
         return Err(RunFault::Memory);
     };
+    let Ok(log) = log_room(alloc, geometry, wanted) else {
+        return Err(RunFault::Memory);
+    };
     let Ok(commands) = Arc::new(alloc, commands) else {
         return Err(RunFault::Memory);
     };
-    let rows = match play_commands(rt, alloc, geometry, &commands, patience, drains, gates) {
-        Ok(rows) => rows,
+    let end = match play_commands(rt, alloc, geometry, &commands, patience, drains, gates) {
+        Ok(end) => end,
         Err(RoundFault::Memory) => return Err(RunFault::Memory),
         Err(RoundFault::Threads) => return Err(RunFault::Threads),
     };
-    match delivery.deliver(&commands, &rows, writer) {
-        Ok(()) => Ok(()),
+    match delivery.deliver(&commands, &end.rows, writer) {
+        Ok(()) => Ok(tell_brooms_if(log, &end.brooms, file)),
         Err(OutputFailed) => Err(RunFault::Output),
     }
 }
 
-/// Plays a trace as `run_shared` does, with gates that do nothing.
-pub fn run_by_workers<T: Threads + Wait + Clock + Sync, R: Read, W: Write>(
+/// Plays a trace as `run_shared` does, with gates that do nothing, and then writes the log if it is wanted: what each broom has done. If the log
+/// fails, the answers are whole.
+#[allow(clippy::too_many_arguments)]
+pub fn run_by_workers<T: Threads + Wait + Clock + Sync, R: Read, W: Write, V: Write>(
     rt: &T,
     alloc: Global,
     reader: &mut Watched<R>,
     writer: &mut Watched<W>,
+    wanted: bool,
+    file: &mut Watched<V>,
     geometry: &Geometry,
     patience: u32,
     drains: u32,
-) -> Result<(), RunFault>
+) -> Result<Result<(), OutputFailed>, RunFault>
     requires { 0 < hosts_of geometry.now }
     ensures end { OnOk result (IsAtEnd (R.remaining (inner_of reader.new))) }
     ensures text { OnOk result (Tells (IsTextOf geometry.now) (stream_of R.remaining reader.old) (over W.contents writer.old writer.new)) }
     ensures reader_unfailed { OnOk result (failures_of reader.new ≡ failures_of reader.old) }
     ensures writer_unfailed { OnOk result (failures_of writer.new ≡ failures_of writer.old) }
+
+    // The log has the counts of each broom. If its writer failed, a beginning was written.
+    ensures log { IfOk result (EndsFile wanted (IsBroomLogOf geometry.now) (stream_of R.remaining reader.old) (over V.contents file.old file.new)) }
+
+    // After a fault of the run no log was written.
     ensures why { IfErr result (ExplainsRun IsTextOf geometry.now (over R.remaining reader.old reader.new) (over W.contents writer.old writer.new)) }
+    ensures no_log { OnErr result (stream_of V.contents file.new ≡ stream_of V.contents file.old) }
 {
     let mut gates = [NoGate; MAX_THREADS];
     let threads = geometry.hosts() as usize + geometry.brooms() as usize;
-    run_shared(
+    run_logged(
         rt,
         alloc,
         reader,
         writer,
+        wanted,
+        file,
         geometry,
         patience,
         drains,

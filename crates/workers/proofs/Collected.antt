@@ -7,8 +7,8 @@ use Rattle.volume.specs.Volume.{queue_of}
 use Rattle.std.specs.Arc.{arc_value}
 use Rattle.workers.specs.declared.broom_answer.BroomAnswer.{BroomAnswer}
 use Rattle.workers.specs.declared.collector.Collector.{Collector}
-use Rattle.workers.specs.Tallies.{added, answer_adds, wrapped}
-use Rattle.workers.proofs.Counting.{counted_none, counted_one, counted_then}
+use Rattle.workers.specs.Tallies.{added, answer_adds, total_of, wrapped}
+use Rattle.workers.proofs.Counting.{counted_none, counted_one, counted_then, exact_none, exact_one, exact_then, wrapped_sum}
 use Rattle.workers.proofs.Grown.{calls_grown}
 use Rattle.workers.specs.Collecting.{CallTold, HasMadeCalls, HasCollected, HasCollectedBy, HaveCollected, limit_at}
 
@@ -26,10 +26,20 @@ pub collected_one : (s t : Collector) (x : BroomAnswer) → arc_value t.volume �
     → t.tally ≡ wrapped (added s.tally (answer_adds x)) → HasCollectedBy s (x ∷ []) t
 collected_one s t x volume drains told tally =
     let calls = calls_one (limit_at s) s.broom t.broom x told in
-    record { volume = volume; drains = drains; calls = calls; counted = counted_one s.tally t.tally x tally; grown = calls_grown (limit_at s) s.broom t.broom (x ∷ []) calls }
+    record {
+      volume = volume;
+      drains = drains;
+      calls = calls;
+      counted = counted_one s.tally t.tally x tally;
+      exact = λ whole. exact_one s.tally t.tally x tally;
+      grown = calls_grown (limit_at s) s.broom t.broom (x ∷ []) calls;
+    }
 
 pub collected_none : (s : Collector) → HasCollected s s
-collected_none s = ([], record { volume = refl; drains = refl; calls = refl; counted = counted_none s.tally; grown = calls_grown (limit_at s) s.broom s.broom [] refl })
+collected_none s = (
+  [],
+  record { volume = refl; drains = refl; calls = refl; counted = counted_none s.tally; exact = exact_none s.tally; grown = calls_grown (limit_at s) s.broom s.broom [] refl },
+)
 
 pub collected_then : (s t u : Collector) → HasCollected s t → HasCollected t u → HasCollected s u
 collected_then s t u one two =
@@ -43,6 +53,9 @@ collected_then s t u one two =
         drains = two.1.drains ∙ one.1.drains;
         calls = calls;
         counted = counted_then s.tally t.tally u.tally one.0 two.0 one.1.counted two.1.counted;
+        exact = λ whole.
+            let first = one.1.exact whole in
+            exact_then s.tally t.tally u.tally one.0 two.0 one.1.counted two.1.counted first (two.1.exact (wrapped_sum s.tally t.tally (total_of one.0) first));
         grown = calls_grown (limit_at s) s.broom u.broom answers calls;
       },
     )

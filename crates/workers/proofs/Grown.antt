@@ -19,6 +19,14 @@ use Rattle.workers.specs.Collecting.{CallTold, HasMadeCalls}
 use Rattle.workers.specs.Growing.{GrowsBy, HasGrown}
 use Rattle.workers.specs.Tallies.{added, answer_adds, drain_adds, erase_adds, nothing_done, survey_adds, total_of}
 
+-- what a view has grown by, but for the pages that were programmed
+record Grew (v : View) (count : Tally) (w : View) : Type 0 where
+  role : w.role ≡ v.role
+  drains : GrowsBy count.drained v.drains w.drains
+  moves : w.moves ≡ v.moves + count.moved
+  erases : GrowsBy count.erased v.erases w.erases
+  lost : GrowsBy count.lost v.lost w.lost
+
 -- a list that stays
 stays : {X : Type 0} (xs ys : List X) → ys ≡ xs → GrowsBy 0 xs ys
 stays xs ys is = ([], is ∙ sym (append-nil xs), refl)
@@ -39,13 +47,14 @@ grown_then v w x s t one two = record {
   role = two.role ∙ one.role;
   drains = grows_then s.drained t.drained v.drains w.drains x.drains one.drains two.drains;
   moves = (let a = one.moves in let b = two.moves in omega arith);
+  programs = grows_then s.programmed t.programmed v.programs w.programs x.programs one.programs two.programs;
   erases = grows_then s.erased t.erased v.erases w.erases x.erases one.erases two.erases;
   lost = grows_then s.lost t.lost v.lost w.lost x.lost one.lost two.lost;
 }
 
 -- a call by which none of these has changed
 grown_none : (v w : View) (t : Tally) → t.drained ≡ 0 → t.moved ≡ 0 → t.erased ≡ 0 → t.lost ≡ 0 → w.role ≡ v.role → w.drains ≡ v.drains → w.moves ≡ v.moves → w.erases ≡ v.erases → w.lost ≡ v.lost
-    → HasGrown v t w
+    → Grew v t w
 grown_none v w t drained moved erased failed role drains moves erases lost = record {
   role = role;
   drains = subst (λ (n : ℕ). GrowsBy n v.drains w.drains) (sym drained) (stays v.drains w.drains drains);
@@ -55,13 +64,13 @@ grown_none v w t drained moved erased failed role drains moves erases lost = rec
 }
 
 -- the same, where the whole view has stayed
-grown_same : (v w : View) (t : Tally) → t.drained ≡ 0 → t.moved ≡ 0 → t.erased ≡ 0 → t.lost ≡ 0 → w ≡ v → HasGrown v t w
+grown_same : (v w : View) (t : Tally) → t.drained ≡ 0 → t.moved ≡ 0 → t.erased ≡ 0 → t.lost ≡ 0 → w ≡ v → Grew v t w
 grown_same v w t drained moved erased failed is =
     grown_none v w t drained moved erased failed (ap (λ (x : View). x.role) is) (ap (λ (x : View). x.drains) is) (ap (λ (x : View). x.moves) is) (ap (λ (x : View). x.erases) is)
     (ap (λ (x : View). x.lost) is)
 
 grown_drain : (v w : View) (copied : ℕ) (c : Cycle) → w.role ≡ v.role → w.drains ≡ v.drains ++ c ∷ [] → w.moves ≡ v.moves + copied → w.erases ≡ v.erases → w.lost ≡ v.lost
-    → HasGrown v (record nothing_done { drained = 1; moved = copied }) w
+    → Grew v (record nothing_done { drained = 1; moved = copied }) w
 grown_drain v w copied c role drains moves erases lost = record {
   role = role;
   drains = one_more v.drains w.drains c drains;
@@ -70,7 +79,7 @@ grown_drain v w copied c role drains moves erases lost = record {
   lost = stays v.lost w.lost lost;
 }
 
-grown_lost : (v w : View) (block : ℕ) → w.role ≡ v.role → w.drains ≡ v.drains → w.moves ≡ v.moves → w.erases ≡ v.erases → w.lost ≡ v.lost ++ block ∷ [] → HasGrown v (record nothing_done { lost = 1 }) w
+grown_lost : (v w : View) (block : ℕ) → w.role ≡ v.role → w.drains ≡ v.drains → w.moves ≡ v.moves → w.erases ≡ v.erases → w.lost ≡ v.lost ++ block ∷ [] → Grew v (record nothing_done { lost = 1 }) w
 grown_lost v w block role drains moves erases lost = record {
   role = role;
   drains = stays v.drains w.drains drains;
@@ -80,7 +89,7 @@ grown_lost v w block role drains moves erases lost = record {
 }
 
 grown_erase : (v w : View) (kept retired : ℕ) (c : Cycle) → w.role ≡ v.role → w.drains ≡ v.drains → w.moves ≡ v.moves → w.erases ≡ v.erases ++ c ∷ [] → w.lost ≡ v.lost
-    → HasGrown v (record nothing_done { erased = 1; kept = kept; retired = retired }) w
+    → Grew v (record nothing_done { erased = 1; kept = kept; retired = retired }) w
 grown_erase v w kept retired c role drains moves erases lost = record {
   role = role;
   drains = stays v.drains w.drains drains;
@@ -90,14 +99,14 @@ grown_erase v w kept retired c role drains moves erases lost = record {
 }
 
 -- at the ends the broom has changed in its place at the queue alone
-around : (a b c d : Broom) (t : Tally) → IsElse a b → IsElse c d → HasGrown (view_of_broom b) t (view_of_broom c) → HasGrown (view_of_broom a) t (view_of_broom d)
+around : (a b c d : Broom) (t : Tally) → IsElse a b → IsElse c d → Grew (view_of_broom b) t (view_of_broom c) → Grew (view_of_broom a) t (view_of_broom d)
 around a b c d t first last grown =
-    subst (λ (x : View × View). HasGrown x.0 t x.1) (λ i. (ap view_of_broom first i, sym (ap view_of_broom last) i)) grown
+    subst (λ (x : View × View). Grew x.0 t x.1) (λ i. (ap view_of_broom first i, sym (ap view_of_broom last) i)) grown
 
-before_it : (a b c : Broom) (t : Tally) → IsElse a b → HasGrown (view_of_broom b) t (view_of_broom c) → HasGrown (view_of_broom a) t (view_of_broom c)
-before_it a b c t first grown = subst (λ (x : View). HasGrown x t (view_of_broom c)) (ap view_of_broom first) grown
+before_it : (a b c : Broom) (t : Tally) → IsElse a b → Grew (view_of_broom b) t (view_of_broom c) → Grew (view_of_broom a) t (view_of_broom c)
+before_it a b c t first grown = subst (λ (x : View). Grew x t (view_of_broom c)) (ap view_of_broom first) grown
 
-survey_grows : (limit : ℕ) (a b : Broom) (d : Drain) → DrainOneTold limit a d b → HasGrown (view_of_broom a) (survey_adds d) (view_of_broom b)
+survey_grows : (limit : ℕ) (a b : Broom) (d : Drain) → DrainOneTold limit a d b → Grew (view_of_broom a) (survey_adds d) (view_of_broom b)
 survey_grows limit a b (drain.Drained block copied) told =
     let did = told.drain.drain.0 in
     let from = told.drain.relieved in
@@ -120,7 +129,7 @@ survey_grows limit a b drain.Lost told =
     (ap (λ (x : View). x.erases) is) (ap (λ (x : View). x.lost) is))
 survey_grows limit a b drain.QueueFull told = grown_same (view_of_broom a) (view_of_broom b) nothing_done refl refl refl refl (ap view_of_broom told.rest)
 
-next_grows : (limit : ℕ) (a b : Broom) (d : Drain) → DrainNextOneTold limit a d b → HasGrown (view_of_broom a) (drain_adds d) (view_of_broom b)
+next_grows : (limit : ℕ) (a b : Broom) (d : Drain) → DrainNextOneTold limit a d b → Grew (view_of_broom a) (drain_adds d) (view_of_broom b)
 next_grows limit a b (drain.Drained block copied) told =
     let did = told.drain.drain.1 in
     let from = told.drain.relieved in
@@ -139,7 +148,7 @@ next_grows limit a b drain.Lost told =
     (ap (λ (x : View). x.erases) is) (ap (λ (x : View). x.lost) is))
 next_grows limit a b drain.QueueFull told = grown_same (view_of_broom a) (view_of_broom b) nothing_done refl refl refl refl (ap view_of_broom told.rest)
 
-erase_grows : (limit : ℕ) (a b : Broom) (e : Erase) → EraseOneTold limit a e b → HasGrown (view_of_broom a) (erase_adds e) (view_of_broom b)
+erase_grows : (limit : ℕ) (a b : Broom) (e : Erase) → EraseOneTold limit a e b → Grew (view_of_broom a) (erase_adds e) (view_of_broom b)
 erase_grows limit a b (erase.Erased block true) told =
     let is = told.1.erase.1.erased.changed in
     before_it a told.1.fetched b (erase_adds (erase.Erased block true)) told.1.first.rest
@@ -168,27 +177,76 @@ erase_grows limit a b erase.Stale told =
 erase_grows limit a b erase.QueueEmpty told = grown_same (view_of_broom a) (view_of_broom b) nothing_done refl refl refl refl (ap view_of_broom told.rest)
 
 -- a restock by which the broom had a spare before, or has one now
-spare_grows : (v : View) (x : BroomBlocks) (w : View) (y : BroomBlocks) → HadSpare v x w y ⊎ DidRestock v x w y → HasGrown v nothing_done w
+spare_grows : (v : View) (x : BroomBlocks) (w : View) (y : BroomBlocks) → HadSpare v x w y ⊎ DidRestock v x w y → Grew v nothing_done w
 spare_grows v x w y (inl had) = grown_same v w nothing_done refl refl refl refl had.view
 spare_grows v x w y (inr did) =
     let is = did.changed in
     grown_none v w nothing_done refl refl refl refl (ap (λ (z : View). z.role) is) (ap (λ (z : View). z.drains) is) (ap (λ (z : View). z.moves) is) (ap (λ (z : View). z.erases) is)
     (ap (λ (z : View). z.lost) is)
 
-restock_grows : (a b : Broom) (given : Bool) → RestockTold a given b → HasGrown (view_of_broom a) nothing_done (view_of_broom b)
+restock_grows : (a b : Broom) (given : Bool) → RestockTold a given b → Grew (view_of_broom a) nothing_done (view_of_broom b)
 restock_grows a b true told = spare_grows (view_of_broom a) (blocks_of_broom a) (view_of_broom b) (blocks_of_broom b) told
 restock_grows a b false told =
     let is = told.changed in
     grown_none (view_of_broom a) (view_of_broom b) nothing_done refl refl refl refl (ap (λ (x : View). x.role) is) (ap (λ (x : View). x.drains) is) (ap (λ (x : View). x.moves) is)
     (ap (λ (x : View). x.erases) is) (ap (λ (x : View). x.lost) is)
 
+-- with the pages that were programmed
+with_programs : (v w : View) (t : Tally) (n : ℕ) → Grew v t w → GrowsBy n v.programs w.programs → HasGrown v (record t { programmed = n }) w
+with_programs v w t n grew more = record { role = grew.role; drains = grew.drains; moves = grew.moves; programs = more; erases = grew.erases; lost = grew.lost }
+
+with_none : (v w : View) (t : Tally) → t.programmed ≡ 0 → Grew v t w → w.programs ≡ v.programs → HasGrown v t w
+with_none v w t none grew same = record {
+  role = grew.role;
+  drains = grew.drains;
+  moves = grew.moves;
+  programs = subst (λ (n : ℕ). GrowsBy n v.programs w.programs) (sym none) (stays v.programs w.programs same);
+  erases = grew.erases;
+  lost = grew.lost;
+}
+
+-- an erase programs no page
+kept_around : (a b c d : Broom) → IsElse a b → IsElse c d → (view_of_broom c).programs ≡ (view_of_broom b).programs → (view_of_broom d).programs ≡ (view_of_broom a).programs
+kept_around a b c d first last same = ap (λ (x : Broom). (view_of_broom x).programs) last ∙ (same ∙ ap (λ (x : Broom). (view_of_broom x).programs) first)
+
+kept_before : (a b c : Broom) → IsElse a b → (view_of_broom c).programs ≡ (view_of_broom b).programs → (view_of_broom c).programs ≡ (view_of_broom a).programs
+kept_before a b c first same = same ∙ ap (λ (x : Broom). (view_of_broom x).programs) first
+
+erase_keeps : (limit : ℕ) (a b : Broom) (e : Erase) → EraseOneTold limit a e b → (view_of_broom b).programs ≡ (view_of_broom a).programs
+erase_keeps limit a b (erase.Erased block true) told = kept_before a told.1.fetched b told.1.first.rest (ap (λ (x : View). x.programs) told.1.erase.1.erased.changed)
+erase_keeps limit a b (erase.Erased block false) told = kept_before a told.1.fetched b told.1.first.rest (ap (λ (x : View). x.programs) told.1.erase.1.erased.changed)
+erase_keeps limit a b (erase.Retired block) told = kept_before a told.1.fetched b told.1.first.rest (ap (λ (x : View). x.programs) told.1.erase.1.erased.changed)
+erase_keeps limit a b erase.Pinned told =
+    kept_around a told.erase.fetched told.found b told.erase.first.rest told.handed.rest (ap (λ (x : View). x.programs) told.erase.erase.0.changed)
+erase_keeps limit a b erase.Stale told = kept_before a told.1.fetched b told.1.first.rest (ap (λ (x : View). x.programs) told.1.erase.0.changed)
+erase_keeps limit a b erase.QueueEmpty told = ap (λ (x : Broom). (view_of_broom x).programs) told.rest
+
+erase_adds_none : (e : Erase) → (erase_adds e).programmed ≡ 0
+erase_adds_none (erase.Erased block kept) = refl
+erase_adds_none (erase.Retired block) = refl
+erase_adds_none erase.Pinned = refl
+erase_adds_none erase.Stale = refl
+erase_adds_none erase.QueueEmpty = refl
+
+-- and neither does a restock
+spare_keeps : (v : View) (x : BroomBlocks) (w : View) (y : BroomBlocks) → HadSpare v x w y ⊎ DidRestock v x w y → w.programs ≡ v.programs
+spare_keeps v x w y (inl had) = ap (λ (z : View). z.programs) had.view
+spare_keeps v x w y (inr did) = ap (λ (z : View). z.programs) did.changed
+
+restock_keeps : (a b : Broom) (given : Bool) → RestockTold a given b → (view_of_broom b).programs ≡ (view_of_broom a).programs
+restock_keeps a b true told = spare_keeps (view_of_broom a) (blocks_of_broom a) (view_of_broom b) (blocks_of_broom b) told
+restock_keeps a b false told = ap (λ (z : View). z.programs) told.changed
+
 call_grows : (limit : ℕ) (a b : Broom) (x : BroomAnswer) → CallTold limit a x b → HasGrown (view_of_broom a) (answer_adds x) (view_of_broom b)
-call_grows limit a b (by.Drain given) told = survey_grows limit a b given told
-call_grows limit a b (by.DrainNext given) told = next_grows limit a b given told
-call_grows limit a b (by.Erase given) told = erase_grows limit a b given told
-call_grows limit a b (by.Restock given) told = restock_grows a b given told.told
+call_grows limit a b (by.Drain given programmed) told = with_programs (view_of_broom a) (view_of_broom b) (survey_adds given) programmed (survey_grows limit a b given told.0) told.1
+call_grows limit a b (by.DrainNext given programmed) told = with_programs (view_of_broom a) (view_of_broom b) (drain_adds given) programmed (next_grows limit a b given told.0) told.1
+call_grows limit a b (by.Erase given) told =
+    with_none (view_of_broom a) (view_of_broom b) (erase_adds given) (erase_adds_none given) (erase_grows limit a b given told) (erase_keeps limit a b given told)
+call_grows limit a b (by.Restock given) told = with_none (view_of_broom a) (view_of_broom b) nothing_done refl (restock_grows a b given told.told) (restock_keeps a b given told.told)
 
 pub calls_grown : (limit : ℕ) (a b : Broom) (xs : List BroomAnswer) → HasMadeCalls limit a xs b → HasGrown (view_of_broom a) (total_of xs) (view_of_broom b)
-calls_grown limit a b [] is = grown_same (view_of_broom a) (view_of_broom b) nothing_done refl refl refl refl (ap view_of_broom is)
+calls_grown limit a b [] is =
+    let same = ap view_of_broom is in
+    with_none (view_of_broom a) (view_of_broom b) nothing_done refl (grown_same (view_of_broom a) (view_of_broom b) nothing_done refl refl refl refl same) (ap (λ (x : View). x.programs) same)
 calls_grown limit a b (x ∷ xs) told =
     grown_then (view_of_broom a) (view_of_broom told.0) (view_of_broom b) (answer_adds x) (total_of xs) (call_grows limit a told.0 x told.1) (calls_grown limit told.0 b xs told.2)

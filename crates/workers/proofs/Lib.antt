@@ -12,6 +12,8 @@ pub mod Ended
 pub mod Collected
 pub mod Counting
 pub mod Grown
+pub mod Programmed
+pub mod Serving
 pub mod Line
 pub mod Lines
 mod Adding

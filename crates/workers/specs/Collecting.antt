@@ -11,8 +11,8 @@ use Rattle.volume.specs.Volume.{queue_of}
 use Rattle.workers.specs.declared.broom_answer.BroomAnswer.{BroomAnswer}
 use Rattle.workers.specs.declared.broom_answer.BroomAnswer.TheVariants as by
 use Rattle.workers.specs.declared.collector.Collector.{Collector}
-use Rattle.workers.specs.Growing.{HasGrown}
-use Rattle.workers.specs.Tallies.{IsCounted, total_of}
+use Rattle.workers.specs.Growing.{GrowsBy, HasGrown}
+use Rattle.workers.specs.Tallies.{IsCounted, added, total_of, wrapped}
 
 -- A restock had this result. It doesn't use the queue, and the broom keeps its last survey
 pub record HasRestocked (before : Broom) (given : Bool) (after : Broom) : Type 0 where
@@ -20,10 +20,14 @@ pub record HasRestocked (before : Broom) (given : Bool) (after : Broom) : Type 0
   pub queue : HandsNothing before after
   pub survey : KeepsSurvey before after
 
+-- a broom programmed this many pages
+abbrev pub HasProgrammed : ℕ → Broom → Broom → Type 0
+HasProgrammed n before after = GrowsBy n (view_of_broom before).programs (view_of_broom after).programs
+
 -- what each call of a broom means, by its result, if the queue has room for this many
 abbrev pub CallTold : ℕ → Broom → BroomAnswer → Broom → Type 0
-CallTold limit before (by.Drain given) after = DrainOneTold limit before given after
-CallTold limit before (by.DrainNext given) after = DrainNextOneTold limit before given after
+CallTold limit before (by.Drain given programmed) after = DrainOneTold limit before given after × HasProgrammed programmed before after
+CallTold limit before (by.DrainNext given programmed) after = DrainNextOneTold limit before given after × HasProgrammed programmed before after
 CallTold limit before (by.Erase given) after = EraseOneTold limit before given after
 CallTold limit before (by.Restock given) after = HasRestocked before given after
 
@@ -37,12 +41,13 @@ abbrev pub limit_at : Collector → ℕ
 limit_at s = limit_of (queue_of (arc_value s.volume))
 
 -- The broom is the same one, at the same device, with the same limit of drains: it made calls with these results, and did nothing else.
--- They were counted, and their count was added to what it knows to have done
+-- They were counted, also exactly if the count before was one modulo 2 ^ 64, and their count was added to what it knows to have done
 pub record HasCollectedBy (before : Collector) (answers : List BroomAnswer) (after : Collector) : Type 0 where
   pub volume : arc_value after.volume ≡ arc_value before.volume
   pub drains : after.drains ≡ before.drains
   pub calls : HasMadeCalls (limit_at before) before.broom answers after.broom
   pub counted : IsCounted before.tally answers after.tally
+  pub exact : before.tally ≡ wrapped before.tally → after.tally ≡ wrapped (added before.tally (total_of answers))
   pub grown : HasGrown (view_of_broom before.broom) (total_of answers) (view_of_broom after.broom)
 
 -- the broom made some calls, and did nothing else

@@ -13,7 +13,7 @@ use Rattle.rounds.specs.Answers.{page_size_of, said_in, HasSpaceFor}
 use Rattle.rounds.specs.declared.answer_list.Answers.{Answers}
 use Rattle.workers.specs.Playable.{IsLine, lines_at}
 use Rattle.volume.specs.declared.volume.Volume.{Volume}
-use Rattle.volume.specs.Brooms.{IsBroomReady, IsBroomReady-prop}
+use Rattle.volume.specs.Brooms.{IsBroomReady, IsBroomReady-prop, IsUnused}
 use Rattle.volume.specs.Volume.{flash_of}
 
 -- passes and brooms that are ready at a device
@@ -25,12 +25,14 @@ pub record AreReady (volume : Volume) (passes : List Pass) (brooms : List Broom)
 pub AreReady-prop : (volume : Volume) (passes : List Pass) (brooms : List Broom) → IsProp (AreReady volume passes brooms)
 AreReady-prop volume passes brooms = hlevel (props, IsBroomReady-prop)
 
--- A new device of this geometry, with a pass for each host, at its number, and all its brooms. No pass has done or seen anything
+-- A new device of this geometry, with a pass for each host and all its brooms, each at its number. No pass and no broom has done or seen
+-- anything
 pub record AreNew (geo : Geometry) (volume : Volume) (passes : List Pass) (brooms : List Broom) : Type 0 where
   pub geometry : geometry_of (flash_of volume) ≡ geo
   pub playing : length passes ≡ hosts_of geo
   pub collecting : length brooms ≡ brooms_of geo
   pub first : (t : ℕ) (p : Pass) → slice_get passes t ≡ Some p → view_of p ≡ first_view (device (flash_of volume)) t
+  pub unused : (i : ℕ) (b : Broom) → slice_get brooms i ≡ Some b → IsUnused (flash_of volume) i b
 
 -- these indexes are of lines that a device of this geometry can do
 pub record AreDoable (geo : Geometry) (lines : List Command) (places : List ℕ) : Type 0 where

@@ -7,10 +7,12 @@ use Rattle.workers.specs.declared.tally.Tally.{Tally}
 abbrev pub GrowsBy : {X : Type 0} → ℕ → List X → List X → Type 0
 GrowsBy {X} n before after = (more : List X) × (after ≡ before ++ more) × (length more ≡ n)
 
--- The view of the same role has grown by what was counted: by that many blocks drained, pages moved, blocks erased and claims lost
+-- The view of the same role has grown by what was counted: by that many blocks drained, pages moved, pages programmed, blocks erased and
+-- claims lost
 pub record HasGrown (v : View) (count : Tally) (w : View) : Type 0 where
   pub role : w.role ≡ v.role
   pub drains : GrowsBy count.drained v.drains w.drains
   pub moves : w.moves ≡ v.moves + count.moved
+  pub programs : GrowsBy count.programmed v.programs w.programs
   pub erases : GrowsBy count.erased v.erases w.erases
   pub lost : GrowsBy count.lost v.lost w.lost

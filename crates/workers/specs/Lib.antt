@@ -8,6 +8,7 @@ pub mod Tallies
 pub mod Growing
 pub mod Collecting
 pub mod Folding
+pub mod Served
 pub mod Playable
 -- Internal: the threads of a round.
 pub mod Tasks

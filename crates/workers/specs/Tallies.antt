@@ -11,7 +11,7 @@ use Rattle.workers.specs.declared.tally.Tally.{Tally}
 
 -- nothing was done
 abbrev pub nothing_done : Tally
-nothing_done = record { drained = 0; moved = 0; erased = 0; kept = 0; retired = 0; lost = 0; pinned = 0; stale = 0; gainless = 0 }
+nothing_done = record { drained = 0; moved = 0; programmed = 0; erased = 0; kept = 0; retired = 0; lost = 0; pinned = 0; stale = 0; gainless = 0 }
 
 -- what a drain with this result adds: a block that was drained and its pages that were moved, or a claim that was lost
 abbrev pub drain_adds : Drain → Tally
@@ -37,10 +37,10 @@ erase_adds erase.Pinned = record nothing_done { pinned = 1 }
 erase_adds erase.Stale = record nothing_done { stale = 1 }
 erase_adds erase.QueueEmpty = nothing_done
 
--- what a call with this result adds
+-- what a call with this result adds; a drain also has the number of pages that it programmed for copies
 abbrev pub answer_adds : BroomAnswer → Tally
-answer_adds (by.Drain given) = survey_adds given
-answer_adds (by.DrainNext given) = drain_adds given
+answer_adds (by.Drain given programmed) = record (survey_adds given) { programmed = programmed }
+answer_adds (by.DrainNext given programmed) = record (drain_adds given) { programmed = programmed }
 answer_adds (by.Erase given) = erase_adds given
 answer_adds (by.Restock given) = nothing_done
 
@@ -49,6 +49,7 @@ abbrev pub added : Tally → Tally → Tally
 added s t = record {
   drained = s.drained + t.drained;
   moved = s.moved + t.moved;
+  programmed = s.programmed + t.programmed;
   erased = s.erased + t.erased;
   kept = s.kept + t.kept;
   retired = s.retired + t.retired;
@@ -68,6 +69,7 @@ abbrev pub wrapped : Tally → Tally
 wrapped t = record {
   drained = t.drained % 2 ^ 64;
   moved = t.moved % 2 ^ 64;
+  programmed = t.programmed % 2 ^ 64;
   erased = t.erased % 2 ^ 64;
   kept = t.kept % 2 ^ 64;
   retired = t.retired % 2 ^ 64;

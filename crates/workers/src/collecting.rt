@@ -1,5 +1,5 @@
 //! What a broom does while the workers of a round play.
-ghost use Rattle.std.specs.Prelude.{[], ◌∷◌};
+ghost use Rattle.std.specs.Prelude.{ℕ, [], ◌∷◌};
 ghost use Rattle.workers.specs.declared.broom_answer.BroomAnswer.TheVariants as by;
 ghost use Rattle.workers.specs.Collecting.{HasCollected, HasCollectedBy};
 
@@ -44,18 +44,24 @@ fn has_erased(erase: Erase) -> bool {
 
 impl Collector {
     fn drain<G: Gate>(&mut self, rt: &impl Wait, gate: &mut G) -> Drain
-        ensures { HasCollectedBy self.old (by.Drain result ∷ []) self.new }
+        ensures { (programmed : ℕ) × HasCollectedBy self.old (by.Drain result programmed ∷ []) self.new }
     {
+        let pages = self.volume.geometry().pages();
+        let room = self.broom.room(pages);
         let drain = self.volume.drain_one(rt, &mut self.broom, gate);
-        self.tally = self.tally.with_answer(BroomAnswer::Drain(drain));
+        let programmed = room.saturating_sub(self.broom.room(pages));
+        self.tally = self.tally.with_answer(BroomAnswer::Drain(drain, programmed));
         drain
     }
 
     fn drain_next<G: Gate>(&mut self, rt: &impl Wait, gate: &mut G) -> Drain
-        ensures { HasCollectedBy self.old (by.DrainNext result ∷ []) self.new }
+        ensures { (programmed : ℕ) × HasCollectedBy self.old (by.DrainNext result programmed ∷ []) self.new }
     {
+        let pages = self.volume.geometry().pages();
+        let room = self.broom.room(pages);
         let drain = self.volume.drain_next_one(rt, &mut self.broom, gate);
-        self.tally = self.tally.with_answer(BroomAnswer::DrainNext(drain));
+        let programmed = room.saturating_sub(self.broom.room(pages));
+        self.tally = self.tally.with_answer(BroomAnswer::DrainNext(drain, programmed));
         drain
     }
 

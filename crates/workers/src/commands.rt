@@ -6,15 +6,17 @@ ghost use Rattle.answers.specs.Playable.{IsPlayable};
 ghost use Rattle.rounds.specs.Answers.{page_size_of};
 ghost use Rattle.rounds.specs.Rows.{answers_by};
 ghost use Rattle.workers.specs.Commands.{ArePlayed};
+ghost use Rattle.workers.specs.Served.{AllHaveServed};
 
 use crate::dealing::deal;
 use crate::fault::RoundFault;
 use crate::leaving::{fold_collectors, hand_out};
+use crate::run_end::RunEnd;
 use crate::runs::play_rounds;
 use crate::team::Team;
 use flash_table::Gate;
 use geometry::Geometry;
-use rounds::{Answers, Plan};
+use rounds::Plan;
 use std::alloc::Global;
 use std::sync::{Arc, Wait};
 use std::thread::Threads;
@@ -22,8 +24,8 @@ use std::time::Clock;
 use trace::Commands;
 
 /// Plays the commands of a trace on a new device, with a thread for each worker that has a line in a round, and with brooms at the same time. There
-/// is a gate for each host, and then one for each broom. A broom drains at most `drains` blocks by one survey. Each row has the answers of one
-/// worker, in the order of the workers. After a fault no thread runs, and everything is freed.
+/// is a gate for each host, and then one for each broom. A broom drains at most `drains` blocks by one survey. Returns the answers of each
+/// worker, and what each broom has done. After a fault no thread runs, and everything is freed.
 pub fn play_commands<R: Threads + Wait + Clock + Sync, G: Gate + Send>(
     rt: &R,
     alloc: Global,
@@ -32,13 +34,14 @@ pub fn play_commands<R: Threads + Wait + Clock + Sync, G: Gate + Send>(
     patience: u32,
     drains: u32,
     gates: &mut [G],
-) -> Result<Vec<Answers>, RoundFault>
+) -> Result<RunEnd, RoundFault>
     requires hosts { 0 < hosts_of geometry.now }
     requires playable { All (IsPlayable geometry.now) (arc_value commands.now) }
     requires gates { length gates.old ≡ hosts_of geometry.now + brooms_of geometry.now }
-    ensures rows { IfOk result (λ rows. length rows.items ≡ hosts_of geometry.now) }
-    ensures pages { IfOk result (λ rows. All (λ row. page_size_of row ≡ page_bytes_of geometry.now) rows.items) }
-    ensures played { IfOk result (λ rows. ArePlayed geometry.now (arc_value commands.now) (answers_by rows.items)) }
+    ensures rows { IfOk result (λ end. length end.rows.items ≡ hosts_of geometry.now) }
+    ensures pages { IfOk result (λ end. All (λ row. page_size_of row ≡ page_bytes_of geometry.now) end.rows.items) }
+    ensures played { IfOk result (λ end. ArePlayed geometry.now (arc_value commands.now) (answers_by end.rows.items)) }
+    ensures brooms { IfOk result (λ end. AllHaveServed geometry.now end.brooms.items) }
 {
     let Plan { rows: places, ends } = Plan::new(alloc, commands, geometry.hosts())?;
     let mut rows = Vec::with_capacity(alloc, geometry.hosts() as usize)?;
@@ -53,5 +56,5 @@ pub fn play_commands<R: Threads + Wait + Clock + Sync, G: Gate + Send>(
     } = team;
     fold_collectors(rt, collectors, &mut brooms);
     hand_out(workers, &mut rows);
-    Ok(rows)
+    Ok(RunEnd { rows, brooms })
 }

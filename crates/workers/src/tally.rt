@@ -8,9 +8,11 @@ use broom::{Drain, Erase};
 /// What a broom has done so far, each count modulo 2^64.
 #[derive(Clone, Copy, Debug, PartialEq, Eq)]
 pub struct Tally {
-    /// The blocks that it drained, and the pages that it moved out of them.
+    /// The blocks that it drained, the pages that it moved out of them, and the pages that it programmed for copies. A copy is not moved
+    /// if its sector was written meanwhile.
     pub drained: u64,
     pub moved: u64,
+    pub programmed: u64,
     /// The blocks that it erased; of these the ones that it kept as its spare, and those whose last erase it was.
     pub erased: u64,
     pub kept: u64,
@@ -31,6 +33,7 @@ impl Tally {
         Tally {
             drained: 0,
             moved: 0,
+            programmed: 0,
             erased: 0,
             kept: 0,
             retired: 0,
@@ -90,13 +93,26 @@ impl Tally {
         tally
     }
 
+    // A tally with these pages programmed.
+    fn with_programmed(self, programmed: u64) -> Tally
+        ensures { result ≡ record self { programmed = programmed } }
+    {
+        let mut tally = self;
+        tally.programmed = programmed;
+        tally
+    }
+
     // What a call adds.
     fn of(answer: BroomAnswer) -> Tally
         ensures { result ≡ answer_adds answer }
     {
         match answer {
-            BroomAnswer::Drain(drain) => Tally::of_survey(drain),
-            BroomAnswer::DrainNext(drain) => Tally::of_drain(drain),
+            BroomAnswer::Drain(drain, programmed) => {
+                Tally::of_survey(drain).with_programmed(programmed)
+            }
+            BroomAnswer::DrainNext(drain, programmed) => {
+                Tally::of_drain(drain).with_programmed(programmed)
+            }
             BroomAnswer::Erase(erase) => Tally::of_erase(erase),
             BroomAnswer::Restock(_) => Tally::new(),
         }
@@ -109,6 +125,7 @@ impl Tally {
         Tally {
             drained: self.drained.wrapping_add(other.drained),
             moved: self.moved.wrapping_add(other.moved),
+            programmed: self.programmed.wrapping_add(other.programmed),
             erased: self.erased.wrapping_add(other.erased),
             kept: self.kept.wrapping_add(other.kept),
             retired: self.retired.wrapping_add(other.retired),

@@ -1,40 +1,69 @@
-use Rattle.std.proofs.Common.{◌∙◌, refl, sym}
+use Rattle.std.proofs.Common.{◌∙◌, refl, subst, sym}
+use Rattle.std.specs.Prelude.{Ok, Result}
 use Rattle.answers.specs.Streams.{over, stream_of}
 use Rattle.geometry.specs.Geometry.{hosts_of}
-use Rattle.player.specs.Session.{filings}
-use Rattle.player.proofs.Endings.{is_named, nothing_left, nothing_told}
-use Rattle.player.proofs.RunTexts.{shared_text, shared_why}
+use Rattle.runs.specs.Wear.{IsWearOf}
+use Rattle.player.specs.Session.{EndsOn, IsLogFor, IsOpenedAs, filings}
+use Rattle.player.specs.declared.stop.Stop.{Stop}
+use Rattle.player.proofs.Endings.{file_ended, files_left, is_named, not_opened, run_ended, unnamed}
+use Rattle.player.proofs.RunTexts.{shared_left, shared_log, shared_text, shared_why}
 use Rattle.player.proofs.sessions.play_shared.Goals as goal
 
 pub returns-then-is_some : goal.returns-then-is_some
 returns-then-is_some g c =
-    (c.requires, is_named (λ n. n.now) c.args.given.wear (sym c.is_some.ensures ∙ c.if-is_some.true), (refl, refl), (refl, refl))
+    (c.requires, refl, is_named (λ n. n.now) c.args.given.wear (sym c.is_some.ensures ∙ c.if-is_some.true), (refl, refl), (refl, refl))
 
-pub returns-then-is_some-2 : goal.returns-then-is_some-2
-returns-then-is_some-2 g c =
-    (c.requires, is_named (λ n. n.now) c.args.given.collections (sym c.is_some-2.ensures ∙ c.if-is_some-2.true), (refl, refl), (refl, refl))
+pub returns-in-Err : goal.returns-in-Err
+returns-in-Err g c =
+    not_opened c.in-Err.stop c.args.geometry.now c.args.given
+    (over g.R.Read.remaining c.args.reader.now c.args.reader.now)
+    (over g.W.Write.contents c.args.writer.now c.args.writer.now)
+    (filings g.F.NamedFile.opened_as g.F.Write.contents c.args.files.now c.open_files.new.files)
+    c.in-Err.ensures (refl, refl)
 
 pub returns-in-Ok : goal.returns-in-Ok
 returns-in-Ok g c =
     let geo = c.args.geometry.now in
+    let given = c.args.given in
+    let opens = c.in_default.ensures in
     let told = c.in-Ok.ensures in
-    let start = stream_of g.R.Read.remaining c.args.reader.now in (
-      record {
-        end = told.end;
-        text = shared_text (hosts_of geo) geo start (over g.W.Write.contents c.args.writer.now c.run_by_workers.new.writer) c.requires told.text;
-        input_unfailed = told.reader_unfailed;
-        output_unfailed = told.writer_unfailed;
-      },
-      nothing_told geo c.args.given start (filings g.F.NamedFile.opened_as g.F.Write.contents c.args.files.now c.args.files.now)
-          (sym c.is_some.ensures ∙ c.if-is_some.false) (sym c.is_some-2.ensures ∙ c.if-is_some-2.false) (refl, refl),
-    )
+    let start = stream_of g.R.Read.remaining c.args.reader.now in
+    let input = over g.R.Read.remaining c.args.reader.now c.run_by_workers.new.reader in
+    let output = over g.W.Write.contents c.args.writer.now c.run_by_workers.new.writer in
+    let stream = stream_of g.F.Write.contents in
+    let old = c.args.files.now in
+    let mid = c.open_files.new.files in
+    let new = record mid { collections = c.run_by_workers.new.file } in
+    let files = filings g.F.NamedFile.opened_as g.F.Write.contents old new in
+    let log = file_ended (λ n. n.now) given.collections c.is_some-wanted.result (IsLogFor geo) start (IsOpenedAs g.F.NamedFile.opened_as g.F.Write.contents old.collections)
+    (stream old.collections) (stream mid.collections) (stream new.collections) c.in-Ok.log opens.1 c.is_some-wanted.ensures
+    (shared_log geo c.is_some-wanted.result start (over g.F.Write.contents mid.collections new.collections) c.in-Ok.log c.requires told.log) in
+    let wear = unnamed (λ n. n.now) given.wear (IsWearOf geo) start files.wear (sym c.is_some.ensures ∙ c.if-is_some.false) opens.0.1 in
+    subst (λ (r : Result (Unit {0}) Stop). EndsOn r geo given input output files) (sym c.outcome.ensures)
+    (run_ended c.in-Ok.log (Ok tt) geo given input output files
+    (record {
+      end = told.end;
+      text = shared_text (hosts_of geo) geo start output c.requires told.text;
+      input_unfailed = told.reader_unfailed;
+      output_unfailed = told.writer_unfailed;
+    })
+    log wear)
 
-pub returns-in-Err : goal.returns-in-Err
-returns-in-Err g c =
-    let geo = c.args.geometry.now in (
-      shared_why geo c.in-Err.fault
+pub returns-in-Err-run_by_workers : goal.returns-in-Err-run_by_workers
+returns-in-Err-run_by_workers g c =
+    let geo = c.args.geometry.now in
+    let given = c.args.given in
+    let opens = c.in_default.ensures in
+    let told = c.in-Err-run_by_workers.ensures in
+    let fault = c.in-Err-run_by_workers.fault in
+    let start = stream_of g.R.Read.remaining c.args.reader.now in
+    let stream = stream_of g.F.Write.contents in
+    let mid = c.open_files.new.files in
+    let new = record mid { collections = c.run_by_workers.new.file } in (
+      shared_why geo fault
           (over g.R.Read.remaining c.args.reader.now c.run_by_workers.new.reader)
-          (over g.W.Write.contents c.args.writer.now c.run_by_workers.new.writer) c.requires c.in-Err.ensures.why,
-      nothing_left c.in-Err.fault geo c.args.given (stream_of g.R.Read.remaining c.args.reader.now) (filings g.F.NamedFile.opened_as g.F.Write.contents c.args.files.now c.args.files.now)
-          (sym c.is_some-2.ensures ∙ c.if-is_some-2.false) (refl, refl),
+          (over g.W.Write.contents c.args.writer.now c.run_by_workers.new.writer) c.requires told.why,
+      files_left fault c.is_some-wanted.result geo given start (filings g.F.NamedFile.opened_as g.F.Write.contents c.args.files.now new)
+          (stream mid.wear) (stream mid.collections) opens.0.1 opens.1.1 c.is_some-wanted.ensures refl
+          (shared_left (hosts_of geo) geo fault c.is_some-wanted.result start (over g.F.Write.contents mid.collections new.collections) c.requires told.no_log),
     )

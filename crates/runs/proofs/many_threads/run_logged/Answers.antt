@@ -8,8 +8,14 @@ use Rattle.rounds.specs.Rows.{answers_by}
 use Rattle.geometry.specs.Geometry.{page_bytes_of}
 use Rattle.rounds.specs.Answers.{page_size_of}
 use Rattle.runs.specs.Delivering.{digits_in}
+use Rattle.answers.specs.Streams.{over, stream_of}
+use Rattle.runs.specs.Brooms.{IsBroomLogOf, brooms_text}
+use Rattle.runs.specs.Files.{EndsText}
+use Rattle.workers.specs.Served.{AllHaveServed}
+use Rattle.runs.proofs.BroomTexts.{brooms_right}
+use Rattle.runs.proofs.LogTexts.{ends_file}
 use Rattle.runs.proofs.Told.{all_digits, enough_answers, part_sent, renamed, renamed_meaning, some_meaning, text_sent}
-use Rattle.runs.proofs.many_threads.run_shared.Goals as goal
+use Rattle.runs.proofs.many_threads.run_logged.Goals as goal
 
 pub deliver-requires-clause-answers : goal.deliver-requires-clause-answers
 deliver-requires-clause-answers g c =
@@ -60,3 +66,13 @@ returns-in-Err-Threads-clause-why g c =
       record { end = c.in-Ok.ensures.end; unfailed = c.in-Ok.ensures.unfailed; meaning = some_meaning c.args.geometry.now c.in-Ok.commands input c.in-Ok.ensures.commands },
       refl,
     )
+
+pub returns-in-Ok-deliver-clause-log : goal.returns-in-Ok-deliver-clause-log
+returns-in-Ok-deliver-clause-log g c =
+    let geo = c.args.geometry.now in
+    let input = stream_of g.R.Read.remaining c.args.reader.now in
+    let file = over g.V.Write.contents c.args.file.now c.tell_brooms_if.new.file in
+    let ends = c.deref-3.result.now in
+    let served = subst (AllHaveServed geo) (sym c.deref-3.ensures.value) c.in-Ok-play_commands.ensures.brooms in
+    ends_file c.args.wanted (IsBroomLogOf geo) input file (brooms_text ends) c.tell_brooms_if.result (brooms_right geo input.bytes c.in-Ok.commands ends c.in-Ok.ensures.commands served)
+    (subst (λ w. EndsText w (brooms_text ends) file c.tell_brooms_if.result) c.in-Ok-log_room.ensures.wanted c.tell_brooms_if.ensures)

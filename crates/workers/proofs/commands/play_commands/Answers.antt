@@ -8,10 +8,12 @@ use Rattle.volume.specs.declared.volume.Volume.{Volume}
 use Rattle.volume.specs.Volume.{flash_of}
 use Rattle.flash_table.specs.Flash.{geometry_of}
 use Rattle.rounds.specs.Plans.{ends_of}
+use Rattle.workers.specs.Served.{AreFirst}
 use Rattle.workers.specs.Workers.{answers_kept}
 use Rattle.workers.specs.Runs.{HasBegun}
 use Rattle.workers.proofs.Ended.{all_paged, all_played}
 use Rattle.workers.proofs.Collected.{collected_long}
+use Rattle.workers.proofs.Serving.{all_served}
 use Rattle.workers.proofs.commands.play_commands.Goals as goal
 
 pub fold_collectors-requires-clause-room : goal.fold_collectors-requires-clause-room
@@ -43,3 +45,12 @@ pub returns-clause-pages : goal.returns-clause-pages
 returns-clause-pages g c =
     all_paged c.deref-2.result.now c.args.geometry.now c.in_ok-team.team.workers.items c.hand_out.new.rows.items
     (ap (λ (v : Volume). geometry_of (flash_of v)) c.deref-2.ensures ∙ c.in_ok-volume.ensures.geometry) c.in_ok-team.ensures.manned c.hand_out.ensures
+
+pub returns-clause-brooms : goal.returns-clause-brooms
+returns-clause-brooms g c =
+    let volume = c.deref-2.result.now in
+    let before = c.in_ok-volume.team.collectors.items in
+    let after = c.in_ok-team.team.collectors.items in
+    all_served volume c.args.geometry.now before after c.fold_collectors.new.ends.items (ap (λ (v : Volume). geometry_of (flash_of v)) c.deref-2.ensures ∙ c.in_ok-volume.ensures.geometry)
+    (collected_long before after c.in_ok-team.ensures.collected ∙ c.in_ok-volume.ensures.collectors)
+    (subst (λ (v : Volume). AreFirst v 0 before) (sym c.deref-2.ensures) c.in_ok-volume.ensures.first) c.in_ok-team.ensures.collected c.fold_collectors.ensures

@@ -11,14 +11,17 @@ use Rattle.host.specs.Ready.{IsReady}
 use Rattle.broom.specs.declared.broom.Broom.{Broom}
 use Rattle.trace.specs.declared.commands.Command.{Command}
 use Rattle.volume.specs.declared.volume.Volume.{Volume}
-use Rattle.volume.specs.Brooms.{IsBroomReady}
+use Rattle.volume.specs.Brooms.{IsBroomReady, IsUnused}
 use Rattle.volume.specs.Volume.{flash_of}
 use Rattle.rounds.specs.Plans.{ends_of}
 use Rattle.workers.specs.declared.worker.Worker.{Worker}
 use Rattle.workers.specs.declared.collector.Collector.{Collector}
 use Rattle.workers.specs.Meetings.{IsAt}
 use Rattle.workers.specs.Runs.{AreManned, HasBegun}
+use Rattle.workers.specs.Served.{AreFirst, HasCountedNone, broom_of}
 use Rattle.workers.specs.Shares.{HasFitShare, IsOwner, with_commands, work_in}
+use Rattle.workers.proofs.Counting.{zero_plus}
+use Rattle.workers.proofs.Serving.{all_first}
 use Rattle.workers.proofs.Openings.{begun, manned, row_count, rows_doable}
 use Rattle.workers.proofs.dealing.deal.Goals as goal
 
@@ -100,7 +103,7 @@ pub returns-clause-collectors : goal.returns-clause-collectors
 returns-clause-collectors c =
     let same = ap (length {A = Collector}) c.in_ok-new.ensures.collectors in
     let brooms = ap (length {A = Broom}) c.into_parts-volume.ensures.brooms in
-    same ∙ (c.seat_collectors.ensures ∙ (brooms ∙ c.in_ok-unseated.ensures.collecting))
+    same ∙ (c.seat_collectors.ensures.count ∙ (brooms ∙ c.in_ok-unseated.ensures.collecting))
 
 pub returns-clause-begun : goal.returns-clause-begun
 returns-clause-begun c =
@@ -126,3 +129,15 @@ returns-clause-manned c =
     (subst (λ (x : Volume × List Pass). (t : ℕ) (p : Pass) → slice_get x.1 t ≡ Some p → view_of p ≡ first_view (device (flash_of x.0)) t) (λ i. (sym parts.volume i, sym parts.passes i)) new.first)
     c.seat_workers.ensures.passes (c.seat_workers.ensures.work ∙ c.in_ok-shares.ensures.work)
     (subst (λ (v : Volume). All (IsAt v) c.seat_workers.new.workers.items) c.deref.ensures c.seat_workers.ensures.at) c.seat_workers.ensures.none)
+
+pub returns-clause-first : goal.returns-clause-first
+returns-clause-first c =
+    let volume = arc_value c.into_parts-volume.result.0 in
+    let parts = c.into_parts-volume.ensures in
+    let collectors = c.seat_collectors.new.collectors.items in
+    let unused : (i : ℕ) (b : Broom) → slice_get c.into_parts-volume.result.2.items i ≡ Some b → IsUnused (flash_of volume) i b =
+    subst (λ (x : Volume × List Broom). (i : ℕ) (b : Broom) → slice_get x.1 i ≡ Some b → IsUnused (flash_of x.0) i b) (λ i. (sym parts.volume i, sym parts.brooms i)) c.in_ok-unseated.ensures.unused in
+    subst (AreFirst volume 0) (sym c.in_ok-new.ensures.collectors)
+    (all_first volume 0 collectors
+    (λ i b at. subst (λ (n : ℕ). IsUnused (flash_of volume) n b) (zero_plus i) (unused i b (subst (λ l. slice_get l i ≡ Some b) c.seat_collectors.ensures.brooms at)))
+    (subst (λ (v : Volume). All (HasCountedNone v) collectors) c.deref-2.ensures c.seat_collectors.ensures.none))

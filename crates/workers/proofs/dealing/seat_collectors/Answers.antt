@@ -1,10 +1,14 @@
-use Rattle.std.proofs.Common.{◌≡◌, length, sym, ap, subst, arith}
+use Rattle.std.proofs.Common.{◌≡◌, length, refl, sym, ap, subst, arith}
+use Rattle.std.proofs.lemmas.Grind.{common_steps}
 use Rattle.std.specs.Arc.{arc_value}
 use Rattle.broom.specs.declared.broom.Broom.{Broom}
 use Rattle.volume.specs.declared.volume.Volume.{Volume}
 use Rattle.volume.specs.Brooms.{IsBroomReady}
 use Rattle.volume.proofs.FreshBrooms.{taken}
+use Rattle.workers.specs.declared.collector.Collector.{Collector}
+use Rattle.workers.specs.Served.{HasCountedNone, broom_of}
 use Rattle.workers.specs.Shares.{IsOwner}
+use Rattle.workers.proofs.Dealt.{moved_in, pushed_all}
 use Rattle.workers.proofs.dealing.seat_collectors.Goals as goal
 
 pub invariant_of-push_reserved : goal.invariant_of-push_reserved
@@ -27,4 +31,21 @@ loop-broom-preserved c =
     let room = was.room in
     let long = c.push_reserved.ensures.len in
     let kept = c.push_reserved.ensures.capacity in
-    record { ready = broom.1; owners = owner.1; count = omega arith; made = omega arith; room = omega arith }
+    let collectors = c.loop-broom.collectors.items in
+    let more = c.push_reserved.new.self.items in
+    let pushed = c.push_reserved.ensures.items in
+    record {
+      brooms = moved_in broom_of collectors more c.loop-broom.brooms.items c.pop_front.new.self.items c.args.brooms.items _ c.in-Some.broom pushed c.in-Some.ensures.items refl was.brooms;
+      none = pushed_all (HasCountedNone volume) collectors more _ pushed was.none (owner.0, c.new.ensures);
+      ready = broom.1;
+      owners = owner.1;
+      count = omega arith;
+      made = omega arith;
+      room = omega arith;
+    }
+
+pub loop-broom-init : goal.loop-broom-init
+loop-broom-init c = grind (arith, common_steps)
+
+pub returns-clause-brooms : goal.returns-clause-brooms
+returns-clause-brooms c = grind (arith, common_steps)

@@ -1,10 +1,13 @@
-use Rattle.std.proofs.Common.{◌≡◌, ◌+◌, ◌≤◌, All, length, vec_len, vec_capacity}
+use Rattle.std.proofs.Common.{◌≡◌, ◌+◌, ◌≤◌, ◌++◌, All, length, map, vec_len, vec_capacity}
 use Rattle.volume.specs.Brooms.{IsBroomReady}
+use Rattle.workers.specs.Served.{HasCountedNone, broom_of}
 use Rattle.workers.specs.Shares.{IsOwner}
 use Rattle.workers.proofs.dealing.seat_collectors.Given as goal
 
 abbrev pub invariant-loop-broom : goal.invariant-loop-broom
 invariant-loop-broom l = record {
+  brooms : map broom_of l.collectors.items ++ l.brooms.items ≡ l.fn.brooms.items;
+  none : All (HasCountedNone l.volume) l.collectors.items;
   ready : All (IsBroomReady l.volume) l.brooms.items;
   owners : All (IsOwner l.volume) l.owners.items;
   count : length l.owners.items ≡ length l.brooms.items;

@@ -1,7 +1,7 @@
 use Rattle.std.proofs.Common.{sym, subst, arith}
 use Rattle.std.proofs.lemmas.Grind.{common_steps}
 use Rattle.volume.specs.declared.volume.Volume.{Volume}
-use Rattle.workers.specs.Dealing.{AreReady}
+use Rattle.workers.specs.Dealing.{AreNew, AreReady}
 use Rattle.workers.proofs.opening.open_shared.Goals as goal
 
 pub give_up-requires : goal.give_up-requires
@@ -14,4 +14,7 @@ pub invariant_of-result : goal.invariant_of-result
 invariant_of-result c = grind (arith, common_steps)
 
 pub returns-in-Ok : goal.returns-in-Ok
-returns-in-Ok c = grind (arith, common_steps)
+returns-in-Ok c =
+    let told = c.in_ok-volume.ensures in
+    subst (λ (v : Volume). AreNew c.args.geometry.now v c.in_ok-volume.passes.items c.in_ok-volume.brooms.items) (sym c.in-Ok.ensures.ok)
+    (record { geometry = told.geometry; playing = told.count.0; collecting = told.count.1; first = told.passes; unused = told.brooms })
