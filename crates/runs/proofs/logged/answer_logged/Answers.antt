@@ -1,7 +1,8 @@
-use Rattle.std.proofs.Common.{◌∙◌, ap, cond, ltb, sym, None}
+use Rattle.std.proofs.Common.{◌∙◌, ap, cond, ltb, refl, sym, None}
 use Rattle.ftl_one.specs.Collections.{collection_between}
 use Rattle.ftl_one.specs.OneFtl.{geometry_of, stock_of}
 use Rattle.runs.specs.Collections.{log_part}
+use Rattle.runs.proofs.LogTexts.{shut_more}
 use Rattle.runs.proofs.Made.{made_is}
 use Rattle.runs.proofs.logged.answer_logged.Goals as goal
 
@@ -9,11 +10,24 @@ pub returns-clause-told : goal.returns-clause-told
 returns-clause-told g c = λ before text logged.
     let geo = geometry_of c.args.ftl.now in
     let old = stock_of c.args.ftl.now in
-    let new = stock_of c.answer.new.ftl in
+    let new = stock_of c.answer-2.new.ftl in
     c.tell.ensures.told before text (log_part c.args.line (collection_between geo old new))
     (λ takes. ap (log_part c.args.line)
-    (made_is geo old new c.args.command.now c.due-due.result c.answer.ensures.stock (c.due-due.ensures takes)
+    (made_is geo old new c.args.command.now c.due-due.result c.answer-2.ensures.stock (c.due-due.ensures takes)
     ∙ (ap (λ n. cond (ltb n new.programs) c.due-due.result None) (sym c.counts-programs.ensures.programs)
     ∙ (ap (λ n. cond (ltb c.counts-programs.result.programs n) c.due-due.result None) (sym c.counts.ensures.programs)
     ∙ sym c.made.ensures))))
     logged
+
+pub returns-in_default : goal.returns-in_default
+returns-in_default g c =
+    let it = c.answer.ensures in
+    record {
+      page = it.page;
+      lines = it.lines;
+      geometry = it.geometry;
+      array = it.array;
+      stock = it.stock;
+      wanted = refl;
+      told = λ before text logged. shut_more c.args.log.now _ text _ c.in_default.not-Open logged;
+    }
