@@ -42,7 +42,7 @@ pub fn answer_logged<V: Write>(
         → IsLogged log.new (record { before = before; after = stream_of V.contents file.new })
         (text ++ log_part line (collection_between (geometry_of ftl.old) (stock_of ftl.old) (stock_of ftl.new))) }
 {
-    // Where no log is written, nothing is asked about collections.
+    // If no log is written, nothing is asked about collections.
     let Log::Open(_) = log else {
         desk.answer(ftl, command, line);
         return;
