@@ -21,7 +21,7 @@ struct block_counts {
     uint32_t erases, is_retired;
 };
 struct stock_counts {
-    uint64_t free, open, spareless, waits, waited_ns, gave_up, miscounts;
+    uint64_t free, open, spareless, waits, waited_ns, gave_up, miscounts, lost_wake_ups;
 };
 
 static struct host_counts counts_of_hosts(const struct stock *stock) {
@@ -62,6 +62,7 @@ static struct stock_counts counts_of_stock(struct stock *stock) {
         .waited_ns = stock->waited_ns,
         .gave_up = stock->gave_up,
         .miscounts = stock->miscounts,
+        .lost_wake_ups = stock->lost_wake_ups,
     };
     pthread_mutex_unlock(&stock->mutex);
     return counts;
@@ -103,6 +104,7 @@ static void print_counts(FILE *file, struct device *device, uint64_t erases, uin
         {"waited_ms", stock.waited_ns / 1000000},
         {"no_space", stock.gave_up},
         {"miscounts", stock.miscounts},
+        {"lost_wake_ups", stock.lost_wake_ups},
         {"drains", brooms.drains},
         {"kept_as_spare", brooms.kept},
         {"restocks", brooms.restocks},

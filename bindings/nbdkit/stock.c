@@ -5,8 +5,11 @@
 #include <stdlib.h>
 #include <time.h>
 
+#ifndef LOOK_AGAIN_MS // a test makes it so long that only a wake-up ends a wait
+enum { LOOK_AGAIN_MS = 10 }; // a waiting write looks again by itself
+#endif
+
 enum {
-    LOOK_AGAIN_MS = 10, // a waiting write looks again by itself
     PAUSE_MS = 2,       // a broom that found nothing while no request waits
     MAX_WAITS = 10,     // a write waits at most this many times the wait, even if blocks do become free
     TURN_MS = 1,        // a long request that lets others have its handle takes one again
@@ -99,6 +102,13 @@ static struct host *take_idle(struct stock *stock, struct idle *idle) {
     return NULL;
 }
 
+static int has_idle(struct stock *stock, struct idle *idle) {
+    for (uint32_t at = 0; at * HOSTS_OF_A_WORD < stock->host_count; at++)
+        if (atomic_load(&idle->words[at]) != 0)
+            return 1;
+    return 0;
+}
+
 static struct host *take_any_idle(struct stock *stock) {
     struct host *host = take_idle(stock, &stock->roomless);
     return host ? host : take_idle(stock, &stock->roomy);
@@ -133,6 +143,17 @@ static int is_hopeless(struct stock *stock) {
     return lacks_block(stock) && stock->open_count == 0 && is_fruitless(stock);
 }
 
+// Wakes one write that waits, or all.
+static void wake_write(struct stock *stock) {
+    stock->wake_ups++;
+    pthread_cond_signal(&stock->for_write);
+}
+
+static void wake_writes(struct stock *stock) {
+    stock->wake_ups++;
+    pthread_cond_broadcast(&stock->for_write);
+}
+
 // The free blocks, or the brooms without a spare, have changed in number.
 static void mind_marks(struct stock *stock) {
     int32_t blocks = blocks_for_hosts(stock);
@@ -146,13 +167,13 @@ static void mind_marks(struct stock *stock) {
     if (blocks >= (int32_t) stock->batch)
         stock->is_gathering = 0;
     if (stock->waiting_to_write > 0 && may_open(stock))
-        pthread_cond_broadcast(&stock->for_write);
+        wake_writes(stock);
 }
 
 static void stop_gathering(struct stock *stock) {
     stock->is_gathering = 0;
     if (stock->waiting_to_write > 0 && (may_open(stock) || is_hopeless(stock)))
-        pthread_cond_broadcast(&stock->for_write);
+        wake_writes(stock);
 }
 
 static struct host *take_any(struct stock *stock) {
@@ -195,9 +216,9 @@ static void tell(struct stock *stock, int has_room) {
     if (stock->waiting_to_write == 0)
         return;
     if (has_room || may_open(stock))
-        pthread_cond_signal(&stock->for_write);
+        wake_write(stock);
     else if (is_hopeless(stock))
-        pthread_cond_broadcast(&stock->for_write);
+        wake_writes(stock);
 }
 
 static void give(struct stock *stock, struct host *host) {
@@ -225,6 +246,11 @@ static int has_waited_in_vain(struct stock *stock, const struct attempt *attempt
     return now() - since >= stock->wait_ns;
 }
 
+// Whether a write could have a handle now.
+static int has_room_for_write(struct stock *stock) {
+    return has_idle(stock, &stock->roomy) || (may_open(stock) && has_idle(stock, &stock->roomless));
+}
+
 static void wait_to_write(struct stock *stock, struct attempt *attempt) {
     uint32_t lacks = lacks_block(stock);
     if (attempt->began == 0 && lacks) {
@@ -237,11 +263,14 @@ static void wait_to_write(struct stock *stock, struct attempt *attempt) {
     stock->starving += lacks;
     if (lacks && stock->pausing > 0)
         pthread_cond_broadcast(&stock->for_broom);
+    uint64_t known = stock->wake_ups;
     int was_told = wait_at_most(&stock->for_write, &stock->mutex, LOOK_AGAIN_MS);
     stock->waiting_to_write--;
     stock->starving -= lacks;
-    if (!was_told)
-        stop_gathering(stock);
+    if (was_told)
+        return;
+    stock->lost_wake_ups += stock->wake_ups == known && has_room_for_write(stock);
+    stop_gathering(stock);
 }
 
 static void end_attempt(struct stock *stock, const struct attempt *attempt) {
@@ -449,7 +478,7 @@ void stock_unreserve(struct stock *stock) {
 void stock_stop(struct stock *stock) {
     pthread_mutex_lock(&stock->mutex);
     stock->is_stopping = 1;
-    pthread_cond_broadcast(&stock->for_write);
+    wake_writes(stock);
     pthread_cond_broadcast(&stock->for_broom);
     pthread_mutex_unlock(&stock->mutex);
 }

@@ -64,6 +64,8 @@ struct stock {
     int is_collecting, is_stopping;
     int is_gathering; // writes wait until some blocks are free, since one at a time wakes a thread for each page
     uint64_t waits, waited_ns, gave_up, miscounts;
+    uint64_t wake_ups;      // how often waiting writes were woken, one or all
+    uint64_t lost_wake_ups; // waits that ended by time, with room there and nobody woken meanwhile
 };
 
 // 0, or -1 with an error reported if there is no memory. The seats are those of an open device.

@@ -1,6 +1,7 @@
 """What is refused: parameters, and a system that gives no memory, thread or file. And wrong plugins, which the parts have to refuse."""
 
 import os
+import re
 import shutil
 import subprocess
 import time
@@ -111,10 +112,10 @@ def help_and_page(shop):
 
 
 class Edit:
-    """A wrong plugin: changes of one file, and the part that has to refuse it."""
+    """A wrong plugin: changes of one file, the part that has to refuse it, and why: a pattern of what that part says."""
 
     def __init__(self, path):
-        self.name, self.pairs = path.stem, []
+        self.name, self.pairs, self.part, self.why = path.stem, [], None, None
         for line in path.read_text().splitlines()[1:]:
             key, _, text = line.partition(": ")
             text = text.replace("\\n", "\n")
@@ -123,7 +124,9 @@ class Edit:
             elif key == "new":
                 self.pairs[-1].append(text)
             else:
+                want(key in ("part", "why", "file"), f"{path.name}: {line}")
                 setattr(self, key, text)
+        want(self.part and self.why, f"{path.name} doesn't say which part refuses it, and why")
 
     def make(self, shop, kind):
         """The plugin with the changes, in a folder of its own."""
@@ -142,21 +145,31 @@ class Edit:
         return folder / "out/nbdkit-mintlintel-plugin.so"
 
 
-def wrong_plugins(shop, parts):
-    """Each wrong plugin is refused by the part that it names, which the plugin itself has passed."""
-    edits = [Edit(path) for path in sorted((HERE / "wrong").glob("*.edit"))]
-    passed, shop.options.long = [], False
-    for edit in edits:
-        kind = edit.part.removesuffix("_sanitizer") if edit.part.endswith("_sanitizer") else ""
-        shop.end_kept()
-        shop.wrong = edit.make(shop, kind)
-        try:
-            parts[edit.part](shop)
-            passed.append(edit.name)
-        except Failure as failure:
-            print(f"nbdkit:   {edit.name}: refused: {' '.join(str(failure).split())[:160]}", flush=True)
-        shop.end_all()
-    shop.wrong = None
+def refusal(shop, edit, parts):
+    """What a part says against a wrong plugin, in one line; None where it passes. A plugin that can't be built fails the check itself."""
     shop.end_kept()
-    want(not passed, f"not refused: {', '.join(passed)}")
-    return f"{len(edits)} wrong plugins refused"
+    shop.wrong = edit.make(shop, edit.part.removesuffix("_sanitizer") if edit.part.endswith("_sanitizer") else "")
+    try:
+        parts[edit.part](shop)
+        return None
+    except Failure as failure:
+        return " ".join(str(failure).split())
+    finally:
+        shop.end_all()
+        shop.end_kept()
+        shop.wrong = None
+
+
+def wrong_plugins(shop, parts):
+    """Each wrong plugin is refused by the part that it names, which the plugin itself has passed, and for the reason that it names: a
+    client that is out of time, or a test that can't be built, refuses nothing unless that is the reason."""
+    edits = [Edit(path) for path in sorted((HERE / "wrong").glob("*.edit"))]
+    failed, shop.options.long = [], False
+    for edit in edits:
+        told = refusal(shop, edit, parts)
+        found = told and re.search(edit.why, told)
+        if not found:
+            failed.append(edit.name)
+        print(f"nbdkit:   {edit.name}: {f'refused: {found[0][:160]}' if found else f'NOT REFUSED for {edit.why!r}, but: {told[:1000]}' if told else 'NOT REFUSED'}", flush=True)
+    want(not failed, f"not refused for their reasons: {', '.join(failed)}")
+    return f"{len(edits)} wrong plugins refused, each for its reason"

@@ -165,13 +165,15 @@ def overlaps(shop):
 
 
 def stock_by_itself(shop):
-    """The counts of free blocks, and which thread waits for which, with a library that returns what each test needs."""
+    """The counts of free blocks, and which thread waits for which, with a library that returns what each test needs. In the second program no write
+    looks again by itself, so a lost wake-up is seen."""
     source, include = shop.source(), f"-I{os.environ.get('INCLUDE', HERE.parent / 'include')}"
+    programs = {"stock": [source / "stock.c", source / "brooms.c"], "waits": [source / "stock.c", "-DLOOK_AGAIN_MS=3600000"]}
     for kind in ("address", "thread"):
-        program = shop.folder / f"stock_{kind}"
-        shop.run(["gcc", "-std=gnu11", "-O2", "-g", "-Wall", "-Wextra", "-Werror", f"-fsanitize={kind}", include, HERE / "tests/stock.c", source / "stock.c", source / "brooms.c",
-                  "-o", program, "-pthread"])
-        shop.run([*(("setarch", "-R") if kind == "thread" else ()), program], 70)
+        for name, words in programs.items():
+            program = shop.folder / f"{name}_{kind}"
+            shop.run(["gcc", "-std=gnu11", "-O2", "-g", "-Wall", "-Wextra", "-Werror", f"-fsanitize={kind}", include, HERE / f"tests/{name}.c", *words, "-o", program, "-pthread"])
+            shop.run([*(("setarch", "-R") if kind == "thread" else ()), program], 80)
     return "under both sanitizers"
 
 
@@ -185,7 +187,8 @@ def handles(shop):
                 verify="crc32c", **(UNALIGNED | {"bsrange": "512-8k"}), **ZIPF)
         counts = server.stop()
         want(100 * counts.miscounts <= counts.erases, f"with {hosts} handles the free blocks were miscounted: {counts.numbers}")
-        told.append(f"{hosts} handles: {counts.handles_that_wrote} wrote, {counts.waits} waits for a block")
+        want(100 * counts.lost_wake_ups <= counts.waits, f"with {hosts} handles wake-ups were lost: {counts.numbers}")
+        told.append(f"{hosts} handles: {counts.handles_that_wrote} wrote, {counts.waits} waits for a block, {counts.lost_wake_ups} wake-ups lost")
     return "; ".join(told)
 
 
@@ -280,7 +283,7 @@ def sanitized(shop, kind):
         while load.poll() is None:
             server.counts()
             time.sleep(0.1)
-    want(load.returncode == 0, (shop.folder / "load").read_text()[-2000:])
+        want(load.returncode == 0, (shop.folder / "load").read_text()[-2000:])
     with loaded(shop, server, "6m", "2m"), copying(server, "the others"):
         shop.run([shop.client("overlap"), server.uri, shop.scaled(1000, 20_000)])
         shop.run(["qemu-io", "-f", "raw", "-c", "discard 10000 3M", "-c", "write -z 100 9999", "-c", "write -z -u 5000 1M", "-c", "map", server.uri])

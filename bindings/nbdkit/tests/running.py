@@ -29,6 +29,11 @@ def slowness():
     return max(1, os.getloadavg()[0] / os.cpu_count())
 
 
+def failing(printed):
+    """The lines that say that something failed."""
+    return "".join(line for line in printed.splitlines(keepends=True) if re.search("fail|mismatch", line, re.I))[:1000]
+
+
 class Failure(Exception):
     """A part failed; the text says how."""
 
@@ -88,7 +93,7 @@ class Shop:
             kill(process)
             raise Failure(f"{' '.join(words)[:300]}\ndidn't end within {seconds} s") from None
         self.started.remove(process)
-        want(process.returncode == status, f"{' '.join(words)[:300]}\nended with status {process.returncode}:\n{printed[-3000:]}")
+        want(process.returncode == status, f"{' '.join(words)[:300]}\nended with status {process.returncode}:\n{failing(printed[:-3000])}{printed[-3000:]}")
         return printed
 
     def passes(self, name, part):

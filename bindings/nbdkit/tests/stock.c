@@ -1,35 +1,8 @@
 // The stock and the brooms with a library that returns what each test needs: counts that come late, spares that aren't available, and
 // handles that are all in use. It prints what failed, and ends with the number of failures.
-#define NBDKIT_API_VERSION 2
-#include "../stock.h"
+#include "over_stock.h"
 
-#include <nbdkit-plugin.h>
-#include <stdarg.h>
-#include <stdio.h>
-#include <stdlib.h>
-#include <string.h>
-#include <unistd.h>
-
-#include "../brooms.h"
-
-static int failures;
-static struct mintlintel_seat host_seats[4], broom_seats[2];
-static struct stock stock;
-
-static void want(int is_so, const char *text) {
-    if (is_so)
-        return;
-    failures++;
-    printf("%s\n", text);
-}
-
-void nbdkit_error(const char *form, ...) {
-    va_list words;
-    va_start(words, form);
-    vprintf(form, words);
-    va_end(words);
-    printf("\n");
-}
+static struct mintlintel_seat broom_seats[2];
 
 // ---- A library of which each broom has lost its spare, and which has a free block for it or not.
 
@@ -61,42 +34,6 @@ uint32_t mintlintel_broom_erase(struct mintlintel_seat *seat, uint32_t block) {
 }
 
 // ---- The tests.
-
-static struct options numbers(uint32_t hosts, uint32_t brooms, uint32_t blocks, uint32_t mark) {
-    return (struct options){
-        .hosts = hosts, .brooms = brooms, .blocks = blocks, .pages = 2, .low = mark, .high = mark, .wait = 1000};
-}
-
-static void begin(uint32_t hosts, uint32_t brooms, uint32_t blocks, uint32_t mark) {
-    struct options options = numbers(hosts, brooms, blocks, mark);
-    if (stock_begin(&stock, &options, host_seats) == -1)
-        abort();
-}
-
-static double seconds(void) {
-    struct timespec time;
-    clock_gettime(CLOCK_MONOTONIC, &time);
-    return (double) time.tv_sec + (double) time.tv_nsec / 1e9;
-}
-
-// A write for which the library has a page.
-static struct attempt write_page(void) {
-    struct attempt attempt = {0};
-    struct host *host = stock_take_to_write(&stock, &attempt);
-    stock_give_written(&stock, host, &attempt);
-    return attempt;
-}
-
-static void find_nothing(uint32_t broom) {
-    stock_end_round(&stock, broom, stock.changes, 1);
-}
-
-// Each free block is written full, and no broom finds anything.
-static void fill(void) {
-    while (stock.free_count > 0 || stock.open_count > 0)
-        write_page();
-    find_nothing(0);
-}
 
 // A last try takes a block that the library has freed, and that is counted only later: it may not be counted twice.
 static void a_block_that_is_counted_late(void) {
