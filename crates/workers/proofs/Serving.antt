@@ -19,13 +19,13 @@ use Rattle.workers.specs.declared.tally.Tally.{Tally}
 use Rattle.workers.specs.Collecting.{HasCollected, HasCollectedBy, HaveCollected}
 use Rattle.workers.specs.Folding.{HasFolded, HaveFolded}
 use Rattle.workers.specs.Growing.{GrowsBy, HasGrown}
-use Rattle.workers.specs.Served.{AllHaveServed, AreFirst, HasCountedNone, HasDone, HasServed, HaveServed, IsFirst, broom_of}
+use Rattle.workers.specs.Served.{AllHaveServed, AreAtRunStart, HasCountedNone, HasDone, HasServed, HaveServed, IsAtRunStart, broom_of}
 use Rattle.workers.specs.Tallies.{added, total_of, wrapped}
 use Rattle.workers.proofs.Counting.{nothing_added}
 
 -- the collectors of unused brooms
 pub all_first : (volume : Volume) (k : ℕ) (ss : List Collector) → ((i : ℕ) (b : Broom) → slice_get (map broom_of ss) i ≡ Some b → IsUnused (flash_of volume) (k + i) b) → All (HasCountedNone volume) ss
-    → AreFirst volume k ss
+    → AreAtRunStart volume k ss
 all_first volume k [] unused idle = tt
 all_first volume k (s ∷ ss) unused idle =
     let here = All-head (HasCountedNone volume) s ss idle in
@@ -41,7 +41,7 @@ from_none : {X : Type 0} (n : ℕ) (ys : List X) → GrowsBy n [] ys → n ≡ l
 from_none {X} n ys grows = sym (ap (length {A = X}) grows.1 ∙ grows.2)
 
 -- what a broom's view lists at its end
-done : (volume : Volume) (k : ℕ) (first last : Collector) (end : CollectorEnd) → IsFirst volume k first → HasCollected first last → HasFolded last end → HasDone k end.tally (folded_view end.folded)
+done : (volume : Volume) (k : ℕ) (first last : Collector) (end : CollectorEnd) → IsAtRunStart volume k first → HasCollected first last → HasFolded last end → HasDone k end.tally (folded_view end.folded)
 done volume k first last end begun collected folded =
     let v = first_broom (device (flash_of volume)) k in
     let w = view_of_broom last.broom in
@@ -62,7 +62,7 @@ done volume k first last end begun collected folded =
       lost = ap (λ (x : Tally). x.lost) tally ∙ ap (λ (n : ℕ). n % m) (from_none t.lost w.lost grown.lost ∙ sym (ap (λ (x : View). length x.lost) folded.view));
     }
 
-served : (volume : Volume) (geo : Geometry) (k : ℕ) (before after : List Collector) (ends : List CollectorEnd) → geometry_of (flash_of volume) ≡ geo → AreFirst volume k before → HaveCollected before after
+served : (volume : Volume) (geo : Geometry) (k : ℕ) (before after : List Collector) (ends : List CollectorEnd) → geometry_of (flash_of volume) ≡ geo → AreAtRunStart volume k before → HaveCollected before after
     → HaveFolded after ends → HaveServed geo k ends
 served volume geo k [] [] [] same begun collected folded = tt
 served volume geo k [] [] (end ∷ ends) same begun collected folded = absurd folded
@@ -89,7 +89,7 @@ folded_long [] (end ∷ ends) folded = absurd folded
 folded_long (s ∷ after) [] folded = absurd folded
 folded_long (s ∷ after) (end ∷ ends) folded = ap suc (folded_long after ends folded.1)
 
-pub all_served : (volume : Volume) (geo : Geometry) (before after : List Collector) (ends : List CollectorEnd) → geometry_of (flash_of volume) ≡ geo → length after ≡ brooms_of geo → AreFirst volume 0 before
+pub all_served : (volume : Volume) (geo : Geometry) (before after : List Collector) (ends : List CollectorEnd) → geometry_of (flash_of volume) ≡ geo → length after ≡ brooms_of geo → AreAtRunStart volume 0 before
     → HaveCollected before after → HaveFolded after ends → AllHaveServed geo ends
 all_served volume geo before after ends same count begun collected folded =
     record { count = folded_long after ends folded ∙ count; each = served volume geo 0 before after ends same begun collected folded }

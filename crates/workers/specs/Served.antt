@@ -28,15 +28,15 @@ abbrev pub HasCountedNone : Volume → Collector → Type 0
 HasCountedNone volume s = (arc_value s.volume ≡ volume) × (s.tally ≡ nothing_done)
 
 -- A collector at the start of a run: its broom is the one of this number of an unused device, and nothing is counted
-pub record IsFirst (volume : Volume) (k : ℕ) (s : Collector) : Type 0 where
+pub record IsAtRunStart (volume : Volume) (k : ℕ) (s : Collector) : Type 0 where
   pub volume_is : arc_value s.volume ≡ volume
   pub unused : IsUnused (flash_of volume) k s.broom
   pub tally : s.tally ≡ nothing_done
 
 -- each collector is, and their numbers go on from this one
-abbrev pub AreFirst : Volume → ℕ → List Collector → Type 0
-AreFirst volume k [] = Unit {0}
-AreFirst volume k (s ∷ collectors) = IsFirst volume k s × AreFirst volume (k + 1) collectors
+abbrev pub AreAtRunStart : Volume → ℕ → List Collector → Type 0
+AreAtRunStart volume k [] = Unit {0}
+AreAtRunStart volume k (s ∷ collectors) = IsAtRunStart volume k s × AreAtRunStart volume (k + 1) collectors
 
 -- The broom of this number knows to have done what was counted, modulo 2 ^ 64: so many blocks drained, pages moved, pages programmed, blocks
 -- erased and claims lost
@@ -54,7 +54,7 @@ pub record HasServed (geo : Geometry) (k : ℕ) (end : CollectorEnd) : Type 0 wh
   pub volume : Volume
   pub geometry : geometry_of (flash_of volume) ≡ geo
   pub first : Collector
-  pub begun : IsFirst volume k first
+  pub begun : IsAtRunStart volume k first
   pub last : Collector
   pub collected : HasCollected first last
   pub folded : HasFolded last end

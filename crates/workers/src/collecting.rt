@@ -50,7 +50,9 @@ impl Collector {
         let room = self.broom.room(pages);
         let drain = self.volume.drain_one(rt, &mut self.broom, gate);
         let programmed = room.saturating_sub(self.broom.room(pages));
-        self.tally = self.tally.with_answer(BroomAnswer::Drain(drain, programmed));
+        self.tally = self
+            .tally
+            .with_answer(BroomAnswer::Drain(drain, programmed));
         drain
     }
 
@@ -61,7 +63,9 @@ impl Collector {
         let room = self.broom.room(pages);
         let drain = self.volume.drain_next_one(rt, &mut self.broom, gate);
         let programmed = room.saturating_sub(self.broom.room(pages));
-        self.tally = self.tally.with_answer(BroomAnswer::DrainNext(drain, programmed));
+        self.tally = self
+            .tally
+            .with_answer(BroomAnswer::DrainNext(drain, programmed));
         drain
     }
 

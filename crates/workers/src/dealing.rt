@@ -10,7 +10,7 @@ ghost use Rattle.host.specs.Ready.{IsReady};
 ghost use Rattle.volume.specs.Brooms.{IsBroomReady};
 ghost use Rattle.volume.specs.Volume.{flash_of};
 ghost use Rattle.workers.specs.Meetings.{IsAt, passes_of};
-ghost use Rattle.workers.specs.Served.{AreFirst, HasCountedNone, broom_of};
+ghost use Rattle.workers.specs.Served.{AreAtRunStart, HasCountedNone, broom_of};
 ghost use Rattle.workers.specs.Shares.{HasFitShare, HasPlayedNone, IsOwner, rows_for, work_in, work_of};
 
 use crate::collector::Collector;
@@ -136,7 +136,7 @@ pub(crate) fn deal(
     ensures begun { IfOk result (λ r. HasBegun (arc_value r.0) (arc_value commands.now) (ends_of (arc_value commands.now)) r.1.workers.items) }
     ensures manned { IfOk result (λ r. AreManned (arc_value r.0) r.1.workers.items) }
     ensures collectors { IfOk result (λ r. length r.1.collectors.items ≡ brooms_of geometry.now) }
-    ensures first { IfOk result (λ r. AreFirst (arc_value r.0) 0 r.1.collectors.items) }
+    ensures first { IfOk result (λ r. AreAtRunStart (arc_value r.0) 0 r.1.collectors.items) }
 {
     let hosts = geometry.hosts() as usize;
     let brooms = geometry.brooms() as usize;

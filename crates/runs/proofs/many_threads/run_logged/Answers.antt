@@ -43,8 +43,8 @@ returns-in-Ok-deliver-clause-text g c =
     let meaning = renamed_meaning geo commands _ input (c.deref.ensures ∙ c.in-Ok-new-2.ensures.ok) c.in-Ok.ensures.commands in
     text_sent geo commands (answers_by c.deref-2.result.now) played input _ _ meaning c.in-Ok-deliver.ensures.sent
 
-pub returns-clause-why : goal.returns-clause-why
-returns-clause-why g c =
+pub returns-in-Err-deliver-clause-why : goal.returns-in-Err-deliver-clause-why
+returns-in-Err-deliver-clause-why g c =
     let geo = c.args.geometry.now in
     let commands = c.deref.result.now in
     let input = g.R.Read.remaining (inner_of c.args.reader.now) in
@@ -72,7 +72,7 @@ returns-in-Ok-deliver-clause-log g c =
     let geo = c.args.geometry.now in
     let input = stream_of g.R.Read.remaining c.args.reader.now in
     let file = over g.V.Write.contents c.args.file.now c.tell_brooms_if.new.file in
-    let ends = c.deref-3.result.now in
-    let served = subst (AllHaveServed geo) (sym c.deref-3.ensures.value) c.in-Ok-play_commands.ensures.brooms in
+    let ends = c.deref-in-Ok-deliver.result.now in
+    let served = subst (AllHaveServed geo) (sym c.deref-in-Ok-deliver.ensures.value) c.in-Ok-play_commands.ensures.brooms in
     ends_file c.args.wanted (IsBroomLogOf geo) input file (brooms_text ends) c.tell_brooms_if.result (brooms_right geo input.bytes c.in-Ok.commands ends c.in-Ok.ensures.commands served)
     (subst (λ w. EndsText w (brooms_text ends) file c.tell_brooms_if.result) c.in-Ok-log_room.ensures.wanted c.tell_brooms_if.ensures)

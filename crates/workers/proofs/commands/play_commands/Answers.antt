@@ -8,7 +8,7 @@ use Rattle.volume.specs.declared.volume.Volume.{Volume}
 use Rattle.volume.specs.Volume.{flash_of}
 use Rattle.flash_table.specs.Flash.{geometry_of}
 use Rattle.rounds.specs.Plans.{ends_of}
-use Rattle.workers.specs.Served.{AreFirst}
+use Rattle.workers.specs.Served.{AreAtRunStart}
 use Rattle.workers.specs.Workers.{answers_kept}
 use Rattle.workers.specs.Runs.{HasBegun}
 use Rattle.workers.proofs.Ended.{all_paged, all_played}
@@ -53,4 +53,4 @@ returns-clause-brooms g c =
     let after = c.in_ok-team.team.collectors.items in
     all_served volume c.args.geometry.now before after c.fold_collectors.new.ends.items (ap (λ (v : Volume). geometry_of (flash_of v)) c.deref-2.ensures ∙ c.in_ok-volume.ensures.geometry)
     (collected_long before after c.in_ok-team.ensures.collected ∙ c.in_ok-volume.ensures.collectors)
-    (subst (λ (v : Volume). AreFirst v 0 before) (sym c.deref-2.ensures) c.in_ok-volume.ensures.first) c.in_ok-team.ensures.collected c.fold_collectors.ensures
+    (subst (λ (v : Volume). AreAtRunStart v 0 before) (sym c.deref-2.ensures) c.in_ok-volume.ensures.first) c.in_ok-team.ensures.collected c.fold_collectors.ensures

@@ -18,7 +18,7 @@ use Rattle.workers.specs.declared.worker.Worker.{Worker}
 use Rattle.workers.specs.declared.collector.Collector.{Collector}
 use Rattle.workers.specs.Meetings.{IsAt}
 use Rattle.workers.specs.Runs.{AreManned, HasBegun}
-use Rattle.workers.specs.Served.{AreFirst, HasCountedNone, broom_of}
+use Rattle.workers.specs.Served.{AreAtRunStart, HasCountedNone, broom_of}
 use Rattle.workers.specs.Shares.{HasFitShare, IsOwner, with_commands, work_in}
 use Rattle.workers.proofs.Counting.{zero_plus}
 use Rattle.workers.proofs.Serving.{all_first}
@@ -137,7 +137,7 @@ returns-clause-first c =
     let collectors = c.seat_collectors.new.collectors.items in
     let unused : (i : ℕ) (b : Broom) → slice_get c.into_parts-volume.result.2.items i ≡ Some b → IsUnused (flash_of volume) i b =
     subst (λ (x : Volume × List Broom). (i : ℕ) (b : Broom) → slice_get x.1 i ≡ Some b → IsUnused (flash_of x.0) i b) (λ i. (sym parts.volume i, sym parts.brooms i)) c.in_ok-unseated.ensures.unused in
-    subst (AreFirst volume 0) (sym c.in_ok-new.ensures.collectors)
+    subst (AreAtRunStart volume 0) (sym c.in_ok-new.ensures.collectors)
     (all_first volume 0 collectors
     (λ i b at. subst (λ (n : ℕ). IsUnused (flash_of volume) n b) (zero_plus i) (unused i b (subst (λ l. slice_get l i ≡ Some b) c.seat_collectors.ensures.brooms at)))
     (subst (λ (v : Volume). All (HasCountedNone v) collectors) c.deref-2.ensures c.seat_collectors.ensures.none))
