@@ -21,7 +21,7 @@ pub deliver-requires-clause-answers : goal.deliver-requires-clause-answers
 deliver-requires-clause-answers g c =
     let geo = c.args.geometry.now in
     let commands = c.deref.result.now in
-    let kept : c.deref-2.result.now ≡ c.in-Ok-play_commands.rows.items = grind (arith, common_steps, reverse-reverse) in
+    let kept : c.deref-2.result.now ≡ c.in-Ok-play_commands.end.rows.items = grind (arith, common_steps, reverse-reverse) in
     let played = renamed geo commands _ c.deref-2.result.now _ c.deref.ensures kept c.in-Ok-play_commands.ensures.played in
     let same : commands ≡ c.in-Ok.commands = c.deref.ensures ∙ c.in-Ok-new-2.ensures.ok in
     enough_answers geo commands (answers_by c.deref-2.result.now) c.requires.hosts (subst (All (IsPlayable geo)) (sym same) c.in-Ok.ensures.playable) played
@@ -29,7 +29,7 @@ deliver-requires-clause-answers g c =
 pub deliver-requires-clause-pages : goal.deliver-requires-clause-pages
 deliver-requires-clause-pages g c =
     let geo = c.args.geometry.now in
-    let kept : c.deref-2.result.now ≡ c.in-Ok-play_commands.rows.items = grind (arith, common_steps, reverse-reverse) in
+    let kept : c.deref-2.result.now ≡ c.in-Ok-play_commands.end.rows.items = grind (arith, common_steps, reverse-reverse) in
     let sizes = subst (All (λ row. page_size_of row ≡ page_bytes_of geo)) (sym kept) c.in-Ok-play_commands.ensures.pages in
     all_digits geo c.deref-2.result.now (digits_in c.in-Ok-new.delivery) c.in-Ok-new.ensures.digits sizes
 
@@ -38,7 +38,7 @@ returns-in-Ok-deliver-clause-text g c =
     let geo = c.args.geometry.now in
     let commands = c.deref.result.now in
     let input = g.R.Read.remaining (inner_of c.args.reader.now) in
-    let kept : c.deref-2.result.now ≡ c.in-Ok-play_commands.rows.items = grind (arith, common_steps, reverse-reverse) in
+    let kept : c.deref-2.result.now ≡ c.in-Ok-play_commands.end.rows.items = grind (arith, common_steps, reverse-reverse) in
     let played = renamed geo commands _ c.deref-2.result.now _ c.deref.ensures kept c.in-Ok-play_commands.ensures.played in
     let meaning = renamed_meaning geo commands _ input (c.deref.ensures ∙ c.in-Ok-new-2.ensures.ok) c.in-Ok.ensures.commands in
     text_sent geo commands (answers_by c.deref-2.result.now) played input _ _ meaning c.in-Ok-deliver.ensures.sent
@@ -48,7 +48,7 @@ returns-in-Err-deliver-clause-why g c =
     let geo = c.args.geometry.now in
     let commands = c.deref.result.now in
     let input = g.R.Read.remaining (inner_of c.args.reader.now) in
-    let kept : c.deref-2.result.now ≡ c.in-Ok-play_commands.rows.items = grind (arith, common_steps, reverse-reverse) in
+    let kept : c.deref-2.result.now ≡ c.in-Ok-play_commands.end.rows.items = grind (arith, common_steps, reverse-reverse) in
     let played = renamed geo commands _ c.deref-2.result.now _ c.deref.ensures kept c.in-Ok-play_commands.ensures.played in
     let meaning = renamed_meaning geo commands _ input (c.deref.ensures ∙ c.in-Ok-new-2.ensures.ok) c.in-Ok.ensures.commands in (
       record { end = c.in-Ok.ensures.end; unfailed = c.in-Ok.ensures.unfailed; meaning = some_meaning geo commands input meaning },
