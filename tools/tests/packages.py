@@ -1,4 +1,4 @@
-"""Packages of Debian that the tests need. The check has them installed, or was told to leave out what needs them."""
+"""Packages of Debian that the tests need. tools/check installs them, or leaves out the tests that need a missing one."""
 
 import os
 import shutil

@@ -14,8 +14,8 @@ from tests.packages import sshd
 CONFIG = """
 ListenAddress 127.0.0.1
 Port {port}
-HostKey {room}/host
-AuthorizedKeysFile {room}/user.pub
+HostKey {folder}/host
+AuthorizedKeysFile {folder}/user.pub
 PidFile none
 StrictModes no
 UsePAM no
@@ -29,21 +29,21 @@ ForceCommand {forced}
 @contextlib.contextmanager
 def running(forced):
     """Answers the line of an sshloginfile. Each command that is asked for is run by the script `forced`."""
-    with tempfile.TemporaryDirectory() as folder, contextlib.ExitStack() as stack:
-        room = pathlib.Path(folder)
+    with tempfile.TemporaryDirectory() as path, contextlib.ExitStack() as stack:
+        folder = pathlib.Path(path)
         for name in ("host", "user"):
-            subprocess.run(["ssh-keygen", "-q", "-t", "ed25519", "-N", "", "-f", room / name], check=True)
+            subprocess.run(["ssh-keygen", "-q", "-t", "ed25519", "-N", "", "-f", folder / name], check=True)
         port = _free_port()
-        (room / "config").write_text(CONFIG.format(port=port, room=room, user=getpass.getuser(), forced=forced))
+        (folder / "config").write_text(CONFIG.format(port=port, folder=folder, user=getpass.getuser(), forced=forced))
         if os.getuid() == 0:
             # The folder of the privilege separation, which the service makes where it runs.
             pathlib.Path("/run/sshd").mkdir(mode=0o755, exist_ok=True)
-        log = stack.enter_context(open(room / "log", "w"))
-        server = subprocess.Popen([sshd(), "-D", "-e", "-f", room / "config"], stdin=subprocess.DEVNULL, stderr=log)
+        log = stack.enter_context(open(folder / "log", "w"))
+        server = subprocess.Popen([sshd(), "-D", "-e", "-f", folder / "config"], stdin=subprocess.DEVNULL, stderr=log)
         stack.callback(server.wait)
         stack.callback(server.terminate)
-        _wait_for(server, port, room / "log")
-        yield f"ssh -p {port} -i {room}/user -o StrictHostKeyChecking=no -o UserKnownHostsFile=/dev/null -o LogLevel=ERROR {getpass.getuser()}@127.0.0.1"
+        _wait_for(server, port, folder / "log")
+        yield f"ssh -p {port} -i {folder}/user -o StrictHostKeyChecking=no -o UserKnownHostsFile=/dev/null -o LogLevel=ERROR {getpass.getuser()}@127.0.0.1"
 
 
 def _free_port():

@@ -22,21 +22,21 @@ def report(text, *words):
     return Run("report", "-", *words, given=text)
 
 
-class CountsOfABlockDevice(unittest.TestCase):
-    def test_they_are_reported(self):
-        told = json.loads(report(counts(), "--json").text)
+class BlockDeviceCounts(unittest.TestCase):
+    def test_reports_counts(self):
+        reported = json.loads(report(counts(), "--json").text)
         wanted = {**NUMBERS, "write_amplification": 1.25, "erases_per_gigabyte": 300_000, "erases_least": 0, "erases_median": 1, "erases_most": 5}
-        self.assertEqual({name: told[name] for name in wanted}, wanted)
-        self.assertAlmostEqual(told["share_of_endurance"], 25 / 120)
+        self.assertEqual({name: reported[name] for name in wanted}, wanted)
+        self.assertAlmostEqual(reported["share_of_endurance"], 25 / 120)
         text = report(counts()).text
         self.assertIn("write amplification  1.250 (20 pages written, 5 copied)\n", text)
         self.assertIn("of the endurance     20.83 % is used\n", text)
 
-    def test_a_device_that_nobody_has_written_is_reported(self):
+    def test_reports_unwritten_device(self):
         text = report(counts("block,erases,retired\n0,0,0\n1,0,0\n2,0,0\n", programs=0, copies=0, erases=0)).text
         self.assertIn("write amplification  nothing was written\n", text)
 
-    def test_broken_counts_are_refused(self):
+    def test_refuses_broken_counts(self):
         rows = [
             (counts(waits=None), "the counts lack waits"),
             (counts("block,erases,retired\n0,1,0\n1,5,1\n"), "cut short: 2 of 3 blocks"),
@@ -46,16 +46,16 @@ class CountsOfABlockDevice(unittest.TestCase):
             (counts(BLOCKS.replace("2,0,0", "2,0,2")), "a block is retired (1) or not (0)"),
             (counts(programs="many"), "the programs 'many' isn't a whole number"),
         ]
-        for text, told in rows:
+        for text, message in rows:
             done = report(text)
-            self.assertEqual((done.status, told in done.errors), (3, True), done.errors)
+            self.assertEqual((done.status, message in done.errors), (3, True), done.errors)
 
-    def test_files_of_a_run_are_refused_beside_them(self):
+    def test_refuses_files_of_a_run(self):
         done = report(counts(), "--wear", "wear.csv")
         self.assertEqual((done.status, "use --wear" in done.errors), (2, True), done.errors)
 
     @needs("matplotlib")
-    def test_the_erases_are_drawn(self):
+    def test_draws_erases(self):
         with tempfile.TemporaryDirectory() as folder:
             picture = os.path.join(folder, "erases.svg")
             self.assertEqual(report(counts(), "--erases-picture", picture).status, 0)

@@ -11,21 +11,21 @@ from tests.tools import LOGS, TOOLS, convert
 
 
 class Formats(unittest.TestCase):
-    def test_an_iolog_of_version_2_becomes_its_trace(self):
+    def test_converts_fio_iolog_version_2(self):
         done = convert("fio", (LOGS / "fio_2.log").read_bytes())
         self.assertEqual(done.lines, ["0,write,0,00000001", "0,write,1,00000002", "0,read,1,", "0,trim,0,"])
         self.assertEqual(done.errors, "trace: 3 requests became 4 lines; passed over: 1 of datasync, 3 of file action, 1 of sync, 1 of wait\n")
 
-    def test_an_iolog_that_fio_3_33_wrote_becomes_its_trace(self):
+    def test_converts_iolog_of_fio_3_33(self):
         log = (LOGS / "fio_3.log").read_bytes()
         done = convert("fio", log, sectors=16)
         ios = [line.split() for line in log.decode().splitlines()[1:]]
         wanted = [(op, int(offset) // 4096) for _, _, op, offset, _ in (io for io in ios if len(io) == 5)]
-        told = [(line.split(",")[1], int(line.split(",")[2])) for line in done.lines]
-        self.assertEqual(told, wanted)
-        self.assertEqual(len(told), 40)
+        found = [(line.split(",")[1], int(line.split(",")[2])) for line in done.lines]
+        self.assertEqual(found, wanted)
+        self.assertEqual(len(found), 40)
 
-    def test_a_folder_as_standard_input_is_named_in_one_line(self):
+    def test_reports_folder_as_standard_input(self):
         with tempfile.TemporaryDirectory() as folder:
             opened = os.open(folder, os.O_RDONLY)
             words = [TOOLS / "trace", "convert", "fio", "--page-bytes", "4096", "--sectors", "16"]
@@ -34,7 +34,7 @@ class Formats(unittest.TestCase):
         self.assertEqual((done.returncode, done.stdout, done.stderr), (1, "", "trace: standard input: Is a directory\n"))
 
     @needs("fio")
-    def test_the_iolog_of_the_fio_that_is_installed_is_read(self):
+    def test_converts_iolog_of_installed_fio(self):
         with tempfile.TemporaryDirectory() as folder:
             words = ["--name=job", "--ioengine=null", "--filename=disk", "--size=64k", "--rw=randrw", "--bs=4k", f"--write_iolog={folder}/log"]
             subprocess.run(["fio", *words], cwd=folder, check=True, capture_output=True)
@@ -42,18 +42,18 @@ class Formats(unittest.TestCase):
                 done = convert("fio", log.read(), sectors=16)
         self.assertEqual((done.status, len(done.lines)), (0, 16), done.errors)
 
-    def test_a_csv_of_msr_cambridge_becomes_its_trace(self):
+    def test_converts_msr_csv(self):
         done = convert("msr", (LOGS / "msr.csv").read_bytes())
         self.assertEqual(
             done.lines,
             ["0,write,0,00000001", "0,read,0,", "0,read,1,", *(f"0,write,{page},0000000{page + 1}" for page in (3, 4, 5, 6)), "0,read,1,"],
         )
 
-    def test_the_names_of_the_columns_may_stand_above_a_csv(self):
+    def test_skips_header_row_of_msr_csv(self):
         log = b"Timestamp,Hostname,DiskNumber,Type,Offset,Size,ResponseTime\r\n1,hm,0,Read,0,1,1\r\n"
         self.assertEqual(convert("msr", log).lines, ["0,read,0,"])
 
-    def test_the_text_of_blkparse_becomes_its_trace_where_requests_are_issued_queued_or_complete(self):
+    def test_converts_blkparse_text_by_each_action(self):
         log = (LOGS / "blkparse.txt").read_bytes()
         begin = ["0,write,0,00000001", "0,write,1,00000002", "0,write,2,00000003", "0,write,3,00000004", "0,read,0,", "0,write,0,00000006"]
         # Of the discard of sectors 1 to 32 the pages that lie in it whole; then a read of half a page.
@@ -72,9 +72,9 @@ def event(sequence, microseconds, sector, count, action, kind):
     return struct.pack("=IIQQIIIIIHH", magic, sequence, microseconds * 1000, sector, count * 512, action, 99, device, 0, 0, 0)
 
 
-class FromTheKernel(unittest.TestCase):
+class KernelEvents(unittest.TestCase):
     @needs("blkparse")
-    def test_the_text_of_the_blkparse_that_is_installed_is_read(self):
+    def test_converts_text_of_installed_blkparse(self):
         requests = [(0, 16, "write"), (8, 8, "read"), (16, 16, "discard")]
         events, sequence = [], 0
         for number, (sector, count, kind) in enumerate(requests):
@@ -92,34 +92,34 @@ class FromTheKernel(unittest.TestCase):
         self.assertEqual(times, ["0.000", "0.000", "1000.000", "2000.000", "2000.000"])
 
 
-class Places(unittest.TestCase):
+class SectorNumbers(unittest.TestCase):
     log = b"1,a,0,Write,40960,8192,1\n2,a,0,Write,8192,4096,1\n3,a,0,Read,40960,4096,1\n"
 
-    def test_what_lies_past_the_device_is_refused_and_named(self):
+    def test_refuses_page_beyond_device(self):
         done = convert("msr", self.log, sectors=11)
         self.assertEqual((done.status, done.text), (3, ""))
         self.assertIn("line 1: page 11 is past the end of the device of 11 sectors", done.errors)
 
-    def test_it_is_folded_into_the_device_by_wrap(self):
+    def test_wrap_maps_pages_into_device(self):
         self.assertEqual(convert("msr", self.log, "--wrap", sectors=8).lines, ["0,write,2,00000001", "0,write,3,00000002", "0,write,2,00000003", "0,read,2,"])
 
-    def test_pages_are_numbered_as_they_come_by_dense(self):
+    def test_dense_numbers_pages_in_order_of_first_use(self):
         self.assertEqual(convert("msr", self.log, "--dense", sectors=3).lines, ["0,write,0,00000001", "0,write,1,00000002", "0,write,2,00000003", "0,read,0,"])
 
-    def test_more_pages_than_sectors_are_refused_by_dense(self):
+    def test_dense_refuses_more_pages_than_sectors(self):
         done = convert("msr", self.log, "--dense", sectors=2)
         self.assertEqual(done.status, 3)
         self.assertIn("line 2: with this line the log touches more than the 2 pages", done.errors)
 
-    def test_a_trim_of_pages_that_nothing_touched_needs_no_sector_by_dense(self):
+    def test_dense_leaves_out_trim_of_untouched_pages(self):
         log = b"fio version 2 iolog\nf trim 0 1099511627776\nf write 8192 4096\nf trim 0 1099511627776\nf trim 8192 4096\n"
         self.assertEqual(convert("fio", log, "--dense", sectors=1).lines, ["0,write,0,00000001", "0,trim,0,", "0,trim,0,"])
 
-    def test_a_trim_is_of_whole_pages(self):
+    def test_trims_only_whole_pages(self):
         log = b"fio version 2 iolog\nf trim 1 4096\nf trim 1 8191\nf trim 0 8191\n"
         self.assertEqual(convert("fio", log).lines, ["0,trim,1,", "0,trim,0,"])
 
-    def test_a_second_device_is_refused_taken_alone_or_numbered_beside_the_first(self):
+    def test_refuses_selects_or_merges_second_device(self):
         log = b"1,a,0,Read,0,1,1\n2,a,1,Write,0,1,1\n"
         refused = convert("msr", log)
         self.assertEqual((refused.status, refused.lines), (3, ["0,read,0,"]))
@@ -128,20 +128,20 @@ class Places(unittest.TestCase):
         self.assertEqual(convert("msr", log, "--dense").lines, ["0,read,0,", "0,write,1,00000002"])
         self.assertEqual(convert("msr", log, "--device", "b_0").errors, "trace: no request is of the device b_0\n")
 
-    def test_the_data_may_be_zeros_and_the_trace_cut_short(self):
+    def test_options_data_and_lines(self):
         done = convert("msr", self.log, "--data", "zeros", "--lines", "2")
         self.assertEqual(done.lines, ["0,write,10,", "0,write,11,"])
 
 
 class BrokenLines(unittest.TestCase):
     def refuses(self, name, rows):
-        for text, line, told in rows:
+        for text, line, message in rows:
             with self.subTest(text):
                 done = convert(name, text)
                 self.assertEqual(done.status, 3)
-                self.assertIn(f"trace: line {line}: {told}", done.errors)
+                self.assertIn(f"trace: line {line}: {message}", done.errors)
 
-    def test_of_an_iolog_are_named(self):
+    def test_reports_broken_line_of_iolog(self):
         self.refuses("fio", [
             (b"", 1, "an iolog begins with"),
             (b"fio version 1 iolog\n", 1, "an iolog begins with"),
@@ -154,7 +154,7 @@ class BrokenLines(unittest.TestCase):
             (b"fio version 3 iolog\n1 f write 0 1\n2 f erase 0 1\n", 3, "'erase' isn't an action of an iolog"),
         ])
 
-    def test_of_msr_cambridge_are_named(self):
+    def test_reports_broken_line_of_msr_csv(self):
         self.refuses("msr", [
             (b"1,hm,0,Read,0,1\n", 1, "7 fields are expected, and these are 6"),
             (b"1,hm,0,Read,0,1,1\n1,hm,0,Trim,0,1,1\n", 2, "the type 'Trim' is neither Read nor Write"),
@@ -163,7 +163,7 @@ class BrokenLines(unittest.TestCase):
             (b"1,hm,0,Read,0,1,1\n" + b"x" * 70_000, 2, "more than 65,536 bytes"),
         ])
 
-    def test_of_blkparse_are_named(self):
+    def test_reports_broken_line_of_blkparse_text(self):
         self.refuses("blkparse", [
             (b"no event\n", 1, "'no event' isn't an event of blkparse"),
             (b"8,0 0 1 0.1 5 D\n", 1, "the event is cut short"),
@@ -172,7 +172,7 @@ class BrokenLines(unittest.TestCase):
             (b"8,0 0 x 0.1 5 D W 0 + 8 [a]\n", 1, "the sequence number 'x' isn't a whole number"),
         ])
 
-    def test_stop_the_trace_behind_what_came_before(self):
+    def test_keeps_lines_before_broken_line(self):
         done = convert("msr", b"1,hm,0,Read,0,1,1\nbroken\n")
         self.assertEqual((done.status, done.lines), (3, ["0,read,0,"]))
 
@@ -180,28 +180,28 @@ class BrokenLines(unittest.TestCase):
 class Compressed(unittest.TestCase):
     log = (LOGS / "msr.csv").read_bytes()
 
-    def refuses(self, log, told):
+    def refuses(self, log, message):
         done = convert("msr", log)
         self.assertEqual(done.status, 3)
-        self.assertIn(told, done.errors)
+        self.assertIn(message, done.errors)
 
-    def test_a_log_in_gzip_is_read_and_a_broken_one_is_named(self):
+    def test_reads_gzip_and_refuses_incomplete_gzip(self):
         self.assertEqual(convert("msr", gzip.compress(self.log)).lines, convert("msr", self.log).lines)
         self.refuses(gzip.compress(self.log)[:40], "standard input isn't a complete gzip file")
 
     @needs("zstd")
-    def test_a_log_in_zstd_is_read_and_a_broken_one_is_named(self):
+    def test_reads_zstd_and_refuses_incomplete_zstd(self):
         packed = subprocess.run(["zstd", "-qc"], input=self.log, capture_output=True, check=True).stdout
         self.assertEqual(convert("msr", packed).lines, convert("msr", self.log).lines)
         self.assertEqual(convert("msr", packed, "--lines", "1").lines, ["0,write,0,00000001"])
         self.refuses(packed[:40], "standard input isn't a complete zstd file")
 
-    def test_another_compression_is_named(self):
+    def test_refuses_other_compression(self):
         self.refuses(b"BZh91AY&SY", "compressed by bzip2, which the tools don't read: decompress it first")
 
 
 class Memory(unittest.TestCase):
-    def test_does_not_grow_with_the_log(self):
+    def test_memory_does_not_grow_with_log(self):
         line = b"1,hm,0,Write,4096,8192,1\n"
         self.assertLess(self.kilobytes(line * 200_000), self.kilobytes(line) + 2048)
 

@@ -17,10 +17,10 @@ exit 3
 
 class Installed(unittest.TestCase):
     def setUp(self):
-        room = tempfile.TemporaryDirectory()
-        self.addCleanup(room.cleanup)
-        self.room = pathlib.Path(room.name)
-        library, path = self.room / "lib/mintlintel", self.room / "bin"
+        folder = tempfile.TemporaryDirectory()
+        self.addCleanup(folder.cleanup)
+        self.folder = pathlib.Path(folder.name)
+        library, path = self.folder / "lib/mintlintel", self.folder / "bin"
         library.mkdir(parents=True)
         path.mkdir()
         for file, text in ((library / "flashplay", STAND_IN), (path / "flashplay", (TOOLS / "flashplay").read_text())):
@@ -29,14 +29,14 @@ class Installed(unittest.TestCase):
         (library / "BUILT_FROM").write_text("commit 1a2b\nproved with kit-1 logic 11\n")
 
     def run_it(self, *words, given=""):
-        done = subprocess.run([self.room / "bin/flashplay", *words], input=given, capture_output=True, text=True)
+        done = subprocess.run([self.folder / "bin/flashplay", *words], input=given, capture_output=True, text=True)
         return done.returncode, done.stdout, done.stderr
 
-    def test_behind_the_version_stand_the_commit_and_the_toolchain(self):
+    def test_version_names_commit_and_toolchain(self):
         for word in ("--version", "-V"):
             self.assertEqual(self.run_it(word), (0, "flashplay 1.2.3\ncommit 1a2b\nproved with kit-1 logic 11\n", ""))
 
-    def test_otherwise_arguments_streams_and_status_are_the_programs(self):
+    def test_passes_on_arguments_streams_and_status(self):
         self.assertEqual(self.run_it(given="a trace"), (3, "0: \na trace", ""))
         self.assertEqual(self.run_it("--wear", "a file", "*", "", given=""), (3, "4: --wear a file * \n", ""))
         self.assertEqual(self.run_it("--blocks=2", "--version"), (3, "2: --blocks=2 --version\n", ""))

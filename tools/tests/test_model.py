@@ -19,40 +19,40 @@ def played(trace, words):
         wear, log = (pathlib.Path(folder) / name for name in ("wear", "log"))
         done = subprocess.run([device.LAUNCHER, *words, "--wear", wear, "--collections", log], input=trace, capture_output=True)
         # The launcher's messages about a build aren't faults of the trace.
-        told = "".join(line for line in done.stderr.decode().splitlines(keepends=True) if not line.startswith("flashplay: "))
-        return done.returncode, done.stdout.decode(), told, *(file.read_text() if file.exists() else "" for file in (wear, log))
+        errors = "".join(line for line in done.stderr.decode().splitlines(keepends=True) if not line.startswith("flashplay: "))
+        return done.returncode, done.stdout.decode(), errors, *(file.read_text() if file.exists() else "" for file in (wear, log))
 
 
-class Rows(unittest.TestCase):
+class HandComputedRows(unittest.TestCase):
     """Rows that were worked out by hand; the answers are those of the program."""
 
-    def tells(self, words, trace, rows):
+    def check_log(self, words, trace, rows):
         with tempfile.TemporaryDirectory() as folder:
             wear, log = (pathlib.Path(folder) / name for name in ("wear", "log"))
             done = Run("model", *words.split(), "--wear", wear, "--collections", log, given=trace.encode())
             self.assertEqual(log.read_text(), HEAD + rows)
             self.assertEqual((done.status, done.text, done.errors, wear.read_text(), log.read_text()), played(trace.encode(), words.split()))
 
-    def test_the_collection_of_the_example_is_that_of_its_fifth_line(self):
+    def test_example_collects_at_line_5(self):
         # Blocks 0 and 1 are full; sectors 0 and 2 are written again, so block 0 has only sector 1.
         trace = (TOP / "examples/collection.csv").read_text()
-        self.tells("--blocks 3 --pages 2 --words 1 --sectors 3 --endurance 10", trace, "5,0,1,1,1,freed\n")
+        self.check_log("--blocks 3 --pages 2 --words 1 --sectors 3 --endurance 10", trace, "5,0,1,1,1,freed\n")
 
-    def test_a_run_without_a_collection_tells_the_names_alone(self):
-        self.tells("--blocks 3 --pages 2 --words 1 --sectors 3", "0,write,0,\n0,read,0,\n", "")
+    def test_log_without_collections_has_only_header(self):
+        self.check_log("--blocks 3 --pages 2 --words 1 --sectors 3", "0,write,0,\n0,read,0,\n", "")
 
-    def test_a_copy_to_another_lun_is_no_copyback_and_a_later_one_within_the_lun_is(self):
+    def test_copyback_only_within_lun(self):
         # LUN 0 has blocks 0 and 1, LUN 1 blocks 2 and 3, the spare. Line 7: block 0 has sector 0 dead and 1 live; it goes to block 3
         # of the other LUN, and block 0 is the spare. Line 8 fills block 3. Line 9: block 1 has sector 2 dead and 3 live, and goes to 0.
         trace = "".join(f"0,write,{sector},\n" for sector in (0, 1, 2, 3, 0, 2, 4, 4, 4))
-        self.tells("--luns 2 --blocks 4 --pages 2 --words 1 --sectors 5", trace, "7,0,1,0,1,freed\n8,1,1,1,1,freed\n9,3,1,0,1,freed\n")
+        self.check_log("--luns 2 --blocks 4 --pages 2 --words 1 --sectors 5", trace, "7,0,1,0,1,freed\n8,1,1,1,1,freed\n9,3,1,0,1,freed\n")
 
-    def test_the_erase_that_fails_retires_the_victim_and_is_the_last(self):
-        self.tells("--blocks 3 --pages 2 --words 1 --sectors 3 --endurance 1", LONG, "5,0,1,1,1,retired\n")
+    def test_failed_erase_retires_victim_and_is_last(self):
+        self.check_log("--blocks 3 --pages 2 --words 1 --sectors 3 --endurance 1", LONG, "5,0,1,1,1,retired\n")
 
 
-class AsTheProgram(unittest.TestCase):
-    def test_random_traces_have_the_same_answers_wear_and_log(self):
+class ModelAgainstProgram(unittest.TestCase):
+    def test_same_answers_wear_and_log_on_random_traces(self):
         seeded = random.Random(17)
         for number in range(60):
             numbers, trace = random_run(seeded)
@@ -61,7 +61,7 @@ class AsTheProgram(unittest.TestCase):
             with self.subTest(number=number, device=numbers):
                 self.assertEqual(played(trace.encode(), device.words_of(numbers)), (0, answers, "", counted.wear(), counted.log()))
 
-    def test_odd_traces_mean_the_same_and_have_the_same_faults(self):
+    def test_same_answers_and_faults_on_unusual_traces(self):
         words = "--blocks 3 --pages 2 --words 1 --sectors 3 --endurance 10".split()
         records = [
             b"", b'007,"read",002,', b"0,write,0,aBcD\n0,read,0,", b'0,write,0,"41', b'0,"re"ad,2,', b'0,"read\n",2,', b"\xef\xbb\xbf0,meet,0,\r\n\r\n0,read,0,\r0,trim,1,",
@@ -71,19 +71,19 @@ class AsTheProgram(unittest.TestCase):
         ]
         for record in records:
             with self.subTest(record):
-                status, answers, told, *_ = played(record, words)
+                status, answers, errors, *_ = played(record, words)
                 done = Run("model", *words, given=record)
-                self.assertEqual((done.status, done.text, done.errors.removeprefix("model: ")), (status, answers, told))
+                self.assertEqual((done.status, done.text, done.errors.removeprefix("model: ")), (status, answers, errors))
 
-    def test_numbers_that_make_no_device_are_refused_alike(self):
+    def test_same_refusals_of_invalid_devices(self):
         for words in (
             "--luns 0", "--luns 9", "--luns 3", "--blocks 2", "--blocks 4097", "--pages 0", "--pages 16385", "--words 513", "--sectors 0", "--sectors 1048577",
             "--endurance 0", "--endurance 1000001", "--blocks 4096 --words 512", "--sectors 4032", "--luns 9 --blocks 2",
         ):
             with self.subTest(words):
-                status, answers, told, *_ = played(b"", words.split())
+                status, answers, errors, *_ = played(b"", words.split())
                 done = Run("model", *words.split())
-                self.assertEqual((done.status, done.text, done.errors.removeprefix("model: ")), (status, answers, told))
+                self.assertEqual((done.status, done.text, done.errors.removeprefix("model: ")), (status, answers, errors))
                 self.assertEqual(status, 2)
 
 

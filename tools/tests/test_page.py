@@ -9,7 +9,7 @@ import unittest
 
 from simulation import model
 from tests.packages import needs
-from tests.test_report import InARoom
+from tests.test_report import InFolder
 from tests.tools import TOOLS, TOP, Run, make
 
 DEVICE = {"luns": 2, "blocks": 16, "pages": 16, "words": 1, "sectors": 180, "endurance": 1000}
@@ -23,29 +23,29 @@ const found = [];
 const inside = (a, b) => a.left < b.right - 1 && b.left < a.right - 1 && a.top < b.bottom - 1 && b.top < a.bottom - 1;
 function look(width, frame) {
   const doc = frame.contentDocument, view = frame.contentWindow;
-  const told = {width, errors: frame.errors, pictures: [], overlaps: [], cut: [], fetched: view.performance.getEntriesByType("resource").map(e => e.name)};
-  told.wide = doc.documentElement.scrollWidth > width;
-  told.links = [...doc.querySelectorAll('a[href^="#"]')].filter(a => !doc.getElementById(a.getAttribute("href").slice(1))).length;
+  const seen = {width, errors: frame.errors, pictures: [], overlaps: [], cut: [], fetched: view.performance.getEntriesByType("resource").map(e => e.name)};
+  seen.wide = doc.documentElement.scrollWidth > width;
+  seen.links = [...doc.querySelectorAll('a[href^="#"]')].filter(a => !doc.getElementById(a.getAttribute("href").slice(1))).length;
   const ids = [...doc.querySelectorAll("[id]")].map(e => e.id);
-  told.twice = ids.filter((id, i) => ids.indexOf(id) != i);
+  seen.twice = ids.filter((id, i) => ids.indexOf(id) != i);
   for (const svg of doc.querySelectorAll("figure svg")) {
     const box = svg.getBoundingClientRect();
     const drawn = [...svg.querySelectorAll("path")].filter(p => { const b = p.getBoundingClientRect(); return b.width + b.height > 5; }).length;
     const texts = [...svg.querySelectorAll("text")].filter(t => t.textContent.trim());
     const smallest = Math.min(...texts.map(t => t.getBoundingClientRect().height));
-    told.pictures.push({width: box.width, height: box.height, drawn, texts: texts.length, smallest});
+    seen.pictures.push({width: box.width, height: box.height, drawn, texts: texts.length, smallest});
     const boxes = texts.map(t => [t.textContent, t.getBoundingClientRect()]);
     boxes.forEach(([name, a], i) => {
-      if (a.left < box.left - 1 || a.right > box.right + 1 || a.top < box.top - 1 || a.bottom > box.bottom + 1) told.cut.push(name);
-      boxes.slice(i + 1).forEach(([other, b]) => { if (inside(a, b)) told.overlaps.push(name + " / " + other); });
+      if (a.left < box.left - 1 || a.right > box.right + 1 || a.top < box.top - 1 || a.bottom > box.bottom + 1) seen.cut.push(name);
+      boxes.slice(i + 1).forEach(([other, b]) => { if (inside(a, b)) seen.overlaps.push(name + " / " + other); });
     });
   }
   const blocks = [...doc.querySelectorAll("h1, h2, p, pre, figure, .scrolled")].filter(e => !e.parentElement.closest("figure, .scrolled"));
   blocks.forEach((a, i) => blocks.slice(i + 1).forEach(b => {
-    if (inside(a.getBoundingClientRect(), b.getBoundingClientRect())) told.overlaps.push(a.tagName + " / " + b.tagName);
+    if (inside(a.getBoundingClientRect(), b.getBoundingClientRect())) seen.overlaps.push(a.tagName + " / " + b.tagName);
   }));
-  for (const e of blocks) if (e.getBoundingClientRect().right > width + 1) told.cut.push(e.tagName);
-  found.push(told);
+  for (const e of blocks) if (e.getBoundingClientRect().right > width + 1) seen.cut.push(e.tagName);
+  found.push(seen);
 }
 async function all() {
   for (const width of WIDTHS) {
@@ -76,8 +76,8 @@ const pictures = [...document.querySelectorAll("figure svg")].map(svg => {
   return {texts: of(svg.querySelectorAll("text"), "fill"), shapes: [...of(filled, "fill"), ...of(shapes, "stroke")]};
 });
 const dark = matchMedia("(prefers-color-scheme: dark)").matches;
-const told = {dark, paper: style(document.body).backgroundColor, ink: style(document.body).color, pictures};
-document.getElementById("found").textContent = JSON.stringify(told);
+const seen = {dark, paper: style(document.body).backgroundColor, ink: style(document.body).color, pictures};
+document.getElementById("found").textContent = JSON.stringify(seen);
 </script></body>
 """
 LIGHT, DARK = "--blink-settings=preferredColorScheme=1", "--blink-settings=preferredColorScheme=0"
@@ -107,7 +107,7 @@ def contrast(one, other):
 
 
 class Colours(unittest.TestCase):
-    def test_light_dark_and_on_paper_texts_and_lines_stand_out(self):
+    def test_contrast_in_light_dark_and_print(self):
         """WCAG 2 asks for a contrast of 4.5 for texts and of 3 for graphics."""
         self.assertEqual(len(schemes()), 3)
         for scheme in schemes():
@@ -118,9 +118,9 @@ class Colours(unittest.TestCase):
 
 
 @needs("matplotlib", "numpy", "chromium")
-class Shown(InARoom):
+class PageInBrowser(InFolder):
     def page_of_a_run(self):
-        arrivals, trace = self.room / "arrivals", self.room / "zipf.csv"
+        arrivals, trace = self.folder / "arrivals", self.folder / "zipf.csv"
         words = ("zipf", "--sectors", "180", "--lines", "6000", "--reads", "30", "--trims", "2", "--fill", "--seed", "3")
         made = make(*words, "--rate", "500", "--arrivals", arrivals)
         played = model.Model(**DEVICE)
@@ -128,7 +128,7 @@ class Shown(InARoom):
         wear, log = self.file("wear", played.wear().encode()), self.file("log", played.log().encode())
         files = ("--wear", wear, "--collections", log, "--arrivals", arrivals, "--trace", trace)
         device = [word for name, number in DEVICE.items() for word in (f"--{name}", number)]
-        page = self.room / "page.html"
+        page = self.folder / "page.html"
         part = TOP / "examples/parts/dftl_large_block.toml"
         line = "tools/trace make zipf <fast> & \"quoted\""
         done = Run("report", answers, *files, *device, "--part", part, "--page", page, "--made-by", line)
@@ -138,7 +138,7 @@ class Shown(InARoom):
     def browse(self, page, *words):
         """What Chromium writes of a page, which may log nothing."""
         file = self.file("look.html", page.encode())
-        words = ["--headless", "--no-sandbox", "--disable-gpu", "--disable-dev-shm-usage", "--no-first-run", f"--user-data-dir={self.room}/chromium", *words]
+        words = ["--headless", "--no-sandbox", "--disable-gpu", "--disable-dev-shm-usage", "--no-first-run", f"--user-data-dir={self.folder}/chromium", *words]
         words += ["--enable-logging=stderr", "--virtual-time-budget=20000", "--host-resolver-rules=MAP * ~NOTFOUND", f"file://{file}"]
         done = subprocess.run(["chromium", *words], capture_output=True, text=True, timeout=120)
         logged = [line for line in done.stderr.splitlines() if "CONSOLE" in line]
@@ -157,11 +157,11 @@ class Shown(InARoom):
 
     def check_colours(self, page, is_dark):
         """The page and its pictures have the colours of the scheme, and no others; each text stands out."""
-        told = self.found_in(page.replace("</body>", COLOURS), DARK if is_dark else LIGHT)
+        seen = self.found_in(page.replace("</body>", COLOURS), DARK if is_dark else LIGHT)
         scheme = schemes()[is_dark]
-        self.assertEqual((told["dark"], in_digits(told["paper"]), in_digits(told["ink"])), (is_dark, scheme["paper"], scheme["ink"]))
-        self.assertEqual(len(told["pictures"]), len(SECTIONS))
-        for picture in told["pictures"]:
+        self.assertEqual((seen["dark"], in_digits(seen["paper"]), in_digits(seen["ink"])), (is_dark, scheme["paper"], scheme["ink"]))
+        self.assertEqual(len(seen["pictures"]), len(SECTIONS))
+        for picture in seen["pictures"]:
             self.assertEqual([in_digits(colour) for colour in picture["texts"]], [scheme["ink"]])
             shapes = {in_digits(colour) for colour in picture["shapes"]} - {"none"}
             self.assertEqual(shapes - set(scheme.values()), set())
@@ -171,19 +171,19 @@ class Shown(InARoom):
         """The page as it is printed where dark is preferred: dark on white, with nothing beyond the margins, and each picture beside its head."""
         from matplotlib import pyplot
 
-        printed = self.room / "printed.pdf"
+        printed = self.folder / "printed.pdf"
         self.browse(page, DARK, "--no-pdf-header-footer", f"--print-to-pdf={printed}")
         text = subprocess.run(["pdftotext", "-layout", printed, "-"], capture_output=True, text=True, check=True).stdout
         sheets = [" ".join(sheet.split()) for sheet in text.split("\f")[:-1]]
         whole = " ".join(sheets)
         for cell in re.findall(r"<t[hd][^>]*>([^<]+)</t[hd]>", page):
             self.assertIn(" ".join(html.unescape(cell).split()), whole)
-        subprocess.run(["pdftoppm", "-r", "50", "-png", printed, self.room / "sheet"], check=True)
-        pixels = [pyplot.imread(path)[..., :3] for path in sorted(self.room.glob("sheet-*.png"))]
+        subprocess.run(["pdftoppm", "-r", "50", "-png", printed, self.folder / "sheet"], check=True)
+        pixels = [pyplot.imread(path)[..., :3] for path in sorted(self.folder.glob("sheet-*.png"))]
         self.assertEqual(len(pixels), len(sheets))
         blue = [int(schemes()[2]["blue"][place : place + 2], 16) / 255 for place in (1, 3, 5)]
         for head, caption in re.findall(r"<h2>([^<]+)</h2>\n?<figure>.*?<figcaption>(\S+ \S+ \S+)", page, re.DOTALL):
-            beside = [sheet for sheet, told in enumerate(sheets) if head in told and caption in told]
+            beside = [sheet for sheet, text in enumerate(sheets) if head in text and caption in text]
             self.assertTrue(beside, head)
             self.assertTrue(any((abs(pixels[sheet] - blue).max(axis=2) < 0.1).sum() > 20 for sheet in beside), head)
         for sheet in pixels:
@@ -191,21 +191,21 @@ class Shown(InARoom):
             self.assertTrue(all((edge == 1).all() for edge in edges))
             self.assertGreater((sheet.min(axis=2) > 0.9).mean(), 0.5)
 
-    def test_at_three_widths_all_is_drawn_and_nothing_overlaps(self):
+    def test_three_widths_without_overlaps(self):
         page, _ = self.page_of_a_run()
         found = self.look_at(page)
-        self.assertEqual([told["width"] for told in found], list(WIDTHS))
-        for told in found:
-            with self.subTest(width=told["width"]):
-                self.assertEqual((told["errors"], told["fetched"], told["overlaps"], told["cut"], told["twice"]), ([], [], [], [], []))
-                self.assertEqual((told["wide"], told["links"], len(told["pictures"])), (False, 0, len(SECTIONS)))
-                for picture in told["pictures"]:
+        self.assertEqual([seen["width"] for seen in found], list(WIDTHS))
+        for seen in found:
+            with self.subTest(width=seen["width"]):
+                self.assertEqual((seen["errors"], seen["fetched"], seen["overlaps"], seen["cut"], seen["twice"]), ([], [], [], [], []))
+                self.assertEqual((seen["wide"], seen["links"], len(seen["pictures"])), (False, 0, len(SECTIONS)))
+                for picture in seen["pictures"]:
                     self.assertGreater(min(picture["width"], picture["height"]), 250)
                     self.assertGreater(picture["drawn"], 3)
                     self.assertGreater(picture["texts"], 5)
                     self.assertGreater(picture["smallest"], 8)
 
-    def test_in_light_and_dark_the_page_and_its_pictures_change_their_colours(self):
+    def test_light_and_dark_colours(self):
         page, _ = self.page_of_a_run()
         for is_dark in (False, True):
             with self.subTest(is_dark=is_dark):
@@ -215,39 +215,39 @@ class Shown(InARoom):
                 self.check_colours(wrong, True)
 
     @needs("pdftotext")
-    def test_on_paper_all_is_there_dark_on_white_and_each_picture_is_beside_its_head(self):
+    def test_print_is_complete_and_dark_on_white(self):
         page, _ = self.page_of_a_run()
         self.check_paper(page)
         for style in ("main { width: 90rem !important; max-width: none !important }", "section { background: #16181b }", "figcaption { break-before: page }", "table { display: none }"):
             with self.subTest(style), self.assertRaises(AssertionError):
                 self.check_paper(page.replace("</style>", f"@media print {{ {style} }}</style>"))
 
-    def test_what_a_browser_would_find_wrong_is_found(self):
+    def test_check_finds_errors_and_overlaps(self):
         """The look itself: an error, a picture that isn't drawn, texts over each other and a name that occurs twice."""
         broken = '<svg viewBox="0 0 300 300" width="300"><text x="9" y="30">one</text><text x="12" y="32">two</text></svg>'
         body = f'<h1 id="a">A</h1><p id="a" style="width:2000px;margin-top:-2em">B</p><figure>{broken}</figure><script>throw new Error("x")</script>'
         page = f"<!DOCTYPE html><html><body>{body}</body></html>"
         with self.assertRaises(AssertionError):
             self.look_at(page)
-        for told in self.look_at(page.replace('throw new Error("x")', "")):
-            self.assertEqual((told["twice"], told["pictures"][0]["drawn"], told["wide"]), (["a"], 0, True))
-            self.assertEqual(sorted(told["overlaps"]), ["H1 / P", "one / two"])
+        for seen in self.look_at(page.replace('throw new Error("x")', "")):
+            self.assertEqual((seen["twice"], seen["pictures"][0]["drawn"], seen["wide"]), (["a"], 0, True))
+            self.assertEqual(sorted(seen["overlaps"]), ["H1 / P", "one / two"])
 
-    def test_it_needs_nothing_else_and_tells_what_was_played(self):
+    def test_page_is_self_contained_and_names_its_run(self):
         page, line = self.page_of_a_run()
         self.assertEqual(re.findall(r'(?:src|href)="(?!#|data:,)[^"]*"|url\((?!#)[^)]*\)|@import|<script', page), [])
         self.assertIn(html.escape(line), page)
         device = "--luns 2 --blocks 16 --pages 16 --words 1 --sectors 180 --endurance 1000"
-        self.assertIn(f"./flashplay {device} --wear {self.room}/wear --collections {self.room}/log &lt; ", page)
+        self.assertIn(f"./flashplay {device} --wear {self.folder}/wear --collections {self.folder}/log &lt; ", page)
         self.assertIn("2 LUNs, 16 blocks of 16 pages, 180 sectors (70.3 %) · zipf.csv", page)
         for section in SECTIONS:
-            told = f'<title id="{section}-title">[^<]+</title><desc id="{section}-text">[^<]+</desc>'
-            self.assertRegex(page, f'<svg[^>]* role="img" aria-labelledby="{section}-title {section}-text">{told}')
+            names = f'<title id="{section}-title">[^<]+</title><desc id="{section}-text">[^<]+</desc>'
+            self.assertRegex(page, f'<svg[^>]* role="img" aria-labelledby="{section}-title {section}-text">{names}')
             self.assertIn(f'<a href="#{section}-table">', page)
             self.assertIn(f'<table id="{section}-table">', page)
 
-    def test_a_page_shows_what_is_known(self):
-        page = self.room / "page.html"
+    def test_page_without_log_has_only_totals(self):
+        page = self.folder / "page.html"
         self.assertEqual(Run("report", TOP / "examples/collection.out", "--page", page).status, 0)
         self.assertNotIn("<svg", page.read_text())
         self.assertIn("1.200 (5 pages written, 1 copied)", page.read_text())

@@ -21,7 +21,7 @@ SMALLER = {
 }
 
 
-class Pages(unittest.TestCase):
+class DocumentedCommands(unittest.TestCase):
     def play(self, page, smaller):
         """Plays the lines of a page at the top of what looks like a clone. Returns these lines, what they wrote, and the text of each picture
         and HTML page by its name."""
@@ -29,28 +29,28 @@ class Pages(unittest.TestCase):
         for words, fewer in smaller.items():
             self.assertIn(words, lines)
             lines = lines.replace(words, fewer)
-        with tempfile.TemporaryDirectory() as room:
-            (pathlib.Path(room) / "flashplay").symlink_to(device.LAUNCHER)
+        with tempfile.TemporaryDirectory() as folder:
+            (pathlib.Path(folder) / "flashplay").symlink_to(device.LAUNCHER)
             for name in ("tools", "examples"):
-                (pathlib.Path(room) / name).symlink_to(TOP / name)
-            done = subprocess.run(["bash", "-euc", lines], cwd=room, capture_output=True, text=True, stdin=subprocess.DEVNULL)
+                (pathlib.Path(folder) / name).symlink_to(TOP / name)
+            done = subprocess.run(["bash", "-euc", lines], cwd=folder, capture_output=True, text=True, stdin=subprocess.DEVNULL)
             self.assertEqual(done.returncode, 0, done.stderr)
-            drawn = {name: (pathlib.Path(room) / name).read_text() for name in lines.split("\nls ")[1].split()}
+            drawn = {name: (pathlib.Path(folder) / name).read_text() for name in lines.split("\nls ")[1].split()}
         self.assertEqual([name for name, text in drawn.items() if "<svg" not in text], [])
         return lines.splitlines(), done.stdout, drawn
 
     @needs("fio", "parallel", "matplotlib")
-    def test_the_lines_from_a_fio_job_to_a_plot_work_as_written(self):
-        _, told, drawn = self.play("SIMULATING.md", {})
-        self.assertIn("write amplification  ", told)
+    def test_commands_of_simulating_page(self):
+        _, output, drawn = self.play("SIMULATING.md", {})
+        self.assertIn("write amplification  ", output)
         self.assertEqual(len(drawn), 4)
         for name in ("out/wear.svg", "out/over_time.svg", "out/victims.svg"):
             self.assertIn("64 blocks of 64 pages, 3,072 sectors (75 %) · job.csv", drawn[name])
 
     @needs("parallel", "matplotlib", "numpy")
-    def test_the_lines_of_the_experiment_on_response_times_work_on_a_smaller_device(self):
-        lines, told, drawn = self.play("RESPONSE.md", SMALLER)
-        self.assertIn("response of writes   ", told)
+    def test_commands_of_response_page_on_smaller_device(self):
+        lines, output, drawn = self.play("RESPONSE.md", SMALLER)
+        self.assertIn("response of writes   ", output)
         self.assertEqual(len(drawn), 4)
         shown = html.unescape(re.search(r"<pre><code>(.*?)</code>", drawn["out/response.html"], re.DOTALL)[1]).splitlines()
         self.assertEqual([line.split()[0] for line in shown], ["tools/trace", "./flashplay", "tools/report"])

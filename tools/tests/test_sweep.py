@@ -21,13 +21,13 @@ SMALL = ("--blocks", "8", "--words", "1", "--endurance", "1000")
 
 
 class Grids(unittest.TestCase):
-    def test_numbers_are_lists_and_steps(self):
+    def test_parses_lists_and_ranges(self):
         self.assertEqual(grid.numbers_in("50,60:80:10,95"), [50, 60, 70, 80, 95])
         for text in ("", "1,,2", "1:2", "2:3:0", "90:50:10", "x"):
             with self.assertRaises(ValueError):
                 grid.numbers_in(text)
 
-    def test_points_are_all_combinations_and_read_back(self):
+    def test_points_are_all_combinations(self):
         points = grid.points_of({"pages": [8, 16], "utilisation": [50, 75]})
         self.assertEqual([point.device["sectors"] for point in points], [256, 384, 512, 768])
         for point in points:
@@ -35,24 +35,24 @@ class Grids(unittest.TestCase):
 
 
 @needs("parallel", "matplotlib")
-class Swept(unittest.TestCase):
+class Sweeps(unittest.TestCase):
     def setUp(self):
-        room = tempfile.TemporaryDirectory()
-        self.addCleanup(room.cleanup)
-        self.out = pathlib.Path(room.name) / "out"
+        folder = tempfile.TemporaryDirectory()
+        self.addCleanup(folder.cleanup)
+        self.out = pathlib.Path(folder.name) / "out"
 
     def rows(self):
         with open(self.out / "sweep.csv", newline="") as table:
             return list(csv.DictReader(table))
 
-    def test_each_point_has_a_row_and_a_sweep_goes_on_where_it_was_cut_off(self):
+    def test_row_for_each_point_and_resume(self):
         words = ("--out", self.out, "--make", "sequential --fill", "--rounds", "2", "--settle", "1", *SMALL, "--pages", "4,8", "--utilisation", "50")
         done = Run("sweep", *words, "--plot")
         self.assertEqual((done.status, done.errors), (0, ""))
         rows = self.rows()
         # Written in order, a victim has no live page, so nothing is copied; a block is erased for each that is filled.
-        told = [[row[name] for name in ("pages", "sectors", "lines", "programs", "copies", "erases", "worn")] for row in rows]
-        self.assertEqual(told, [["4", "16", "32", "32", "0", "8", "0"], ["8", "32", "64", "64", "0", "8", "0"]])
+        found = [[row[name] for name in ("pages", "sectors", "lines", "programs", "copies", "erases", "worn")] for row in rows]
+        self.assertEqual(found, [["4", "16", "32", "32", "0", "8", "0"], ["8", "32", "64", "64", "0", "8", "0"]])
         picture = (self.out / "sweep.svg").read_text()
         for text in ("pages per block", "write amplification (pages programmed / pages written)", "8 blocks · sequential --fill"):
             self.assertIn(text, picture)
@@ -72,18 +72,18 @@ class Swept(unittest.TestCase):
         self.assertFalse((self.out / "sweep.svg").exists())
         self.assertTrue((self.out / "own").exists())
 
-    def test_a_trace_is_played_on_each_device_and_what_is_no_device_is_named(self):
+    def test_plays_trace_on_each_device_and_reports_invalid_one(self):
         trace = TOP / "examples/collection.csv"
         done = Run("sweep", "--out", self.out, "--trace", trace, "--blocks", "2,3", "--pages", "2", "--words", "1", "--sectors", "3", "--endurance", "10")
         self.assertEqual(done.status, 1)
         self.assertIn("blocks=2,pages=2,words=1,sectors=3,endurance=10: ", done.errors)
         self.assertIn("geometry: Blocks", done.errors)
-        told = [[row[name] for name in ("lines", "programs", "copies", "erases", "write_amplification")] for row in self.rows()]
-        self.assertEqual(told, [["9", "5", "1", "1", "1.200000"]])
+        found = [[row[name] for name in ("lines", "programs", "copies", "erases", "write_amplification")] for row in self.rows()]
+        self.assertEqual(found, [["9", "5", "1", "1", "1.200000"]])
 
 
     @needs("numpy")
-    def test_with_the_times_of_a_part_each_row_has_the_response_of_writes(self):
+    def test_rows_with_response_times(self):
         times = ("--read-time", "1", "--program-time", "10", "--erase-time", "1000", "--transfer-time", "0.5")
         rounds = ("--rounds", "2", "--settle", "1")
         words = ("--out", self.out, "--make", "sequential --fill --interval 100000", *rounds, *SMALL, "--pages", "4", "--utilisation", "50")
@@ -97,7 +97,7 @@ class Swept(unittest.TestCase):
         self.assertIn("response of writes, 99 % (µs)", (self.out / "sweep.svg").read_text())
 
     @needs("numpy")
-    def test_a_trace_with_arrivals_is_played_as_it_arrives(self):
+    def test_response_times_with_arrivals(self):
         arrivals = self.out.parent / "arrivals"
         arrivals.write_text("".join(f"{line * 4}\n" for line in range(9)))
         times = ("--read-time", "1", "--program-time", "10", "--erase-time", "1000", "--transfer-time", "0")
@@ -108,7 +108,7 @@ class Swept(unittest.TestCase):
         self.assertEqual(float(self.rows()[0]["write_mean_us"]), (10 + 18 + 26 + 34 + 1053) / 5)
 
     @needs("numpy")
-    def test_the_rows_of_random_traces_are_those_of_an_independent_count(self):
+    def test_rows_agree_with_model_on_random_traces(self):
         """Each row with times has the totals and the mean of the writes as the model counts them, and the totals of a row without times."""
         times, seeded = ("--read-time", "1", "--program-time", "10", "--copyback-time", "9", "--erase-time", "1000", "--transfer-time", "0.5"), random.Random(31)
         trace, played = self.out.parent / "trace.csv", 0
@@ -116,11 +116,11 @@ class Swept(unittest.TestCase):
             numbers, text = random_run(seeded)
             trace.write_text(text)
             counted = model.Model(**numbers)
-            told = [line.rstrip("\n").split(",") for line in counted.play(text.encode())][:-1]
-            writes = [line for line in told if line[1] in ("write", "new")]
+            answers = [line.rstrip("\n").split(",") for line in counted.play(text.encode())][:-1]
+            writes = [line for line in answers if line[1] in ("write", "new")]
             copybacks = sum(collection.copybacks for collection in counted.collections)
             service = counted.programs * 10.5 + copybacks * 9 + (counted.copies - copybacks) * 12 + len(counted.collections) * 1000
-            totals = [len(told), counted.programs, counted.copies, len(counted.collections), sum(line[3] == "worn" for line in told)]
+            totals = [len(answers), counted.programs, counted.copies, len(counted.collections), sum(line[3] == "worn" for line in answers)]
             with self.subTest(number=number, device=numbers):
                 for words in ((), times):
                     done = Run("sweep", "--out", self.out, "--trace", trace, "--force", *device.words_of(numbers), *words)
@@ -133,7 +133,7 @@ class Swept(unittest.TestCase):
         self.assertGreater(played, 0)
 
     @needs("numpy")
-    def test_a_log_without_its_last_collection_fails_the_point(self):
+    def test_point_with_incomplete_log_fails(self):
         wrong = self.out.parent / "wrong"
         wrong.write_text(f"#!/bin/sh\n{device.LAUNCHER} \"$@\" || exit\nfor file; do :; done\n[ ! -f \"$file\" ] || sed -i '$d' \"$file\"\n")
         wrong.chmod(0o755)
@@ -144,11 +144,11 @@ class Swept(unittest.TestCase):
         self.assertEqual(done.status, 1)
         self.assertIn("the log has 0 erases and 0 copies, and the answers 1 and 1", done.errors)
 
-    def test_a_trace_that_is_not_there_leaves_no_folder(self):
+    def test_missing_trace_leaves_no_folder(self):
         done = Run("sweep", "--out", self.out, "--trace", "/no/such/trace", "--blocks", "8")
         self.assertEqual((done.status, done.errors, self.out.exists()), (1, "sweep: /no/such/trace: No such file or directory\n", False))
 
-    def test_a_trace_that_has_changed_is_no_part_of_the_sweep(self):
+    def test_refuses_changed_trace(self):
         trace = self.out.parent / "trace.csv"
         trace.write_text("0,write,0,\n")
         words = ("--out", self.out, "--trace", trace, *SMALL, "--pages", "4", "--sectors", "4")
@@ -158,19 +158,19 @@ class Swept(unittest.TestCase):
         point = Run("sweep", "--trace", trace, "--trace-sum", "0" * 64, "--point", "blocks=8")
         self.assertEqual((point.status, point.errors), (1, f"sweep: {trace} has changed since the sweep began\n"))
 
-    def test_an_interrupt_says_how_to_go_on(self):
+    def test_interrupt_says_how_to_resume(self):
         words = ["--out", self.out, "--make", "uniform --fill", "--rounds", "200", *SMALL, "--pages", "256", "--utilisation", "50:90:1", "--jobs", "1"]
         with subprocess.Popen([sys.executable, TOOLS / "sweep", *words], stderr=subprocess.PIPE, text=True, start_new_session=True) as run:
             while not (self.out / "jobs.log").exists():
                 time.sleep(0.05)
             time.sleep(0.5)
             os.killpg(run.pid, signal.SIGINT)
-            told = run.stderr.read()
+            errors = run.stderr.read()
         self.assertEqual(run.returncode, 130)
-        self.assertIn(f"sweep: interrupted; the same call with --resume continues the sweep in {self.out}\n", told)
+        self.assertIn(f"sweep: interrupted; the same call with --resume continues the sweep in {self.out}\n", errors)
 
     @needs("ssh", "sshd", "rsync")
-    def test_other_machines_are_handed_the_trace(self):
+    def test_copies_trace_to_other_machines(self):
         trace, away = self.out.parent / "trace.csv", self.out.parent / "away.csv"
         trace.write_bytes(gzip.compress((TOP / "examples/collection.csv").read_bytes()))
         # On the other machine the trace is nowhere but where it was handed over: it is away while anything but rsync runs there.
@@ -199,12 +199,12 @@ class Swept(unittest.TestCase):
 
 
 def other_program():
-    """What a machine is told of the program that plays, where it isn't the launcher's."""
+    """The setting by which another machine plays with the program that this one uses, if that isn't the launcher."""
     return f"FLASHPLAY={os.environ['FLASHPLAY']}" if "FLASHPLAY" in os.environ else ""
 
 
-class Missing(unittest.TestCase):
-    def test_the_command_that_installs_gnu_parallel_is_named(self):
+class Refusals(unittest.TestCase):
+    def test_names_command_that_installs_parallel(self):
         path = os.environ["PATH"]
         self.addCleanup(os.environ.__setitem__, "PATH", path)
         os.environ["PATH"] = "/nowhere"
@@ -213,7 +213,7 @@ class Missing(unittest.TestCase):
         self.assertEqual(done.status, 1)
         self.assertIn("apt-get install parallel", done.errors)
 
-    def test_arguments_that_make_no_sweep_are_refused(self):
+    def test_refuses_invalid_arguments(self):
         uniform = "--make", "uniform"
         refused = [
             ("--make", "normal"), ("--trace", "x", *uniform), (),

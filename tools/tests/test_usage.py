@@ -6,7 +6,7 @@ CALLS = (("trace", "make"), ("trace", "convert"), ("trace",), ("report",), ("mod
 
 
 class Usage(unittest.TestCase):
-    def test_what_is_no_call_is_answered_by_one_line_of_usage_and_one_of_the_fault(self):
+    def test_unknown_option_prints_usage_and_fault(self):
         for name, *words in CALLS:
             with self.subTest(name, words=words):
                 done = Run(name, *words, "--no-such-option")
