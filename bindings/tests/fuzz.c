@@ -1,5 +1,5 @@
-/* Sequences of calls, made of libFuzzer's bytes: on a device for one thread, and on two hosts and a broom of a shared one, with sectors,
- * lengths, blocks and kinds that are wrong and handles that are closed among them. The models say what each call has to return. */
+/* Makes sequences of calls from libFuzzer's bytes, on a device for one thread, and on two hosts and a broom of a shared one. Some calls have
+ * a wrong sector, length, block or kind, or a closed handle. The models say what each call has to return. */
 #include "models.h"
 
 /* The calls that return a code, and how often each of them returned which. */
@@ -9,14 +9,14 @@ enum call {
     CALL_host_word, CALL_host_held, CALL_host_release, CALL_broom_drain, CALL_broom_drain_next, CALL_broom_erase, CALL_broom_restock, CALLS
 };
 enum { CODES = 128 };
-#define CALL(name, ...) note(CALL_##name, mintlintel_##name(__VA_ARGS__))
+#define CALL(name, ...) counted(CALL_##name, mintlintel_##name(__VA_ARGS__))
 
-static uint64_t met[CALLS][CODES];
+static uint64_t returned[CALLS][CODES];
 
-static uint32_t note(enum call call, uint32_t code)
+static uint32_t counted(enum call call, uint32_t code)
 {
     CHECK(code < CODES);
-    met[call][code]++;
+    returned[call][code]++;
     return code;
 }
 
@@ -48,21 +48,21 @@ static size_t length_by(uint32_t byte)
     return lengths[byte % 8];
 }
 
-/* what a checked call returns before the device is asked, or 0 */
+/* the code of a call with a wrong sector or length, or 0 */
 static uint32_t refused(uint32_t sector, size_t length)
 {
     return sector >= SECTORS ? MINTLINTEL_NO_SECTOR : length != PAGE ? MINTLINTEL_NOT_A_PAGE : 0;
 }
 
-/* All of a buffer: a page of this byte, or as it was. */
-static void has_page(const uint8_t *out, int is_there, int value)
+/* The buffer holds a page of this byte, or is unchanged. */
+static void check_page(const uint8_t *out, int is_there, int value)
 {
     for (int i = 0; i < PAGE + 1; i++)
         CHECK(out[i] == (is_there && i < PAGE ? value : 0xa5));
 }
 
 /* The totals and each block are those of the model. */
-static void one_as_model(void)
+static void check_one(void)
 {
     struct mintlintel_totals totals = {7, 7, 7}, kept = totals;
     struct mintlintel_block block = {7, 7, 7}, same = block;
@@ -91,7 +91,7 @@ static void one_call(struct input *in)
     if (call < 2) {
         code = CALL(one_read, &one, sector, out, length);
         CHECK(code == (with_page ? with_page : one_was(&o, sector)));
-        has_page(out, code == MINTLINTEL_WRITTEN, sector < SECTORS ? o.value[sector] : 0);
+        check_page(out, code == MINTLINTEL_WRITTEN, sector < SECTORS ? o.value[sector] : 0);
     } else if (call < 4) {
         code = CALL(one_write, &one, sector, page, length);
         CHECK(code == (with_page ? with_page : one_write(&o, sector, (int)byte, 0)));
@@ -111,7 +111,7 @@ static void one_call(struct input *in)
         mintlintel_one_close(&one);
         one_is_open = 0;
     }
-    one_as_model();
+    check_one();
 }
 
 /* the code if the seat is of another kind than the call needs, or 0 */
@@ -144,7 +144,7 @@ static void host_call(uint32_t call, uint32_t seat, struct input *in)
     case 0:
         code = CALL(host_read, &seats[seat], sector, out, length);
         CHECK(code == (with_page ? with_page : shared_was(&m, sector)));
-        has_page(out, code == MINTLINTEL_WRITTEN, sector < SECTORS ? m.value[sector] : 0);
+        check_page(out, code == MINTLINTEL_WRITTEN, sector < SECTORS ? m.value[sector] : 0);
         break;
     case 1: case 2:
         code = CALL(host_write, &seats[seat], sector, page, length);
@@ -180,7 +180,7 @@ static void holder_call(uint32_t call, uint32_t seat, struct input *in)
     case 0:
         wanted = wanted ? wanted : length == PAGE ? MINTLINTEL_WRITTEN : MINTLINTEL_NOT_A_PAGE;
         CHECK(CALL(host_copy, &seats[seat], out, length) == wanted);
-        has_page(out, wanted == MINTLINTEL_WRITTEN, value);
+        check_page(out, wanted == MINTLINTEL_WRITTEN, value);
         break;
     case 1:
         wanted = wanted ? wanted : byte % 3 < WORDS ? 0 : MINTLINTEL_NO_SUCH_BLOCK;
@@ -285,18 +285,18 @@ static void shared_call(struct input *in)
 }
 
 /* Each sector reads as the models have it, by each host. */
-static void as_models(void)
+static void check_models(void)
 {
     uint8_t out[PAGE + 1];
     for (uint32_t sector = 0; sector < SECTORS; sector++) {
         memset(out, 0xa5, sizeof out);
         CHECK(CALL(one_read, &one, sector, out, PAGE) == (one_is_open ? one_was(&o, sector) : (uint32_t)MINTLINTEL_CLOSED));
-        has_page(out, one_is_open && one_was(&o, sector), o.value[sector]);
+        check_page(out, one_is_open && one_was(&o, sector), o.value[sector]);
         for (uint32_t seat = 0; seat < SEATS; seat++) {
             uint32_t wanted = unfit(seat, HOST);
             memset(out, 0xa5, sizeof out);
             CHECK(CALL(host_read, &seats[seat], sector, out, PAGE) == (wanted ? wanted : shared_was(&m, sector)));
-            has_page(out, !wanted && shared_was(&m, sector), m.value[sector]);
+            check_page(out, !wanted && shared_was(&m, sector), m.value[sector]);
         }
     }
 }
@@ -315,7 +315,7 @@ int LLVMFuzzerTestOneInput(const uint8_t *bytes, size_t size)
         else
             shared_call(&in);
     }
-    as_models();
+    check_models();
     mintlintel_one_close(&one);
     for (int seat = 0; seat < SEATS; seat++)
         mintlintel_seat_close(&seats[seat]);

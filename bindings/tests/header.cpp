@@ -1,4 +1,4 @@
-// The header as C++ reads it: a device for one thread, from C++.
+// Includes the header from C++, and uses a device for one thread.
 #include "mintlintel.h"
 #include <cstdio>
 #include <cstring>
@@ -10,10 +10,10 @@ int main()
     std::vector<uint8_t> page(512, 7), out(512);
     if (mintlintel_one_open(&device, 1, 24, 64, 64, 1000, 1000) != MINTLINTEL_DONE)
         return 1;
-    bool stands = mintlintel_one_write(&device, 3, page.data(), page.size()) == MINTLINTEL_EMPTY &&
-                  mintlintel_one_read(&device, 3, out.data(), out.size()) == MINTLINTEL_WRITTEN && out == page;
+    bool is_read = mintlintel_one_write(&device, 3, page.data(), page.size()) == MINTLINTEL_EMPTY &&
+                   mintlintel_one_read(&device, 3, out.data(), out.size()) == MINTLINTEL_WRITTEN && out == page;
     mintlintel_one_close(&device);
-    if (!stands || std::strcmp(mintlintel_code_name(MINTLINTEL_CLOSED), "the handle is closed") != 0)
+    if (!is_read || std::strcmp(mintlintel_code_name(MINTLINTEL_CLOSED), "the handle is closed") != 0)
         return 1;
     std::puts("header: C++ writes and reads a page");
 }

@@ -1,4 +1,4 @@
-/* A held page stays while its sector is overwritten and its block drained: the block is not erased before the release. */
+/* A held page doesn't change while its sector is overwritten and its block is drained: the block is not erased before the release. */
 #include "testing.h"
 
 enum { HOSTS = 2, BROOMS = 1, SECTORS = 24, WORDS = 4, PAGE = 8 * WORDS, BLOCKS = 16, PAGES = 4 };
@@ -15,8 +15,8 @@ static void fill(uint8_t *page, uint32_t sector, uint32_t number)
     page[3] = (uint8_t)number;
 }
 
-/* Overwrites a sector, and collects until there is room, or until the broom has no spare left. For the held block, once it is drained, an erase returns
- * that somebody reads it. */
+/* Overwrites a sector, and collects until there is room or the broom has no spare left. An erase of the held block, once it is drained,
+ * returns that a host reads it. */
 static void overwrite(uint32_t number, const struct mintlintel_page *held, long *pinned, uint32_t *waiting)
 {
     uint8_t page[PAGE];
@@ -38,7 +38,7 @@ static void overwrite(uint32_t number, const struct mintlintel_page *held, long 
 }
 
 /* The held page by its bytes, by each word as a little-endian number, and by its place. */
-static void stands(const uint8_t *page, const struct mintlintel_page *place)
+static void check_held_page(const uint8_t *page, const struct mintlintel_page *place)
 {
     uint8_t out[PAGE];
     struct mintlintel_page now;
@@ -53,8 +53,8 @@ static void stands(const uint8_t *page, const struct mintlintel_page *place)
     CHECK(mintlintel_host_held(&hosts[0], &now) == MINTLINTEL_DONE && memcmp(&now, place, sizeof now) == 0);
 }
 
-/* A host that holds, and one that holds nothing, answer 9 to each other's calls, and change nothing. */
-static void of_another_kind(void)
+/* A host that holds a page returns 9 for the calls of one that holds none, and the other way round; neither changes anything. */
+static void test_wrong_kind(void)
 {
     uint8_t page[PAGE] = {7}, kept[PAGE] = {7};
     uint64_t word = 5;
@@ -90,10 +90,10 @@ int main(void)
             overwrite(1000 * round, &nowhere, &pinned, &waiting);
         CHECK(mintlintel_host_hold(&hosts[0], sector) == MINTLINTEL_WRITTEN);
         CHECK(mintlintel_host_held(&hosts[0], &place) == MINTLINTEL_DONE && place.block < BLOCKS);
-        of_another_kind();
+        test_wrong_kind();
         for (uint32_t i = 0; i < 60; i++) {
             overwrite(1000 * round + i, &place, &pinned, &waiting);
-            stands(page, &place);
+            check_held_page(page, &place);
         }
         CHECK(mintlintel_host_release(&hosts[0]) == MINTLINTEL_DONE);
         if (waiting < BLOCKS) {
@@ -105,6 +105,6 @@ int main(void)
     for (int i = 0; i < HOSTS; i++)
         mintlintel_seat_close(&hosts[i]);
     mintlintel_seat_close(&brooms[0]);
-    printf("holds: %ld erases waited for a held page, which stood\n", pinned);
+    printf("holds: %ld erases were refused because of a held page, which did not change\n", pinned);
     return 0;
 }

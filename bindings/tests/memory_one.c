@@ -4,18 +4,18 @@
 
 enum { PAGE = 64 };
 
-static uint32_t opened(struct mintlintel_one *device)
+static uint32_t open_device(struct mintlintel_one *device)
 {
     return mintlintel_one_open(device, 1, 64, 16, 8, 900, 10);
 }
 
-static long refuse_in_turn(void)
+static long test_refused_allocations(void)
 {
     struct mintlintel_one device = {0}, zero = {0};
     long before = live;
     for (long grants = 0; grants < 1000; grants++) {
         granted = grants;
-        uint32_t code = opened(&device);
+        uint32_t code = open_device(&device);
         granted = -1;
         if (code == MINTLINTEL_DONE) {
             mintlintel_one_close(&device);
@@ -30,13 +30,13 @@ static long refuse_in_turn(void)
 }
 
 /* An open handle takes no memory, so a second open of it returns the same code if no memory is left. */
-static void open_without_memory(void)
+static void test_open_handle_without_memory(void)
 {
     struct mintlintel_one device = {0};
     uint8_t page[PAGE] = {1}, out[PAGE];
-    CHECK(opened(&device) == MINTLINTEL_DONE);
+    CHECK(open_device(&device) == MINTLINTEL_DONE);
     granted = 0;
-    CHECK(opened(&device) == MINTLINTEL_ALREADY_OPEN);
+    CHECK(open_device(&device) == MINTLINTEL_ALREADY_OPEN);
     for (uint32_t i = 0; i < 5000; i++)
         CHECK(mintlintel_one_write(&device, i % 900, page, PAGE) == (i >= 900));
     CHECK(mintlintel_one_read(&device, 7, out, PAGE) == MINTLINTEL_WRITTEN && memcmp(out, page, PAGE) == 0);
@@ -44,13 +44,13 @@ static void open_without_memory(void)
     mintlintel_one_close(&device);
 }
 
-static void reopen(int times)
+static void test_reopening(int times)
 {
     struct mintlintel_one device = {0};
     uint8_t page[PAGE] = {1};
     long before = live;
     for (int i = 0; i < times; i++) {
-        CHECK(opened(&device) == MINTLINTEL_DONE && live > before);
+        CHECK(open_device(&device) == MINTLINTEL_DONE && live > before);
         CHECK(mintlintel_one_write(&device, 7, page, PAGE) == MINTLINTEL_EMPTY);
         mintlintel_one_close(&device);
         CHECK(live == before);
@@ -59,10 +59,10 @@ static void reopen(int times)
 
 int main(void)
 {
-    long allocations = refuse_in_turn();
+    long allocations = test_refused_allocations();
     CHECK(allocations > 0);
-    open_without_memory();
-    reopen(1000);
+    test_open_handle_without_memory();
+    test_reopening(1000);
     printf("memory_one: each of %ld allocations refused in turn, and 1000 opens left no block\n", allocations);
     return 0;
 }

@@ -6,12 +6,12 @@ enum { HOSTS = 3, BROOMS = 2, PAGE = 64 };
 
 static struct mintlintel_seat hosts[HOSTS], brooms[BROOMS], zeros[HOSTS];
 
-static uint32_t opened(void)
+static uint32_t open_device(void)
 {
     return mintlintel_shared_open(hosts, HOSTS, brooms, BROOMS, 1, 64, 16, 8, 800, 1000);
 }
 
-static void all_closed(void)
+static void check_all_closed(void)
 {
     CHECK(memcmp(hosts, zeros, sizeof hosts) == 0 && memcmp(brooms, zeros, sizeof brooms) == 0);
 }
@@ -23,15 +23,15 @@ static void close_all(uint32_t first)
         uint32_t at = (first + i) % (HOSTS + BROOMS);
         mintlintel_seat_close(at < HOSTS ? &hosts[at] : &brooms[at - HOSTS]);
     }
-    all_closed();
+    check_all_closed();
 }
 
-static long refuse_in_turn(void)
+static long test_refused_allocations(void)
 {
     long before = live;
     for (long grants = 0; grants < 1000; grants++) {
         granted = grants;
-        uint32_t code = opened();
+        uint32_t code = open_device();
         granted = -1;
         if (code == MINTLINTEL_DONE) {
             close_all(0);
@@ -39,18 +39,18 @@ static long refuse_in_turn(void)
             return grants;
         }
         CHECK(code == MINTLINTEL_NO_MEMORY && live == before);
-        all_closed();
+        check_all_closed();
     }
     CHECK(!"an open ends");
     return 0;
 }
 
 /* One handle is open: the others stay closed, and the open one can still be used. */
-static void one_open_handle(void)
+static void test_open_with_one_open_handle(void)
 {
     struct mintlintel_seat other_broom[1] = {{0}};
     uint8_t page[PAGE] = {1};
-    CHECK(opened() == MINTLINTEL_DONE);
+    CHECK(open_device() == MINTLINTEL_DONE);
     long before = live;
     CHECK(mintlintel_shared_open(hosts, 1, other_broom, 1, 1, 64, 16, 8, 800, 1000) == MINTLINTEL_ALREADY_OPEN);
     CHECK(other_broom[0].is_open == 0 && live == before);
@@ -62,12 +62,12 @@ static void one_open_handle(void)
 }
 
 /* Seats are given up while another one holds a page: what is left works on, and nothing is left in the end. */
-static void reopen(uint32_t times)
+static void test_reopening(uint32_t times)
 {
     uint8_t page[PAGE] = {1}, out[PAGE];
     long before = live;
     for (uint32_t i = 0; i < times; i++) {
-        CHECK(opened() == MINTLINTEL_DONE && live > before);
+        CHECK(open_device() == MINTLINTEL_DONE && live > before);
         CHECK(mintlintel_host_write(&hosts[0], 7, page, PAGE) == MINTLINTEL_EMPTY);
         CHECK(mintlintel_host_hold(&hosts[1], 7) == MINTLINTEL_WRITTEN);
         mintlintel_seat_close(&hosts[0]);
@@ -80,10 +80,10 @@ static void reopen(uint32_t times)
 
 int main(void)
 {
-    long allocations = refuse_in_turn();
+    long allocations = test_refused_allocations();
     CHECK(allocations > 0);
-    one_open_handle();
-    reopen(1000);
+    test_open_with_one_open_handle();
+    test_reopening(1000);
     printf("memory_shared: each of %ld allocations refused in turn, and 1000 opens left no block\n", allocations);
     return 0;
 }

@@ -1,5 +1,5 @@
 /* What each call has to return, while one thread calls: two models, written from the descriptions of docs/ARCHITECTURE.md and not from the
- * library. They know where the pages of each block are, so that no call may return a code that is only plausible. */
+ * library. They know where each block's pages are, so they determine the one code that each call may return. */
 #ifndef MODELS_H
 #define MODELS_H
 

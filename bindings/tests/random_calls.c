@@ -1,4 +1,4 @@
-/* The fuzzer's calls by random bytes, the same in each run: each call has returned each of its codes, and no other one. */
+/* The fuzzer's calls from random bytes, the same in each run: each call returns each of its codes, and no other one. */
 #include "fuzz.c"
 
 /* The codes of each call, except 6 of an open, and 22 of a drain, which needs another thread. */
@@ -32,12 +32,12 @@ int main(void)
     }
     for (uint32_t call = 0; call < CALLS; call++)
         for (uint32_t code = 0; code < CODES; code++) {
-            calls += met[call][code];
-            if ((met[call][code] > 0) != is_named(codes_of[call], code)) {
-                fprintf(stderr, "call %u returned code %u %llu times\n", call, code, (unsigned long long)met[call][code]);
+            calls += returned[call][code];
+            if ((returned[call][code] > 0) != is_named(codes_of[call], code)) {
+                fprintf(stderr, "call %u returned code %u %llu times\n", call, code, (unsigned long long)returned[call][code]);
                 return 1;
             }
         }
-    printf("random_calls: %llu calls as the models return, and each code met\n", (unsigned long long)calls);
+    printf("random_calls: %llu calls agree with the models, and return each code\n", (unsigned long long)calls);
     return 0;
 }

@@ -1,6 +1,6 @@
 /* Four hosts and two brooms on one device, each in its own thread, and again on one that wears out. A page names its writer, its sector
- * and the writer's count. Every read is whole, a page that is held stays, and no thread reads a value again that it has seen gone. Under
- * ThreadSanitizer each handle is announced as written before a call, so that two threads in one handle are reported. */
+ * and the writer's count. Every page that is read is whole, a held page doesn't change, and no thread reads a value again that it has seen
+ * replaced. Under ThreadSanitizer each handle is announced as written before a call, so that two threads in one handle are reported. */
 #include "testing.h"
 #include <pthread.h>
 #include <sched.h>
@@ -37,7 +37,7 @@ static void fill(uint8_t *page, uint32_t writer, uint32_t sector, uint32_t count
 }
 
 /* A value that a thread reads is whole, of this sector, and the last one that it saw or a newer one of its writer. An empty sector has writer HOSTS. */
-static void seen(struct thread *t, uint32_t sector, uint32_t code, const uint8_t *page)
+static void check_value(struct thread *t, uint32_t sector, uint32_t code, const uint8_t *page)
 {
     struct sight *sight = &t->sights[sector];
     uint32_t words[2] = {HOSTS << 24 | sector, 0};
@@ -77,7 +77,7 @@ static void write_once(struct thread *t, uint32_t sector, uint32_t count, int on
     CHECK(code <= MINTLINTEL_WRITTEN);
     t->writes++;
     if (!only_new || code == MINTLINTEL_EMPTY)
-        seen(t, sector, MINTLINTEL_WRITTEN, page);
+        check_value(t, sector, MINTLINTEL_WRITTEN, page);
 }
 
 static void read_once(struct thread *t, uint32_t sector)
@@ -86,7 +86,7 @@ static void read_once(struct thread *t, uint32_t sector)
     uint32_t code = mintlintel_host_read(AT(&hosts[t->number]), sector, page, PAGE);
     CHECK(code <= MINTLINTEL_WRITTEN);
     t->reads++;
-    seen(t, sector, code, page);
+    check_value(t, sector, code, page);
 }
 
 /* A sector's page is held while others overwrite it: each copy and each word of it is the same, and it stays in its place. */
@@ -99,12 +99,12 @@ static void hold_once(struct thread *t, uint32_t sector)
     uint32_t code = mintlintel_host_hold(AT(host), sector);
     CHECK(code <= MINTLINTEL_WRITTEN);
     if (code == MINTLINTEL_EMPTY) {
-        seen(t, sector, code, NULL);
+        check_value(t, sector, code, NULL);
         return;
     }
     CHECK(mintlintel_host_copy(AT(host), page, PAGE) == MINTLINTEL_WRITTEN);
     CHECK(mintlintel_host_held(AT(host), &place) == MINTLINTEL_DONE && place.block < BLOCKS);
-    seen(t, sector, MINTLINTEL_WRITTEN, page);
+    check_value(t, sector, MINTLINTEL_WRITTEN, page);
     sched_yield();
     for (int i = 0; i < 4; i++) {
         CHECK(mintlintel_host_copy(AT(host), again, PAGE) == MINTLINTEL_WRITTEN && memcmp(page, again, PAGE) == 0);
@@ -127,7 +127,7 @@ static void *run_host(void *argument)
             write_once(t, sector, (uint32_t)i, 1);
         } else if (kind == 8) {
             CHECK(mintlintel_host_trim(AT(&hosts[t->number]), sector) <= MINTLINTEL_WRITTEN);
-            seen(t, sector, MINTLINTEL_EMPTY, NULL);
+            check_value(t, sector, MINTLINTEL_EMPTY, NULL);
         } else if (kind == 9) {
             hold_once(t, sector);
         } else if (kind == 10) {
@@ -170,13 +170,13 @@ static void *run_broom(void *argument)
 }
 
 /* each sector's page, and its place */
-struct shown { uint32_t code; uint8_t page[PAGE]; struct mintlintel_page place; };
+struct contents { uint32_t code; uint8_t page[PAGE]; struct mintlintel_page place; };
 
-static void show(struct shown *sectors)
+static void read_all(struct contents *sectors)
 {
     memset(sectors, 0, SECTORS * sizeof *sectors);
     for (uint32_t sector = 0; sector < SECTORS; sector++) {
-        struct shown *at = &sectors[sector];
+        struct contents *at = &sectors[sector];
         at->code = mintlintel_host_hold(&hosts[0], sector);
         if (at->code == MINTLINTEL_WRITTEN) {
             CHECK(mintlintel_host_copy(&hosts[0], at->page, PAGE) == MINTLINTEL_WRITTEN);
@@ -186,14 +186,14 @@ static void show(struct shown *sectors)
 }
 
 /* A call for another kind of seat returns 9 and changes nothing; wrong sectors, lengths and blocks have their codes. */
-static void refused_calls(void)
+static void test_refused_calls(void)
 {
-    static struct shown before[SECTORS], after[SECTORS];
+    static struct contents before[SECTORS], after[SECTORS];
     uint8_t page[PAGE] = {5}, kept[PAGE] = {5};
     uint32_t block = 77, moved = 78;
     for (uint32_t sector = 0; sector < PAGES / 2; sector++)
         CHECK(mintlintel_host_write(&hosts[sector % HOSTS], sector, page, PAGE) == MINTLINTEL_EMPTY);
-    show(before);
+    read_all(before);
     CHECK(mintlintel_host_read(&brooms[0], SECTORS, page, 1) == MINTLINTEL_WRONG_KIND);
     CHECK(mintlintel_host_write(&brooms[0], 0, page, PAGE) == MINTLINTEL_WRONG_KIND);
     CHECK(mintlintel_host_write_new(&brooms[0], 0, page, PAGE) == MINTLINTEL_WRONG_KIND);
@@ -217,7 +217,7 @@ static void refused_calls(void)
     CHECK(mintlintel_broom_drain(&brooms[0], &block, &moved) == MINTLINTEL_NOTHING_TO_GAIN);
     CHECK(mintlintel_broom_drain_next(&brooms[0], &block, &moved) == MINTLINTEL_NOTHING_TO_GAIN);
     CHECK(block == 77 && moved == 78 && memcmp(page, kept, PAGE) == 0);
-    show(after);
+    read_all(after);
     CHECK(memcmp(before, after, sizeof before) == 0);
     for (uint32_t sector = 0; sector < PAGES / 2; sector++)
         CHECK(mintlintel_host_trim(&hosts[0], sector) == MINTLINTEL_WRITTEN);
@@ -228,22 +228,22 @@ static void refused_calls(void)
 }
 
 /* Once all threads have ended, each host reads the same of every sector. */
-static void all_agree(struct thread *threads)
+static void check_threads_agree(struct thread *threads)
 {
     for (uint32_t sector = 0; sector < SECTORS; sector++) {
         uint8_t first[PAGE] = {0}, other[PAGE] = {0};
         uint32_t code = mintlintel_host_read(AT(&hosts[0]), sector, first, PAGE);
-        seen(&threads[0], sector, code, first);
+        check_value(&threads[0], sector, code, first);
         for (uint32_t t = 1; t < HOSTS; t++) {
             CHECK(mintlintel_host_read(AT(&hosts[t]), sector, other, PAGE) == code);
-            seen(&threads[t], sector, code, other);
+            check_value(&threads[t], sector, code, other);
             CHECK(memcmp(first, other, PAGE) == 0);
         }
     }
 }
 
 /* Each call on a closed handle returns that code, and changes nothing that it was passed. */
-static void closed_seat(void)
+static void test_closed_seat(void)
 {
     struct mintlintel_seat closed = {0}, zero = {0};
     uint8_t page[PAGE] = {5}, kept[PAGE] = {5};
@@ -267,7 +267,7 @@ static void closed_seat(void)
 }
 
 /* The faults of a shared device's counts, by the limits of docs/FORMATS.md: none is opened, and all handles stay closed. */
-static void counts_at_fault(void)
+static void test_faults_of_counts(void)
 {
     static struct mintlintel_seat many[501], few[33], zeros[501];
     CHECK(mintlintel_shared_open(many, 0, few, 0, 1, 40, 4, 1, 10, 10) == MINTLINTEL_BAD_SEATS);
@@ -306,15 +306,15 @@ static void run_all(struct thread *threads, struct sweep *sweeps)
         pthread_join(host_threads[i], NULL);
     for (int i = 0; i < BROOMS; i++)
         pthread_join(broom_threads[i], NULL);
-    all_agree(threads);
+    check_threads_agree(threads);
     for (int i = 0; i < HOSTS; i++)
         mintlintel_seat_close(AT(&hosts[i]));
     for (int i = 0; i < BROOMS; i++)
         mintlintel_seat_close(AT(&brooms[i]));
 }
 
-/* What all threads did, in one of each. */
-static void tell(const char *device, const struct thread *threads, const struct sweep *sweeps, struct thread *host, struct sweep *broom)
+/* Prints what all threads did, and returns the sums in `host` and `broom`. */
+static void print_counts(const char *device, const struct thread *threads, const struct sweep *sweeps, struct thread *host, struct sweep *broom)
 {
     memset(host, 0, sizeof *host);
     memset(broom, 0, sizeof *broom);
@@ -344,19 +344,19 @@ int main(int count, char **words)
     static struct sweep sweeps[BROOMS], broom;
     if (count > 1)
         rounds = atol(words[1]);
-    closed_seat();
-    counts_at_fault();
+    test_closed_seat();
+    test_faults_of_counts();
     CHECK(mintlintel_shared_open(hosts, HOSTS, brooms, BROOMS, 1, BLOCKS, PAGES, WORDS, SECTORS, 1000000) == MINTLINTEL_DONE);
-    refused_calls();
+    test_refused_calls();
     run_all(threads, sweeps);
-    tell("one that lasts", threads, sweeps, &host, &broom);
+    print_counts("one that lasts", threads, sweeps, &host, &broom);
     CHECK(host.writes > 0 && host.reads > 0 && host.holds > 0 && host.given_up == 0 && broom.moved > 0);
     CHECK(broom.drains[MINTLINTEL_DONE] > 0 && broom.drains[MINTLINTEL_LOST] > 0);
     CHECK(broom.erases[MINTLINTEL_DONE] > 0 && broom.erases[MINTLINTEL_KEPT] > 0 && broom.erases[MINTLINTEL_PINNED] > 0);
     most_tries = 4;
     CHECK(mintlintel_shared_open(hosts, HOSTS, brooms, BROOMS, 1, BLOCKS, PAGES, WORDS, SECTORS, 8) == MINTLINTEL_DONE);
     run_all(threads, sweeps);
-    tell("one that wears out", threads, sweeps, &host, &broom);
+    print_counts("one that wears out", threads, sweeps, &host, &broom);
     CHECK(host.no_block > 0 && host.given_up > 0 && broom.erases[MINTLINTEL_RETIRED] > 0);
     return 0;
 }

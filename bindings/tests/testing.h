@@ -1,4 +1,4 @@
-/* What the tests share: a check that names its line, random numbers, and a count of the codes that were met. */
+/* What the tests share: a check that names its line, and random numbers. */
 #ifndef TESTING_H
 #define TESTING_H
 

@@ -22,7 +22,7 @@ def request(op, offset, length):
 
 
 class OneThread(unittest.TestCase):
-    def test_a_device_answers_as_an_array_does(self):
+    def test_device_agrees_with_array(self):
         drawn = random.Random(1)
         sectors = [None] * 60
         with mintlintel.Device(**NUMBERS) as device:
@@ -46,7 +46,7 @@ class OneThread(unittest.TestCase):
         self.assertEqual(counts.erases, sum(block.erases for block in blocks))
         self.assertEqual(sum(block.live for block in blocks), sum(value is not None for value in sectors))
 
-    def test_each_refusal_has_a_name(self):
+    def test_refusals_of_device(self):
         device = mintlintel.Device(**NUMBERS)
         for fault, call in [
             (mintlintel.NoSuchSector, lambda: device.read(60)),
@@ -67,7 +67,7 @@ class OneThread(unittest.TestCase):
         with self.assertRaisesRegex(mintlintel.Closed, "closed"):
             device.read(0)
 
-    def test_a_number_that_has_no_32_bits_is_refused(self):
+    def test_refuses_numbers_beyond_32_bits(self):
         for name, text in [("luns", "luns"), ("blocks", "blocks"), ("pages", "pages"), ("words", "words"), ("sectors", "sectors"), ("endurance", "endurance")]:
             for number in (2**32 + NUMBERS.get(name, 1), 2**64 + 1, -1, -(2**32) + 1):
                 for opened in (lambda: mintlintel.Device(**{**NUMBERS, name: number}), lambda: mintlintel.SharedDevice(hosts=1, brooms=1, **{**SHARED, name: number})):
@@ -76,13 +76,13 @@ class OneThread(unittest.TestCase):
         with self.assertRaises(TypeError):
             mintlintel.Device(**{**NUMBERS, "blocks": 12.0})
 
-    def test_its_numbers(self):
+    def test_numbers_of_device(self):
         with mintlintel.Device(**NUMBERS) as device:
             self.assertEqual(device.numbers(), mintlintel.Numbers(luns=1, hosts=0, brooms=0, **NUMBERS))
         with self.assertRaises(mintlintel.Closed):
             device.numbers()
 
-    def test_what_is_read_is_read_anew(self):
+    def test_each_read_returns_new_bytes(self):
         with mintlintel.Device(**NUMBERS) as device:
             device.write(0, page(1))
             first = device.read(0)
@@ -90,7 +90,7 @@ class OneThread(unittest.TestCase):
             self.assertEqual((first, device.read(0), type(first)), (page(1), page(2), bytes))
             self.assertEqual((hash(first), len({first, page(1)})), (hash(page(1)), 1))
 
-    def test_a_replay_plays_the_pages_of_each_request(self):
+    def test_replay(self):
         log = [request("write", 0, 40), "a line without data", request("trim", 8, 32), request("read", 0, 64), request("write", 16 * 60, 16)]
         with mintlintel.Device(**NUMBERS) as device:
             played = mintlintel.replay(device, log)
@@ -106,7 +106,7 @@ class OneThread(unittest.TestCase):
             with self.assertRaisesRegex(ValueError, "flush"):
                 list(mintlintel.replay(device, [request("flush", 0, 1)]))
 
-    def test_a_worn_out_device_still_reads(self):
+    def test_worn_out_device_can_be_read(self):
         with mintlintel.Device(blocks=3, pages=1, words=2, sectors=1, endurance=1) as device:
             last = None
             with self.assertRaises(mintlintel.WornOut):
@@ -115,7 +115,7 @@ class OneThread(unittest.TestCase):
                     last = page(number)
             self.assertEqual(device.read(0), last)
 
-    def test_any_buffer_of_a_page_is_read_and_written_where_it_stands(self):
+    def test_reads_and_writes_buffers_in_place(self):
         with mintlintel.Device(**NUMBERS) as device:
             for sector, written in enumerate([bytes(16), bytearray(range(16)), memoryview(bytes(range(16, 32))), array.array("Q", [5, 6]), memoryview(bytearray(64))[8:24]]):
                 device.write(sector, written)
@@ -126,7 +126,7 @@ class OneThread(unittest.TestCase):
             self.assertFalse(device.read_into(30, untouched))
             self.assertEqual(untouched, b"sixteen bytes...")
 
-    def test_an_array_of_numpy_is_read_and_written_where_it_stands(self):
+    def test_reads_and_writes_numpy_array_in_place(self):
         import numpy
 
         pages = numpy.arange(32, dtype=numpy.uint8).reshape(2, 16)
@@ -135,7 +135,7 @@ class OneThread(unittest.TestCase):
             self.assertTrue(device.read_into(0, pages[0]))
         self.assertEqual(pages[0].tolist(), list(range(16, 32)))
 
-    def test_threads_take_turns_at_one_device(self):
+    def test_threads_share_one_device(self):
         with mintlintel.Device(**NUMBERS) as device:
             def write(first):
                 for number in range(2000):
@@ -144,14 +144,14 @@ class OneThread(unittest.TestCase):
             self.assertEqual(device.counts().programs, 6000)
             self.assertEqual([device.read(sector) for sector in (0, 25, 59)], [page(0), page(20), page(40)])
 
-    def test_the_examples_of_the_documents(self):
+    def test_examples_in_docstrings(self):
         for module in (mintlintel, mintlintel.replaying):
             failures, tried = doctest.testmod(module, extraglobs={"Device": mintlintel.Device})
             self.assertEqual((failures, tried > 0), (0, True))
 
 
 class Shared(unittest.TestCase):
-    def test_hosts_read_what_they_wrote_beside_a_broom(self):
+    def test_hosts_read_their_writes_while_broom_collects(self):
         done = threading.Event()
         with mintlintel.SharedDevice(hosts=2, brooms=1, **SHARED) as device:
             moved = []
@@ -187,7 +187,7 @@ class Shared(unittest.TestCase):
                 sweeper.join()
             self.assertGreater(sum(moved), 0)
 
-    def test_a_held_page_stays(self):
+    def test_held_page_does_not_change(self):
         with mintlintel.SharedDevice(hosts=2, brooms=1, **SHARED) as device:
             reader, writer = device.hosts
             self.assertIsNone(reader.hold(5))
@@ -207,7 +207,7 @@ class Shared(unittest.TestCase):
             with self.assertRaises(mintlintel.WrongKind):
                 held.read()
 
-    def test_a_page_that_is_released_is_never_another(self):
+    def test_refuses_released_page(self):
         with mintlintel.SharedDevice(hosts=1, brooms=0, **SHARED) as device:
             host = device.hosts[0]
             host.write(5, page(5))
@@ -231,7 +231,7 @@ class Shared(unittest.TestCase):
                 with self.assertRaises(mintlintel.Closed):
                     held.read()
 
-    def test_a_page_that_is_dropped_is_released_by_the_next_call(self):
+    def test_next_call_releases_dropped_page(self):
         with mintlintel.SharedDevice(hosts=1, brooms=0, **SHARED) as device:
             host = device.hosts[0]
             host.write(5, page(5))
@@ -243,7 +243,7 @@ class Shared(unittest.TestCase):
                 host.hold(5)
                 self.assertTrue(call())
 
-    def test_a_broom_drains_by_its_last_survey_and_restocks(self):
+    def test_drain_next_and_restock(self):
         Drain, Drained = mintlintel.Drain, mintlintel.Drained
         with mintlintel.SharedDevice(hosts=2, brooms=1, **SHARED) as device:
             reader, writer = device.hosts
@@ -265,7 +265,7 @@ class Shared(unittest.TestCase):
                 self.assertIs(broom.drain_next(), Drain.NOTHING_TO_GAIN)
             self.assertEqual(broom.drain(), Drained(block=2, moved=4))
 
-    def test_a_broom_without_a_spare_finds_none_on_a_full_device(self):
+    def test_restock_on_full_device(self):
         with mintlintel.SharedDevice(hosts=1, brooms=1, **SHARED) as device:
             host, broom = device.hosts[0], device.brooms[0]
             for sector in [0] * 7 + [1]:
@@ -279,7 +279,7 @@ class Shared(unittest.TestCase):
             self.assertIs(broom.erase(0), mintlintel.Erase.KEPT)
             self.assertTrue(broom.restock())
 
-    def test_the_numbers_of_its_seats(self):
+    def test_numbers_of_hosts_and_brooms(self):
         wanted = mintlintel.Numbers(luns=1, hosts=2, brooms=1, **SHARED)
         with mintlintel.SharedDevice(hosts=2, brooms=1, **SHARED) as device:
             self.assertEqual([seat.numbers() for seat in [*device.hosts, *device.brooms]], [wanted] * 3)
@@ -289,7 +289,7 @@ class Shared(unittest.TestCase):
         with self.assertRaises(mintlintel.Closed):
             device.hosts[0].numbers()
 
-    def test_each_answer_of_a_broom_has_a_name(self):
+    def test_refusals_of_broom(self):
         with mintlintel.SharedDevice(hosts=1, brooms=1, **SHARED) as device:
             broom = device.brooms[0]
             self.assertIs(broom.drain(), mintlintel.Drain.NOTHING_TO_GAIN)

@@ -13,7 +13,7 @@ fn drawn(state: &mut u64) -> usize {
 }
 
 #[test]
-fn a_device_answers_as_an_array_does() -> Result<(), Fault> {
+fn device_agrees_with_array() -> Result<(), Fault> {
     let mut device = Device::open(GEOMETRY).expect("a small device opens");
     let mut array = [None; 60];
     let mut state = 88_172_645_463_325_252;
@@ -50,7 +50,7 @@ fn a_device_answers_as_an_array_does() -> Result<(), Fault> {
 }
 
 #[test]
-fn each_refusal_says_why() {
+fn refusals_of_device() {
     let mut device = Device::open(GEOMETRY).expect("a small device opens");
     let mut out = [9; 16];
     assert_eq!(device.read(60, &mut out), Err(Fault::NoSector));
@@ -66,7 +66,7 @@ fn each_refusal_says_why() {
 }
 
 #[test]
-fn a_worn_out_device_still_reads() {
+fn worn_out_device_can_be_read() {
     let mut device = Device::open(Geometry { blocks: 3, pages: 1, sectors: 1, endurance: 1, ..GEOMETRY }).expect("it opens");
     let mut last = None;
     for number in 0..100u8 {
@@ -81,7 +81,7 @@ fn a_worn_out_device_still_reads() {
 }
 
 #[test]
-fn a_device_goes_to_another_thread() {
+fn device_moves_to_another_thread() {
     let mut device = Device::open(GEOMETRY).expect("a small device opens");
     let moved = thread::spawn(move || device.write(7, &[1; 16]).map(|was| (device, was)));
     let (mut device, was) = moved.join().expect("the thread ends").expect("it writes");

@@ -49,7 +49,7 @@ fn sweep(broom: &mut Broom, left: &AtomicUsize) -> Result<u32, Fault> {
 }
 
 #[test]
-fn hosts_read_what_they_wrote_beside_a_broom() {
+fn hosts_read_their_writes_while_broom_collects() {
     let SharedDevice { hosts, mut brooms } = SharedDevice::open(GEOMETRY, WRITERS, 1).expect("it opens");
     let left = AtomicUsize::new(WRITERS);
     thread::scope(|scope| {
@@ -67,7 +67,7 @@ fn hosts_read_what_they_wrote_beside_a_broom() {
 }
 
 #[test]
-fn a_held_page_stays() -> Result<(), Fault> {
+fn held_page_does_not_change() -> Result<(), Fault> {
     let mut device = SharedDevice::open(GEOMETRY, 2, 1).expect("it opens");
     let (mut reader, mut writer) = (device.hosts.remove(0), device.hosts.remove(0));
     assert!(reader.hold(5)?.is_none());
@@ -100,7 +100,7 @@ fn a_held_page_stays() -> Result<(), Fault> {
 }
 
 #[test]
-fn each_refusal_says_why() -> Result<(), Fault> {
+fn refusals_of_shared_device() -> Result<(), Fault> {
     assert_eq!(SharedDevice::open(GEOMETRY, 0, 0).err(), Some(OpenFault::Seats));
     assert_eq!(SharedDevice::open(GEOMETRY, 501, 0).err(), Some(OpenFault::Seats));
     assert_eq!(SharedDevice::open(GEOMETRY, 39, 1).err(), Some(OpenFault::TooFewBlocks));
@@ -120,7 +120,7 @@ fn each_refusal_says_why() -> Result<(), Fault> {
 }
 
 #[test]
-fn a_fault_of_the_geometry_comes_before_too_many_seats() {
+fn geometry_faults_come_before_too_many_seats() {
     let no_pages = Geometry { pages: 0, ..GEOMETRY };
     assert_eq!(SharedDevice::open(no_pages, usize::MAX, usize::MAX).err(), Some(OpenFault::Pages));
     assert_eq!(SharedDevice::open(GEOMETRY, usize::MAX, 0).err(), Some(OpenFault::Seats));
@@ -128,7 +128,7 @@ fn a_fault_of_the_geometry_comes_before_too_many_seats() {
 }
 
 #[test]
-fn a_broom_drains_by_its_last_survey_and_restocks() -> Result<(), Fault> {
+fn drain_next_and_restock() -> Result<(), Fault> {
     let mut device = SharedDevice::open(GEOMETRY, 2, 1).expect("it opens");
     let (mut reader, mut writer) = (device.hosts.remove(0), device.hosts.remove(0));
     let broom = &mut device.brooms[0];
@@ -152,7 +152,7 @@ fn a_broom_drains_by_its_last_survey_and_restocks() -> Result<(), Fault> {
 }
 
 #[test]
-fn a_broom_without_a_spare_finds_none_on_a_full_device() -> Result<(), Fault> {
+fn restock_on_full_device() -> Result<(), Fault> {
     let mut device = SharedDevice::open(GEOMETRY, 1, 1).expect("it opens");
     let (host, broom) = (&mut device.hosts[0], &mut device.brooms[0]);
     for sector in [0, 0, 0, 0, 0, 0, 0, 1] {
@@ -171,7 +171,7 @@ type Call = fn(&mut Host, &mut [u8]) -> Result<Was, Fault>;
 
 /// A `Held` that is forgotten is released by the host's next call, whichever that is.
 #[test]
-fn a_forgotten_page_is_released() -> Result<(), Fault> {
+fn next_call_releases_forgotten_page() -> Result<(), Fault> {
     let mut device = SharedDevice::open(GEOMETRY, 1, 0).expect("it opens");
     let host = &mut device.hosts[0];
     let mut out = [0; 16];
@@ -194,11 +194,11 @@ fn a_forgotten_page_is_released() -> Result<(), Fault> {
 }
 
 #[test]
-fn the_types_may_go_to_another_thread() {
+fn types_are_send() {
     fn goes<T: Send>() {}
-    goes::<mintlintel::Device>();
-    goes::<SharedDevice>();
-    goes::<Host>();
-    goes::<Broom>();
-    goes::<Held>();
+    is_send::<mintlintel::Device>();
+    is_send::<SharedDevice>();
+    is_send::<Host>();
+    is_send::<Broom>();
+    is_send::<Held>();
 }
