@@ -48,7 +48,7 @@ static int fail(const char *call, uint32_t code) {
 // No block is free, and none became free in time. It is reported once: a client may repeat the request many times.
 static int fail_full(struct device *device) {
     if (!atomic_exchange(&device->has_told_full, 1))
-        nbdkit_error("no block is free, and the brooms win none: the device is full or worn out (told once)");
+        nbdkit_error("no block is free, and the brooms can reclaim none: the device is full or worn out (reported once)");
     nbdkit_set_error(ENOSPC);
     return -1;
 }
