@@ -195,7 +195,7 @@ fn next_call_releases_forgotten_page() -> Result<(), Fault> {
 
 #[test]
 fn types_are_send() {
-    fn goes<T: Send>() {}
+    fn is_send<T: Send>() {}
     is_send::<mintlintel::Device>();
     is_send::<SharedDevice>();
     is_send::<Host>();
