@@ -15,7 +15,7 @@ all:
 	./flashplay --prove
 
 install: all
-	install -d $(LIB)/tools/simulation $(BIN) $(MAN) $(DOC)/docs $(DOC)/examples
+	install -d $(LIB)/tools/simulation $(BIN) $(MAN) $(DOC)/docs $(DOC)/bench $(DOC)/examples
 	install -m 755 -s $(PROGRAM) $(LIB)/flashplay
 	install -m 755 tools/trace tools/report tools/sweep tools/model $(LIB)/tools
 	install -m 644 tools/simulation/*.py tools/simulation/*.css $(LIB)/tools/simulation
@@ -24,6 +24,7 @@ install: all
 	.ci/manual $(PROGRAM) $(VERSION) > $(MAN)/flashplay.1
 	install -m 644 README.md CHANGELOG.md CONTRIBUTING.md $(DOC)
 	install -m 644 docs/*.md docs/*.svg $(DOC)/docs
+	install -m 644 bench/*.md $(DOC)/bench
 	install -d $(DOC)/examples/parts
 	install -m 644 examples/*.csv examples/*.args examples/*.out $(DOC)/examples
 	install -m 644 examples/parts/*.toml $(DOC)/examples/parts
