@@ -25,13 +25,13 @@ def report(answers, *words):
 
 class InFolder(unittest.TestCase):
     def setUp(self):
-        folder = tempfile.TemporaryDirectory()
-        self.addCleanup(folder.cleanup)
-        self.folder = pathlib.Path(folder.name)
+        room = tempfile.TemporaryDirectory()
+        self.addCleanup(room.cleanup)
+        self.room = pathlib.Path(room.name)
 
     def file(self, name, data):
-        (self.folder / name).write_bytes(data)
-        return self.folder / name
+        (self.room / name).write_bytes(data)
+        return self.room / name
 
 
 class Reported(unittest.TestCase):
@@ -148,7 +148,7 @@ class Collections(InFolder):
         reported = json.loads(report(b"end,5,1,1\n", "--json", "--page-bytes", "8", "--collections", self.file("log", LOG)).text)
         self.assertEqual((reported["lines"], reported["write_amplification"], reported["erases_per_gigabyte"], reported["copybacks"]), (None, 1.2, 25_000_000, 1))
 
-    def test_reports_source_of_page_bytes(self):
+    def test_the_source_of_the_size_of_a_page_is_told(self):
         self.assertIn("(40 bytes in pages of 8, as the reads show)", Run("report", COLLECTION).text)
         self.assertIn("(20,480 bytes in pages of 4,096, as --page-bytes says)", Run("report", COLLECTION, "--page-bytes", "4096").text)
         self.assertEqual([self.reported(*words)["page_bytes_from"] for words in ((), ("--page-bytes", "4096"))], ["reads", "option"])
@@ -241,7 +241,7 @@ class Pictures(InFolder):
 
     def drawn(self, suffix, *words):
         log, wear = self.file("log", LOG), self.file("wear", WEAR)
-        paths = [self.folder / f"{kind}{suffix}" for kind in self.kinds]
+        paths = [self.room / f"{kind}{suffix}" for kind in self.kinds]
         pictures = [word for kind, path in zip(self.kinds, paths) for word in (f"--{kind}-picture", path)]
         done = Run("report", COLLECTION, "--wear", wear, "--collections", log, "--pieces", 3, *pictures, *words)
         self.assertEqual(done.status, 0, done.errors)
@@ -267,7 +267,7 @@ class Pictures(InFolder):
         for count in (200, 201):
             wear = b"block,erases,live,retired\n" + b"".join(b"%d,%d,0,%d\n" % (block, block % 7, block == 6) for block in range(count))
             erases = sum(block % 7 for block in range(count))
-            paths.append(self.folder / f"{count}.svg")
+            paths.append(self.room / f"{count}.svg")
             done = Run("report", self.file("answers", b"end,0,0,%d\n" % erases), "--wear", self.file("wear", wear), "--erases-picture", paths[-1])
             self.assertEqual(done.status, 0, done.errors)
         bars, curve = (path.read_text() for path in paths)
