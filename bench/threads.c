@@ -3,6 +3,7 @@
  * processor time, all in nanoseconds. The times of start and end are of the same clock for all threads. */
 #define _GNU_SOURCE
 #include <dlfcn.h>
+#include <errno.h>
 #include <fcntl.h>
 #include <pthread.h>
 #include <stdatomic.h>
@@ -54,7 +55,7 @@ int pthread_create(pthread_t *thread, const pthread_attr_t *attributes, routine 
     creator *create = (creator *)dlsym(RTLD_NEXT, "pthread_create");
     struct start *start = malloc(sizeof *start);
     if (!start)
-        return 11;
+        return EAGAIN;
     *start = (struct start){own, given, atomic_fetch_add(&started, 1)};
     int fault = create(thread, attributes, run, start);
     if (fault)
