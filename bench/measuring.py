@@ -23,12 +23,12 @@ class Usage:
         self.megabytes, self.elapsed = megabytes, elapsed
 
 
-def measure(words, status=0, stdin=os.devnull, stdout=os.devnull):
-    """Runs a program; its exit status has to be the one given."""
+def measure(words, status=0, stdin=os.devnull, stdout=os.devnull, environment=None):
+    """Runs a program, with these variables more in its environment; its exit status has to be the one given."""
     report = OUT / "usage.txt"
     with open(stdin, "rb") as source, open(stdout, "wb") as sink:
         call = [str(word) for word in [OUT / "plain_usage", report, *words]]
-        done = subprocess.run(call, stdin=source, stdout=sink, stderr=subprocess.DEVNULL)
+        done = subprocess.run(call, stdin=source, stdout=sink, stderr=subprocess.DEVNULL, env={**os.environ, **(environment or {})})
     if done.returncode != status:
         sys.exit(f"bench: {words[0]} ended with status {done.returncode}")
     user, system, kilobytes, elapsed = (int(number) for number in report.read_text().split())
