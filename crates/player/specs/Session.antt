@@ -85,7 +85,7 @@ pub record DescribesNone (words : List Text) (found : GeometryFault) : Type 0 wh
   pub told : AreOptionsOf (rows_given words) given
   pub first : first_fault (numbers_given given) ≡ Some found
 
--- the output of a run by this many workers, with its answers or without: with no worker it is that of one thread
+-- the output of a run by this many workers, if its answers are wanted or not: with no worker it is that of one thread
 abbrev pub IsTextBy : ℕ → Bool → Geometry → List ℕ → List ℕ → Type 0
 IsTextBy zero answers geo bytes text = IsOutputOf answers geo bytes text
 IsTextBy (suc others) answers geo bytes text = IsOutputByWorkers answers geo bytes text

@@ -20,7 +20,7 @@ pub record IsLastLineOf (geo : Geometry) (bytes text : List ℕ) : Type 0 where
   pub meaning : commands_of bytes geo ≡ Ok commands
   pub line : text ≡ last_line geo commands
 
--- the output of a run by one thread, with its answers or without: the text of the commands, or its last line
+-- the output of a run by one thread, if its answers are wanted or not: the text of the commands, or its last line
 abbrev pub IsOutputOf : Bool → Geometry → List ℕ → List ℕ → Type 0
 IsOutputOf true geo bytes text = IsTextOf geo bytes text
 IsOutputOf false geo bytes text = IsLastLineOf geo bytes text
@@ -36,7 +36,7 @@ pub record IsLastLineByWorkers (geo : Geometry) (bytes text : List ℕ) : Type 0
   pub whole : IsSharedTextOf geo bytes (lines ++ text)
   pub line : text ≡ end_text
 
--- the output of a run by workers, with its answers or without: a text of the commands, or its last line
+-- the output of a run by workers, if its answers are wanted or not: a text of the commands, or its last line
 abbrev pub IsOutputByWorkers : Bool → Geometry → List ℕ → List ℕ → Type 0
 IsOutputByWorkers true geo bytes text = IsSharedTextOf geo bytes text
 IsOutputByWorkers false geo bytes text = IsLastLineByWorkers geo bytes text
