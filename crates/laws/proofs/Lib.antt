@@ -1,0 +1,7 @@
+-- Lemmas of the laws.
+pub mod ThreeLines
+pub mod OneRead
+pub mod SurveyRows
+pub mod Statuses
+pub mod ReadBehind
+pub mod NoCommands

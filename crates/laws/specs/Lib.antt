@@ -1,0 +1,7 @@
+-- What the laws name.
+pub mod Steps
+pub mod Queues
+pub mod Rounds
+pub mod Brooms
+pub mod Sessions
+pub mod Hosts

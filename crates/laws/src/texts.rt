@@ -1,0 +1,25 @@
+ghost use Rattle.std.specs.Prelude.{◌≡◌, ℕ, List, [], Ok};
+ghost use Rattle.answers.specs.Answers.{broom_names, collection_names, end_text, totals_text};
+ghost use Rattle.geometry.specs.Geometry.{brooms_of};
+ghost use Rattle.geometry.specs.declared.geometry.Geometry.{Geometry};
+ghost use Rattle.runs.specs.Brooms.{IsBroomLogOf};
+ghost use Rattle.runs.specs.Collections.{IsLogOf};
+ghost use Rattle.runs.specs.Playing.{IsTextOf};
+ghost use Rattle.runs.specs.Texts.{IsTextOf as IsSharedTextOf};
+ghost use Rattle.runs.specs.Wear.{IsWearOf};
+ghost use Rattle.trace.specs.Trace.{commands_of};
+
+/// A trace has one text by one thread, and that of a trace without commands is known.
+pub fn texts_of_a_trace()
+    ensures one { (geo : Geometry) (bytes text other : List ℕ) → IsTextOf geo bytes text → IsTextOf geo bytes other → text ≡ other }
+    ensures empty { (geo : Geometry) (bytes text : List ℕ) → commands_of bytes geo ≡ Ok [] → IsTextOf geo bytes text → text ≡ totals_text 0 0 0 }
+    ensures shared { (geo : Geometry) (bytes text : List ℕ) → commands_of bytes geo ≡ Ok [] → IsSharedTextOf geo bytes text → text ≡ end_text }
+{}
+
+/// A trace has one log of collections and one wear, and the logs of a run without commands or brooms have only their names.
+pub fn logs_of_a_trace()
+    ensures log { (geo : Geometry) (bytes text other : List ℕ) → IsLogOf geo bytes text → IsLogOf geo bytes other → text ≡ other }
+    ensures wear { (geo : Geometry) (bytes text other : List ℕ) → IsWearOf geo bytes text → IsWearOf geo bytes other → text ≡ other }
+    ensures no_line { (geo : Geometry) (bytes text : List ℕ) → commands_of bytes geo ≡ Ok [] → IsLogOf geo bytes text → text ≡ collection_names }
+    ensures no_broom { (geo : Geometry) (bytes text : List ℕ) → brooms_of geo ≡ 0 → IsBroomLogOf geo bytes text → text ≡ broom_names }
+{}
