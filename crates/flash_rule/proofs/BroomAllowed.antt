@@ -2,8 +2,8 @@
 -- tells what it says.
 use Rattle.flash_rule.proofs.Words.{◌≡◌, ℕ, ◌+◌, ◌*◌, ◌<◌, ◌≤◌, ◌==◌, eq-eqb, ne_eqb, true, Some, set, sym, refl, ap, ◌∙◌, subst, arith, get_or, none}
 use Rattle.flash_rule.proofs.Words.{dite, ℕ_discrete, either, Act, Valid, step, keeps, stepped, carried_after, Allows, set_again, Numbers, map_word}
-use Rattle.flash_rule.proofs.Words.{page_index, MapWord, Owned, Source, View, is_player, owned_at, World, Fits, sector_word, blank_word, Lawful, Ruled}
-use Rattle.flash_rule.proofs.Words.{Sitter, Named, CanGetStamp, GotStamp, CanMove, Moved, wiper}
+use Rattle.flash_rule.proofs.Words.{page_index, MapWord, Owned, Source, View, is_player, owned_at, World, Fits, sector_word, blank_word, Lawful}
+use Rattle.flash_rule.proofs.Words.{Ruled, Sitter, Named, CanGetStamp, GotStamp, CanMove, Moved, wiper}
 use Rattle.flash_rule.specs.BroomPlays.{CanWipe, broom_look_told, stamp_told, source_told, move_told, wipe_told}
 use Rattle.flash_rule.proofs.Roles.{player_of}
 use Rattle.flash_rule.proofs.Owning.{some_same}

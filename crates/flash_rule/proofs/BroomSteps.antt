@@ -1,6 +1,6 @@
 -- What a broom finds out of its victim's pages: looks, stamps and the words of a source.
-use Rattle.flash_rule.proofs.Words.{◌≡◌, ℕ, ◌+◌, ◌<◌, ◌≤◌, ◌⊎◌, inl, inr, ⊎_elim, true, false, List, [], ◌∷◌, ◌++◌, Option, None, Some, set, sym, refl}
-use Rattle.flash_rule.proofs.Words.{ap, ◌∙◌, subst, arith, some, dite, ℕ_discrete, dec_lt, get_elem?, Call, Begins, held, Begins-refl, Numbers}
+use Rattle.flash_rule.proofs.Words.{◌≡◌, ℕ, ◌+◌, ◌<◌, ◌≤◌, ◌⊎◌, inl, inr, ⊎_elim, true, false, List, [], ◌∷◌, ◌++◌, Option, None, Some, set, sym}
+use Rattle.flash_rule.proofs.Words.{refl, ap, ◌∙◌, subst, arith, some, dite, ℕ_discrete, dec_lt, get_elem?, Call, Begins, held, Begins-refl, Numbers}
 use Rattle.flash_rule.proofs.Words.{map_word, FitsMap, map_same, MapWord, Victim, Name, Pass, Player, Owned, Work, Source, Carried, View, is_player}
 use Rattle.flash_rule.proofs.Words.{is_live_role, owned_at, AreOfHosts, calls_of, World, is_reclaimed, sector_word, data_word, IsValue, IsCurrent}
 use Rattle.flash_rule.proofs.Words.{ReclaimsOne, LawfulOwned, LawfulSource, Lawful, Met, Named, CanGetStamp, GotStamp}

@@ -1,16 +1,15 @@
 -- The dealer hands out the next broom, with the first of the spares that it still owns.
-use Rattle.flash_rule.proofs.Words.{◌≡◌, ◌≢◌, ℕ, zero, suc, ◌+◌, ◌<◌, ◌≤◌, ◌⊎◌, inl, ne_eqb, true, false, [], ◌∷◌, ◌++◌, None, Some, length, set, sym}
-use Rattle.flash_rule.proofs.Words.{refl, ap, ◌∙◌, subst, arith, length-set, dite, ℕ_discrete, get_elem?, Splits, at_longer, Begins-refl, Numbers}
-use Rattle.flash_rule.proofs.Words.{Name, Pass, Broom, Dealer, Player, Note, Owned, View, is_pass, is_player, is_live_role, weight, owned_at, without, some}
-use Rattle.flash_rule.proofs.Words.{World, put, put_name, is_owned, LawfulOwned, LawfulView, IsDealt, IsFilling, Onward, Ruled, spare, spares, List, Lawful}
+use Rattle.flash_rule.proofs.Words.{◌≡◌, ℕ, zero, suc, ◌+◌, ◌<◌, ◌≤◌, inl, ne_eqb, true, false, [], ◌∷◌, ◌++◌, None, Some, length, set, sym, refl, ap}
+use Rattle.flash_rule.proofs.Words.{◌∙◌, arith, length-set, dite, ℕ_discrete, get_elem?, Splits, at_longer, Numbers, Name, Pass, Broom, Dealer, View}
+use Rattle.flash_rule.proofs.Words.{is_pass, is_player, is_live_role, weight, owned_at, without, some, World, put, is_owned, LawfulOwned, LawfulView}
+use Rattle.flash_rule.proofs.Words.{IsDealt, IsFilling, Onward, Ruled, spare, spares, List, Lawful}
 use Rattle.atomic_table.proofs.Lists.{at_last}
 use Rattle.flash_rule.specs.Seats.{next_spare, new_broom, dealt_broom}
-use Rattle.flash_rule.proofs.Points.{put_here, put_else, eq_self, name_here, name_else, name_all}
-use Rattle.flash_rule.proofs.Owning.{none_some, nothing, with_here, without_else, each_with, each_without, owned_else, one_with_open, one_without}
+use Rattle.flash_rule.proofs.Points.{put_here, put_else, eq_self}
+use Rattle.flash_rule.proofs.Owning.{none_some, with_here, without_else, each_with, each_without, owned_else, one_with_open, one_without}
 use Rattle.flash_rule.proofs.Ceding.{ceded_split}
-use Rattle.flash_rule.proofs.Frames.{counted, knowledge_kept, lists_stay}
+use Rattle.flash_rule.proofs.Frames.{counted, knowledge_kept}
 use Rattle.flash_rule.proofs.Assembly.{owner_kept}
-use Rattle.flash_rule.proofs.Still.{pin_stays}
 use Rattle.flash_rule.proofs.Splitting.{Owner, split_with, current_kept, dealt_world, dealt_onward, dealer_holding, new_knowledge, new_holding}
 use Rattle.flash_rule.proofs.Keeping.{kind_with, knowledge_as}
 

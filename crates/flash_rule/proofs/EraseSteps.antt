@@ -1,11 +1,10 @@
 -- The eraser's steps on the pin word of its block: the wiped block gets free or is kept in its next generation, or it retires.
-use Rattle.flash_rule.proofs.Words.{◌≡◌, ◌≢◌, ℕ, ◌+◌, ◌*◌, ◌<◌, inl, inr, true, false, List, [], ◌∷◌, ◌++◌, set, sym, refl, ap, ◌∙◌}
-use Rattle.flash_rule.proofs.Words.{arith, some, get_elem?, Numbers, PinWord, Free, Open, Victim, Erasing, Retired, Owned, Source, View}
-use Rattle.flash_rule.proofs.Words.{may_own, without, with_owned, World, put, is_intact, is_nameable, half_cycle, IsBlank, rank, freed_as}
-use Rattle.flash_rule.proofs.Words.{LawfulOwned, LawfulSource, Lawful, IsErasing, CanRenew, PinOnward, owned_at, is_owned, is_still, ◌≤◌, Option, Some}
+use Rattle.flash_rule.proofs.Words.{◌≡◌, ◌≢◌, ℕ, ◌+◌, ◌*◌, ◌<◌, inl, inr, true, false, List, [], ◌∷◌, ◌++◌, set, sym, refl, ap, ◌∙◌, arith, some}
+use Rattle.flash_rule.proofs.Words.{get_elem?, Numbers, PinWord, Free, Open, Victim, Erasing, Retired, Owned, Source, View, may_own, without}
+use Rattle.flash_rule.proofs.Words.{with_owned, World, is_intact, is_nameable, half_cycle, IsBlank, rank, freed_as, LawfulOwned, LawfulSource, Lawful}
+use Rattle.flash_rule.proofs.Words.{IsErasing, CanRenew, PinOnward, owned_at, is_owned, is_still, ◌≤◌, Some}
 use Rattle.std.proofs.lemmas.List.{append-nil}
 use Rattle.flash_rule.proofs.Roles.{may_own_else}
-use Rattle.flash_rule.proofs.Points.{put_here}
 use Rattle.flash_rule.proofs.Places.{row_within}
 use Rattle.flash_rule.proofs.Owning.{owns_none_else, with_here, one_with_open, blocks_apart}
 use Rattle.flash_rule.proofs.PinSteps.{deeds, turned, block_owned}

@@ -1,15 +1,13 @@
 -- For each step on a pin word: what its play fixes of the seat, and so the one operation that is allowed.
-use Rattle.flash_rule.proofs.Words.{◌≡◌, ℕ, ◌+◌, ◌^◌, ◌-◌, ◌<◌, ⊎_elim, true, List, [], ◌∷◌, ◌++◌, Some, sym, refl, ap, ◌∙◌, subst}
-use Rattle.flash_rule.proofs.Words.{none, dite, ℕ_discrete, State, step, Numbers, pin_word, freed_added}
-use Rattle.flash_rule.proofs.Words.{kept_added, pin_index, MapWord, PinWord, Free, Open, READER, PAGE_WRITTEN, NEXT_PHASE, TAKEN, Owned}
-use Rattle.flash_rule.proofs.Words.{Work, View, is_pass, is_broom, is_player, owned_at, with_owned}
-use Rattle.flash_rule.proofs.Words.{Intact, Lawful, Sitter, Took, Pinned, take_told, pin_told, unpin_told, count_told}
-use Rattle.flash_rule.proofs.Words.{close_told, Claimed, Condemned, claim_told, drain_told}
-use Rattle.flash_rule.proofs.Words.{condemn_told, freed_told, kept_told, retired_told, SitsAt}
+use Rattle.flash_rule.proofs.Words.{◌≡◌, ℕ, ◌+◌, ◌^◌, ◌-◌, ◌<◌, ⊎_elim, true, List, [], ◌∷◌, ◌++◌, Some, sym, refl, ap, ◌∙◌, subst, none, dite}
+use Rattle.flash_rule.proofs.Words.{ℕ_discrete, State, step, Numbers, pin_word, freed_added, kept_added, pin_index, MapWord, PinWord, Free, Open}
+use Rattle.flash_rule.proofs.Words.{READER, PAGE_WRITTEN, NEXT_PHASE, TAKEN, Owned, Work, View, is_pass, is_broom, is_player, owned_at, with_owned}
+use Rattle.flash_rule.proofs.Words.{Intact, Lawful, Sitter, Took, Pinned, take_told, pin_told, unpin_told, count_told, close_told, Claimed, Condemned}
+use Rattle.flash_rule.proofs.Words.{claim_told, drain_told, condemn_told, freed_told, kept_told, retired_told, SitsAt}
 use Rattle.std.proofs.Common.{bit_or}
 use Rattle.geometry.proofs.PinBits as bits
-use Rattle.flash_rule.specs.Forced.{plus, to_next_phase, TakeSets, PinAdds, UnpinTakesOff, CountAdds, CloseAdds}
-use Rattle.flash_rule.specs.Forced.{ClaimExchanges, DrainAdds, CondemnExchanges, FreeAdds, KeepAdds, RetireAdds}
+use Rattle.flash_rule.specs.Forced.{plus, to_next_phase, TakeSets, PinAdds, UnpinTakesOff, CountAdds, CloseAdds, ClaimExchanges, DrainAdds}
+use Rattle.flash_rule.specs.Forced.{CondemnExchanges, FreeAdds, KeepAdds, RetireAdds}
 use Rattle.flash_rule.proofs.Roles.{player_live, broom_live, phase_or_not}
 use Rattle.flash_rule.proofs.OwnSteps.{worker}
 use Rattle.flash_rule.proofs.Reclaiming.{owner_numbers}

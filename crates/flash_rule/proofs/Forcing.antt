@@ -1,9 +1,8 @@
 -- The states of all blocks follow from what the seats own, gave up and have pinned; so a step on a pin word can leave one word alone.
-use Rattle.flash_rule.proofs.Words.{◌≡◌, ◌≢◌, ℕ, zero, suc, ◌<◌, inl, inr, ⊎_elim, Bool, true, false, List, length, set}
-use Rattle.flash_rule.proofs.Words.{slice_get, sym, refl, ap, ◌∙◌, arith, get_or, get_or-set_same, some, get_elem?, Allows, at_set}
-use Rattle.flash_rule.proofs.Words.{set_else, Numbers, pin_word, pin_index, PinWord, Phase, Free, Open, Closed, Victim, Drained, Erasing, Retired}
-use Rattle.flash_rule.proofs.Words.{Owned, Pin, View, one_if, pin_is_on, pins_on, owned_at, World, is_owned, rank, entry_of, IsReached, IsUnused}
-use Rattle.flash_rule.proofs.Words.{IsCededBy, IsCeded, Lawful, Ruled, Sitter, Forces}
+use Rattle.flash_rule.proofs.Words.{◌≡◌, ◌≢◌, ℕ, zero, suc, ◌<◌, inl, inr, ⊎_elim, Bool, true, false, List, length, set, slice_get, sym, refl, ap}
+use Rattle.flash_rule.proofs.Words.{◌∙◌, arith, get_or, get_or-set_same, some, get_elem?, Allows, at_set, set_else, Numbers, pin_word, pin_index}
+use Rattle.flash_rule.proofs.Words.{PinWord, Owned, Pin, View, one_if, pin_is_on, pins_on, owned_at, World, is_owned, rank, entry_of, IsReached}
+use Rattle.flash_rule.proofs.Words.{IsUnused, IsCededBy, IsCeded, Lawful, Ruled, Sitter, Forces}
 use Rattle.flash_rule.proofs.Roles.{phase_of, of_rank}
 use Rattle.flash_rule.proofs.Points.{total_set}
 use Rattle.flash_rule.proofs.Places.{pin_within}

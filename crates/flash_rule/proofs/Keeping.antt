@@ -1,7 +1,8 @@
 -- What a step leaves as it is to the seat that makes it.
-use Rattle.flash_rule.proofs.Words.{◌≡◌, ℕ, ◌+◌, ◌*◌, ◌<◌, ◌≤◌, false, true, List, [], Option, None, Some, refl, ap, ◌∙◌, sym, subst, Numbers, PinWord}
-use Rattle.flash_rule.proofs.Words.{Free, Open, Victim, Erasing, Name, Pass, Player, Owned, Work, Source, View, is_pass, is_player, may_own, owned_at}
-use Rattle.flash_rule.proofs.Words.{calls_of, World, IsBlank, blank_word, IsFilling, ReclaimsOne, LawfulKind, LawfulKnowledge, LawfulOwned, LawfulWork}
+use Rattle.flash_rule.proofs.Words.{◌≡◌, ℕ, ◌+◌, ◌*◌, ◌<◌, ◌≤◌, false, true, List, [], Option, None, Some, refl, ap, ◌∙◌, sym, subst, Numbers}
+use Rattle.flash_rule.proofs.Words.{PinWord, Free, Open, Victim, Erasing, Name, Pass, Player, Owned, Work, Source, View, is_pass, is_player, may_own}
+use Rattle.flash_rule.proofs.Words.{owned_at, calls_of, World, IsBlank, blank_word, IsFilling, ReclaimsOne, LawfulKind, LawfulKnowledge, LawfulOwned}
+use Rattle.flash_rule.proofs.Words.{LawfulWork}
 use Rattle.std.specs.Prelude.{slice_index}
 use Rattle.flash_rule.proofs.Words.{LawfulSource, LawfulHolding, gone, Begins, LawfulPin, Programs, Erases, age_of}
 

@@ -1,8 +1,8 @@
 -- One map word changes, and the history with it: what a place does.
-use Rattle.flash_rule.proofs.Words.{◌≡◌, ◌≢◌, ℕ, ◌<◌, ◌⊎◌, inl, eq-eqb, ne_eqb, true, List, [], ◌∷◌, ◌++◌, Option, None, Some, set, sym, refl, ap, ◌∙◌}
-use Rattle.flash_rule.proofs.Words.{subst, arith, some, dite, ℕ_discrete, get_elem?, Call, held, Begins-refl, Numbers, MapWord, Open, Victim, Pass}
-use Rattle.flash_rule.proofs.Words.{Dealer, Player, View, is_pass, AreOfHosts, calls_of, caller, World, put, sector_word, LawfulSector, LawfulView}
-use Rattle.flash_rule.proofs.Words.{Lawful, Onward, Placed}
+use Rattle.flash_rule.proofs.Words.{◌≡◌, ◌≢◌, ℕ, ◌<◌, ◌⊎◌, inl, eq-eqb, ne_eqb, true, List, [], ◌∷◌, ◌++◌, Option, None, Some, set, sym, refl, ap}
+use Rattle.flash_rule.proofs.Words.{◌∙◌, subst, arith, some, dite, ℕ_discrete, get_elem?, Call, held, Begins-refl, Numbers, MapWord, Open, Victim}
+use Rattle.flash_rule.proofs.Words.{Pass, Dealer, Player, View, is_pass, AreOfHosts, calls_of, caller, World, put, sector_word, LawfulSector}
+use Rattle.flash_rule.proofs.Words.{LawfulView, Lawful, Onward, Placed}
 use Rattle.std.proofs.lemmas.List.Elements.{All-push}
 use Rattle.geometry.proofs.Histories.{Begins-push}
 use Rattle.flash_rule.proofs.Points.{put_else, put_all}

@@ -1,8 +1,8 @@
 -- A broom exchanges a map word: from the page of its source to a copy of it.
 use Rattle.flash_rule.proofs.Words.{◌≡◌, ℕ, ◌+◌, ◌<◌, ◌⊎◌, inl, inr, true, false, List, None, Some, set, sym, refl, ap, ◌∙◌, subst, arith, some, dite}
 use Rattle.flash_rule.proofs.Words.{ℕ_discrete, get_elem?, held, Begins-refl, Numbers, map_word, MapWord, Phase, Open, Victim, Name, Player, Owned}
-use Rattle.flash_rule.proofs.Words.{Source, View, is_player, World, put, sector_word, IsCurrent, LawfulSector, LawfulOwned, LawfulView, Lawful, Onward}
-use Rattle.flash_rule.proofs.Words.{CanMove, Moved}
+use Rattle.flash_rule.proofs.Words.{Source, View, is_player, World, put, sector_word, IsCurrent, LawfulSector, LawfulOwned, LawfulView, Lawful}
+use Rattle.flash_rule.proofs.Words.{Onward, CanMove, Moved}
 use Rattle.flash_rule.proofs.Points.{put_here, put_else, put_all}
 use Rattle.flash_rule.proofs.Owning.{some_same, none_some}
 use Rattle.flash_rule.proofs.Frames.{counted, knowledge_kept}

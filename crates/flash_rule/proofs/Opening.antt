@@ -3,7 +3,8 @@ use Rattle.flash_rule.proofs.Words.{◌≡◌, ℕ, zero, suc, ◌*◌, ◌+◌,
 use Rattle.flash_rule.proofs.Words.{length, replicate, slice_get, sym, refl, ap, ◌∙◌, subst, arith, length-append, length-replicate, All-nil, get_or}
 use Rattle.flash_rule.proofs.Words.{if◌then◌else◌, some, some-injective, some-ne-none, dite, ℕ_discrete, dec_lt, get_elem?, Begins-refl, Numbers}
 use Rattle.flash_rule.proofs.Words.{pin_index, page_index, PinWord, Free, Open, Owned, View, owned_at, caller, World, Fits, is_owned, is_reclaimed}
-use Rattle.flash_rule.proofs.Words.{blank_word, IsCededBy, drained_of, LawfulCeded, LawfulBlock, LawfulOwned, LawfulView, Lawful, Ruled, spare, spares}
+use Rattle.flash_rule.proofs.Words.{blank_word, IsCededBy, drained_of, LawfulCeded, LawfulBlock, LawfulOwned, LawfulView, Lawful, Ruled, spare}
+use Rattle.flash_rule.proofs.Words.{spares}
 use Rattle.std.specs.Prelude.{nat_lt}
 use Rattle.atomic_table.specs.Table.{opening}
 use Rattle.geometry.proofs.Histories.{held_at_first}

@@ -1,17 +1,16 @@
 -- The owner's steps on the pin word of an open block: count and close.
-use Rattle.flash_rule.proofs.Words.{◌≡◌, ◌≢◌, ℕ, ◌+◌, ◌<◌, ◌≤◌, ◌⊎◌, inl, inr, ⊎_elim, true, false, List, [], ◌∷◌, ◌++◌, Option, None, Some, length}
-use Rattle.flash_rule.proofs.Words.{set, slice_get, sym, refl, ap, ◌∙◌, subst, arith, some, dite, ℕ_discrete, get_elem?, Begins, Numbers, Begins-refl}
-use Rattle.flash_rule.proofs.Words.{MapWord, PinWord, Free, Open, Closed, Owned, Name, Role, Dealer, Player, Note, Gone, Work, View, is_player}
-use Rattle.flash_rule.proofs.Words.{may_own, pins_on, owned_at, without, with_owned, World, put, put_name, is_owned, is_intact, is_still, half_cycle}
-use Rattle.flash_rule.proofs.Words.{rank, IsProgrammed, IsDealt, IsFilling, Programs, LawfulKind, LawfulOwned, LawfulWork, LawfulView, Lawful, ListsOnward}
-use Rattle.flash_rule.proofs.Words.{Onward, next_page}
+use Rattle.flash_rule.proofs.Words.{◌≡◌, ℕ, ◌+◌, ◌<◌, ◌≤◌, inl, inr, ⊎_elim, true, false, List, [], ◌∷◌, ◌++◌, Option, None, Some, length, set}
+use Rattle.flash_rule.proofs.Words.{slice_get, sym, refl, ap, ◌∙◌, subst, arith, some, get_elem?, Begins, Numbers, Begins-refl, MapWord, PinWord}
+use Rattle.flash_rule.proofs.Words.{Free, Open, Closed, Owned, Name, Player, Work, View, is_player, may_own, owned_at, without, with_owned, World}
+use Rattle.flash_rule.proofs.Words.{put, put_name, is_owned, is_intact, is_still, half_cycle, rank, IsProgrammed, IsDealt, IsFilling, Programs}
+use Rattle.flash_rule.proofs.Words.{LawfulKind, LawfulOwned, LawfulWork, LawfulView, Lawful, ListsOnward, Onward, next_page}
 use Rattle.std.proofs.lemmas.List.{append-nil}
 use Rattle.flash_rule.specs.Plays.{IsSettled}
 pub use Rattle.flash_rule.proofs.Roles.{player_of}
 use Rattle.flash_rule.proofs.Roles.{player_same, idle_or_player, may_own_else}
-use Rattle.flash_rule.proofs.Points.{put_here, total_set, name_here, name_else, name_all}
-use Rattle.flash_rule.proofs.Owning.{owns_none_else, some_same, none_some, with_here, with_else, without_else, each_with}
-use Rattle.flash_rule.proofs.Owning.{each_without, one_with_open, one_without, get_last, put3, put3_here, put3_else, blocks_apart, open_victim}
+use Rattle.flash_rule.proofs.Points.{put_here, name_here, name_else, name_all}
+use Rattle.flash_rule.proofs.Owning.{owns_none_else, some_same, none_some, with_here, with_else, without_else, each_with, each_without, one_with_open}
+use Rattle.flash_rule.proofs.Owning.{one_without, get_last, put3, put3_here, put3_else, blocks_apart, open_victim}
 use Rattle.flash_rule.proofs.Frames.{counted, knowledge_kept}
 use Rattle.flash_rule.proofs.Ceding.{ceded_owned, ceded_last}
 use Rattle.flash_rule.proofs.PinSteps.{Deeds, deeds, turned, moved, pin_turns, pin_moves, block_owned, block_turned, pin_turned_nameable, turned_else, seat_set}

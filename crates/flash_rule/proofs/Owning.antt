@@ -1,8 +1,7 @@
 -- The blocks that a seat owns, one entry changed; and what an owned block keeps while another one changes.
-use Rattle.flash_rule.proofs.Words.{Victim, ◌≡◌, ◌≢◌, ℕ, zero, suc, ◌≤◌, ◌⊎◌, inl, inr, ⊎_elim, eq-eqb, ne_eqb, true, false, List, [], ◌∷◌, ◌++◌, Option, None}
-use Rattle.flash_rule.proofs.Words.{Some, length, slice_get, sym, refl, ap, ◌∙◌, subst, dite, ℕ_discrete, Numbers, MapWord, Open, Owned, Name, Role}
-use Rattle.flash_rule.proofs.Words.{Dealer, Player, Note, Gone, Work, may_own, owned_at, without, with_owned, World, put, is_reclaimed, IsFilling}
-use Rattle.flash_rule.proofs.Words.{LawfulOwned, ReclaimsOne}
+use Rattle.flash_rule.proofs.Words.{Victim, ◌≡◌, ◌≢◌, ℕ, zero, suc, ◌≤◌, ◌⊎◌, inl, inr, ⊎_elim, eq-eqb, ne_eqb, true, false, List, [], ◌∷◌, ◌++◌}
+use Rattle.flash_rule.proofs.Words.{Option, None, Some, length, slice_get, sym, refl, ap, ◌∙◌, subst, dite, ℕ_discrete, Numbers, MapWord, Open, Owned}
+use Rattle.flash_rule.proofs.Words.{Work, owned_at, without, with_owned, World, put, is_reclaimed, IsFilling, LawfulOwned, ReclaimsOne}
 use Rattle.flash_rule.proofs.Points.{eq_self}
 use Rattle.flash_rule.proofs.Keeping.{owned_with}
 

@@ -1,9 +1,9 @@
 -- Steps on page words: put and get.
 use Rattle.flash_rule.proofs.Words.{◌≡◌, ◌≢◌, ℕ, zero, suc, ◌*◌, ◌<◌, ◌≤◌, inl, inr, ⊎_elim, eq-eqb, ne_eqb, true, false, List, [], ◌∷◌, ◌++◌, Option}
 use Rattle.flash_rule.proofs.Words.{None, Some, length, set, sym, refl, ap, ◌∙◌, subst, arith, length-append, get_or, some, dite, ℕ_discrete}
-use Rattle.flash_rule.proofs.Words.{get_elem?, Numbers, MapWord, Open, Erasing, Pin, Owned, Pass, Broom, Role, Dealer, Player}
-use Rattle.flash_rule.proofs.Words.{Note, Gone, Clear, Accepted, Work, Carried, View, is_pass, is_player, owned_at, World, put_word, is_still, age_of}
-use Rattle.flash_rule.proofs.Words.{data_word, IsFilling, LawfulOwned, LawfulWork, LawfulView, Lawful, LawfulPin, Onward, next_page, words_in, ◌+◌}
+use Rattle.flash_rule.proofs.Words.{get_elem?, Numbers, MapWord, Open, Erasing, Pin, Owned, Pass, Broom, Role, Dealer, Player, Note, Gone, Clear}
+use Rattle.flash_rule.proofs.Words.{Accepted, Work, Carried, View, is_pass, is_player, owned_at, World, put_word, is_still, age_of, data_word}
+use Rattle.flash_rule.proofs.Words.{IsFilling, LawfulOwned, LawfulWork, LawfulView, Lawful, LawfulPin, Onward, next_page, words_in, ◌+◌}
 use Rattle.flash_rule.specs.Plays.{SettledBut, Spared}
 use Rattle.flash_rule.proofs.Points.{eq_self}
 use Rattle.flash_rule.proofs.Owning.{some_same, blocks_apart, open_victim}

@@ -1,10 +1,10 @@
 -- Steps that change one pin word: take, count, close.
 use Rattle.flash_rule.proofs.Words.{◌≡◌, ◌≢◌, ℕ, zero, suc, ◌+◌, ◌*◌, ◌<◌, ◌≤◌, inl, inr, true, false, List, [], ◌∷◌, ◌++◌, Option, Some, set, sym}
 use Rattle.flash_rule.proofs.Words.{refl, ap, ◌∙◌, subst, arith, some, some-ne-none, dite, ℕ_discrete, get_elem?, Numbers, Begins-refl, MapWord}
-use Rattle.flash_rule.proofs.Words.{PinWord, Phase, Free, Open, Victim, Erasing, Owned, Cycle, Name, Role, Dealer, Player, Note, Gone, Work, View, is_player, may_own}
-use Rattle.flash_rule.proofs.Words.{pins_on, weight, owned_at, with_owned, World, put, is_owned, is_intact, is_nameable, is_still, half_cycle, age_of, IsBlank, blank_word}
-use Rattle.flash_rule.proofs.Words.{rank, LawfulCeded, IsCurrent, IsProgrammed, IsFilling, LawfulBlock, LawfulOwned, LawfulView, Lawful, IsDealt}
-use Rattle.flash_rule.proofs.Words.{PinOnward, Untouched, ListsOnward, Onward}
+use Rattle.flash_rule.proofs.Words.{PinWord, Phase, Free, Open, Victim, Erasing, Owned, Cycle, Name, Work, View, is_player, pins_on, weight, owned_at}
+use Rattle.flash_rule.proofs.Words.{with_owned, World, put, is_owned, is_intact, is_nameable, is_still, half_cycle, age_of, IsBlank, blank_word, rank}
+use Rattle.flash_rule.proofs.Words.{LawfulCeded, IsCurrent, IsProgrammed, IsFilling, LawfulBlock, LawfulOwned, LawfulView, Lawful, IsDealt, PinOnward}
+use Rattle.flash_rule.proofs.Words.{Untouched, ListsOnward, Onward}
 use Rattle.flash_rule.proofs.Roles.{player_may_own}
 use Rattle.flash_rule.proofs.Points.{put_here, put_else, put_all, total_set}
 use Rattle.flash_rule.proofs.Owning.{with_here, with_else, each_with, owned_else, one_with_open}

@@ -1,12 +1,11 @@
 -- The readers' steps on a pin word: pin and unpin.
-use Rattle.flash_rule.proofs.Words.{◌≡◌, ◌≢◌, ℕ, ◌*◌, ◌+◌, ◌-◌, ◌%◌, ◌^◌, ◌<◌, ◌≤◌, ◌⊎◌, inl, inr, ⊎_elim, eq-eqb, ne_eqb, Bool, true, false, List, []}
+use Rattle.flash_rule.proofs.Words.{◌≡◌, ◌≢◌, ℕ, ◌*◌, ◌+◌, ◌-◌, ◌%◌, ◌^◌, ◌<◌, ◌≤◌, ◌⊎◌, inl, inr, ⊎_elim, eq-eqb, ne_eqb, Bool, true, false, List}
 use Rattle.flash_rule.proofs.Words.{length, set, sym, refl, ap, ◌∙◌, subst, arith, length-set, get_or, get_or-set_same, get_or-set_other, some, none}
-use Rattle.flash_rule.proofs.Words.{dite, ℕ_discrete, get_elem?, Act, Valid, step, keeps, stepped, carried_after, Allows, Numbers, pin_word, FitsPin}
-use Rattle.flash_rule.proofs.Words.{pin_index, MapWord, PinWord, READER, Phase, Free, Open, Closed, Victim, Drained, Erasing, Retired, Owned, Pin}
-use Rattle.flash_rule.proofs.Words.{Clear, Candidate, Accepted, Stray, View, one_if, is_pass, pin_is_on, pins_on, sum_of, World, Fits, put, is_owned}
-use Rattle.flash_rule.proofs.Words.{is_intact, is_still, half_cycle, age_of, Intact, IsCandidate, LawfulPin, LawfulOwned, LawfulView, Lawful, Onward}
-use Rattle.flash_rule.proofs.Words.{Ruled, Sitter, Pinned, IsOn, pin_told, unpin_told, adds, ◌==◌}
-use Rattle.flash_rule.proofs.Points.{put_here, put_all, total_set, eq_self}
+use Rattle.flash_rule.proofs.Words.{dite, ℕ_discrete, get_elem?, step, keeps, Allows, Numbers, pin_word, pin_index, MapWord, PinWord, READER, Phase}
+use Rattle.flash_rule.proofs.Words.{Free, Open, Closed, Victim, Drained, Erasing, Retired, Owned, Pin, Clear, Candidate, Accepted, Stray, View}
+use Rattle.flash_rule.proofs.Words.{one_if, is_pass, pin_is_on, pins_on, sum_of, World, put, is_intact, half_cycle, age_of, Intact, IsCandidate}
+use Rattle.flash_rule.proofs.Words.{LawfulPin, LawfulOwned, LawfulView, Lawful, Onward, Ruled, Sitter, Pinned, IsOn, pin_told, unpin_told, ◌==◌}
+use Rattle.flash_rule.proofs.Points.{put_here, put_all, eq_self}
 use Rattle.geometry.proofs.PinBits.{takes_off, reads}
 use Rattle.flash_rule.proofs.Frames.{counted, knowledge_kept}
 use Rattle.flash_rule.proofs.Assembly.{owner_kept, state_fits}

@@ -1,25 +1,21 @@
 -- Each step of a broom on a pin word, as the table asks for it: whatever the table is, the step keeps the rule and tells what it says.
-use Rattle.flash_rule.proofs.Words.{◌≡◌, ◌≢◌, ℕ, ◌+◌, ◌%◌, ◌^◌, ◌<◌, ◌≤◌, ◌⊎◌, inl, inr, ⊎_elim, ◌==◌, eq-eqb, ne_eqb, true, List, [], ◌∷◌, ◌++◌, Some}
-use Rattle.flash_rule.proofs.Words.{set, sym, refl, ap, ◌∙◌, subst, arith, get_or, either, some, none, dite, ℕ_discrete, get_elem?, State, Act, Valid}
-use Rattle.flash_rule.proofs.Words.{step, keeps, stepped, carried_after, Allows, Numbers, pin_word, FitsPin, freed_added, kept_added, pin_index}
-use Rattle.flash_rule.proofs.Words.{PinWord, Phase, Free, Open, Closed, Victim, Drained, Erasing, Retired, NEXT_PHASE, Name, Role, Dealer, Player}
-use Rattle.flash_rule.proofs.Words.{Note, Gone, Owned, View, is_broom, owned_at, without, with_owned, World, Fits, put, is_owned, freed_as, Lawful}
-use Rattle.flash_rule.proofs.Words.{Ruled, Sitter, CanClaim, Claimed, CanCondemn, Condemned, CanDrain, CanRenew, CanRetire, owned_as, cycle_of}
-use Rattle.flash_rule.proofs.Words.{claim_told, condemn_told, drain_told, freed_told, kept_told, retired_told}
+use Rattle.flash_rule.proofs.Words.{◌≡◌, ◌≢◌, ℕ, ◌+◌, ◌%◌, ◌^◌, ◌<◌, ◌≤◌, ⊎_elim, ◌==◌, eq-eqb, ne_eqb, true, List, [], ◌∷◌, ◌++◌, set, sym, refl, ap}
+use Rattle.flash_rule.proofs.Words.{◌∙◌, subst, arith, get_or, either, some, none, dite, ℕ_discrete, get_elem?, State, Act, Valid, step, keeps}
+use Rattle.flash_rule.proofs.Words.{stepped, carried_after, Allows, Numbers, pin_word, FitsPin, freed_added, kept_added, pin_index, PinWord, Open}
+use Rattle.flash_rule.proofs.Words.{Closed, Victim, Drained, Erasing, Retired, NEXT_PHASE, Owned, View, is_broom, without, with_owned, World, Fits}
+use Rattle.flash_rule.proofs.Words.{is_owned, freed_as, Lawful, Ruled, Sitter, CanClaim, Claimed, CanCondemn, Condemned, CanDrain, CanRenew}
+use Rattle.flash_rule.proofs.Words.{CanRetire, owned_as, cycle_of, claim_told, condemn_told, drain_told, freed_told, kept_told, retired_told}
 use Rattle.geometry.proofs.PinBits as bits
 use Rattle.flash_rule.specs.BroomPlays.{Loaded, state_told}
 use Rattle.flash_rule.proofs.Roles.{player_of, broom_player, broom_live, phase_or_not}
-use Rattle.flash_rule.proofs.Points.{put_here}
-use Rattle.flash_rule.proofs.Places.{fits_load, fits_pin, pin_within}
-use Rattle.flash_rule.proofs.Owning.{some_same}
 use Rattle.flash_rule.proofs.Assembly.{state_fits}
 use Rattle.flash_rule.proofs.PinSteps.{Deeds, deeds, turned}
 use Rattle.flash_rule.proofs.Ruling.{ruled_as, ruled_plus, ruled_still, same_block, same_owned}
 use Rattle.flash_rule.proofs.Reclaiming.{unowned, notes, owner_numbers}
-use Rattle.flash_rule.proofs.ReclaimSteps.{claims, claimed_state, claimer, condemns, condemned_state, condemner}
-use Rattle.flash_rule.proofs.ReclaimSteps.{condemn_deeds, drains_block, drained_state, drainer}
-use Rattle.flash_rule.proofs.EraseSteps.{retires, retired_state, retirer, frees, freed_state, freer, keeps_block}
-use Rattle.flash_rule.proofs.EraseSteps.{kept_state, keeper, erasing_low, erasing_written, is_erasing}
+use Rattle.flash_rule.proofs.ReclaimSteps.{claims, claimed_state, claimer, condemns, condemned_state, condemner, condemn_deeds, drains_block}
+use Rattle.flash_rule.proofs.ReclaimSteps.{drained_state, drainer}
+use Rattle.flash_rule.proofs.EraseSteps.{retires, retired_state, retirer, frees, freed_state, freer, keeps_block, kept_state, keeper, erasing_low}
+use Rattle.flash_rule.proofs.EraseSteps.{erasing_written, is_erasing}
 
 -- what an exchange leaves
 exchanged : (n old new : ℕ) → n ≡ old → either (n == old) new n ≡ new
@@ -123,7 +119,8 @@ module _ (z : Numbers) (slots id : ℕ) (me : Sitter) where
       → pin_index z b ≡ pin_index me.0.numbers c
       → pin_word p ≡ pin_word q → Won c q
   told_of Won b p numbers fitting told c q fitting' is first =
-      let same : p ≡ q = bits.pin_same p q fitting fitting' first in subst (λ (x : ℕ × PinWord). Won x.0 x.1) (λ i. (same_block z me numbers b c is i, same i)) told
+      let same : p ≡ q = bits.pin_same p q fitting fitting' first in
+      subst (λ (x : ℕ × PinWord). Won x.0 x.1) (λ i. (same_block z me numbers b c is i, same i)) told
 
   low_block : (b : ℕ) → me.0.numbers ≡ z → b < me.0.numbers.blocks → b < z.blocks
   low_block b numbers low = let e : me.0.numbers.blocks ≡ z.blocks = ap (λ (y : Numbers). y.blocks) numbers in omega arith
@@ -199,7 +196,8 @@ module _ (z : Numbers) (slots id : ℕ) (me : Sitter) where
         w,
         keeps,
         tt,
-        ruled_plus z id me t g fits o.block mine.low (drained_state z g t.views id v o law at) id (deeds g) w NEXT_PHASE sum (drains_block z g t.views id v o law at can),
+        ruled_plus z id me t g fits o.block mine.low (drained_state z g t.views id v o law at) id (deeds g) w NEXT_PHASE sum
+            (drains_block z g t.views id v o law at can),
         (
           refl,
           λ e can' is. ap (λ (y : Owned).
@@ -272,7 +270,8 @@ module _ (z : Numbers) (slots id : ℕ) (me : Sitter) where
         w,
         keeps,
         tt,
-        ruled_plus z id me t g fits o.block low (retired_state z g t.views id v o law at erasing) id (deeds g) w NEXT_PHASE sum (retires z g t.views id v o law at erasing),
+        ruled_plus z id me t g fits o.block low (retired_state z g t.views id v o law at erasing) id (deeds g) w NEXT_PHASE sum
+            (retires z g t.views id v o law at erasing),
         (
           refl,
           λ e can' is. ap (λ (y : Owned). record v { owns = without y.block v.owns; ceded = v.ceded ++ record y { phase = Retired } ∷ [] })

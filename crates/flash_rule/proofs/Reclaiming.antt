@@ -1,12 +1,11 @@
 -- A change of one pin word by which a seat gets a block to drain or erase, or is done with it: what the six steps have in common.
 use Rattle.flash_rule.proofs.Words.{◌≡◌, ◌≢◌, ℕ, ◌*◌, ◌<◌, ◌≤◌, inl, true, false, List, [], Option, None, Some, set, sym, refl, ap, ◌∙◌, subst, arith}
-use Rattle.flash_rule.proofs.Words.{some, dite, ℕ_discrete, get_elem?, Begins, Numbers, Begins-refl, MapWord, PinWord, Free, Open, Name, Role, Dealer}
-use Rattle.flash_rule.proofs.Words.{Player, Note, Gone, Pass, Broom, Owned, Source, Cycle, View, is_pass, is_broom, is_player, is_live_role, may_own}
-use Rattle.flash_rule.proofs.Words.{pins_on, owned_at, without, with_owned, World, put, is_owned, is_nameable, is_still, age_of, IsBlank, LawfulCeded}
-use Rattle.flash_rule.proofs.Words.{IsCurrent, Erases, ReclaimsOne, LawfulOwned, LawfulSource, LawfulKind, LawfulView, Lawful, IsDealt, PinOnward}
-use Rattle.flash_rule.proofs.Words.{Onward, ◌+◌}
+use Rattle.flash_rule.proofs.Words.{some, dite, ℕ_discrete, get_elem?, Begins, Numbers, Begins-refl, MapWord, PinWord, Free, Open, Name, Player}
+use Rattle.flash_rule.proofs.Words.{Owned, Source, Cycle, View, is_pass, is_player, may_own, pins_on, owned_at, without, with_owned, World, put}
+use Rattle.flash_rule.proofs.Words.{is_owned, is_nameable, is_still, age_of, IsBlank, LawfulCeded, IsCurrent, Erases, ReclaimsOne, LawfulOwned}
+use Rattle.flash_rule.proofs.Words.{LawfulSource, LawfulKind, LawfulView, Lawful, IsDealt, PinOnward, Onward, ◌+◌}
 use Rattle.flash_rule.proofs.Roles.{owner_live}
-use Rattle.flash_rule.proofs.Points.{put_here, put_else, total_set}
+use Rattle.flash_rule.proofs.Points.{put_else}
 use Rattle.flash_rule.proofs.Owning.{owns_none_else, some_same, none_some, with_here, without_here, owned_else, without_else, with_else, one_without}
 use Rattle.flash_rule.proofs.Frames.{counted, knowledge_kept}
 use Rattle.flash_rule.proofs.Still.{still}

@@ -1,6 +1,6 @@
 -- A pin word after a step on it that keeps the rule, and the block that a step's place is of.
-use Rattle.flash_rule.proofs.Words.{◌≡◌, ℕ, ◌+◌, ◌%◌, ◌^◌, ◌<◌, List, Some, set, sym, ap, ◌∙◌, subst, arith, get_or, State, Act, keeps, stepped}
-use Rattle.flash_rule.proofs.Words.{Numbers, pin_word, FitsPin, pin_index, PinWord, Owned, View, owned_at, World, Fits, put, Lawful, Ruled, Sitter, adds}
+use Rattle.flash_rule.proofs.Words.{◌≡◌, ℕ, ◌+◌, ◌%◌, ◌^◌, ◌<◌, Some, set, sym, ap, ◌∙◌, subst, arith, get_or, State, keeps, stepped, Numbers}
+use Rattle.flash_rule.proofs.Words.{pin_word, FitsPin, pin_index, PinWord, Owned, View, owned_at, World, Fits, put, Lawful, Ruled, Sitter, adds}
 use Rattle.flash_rule.proofs.Points.{put_here}
 use Rattle.flash_rule.proofs.Places.{fits_load, fits_pin, pin_within}
 use Rattle.flash_rule.proofs.Owning.{some_same}

@@ -4,8 +4,8 @@ use Rattle.flash_rule.proofs.Words.{set, replicate, sym, refl, ap, ◌∙◌, su
 use Rattle.flash_rule.proofs.Words.{some-ne-none, get_elem?, Splits, at_set, at_longer, Begins-refl, Numbers, PinWord, Name, Pass, Broom, Dealer}
 use Rattle.flash_rule.proofs.Words.{Player, Note, Owned, Pin, Clear, View, one_if, total, is_player, is_live_role, pin_is_on, pins_on, weight}
 use Rattle.flash_rule.proofs.Words.{role_weight, owned_at, AreOfHosts, calls_of, World, put_name, is_owned, is_still, is_nameable, LawfulCeded, held}
-use Rattle.flash_rule.proofs.Words.{Free, LawfulSector, LawfulBlock, LawfulView, Lawful, IsDealt, Onward, Ruled}
-use Rattle.flash_rule.proofs.Words.{LawfulHolding, LawfulKnowledge, LawfulOwned, age_of}
+use Rattle.flash_rule.proofs.Words.{Free, LawfulSector, LawfulBlock, LawfulView, Lawful, IsDealt, Onward, Ruled, LawfulHolding, LawfulKnowledge}
+use Rattle.flash_rule.proofs.Words.{LawfulOwned, age_of}
 use Rattle.flash_rule.specs.Seats.{newcomer, new_pass, dealt_pass}
 use Rattle.flash_rule.proofs.Roles.{player_same}
 use Rattle.flash_rule.proofs.Points.{total_set, name_here, name_else, name_all}

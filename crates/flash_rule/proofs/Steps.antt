@@ -1,12 +1,11 @@
 -- Each kind of step of a pass, as the table asks for it: whatever the table is, the step keeps the rule and tells what it says.
-use Rattle.flash_rule.proofs.Words.{◌≡◌, ℕ, ◌+◌, ◌%◌, ◌^◌, ◌<◌, ◌≤◌, ◌==◌, eq-eqb, ne_eqb, ◌⊎◌, inl, inr, ⊎_elim, true, List, [], ◌∷◌, ◌++◌, Option}
-use Rattle.flash_rule.proofs.Words.{None, Some, length, set, sym, refl, ap, ◌∙◌, subst, arith, get_or, some, none, get_elem?, Act, Valid, step, keeps}
-use Rattle.flash_rule.proofs.Words.{stepped, carried_after, Allows, set_again, dite, ℕ_discrete, either, Call, Write, WriteNew, Trim, Numbers}
-use Rattle.flash_rule.proofs.Words.{map_word, FitsMap, pin_word, FitsPin, pin_index, page_index, MapWord, PinWord, Phase, Free, Open, Closed, Victim}
-use Rattle.flash_rule.proofs.Words.{Drained, Erasing, Retired, TAKEN, NEXT_PHASE, PAGE_WRITTEN, Role, Dealer, Player, Note, Gone, Owned, Accepted}
-use Rattle.flash_rule.proofs.Words.{Work, View, is_pass, is_player, is_live_role, owned_at, without, with_owned, World, Fits, is_owned, sector_word}
-use Rattle.flash_rule.proofs.Words.{Lawful, Ruled, Sitter, Looked, Placed, Took, CanPlace, CanCount, CanClose, words_in, next_page, take_told}
-use Rattle.flash_rule.proofs.Words.{count_told, close_told, is_unpinned, adds, map_same}
+use Rattle.flash_rule.proofs.Words.{◌≡◌, ℕ, ◌+◌, ◌%◌, ◌^◌, ◌<◌, ◌≤◌, ◌==◌, eq-eqb, ne_eqb, ⊎_elim, true, List, [], ◌∷◌, ◌++◌, Option, None, Some}
+use Rattle.flash_rule.proofs.Words.{length, set, sym, refl, ap, ◌∙◌, subst, arith, get_or, some, none, get_elem?, Act, Valid, step, keeps, stepped}
+use Rattle.flash_rule.proofs.Words.{carried_after, Allows, set_again, dite, ℕ_discrete, either, Call, Write, WriteNew, Trim, Numbers, map_word}
+use Rattle.flash_rule.proofs.Words.{FitsMap, pin_word, pin_index, page_index, MapWord, PinWord, Free, Open, Closed, TAKEN, NEXT_PHASE, PAGE_WRITTEN}
+use Rattle.flash_rule.proofs.Words.{Owned, Accepted, Work, View, is_pass, is_player, owned_at, without, with_owned, World, Fits, is_owned}
+use Rattle.flash_rule.proofs.Words.{sector_word, Lawful, Ruled, Sitter, Looked, Placed, Took, CanPlace, CanCount, CanClose, words_in, next_page}
+use Rattle.flash_rule.proofs.Words.{take_told, count_told, close_told, is_unpinned, map_same}
 use Rattle.std.specs.Int.Bits.{bit_or}
 use Rattle.geometry.specs.Sectors.{was_of}
 use Rattle.geometry.specs.declared.answer.Was.{Was}
@@ -15,7 +14,7 @@ use Rattle.geometry.specs.declared.map_word.TheConstants.{UNMAPPED}
 use Rattle.flash_rule.specs.Plays.{CanPut, look_told, write_told, new_told, trim_told, put_told, get_told, Called}
 use Rattle.geometry.proofs.PinBits.{next_phase, counts, takes_free, takes_taken}
 use Rattle.flash_rule.proofs.Roles.{player_live, phase_or_not}
-use Rattle.flash_rule.proofs.Places.{fits_load, fits_pin, fits_map, fits_page, pin_within, page_within, page_same}
+use Rattle.flash_rule.proofs.Places.{fits_load, fits_map, fits_page, page_within, page_same}
 use Rattle.flash_rule.proofs.Owning.{some_same}
 use Rattle.flash_rule.proofs.Assembly.{state_fits}
 use Rattle.flash_rule.proofs.Still.{look_empty, look_named, pass_of}
@@ -26,7 +25,6 @@ use Rattle.flash_rule.proofs.PageSteps.{puts_word, putter, put_world, gets_accep
 use Rattle.flash_rule.proofs.MapSteps.{placed, placer, place_world, pass_same, word_empty, word_named}
 use Rattle.flash_rule.proofs.Calls.{trims, writes, writes_new, leaves}
 use Rattle.flash_rule.proofs.Values.{value_same}
-use Rattle.flash_rule.proofs.Points.{put_here}
 use Rattle.flash_rule.proofs.Reclaiming.{unowned}
 
 module _ (z : Numbers) (slots id : ℕ) (me : Sitter) where
@@ -96,7 +94,8 @@ module _ (z : Numbers) (slots id : ℕ) (me : Sitter) where
           refl,
           λ u m' value' role first fitting' can'.
               let same : m ≡ m' = map_same m m' fitting fitting' (sym packed ∙ first) in
-              let words : me.0.numbers.words ≡ z.words = ap (λ (y : Numbers). y.words) (numbers_now g t.views law at (ap is_player (pass_of me.0.role pass).1)) in
+              let words : me.0.numbers.words ≡ z.words =
+              ap (λ (y : Numbers). y.words) (numbers_now g t.views law at (ap is_player (pass_of me.0.role pass).1)) in
               let works : can.work ≡ can'.work = some_same can.work can'.work (sym can.is ∙ can'.is) in
               let values : value ≡ value' =
               value_same me.0.numbers value value' can.whole can'.whole

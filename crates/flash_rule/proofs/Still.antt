@@ -1,12 +1,12 @@
 -- A step that changes no word: the looks of a pass.
-use Rattle.flash_rule.proofs.Words.{◌⊎◌, ◌≡◌, ◌≢◌, ℕ, zero, suc, ◌*◌, ◌+◌, ◌<◌, ◌≤◌, inl, true, false, List, [], ◌∷◌, Option, None, Some, length, set, sym}
-use Rattle.flash_rule.proofs.Words.{refl, ap, ◌∙◌, subst, arith, length-set, suc-mul, get_or, get_or-set_same, get_or-set_other, some, dite}
+use Rattle.flash_rule.proofs.Words.{◌⊎◌, ◌≡◌, ◌≢◌, ℕ, zero, suc, ◌*◌, ◌+◌, ◌<◌, ◌≤◌, inl, true, false, List, [], ◌∷◌, Option, None, Some, length, set}
+use Rattle.flash_rule.proofs.Words.{sym, refl, ap, ◌∙◌, subst, arith, length-set, suc-mul, get_or, get_or-set_same, get_or-set_other, some, dite}
 use Rattle.flash_rule.proofs.Words.{ℕ_discrete, get_elem?, Begins, held, Numbers, Begins-refl, map_word, FitsMap, MapWord, PinWord, Phase, Free, Open}
 use Rattle.flash_rule.proofs.Words.{Closed, Victim, Drained, Erasing, Retired, Name, Pass, Broom, Role, Dealer, Player, Note, Gone, Pin, Clear}
 use Rattle.flash_rule.proofs.Words.{Candidate, Accepted, Stray, Cycle, Carried, View, one_if, is_pass, is_live_role, pin_is_on, pins_on, weight}
 use Rattle.flash_rule.proofs.Words.{owned_at, AreOfHosts, calls_of, sum_of, World, is_intact, is_nameable, age_of, half_cycle, IsCurrent, Programs}
-use Rattle.flash_rule.proofs.Words.{Erases, LawfulKind, LawfulKnowledge, LawfulPin, LawfulView, LawfulCopy, Lawful, IsValue, PinOnward, Onward, Looked}
-use Rattle.flash_rule.proofs.Words.{Met, is_unpinned}
+use Rattle.flash_rule.proofs.Words.{Erases, LawfulKind, LawfulKnowledge, LawfulPin, LawfulView, LawfulCopy, Lawful, IsValue, PinOnward, Onward}
+use Rattle.flash_rule.proofs.Words.{Looked, Met, is_unpinned}
 use Rattle.flash_rule.specs.Plays.{Disjoint, Once}
 use Rattle.flash_rule.proofs.Frames.{lists_stay}
 use Rattle.flash_rule.proofs.Assembly.{assembled, block_kept}

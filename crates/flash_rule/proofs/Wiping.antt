@@ -1,7 +1,7 @@
 -- A broom sets the next word of its erasing block to all ones.
 use Rattle.flash_rule.proofs.Words.{◌≡◌, ◌≢◌, ℕ, zero, suc, ◌+◌, ◌-◌, ◌*◌, ◌<◌, ◌≤◌, inl, true, false, List, Some, set, sym, refl, ap, ◌∙◌, subst}
-use Rattle.flash_rule.proofs.Words.{arith, suc-mul, some, dite, ℕ_discrete, dec_lt, get_elem?, Numbers, page_index, Open, Victim, Erasing}
-use Rattle.flash_rule.proofs.Words.{Name, Player, Owned, View, is_player, owned_at, World, put_word, is_intact, is_nameable, is_reclaimed, is_still}
+use Rattle.flash_rule.proofs.Words.{arith, suc-mul, some, dite, ℕ_discrete, dec_lt, get_elem?, Numbers, page_index, Open, Victim, Erasing, Name}
+use Rattle.flash_rule.proofs.Words.{Player, Owned, View, is_player, owned_at, World, put_word, is_intact, is_nameable, is_reclaimed, is_still}
 use Rattle.flash_rule.proofs.Words.{blank_word, LawfulOwned, LawfulView, Lawful, Onward, IsErasing, wiper}
 use Rattle.std.proofs.Math.Nat.{add-mul}
 use Rattle.flash_rule.proofs.Owning.{some_same}
