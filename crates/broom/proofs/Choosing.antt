@@ -1,5 +1,6 @@
 -- A survey as a whole, and the choice by it.
-use Rattle.std.proofs.Common.{◌≡◌, ℕ, ◌<◌, Bool, false, true, All, List, [], ◌∷◌, ◌++◌, length, Option, None, Some, IfSome, MatchOption, refl, sym, ap, ◌∙◌, subst, arith, get_or}
+use Rattle.std.proofs.Common.{◌≡◌, ℕ, ◌<◌, Bool, false, true, All, List, [], ◌∷◌, ◌++◌, length, Option, None, Some}
+use Rattle.std.proofs.Common.{IfSome, MatchOption, refl, sym, ap, ◌∙◌, subst, arith, get_or}
 use Rattle.std.proofs.lemmas.List.{get_or_past, length-map}
 use Rattle.geometry.proofs.GreedyLemmas.{greedy_of-closed}
 use Rattle.std.proofs.lemmas.List.FromFn.{get_or-map-range_with_len}
@@ -25,7 +26,14 @@ use Rattle.broom.specs.Surveying.{StatesLoaded, PagesCounted, Chosen, ChoseNone,
 
 -- a broom rests again where only such fields of its view have changed as a survey or a lost claim sets
 pub rested_again : (f : Flash) (s t : BroomSeat) → IsRested f s → IsBroomOf f t → own_blocks t ≡ own_blocks s
-    → broom_view t ≡ record (broom_view s) { seen = (broom_view t).seen; loaded = (broom_view t).loaded; named = (broom_view t).named; busy = (broom_view t).busy; stale = (broom_view t).stale; lost = (broom_view t).lost }
+    → broom_view t ≡ record (broom_view s) {
+      seen = (broom_view t).seen;
+      loaded = (broom_view t).loaded;
+      named = (broom_view t).named;
+      busy = (broom_view t).busy;
+      stale = (broom_view t).stale;
+      lost = (broom_view t).lost;
+    }
     → AreOfHosts (broom_view t).numbers (broom_view t).seen → IsRested f t
 rested_again f s t h seat blocks changed callers =
     record {
@@ -48,7 +56,8 @@ closed_low closed i is = dite (dec_lt i (length closed)) (λ below. below) (λ p
   marked_past e = let both : false ≡ true = sym e ∙ is in absurd (cc)
 
 module _ (f : Flash) (before after : Broom) (s : BroomSeat) (states : List PinWord) (counts : List ℕ) (closed : List Bool) (seat : IsBroomOf f before.seat)
-    (loaded : StatesLoaded (device f) (view_of_broom before) states closed (broom_view s)) (counted : PagesCounted (broom_view s) states counts (view_of_broom after)) (long : length states ≡ blocks_of (geometry_of f)) where
+    (loaded : StatesLoaded (device f) (view_of_broom before) states closed (broom_view s))
+    (counted : PagesCounted (broom_view s) states counts (view_of_broom after)) (long : length states ≡ blocks_of (geometry_of f)) where
   abbrev v : View
   v = view_of_broom before
 
@@ -63,10 +72,22 @@ module _ (f : Flash) (before after : Broom) (s : BroomSeat) (states : List PinWo
 
   pub changed : w ≡ record v { seen = w.seen; loaded = w.loaded; named = v.named ++ looks_of counted.pages; busy = w.busy; stale = w.stale }
   changed =
-      let all : w ≡ record v { seen = w.seen; loaded = v.loaded ++ loads_of states; named = (broom_view s).named ++ looks_of counted.pages; busy = (broom_view s).busy; stale = (broom_view s).stale } =
+      let all : w ≡ record v {
+        seen = w.seen;
+        loaded = v.loaded ++ loads_of states;
+        named = (broom_view s).named ++ looks_of counted.pages;
+        busy = (broom_view s).busy;
+        stale = (broom_view s).stale;
+      } =
       counted.changed ∙ (λ i. record (loaded.changed i) { seen = w.seen; named = (broom_view s).named ++ looks_of counted.pages }) in
       let named : (broom_view s).named ≡ v.named = ap (λ (x : View). x.named) loaded.changed in
-      all ∙ (λ i. record v { seen = w.seen; loaded = (sym all i).loaded; named = named i ++ looks_of counted.pages; busy = (sym all i).busy; stale = (sym all i).stale })
+      all ∙ (λ i. record v {
+        seen = w.seen;
+        loaded = (sym all i).loaded;
+        named = named i ++ looks_of counted.pages;
+        busy = (sym all i).busy;
+        stale = (sym all i).stale;
+      })
 
   pub made : Surveyed v the_survey w
   made =
@@ -82,7 +103,8 @@ module _ (f : Flash) (before after : Broom) (s : BroomSeat) (states : List PinWo
           pages = counted.fits;
         };
         loaded = ap (λ (x : View). x.loaded) counted.changed ∙ ap (λ (x : View). x.loaded) loaded.changed;
-        named = let P : List (ℕ × ℕ) → Type 0 = λ l. Begins (v.named ++ looks_of counted.pages) l in subst P (sym (ap (λ (x : View). x.named) changed)) (Begins-refl (v.named ++ looks_of counted.pages));
+        named = let P : List (ℕ × ℕ) → Type 0 = λ l. Begins (v.named ++ looks_of counted.pages) l in
+            subst P (sym (ap (λ (x : View). x.named) changed)) (Begins-refl (v.named ++ looks_of counted.pages));
         later = let P : List Call → Type 0 = λ l. Begins l w.seen in subst P seen counted.later;
       }
 
@@ -93,13 +115,15 @@ module _ (f : Flash) (before after : Broom) (s : BroomSeat) (states : List PinWo
   choice o is = (λ i. greedy_of (sym counted.counted i) (sym loaded.marked i)) ∙ sym is
 
   pub live_is : (b : ℕ) → b < length states → get_or counts b 0 ≡ live_pages the_survey b
-  live_is b low = ap (λ (l : List ℕ). get_or l b 0) counted.counted ∙ get_or-map-range_with_len (live_pages the_survey) 0 (length states) b b 0 low (omega arith)
+  live_is b low = ap (λ (l : List ℕ). get_or l b 0) counted.counted
+      ∙ get_or-map-range_with_len (live_pages the_survey) 0 (length states) b b 0 low (omega arith)
 
   pub gained_nothing : GainsNothing the_survey v.numbers.pages → GainedNothing v w
   gained_nothing nothing = record { survey = the_survey; made = made; nothing = nothing; changed = changed }
 
   -- the broom keeps what the survey found
-  module _ (keeps : after.states.items ≡ states) (counts_are : after.counts.items ≡ counts) (marks_are : after.closed.items ≡ closed) (many : length after.counts.items ≡ length after.closed.items) where
+  module _ (keeps : after.states.items ≡ states) (counts_are : after.counts.items ≡ counts) (marks_are : after.closed.items ≡ closed)
+      (many : length after.counts.items ≡ length after.closed.items) where
     next : next_of after ≡ greedy_of counts closed
     next = λ i. greedy_of (counts_are i) (marks_are i)
 
@@ -118,9 +142,11 @@ module _ (f : Flash) (before after : Broom) (s : BroomSeat) (states : List PinWo
     left : LeftSurvey v the_survey (closed_of states) after
     left = record { made = made; states = keeps; counts = counts_are ∙ counted.counted; marks = marks_are ∙ loaded.marked }
 
-    none : (o : Option ℕ) → next_of after ≡ o → IfSome o (λ b. get_or after.counts.items b 0 ≡ w.numbers.pages) → IfSome o (λ b. live_pages the_survey b ≡ v.numbers.pages)
+    none : (o : Option ℕ) → next_of after ≡ o → IfSome o (λ b. get_or after.counts.items b 0 ≡ w.numbers.pages)
+        → IfSome o (λ b. live_pages the_survey b ≡ v.numbers.pages)
     none None is full = tt
-    none (Some b) is full = sym (count_is b (greedy_of-closed after.counts.items after.closed.items many b is)) ∙ (full ∙ ap (λ (z : Numbers). z.pages) numbers_after)
+    none (Some b) is full = sym (count_is b (greedy_of-closed after.counts.items after.closed.items many b is))
+        ∙ (full ∙ ap (λ (z : Numbers). z.pages) numbers_after)
 
     pub chose_none : GainsNothingNext after → ChoseNone v after
     chose_none full =
@@ -133,7 +159,10 @@ module _ (f : Flash) (before after : Broom) (s : BroomSeat) (states : List PinWo
         record {
           survey = the_survey;
           made = made;
-          victim = record { chosen = choice (Some b) (sym h.chosen ∙ next); gains = λ e. h.gains (count_is b shut ∙ (e ∙ ap (λ (z : Numbers). z.pages) (sym numbers_after))) };
+          victim = record {
+            chosen = choice (Some b) (sym h.chosen ∙ next);
+            gains = λ e. h.gains (count_is b shut ∙ (e ∙ ap (λ (z : Numbers). z.pages) (sym numbers_after)));
+          };
           kept = sym keeps;
           counts = left.counts;
           marks = left.marks;
@@ -155,11 +184,22 @@ module _ (f : Flash) (before after : Broom) (s : BroomSeat) (states : List PinWo
 
 -- the block to be drained next is one of the device
 pub next_low : (f : Flash) (b : Broom) (victim : ℕ) → IsReady f b → Some victim ≡ next_of b → victim < blocks_of (geometry_of f)
-next_low f b victim h is = let low = closed_low b.closed.items victim (greedy_of-closed b.counts.items b.closed.items (h.counts ∙ sym h.closed) victim (sym is)) in let long = h.closed in omega arith
+next_low f b victim h is = let low =
+    closed_low b.closed.items victim (greedy_of-closed b.counts.items b.closed.items (h.counts ∙ sym h.closed) victim (sym is)) in
+    let long = h.closed in omega arith
 
 -- and where a claim was lost
-pub rested_lost : (f : Flash) (s t : BroomSeat) (b : ℕ) → IsRested f s → IsBroomOf f t → own_blocks t ≡ own_blocks s → broom_view t ≡ record (broom_view s) { lost = (broom_view s).lost ++ b ∷ [] } → IsRested f t
+pub rested_lost : (f : Flash) (s t : BroomSeat) (b : ℕ) → IsRested f s → IsBroomOf f t → own_blocks t ≡ own_blocks s
+    → broom_view t ≡ record (broom_view s) { lost = (broom_view s).lost ++ b ∷ [] } → IsRested f t
 rested_lost f s t b h seat blocks lost =
     let e = sym lost in
-    rested_again f s t h seat blocks (lost ∙ (λ i. record (broom_view s) { seen = (e i).seen; loaded = (e i).loaded; named = (e i).named; busy = (e i).busy; stale = (e i).stale; lost = (e i).lost }))
+    rested_again f s t h seat blocks
+    (lost ∙ (λ i. record (broom_view s) {
+      seen = (e i).seen;
+      loaded = (e i).loaded;
+      named = (e i).named;
+      busy = (e i).busy;
+      stale = (e i).stale;
+      lost = (e i).lost;
+    }))
     (subst (λ (v : View). AreOfHosts v.numbers v.seen) e h.callers)

@@ -1,5 +1,6 @@
 -- The steps around a copy: the spare becomes the destination, the map word is moved, and a full destination is closed.
-use Rattle.std.proofs.Common.{◌≡◌, ℕ, ◌+◌, ◌-◌, ◌<◌, ◌≤◌, Bool, true, false, MatchBool, ◌⊎◌, inl, inr, ⊎_elim, List, [], ◌∷◌, ◌++◌, length, append-nil, append_assoc, Option, None, Some, sym, refl, ap, ◌∙◌, subst, arith}
+use Rattle.std.proofs.Common.{◌≡◌, ℕ, ◌+◌, ◌-◌, ◌<◌, ◌≤◌, Bool, true, false, MatchBool, ◌⊎◌, inl, inr, ⊎_elim, List, [], ◌∷◌, ◌++◌}
+use Rattle.std.proofs.Common.{length, append-nil, append_assoc, Option, None, Some, sym, refl, ap, ◌∙◌, subst, arith}
 use Rattle.geometry.specs.Geometry.{pages_of}
 use Rattle.geometry.specs.History.{Begins, Call}
 use Rattle.geometry.specs.Limits.{Numbers}
@@ -49,7 +50,9 @@ module _ (f : Flash) (s t : BroomSeat) (h : Opened s t) where
       ⊎_elim
       (λ (some : (p : OpenBlock) × ((own_blocks s).destination ≡ Some p)). ap (pages_to_fill pages) (h.kept some.0 some.1))
       (λ (none : (own_blocks s).destination ≡ None).
-      ap (pages_to_fill pages) (h.opened none) ∙ (append-nil (pages_left pages (own_blocks s).spare) ∙ ap (λ (o : Option OpenBlock). pages_left pages o ++ pages_left pages (own_blocks s).spare) (sym none)))
+      ap (pages_to_fill pages) (h.opened none)
+      ∙ (append-nil (pages_left pages (own_blocks s).spare)
+      ∙ ap (λ (o : Option OpenBlock). pages_left pages o ++ pages_left pages (own_blocks s).spare) (sym none)))
       (some_or_none (own_blocks s).destination)
 
   pub opened_kept : (pages : ℕ) → 1 ≤ length (pages_left pages (own_blocks s).destination) → (own_blocks t).spare ≡ (own_blocks s).spare
@@ -57,10 +60,12 @@ module _ (f : Flash) (s t : BroomSeat) (h : Opened s t) where
       ⊎_elim
       (λ (some : (p : OpenBlock) × ((own_blocks s).destination ≡ Some p)). ap (λ (x : BroomBlocks). x.spare) (h.kept some.0 some.1))
       (λ (none : (own_blocks s).destination ≡ None).
-      let empty : length (pages_left pages (own_blocks s).destination) ≡ 0 = ap (λ (o : Option OpenBlock). length (pages_left pages o)) none in absurd (omega arith))
+      let empty : length (pages_left pages (own_blocks s).destination) ≡ 0 = ap (λ (o : Option OpenBlock). length (pages_left pages o)) none in
+      absurd (omega arith))
       (some_or_none (own_blocks s).destination)
 
-  pub opened_used : (pages : ℕ) (o : OpenBlock) → (own_blocks t).destination ≡ Some o → o.written < pages → length (pages_left pages (own_blocks s).destination) < 1 → (own_blocks t).spare ≡ None
+  pub opened_used : (pages : ℕ) (o : OpenBlock) → (own_blocks t).destination ≡ Some o → o.written < pages
+      → length (pages_left pages (own_blocks s).destination) < 1 → (own_blocks t).spare ≡ None
   opened_used pages o is room empty =
       ⊎_elim
       (λ (some : (p : OpenBlock) × ((own_blocks s).destination ≡ Some p)).
@@ -90,7 +95,8 @@ module _ (f : Flash) (s t : BroomSeat) (h : Opened s t) where
       let callers = subst (λ (v : View). AreOfHosts v.numbers v.seen) (sym h.view) g.callers in
       let work = ap (λ (v : View). v.work) h.view in
       ⊎_elim
-      (λ (some : (p : OpenBlock) × ((own_blocks s).destination ≡ Some p)). sweeps_on f (pages_of (geometry_of f)) s t x g seat (h.kept some.0 some.1) work callers)
+      (λ (some : (p : OpenBlock) × ((own_blocks s).destination ≡ Some p)).
+      sweeps_on f (pages_of (geometry_of f)) s t x g seat (h.kept some.0 some.1) work callers)
       (λ (none : (own_blocks s).destination ≡ None).
       let now = h.opened none in
       record {
@@ -133,7 +139,17 @@ module _ (v w : View) (x : Source) (n : ℕ) (moved : Bool) (told : Moved v x n 
       let e = told.changed in
       record {
         changed = e
-            ∙ (λ i. record v { seen = w.seen; named = (sym e i).named; owns = (sym e i).owns; work = (sym e i).work; programs = (sym e i).programs; cleared = (sym e i).cleared; source = (sym e i).source; moves = moves_are i; ceded = (sym e i).ceded });
+            ∙ (λ i. record v {
+              seen = w.seen;
+              named = (sym e i).named;
+              owns = (sym e i).owns;
+              work = (sym e i).work;
+              programs = (sym e i).programs;
+              cleared = (sym e i).cleared;
+              source = (sym e i).source;
+              moves = moves_are i;
+              ceded = (sym e i).ceded;
+            });
         later = told.later;
         named = subst (λ (l : List (ℕ × ℕ)). Begins v.named l) (sym (ap (λ (y : View). y.named) e)) (Begins-refl v.named);
         programmed = subst (λ (l : List MapWord). Begins v.programs l) (sym (ap (λ (y : View). y.programs) e)) (Begins-refl v.programs);
@@ -157,17 +173,30 @@ module _ (f : Flash) (s : BroomSeat) (o : OpenBlock) (is : (own_blocks s).destin
             let written : t.0.written ≡ e.written = ap (λ (x : Owned). x.written) same in omega arith;
       }
 
-  module _ (t : BroomSeat) (owns : List Owned) (told : broom_view t ≡ record (broom_view s) { owns = owns; work = None; ceded = (broom_view s).ceded ++ closed_as o ∷ [] }) (blocks : own_blocks t ≡ record (own_blocks s) { destination = None }) (full : o.written ≡ pages_of (geometry_of f)) where
+  module _ (t : BroomSeat) (owns : List Owned)
+      (told : broom_view t ≡ record (broom_view s) { owns = owns; work = None; ceded = (broom_view s).ceded ++ closed_as o ∷ [] })
+      (blocks : own_blocks t ≡ record (own_blocks s) { destination = None }) (full : o.written ≡ pages_of (geometry_of f)) where
     pub closed_tidied : Tidied (pages_of (geometry_of f)) (broom_view s) (own_blocks s) (broom_view t) (own_blocks t)
     closed_tidied =
         let v = broom_view s in
         let none : v.moves ≡ v.moves + 0 = omega arith in
         let e = told in
-        let used : room_in (pages_of (geometry_of f)) (own_blocks s).destination ≡ pages_of (geometry_of f) - o.written = ap (room_in (pages_of (geometry_of f))) is in
+        let used : room_in (pages_of (geometry_of f)) (own_blocks s).destination ≡ pages_of (geometry_of f) - o.written =
+        ap (room_in (pages_of (geometry_of f))) is in
         record {
           went = record {
             changed = e
-                ∙ (λ i. record v { seen = (sym e i).seen; named = (sym e i).named; owns = (sym e i).owns; work = (sym e i).work; programs = (sym e i).programs; cleared = (sym e i).cleared; source = (sym e i).source; moves = none i; ceded = (sym e i).ceded });
+                ∙ (λ i. record v {
+                  seen = (sym e i).seen;
+                  named = (sym e i).named;
+                  owns = (sym e i).owns;
+                  work = (sym e i).work;
+                  programs = (sym e i).programs;
+                  cleared = (sym e i).cleared;
+                  source = (sym e i).source;
+                  moves = none i;
+                  ceded = (sym e i).ceded;
+                });
             later = subst (λ (l : List Call). Begins v.seen l) (sym (ap (λ (x : View). x.seen) e)) (Begins-refl v.seen);
             named = subst (λ (l : List (ℕ × ℕ)). Begins v.named l) (sym (ap (λ (x : View). x.named) e)) (Begins-refl v.named);
             programmed = subst (λ (l : List MapWord). Begins v.programs l) (sym (ap (λ (x : View). x.programs) e)) (Begins-refl v.programs);
@@ -179,9 +208,13 @@ module _ (f : Flash) (s : BroomSeat) (o : OpenBlock) (is : (own_blocks s).destin
           ceded = λ p there.
               let same : o ≡ record p { written = p.written + 1 } = some_same o (record p { written = p.written + 1 }) (sym is ∙ there) in
               let last : p.written + 1 ≡ pages_of (geometry_of f) = sym (ap (λ (y : OpenBlock). y.written) same) ∙ full in
-              ap (λ (x : View). x.ceded) e ∙ (ap (λ (y : OpenBlock). v.ceded ++ closed_as y ∷ []) same ∙ ap (λ (l : List Owned). v.ceded ++ l) (sym (filled_last (pages_of (geometry_of f)) p last)));
+              ap (λ (x : View). x.ceded) e
+              ∙ (ap (λ (y : OpenBlock). v.ceded ++ closed_as y ∷ []) same
+              ∙ ap (λ (l : List Owned). v.ceded ++ l) (sym (filled_last (pages_of (geometry_of f)) p last)));
           named = ap (λ (x : View). x.named) e;
-          left = let p : ℕ = pages_of (geometry_of f) in ap (pages_to_fill p) blocks ∙ ap (λ (l : List MapWord). l ++ pages_left p (own_blocks s).spare) (sym (ap (pages_left p) is ∙ pages_full p o full));
+          left = let p : ℕ = pages_of (geometry_of f) in
+              ap (pages_to_fill p) blocks
+              ∙ ap (λ (l : List MapWord). l ++ pages_left p (own_blocks s).spare) (sym (ap (pages_left p) is ∙ pages_full p o full));
           spare = ap (λ (x : BroomBlocks). x.spare) blocks;
           work = inr (ap (λ (x : View). x.work) e, ap (λ (x : BroomBlocks). x.destination) blocks);
         }
@@ -230,7 +263,8 @@ module _ (f : Flash) (s : BroomSeat) (o : OpenBlock) (is : (own_blocks s).destin
         destination = λ p there.
             let r = g.destination p there in
             let room = r.room in
-            let same : o.written ≡ p.written = ap (λ (y : OpenBlock). y.written) (some_same o p (sym is ∙ there)) in record { low = r.low; room = omega arith; young = r.young };
+            let same : o.written ≡ p.written = ap (λ (y : OpenBlock). y.written) (some_same o p (sym is ∙ there)) in
+            record { low = r.low; room = omega arith; young = r.young };
         spare = g.spare;
         filed = g.filed;
         callers = g.callers;
@@ -253,24 +287,30 @@ dead_cleared pages v w x y page dead same =
       programmed = programmed_none pages v w x y dead.programs dead.work same;
     }
 
-module _ (f : Flash) (a b c d e g : BroomSeat) (page : MapWord) (sector : ℕ) (live : FoundLive (broom_view a) page sector (broom_view b)) (same : own_blocks b ≡ own_blocks a) (opens : Opened b c) (o : OpenBlock)
+module _ (f : Flash) (a b c d e g : BroomSeat) (page : MapWord) (sector : ℕ) (live : FoundLive (broom_view a) page sector (broom_view b))
+    (same : own_blocks b ≡ own_blocks a) (opens : Opened b c) (o : OpenBlock)
     (left : o.written < pages_of (geometry_of f)) (is : (own_blocks c).destination ≡ Some o) (copy : MapWord) where
   -- the source of the copy
   abbrev pub source_of : Source
   source_of = record { page = page; stamp = sector; value = Some live.value }
 
-  module _ (copied : Copied (broom_view c) o source_of copy (broom_view d)) (filled : own_blocks d ≡ record (own_blocks c) { destination = Some (record o { written = o.written + 1 }) })
-      (n : ℕ) (moved : Bool) (told : Moved (broom_view d) source_of n (broom_view e)) (outcome : MatchBool moved (n ≡ map_word page) (¬ (n ≡ map_word page))) (stay : own_blocks e ≡ own_blocks d)
+  module _ (copied : Copied (broom_view c) o source_of copy (broom_view d))
+      (filled : own_blocks d ≡ record (own_blocks c) { destination = Some (record o { written = o.written + 1 }) })
+      (n : ℕ) (moved : Bool) (told : Moved (broom_view d) source_of n (broom_view e))
+      (outcome : MatchBool moved (n ≡ map_word page) (¬ (n ≡ map_word page))) (stay : own_blocks e ≡ own_blocks d)
       (tidy : Tidied (pages_of (geometry_of f)) (broom_view e) (own_blocks e) (broom_view g) (own_blocks g)) where
     -- the pages to be filled, but for the one that was filled
     left_of : pages_to_fill (pages_of (geometry_of f)) (own_blocks a) ≡ copy ∷ pages_to_fill (pages_of (geometry_of f)) (own_blocks g)
     left_of =
         let p : ℕ = pages_of (geometry_of f) in
         let spare : List MapWord = pages_left p (own_blocks c).spare in
-        let begun : pages_to_fill p (own_blocks a) ≡ pages_left p (own_blocks c).destination ++ spare = ap (pages_to_fill p) (sym same) ∙ sym (opened_left f b c opens p) in
+        let begun : pages_to_fill p (own_blocks a) ≡ pages_left p (own_blocks c).destination ++ spare =
+        ap (pages_to_fill p) (sym same) ∙ sym (opened_left f b c opens p) in
         let first : pages_left p (own_blocks c).destination ++ spare ≡ copy ∷ (pages_left p (Some (record o { written = o.written + 1 })) ++ spare) =
-        ap (λ (l : List MapWord). l ++ spare) (ap (pages_left p) is ∙ pages_more p o left) ∙ ap (λ (m : MapWord). m ∷ (pages_left p (Some (record o { written = o.written + 1 })) ++ spare)) (sym copied.is) in
-        let rest : pages_left p (Some (record o { written = o.written + 1 })) ++ spare ≡ pages_to_fill p (own_blocks g) = ap (pages_to_fill p) (sym (stay ∙ filled)) ∙ sym tidy.left in
+        ap (λ (l : List MapWord). l ++ spare) (ap (pages_left p) is ∙ pages_more p o left)
+        ∙ ap (λ (m : MapWord). m ∷ (pages_left p (Some (record o { written = o.written + 1 })) ++ spare)) (sym copied.is) in
+        let rest : pages_left p (Some (record o { written = o.written + 1 })) ++ spare ≡ pages_to_fill p (own_blocks g) =
+        ap (pages_to_fill p) (sym (stay ∙ filled)) ∙ sym tidy.left in
         begun ∙ (first ∙ ap (λ (l : List MapWord). copy ∷ l) rest)
 
     -- what was given up: the destination, if this page was its last one
@@ -292,10 +332,13 @@ module _ (f : Flash) (a b c d e g : BroomSeat) (page : MapWord) (sector : ℕ) (
     programmed : Programmed (pages_of (geometry_of f)) (broom_view a) (own_blocks a) (copy ∷ []) (broom_view g) (own_blocks g)
     programmed =
         let p : ℕ = pages_of (geometry_of f) in
-        let lengths : length (pages_left p (own_blocks b).destination) ≡ length (pages_left p (own_blocks a).destination) = ap (λ (y : BroomBlocks). length (pages_left p y.destination)) same in
+        let lengths : length (pages_left p (own_blocks b).destination) ≡ length (pages_left p (own_blocks a).destination) =
+        ap (λ (y : BroomBlocks). length (pages_left p y.destination)) same in
         programmed_one p (broom_view a) (broom_view g) (own_blocks a) (own_blocks g) copy
-        (tidy.programs ∙ (ap (λ (v : View). v.programs) told.changed ∙ (copied.programs ∙ ap (λ (l : List MapWord). l ++ copy ∷ []) (ap (λ (v : View). v.programs) opens.view ∙ live.programs)))) left_of
-        (λ some. spare_is ∙ (opened_kept f b c opens p (omega arith) ∙ ap (λ (y : BroomBlocks). y.spare) same)) (λ none. spare_is ∙ opened_used f b c opens p o is left (omega arith))
+        (tidy.programs ∙ (ap (λ (v : View). v.programs) told.changed
+        ∙ (copied.programs ∙ ap (λ (l : List MapWord). l ++ copy ∷ []) (ap (λ (v : View). v.programs) opens.view ∙ live.programs)))) left_of
+        (λ some. spare_is ∙ (opened_kept f b c opens p (omega arith) ∙ ap (λ (y : BroomBlocks). y.spare) same))
+        (λ none. spare_is ∙ opened_used f b c opens p o is left (omega arith))
         (λ k there.
         ⊎_elim
         (λ (stays : (broom_view g).work ≡ (broom_view e).work).
@@ -312,7 +355,8 @@ module _ (f : Flash) (a b c d e g : BroomSeat) (page : MapWord) (sector : ℕ) (
         let first : Relocated (broom_view a) 0 (broom_view c) = subst (λ (v : View). Relocated (broom_view a) 0 v) (sym opens.view) live.went in
         let second : Relocated (broom_view a) 0 (broom_view d) = relocated_then (broom_view a) (broom_view c) (broom_view d) 0 0 0 refl first copied.went in
         let third : Relocated (broom_view a) (count_if moved) (broom_view e) =
-        relocated_then (broom_view a) (broom_view d) (broom_view e) 0 (count_if moved) (count_if moved) (omega arith) second (moved_went (broom_view d) (broom_view e) source_of n moved told outcome) in
+        relocated_then (broom_view a) (broom_view d) (broom_view e) 0 (count_if moved) (count_if moved) (omega arith) second
+        (moved_went (broom_view d) (broom_view e) source_of n moved told outcome) in
         let begun : room_left p (own_blocks c) ≡ room_left p (own_blocks a) = opened_room f b c opens p ∙ ap (room_left p) same in
         let used : room_left p (own_blocks d) ≡ (p - (o.written + 1)) + room_in p (own_blocks c).spare = ap (room_left p) filled in
         let whole : room_in p (own_blocks c).destination ≡ p - o.written = ap (room_in p) is in
@@ -352,11 +396,24 @@ pub record Clearing (f : Flash) (v : View) (y : BroomBlocks) (x : ReclaimedBlock
   pub emptied : Emptied (pages_of (geometry_of f)) (record x { written = page }) v y copied (broom_view s) (own_blocks s)
   pub ceded : (broom_view s).ceded ≡ v.ceded ++ filled_by (pages_of (geometry_of f)) emptied.copies
 
-pub clearing_none : (f : Flash) (s : BroomSeat) (x : ReclaimedBlock) → Sweeps f s x → (broom_view s).cleared ≡ 0 → (broom_view s).source ≡ None → x.written ≤ room_left (pages_of (geometry_of f)) (own_blocks s) → Clearing f (broom_view s) (own_blocks s) x 0 0 s
-clearing_none f s x sweeps cleared source room = record { sweeps = sweeps; went = relocated_none (broom_view s); cleared = cleared; source = source; room = omega arith; few = omega arith; emptied = emptied_none (pages_of (geometry_of f)) x (broom_view s) (own_blocks s); ceded = sym (append-nil (broom_view s).ceded) }
+pub clearing_none : (f : Flash) (s : BroomSeat) (x : ReclaimedBlock) → Sweeps f s x → (broom_view s).cleared ≡ 0 → (broom_view s).source ≡ None
+    → x.written ≤ room_left (pages_of (geometry_of f)) (own_blocks s) → Clearing f (broom_view s) (own_blocks s) x 0 0 s
+clearing_none f s x sweeps cleared source room =
+    record {
+      sweeps = sweeps;
+      went = relocated_none (broom_view s);
+      cleared = cleared;
+      source = source;
+      room = omega arith;
+      few = omega arith;
+      emptied = emptied_none (pages_of (geometry_of f)) x (broom_view s) (own_blocks s);
+      ceded = sym (append-nil (broom_view s).ceded);
+    }
 
-pub clearing_more : (f : Flash) (v : View) (y : BroomBlocks) (x : ReclaimedBlock) (page copied now : ℕ) (moved : Bool) (s t : BroomSeat) → Clearing f v y x page copied s → Sweeps f t x
-    → Cleared (pages_of (geometry_of f)) (broom_view s) (own_blocks s) (victim_page x page) (count_if moved) (broom_view t) (own_blocks t) → now ≡ copied + count_if moved → Clearing f v y x (page + 1) now t
+pub clearing_more : (f : Flash) (v : View) (y : BroomBlocks) (x : ReclaimedBlock) (page copied now : ℕ) (moved : Bool) (s t : BroomSeat)
+    → Clearing f v y x page copied s → Sweeps f t x
+    → Cleared (pages_of (geometry_of f)) (broom_view s) (own_blocks s) (victim_page x page) (count_if moved) (broom_view t) (own_blocks t)
+    → now ≡ copied + count_if moved → Clearing f v y x (page + 1) now t
 clearing_more f v y x page copied now moved s t h sweeps told sum =
     let c1 = h.cleared in
     let c2 = told.cleared in
@@ -371,7 +428,8 @@ clearing_more f v y x page copied now moved s t h sweeps told sum =
       source = told.source;
       room = omega arith;
       few = omega arith;
-      emptied = emptied_more (pages_of (geometry_of f)) x page copied (count_if moved) now v (broom_view s) (broom_view t) y (own_blocks s) (own_blocks t) h.emptied told.find told.named told.copies told.each told.moved sum told.programmed;
+      emptied = emptied_more (pages_of (geometry_of f)) x page copied (count_if moved) now v (broom_view s) (broom_view t) y (own_blocks s)
+          (own_blocks t) h.emptied told.find told.named told.copies told.each told.moved sum told.programmed;
       ceded = told.ceded
           ∙ (ap (λ (l : List Owned). l ++ filled_by (pages_of (geometry_of f)) told.copies) h.ceded
           ∙ (append_assoc v.ceded (filled_by (pages_of (geometry_of f)) h.emptied.copies) (filled_by (pages_of (geometry_of f)) told.copies)

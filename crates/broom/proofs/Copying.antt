@@ -1,5 +1,6 @@
 -- A page is copied: its words are put in order into the next page of the destination, with the stamp behind them, and the page is counted.
-use Rattle.std.proofs.Common.{◌≡◌, ◌≢◌, ℕ, ◌+◌, ◌-◌, ◌<◌, ◌≤◌, eq-eqb, ne_eqb, List, [], ◌∷◌, ◌++◌, length, Option, None, Some, sym, refl, ap, ◌∙◌, subst, arith, length-append}
+use Rattle.std.proofs.Common.{◌≡◌, ◌≢◌, ℕ, ◌+◌, ◌-◌, ◌<◌, ◌≤◌, eq-eqb, ne_eqb, List, [], ◌∷◌, ◌++◌, length, Option}
+use Rattle.std.proofs.Common.{None, Some, sym, refl, ap, ◌∙◌, subst, arith, length-append}
 use Rattle.std.proofs.Math.ListN.{get_or, get_or-append}
 use Rattle.std.proofs.lemmas.List.{get_or-append_right}
 use mathlib.Core.Logic.{dite}
@@ -35,7 +36,8 @@ words_none : (d : Option Work) (o : Owned) → ((x : Work) → d ≡ Some x → 
 words_none None o counted = refl
 words_none (Some x) o counted =
     dite (ℕ_discrete x.page.block o.block)
-    (λ here. let low = counted x refl here in let other : x.page.page ≢ o.written = omega arith in rw (eq-eqb x.page.block o.block here) (rw (ne_eqb x.page.page o.written other) refl))
+    (λ here. let low = counted x refl here in
+    let other : x.page.page ≢ o.written = omega arith in rw (eq-eqb x.page.block o.block here) (rw (ne_eqb x.page.page o.written other) refl))
     (λ else. rw (ne_eqb x.page.block o.block else) refl)
 
 words_here : (o : Owned) (words : List ℕ) → words_in (Some (record { page = next_page o; words = words })) o ≡ words
@@ -51,12 +53,14 @@ pub record Filling (f : Flash) (v : View) (y : BroomBlocks) (o : OpenBlock) (val
   pub long : length (words_in (broom_view s).work (owned_of o)) ≡ k
   pub words : (i : ℕ) → i < k → get_or (words_in (broom_view s).work (owned_of o)) i 0 ≡ data_word value i
 
-pub filling_none : (f : Flash) (s : BroomSeat) (o : OpenBlock) (value : List ℕ) → IsBroomOf f s → (own_blocks s).destination ≡ Some o → IsFiled (broom_view s) (own_blocks s)
+pub filling_none : (f : Flash) (s : BroomSeat) (o : OpenBlock) (value : List ℕ) → IsBroomOf f s → (own_blocks s).destination ≡ Some o
+    → IsFiled (broom_view s) (own_blocks s)
     → Filling f (broom_view s) (own_blocks s) o value 0 s
 filling_none f s o value seat is filed =
     let none : words_in (broom_view s).work (owned_of o) ≡ [] =
     words_none (broom_view s).work (owned_of o)
-    (λ x work here. let t = filed x work in let same : t.0.written ≡ o.written = ap (λ (y : OpenBlock). y.written) (some_same t.0 o (sym t.1 ∙ is)) in let low = t.3 in omega arith) in
+    (λ x work here. let t = filed x work in
+    let same : t.0.written ≡ o.written = ap (λ (y : OpenBlock). y.written) (some_same t.0 o (sym t.1 ∙ is)) in let low = t.3 in omega arith) in
     record {
       seat = seat;
       kept = refl;
@@ -68,7 +72,8 @@ filling_none f s o value seat is filed =
     }
 
 -- a step that leaves the view and the blocks as they were
-pub filling_same : (f : Flash) (v : View) (y : BroomBlocks) (o : OpenBlock) (value : List ℕ) (k : ℕ) (s t : BroomSeat) → Filling f v y o value k s → IsBroomOf f t → broom_view t ≡ broom_view s → own_blocks t ≡ own_blocks s → Filling f v y o value k t
+pub filling_same : (f : Flash) (v : View) (y : BroomBlocks) (o : OpenBlock) (value : List ℕ) (k : ℕ) (s t : BroomSeat) → Filling f v y o value k s
+    → IsBroomOf f t → broom_view t ≡ broom_view s → own_blocks t ≡ own_blocks s → Filling f v y o value k t
 filling_same f v y o value k s t h seat same blocks =
     let work : (broom_view t).work ≡ (broom_view s).work = ap (λ (w : View). w.work) same in
     record {
@@ -81,7 +86,8 @@ filling_same f v y o value k s t h seat same blocks =
       words = λ i below. ap (λ (d : Option Work). get_or (words_in d (owned_of o)) i 0) work ∙ h.words i below;
     }
 
-pub filling_can : (f : Flash) (v : View) (y : BroomBlocks) (o : OpenBlock) (value : List ℕ) (k : ℕ) (s : BroomSeat) → Filling f v y o value k s → o.written < pages_of (geometry_of f) → k ≤ words_of (geometry_of f) → CanPut (broom_view s) (owned_of o)
+pub filling_can : (f : Flash) (v : View) (y : BroomBlocks) (o : OpenBlock) (value : List ℕ) (k : ℕ) (s : BroomSeat) → Filling f v y o value k s
+    → o.written < pages_of (geometry_of f) → k ≤ words_of (geometry_of f) → CanPut (broom_view s) (owned_of o)
 filling_can f v y o value k s h room low =
     let pages : (broom_view s).numbers.pages ≡ (device f).pages = ap (λ (z : Numbers). z.pages) h.seat.numbers in
     let words : (broom_view s).numbers.words ≡ (device f).words = ap (λ (z : Numbers). z.words) h.seat.numbers in
@@ -98,12 +104,14 @@ filling_can f v y o value k s h room low =
 abbrev pub put_work : OpenBlock → BroomSeat → ℕ → Work
 put_work o s word = record { page = next_page (owned_of o); words = words_in (broom_view s).work (owned_of o) ++ word ∷ [] }
 
-pub filling_more : (f : Flash) (v : View) (y : BroomBlocks) (o : OpenBlock) (value : List ℕ) (k word : ℕ) (s t : BroomSeat) → Filling f v y o value k s → IsBroomOf f t → own_blocks t ≡ own_blocks s
+pub filling_more : (f : Flash) (v : View) (y : BroomBlocks) (o : OpenBlock) (value : List ℕ) (k word : ℕ) (s t : BroomSeat)
+    → Filling f v y o value k s → IsBroomOf f t → own_blocks t ≡ own_blocks s
     → broom_view t ≡ record (broom_view s) { work = Some (put_work o s word) } → word ≡ data_word value k → Filling f v y o value (k + 1) t
 filling_more f v y o value k word s t h seat blocks told is =
     let before : List ℕ = words_in (broom_view s).work (owned_of o) in
     let work : (broom_view t).work ≡ Some (put_work o s word) = ap (λ (w : View). w.work) told in
-    let now : words_in (broom_view t).work (owned_of o) ≡ before ++ word ∷ [] = ap (λ d. words_in d (owned_of o)) work ∙ words_here (owned_of o) (before ++ word ∷ []) in
+    let now : words_in (broom_view t).work (owned_of o) ≡ before ++ word ∷ [] =
+    ap (λ d. words_in d (owned_of o)) work ∙ words_here (owned_of o) (before ++ word ∷ []) in
     let long = h.long in
     let longer : length (words_in (broom_view t).work (owned_of o)) ≡ k + 1 = ap (length {A = ℕ}) now ∙ (length-append before (word ∷ []) ∙ (omega arith)) in
     record {
@@ -116,12 +124,14 @@ filling_more f v y o value k word s t h seat blocks told is =
       words = λ i below.
           ap (λ l. get_or l i 0) now
           ∙ dite (ℕ_discrete i k)
-          (λ last. get_or-append_right before (word ∷ []) k i 0 h.long (omega arith) ∙ ((let e : i - k ≡ 0 = omega arith in ap (λ j. get_or (word ∷ []) j 0) e) ∙ (is ∙ ap (λ j. data_word value j) (sym last))))
+          (λ last. get_or-append_right before (word ∷ []) k i 0 h.long (omega arith)
+          ∙ ((let e : i - k ≡ 0 = omega arith in ap (λ j. get_or (word ∷ []) j 0) e) ∙ (is ∙ ap (λ j. data_word value j) (sym last))))
           (λ earlier. get_or-append before (word ∷ []) 0 i (omega arith) ∙ h.words i (omega arith));
     }
 
 -- ---- the page is counted
-module _ (f : Flash) (v : View) (y : BroomBlocks) (o : OpenBlock) (value : List ℕ) (stamp : ℕ) (s t : BroomSeat) (h : Filling f v y o value (words_of (geometry_of f)) s)
+module _ (f : Flash) (v : View) (y : BroomBlocks) (o : OpenBlock) (value : List ℕ) (stamp : ℕ) (s t : BroomSeat)
+    (h : Filling f v y o value (words_of (geometry_of f)) s)
     (told : broom_view t ≡ record (broom_view s) { work = Some (put_work o s stamp) }) (seat : IsBroomOf f t) (blocks : own_blocks t ≡ own_blocks s) where
   abbrev before : List ℕ
   before = words_in (broom_view s).work (owned_of o)
@@ -142,15 +152,24 @@ module _ (f : Flash) (v : View) (y : BroomBlocks) (o : OpenBlock) (value : List 
         full = length-append before (stamp ∷ []) ∙ (omega arith);
       }
 
-  module _ (r : BroomSeat) (counted : broom_view r ≡ record (broom_view t) { programs = (broom_view t).programs ++ next_page (owned_of o) ∷ []; owns = with_owned (owned_of (record o { written = o.written + 1 })) (broom_view t).owns }) where
+  module _ (r : BroomSeat) (counted : broom_view r
+      ≡ record (broom_view t) {
+        programs = (broom_view t).programs ++ next_page (owned_of o) ∷ [];
+        owns = with_owned (owned_of (record o { written = o.written + 1 })) (broom_view t).owns;
+      }) where
     abbrev work : Work
     work = put_work o s stamp
 
-    all : broom_view r ≡ record v { work = Some work; programs = v.programs ++ next_page (owned_of o) ∷ []; owns = with_owned (owned_of (record o { written = o.written + 1 })) v.owns }
+    all : broom_view r ≡ record v {
+      work = Some work;
+      programs = v.programs ++ next_page (owned_of o) ∷ [];
+      owns = with_owned (owned_of (record o { written = o.written + 1 })) v.owns;
+    }
     all =
         let programs : View → List MapWord = λ x. x.programs ++ next_page (owned_of o) ∷ [] in
         let owns : View → List Owned = λ x. with_owned (owned_of (record o { written = o.written + 1 })) x.owns in
-        counted ∙ ((λ i. record (told i) { programs = programs (told i); owns = owns (told i) }) ∙ (λ i. record (h.changed i) { work = Some work; programs = programs (h.changed i); owns = owns (h.changed i) }))
+        counted ∙ ((λ i. record (told i) { programs = programs (told i); owns = owns (told i) })
+        ∙ (λ i. record (h.changed i) { work = Some work; programs = programs (h.changed i); owns = owns (h.changed i) }))
 
     went : Relocated v 0 (broom_view r)
     went =
@@ -159,13 +178,25 @@ module _ (f : Flash) (v : View) (y : BroomBlocks) (o : OpenBlock) (value : List 
         let none : v.moves ≡ v.moves + 0 = omega arith in
         record {
           changed = e
-              ∙ (λ i. record v { seen = (sym e i).seen; named = (sym e i).named; owns = (sym e i).owns; work = (sym e i).work; programs = (sym e i).programs; cleared = (sym e i).cleared; source = (sym e i).source; moves = none i; ceded = (sym e i).ceded });
+              ∙ (λ i. record v {
+                seen = (sym e i).seen;
+                named = (sym e i).named;
+                owns = (sym e i).owns;
+                work = (sym e i).work;
+                programs = (sym e i).programs;
+                cleared = (sym e i).cleared;
+                source = (sym e i).source;
+                moves = none i;
+                ceded = (sym e i).ceded;
+              });
           later = subst (λ (l : List Call). Begins v.seen l) (sym (ap (λ (x : View). x.seen) e)) (Begins-refl v.seen);
           named = subst (λ (l : List (ℕ × ℕ)). Begins v.named l) (sym (ap (λ (x : View). x.named) e)) (Begins-refl v.named);
-          programmed = subst (λ (l : List MapWord). Begins v.programs l) (sym (ap (λ (x : View). x.programs) e)) (Begins-push v.programs (next_page (owned_of o)));
+          programmed = subst (λ (l : List MapWord). Begins v.programs l) (sym (ap (λ (x : View). x.programs) e))
+              (Begins-push v.programs (next_page (owned_of o)));
         }
 
-    pub copied : (x : Source) → v.source ≡ Some x → x.value ≡ Some value → x.stamp ≡ stamp → IsValue v.numbers value → Copied v o x (next_page (owned_of o)) (broom_view r)
+    pub copied : (x : Source) → v.source ≡ Some x → x.value ≡ Some value → x.stamp ≡ stamp → IsValue v.numbers value
+        → Copied v o x (next_page (owned_of o)) (broom_view r)
     copied x source live stamped whole =
         let w = broom_view r in
         let e = all in
@@ -197,10 +228,12 @@ module _ (f : Flash) (v : View) (y : BroomBlocks) (o : OpenBlock) (value : List 
           };
         }
 
-    pub copied_sweeps : (x : ReclaimedBlock) (s' : BroomSeat) → Sweeps f s' x → broom_view s' ≡ v → own_blocks s' ≡ y → IsBroomOf f r → own_blocks r ≡ record (own_blocks t) { destination = Some (record o { written = o.written + 1 }) } → IsSweeping f (pages_of (geometry_of f) + 1) r x
+    pub copied_sweeps : (x : ReclaimedBlock) (s' : BroomSeat) → Sweeps f s' x → broom_view s' ≡ v → own_blocks s' ≡ y → IsBroomOf f r
+        → own_blocks r ≡ record (own_blocks t) { destination = Some (record o { written = o.written + 1 }) } → IsSweeping f (pages_of (geometry_of f) + 1) r x
     copied_sweeps x s' g here there seat' now =
         let e = all in
-        let kept : own_blocks r ≡ record y { destination = Some (record o { written = o.written + 1 }) } = now ∙ (λ i. record ((blocks ∙ h.kept) i) { destination = Some (record o { written = o.written + 1 }) }) in
+        let kept : own_blocks r ≡ record y { destination = Some (record o { written = o.written + 1 }) } =
+        now ∙ (λ i. record ((blocks ∙ h.kept) i) { destination = Some (record o { written = o.written + 1 }) }) in
         let room = g.destination o (ap (λ (z : BroomBlocks). z.destination) there ∙ h.opened) in
         record {
           seat = seat';
@@ -209,8 +242,10 @@ module _ (f : Flash) (v : View) (y : BroomBlocks) (o : OpenBlock) (value : List 
           short = g.short;
           young = g.young;
           destination = λ p is.
-              let same : record o { written = o.written + 1 } ≡ p = some_same (record o { written = o.written + 1 }) p (sym (ap (λ (z : BroomBlocks). z.destination) kept) ∙ is) in
-              subst (HasRoom (geometry_of f) (pages_of (geometry_of f) + 1)) same (record { low = room.low; room = (let left = room.room in omega arith); young = room.young });
+              let same : record o { written = o.written + 1 } ≡ p =
+              some_same (record o { written = o.written + 1 }) p (sym (ap (λ (z : BroomBlocks). z.destination) kept) ∙ is) in
+              subst (HasRoom (geometry_of f) (pages_of (geometry_of f) + 1)) same
+              (record { low = room.low; room = (let left = room.room in omega arith); young = room.young });
           spare = λ p is. g.spare p (ap (λ (z : BroomBlocks). z.spare) there ∙ (sym (ap (λ (z : BroomBlocks). z.spare) kept) ∙ is));
           filed = λ w is.
               let same = some_same w work (sym is ∙ ap (λ (z : View). z.work) e) in (
@@ -219,5 +254,11 @@ module _ (f : Flash) (v : View) (y : BroomBlocks) (o : OpenBlock) (value : List 
                 ap (λ (z : Work). z.page.block) same,
                 (let at : w.page.page ≡ o.written = ap (λ (z : Work). z.page.page) same in omega arith),
               );
-          callers = subst (λ (z : View). AreOfHosts z.numbers z.seen) (sym (e ∙ (λ i. record v { work = Some work; programs = v.programs ++ next_page (owned_of o) ∷ []; owns = with_owned (owned_of (record o { written = o.written + 1 })) v.owns }))) (subst (λ (z : View). AreOfHosts z.numbers z.seen) here g.callers);
+          callers = subst (λ (z : View). AreOfHosts z.numbers z.seen)
+              (sym (e ∙ (λ i. record v {
+                work = Some work;
+                programs = v.programs ++ next_page (owned_of o) ∷ [];
+                owns = with_owned (owned_of (record o { written = o.written + 1 })) v.owns;
+              })))
+              (subst (λ (z : View). AreOfHosts z.numbers z.seen) here g.callers);
         }

@@ -1,5 +1,6 @@
 -- A drain as a whole: the survey, the claim, the relocation and the last step.
-use Rattle.std.proofs.Common.{◌≡◌, ℕ, ◌+◌, ◌<◌, ◌≤◌, true, false, List, [], ◌∷◌, ◌++◌, length, Option, None, Some, is_some, sym, refl, ap, ◌∙◌, subst, arith, append-nil, append_assoc, get_or, set}
+use Rattle.std.proofs.Common.{◌≡◌, ℕ, ◌+◌, ◌<◌, ◌≤◌, true, false, List, [], ◌∷◌, ◌++◌, length, Option, None, Some, is_some}
+use Rattle.std.proofs.Common.{sym, refl, ap, ◌∙◌, subst, arith, append-nil, append_assoc, get_or, set}
 use Rattle.std.proofs.lemmas.List.{get_or-map}
 use Rattle.geometry.specs.Geometry.{blocks_of, pages_of}
 use Rattle.geometry.specs.Greedy.{IsClosed}
@@ -30,7 +31,8 @@ use Rattle.broom.specs.Emptying.{Emptied, HasEmptied, filled_by, given_up, looks
 use Rattle.broom.specs.Ready.{IsRested, IsReady, IsMarked, view_of_broom, blocks_of_broom, marks_of}
 use Rattle.broom.specs.declared.answer.Drain.{Drain}
 use Rattle.broom.specs.declared.answer.Drain.TheVariants as drain
-use Rattle.broom.specs.Told.{Surveyed, DidDrain, DrainTold, LostClaim, DidDrainAgain, LostAgain, IsNext, MarkedTold, NextTold, Unmarks, SurveyLeft, HasOnlyRanked, GainsNothingNext, states_kept, counts_kept, victim_in, block_in}
+use Rattle.broom.specs.Told.{Surveyed, DidDrain, DrainTold, LostClaim, DidDrainAgain, LostAgain, IsNext, MarkedTold, NextTold, Unmarks}
+use Rattle.broom.specs.Told.{SurveyLeft, HasOnlyRanked, GainsNothingNext, states_kept, counts_kept, victim_in, block_in}
 use Rattle.broom.specs.Surveying.{Chosen}
 use Rattle.broom.specs.Relocating.{Sweeps, Relocated, room_in, room_left}
 use Rattle.broom.proofs.Marking.{last_of-loaded}
@@ -71,7 +73,9 @@ module _ (f : Flash) (r : Broom) (b : ℕ) (ready : IsReady f r) (marked : IsClo
     victim_of_state = record { block = b; generation = q.generation; written = q.written }
 
     -- ---- the relocation begins
-    module _ (t : BroomSeat) (seat : IsBroomOf f t) (owns : List Owned) (claimed : broom_view t ≡ record (view_of_broom r) { owns = owns; cleared = 0 }) (blocks : own_blocks t ≡ record (own_blocks r.seat) { reclaiming = Draining victim_of_state }) where
+    module _ (t : BroomSeat) (seat : IsBroomOf f t) (owns : List Owned)
+        (claimed : broom_view t ≡ record (view_of_broom r) { owns = owns; cleared = 0 })
+        (blocks : own_blocks t ≡ record (own_blocks r.seat) { reclaiming = Draining victim_of_state }) where
       pub claimed_sweeps : Sweeps f t victim_of_state
       claimed_sweeps =
           let h = ready.rested in
@@ -95,14 +99,22 @@ module _ (f : Flash) (r : Broom) (b : ℕ) (ready : IsReady f r) (marked : IsClo
           let short = range.within in
           let spare = some_block (own_blocks r.seat).spare some in
           let empty = (ready.rested.spare spare.0 spare.1).room in
-          let full : room_in (pages_of (geometry_of f)) (own_blocks t).spare ≡ pages_of (geometry_of f) = ap (room_in (pages_of (geometry_of f))) (ap (λ (y : BroomBlocks). y.spare) blocks ∙ spare.1) ∙ (omega arith) in omega arith where
+          let full : room_in (pages_of (geometry_of f)) (own_blocks t).spare ≡ pages_of (geometry_of f) =
+          ap (room_in (pages_of (geometry_of f))) (ap (λ (y : BroomBlocks). y.spare) blocks ∙ spare.1) ∙ (omega arith) in omega arith where
             some_block : (o : Option OpenBlock) → is_some o ≡ true → (p : OpenBlock) × (o ≡ Some p)
             some_block None e = absurd (cc)
             some_block (Some p) e = (p, refl)
 
       -- ---- the drain ends
-      module _ (u w : BroomSeat) (copied : ℕ) (went : Relocated (broom_view t) copied (broom_view u)) (bare : (broom_view u).source ≡ None) (sweeps : Sweeps f u victim_of_state) (owned : List Owned)
-          (drained : broom_view w ≡ record (broom_view u) { owns = owned; drains = (broom_view u).drains ++ record { block = b; generation = q.generation } ∷ []; ceded = (broom_view u).ceded ++ reclaimed_as Drained victim_of_state ∷ [] }) (free : own_blocks w ≡ record (own_blocks u) { reclaiming = Nothing }) (none : (view_of_broom r).source ≡ None)
+      module _ (u w : BroomSeat) (copied : ℕ) (went : Relocated (broom_view t) copied (broom_view u)) (bare : (broom_view u).source ≡ None)
+          (sweeps : Sweeps f u victim_of_state) (owned : List Owned)
+          (drained : broom_view w ≡ record (broom_view u) {
+            owns = owned;
+            drains = (broom_view u).drains ++ record { block = b; generation = q.generation } ∷ [];
+            ceded =
+                (broom_view u).ceded ++ reclaimed_as Drained victim_of_state ∷ [];
+          })
+          (free : own_blocks w ≡ record (own_blocks u) { reclaiming = Nothing }) (none : (view_of_broom r).source ≡ None)
           (cleared : (broom_view u).cleared ≡ q.written) (emptied : HasEmptied (pages_of (geometry_of f)) victim_of_state t copied u) where
         abbrev v : View
         v = view_of_broom r
@@ -125,11 +137,44 @@ module _ (f : Flash) (r : Broom) (b : ℕ) (ready : IsReady f r) (marked : IsClo
             let c : Cycle = record { block = b; generation = q.generation } in
             let x : View = broom_view u in
             let e1 : broom_view w
-            ≡ record (broom_view t) { seen = x.seen; named = x.named; owns = owned; work = x.work; programs = x.programs; cleared = x.cleared; source = x.source; moves = (broom_view t).moves + copied; drains = (broom_view t).drains ++ c ∷ []; ceded = ceded } =
+            ≡ record (broom_view t) {
+              seen = x.seen;
+              named = x.named;
+              owns = owned;
+              work = x.work;
+              programs = x.programs;
+              cleared = x.cleared;
+              source = x.source;
+              moves = (broom_view t).moves + copied;
+              drains = (broom_view t).drains ++ c ∷ [];
+              ceded = ceded;
+            } =
             drained ∙ (λ i. record (went.changed i) { owns = owned; drains = (went.changed i).drains ++ c ∷ []; ceded = ceded }) in
             let e2 : broom_view w
-            ≡ record v { seen = x.seen; named = x.named; owns = owned; work = x.work; programs = x.programs; cleared = x.cleared; source = x.source; moves = v.moves + copied; drains = v.drains ++ c ∷ []; ceded = ceded } =
-            e1 ∙ (λ i. record (claimed i) { seen = x.seen; named = x.named; owns = owned; work = x.work; programs = x.programs; cleared = x.cleared; source = x.source; moves = (claimed i).moves + copied; drains = (claimed i).drains ++ c ∷ []; ceded = ceded }) in
+            ≡ record v {
+              seen = x.seen;
+              named = x.named;
+              owns = owned;
+              work = x.work;
+              programs = x.programs;
+              cleared = x.cleared;
+              source = x.source;
+              moves = v.moves + copied;
+              drains = v.drains ++ c ∷ [];
+              ceded = ceded;
+            } =
+            e1 ∙ (λ i. record (claimed i) {
+              seen = x.seen;
+              named = x.named;
+              owns = owned;
+              work = x.work;
+              programs = x.programs;
+              cleared = x.cleared;
+              source = x.source;
+              moves = (claimed i).moves + copied;
+              drains = (claimed i).drains ++ c ∷ [];
+              ceded = ceded;
+            }) in
             e2
             ∙ (λ i. record v {
               seen = x.seen;
@@ -149,7 +194,8 @@ module _ (f : Flash) (r : Broom) (b : ℕ) (ready : IsReady f r) (marked : IsClo
         drained_loaded = ap (λ (x : View). x.loaded) all
 
         -- its pages, with the claim behind and the drain ahead, and what was given up
-        whole_emptied : (e : Emptied v.numbers.pages (block_in r.states.items b) v (own_blocks r.seat) copied (broom_view w) (own_blocks w)) × (ceded ≡ v.ceded ++ given_up v.numbers.pages e.copies (block_in r.states.items b))
+        whole_emptied : (e : Emptied v.numbers.pages (block_in r.states.items b) v (own_blocks r.seat) copied (broom_view w) (own_blocks w))
+            × (ceded ≡ v.ceded ++ given_up v.numbers.pages e.copies (block_in r.states.items b))
         whole_emptied =
             let pages : pages_of (geometry_of f) ≡ v.numbers.pages = ap (λ (z : Numbers). z.pages) (sym ready.rested.seat.numbers) in
             let victim : victim_of_state ≡ block_in r.states.items b = λ i. record { block = b; generation = generation_is i; written = written_is i } in
@@ -161,10 +207,13 @@ module _ (f : Flash) (r : Broom) (b : ℕ) (ready : IsReady f r) (marked : IsClo
             let last : List Owned = reclaimed_as Drained victim_of_state ∷ [] in
             let gave : ceded ≡ v.ceded ++ (filled ++ last) =
             ap (λ (l : List Owned). l ++ last) (emptied.1 ∙ ap (λ (z : View). z.ceded ++ filled) claimed) ∙ append_assoc v.ceded filled last in
-            let P : ℕ × ReclaimedBlock → Type 0 = λ k. (e : Emptied k.0 k.1 v (own_blocks r.seat) copied (broom_view w) (own_blocks w)) × (ceded ≡ v.ceded ++ given_up k.0 e.copies k.1) in
+            let P : ℕ × ReclaimedBlock → Type 0 = λ k. (e : Emptied k.0 k.1 v (own_blocks r.seat) copied (broom_view w) (own_blocks w))
+            × (ceded ≡ v.ceded ++ given_up k.0 e.copies k.1) in
             subst P (λ i. (pages i, victim i)) (
-              emptied_same (pages_of (geometry_of f)) copied victim_of_state (broom_view t) v (broom_view u) (broom_view w) (own_blocks t) (own_blocks r.seat) (own_blocks u) (own_blocks w) (ap (λ (z : View). z.named) claimed) (ap (λ (z : View). z.programs) claimed)
-                  (ap (λ (z : View). z.work) claimed) (ap (λ (z : View). z.named) drained) (ap (λ (z : View). z.programs) drained) (ap (λ (z : View). z.work) drained) before after emptied.0,
+              emptied_same (pages_of (geometry_of f)) copied victim_of_state (broom_view t) v (broom_view u) (broom_view w) (own_blocks t)
+                  (own_blocks r.seat) (own_blocks u) (own_blocks w) (ap (λ (z : View). z.named) claimed) (ap (λ (z : View). z.programs) claimed)
+                  (ap (λ (z : View). z.work) claimed) (ap (λ (z : View). z.named) drained) (ap (λ (z : View). z.programs) drained)
+                  (ap (λ (z : View). z.work) drained) before after emptied.0,
               gave,
             )
 
@@ -177,7 +226,8 @@ module _ (f : Flash) (r : Broom) (b : ℕ) (ready : IsReady f r) (marked : IsClo
               later = let P : List Call × List Call → Type 0 = λ y. Begins y.0 y.1 in subst P (λ i. (seen i, sym last i)) went.later;
               emptied = whole_emptied.0;
               room = λ o is.
-                  let left = (sweeps.destination o (sym (ap (λ (z : BroomBlocks). z.destination) free) ∙ is)).room in subst (λ (z : Numbers). o.written < z.pages) (sym ready.rested.seat.numbers) left;
+                  let left = (sweeps.destination o (sym (ap (λ (z : BroomBlocks). z.destination) free) ∙ is)).room in
+                  subst (λ (z : Numbers). o.written < z.pages) (sym ready.rested.seat.numbers) left;
               reclaiming = ap (λ (z : BroomBlocks). z.reclaiming) free ∙ sym ready.rested.reclaiming;
               changed = e
                   ∙ (λ i. record v {
@@ -240,7 +290,8 @@ module _ (v : View) (b : ℕ) (r after : Broom) (chosen : Chosen v b r) (x : Bro
       let seen : w.seen ≡ u.seen = ap (λ (z : View). z.seen) lost in
       surveyed_still (ap (λ (z : View). z.loaded) lost) ([], append-nil u.named ∙ sym named) ([], append-nil u.seen ∙ sym seen)
 
-  surveyed_drained : (copied : ℕ) → DidDrainAgain u (blocks_of_broom r) r.states.items b copied w (blocks_of_broom after) → DidDrain v x b copied w (blocks_of_broom after)
+  surveyed_drained : (copied : ℕ) → DidDrainAgain u (blocks_of_broom r) r.states.items b copied w (blocks_of_broom after)
+      → DidDrain v x b copied w (blocks_of_broom after)
   surveyed_drained copied h =
       let c = h.changed in
       let k = chosen.changed in
@@ -256,15 +307,52 @@ module _ (v : View) (b : ℕ) (r after : Broom) (chosen : Chosen v b r) (x : Bro
         survey = chosen.survey;
         made = made_drained copied h;
         victim = chosen.victim;
-        emptied = emptied_same v.numbers.pages copied (victim_in chosen.survey b) u begun w w x x (blocks_of_broom after) (blocks_of_broom after) named (ap (λ (z : View). z.programs) k) (ap (λ (z : View). z.work) k) refl refl refl refl refl emptied.0;
+        emptied = emptied_same v.numbers.pages copied (victim_in chosen.survey b) u begun w w x x (blocks_of_broom after)
+            (blocks_of_broom after) named (ap (λ (z : View). z.programs) k) (ap (λ (z : View). z.work) k) refl refl refl refl refl emptied.0;
         room = λ o is. subst (λ (z : Numbers). o.written < z.pages) numbers (h.room o is);
         reclaiming = h.reclaiming ∙ ap (λ (z : BroomBlocks). z.reclaiming) same;
         changed =
             let all : w
-            ≡ record v { seen = w.seen; loaded = u.loaded; named = w.named; busy = u.busy; stale = u.stale; owns = w.owns; work = w.work; programs = w.programs; cleared = (block_in r.states.items b).written; moves = v.moves + copied; drains = v.drains ++ record { block = b; generation = (block_in r.states.items b).generation } ∷ []; ceded = w.ceded } =
+            ≡ record v {
+              seen = w.seen;
+              loaded = u.loaded;
+              named = w.named;
+              busy = u.busy;
+              stale = u.stale;
+              owns = w.owns;
+              work = w.work;
+              programs = w.programs;
+              cleared = (block_in r.states.items b).written;
+              moves = v.moves + copied;
+              drains =
+                  v.drains ++ record { block = b; generation = (block_in r.states.items b).generation } ∷ [];
+              ceded = w.ceded;
+            } =
             c
-            ∙ ((λ i. record u { seen = w.seen; named = w.named; owns = w.owns; work = w.work; programs = w.programs; cleared = (block_in r.states.items b).written; moves = u.moves + copied; drains = u.drains ++ record { block = b; generation = (block_in r.states.items b).generation } ∷ []; ceded = (sym c i).ceded })
-            ∙ (λ i. record (k i) { seen = w.seen; named = w.named; owns = w.owns; work = w.work; programs = w.programs; cleared = (block_in r.states.items b).written; moves = (k i).moves + copied; drains = (k i).drains ++ record { block = b; generation = (block_in r.states.items b).generation } ∷ []; ceded = w.ceded })) in
+            ∙ ((λ i. record u {
+              seen = w.seen;
+              named = w.named;
+              owns = w.owns;
+              work = w.work;
+              programs = w.programs;
+              cleared = (block_in r.states.items b).written;
+              moves = u.moves + copied;
+              drains =
+                  u.drains ++ record { block = b; generation = (block_in r.states.items b).generation } ∷ [];
+              ceded = (sym c i).ceded;
+            })
+            ∙ (λ i. record (k i) {
+              seen = w.seen;
+              named = w.named;
+              owns = w.owns;
+              work = w.work;
+              programs = w.programs;
+              cleared = (block_in r.states.items b).written;
+              moves = (k i).moves + copied;
+              drains =
+                  (k i).drains ++ record { block = b; generation = (block_in r.states.items b).generation } ∷ [];
+              ceded = w.ceded;
+            })) in
             all
             ∙ (λ i. record v {
               seen = w.seen;
@@ -291,24 +379,39 @@ module _ (v : View) (b : ℕ) (r after : Broom) (chosen : Chosen v b r) (x : Bro
         made = made_lost lost;
         block = b;
         victim = chosen.victim;
-        changed = all ∙ (λ i. record v { seen = (sym all i).seen; loaded = (sym all i).loaded; named = v.named ++ looks_of chosen.survey.pages; busy = (sym all i).busy; stale = (sym all i).stale; lost = v.lost ++ b ∷ [] });
+        changed = all ∙ (λ i. record v {
+          seen = (sym all i).seen;
+          loaded = (sym all i).loaded;
+          named = v.named ++ looks_of chosen.survey.pages;
+          busy = (sym all i).busy;
+          stale = (sym all i).stale;
+          lost = v.lost ++ b ∷ [];
+        });
       }
 
 -- what a drain of a survey's victim tells
-pub drain_told : (before r after : Broom) (b : ℕ) (answer : Drain) → Chosen (view_of_broom before) b r → blocks_of_broom r ≡ blocks_of_broom before → MarkedTold r b answer after → DrainTold before answer after
+pub drain_told : (before r after : Broom) (b : ℕ) (answer : Drain) → Chosen (view_of_broom before) b r → blocks_of_broom r ≡ blocks_of_broom before
+    → MarkedTold r b answer after → DrainTold before answer after
 drain_told before r after b (drain.Drained block copied) chosen same told =
     let did = surveyed_drained (view_of_broom before) b r after chosen (blocks_of_broom before) same copied told.1 in
     subst (λ k. DidDrain (view_of_broom before) (blocks_of_broom before) k copied (view_of_broom after) (blocks_of_broom after)) (sym told.0) did
 drain_told before r after b drain.NothingToGain chosen same told = absurd told
 drain_told before r after b drain.NoSpare chosen same told = absurd told
-drain_told before r after b drain.Lost chosen same told = (surveyed_lost (view_of_broom before) b r after chosen (blocks_of_broom before) same told.0, told.1 ∙ same)
+drain_told before r after b drain.Lost chosen same told =
+    (surveyed_lost (view_of_broom before) b r after chosen (blocks_of_broom before) same told.0, told.1 ∙ same)
 drain_told before r after b drain.QueueFull chosen same told = absurd told
 
 -- what a drain of a survey's victim leaves
-pub drain_left : (before r after : Broom) (b : ℕ) (answer : Drain) → Chosen (view_of_broom before) b r → blocks_of_broom r ≡ blocks_of_broom before → MarkedTold r b answer after → Unmarks r b after → SurveyLeft before answer after
+pub drain_left : (before r after : Broom) (b : ℕ) (answer : Drain) → Chosen (view_of_broom before) b r → blocks_of_broom r ≡ blocks_of_broom before
+    → MarkedTold r b answer after → Unmarks r b after → SurveyLeft before answer after
 drain_left before r after b (drain.Drained block copied) chosen same told marks = (
   chosen.survey,
-  record { made = made_drained (view_of_broom before) b r after chosen (blocks_of_broom before) same copied told.1; states = marks.states ∙ sym chosen.kept; counts = marks.counts ∙ chosen.counts; marks = marks.marks ∙ (λ i. set (chosen.marks i) (sym told.0 i) false) },
+  record {
+    made = made_drained (view_of_broom before) b r after chosen (blocks_of_broom before) same copied told.1;
+    states = marks.states ∙ sym chosen.kept;
+    counts = marks.counts ∙ chosen.counts;
+    marks = marks.marks ∙ (λ i. set (chosen.marks i) (sym told.0 i) false);
+  },
 )
 drain_left before r after b drain.NothingToGain chosen same told marks = absurd told
 drain_left before r after b drain.NoSpare chosen same told marks = absurd told
@@ -316,15 +419,22 @@ drain_left before r after b drain.Lost chosen same told marks = (
   chosen.survey,
   b,
   chosen.victim,
-  record { made = made_lost (view_of_broom before) b r after chosen (blocks_of_broom before) same told.0; states = marks.states ∙ sym chosen.kept; counts = marks.counts ∙ chosen.counts; marks = marks.marks ∙ (λ i. set (chosen.marks i) b false) },
+  record {
+    made = made_lost (view_of_broom before) b r after chosen (blocks_of_broom before) same told.0;
+    states = marks.states ∙ sym chosen.kept;
+    counts = marks.counts ∙ chosen.counts;
+    marks = marks.marks ∙ (λ i. set (chosen.marks i) b false);
+  },
 )
 drain_left before r after b drain.QueueFull chosen same told marks = absurd told
 
 -- what a drain of the next block tells
-pub next_told : (before after : Broom) (b : ℕ) (answer : Drain) → IsNext before b → MarkedTold before b answer after → Unmarks before b after → NextTold before answer after
+pub next_told : (before after : Broom) (b : ℕ) (answer : Drain) → IsNext before b → MarkedTold before b answer after → Unmarks before b after
+    → NextTold before answer after
 next_told before after b (drain.Drained block copied) next told marks = (
   subst (IsNext before) (sym told.0) next,
-  subst (λ k. DidDrainAgain (view_of_broom before) (blocks_of_broom before) before.states.items k copied (view_of_broom after) (blocks_of_broom after)) (sym told.0) told.1,
+  subst (λ k. DidDrainAgain (view_of_broom before) (blocks_of_broom before) before.states.items k copied (view_of_broom after)
+      (blocks_of_broom after)) (sym told.0) told.1,
   subst (λ k. Unmarks before k after) (sym told.0) marks,
 )
 next_told before after b drain.NothingToGain next told marks = absurd told
@@ -333,20 +443,28 @@ next_told before after b drain.Lost next told marks = (b, next, told.0, told.1, 
 next_told before after b drain.QueueFull next told marks = absurd told
 
 -- ---- a drain of the next block, which ranks the blocks first where the survey is new
-marked_ranked : (before after : Broom) (ranking : Ranking) (b : ℕ) (answer : Drain) → MarkedTold (record before { ranking = ranking }) b answer after → MarkedTold before b answer after
+marked_ranked : (before after : Broom) (ranking : Ranking) (b : ℕ) (answer : Drain) → MarkedTold (record before { ranking = ranking }) b answer after
+    → MarkedTold before b answer after
 marked_ranked before after ranking b (drain.Drained block copied) told = told
 marked_ranked before after ranking b drain.NothingToGain told = told
 marked_ranked before after ranking b drain.NoSpare told = told
 marked_ranked before after ranking b drain.Lost told = told
 marked_ranked before after ranking b drain.QueueFull told = told
 
-pub next_ranked : (before r after : Broom) (b : ℕ) (answer : Drain) → HasOnlyRanked before r → IsNext before b → MarkedTold r b answer after → Unmarks r b after → NextTold before answer after
+pub next_ranked : (before r after : Broom) (b : ℕ) (answer : Drain) → HasOnlyRanked before r → IsNext before b → MarkedTold r b answer after
+    → Unmarks r b after → NextTold before answer after
 next_ranked before r after b answer rest next told marks =
     let same = marked_ranked before after r.ranking b answer (subst (λ (x : Broom). MarkedTold x b answer after) rest told) in
-    next_told before after b answer next same (record { states = marks.states ∙ ap states_kept rest; counts = marks.counts ∙ ap counts_kept rest; marks = marks.marks ∙ ap (λ (x : Broom). set (marks_of x) b false) rest })
+    next_told before after b answer next same
+    (record {
+      states = marks.states ∙ ap states_kept rest;
+      counts = marks.counts ∙ ap counts_kept rest;
+      marks = marks.marks ∙ ap (λ (x : Broom). set (marks_of x) b false) rest;
+    })
 
 pub none_ranked : (before r : Broom) → HasOnlyRanked before r → GainsNothingNext before → NextTold before drain.NothingToGain r
-none_ranked before r rest none = (none, ap view_of_broom rest, ap blocks_of_broom rest, record { states = ap states_kept rest; counts = ap counts_kept rest; marks = ap marks_of rest })
+none_ranked before r rest none =
+    (none, ap view_of_broom rest, ap blocks_of_broom rest, record { states = ap states_kept rest; counts = ap counts_kept rest; marks = ap marks_of rest })
 
 pub handed_ranked : (before r after : Broom) → HasOnlyRanked before r → HandsNothing r after → HandsNothing before after
 handed_ranked before r after rest h = record { place = h.place ∙ ap place_of rest; aside = h.aside ∙ ap aside_of rest }

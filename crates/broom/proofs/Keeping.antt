@@ -16,4 +16,6 @@ still_queued q before after same was = record {
 
 -- a broom that has changed in nothing else is ready as before
 pub still_at : (f : Flash) (before after : Broom) → IsElse before after → IsReady f before → IsReady f after
-still_at f before after rest was = subst (IsReady f) (sym rest) (record { rested = was.rested; states = was.states; counts = was.counts; closed = was.closed; marks = was.marks; ranking = was.ranking })
+still_at f before after rest was =
+    subst (IsReady f) (sym rest)
+    (record { rested = was.rested; states = was.states; counts = was.counts; closed = was.closed; marks = was.marks; ranking = was.ranking })

@@ -22,10 +22,12 @@ settled s filed w e work at =
     let owns = (broom_view s).owns in
     let d = filed w work in
     let here : owned_at d.0.block owns ≡ Some (owned_of d.0) = destination_at (own_blocks s) owns s.owns d.0 d.1 in
-    let same : owned_of d.0 ≡ e = some_same (owned_of d.0) e (sym here ∙ (ap (λ b. owned_at b owns) (sym d.2) ∙ at)) in subst (λ (y : Owned). w.page.page < y.written) same d.3
+    let same : owned_of d.0 ≡ e = some_same (owned_of d.0) e (sym here ∙ (ap (λ b. owned_at b owns) (sym d.2) ∙ at)) in
+    subst (λ (y : Owned). w.page.page < y.written) same d.3
 
 -- so the destination can be closed
-pub can_close : (s : BroomSeat) → IsFiled (broom_view s) (own_blocks s) → (o : OpenBlock) → (own_blocks s).destination ≡ Some o → CanClose (broom_view s) (owned_of o)
+pub can_close : (s : BroomSeat) → IsFiled (broom_view s) (own_blocks s) → (o : OpenBlock) → (own_blocks s).destination ≡ Some o
+    → CanClose (broom_view s) (owned_of o)
 can_close s filed o is = record { own = destination_at (own_blocks s) (broom_view s).owns s.owns o is; opened = refl; settled = settled s filed }
 
 nothing : (x : Option Work) → ((w : Work) → ¬ (x ≡ Some w)) → x ≡ None
@@ -40,7 +42,8 @@ stays_idle v x filed none =
     λ i. record v { work = idle i; ceded = ceded i }
 
 -- and none after its destination is closed
-pub closes_one : (v w : View) (x : BroomBlocks) (o : OpenBlock) → x.destination ≡ Some o → w ≡ left_closed v o → w ≡ record v { owns = w.owns; work = None; ceded = v.ceded ++ closed_list x.destination }
+pub closes_one : (v w : View) (x : BroomBlocks) (o : OpenBlock) → x.destination ≡ Some o → w ≡ left_closed v o
+    → w ≡ record v { owns = w.owns; work = None; ceded = v.ceded ++ closed_list x.destination }
 closes_one v w x o at is = is ∙ (λ i. record v { owns = (sym is i).owns; work = None; ceded = v.ceded ++ closed_list (sym at i) })
 
 -- there is a block, or none

@@ -1,5 +1,6 @@
 -- The first part of a survey: the states of the blocks are loaded, one after the other.
-use Rattle.std.proofs.Common.{◌≡◌, ℕ, zero, suc, ◌⊎◌, ⊎_elim, inl, inr, ◌+◌, ◌<◌, ◌≤◌, All, List, [], ◌∷◌, ◌++◌, Bool, length, map, Option, None, Some, slice_get, sym, refl, ap, ◌∙◌, subst, arith, append_assoc, append-nil, take, set, get_or}
+use Rattle.std.proofs.Common.{◌≡◌, ℕ, zero, suc, ◌⊎◌, ⊎_elim, inl, inr, ◌+◌, ◌<◌, ◌≤◌, All, List, [], ◌∷◌, ◌++◌, Bool, length, map, Option, None}
+use Rattle.std.proofs.Common.{Some, slice_get, sym, refl, ap, ◌∙◌, subst, arith, append_assoc, append-nil, take, set, get_or}
 use Rattle.std.specs.List.{enumerate_from}
 use Rattle.std.proofs.lemmas.List.{map-append, take_all, take_more_set, length-take-le, length-map}
 use Rattle.std.proofs.lemmas.List.Elements.{All-nil, All-push}
@@ -74,9 +75,11 @@ drained_or_not Retired = inr (λ e. absurd (cc))
 pub loaded_changes : (v w : View) (b n : ℕ) → Loaded v b n w → w ≡ record v { loaded = v.loaded ++ (b, n) ∷ []; busy = w.busy; stale = w.stale }
 loaded_changes v w b n h =
     let loaded : List (ℕ × ℕ) = v.loaded ++ (b, n) ∷ [] in
-    let settle = λ (busy stale : List ℕ) (e : w ≡ record v { loaded = loaded; busy = busy; stale = stale }). e ∙ (λ i. record v { loaded = loaded; busy = (sym e i).busy; stale = (sym e i).stale }) in
+    let settle = λ (busy stale : List ℕ) (e : w ≡ record v { loaded = loaded; busy = busy; stale = stale }). e
+    ∙ (λ i. record v { loaded = loaded; busy = (sym e i).busy; stale = (sym e i).stale }) in
     ⊎_elim
-    (λ drained. dite (ℕ_discrete h.state.readers 0) (λ none. settle v.busy v.stale (h.ready drained none)) (λ some. settle (v.busy ++ b ∷ []) v.stale (h.busy drained (omega arith))))
+    (λ drained. dite (ℕ_discrete h.state.readers 0) (λ none. settle v.busy v.stale (h.ready drained none))
+    (λ some. settle (v.busy ++ b ∷ []) v.stale (h.busy drained (omega arith))))
     (λ other. settle v.busy (v.stale ++ b ∷ []) (h.stale other))
     (drained_or_not h.state.phase)
 
@@ -88,7 +91,8 @@ pub record LoadedTo (f : Flash) (v : View) (x : BroomBlocks) (b : ℕ) (s : Broo
   pub ranges : All (IsInRange (device f)) (take b states)
   pub marked : take b closed ≡ closed_of (take b states)
 
-pub loaded_none : (f : Flash) (s : BroomSeat) (states : List PinWord) (closed : List Bool) → IsBroomOf f s → LoadedTo f (broom_view s) (own_blocks s) 0 s states closed
+pub loaded_none : (f : Flash) (s : BroomSeat) (states : List PinWord) (closed : List Bool) → IsBroomOf f s
+    → LoadedTo f (broom_view s) (own_blocks s) 0 s states closed
 loaded_none f s states closed seat =
     record {
       seat = seat;
@@ -99,22 +103,28 @@ loaded_none f s states closed seat =
     }
 
 pub loaded_more : (f : Flash) (v : View) (x : BroomBlocks) (b : ℕ) (s t : BroomSeat) (states : List PinWord) (closed : List Bool) (p : PinWord)
-    → LoadedTo f v x b s states closed → b < length states → b < length closed → IsBroomOf f t → own_blocks t ≡ own_blocks s → IsInRange (device f) p → Loaded (broom_view s) b (pin_word p) (broom_view t)
+    → LoadedTo f v x b s states closed → b < length states → b < length closed → IsBroomOf f t → own_blocks t ≡ own_blocks s → IsInRange (device f) p
+    → Loaded (broom_view s) b (pin_word p) (broom_view t)
     → LoadedTo f v x (b + 1) t (set states b p) (set closed b (is_closed p.phase))
 loaded_more f v x b s t states closed p h low low' seat blocks range told =
     let now : take (b + 1) (set states b p) ≡ take b states ++ p ∷ [] = take_more_set states b p low in
     let long : length (map pin_word (take b states)) ≡ b = length-map (take b states) pin_word ∙ length-take-le b states (omega arith) in
     let loads : loads_of (take b states) ++ (b, pin_word p) ∷ [] ≡ loads_of (take (b + 1) (set states b p)) =
-    sym (enumerate_more 0 b (map pin_word (take b states)) (pin_word p) long ∙ (let e : 0 + b ≡ b = omega arith in ap (λ j. loads_of (take b states) ++ (j, pin_word p) ∷ []) e))
+    sym (enumerate_more 0 b (map pin_word (take b states)) (pin_word p) long
+    ∙ (let e : 0 + b ≡ b = omega arith in ap (λ j. loads_of (take b states) ++ (j, pin_word p) ∷ []) e))
     ∙ ap (enumerate_from 0) (sym (map-append pin_word (take b states) (p ∷ [])) ∙ ap (λ l. map pin_word l) (sym now)) in
     let all : (broom_view s).loaded ++ (b, pin_word p) ∷ [] ≡ v.loaded ++ loads_of (take (b + 1) (set states b p)) =
-    ap (λ (w : View). w.loaded ++ (b, pin_word p) ∷ []) h.changed ∙ (append_assoc v.loaded (loads_of (take b states)) ((b, pin_word p) ∷ []) ∙ ap (λ l. v.loaded ++ l) loads) in
+    ap (λ (w : View). w.loaded ++ (b, pin_word p) ∷ []) h.changed
+    ∙ (append_assoc v.loaded (loads_of (take b states)) ((b, pin_word p) ∷ []) ∙ ap (λ l. v.loaded ++ l) loads) in
     record {
       seat = seat;
       blocks = blocks ∙ h.blocks;
-      changed = loaded_changes (broom_view s) (broom_view t) b (pin_word p) told ∙ (λ i. record (h.changed i) { loaded = all i; busy = (broom_view t).busy; stale = (broom_view t).stale });
+      changed = loaded_changes (broom_view s) (broom_view t) b (pin_word p) told
+          ∙ (λ i. record (h.changed i) { loaded = all i; busy = (broom_view t).busy; stale = (broom_view t).stale });
       ranges = subst (All (IsInRange (device f))) (sym now) (All-push (IsInRange (device f)) (take b states) p h.ranges range);
-      marked = take_more_set closed b (is_closed p.phase) low' ∙ (ap (λ l. l ++ is_closed p.phase ∷ []) h.marked ∙ (sym (map-append (λ (y : PinWord). is_closed y.phase) (take b states) (p ∷ [])) ∙ ap closed_of (sym now)));
+      marked = take_more_set closed b (is_closed p.phase) low'
+          ∙ (ap (λ l. l ++ is_closed p.phase ∷ []) h.marked
+          ∙ (sym (map-append (λ (y : PinWord). is_closed y.phase) (take b states) (p ∷ [])) ∙ ap closed_of (sym now)));
     }
 
 pub loaded_all : (f : Flash) (v : View) (x : BroomBlocks) (b : ℕ) (s : BroomSeat) (states : List PinWord) (closed : List Bool)

@@ -1,5 +1,6 @@
 -- The marks of a broom: what it loaded last of each block, and which steps leave the marks true.
-use Rattle.std.proofs.Common.{◌≡◌, ℕ, zero, suc, ◌<◌, ◌==◌, Bool, true, false, List, [], ◌∷◌, ◌++◌, length, map, Option, None, Some, slice_get, sym, refl, ap, ◌∙◌, subst, arith, append_assoc, set, get_or, replicate}
+use Rattle.std.proofs.Common.{◌≡◌, ℕ, zero, suc, ◌<◌, ◌==◌, Bool, true, false, List, [], ◌∷◌, ◌++◌, length, map, Option, None, Some}
+use Rattle.std.proofs.Common.{slice_get, sym, refl, ap, ◌∙◌, subst, arith, append_assoc, set, get_or, replicate}
 use Rattle.std.proofs.lemmas.List.{get_or-map, length-map, get_or-set_same, get_or-set_other, get_or-replicate, length-replicate}
 use mathlib.Core.Logic.{dite}
 use native.Mathlib.Decide.{ℕ_discrete}
@@ -47,9 +48,11 @@ last_of-none b (load ∷ later) none zero x is same =
       fst_or d (Some p) = p.0
 last_of-none b (load ∷ later) none (suc k) x is same = last_of-none b later (later_none (load.0 == b) load.1 (last_of b later) none).1 k x is same
 
-stands_more : (b n : ℕ) (load : ℕ × ℕ) (later : List (ℕ × ℕ)) (here : Bool) → (load.0 == b) ≡ here → (o : Option ℕ) → last_of b later ≡ o → unless_later here load.1 o ≡ Some n → ((m : ℕ) → last_of b later ≡ Some m → StandsOnce later b m) → StandsOnce (load ∷ later) b n
+stands_more : (b n : ℕ) (load : ℕ × ℕ) (later : List (ℕ × ℕ)) (here : Bool) → (load.0 == b) ≡ here → (o : Option ℕ) → last_of b later ≡ o
+    → unless_later here load.1 o ≡ Some n → ((m : ℕ) → last_of b later ≡ Some m → StandsOnce later b m) → StandsOnce (load ∷ later) b n
 stands_more b n load later here this (Some m) behind is more =
-    let there = more n (behind ∙ is) in record { earlier = load ∷ there.earlier; later = there.later; is = ap (λ (l : List (ℕ × ℕ)). load ∷ l) there.is; last = there.last }
+    let there = more n (behind ∙ is) in
+    record { earlier = load ∷ there.earlier; later = there.later; is = ap (λ (l : List (ℕ × ℕ)). load ∷ l) there.is; last = there.last }
 stands_more b n load later true this None behind is more =
     let first : load.0 ≡ b = grind arith in
     let word : load.1 ≡ n = cc in record { earlier = []; later = later; is = λ i. (first i, word i) ∷ later; last = last_of-none b later behind }
@@ -70,7 +73,8 @@ last_of-absent b (load ∷ later) absent =
 same_true : (b : ℕ) → (b == b) ≡ true
 same_true b = grind arith
 
-pub last_of-at : (b n : ℕ) (before later : List (ℕ × ℕ)) → ((k : ℕ) (x : ℕ × ℕ) → slice_get later k ≡ Some x → ¬ (x.0 ≡ b)) → last_of b (before ++ (b, n) ∷ later) ≡ Some n
+pub last_of-at : (b n : ℕ) (before later : List (ℕ × ℕ)) → ((k : ℕ) (x : ℕ × ℕ) → slice_get later k ≡ Some x → ¬ (x.0 ≡ b))
+    → last_of b (before ++ (b, n) ∷ later) ≡ Some n
 last_of-at b n [] later absent = ap (unless_later (b == b) n) (last_of-absent b later absent) ∙ ap (λ here. unless_later here n None) (same_true b)
 last_of-at b n (load ∷ before) later absent = ap (unless_later (load.0 == b) load.1) (last_of-at b n before later absent)
 
@@ -89,11 +93,14 @@ closed_phase Retired e = absurd (cc)
 
 module _ (z : Numbers) (states : List PinWord) where
   -- marks that go leave the others true, and so do steps that load no state
-  pub marks_kept : (v w : View) (marks fewer : List Bool) → w.loaded ≡ v.loaded → ((k : ℕ) → IsClosed fewer k → IsClosed marks k) → AreMarked z v states marks → AreMarked z w states fewer
-  marks_kept v w marks fewer same go were k d is = let h = were k d (go k is) in record { range = h.range; closed = h.closed; last = ap (last_of k) same ∙ h.last }
+  pub marks_kept : (v w : View) (marks fewer : List Bool) → w.loaded ≡ v.loaded → ((k : ℕ) → IsClosed fewer k → IsClosed marks k)
+      → AreMarked z v states marks → AreMarked z w states fewer
+  marks_kept v w marks fewer same go were k d is = let h = were k d (go k is) in
+      record { range = h.range; closed = h.closed; last = ap (last_of k) same ∙ h.last }
 
   -- a state of a block that isn't marked may be loaded
-  pub marks_loaded : (v w : View) (marks : List Bool) (b n : ℕ) → w.loaded ≡ v.loaded ++ (b, n) ∷ [] → ¬ (IsClosed marks b) → AreMarked z v states marks → AreMarked z w states marks
+  pub marks_loaded : (v w : View) (marks : List Bool) (b n : ℕ) → w.loaded ≡ v.loaded ++ (b, n) ∷ [] → ¬ (IsClosed marks b)
+      → AreMarked z v states marks → AreMarked z w states marks
   marks_loaded v w marks b n more other were k d is =
       let h = were k d is in
       let apart : ¬ (b ≡ k) = λ e. other (subst (IsClosed marks) (sym e) is) in
@@ -103,7 +110,8 @@ module _ (z : Numbers) (states : List PinWord) where
   pub marks_surveyed : (v w : View) (marks : List Bool) → StatesLoaded z v states marks w → AreMarked z w states marks
   marks_surveyed v w marks told k d is =
       let shut : IsClosed (closed_of states) k = subst (λ l. IsClosed l k) told.marked is in
-      let low : k < length states = let long = length-map states (λ (p : PinWord). is_closed p.phase) in let below = closed_low (closed_of states) k shut in omega arith in
+      let low : k < length states = let long = length-map states (λ (p : PinWord). is_closed p.phase) in
+      let below = closed_low (closed_of states) k shut in omega arith in
       let p = get_or states k d in
       let mark : is_closed p.phase ≡ true = sym (get_or-map (λ (p : PinWord). is_closed p.phase) states k d false low) ∙ shut in
       let long : k < length (map pin_word states) = let e = length-map states pin_word in omega arith in
@@ -112,10 +120,13 @@ module _ (z : Numbers) (states : List PinWord) where
       record {
         range = told.ranges k d low;
         closed = closed_phase p.phase mark;
-        last = ap (λ (x : View). last_of k x.loaded) told.changed ∙ (last_all v.loaded (loads_of states) k (get_or (map pin_word states) k 0) once ∙ ap Some word);
+        last = ap (λ (x : View). last_of k x.loaded) told.changed
+            ∙ (last_all v.loaded (loads_of states) k (get_or (map pin_word states) k 0) once ∙ ap Some word);
       } where
         last_all : (before loads : List (ℕ × ℕ)) (b n : ℕ) → StandsOnce loads b n → last_of b (before ++ loads) ≡ Some n
-        last_all before loads b n h = ap (λ l. last_of b (before ++ l)) h.is ∙ (ap (last_of b) (sym (append_assoc before h.earlier ((b, n) ∷ h.later))) ∙ last_of-at b n (before ++ h.earlier) h.later h.last)
+        last_all before loads b n h =
+            ap (λ l. last_of b (before ++ l)) h.is
+            ∙ (ap (last_of b) (sym (append_assoc before h.earlier ((b, n) ∷ h.later))) ∙ last_of-at b n (before ++ h.earlier) h.later h.last)
 
 -- the mark of a block goes, and the others stay
 pub unmarked : (marks : List Bool) (b : ℕ) → b < length marks → ¬ (IsClosed (set marks b false) b)
@@ -123,11 +134,15 @@ unmarked marks b low is = let e = get_or-set_same marks b false false low in let
 
 pub still_marked : (marks : List Bool) (b : ℕ) → b < length marks → (k : ℕ) → IsClosed (set marks b false) k → IsClosed marks k
 still_marked marks b low k is =
-    dite (ℕ_discrete k b) (λ same. absurd (unmarked marks b low (subst (IsClosed (set marks b false)) same is))) (λ other. sym (get_or-set_other marks b k false false other) ∙ is)
+    dite (ℕ_discrete k b) (λ same. absurd (unmarked marks b low (subst (IsClosed (set marks b false)) same is)))
+    (λ other. sym (get_or-set_other marks b k false false other) ∙ is)
 
 -- a state of a block whose mark goes may be loaded
-pub marks_after : (z : Numbers) (states : List PinWord) (v w : View) (marks : List Bool) (b n : ℕ) → b < length marks → w.loaded ≡ v.loaded ++ (b, n) ∷ [] → AreMarked z v states marks → AreMarked z w states (set marks b false)
-marks_after z states v w marks b n low more were = marks_loaded z states v w (set marks b false) b n more (unmarked marks b low) (marks_kept z states v v marks (set marks b false) refl (still_marked marks b low) were)
+pub marks_after : (z : Numbers) (states : List PinWord) (v w : View) (marks : List Bool) (b n : ℕ) → b < length marks
+    → w.loaded ≡ v.loaded ++ (b, n) ∷ [] → AreMarked z v states marks → AreMarked z w states (set marks b false)
+marks_after z states v w marks b n low more were =
+    marks_loaded z states v w (set marks b false) b n more (unmarked marks b low)
+    (marks_kept z states v v marks (set marks b false) refl (still_marked marks b low) were)
 
 -- where there are no marks they are all true
 pub no_marks : (n k : ℕ) → ¬ (IsClosed (replicate n false) k)

@@ -37,9 +37,14 @@ pub record KeysTo (counts : List ℕ) (marks : List Bool) (block : ℕ) (keys : 
 
 pub keys_none : (counts : List ℕ) (marks : List Bool) (keys : List ℕ) → keys ≡ [] → KeysTo counts marks 0 keys
 keys_none counts marks keys none =
-    record { each = subst (All (IsKey counts)) (sym none) (All-nil (IsKey counts)); here = λ b low is. absurd (omega arith); short = let e = ap (length {A = ℕ}) none in omega arith }
+    record {
+      each = subst (All (IsKey counts)) (sym none) (All-nil (IsKey counts));
+      here = λ b low is. absurd (omega arith);
+      short = let e = ap (length {A = ℕ}) none in omega arith;
+    }
 
-pub keys_more : (counts : List ℕ) (marks : List Bool) (block key : ℕ) (keys after : List ℕ) → block < length counts → length counts ≤ ONE_PAGE → key ≡ key_of (get_or counts block 0) block → after ≡ keys ++ key ∷ []
+pub keys_more : (counts : List ℕ) (marks : List Bool) (block key : ℕ) (keys after : List ℕ) → block < length counts → length counts ≤ ONE_PAGE
+    → key ≡ key_of (get_or counts block 0) block → after ≡ keys ++ key ∷ []
     → KeysTo counts marks block keys → KeysTo counts marks (block + 1) after
 keys_more counts marks block key keys after low few is pushed h =
     let one : IsKey counts key = subst (IsKey counts) (sym is) (is_key counts block low few) in
@@ -53,7 +58,8 @@ keys_more counts marks block key keys after low few is pushed h =
       short = let long = length_push keys key in let s = h.short in omega arith;
     })
 
-pub keys_same : (counts : List ℕ) (marks : List Bool) (block : ℕ) (keys : List ℕ) → ¬ (IsClosed marks block) → KeysTo counts marks block keys → KeysTo counts marks (block + 1) keys
+pub keys_same : (counts : List ℕ) (marks : List Bool) (block : ℕ) (keys : List ℕ) → ¬ (IsClosed marks block) → KeysTo counts marks block keys
+    → KeysTo counts marks (block + 1) keys
 keys_same counts marks block keys ajar h =
     record {
       each = h.each;
@@ -62,7 +68,8 @@ keys_same counts marks block keys ajar h =
     }
 
 -- the keys in rising order rank all marked blocks
-pub keys_ranked : (counts : List ℕ) (marks : List Bool) (block : ℕ) (keys sorted : List ℕ) → length marks ≤ block → KeysTo counts marks block keys → IsPermutation keys sorted → IsNonDecreasing sorted → IsRanked counts marks sorted 0
+pub keys_ranked : (counts : List ℕ) (marks : List Bool) (block : ℕ) (keys sorted : List ℕ) → length marks ≤ block → KeysTo counts marks block keys
+    → IsPermutation keys sorted → IsNonDecreasing sorted → IsRanked counts marks sorted 0
 keys_ranked counts marks block keys sorted all h moved rising =
     record {
       each = All-permutation (IsKey counts) keys sorted moved h.each;
@@ -75,7 +82,8 @@ keys_ranked counts marks block keys sorted all h moved rising =
     }
 
 -- ---- the first marked block
-module _ (counts : List ℕ) (marks : List Bool) (keys : List ℕ) (next : ℕ) (h : IsRanked counts marks keys next) (long : length counts ≡ length marks) (few : length counts ≤ ONE_PAGE) where
+module _ (counts : List ℕ) (marks : List Bool) (keys : List ℕ) (next : ℕ) (h : IsRanked counts marks keys next) (long : length counts ≡ length marks)
+    (few : length counts ≤ ONE_PAGE) where
   -- the key at this place is of an unmarked block, and is past
   pub ranked_past : next < length keys → ¬ (IsClosed marks (get_or keys next 0 % ONE_PAGE)) → IsRanked counts marks keys (next + 1)
   ranked_past low ajar =
@@ -120,7 +128,8 @@ module _ (counts : List ℕ) (marks : List Bool) (keys : List ℕ) (next : ℕ) 
   ranked_none all = sym (greedy_of-none counts marks long (λ k shut. h.left k (λ j from below is. absurd (omega arith)) shut))
 
 -- ---- marks that go
-pub ranks_fewer : (counts : List ℕ) (marks fewer : List Bool) (r : Ranking) → length fewer ≡ length marks → ((k : ℕ) → IsClosed fewer k → IsClosed marks k) → Ranks counts marks r → Ranks counts fewer r
+pub ranks_fewer : (counts : List ℕ) (marks fewer : List Bool) (r : Ranking) → length fewer ≡ length marks
+    → ((k : ℕ) → IsClosed fewer k → IsClosed marks k) → Ranks counts marks r → Ranks counts fewer r
 ranks_fewer counts marks fewer r long go h =
     record {
       room = let room = h.room in omega arith;
@@ -128,7 +137,8 @@ ranks_fewer counts marks fewer r long go h =
     }
 
 -- ---- a ranking that isn't made
-pub forgotten : (counts : List ℕ) (marks fewer : List Bool) (r s : Ranking) → length fewer ≡ length marks → s ≡ record r { made = false } → (old : List ℕ) → Ranks old marks r → Ranks counts fewer s
+pub forgotten : (counts : List ℕ) (marks fewer : List Bool) (r s : Ranking) → length fewer ≡ length marks → s ≡ record r { made = false }
+    → (old : List ℕ) → Ranks old marks r → Ranks counts fewer s
 forgotten counts marks fewer r s long is old h =
     let P : Ranking → Type 0 = λ x. Ranks counts fewer x in
     subst P (sym is) (record { room = let room = h.room in omega arith; ranked = λ made. absurd (false≢true made) })

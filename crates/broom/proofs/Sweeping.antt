@@ -30,18 +30,58 @@ relocated_none v =
 
 -- a view whose fields were set, by its own fields
 settled : (v w : View) (moves : ℕ) (x : View)
-    → w ≡ record v { seen = x.seen; named = x.named; owns = x.owns; work = x.work; programs = x.programs; cleared = x.cleared; source = x.source; moves = moves; ceded = x.ceded }
-    → w ≡ record v { seen = w.seen; named = w.named; owns = w.owns; work = w.work; programs = w.programs; cleared = w.cleared; source = w.source; moves = moves; ceded = w.ceded }
+    → w ≡ record v {
+      seen = x.seen;
+      named = x.named;
+      owns = x.owns;
+      work = x.work;
+      programs = x.programs;
+      cleared = x.cleared;
+      source = x.source;
+      moves = moves;
+      ceded = x.ceded;
+    }
+    → w ≡ record v {
+      seen = w.seen;
+      named = w.named;
+      owns = w.owns;
+      work = w.work;
+      programs = w.programs;
+      cleared = w.cleared;
+      source = w.source;
+      moves = moves;
+      ceded = w.ceded;
+    }
 settled v w moves x e =
     e
-    ∙ (λ i. record v { seen = (sym e i).seen; named = (sym e i).named; owns = (sym e i).owns; work = (sym e i).work; programs = (sym e i).programs; cleared = (sym e i).cleared; source = (sym e i).source; moves = moves; ceded = (sym e i).ceded })
+    ∙ (λ i. record v {
+      seen = (sym e i).seen;
+      named = (sym e i).named;
+      owns = (sym e i).owns;
+      work = (sym e i).work;
+      programs = (sym e i).programs;
+      cleared = (sym e i).cleared;
+      source = (sym e i).source;
+      moves = moves;
+      ceded = (sym e i).ceded;
+    })
 
 pub relocated_then : (u v w : View) (a b n : ℕ) → a + b ≡ n → Relocated u a v → Relocated v b w → Relocated u n w
 relocated_then u v w a b n sum first second =
     let moves : v.moves + b ≡ u.moves + n = let m : v.moves ≡ u.moves + a = ap (λ (x : View). x.moves) first.changed in omega arith in
     record {
       changed = second.changed
-          ∙ (λ i. record (first.changed i) { seen = w.seen; named = w.named; owns = w.owns; work = w.work; programs = w.programs; cleared = w.cleared; source = w.source; moves = moves i; ceded = w.ceded });
+          ∙ (λ i. record (first.changed i) {
+            seen = w.seen;
+            named = w.named;
+            owns = w.owns;
+            work = w.work;
+            programs = w.programs;
+            cleared = w.cleared;
+            source = w.source;
+            moves = moves i;
+            ceded = w.ceded;
+          });
       later = Begins-trans u.seen v.seen w.seen first.later second.later;
       named = Begins-trans u.named v.named w.named first.named second.named;
       programmed = Begins-trans u.programs v.programs w.programs first.programmed second.programmed;
@@ -52,14 +92,16 @@ pub relocated_source : (v w : View) (source : Option Source) (cleared : ℕ) →
 relocated_source v w source cleared e =
     let none : v.moves ≡ v.moves + 0 = omega arith in
     record {
-      changed = settled v w (v.moves + 0) (record v { source = source; cleared = cleared }) (e ∙ (λ i. record v { source = source; cleared = cleared; moves = none i }));
+      changed = settled v w (v.moves + 0) (record v { source = source; cleared = cleared })
+          (e ∙ (λ i. record v { source = source; cleared = cleared; moves = none i }));
       later = subst (λ (l : List Call). Begins v.seen l) (sym (ap (λ (x : View). x.seen) e)) (Begins-refl v.seen);
       named = subst (λ (l : List (ℕ × ℕ)). Begins v.named l) (sym (ap (λ (x : View). x.named) e)) (Begins-refl v.named);
       programmed = subst (λ (l : List MapWord). Begins v.programs l) (sym (ap (λ (x : View). x.programs) e)) (Begins-refl v.programs);
     }
 
 -- the broom still sweeps where its blocks and its work are the same
-pub sweeps_on : (f : Flash) (most : ℕ) (s t : BroomSeat) (x : ReclaimedBlock) → IsSweeping f most s x → IsBroomOf f t → own_blocks t ≡ own_blocks s → (broom_view t).work ≡ (broom_view s).work
+pub sweeps_on : (f : Flash) (most : ℕ) (s t : BroomSeat) (x : ReclaimedBlock) → IsSweeping f most s x → IsBroomOf f t → own_blocks t ≡ own_blocks s
+    → (broom_view t).work ≡ (broom_view s).work
     → AreOfHosts (broom_view t).numbers (broom_view t).seen → IsSweeping f most t x
 sweeps_on f most s t x h seat blocks work callers =
     record {
@@ -108,7 +150,8 @@ module _ (v w : View) (x : ReclaimedBlock) (n : ℕ) (told : GotStamp v (reclaim
   stamp_named low = told.sector low
 
 -- what a step that sets the source and what is cleared leaves as it was
-pub callers_same : (v w : View) (source : Option Source) (cleared : ℕ) → w ≡ record v { source = source; cleared = cleared } → AreOfHosts v.numbers v.seen → AreOfHosts w.numbers w.seen
+pub callers_same : (v w : View) (source : Option Source) (cleared : ℕ) → w ≡ record v { source = source; cleared = cleared }
+    → AreOfHosts v.numbers v.seen → AreOfHosts w.numbers w.seen
 callers_same v w source cleared e callers = subst (λ (y : View). AreOfHosts y.numbers y.seen) (sym e) callers
 
 -- ---- the look at its sector
@@ -173,7 +216,13 @@ pub record Untouched (v w : View) : Type 0 where
   pub named : w.named ≡ v.named
 
 pub untouched_source : (v w : View) (source : Option Source) (cleared : ℕ) → w ≡ record v { source = source; cleared = cleared } → Untouched v w
-untouched_source v w source cleared e = record { programs = ap (λ (y : View). y.programs) e; work = ap (λ (y : View). y.work) e; ceded = ap (λ (y : View). y.ceded) e; named = ap (λ (y : View). y.named) e }
+untouched_source v w source cleared e =
+    record {
+      programs = ap (λ (y : View). y.programs) e;
+      work = ap (λ (y : View). y.work) e;
+      ceded = ap (λ (y : View). y.ceded) e;
+      named = ap (λ (y : View). y.named) e;
+    }
 
 pub found_dead_then : (u v w : View) (page : MapWord) → Relocated u 0 v → v.cleared ≡ u.cleared → Untouched u v → FoundDead v page w → FoundDead u page w
 found_dead_then u v w page first same none h =
@@ -189,7 +238,8 @@ found_dead_then u v w page first same none h =
       dead = h.dead;
     }
 
-pub found_live_then : (u v w : View) (page : MapWord) (s : ℕ) → Relocated u 0 v → v.cleared ≡ u.cleared → Untouched u v → FoundLive v page s w → FoundLive u page s w
+pub found_live_then : (u v w : View) (page : MapWord) (s : ℕ) → Relocated u 0 v → v.cleared ≡ u.cleared → Untouched u v → FoundLive v page s w
+    → FoundLive u page s w
 found_live_then u v w page s first same none h =
     let numbers : v.numbers ≡ u.numbers = ap (λ (x : View). x.numbers) first.changed in
     record {

@@ -56,7 +56,8 @@ module _ (v w : View) (found : Option MapWord) (told : Named v 0 (sector_word fo
   look_callers = let P : Numbers → Type 0 = λ z. AreOfHosts z w.seen in subst P (sym (ap (λ (x : View). x.numbers) told.changed)) told.callers
 
 -- a broom rests again once it has heard of another player
-pub rested_heard : (f : Flash) (s t : BroomSeat) → IsRested f s → IsBroomOf f t → own_blocks t ≡ own_blocks s → HasHeard (broom_view s) (broom_view t) → AreOfHosts (broom_view t).numbers (broom_view t).seen → IsRested f t
+pub rested_heard : (f : Flash) (s t : BroomSeat) → IsRested f s → IsBroomOf f t → own_blocks t ≡ own_blocks s → HasHeard (broom_view s) (broom_view t)
+    → AreOfHosts (broom_view t).numbers (broom_view t).seen → IsRested f t
 rested_heard f s t h seat blocks told callers =
     let e = told.changed in
     record {
@@ -73,7 +74,8 @@ rested_heard f s t h seat blocks told callers =
     }
 
 -- ---- two brooms: the first one, v, has looked with the second one's note
-module _ (v v' w : View) (found : Option MapWord) (mine : v.role ≡ Player (name_of v.role)) (other : v'.role ≡ Player (name_of v'.role)) (none : v.source ≡ None)
+module _ (v v' w : View) (found : Option MapWord) (mine : v.role ≡ Player (name_of v.role)) (other : v'.role ≡ Player (name_of v'.role))
+    (none : v.source ≡ None)
     (told : Named (host_of v (lent_note v')) 0 (sector_word found) w) where
   met : Met w (carried v')
   met = told.met (carried v') refl
@@ -87,7 +89,8 @@ module _ (v v' w : View) (found : Option MapWord) (mine : v.role ≡ Player (nam
   pub guest : (name : Name) × (w.guest ≡ Some name) × (¬ (w.role ≡ Player name))
   guest = (name_of v'.role, ap (λ (x : View). x.guest) told.changed, met.other)
 
-  pub given : (note : View) → note ≡ given_note w → (name : Name) × (c : Carried) × ((lender v').role ≡ Player name) × (note.guest ≡ Some name) × (note.copy ≡ Some c) × (¬ ((lender v').role ≡ Player c.of))
+  pub given : (note : View) → note ≡ given_note w → (name : Name) × (c : Carried) × ((lender v').role ≡ Player name) × (note.guest ≡ Some name)
+      × (note.copy ≡ Some c) × (¬ ((lender v').role ≡ Player c.of))
   given note is = (
     name_of v'.role,
     carried w,
@@ -103,20 +106,28 @@ module _ (v v' w : View) (found : Option MapWord) (mine : v.role ≡ Player (nam
       let copied = ap (λ (x : View). x.copy) e in
       record {
         found = found;
-        changed = ap giver e ∙ (λ i. record v { seen = w.seen; named = v.named ++ (0, sector_word found) ∷ []; copy = sym copied i; older = v.copy; guest = sym alone i });
+        changed = ap giver e ∙ (λ i.
+            record v { seen = w.seen; named = v.named ++ (0, sector_word found) ∷ []; copy = sym copied i; older = v.copy; guest = sym alone i });
         empty = look_empty (host_of v (lent_note v')) w found told none;
         mapped = look_mapped (host_of v (lent_note v')) w found told none;
       }
 
   -- and the second one, with what the first one has given back
-  module _ (u : View) (again : Option MapWord) (none' : v'.source ≡ None) (whole : v'.whole ≡ true) (last : Named (home (lender v') (given_note w)) 0 (sector_word again) u) where
+  module _ (u : View) (again : Option MapWord) (none' : v'.source ≡ None) (whole : v'.whole ≡ true)
+      (last : Named (home (lender v') (given_note w)) 0 (sector_word again) u) where
     pub heard_second : HasHeard v' u
     heard_second =
         let e = looked (home (lender v') (given_note w)) u again last none' in
         let copied = ap (λ (x : View). x.copy) e in
         record {
           found = again;
-          changed = e ∙ (λ i. record v' { seen = u.seen; named = v'.named ++ (0, sector_word again) ∷ []; copy = sym copied i; older = v'.copy; whole = sym whole i });
+          changed = e ∙ (λ i. record v' {
+            seen = u.seen;
+            named = v'.named ++ (0, sector_word again) ∷ [];
+            copy = sym copied i;
+            older = v'.copy;
+            whole = sym whole i;
+          });
           empty = look_empty (home (lender v') (given_note w)) u again last none';
           mapped = look_mapped (home (lender v') (given_note w)) u again last none';
         }
@@ -141,13 +152,17 @@ module _ (v v' w : View) (found : Option MapWord) (mine : v.role ≡ Player (nam
             (λ c had of. let grown = met.newer c (ap (λ (x : View). x.older) told.changed ∙ had) (sym (ap name_of of)) in (grown.programs, grown.erases)),
             λ c had of.
                 let grown = theirs.newer c (ap (λ (x : View). x.older) last.changed ∙ had) (sym (ap name_of (role ∙ of))) in
-                let stays = told.changed in
-                (subst (Begins c.programs) (ap (λ (x : View). x.programs) stays) grown.programs, subst (Begins c.erases) (ap (λ (x : View). x.erases) stays) grown.erases),
+                let stays = told.changed in (
+                  subst (Begins c.programs)
+                      (ap (λ (x : View). x.programs) stays) grown.programs,
+                  subst (Begins c.erases) (ap (λ (x : View). x.erases) stays) grown.erases,
+                ),
           );
         }
 
 -- ---- a broom that stands by a page: the pass, v, has read a word with the broom's note
-module _ (v x : View) (page : MapWord) (mine : v.role ≡ Player (name_of v.role)) (other : x.role ≡ Player (name_of x.role)) (spared : Spared (host_of v (lent_note x)) page (carried x)) where
+module _ (v x : View) (page : MapWord) (mine : v.role ≡ Player (name_of v.role)) (other : x.role ≡ Player (name_of x.role))
+    (spared : Spared (host_of v (lent_note x)) page (carried x)) where
   pub stood_guest : (name : Name) × ((host_of v (lent_note x)).guest ≡ Some name) × (¬ ((host_of v (lent_note x)).role ≡ Player name))
   stood_guest = (name_of x.role, refl, spared.other)
 
@@ -162,14 +177,21 @@ module _ (v x : View) (page : MapWord) (mine : v.role ≡ Player (name_of v.role
     λ same. spared.other (mine ∙ (sym same ∙ other)),
   )
 
-  module _ (y : View) (found : Option MapWord) (none : x.source ≡ None) (whole : x.whole ≡ true) (told : Named (home (lender x) (given_note (host_of v (lent_note x)))) 0 (sector_word found) y) where
+  module _ (y : View) (found : Option MapWord) (none : x.source ≡ None) (whole : x.whole ≡ true)
+      (told : Named (home (lender x) (given_note (host_of v (lent_note x)))) 0 (sector_word found) y) where
     pub stood_heard : HasHeard x y
     stood_heard =
         let e = looked (home (lender x) (given_note (host_of v (lent_note x)))) y found told none in
         let copied = ap (λ (z : View). z.copy) e in
         record {
           found = found;
-          changed = e ∙ (λ i. record x { seen = y.seen; named = x.named ++ (0, sector_word found) ∷ []; copy = sym copied i; older = x.copy; whole = sym whole i });
+          changed = e ∙ (λ i. record x {
+            seen = y.seen;
+            named = x.named ++ (0, sector_word found) ∷ [];
+            copy = sym copied i;
+            older = x.copy;
+            whole = sym whole i;
+          });
           empty = look_empty (home (lender x) (given_note (host_of v (lent_note x)))) y found told none;
           mapped = look_mapped (home (lender x) (given_note (host_of v (lent_note x)))) y found told none;
         }

@@ -92,4 +92,5 @@ pub record Emptied (pages : ℕ) (victim : ReclaimedBlock) (v : View) (x : Broom
 -- a broom's seat has emptied its victim, and has given up the blocks that the copies filled, and no others
 abbrev pub HasEmptied : ℕ → ReclaimedBlock → BroomSeat → ℕ → BroomSeat → Type 0
 HasEmptied pages victim s copied t =
-    (e : Emptied pages victim (broom_view s) (own_blocks s) copied (broom_view t) (own_blocks t)) × ((broom_view t).ceded ≡ (broom_view s).ceded ++ filled_by pages e.copies)
+    (e : Emptied pages victim (broom_view s) (own_blocks s) copied (broom_view t) (own_blocks t))
+    × ((broom_view t).ceded ≡ (broom_view s).ceded ++ filled_by pages e.copies)

@@ -74,9 +74,12 @@ pub record DidRetire (v : View) (x : BroomBlocks) (b : ℕ) (w : View) (y : Broo
 
 -- What each result of an erase of this block means. An erase doesn't use the queue
 abbrev pub EraseTold : Broom → ℕ → Erase → Broom → Type 0
-EraseTold before b (erase.Erased block true) after = (block ≡ b) × DidKeep (view_of_broom before) (blocks_of_broom before) b (view_of_broom after) (blocks_of_broom after)
-EraseTold before b (erase.Erased block false) after = (block ≡ b) × DidFree (view_of_broom before) (blocks_of_broom before) b (view_of_broom after) (blocks_of_broom after)
-EraseTold before b (erase.Retired block) after = (block ≡ b) × DidRetire (view_of_broom before) (blocks_of_broom before) b (view_of_broom after) (blocks_of_broom after)
+EraseTold before b (erase.Erased block true) after =
+    (block ≡ b) × DidKeep (view_of_broom before) (blocks_of_broom before) b (view_of_broom after) (blocks_of_broom after)
+EraseTold before b (erase.Erased block false) after =
+    (block ≡ b) × DidFree (view_of_broom before) (blocks_of_broom before) b (view_of_broom after) (blocks_of_broom after)
+EraseTold before b (erase.Retired block) after =
+    (block ≡ b) × DidRetire (view_of_broom before) (blocks_of_broom before) b (view_of_broom after) (blocks_of_broom after)
 EraseTold before b erase.Pinned after = FoundPinned (view_of_broom before) b (view_of_broom after) × (blocks_of_broom after ≡ blocks_of_broom before)
 EraseTold before b erase.Stale after = FoundStale (view_of_broom before) b (view_of_broom after) × (blocks_of_broom after ≡ blocks_of_broom before)
 EraseTold before b erase.QueueEmpty after = ⊥

@@ -44,13 +44,15 @@ IsElse before after = after ≡ record before { place = place_of after; aside = 
 -- A drained block was passed on: its number was put, or the queue was full and it is set aside
 pub record HandedOn (limit : ℕ) (before : Broom) (block : ℕ) (after : Broom) : Type 0 where
   pub rest : IsElse before after
-  pub went : (WasPut (place_of before) block (place_of after) × (aside_of after ≡ None)) ⊎ (WasFull limit (place_of before) (place_of after) × (aside_of after ≡ Some block))
+  pub went : (WasPut (place_of before) block (place_of after) × (aside_of after ≡ None))
+      ⊎ (WasFull limit (place_of before) (place_of after) × (aside_of after ≡ Some block))
 
 -- Nothing is set aside: nothing was before, or it was put
 pub record Relieved (before after : Broom) : Type 0 where
   pub rest : IsElse before after
   pub none : aside_of after ≡ None
-  pub put : ((aside_of before ≡ None) × (place_of after ≡ place_of before)) ⊎ ((block : ℕ) × (aside_of before ≡ Some block) × WasPut (place_of before) block (place_of after))
+  pub put : ((aside_of before ≡ None) × (place_of after ≡ place_of before))
+      ⊎ ((block : ℕ) × (aside_of before ≡ Some block) × WasPut (place_of before) block (place_of after))
 
 -- A number is set aside, and the queue was full
 pub record Stuck (limit : ℕ) (before after : Broom) : Type 0 where
@@ -64,7 +66,8 @@ pub record Stuck (limit : ℕ) (before after : Broom) : Type 0 where
 pub record Fetched (before : Broom) (block : ℕ) (after : Broom) : Type 0 where
   pub rest : IsElse before after
   pub none : aside_of after ≡ None
-  pub from : ((aside_of before ≡ Some block) × (place_of after ≡ place_of before)) ⊎ ((aside_of before ≡ None) × WasTaken (place_of before) block (place_of after))
+  pub from : ((aside_of before ≡ Some block) × (place_of after ≡ place_of before))
+      ⊎ ((aside_of before ≡ None) × WasTaken (place_of before) block (place_of after))
 
 -- Nothing is set aside, and the queue was empty
 pub record FoundNone (before after : Broom) : Type 0 where
@@ -128,4 +131,5 @@ EraseOneTold limit before erase.QueueEmpty after = FoundNone before after
 
 -- A broom left its place at the queue. What it had set aside was put, or the queue was full
 abbrev pub LeftAt : ℕ → Broom → QueuePass → Type 0
-LeftAt limit b place = ((aside_of b ≡ None) × (place ≡ place_of b)) ⊎ ((block : ℕ) × (aside_of b ≡ Some block) × (WasPut (place_of b) block place ⊎ WasFull limit (place_of b) place))
+LeftAt limit b place = ((aside_of b ≡ None) × (place ≡ place_of b))
+    ⊎ ((block : ℕ) × (aside_of b ≡ Some block) × (WasPut (place_of b) block place ⊎ WasFull limit (place_of b) place))

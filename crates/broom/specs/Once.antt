@@ -28,7 +28,8 @@ number-prop r s t = Σ_prop_path (λ i. hlevel props) (same_number s.0 t.0 (sym 
 pub filed-prop : (w : Work) (d : Option OpenBlock) → IsProp ((o : OpenBlock) × (d ≡ Some o) × (w.page.block ≡ o.block) × (w.page.page < o.written))
 filed-prop w d s t =
     let Its : OpenBlock → Type 0 = λ o. (d ≡ Some o) × (w.page.block ≡ o.block) × (w.page.page < o.written) in
-    ap (λ (y : (o : OpenBlock) × Its o). (y.0, y.1.0, y.1.1, y.1.2)) (Σ_prop_path {B = Its} (λ o. hlevel props) {u = (s.0, (s.1, s.2, s.3))} {v = (t.0, (t.1, t.2, t.3))} (same_block s.0 t.0 (sym s.1 ∙ t.1)))
+    ap (λ (y : (o : OpenBlock) × Its o). (y.0, y.1.0, y.1.1, y.1.2))
+    (Σ_prop_path {B = Its} (λ o. hlevel props) {u = (s.0, (s.1, s.2, s.3))} {v = (t.0, (t.1, t.2, t.3))} (same_block s.0 t.0 (sym s.1 ∙ t.1)))
 
 -- That a broom is ready is a fact with at most one proof, so that a struct can keep it together with its broom
 pub IsReady-prop : (f : Flash) (b : Broom) → IsProp (IsReady f b)

@@ -48,7 +48,17 @@ room_left pages x = room_in pages x.destination + room_in pages x.spare
 
 -- The broom went on with its victim: this many pages were moved, and what was programmed, seen and looked at was added at the ends
 pub record Relocated (v : View) (copied : ℕ) (w : View) : Type 0 where
-  pub changed : w ≡ record v { seen = w.seen; named = w.named; owns = w.owns; work = w.work; programs = w.programs; cleared = w.cleared; source = w.source; moves = v.moves + copied; ceded = w.ceded }
+  pub changed : w ≡ record v {
+    seen = w.seen;
+    named = w.named;
+    owns = w.owns;
+    work = w.work;
+    programs = w.programs;
+    cleared = w.cleared;
+    source = w.source;
+    moves = v.moves + copied;
+    ceded = w.ceded;
+  }
   pub later : Begins v.seen w.seen
   pub named : Begins v.named w.named
   pub programmed : Begins v.programs w.programs
@@ -104,7 +114,8 @@ source_of page sector value = record { page = page; stamp = sector; value = Some
 -- what the copy of the source to the destination records
 abbrev pub CopyTold : View → Option OpenBlock → MapWord → ℕ → MapWord → View → Type 0
 CopyTold v destination page sector copy w =
-    (o : OpenBlock) (value : List ℕ) → destination ≡ Some o → v.source ≡ Some (source_of page sector value) → IsValue v.numbers value → Copied v o (source_of page sector value) copy w
+    (o : OpenBlock) (value : List ℕ) → destination ≡ Some o → v.source ≡ Some (source_of page sector value) → IsValue v.numbers value
+    → Copied v o (source_of page sector value) copy w
 
 -- The destination is closed if it is full, and nothing else is done
 pub record Tidied (pages : ℕ) (v : View) (x : BroomBlocks) (w : View) (y : BroomBlocks) : Type 0 where

@@ -39,5 +39,6 @@ SearchTold v x result w y = MatchBool result (DidRestock v x w y) (FoundNoSpare 
 -- what each result of a restock means
 abbrev pub RestockTold : Broom → Bool → Broom → Type 0
 RestockTold before result after =
-    MatchBool result (HadSpare (view_of_broom before) (blocks_of_broom before) (view_of_broom after) (blocks_of_broom after) ⊎ DidRestock (view_of_broom before) (blocks_of_broom before) (view_of_broom after) (blocks_of_broom after))
+    MatchBool result (HadSpare (view_of_broom before) (blocks_of_broom before) (view_of_broom after) (blocks_of_broom after)
+    ⊎ DidRestock (view_of_broom before) (blocks_of_broom before) (view_of_broom after) (blocks_of_broom after))
     (FoundNoSpare (view_of_broom before) (blocks_of_broom before) (view_of_broom after) (blocks_of_broom after))

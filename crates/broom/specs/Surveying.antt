@@ -40,7 +40,14 @@ pub record Chosen (v : View) (block : ℕ) (after : Broom) : Type 0 where
   pub low : block < length survey.states
   pub closed : IsClosed (closed_of survey.states) block
   pub ranges : All (IsInRange v.numbers) survey.states
-  pub changed : view_of_broom after ≡ record v { seen = (view_of_broom after).seen; loaded = (view_of_broom after).loaded; named = v.named ++ looks_of survey.pages; busy = (view_of_broom after).busy; stale = (view_of_broom after).stale }
+  pub changed : view_of_broom after
+      ≡ record v {
+        seen = (view_of_broom after).seen;
+        loaded = (view_of_broom after).loaded;
+        named = v.named ++ looks_of survey.pages;
+        busy = (view_of_broom after).busy;
+        stale = (view_of_broom after).stale;
+      }
 
 -- A survey was made, which the broom keeps, and it shows nothing to gain
 pub record ChoseNone (v : View) (after : Broom) : Type 0 where

@@ -40,7 +40,14 @@ pub record LostClaim (v w : View) : Type 0 where
   pub made : Surveyed v survey w
   pub block : ℕ
   pub victim : IsVictim survey v.numbers.pages block
-  pub changed : w ≡ record v { seen = w.seen; loaded = w.loaded; named = v.named ++ looks_of survey.pages; busy = w.busy; stale = w.stale; lost = v.lost ++ block ∷ [] }
+  pub changed : w ≡ record v {
+    seen = w.seen;
+    loaded = w.loaded;
+    named = v.named ++ looks_of survey.pages;
+    busy = w.busy;
+    stale = w.stale;
+    lost = v.lost ++ block ∷ [];
+  }
 
 -- the victim of a survey, in its generation and with its pages written as loaded
 abbrev pub victim_in : Survey → ℕ → ReclaimedBlock
@@ -74,7 +81,8 @@ pub record DidDrain (v : View) (x : BroomBlocks) (block copied : ℕ) (w : View)
 
 -- What each result of a drain means. The broom's own blocks are unchanged if it drained none. A drain doesn't use the queue
 abbrev pub DrainTold : Broom → Drain → Broom → Type 0
-DrainTold before (drain.Drained block copied) after = DidDrain (view_of_broom before) (blocks_of_broom before) block copied (view_of_broom after) (blocks_of_broom after)
+DrainTold before (drain.Drained block copied) after =
+    DidDrain (view_of_broom before) (blocks_of_broom before) block copied (view_of_broom after) (blocks_of_broom after)
 DrainTold before drain.NothingToGain after = GainedNothing (view_of_broom before) (view_of_broom after) × (blocks_of_broom after ≡ blocks_of_broom before)
 DrainTold before drain.NoSpare after = HadNoSpare before after
 DrainTold before drain.Lost after = LostClaim (view_of_broom before) (view_of_broom after) × (blocks_of_broom after ≡ blocks_of_broom before)
@@ -134,7 +142,8 @@ pub record IsNext (b : Broom) (block : ℕ) : Type 0 where
 
 -- what each result of a drain of a marked block means
 abbrev pub MarkedTold : Broom → ℕ → Drain → Broom → Type 0
-MarkedTold before b (drain.Drained block copied) after = (block ≡ b) × DidDrainAgain (view_of_broom before) (blocks_of_broom before) (states_kept before) b copied (view_of_broom after) (blocks_of_broom after)
+MarkedTold before b (drain.Drained block copied) after =
+    (block ≡ b) × DidDrainAgain (view_of_broom before) (blocks_of_broom before) (states_kept before) b copied (view_of_broom after) (blocks_of_broom after)
 MarkedTold before b drain.NothingToGain after = ⊥
 MarkedTold before b drain.NoSpare after = ⊥
 MarkedTold before b drain.Lost after = LostAgain (view_of_broom before) b (view_of_broom after) × (blocks_of_broom after ≡ blocks_of_broom before)
@@ -154,10 +163,14 @@ pub record KeepsSurvey (before after : Broom) : Type 0 where
 
 -- what each result of a drain by the last survey means
 abbrev pub NextTold : Broom → Drain → Broom → Type 0
-NextTold before (drain.Drained block copied) after = IsNext before block × DidDrainAgain (view_of_broom before) (blocks_of_broom before) (states_kept before) block copied (view_of_broom after) (blocks_of_broom after) × Unmarks before block after
-NextTold before drain.NothingToGain after = GainsNothingNext before × (view_of_broom after ≡ view_of_broom before) × (blocks_of_broom after ≡ blocks_of_broom before) × KeepsSurvey before after
+NextTold before (drain.Drained block copied) after =
+    IsNext before block × DidDrainAgain (view_of_broom before) (blocks_of_broom before) (states_kept before) block copied (view_of_broom after)
+    (blocks_of_broom after) × Unmarks before block after
+NextTold before drain.NothingToGain after =
+    GainsNothingNext before × (view_of_broom after ≡ view_of_broom before) × (blocks_of_broom after ≡ blocks_of_broom before) × KeepsSurvey before after
 NextTold before drain.NoSpare after = HadNoSpare before after × KeepsSurvey before after
-NextTold before drain.Lost after = (block : ℕ) × IsNext before block × LostAgain (view_of_broom before) block (view_of_broom after) × (blocks_of_broom after ≡ blocks_of_broom before) × Unmarks before block after
+NextTold before drain.Lost after = (block : ℕ) × IsNext before block × LostAgain (view_of_broom before) block (view_of_broom after)
+    × (blocks_of_broom after ≡ blocks_of_broom before) × Unmarks before block after
 NextTold before drain.QueueFull after = ⊥
 
 -- A survey was made, and the broom keeps it, with these marks
@@ -172,5 +185,6 @@ abbrev pub SurveyLeft : Broom → Drain → Broom → Type 0
 SurveyLeft before (drain.Drained block copied) after = (x : Survey) × LeftSurvey (view_of_broom before) x (slice_set (closed_of x.states) block false) after
 SurveyLeft before drain.NothingToGain after = (x : Survey) × LeftSurvey (view_of_broom before) x (closed_of x.states) after
 SurveyLeft before drain.NoSpare after = KeepsSurvey before after
-SurveyLeft before drain.Lost after = (x : Survey) × (block : ℕ) × IsVictim x (view_of_broom before).numbers.pages block × LeftSurvey (view_of_broom before) x (slice_set (closed_of x.states) block false) after
+SurveyLeft before drain.Lost after = (x : Survey) × (block : ℕ) × IsVictim x (view_of_broom before).numbers.pages block
+    × LeftSurvey (view_of_broom before) x (slice_set (closed_of x.states) block false) after
 SurveyLeft before drain.QueueFull after = KeepsSurvey before after

@@ -66,7 +66,8 @@ fn renew(flash: &Flash, seat: &mut BroomSeat) -> bool
     requires seat { IsBroomOf flash.now seat.old }
     requires wiped { (o : ReclaimedBlock) × CanLiveOn flash.now seat.old o }
     ensures told { (o : ReclaimedBlock) → (own_blocks seat.old).reclaiming ≡ reclaiming.Erasing o
-        → MatchBool result (Kept (broom_view seat.old) (own_blocks seat.old) o (broom_view seat.new) (own_blocks seat.new)) (Freed (broom_view seat.old) (own_blocks seat.old) o (broom_view seat.new) (own_blocks seat.new)) }
+        → MatchBool result (Kept (broom_view seat.old) (own_blocks seat.old) o (broom_view seat.new) (own_blocks seat.new))
+        (Freed (broom_view seat.old) (own_blocks seat.old) o (broom_view seat.new) (own_blocks seat.new)) }
     ensures seat { IsBroomOf flash.now seat.new }
 {
     let kept = seat.blocks().spare.is_none();

@@ -1,5 +1,6 @@
 -- Each step of a pass keeps the rule of the queue.
-use Rattle.std.proofs.Common.{◌≡◌, ◌≢◌, ℕ, zero, suc, ◌+◌, ◌<◌, ◌≤◌, ⊎_elim, Bool, true, false, List, [], ◌∷◌, ◌++◌, Some, length, set, slice_get, sym, refl, ap, ◌∙◌, subst, append_assoc, arith}
+use Rattle.std.proofs.Common.{◌≡◌, ◌≢◌, ℕ, zero, suc, ◌+◌, ◌<◌, ◌≤◌, ⊎_elim, Bool, true, false, List, [], ◌∷◌, ◌++◌, Some}
+use Rattle.std.proofs.Common.{length, set, slice_get, sym, refl, ap, ◌∙◌, subst, append_assoc, arith}
 use mathlib.Core.Option.{some, some-injective, some-ne-none}
 use lib.ListN.{get_elem?}
 use Rattle.crossbeam_queue.specs.Fifo.{Pushes, Pops, Forks, Learns}
@@ -10,7 +11,8 @@ use Rattle.erase_queue.specs.declared.sight.Role.TheVariants.{Counter, Dealer, U
 use Rattle.erase_queue.specs.declared.sight.Sight.{Sight}
 use Rattle.erase_queue.specs.Moves.{DidPut, DidTake, Stand}
 use Rattle.erase_queue.specs.Rule.{Course, LawfulSight, Lawful, Ruled, counter, counted, dealer, user_of, gone}
-use Rattle.erase_queue.proofs.Places.{none_some, get_last, get_behind, length_last, replaced, replaced_else, no_shorter, own_stay, own_grow, owned_set, owned_snoc, owned_grow}
+use Rattle.erase_queue.proofs.Places.{none_some, get_last, get_behind, length_last, replaced, replaced_else, no_shorter}
+use Rattle.erase_queue.proofs.Places.{own_stay, own_grow, owned_set, owned_snoc, owned_grow}
 
 -- One course goes on to another: numbers were put or taken, and each place is whose it was
 record GoesOn (g g' : Course) : Type 0 where
@@ -86,14 +88,17 @@ module _ (g : Course) (items : List ℕ) (views : List Sight) (l : Lawful g item
   put_lawful : x < g.limit → Lawful put_course (items ++ x ∷ []) (set views pass put_sight)
   put_lawful low = record {
     order = (l.order.0, ap (λ (y : List ℕ). y ++ x ∷ []) l.order.1 ∙ append_assoc l.order.0 items (x ∷ []), l.order.2);
-    low = λ k y e. ⊎_elim (λ (was : slice_get g.puts k ≡ Some y). l.low k y was) (λ (new : (k ≡ length g.puts) × (x ≡ y)). let is = new.1 in omega arith) (get_last g.puts x y k e);
+    low = λ k y e. ⊎_elim (λ (was : slice_get g.puts k ≡ Some y). l.low k y was)
+        (λ (new : (k ≡ length g.puts) × (x ≡ y)). let is = new.1 in omega arith) (get_last g.puts x y k e);
     each = each_set (LawfulSight put_course) views pass put_sight put_mine (λ j u other e. sight_stays g put_course j u put_goes_on (l.each j u e));
-    put_by = owned_grow (λ (u : Sight). u.own_puts) (length g.puts) (length (g.puts ++ x ∷ [])) g.putter views pass v put_sight (length_last g.puts x) at refl l.put_by;
+    put_by = owned_grow (λ (u : Sight). u.own_puts) (length g.puts) (length (g.puts ++ x ∷ [])) g.putter views pass v put_sight
+        (length_last g.puts x) at refl l.put_by;
     taken_by = λ k below. owned_set (λ (u : Sight). u.own_takes) views pass v put_sight at (λ i n e. e) k (g.taker k) (l.taken_by k below);
   }
 
 -- A TAKE
-module _ (g : Course) (items : List ℕ) (views : List Sight) (x : ℕ) (l : Lawful g (x ∷ items) views) (pass : ℕ) (v : Sight) (at : get_elem? views pass ≡ some v) where
+module _ (g : Course) (items : List ℕ) (views : List Sight) (x : ℕ) (l : Lawful g (x ∷ items) views) (pass : ℕ) (v : Sight)
+    (at : get_elem? views pass ≡ some v) where
   abbrev take_course : Course
   take_course = record g { taken = g.taken + 1; taker = replaced g.taker g.taken (pass, length v.own_takes) }
 
@@ -134,14 +139,18 @@ module _ (g : Course) (items : List ℕ) (views : List Sight) (x : ℕ) (l : Law
   }
 
   take_first : slice_get g.puts g.taken ≡ Some x
-  take_first = ap (λ (y : List ℕ). slice_get y g.taken) l.order.1 ∙ ap (λ (n : ℕ). slice_get (l.order.0 ++ x ∷ items) n) (sym l.order.2) ∙ get_behind l.order.0 items x
+  take_first = ap (λ (y : List ℕ). slice_get y g.taken) l.order.1 ∙ ap (λ (n : ℕ). slice_get (l.order.0 ++ x ∷ items) n) (sym l.order.2)
+      ∙ get_behind l.order.0 items x
 
 -- a pass that puts and takes puts a number below the limit
 pub puts : (n pass : ℕ) (v : Sight) (x : ℕ) → v.role ≡ User → x < v.limit → Pushes Ruled n pass v x (DidPut v x)
 puts n pass v x user low items views room h at =
     let old = h.1.each pass v at in
-    let same = (old.uses user).1 in
-    (put_sight h.0 items views h.1 pass v at x, (put_course h.0 items views h.1 pass v at x, put_lawful h.0 items views h.1 pass v at x (omega arith)), record { before = h.0.puts; seen = old.puts; changed = refl })
+    let same = (old.uses user).1 in (
+      put_sight h.0 items views h.1 pass v at x,
+      (put_course h.0 items views h.1 pass v at x, put_lawful h.0 items views h.1 pass v at x (omega arith)),
+      record { before = h.0.puts; seen = old.puts; changed = refl },
+    )
 
 -- and takes the first one
 pub takes : (pass : ℕ) (v : Sight) → v.role ≡ User → Pops Ruled pass v (DidTake v)
@@ -226,7 +235,8 @@ user_sight g v of pass = record {
 }
 
 -- where the limit is still being fixed, every pass but the first is gone, and so is lawful whatever the limit becomes
-others_wait : (g : Course) (counting : Bool) (limit pass j : ℕ) (u : Sight) → pass ≡ 0 → g.counting ≡ true → j ≢ pass → LawfulSight g j u → LawfulSight (record g { counting = counting; limit = limit }) j u
+others_wait : (g : Course) (counting : Bool) (limit pass j : ℕ) (u : Sight) → pass ≡ 0 → g.counting ≡ true → j ≢ pass → LawfulSight g j u
+    → LawfulSight (record g { counting = counting; limit = limit }) j u
 others_wait g counting limit pass j u first still other old = record {
   counts = λ is. absurd (other ((old.counts is).0 ∙ sym first));
   deals = λ is. let h = (old.deals is).0 in absurd (cc);
@@ -238,7 +248,8 @@ others_wait g counting limit pass j u first still other old = record {
 }
 
 -- one pass is changed and another one comes, and neither puts nor takes
-forks : (g : Course) (counting : Bool) (limit : ℕ) (items : List ℕ) (views : List Sight) (pass : ℕ) (v left right : Sight) → Lawful g items views → get_elem? views pass ≡ some v
+forks : (g : Course) (counting : Bool) (limit : ℕ) (items : List ℕ) (views : List Sight) (pass : ℕ) (v left right : Sight) → Lawful g items views
+    → get_elem? views pass ≡ some v
     → g.limit ≤ limit → left.own_puts ≡ v.own_puts → left.own_takes ≡ v.own_takes
     → LawfulSight (record g { counting = counting; limit = limit }) pass left
     → ((j : ℕ) (u : Sight) → j ≢ pass → get_elem? views j ≡ some u → LawfulSight (record g { counting = counting; limit = limit }) j u)
@@ -252,8 +263,11 @@ forks g counting limit items views pass v left right l at higher puts takes mine
         order = l.order;
         low = λ k x e. let low = l.low k x e in omega arith;
         each = each_snoc (LawfulSight g') views' right new (each_set (LawfulSight g') views pass left mine others);
-        put_by = λ k low. owned_snoc (λ (u : Sight). u.own_puts) views' right k (g.putter k) (owned_set (λ (u : Sight). u.own_puts) views pass v left at (λ i n e. ap (λ (y : List ℕ). slice_get y i) puts ∙ e) k (g.putter k) (l.put_by k low));
-        taken_by = λ k low. owned_snoc (λ (u : Sight). u.own_takes) views' right k (g.taker k) (owned_set (λ (u : Sight). u.own_takes) views pass v left at (λ i n e. ap (λ (y : List ℕ). slice_get y i) takes ∙ e) k (g.taker k) (l.taken_by k low));
+        put_by = λ k low. owned_snoc (λ (u : Sight). u.own_puts) views' right k (g.putter k)
+            (owned_set (λ (u : Sight). u.own_puts) views pass v left at (λ i n e. ap (λ (y : List ℕ). slice_get y i) puts ∙ e) k (g.putter k) (l.put_by k low));
+        taken_by = λ k low. owned_snoc (λ (u : Sight). u.own_takes) views' right k (g.taker k)
+            (owned_set (λ (u : Sight). u.own_takes) views pass v left at (λ i n e. ap (λ (y : List ℕ). slice_get y i) takes ∙ e) k (g.taker k)
+            (l.taken_by k low));
       },
     )
 
@@ -297,4 +311,5 @@ pub deals : (pass : ℕ) (v : Sight) → v.role ≡ Dealer → Forks Ruled pass 
 deals pass v dealing items views h at =
     let g = h.0 in
     let old = h.1.each pass v at in
-    forks g g.counting g.limit items views pass v v (user_of v) h.1 at (omega arith) refl refl old (λ j u other e. h.1.each j u e) (user_sight g v (old.deals dealing))
+    forks g g.counting g.limit items views pass v v (user_of v) h.1 at (omega arith) refl refl old (λ j u other e. h.1.each j u e)
+    (user_sight g v (old.deals dealing))

@@ -1,5 +1,6 @@
 -- Lists that grow at the end, a function with one value replaced, and the passes of a list with one of them changed.
-use Rattle.std.proofs.Common.{◌≡◌, ◌≢◌, ℕ, zero, suc, ◌+◌, ◌<◌, ◌≤◌, ◌⊎◌, inl, inr, ⊎_elim, ◌==◌, eq-eqb, ne_eqb, if◌then◌else◌, List, [], ◌∷◌, ◌++◌, None, Some, length, set, slice_get, sym, refl, ap, ◌∙◌, subst, arith}
+use Rattle.std.proofs.Common.{◌≡◌, ◌≢◌, ℕ, zero, suc, ◌+◌, ◌<◌, ◌≤◌, ◌⊎◌, inl, inr, ⊎_elim, ◌==◌, eq-eqb, ne_eqb, if◌then◌else◌, List, []}
+use Rattle.std.proofs.Common.{◌∷◌, ◌++◌, None, Some, length, set, slice_get, sym, refl, ap, ◌∙◌, subst, arith}
 use mathlib.Core.Logic.{dite}
 use mathlib.Core.Option.{some, some-injective, some-ne-none}
 use native.Mathlib.Decide.{ℕ_discrete}
@@ -74,7 +75,8 @@ pub own_grow : (bound bound' : ℕ) (owner : ℕ → ℕ × ℕ) (pass : ℕ) (p
 own_grow bound bound' owner pass places more own j k at =
     let owner' : ℕ → ℕ × ℕ = replaced owner bound (pass, length places) in
     ⊎_elim
-    (λ (was : slice_get places j ≡ Some k). let here = own j k was in let low = here.0 in (omega arith, replaced_else owner bound (pass, length places) k (λ e. omega arith) ∙ here.1))
+    (λ (was : slice_get places j ≡ Some k). let here = own j k was in let low = here.0 in
+    (omega arith, replaced_else owner bound (pass, length places) k (λ e. omega arith) ∙ here.1))
     (λ (new : (j ≡ length places) × (bound ≡ k)).
     let here = new.1 in
     (omega arith, ap owner' (sym new.1) ∙ replaced_here owner bound (pass, length places) ∙ (λ i. (pass, sym new.0 i))))
@@ -86,7 +88,8 @@ IsOwnedBy own views k by = (v : Sight) × (get_elem? views by.0 ≡ some v) × (
 
 module _ (own : Sight → List ℕ) where
   -- a place that a pass owns stays its own while that pass's list goes on
-  pub owned_set : (views : List Sight) (pass : ℕ) (v w : Sight) → get_elem? views pass ≡ some v → ((i k : ℕ) → slice_get (own v) i ≡ Some k → slice_get (own w) i ≡ Some k)
+  pub owned_set : (views : List Sight) (pass : ℕ) (v w : Sight) → get_elem? views pass ≡ some v
+      → ((i k : ℕ) → slice_get (own v) i ≡ Some k → slice_get (own w) i ≡ Some k)
       → (k : ℕ) (by : ℕ × ℕ) → IsOwnedBy own views k by → IsOwnedBy own (set views pass w) k by
   owned_set views pass v w at more k by old =
       dite (ℕ_discrete by.0 pass)
@@ -100,14 +103,16 @@ module _ (own : Sight → List ℕ) where
   owned_snoc views w k by old = (old.0, at_longer views (w ∷ []) by.0 old.0 old.1, old.2)
 
   -- and the next place is this pass's own
-  pub owned_grow : (bound bound' : ℕ) (owner : ℕ → ℕ × ℕ) (views : List Sight) (pass : ℕ) (v w : Sight) → bound' ≡ bound + 1 → get_elem? views pass ≡ some v → own w ≡ own v ++ bound ∷ []
+  pub owned_grow : (bound bound' : ℕ) (owner : ℕ → ℕ × ℕ) (views : List Sight) (pass : ℕ) (v w : Sight) → bound' ≡ bound + 1
+      → get_elem? views pass ≡ some v → own w ≡ own v ++ bound ∷ []
       → AreOwned bound owner own views → AreOwned bound' (replaced owner bound (pass, length (own v))) own (set views pass w)
   owned_grow bound bound' owner views pass v w more at grown old k low =
       let views' : List Sight = set views pass w in
       let by : ℕ × ℕ = (pass, length (own v)) in
       dite (ℕ_discrete k bound)
       (λ same.
-      let last : slice_get (own w) (length (own v)) ≡ Some k = ap (λ (y : List ℕ). slice_get y (length (own v))) grown ∙ get_behind (own v) [] bound ∙ ap (λ (n : ℕ). Some n) (sym same) in
+      let last : slice_get (own w) (length (own v)) ≡ Some k =
+      ap (λ (y : List ℕ). slice_get y (length (own v))) grown ∙ get_behind (own v) [] bound ∙ ap (λ (n : ℕ). Some n) (sym same) in
       subst (IsOwnedBy own views' k) (sym (ap (replaced owner bound by) same ∙ replaced_here owner bound by)) (w, set_there views pass v w at, last))
       (λ other.
       let was : k < bound = omega arith in

@@ -77,7 +77,8 @@ impl EraseQueue {
     fn push(&self, rt: &impl Wait, pass: &mut QueuePass, block: usize) -> bool
         requires block { block < limit_of self.now }
         requires pass { IsPassOf self.now pass.old }
-        ensures told { MatchBool result (DidPut (sight_of pass.old) block (sight_of pass.new)) (FoundFull (sight_of pass.old) (limit_of self.now) (sight_of pass.new)) }
+        ensures told { MatchBool result (DidPut (sight_of pass.old) block (sight_of pass.new))
+            (FoundFull (sight_of pass.old) (limit_of self.now) (sight_of pass.new)) }
         ensures pass { IsPassOf self.now pass.new }
         ensures counts { pass.new ≡ record pass.old { port = pass.new.port } }
     {

@@ -8,9 +8,11 @@ use Rattle.flash_rule.proofs.Points.{total_set}
 use Rattle.flash_rule.proofs.Frames.{others}
 
 -- The seat with the view v makes a step after which it has the view w, and the table is g' instead of g
-pub assembled : (z : Numbers) (g g' : World) (vs : List View) (id : ℕ) (v w : View) → Lawful z g vs → get_elem? vs id ≡ some v → Onward z g g' id id → LawfulView z g' id w
+pub assembled : (z : Numbers) (g g' : World) (vs : List View) (id : ℕ) (v w : View) → Lawful z g vs → get_elem? vs id ≡ some v → Onward z g g' id id
+    → LawfulView z g' id w
     → ((s : ℕ) → s < z.sectors → LawfulSector z g' s) → AreOfHosts z g'.history → ((b : ℕ) → b < z.blocks → LawfulBlock z g' (set vs id w) b)
-    → ((t : ℕ) → g'.passes ≤ t → calls_of t g'.history ≡ []) → weight z w ≡ weight z v → g'.passes ≤ z.hosts → LawfulCeded z g'.pins (set vs id w) → Lawful z g' (set vs id w)
+    → ((t : ℕ) → g'.passes ≤ t → calls_of t g'.history ≡ []) → weight z w ≡ weight z v → g'.passes ≤ z.hosts → LawfulCeded z g'.pins (set vs id w)
+    → Lawful z g' (set vs id w)
 assembled z g g' vs id v w law at on own sectors callers blocks strangers weighs dealt ceded =
     record {
       limits = law.limits;
@@ -27,14 +29,17 @@ assembled z g g' vs id v w law at on own sectors callers blocks strangers weighs
     }
 
 -- The owner of a block keeps it over a step
-pub owner_kept : (z : Numbers) (g g' : World) (vs : List View) (id : ℕ) (v w : View) (b : ℕ) → get_elem? vs id ≡ some v → LawfulBlock z g vs b → is_owned (g.pins b).phase ≡ true → g'.owner b ≡ g.owner b
-    → ((o : Owned) → owned_at b v.owns ≡ Some o → (o' : Owned) × (owned_at b w.owns ≡ Some o')) → (u : View) × (o : Owned) × (get_elem? (set vs id w) (g'.owner b) ≡ some u) × (owned_at b u.owns ≡ Some o)
+pub owner_kept : (z : Numbers) (g g' : World) (vs : List View) (id : ℕ) (v w : View) (b : ℕ) → get_elem? vs id ≡ some v → LawfulBlock z g vs b
+    → is_owned (g.pins b).phase ≡ true → g'.owner b ≡ g.owner b
+    → ((o : Owned) → owned_at b v.owns ≡ Some o → (o' : Owned) × (owned_at b w.owns ≡ Some o'))
+    → (u : View) × (o : Owned) × (get_elem? (set vs id w) (g'.owner b) ≡ some u) × (owned_at b u.owns ≡ Some o)
 owner_kept z g g' vs id v w b at block owned same keeps =
     let h = block.owner owned in
     dite (ℕ_discrete (g.owner b) id)
     (λ mine.
     let is : h.0 ≡ v = some-injective h.0 v (sym h.2 ∙ (ap (λ j. get_elem? vs j) mine ∙ at)) in
-    let k = keeps h.1 (sym (ap (λ (u : View). owned_at b u.owns) is) ∙ h.3) in (w, k.0, ap (λ j. get_elem? (set vs id w) j) (same ∙ mine) ∙ set_at vs id v w at, k.1))
+    let k = keeps h.1 (sym (ap (λ (u : View). owned_at b u.owns) is) ∙ h.3) in
+    (w, k.0, ap (λ j. get_elem? (set vs id w) j) (same ∙ mine) ∙ set_at vs id v w at, k.1))
     (λ other. (h.0, h.1, ap (λ j. get_elem? (set vs id w) j) same ∙ (set_else vs id (g.owner b) w other ∙ h.2), h.3))
   where
     set_at : (vs : List View) (id : ℕ) (v w : View) → get_elem? vs id ≡ some v → get_elem? (set vs id w) id ≡ some w
@@ -67,7 +72,8 @@ block_kept z g g' vs id v w b at block pin owner pages counted keeps =
 -- A sector that the step doesn't concern: the page that its map word names stays where one may name it
 pub named_kept : (z : Numbers) (g g' : World) (s : ℕ) → LawfulSector z g s → g'.map s ≡ g.map s → held z.sectors g'.history s ≡ held z.sectors g.history s
     → ((m : MapWord) → g.map s ≡ Some m → IsCurrent z g s m
-    → ((g'.pins m.block).generation ≡ (g.pins m.block).generation) × (is_nameable (g'.pins m.block).phase ≡ true) × ((g.pins m.block).written ≤ (g'.pins m.block).written)
+    → ((g'.pins m.block).generation ≡ (g.pins m.block).generation) × (is_nameable (g'.pins m.block).phase ≡ true)
+    × ((g.pins m.block).written ≤ (g'.pins m.block).written)
     × ((p i : ℕ) → p < (g.pins m.block).written → g'.pages m.block p i ≡ g.pages m.block p i))
     → LawfulSector z g' s
 named_kept z g g' s h map same keeps =
@@ -104,9 +110,11 @@ total_le : (f h : View → ℕ) (vs : List View) → ((id : ℕ) (v : View) → 
 total_le f h [] le = omega arith
 total_le f h (x ∷ xs) le = let a = le 0 x refl in let b = total_le f h xs (λ id v at. le (suc id) v at) in omega arith
 
-total_lt : (f h : View → ℕ) (vs : List View) (id : ℕ) (v : View) → get_elem? vs id ≡ some v → ((j : ℕ) (u : View) → get_elem? vs j ≡ some u → f u ≤ h u) → f v < h v → total f vs < total h vs
+total_lt : (f h : View → ℕ) (vs : List View) (id : ℕ) (v : View) → get_elem? vs id ≡ some v
+    → ((j : ℕ) (u : View) → get_elem? vs j ≡ some u → f u ≤ h u) → f v < h v → total f vs < total h vs
 total_lt f h [] id v at le lt = absurd (some-ne-none v (sym at))
-total_lt f h (x ∷ xs) zero v at le lt = let e : x ≡ v = some-injective x v at in let a : f x ≡ f v = ap f e in let c : h x ≡ h v = ap h e in let b = total_le f h xs (λ j u is. le (suc j) u is) in omega arith
+total_lt f h (x ∷ xs) zero v at le lt = let e : x ≡ v = some-injective x v at in let a : f x ≡ f v = ap f e in let c : h x ≡ h v = ap h e in
+    let b = total_le f h xs (λ j u is. le (suc j) u is) in omega arith
 total_lt f h (x ∷ xs) (suc id) v at le lt = let a = le 0 x refl in let b = total_lt f h xs id v at (λ j u is. le (suc j) u is) lt in omega arith
 
 -- only passes pin, each one block

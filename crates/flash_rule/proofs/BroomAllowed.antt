@@ -1,12 +1,13 @@
--- Each kind of step that a broom makes on map words and page words, as the table asks for it: whatever the table is, the step keeps the rule and tells what it says.
+-- Each kind of step that a broom makes on map words and page words, as the table asks for it: whatever the table is, the step keeps the rule and
+-- tells what it says.
 use Rattle.flash_rule.proofs.Words.{◌≡◌, ℕ, ◌+◌, ◌*◌, ◌<◌, ◌≤◌, ◌==◌, eq-eqb, ne_eqb, true, Some, set, sym, refl, ap, ◌∙◌, subst, arith, get_or, none}
 use Rattle.flash_rule.proofs.Words.{dite, ℕ_discrete, either, Act, Valid, step, keeps, stepped, carried_after, Allows, set_again, Numbers, map_word}
-use Rattle.flash_rule.proofs.Words.{page_index, MapWord, Owned, Source, View, is_player, owned_at, World, Fits, sector_word, blank_word, Lawful, Ruled}
-use Rattle.flash_rule.proofs.Words.{Sitter, Named, CanGetStamp, GotStamp, CanMove, Moved, wiper}
+use Rattle.flash_rule.proofs.Words.{page_index, MapWord, Owned, Source, View, is_player, owned_at, World, Fits, sector_word, blank_word, Lawful}
+use Rattle.flash_rule.proofs.Words.{Ruled, Sitter, Named, CanGetStamp, GotStamp, CanMove, Moved, wiper}
 use Rattle.flash_rule.specs.BroomPlays.{CanWipe, broom_look_told, stamp_told, source_told, move_told, wipe_told}
+use Rattle.flash_rule.proofs.Roles.{player_of}
 use Rattle.flash_rule.proofs.Owning.{some_same}
 use Rattle.flash_rule.proofs.Places.{fits_load, fits_map, fits_page, page_within, page_same}
-use Rattle.flash_rule.proofs.OwnSteps.{player_of}
 use Rattle.flash_rule.proofs.BroomSteps.{looks, stamp_low, gets_stamp, gets_source, source_low, names_source}
 use Rattle.flash_rule.proofs.Moving.{mover, exchanged_world, stays, moves_page, move_told_here}
 use Rattle.flash_rule.proofs.Wiping.{row_of, wiped_index, wipe_world, wipes_word, erased_low}
@@ -14,7 +15,8 @@ use Rattle.flash_rule.proofs.Wiping.{row_of, wiped_index, wipe_world, wipes_word
 module _ (z : Numbers) (slots id : ℕ) (me : Sitter) where
   -- ---- look
   -- a broom looks at a sector
-  pub broom_look_allowed : (s : ℕ) → is_player me.0.role ≡ true → s < z.sectors → Allows (Ruled z) slots id me s (λ n. n) (broom_look_told (step slots s 0 0 none) me)
+  pub broom_look_allowed : (s : ℕ) → is_player me.0.role ≡ true → s < z.sectors
+      → Allows (Ruled z) slots id me s (λ n. n) (broom_look_told (step slots s 0 0 none) me)
   broom_look_allowed s player low t (g, fits, law) _ at _ =
       let name = player_of me.0.role player in
       let h = looks z g t.views id me.0 name.0 law at name.1 s low in
@@ -29,7 +31,8 @@ module _ (z : Numbers) (slots id : ℕ) (me : Sitter) where
   -- ---- get
   -- a broom reads the stamp of its victim's next page
   pub stamp_allowed : (o : Owned) → is_player me.0.role ≡ true → me.0.numbers ≡ z → CanGetStamp me.0 o
-      → Allows (Ruled z) slots id me (page_index z o.block me.0.cleared + z.words) (λ n. n) (stamp_told (step slots (page_index z o.block me.0.cleared + z.words) 0 0 none) me)
+      → Allows (Ruled z) slots id me (page_index z o.block me.0.cleared + z.words) (λ n. n)
+      (stamp_told (step slots (page_index z o.block me.0.cleared + z.words) 0 0 none) me)
   stamp_allowed o player numbers can t (g, fits, law) _ at _ =
       let name = player_of me.0.role player in
       let low = stamp_low z g t.views id me.0 name.0 law at name.1 o can in
@@ -54,7 +57,8 @@ module _ (z : Numbers) (slots id : ℕ) (me : Sitter) where
 
   -- a broom reads a word of its source
   pub source_allowed : (x : Source) (i : ℕ) → is_player me.0.role ≡ true → me.0.numbers ≡ z → me.0.source ≡ Some x → i < z.words
-      → Allows (Ruled z) slots id me (page_index z x.page.block x.page.page + i) (λ n. n) (source_told (step slots (page_index z x.page.block x.page.page + i) 0 0 none) me)
+      → Allows (Ruled z) slots id me (page_index z x.page.block x.page.page + i) (λ n. n)
+      (source_told (step slots (page_index z x.page.block x.page.page + i) 0 0 none) me)
   source_allowed x i player numbers is low t (g, fits, law) _ at _ =
       let name = player_of me.0.role player in
       let b : ℕ = x.page.block in
@@ -65,7 +69,11 @@ module _ (z : Numbers) (slots id : ℕ) (me : Sitter) where
         me.0,
         keeps,
         tt,
-        (g, fits_load z g.map g.pins g.pages t.words fits k (page_within z b p i in_table.0 in_table.1 (omega arith)), subst (λ vs. Lawful z g vs) (sym (set_again t.views id me.0 at)) law),
+        (
+          g,
+          fits_load z g.map g.pins g.pages t.words fits k (page_within z b p i in_table.0 in_table.1 (omega arith)),
+          subst (λ vs. Lawful z g vs) (sym (set_again t.views id me.0 at)) law,
+        ),
         (
           refl,
           λ x' value j is' live low' here.
@@ -73,14 +81,16 @@ module _ (z : Numbers) (slots id : ℕ) (me : Sitter) where
               let words : me.0.numbers.words ≡ z.words = ap (λ (y : Numbers). y.words) numbers in
               let here' : k ≡ page_index z b p + j = here ∙ λ l. page_index (numbers l) (sym same l).page.block (sym same l).page.page + j in
               let places : i ≡ j = omega arith in
-              found ∙ ((λ l. g.pages (same l).page.block (same l).page.page (places l)) ∙ gets_source z g t.views id me.0 name.0 law at name.1 x' value j is' live (omega arith)),
+              found ∙ ((λ l. g.pages (same l).page.block (same l).page.page (places l))
+              ∙ gets_source z g t.views id me.0 name.0 law at name.1 x' value j is' live (omega arith)),
         ),
       )
 
   -- ---- move
   -- a broom exchanges the map word of its source's sector
   pub move_allowed : (x : Source) (copy : MapWord) → is_player me.0.role ≡ true → CanMove me.0 x copy → x.stamp < z.sectors
-      → Allows (Ruled z) slots id me x.stamp (λ n. either (n == map_word x.page) (map_word copy) n) (move_told (step slots x.stamp (map_word x.page) (map_word copy) none) me)
+      → Allows (Ruled z) slots id me x.stamp (λ n. either (n == map_word x.page) (map_word copy) n)
+      (move_told (step slots x.stamp (map_word x.page) (map_word copy) none) me)
   move_allowed x copy player can low t (g, fits, law) _ at _ =
       let name = player_of me.0.role player in
       let s : ℕ = x.stamp in
@@ -97,7 +107,8 @@ module _ (z : Numbers) (slots id : ℕ) (me : Sitter) where
       let w : View = mover z g t.views id me.0 name.0 law at name.1 x copy can low (me.0.moves + 1) in
       let after : World = exchanged_world z g t.views id me.0 name.0 law at name.1 x copy can low in
       let now : f n ≡ map_word copy = ap (λ b. either b (map_word copy) n) (eq-eqb n (map_word x.page) its) in
-      let answer : (w : View) × (a : Act (Unit {0})) × Valid t.homes me.1 a × Ruled z (stepped t s (f n) id me.1 w a) × move_told (step slots s (map_word x.page) (map_word copy) none) me n (w, carried_after me.1 a) = (
+      let answer : (w : View) × (a : Act (Unit {0})) × Valid t.homes me.1 a × Ruled z (stepped t s (f n) id me.1 w a)
+      × move_told (step slots s (map_word x.page) (map_word copy) none) me n (w, carried_after me.1 a) = (
         w,
         keeps,
         tt,
@@ -112,7 +123,8 @@ module _ (z : Numbers) (slots id : ℕ) (me : Sitter) where
       let h = stays z g t.views id me.0 name.0 law at name.1 x copy can low n found other in
       let w : View = mover z g t.views id me.0 name.0 law at name.1 x copy can low me.0.moves in
       let now : f n ≡ n = ap (λ b. either b (map_word copy) n) (ne_eqb n (map_word x.page) other) in
-      let answer : (w : View) × (a : Act (Unit {0})) × Valid t.homes me.1 a × Ruled z (stepped t s (f n) id me.1 w a) × move_told (step slots s (map_word x.page) (map_word copy) none) me n (w, carried_after me.1 a) = (
+      let answer : (w : View) × (a : Act (Unit {0})) × Valid t.homes me.1 a × Ruled z (stepped t s (f n) id me.1 w a)
+      × move_told (step slots s (map_word x.page) (map_word copy) none) me n (w, carried_after me.1 a) = (
         w,
         keeps,
         tt,
@@ -123,7 +135,8 @@ module _ (z : Numbers) (slots id : ℕ) (me : Sitter) where
   -- ---- wipe
   -- a broom sets the next word of its erasing block to all ones
   pub wipe_allowed : (o : Owned) → is_player me.0.role ≡ true → me.0.numbers ≡ z → CanWipe me.0 o
-      → Allows (Ruled z) slots id me (page_index z o.block 0 + me.0.wiped) (λ _. blank_word) (λ _. wipe_told (step slots (page_index z o.block 0 + me.0.wiped) blank_word 0 none) me blank_word)
+      → Allows (Ruled z) slots id me (page_index z o.block 0 + me.0.wiped) (λ _. blank_word)
+      (λ _. wipe_told (step slots (page_index z o.block 0 + me.0.wiped) blank_word 0 none) me blank_word)
   wipe_allowed o player numbers can t (g, fits, law) _ at _ =
       let name = player_of me.0.role player in
       let room : me.0.wiped < z.pages * (z.words + 1) = subst (λ (y : Numbers). me.0.wiped < y.pages * (y.words + 1)) numbers can.room in
@@ -143,7 +156,8 @@ module _ (z : Numbers) (slots id : ℕ) (me : Sitter) where
         (
           after,
           subst (λ k. Fits z g.map g.pins after.pages (set t.words k blank_word)) (sym here)
-              (fits_page z g.map g.pins g.pages t.words fits o.block p i blank_word (erased_low z g t.views id me.0 name.0 o p i law at name.1 can.erasing page word next) page word),
+              (fits_page z g.map g.pins g.pages t.words fits o.block p i blank_word
+              (erased_low z g t.views id me.0 name.0 o p i law at name.1 can.erasing page word next) page word),
           wipes_word z g t.views id me.0 name.0 o p i law at name.1 can.erasing page word next,
         ),
         (refl, λ _ _ _ _. refl),

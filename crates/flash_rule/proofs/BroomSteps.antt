@@ -1,6 +1,6 @@
 -- What a broom finds out of its victim's pages: looks, stamps and the words of a source.
-use Rattle.flash_rule.proofs.Words.{◌≡◌, ℕ, ◌+◌, ◌<◌, ◌≤◌, ◌⊎◌, inl, inr, ⊎_elim, true, false, List, [], ◌∷◌, ◌++◌, Option, None, Some, set, sym, refl}
-use Rattle.flash_rule.proofs.Words.{ap, ◌∙◌, subst, arith, some, dite, ℕ_discrete, dec_lt, get_elem?, Call, Begins, held, Begins-refl, Numbers}
+use Rattle.flash_rule.proofs.Words.{◌≡◌, ℕ, ◌+◌, ◌<◌, ◌≤◌, ◌⊎◌, inl, inr, ⊎_elim, true, false, List, [], ◌∷◌, ◌++◌, Option, None, Some, set, sym}
+use Rattle.flash_rule.proofs.Words.{refl, ap, ◌∙◌, subst, arith, some, dite, ℕ_discrete, dec_lt, get_elem?, Call, Begins, held, Begins-refl, Numbers}
 use Rattle.flash_rule.proofs.Words.{map_word, FitsMap, map_same, MapWord, Victim, Name, Pass, Player, Owned, Work, Source, Carried, View, is_player}
 use Rattle.flash_rule.proofs.Words.{is_live_role, owned_at, AreOfHosts, calls_of, World, is_reclaimed, sector_word, data_word, IsValue, IsCurrent}
 use Rattle.flash_rule.proofs.Words.{ReclaimsOne, LawfulOwned, LawfulSource, Lawful, Met, Named, CanGetStamp, GotStamp}
@@ -10,7 +10,7 @@ use Rattle.flash_rule.proofs.Owning.{some_same, none_some}
 use Rattle.flash_rule.proofs.Still.{still, met_now, map_fits}
 use Rattle.flash_rule.proofs.MapSteps.{word_empty, word_named}
 use Rattle.flash_rule.proofs.Values.{value_same}
-use Rattle.flash_rule.proofs.Keeping.{holding_with, kind_with, owned_with}
+use Rattle.flash_rule.proofs.Keeping.{holding_with, kind_with, owned_with, knowledge_with}
 
 some_or_none : {X : Type 0} (x : Option X) → (x ≡ None) ⊎ ((y : X) × (x ≡ Some y))
 some_or_none None = inl refl
@@ -18,7 +18,8 @@ some_or_none (Some y) = inr (y, refl)
 
 -- ---- dead pages
 -- A victim's next page that no map word names is one more that is known to be dead
-pub clears : (z : Numbers) (g : World) (id : ℕ) (doing : Option Work) (cleared wiped : ℕ) (owns : List Owned) (c : ℕ) (victim : Owned) → ReclaimsOne owns → owned_at c owns ≡ Some victim → victim.phase ≡ Victim
+pub clears : (z : Numbers) (g : World) (id : ℕ) (doing : Option Work) (cleared wiped : ℕ) (owns : List Owned) (c : ℕ) (victim : Owned)
+    → ReclaimsOne owns → owned_at c owns ≡ Some victim → victim.phase ≡ Victim
     → ((s : ℕ) → s < z.sectors → ¬ (g.map s ≡ Some (record { generation = victim.generation; block = c; page = cleared })))
     → (b : ℕ) (o : Owned) → owned_at b owns ≡ Some o → LawfulOwned z g id doing cleared wiped b o → LawfulOwned z g id doing (cleared + 1) wiped b o
 clears z g id doing cleared wiped owns c victim one its phase unnamed b o is h =
@@ -31,7 +32,8 @@ clears z g id doing cleared wiped owns c victim one its phase unnamed b o is h =
     (λ other. h.dead reclaimed p s (omega arith) low named))
     h.clean
 
-module _ (z : Numbers) (g : World) (vs : List View) (id : ℕ) (v : View) (n : Name) (law : Lawful z g vs) (at : get_elem? vs id ≡ some v) (role : v.role ≡ Player n) where
+module _ (z : Numbers) (g : World) (vs : List View) (id : ℕ) (v : View) (n : Name) (law : Lawful z g vs) (at : get_elem? vs id ≡ some v)
+    (role : v.role ≡ Player n) where
   pub numbers_same : v.numbers ≡ z
   numbers_same = (law.views id v at).kind.numbers (ap is_live_role role)
 
@@ -42,9 +44,11 @@ module _ (z : Numbers) (g : World) (vs : List View) (id : ℕ) (v : View) (n : N
   abbrev pub seer : List Call → List (ℕ × ℕ) → Option Source → ℕ → ℕ → View
   seer seen named source cleared moves = record v { seen = seen; named = named; source = source; cleared = cleared; moves = moves }
 
-  pub sees : (seen : List Call) (named : List (ℕ × ℕ)) (source : Option Source) (cleared moves : ℕ) → Begins seen g.history → ((t : ℕ) → v.role ≡ Player (Pass t) → calls_of t seen ≡ v.mine)
+  pub sees : (seen : List Call) (named : List (ℕ × ℕ)) (source : Option Source) (cleared moves : ℕ) → Begins seen g.history
+      → ((t : ℕ) → v.role ≡ Player (Pass t) → calls_of t seen ≡ v.mine)
       → ((x : Source) → source ≡ Some x → LawfulSource z g v.owns cleared x)
-      → ((b : ℕ) (o : Owned) → owned_at b v.owns ≡ Some o → LawfulOwned z g id v.work cleared v.wiped b o) → Lawful z g (set vs id (seer seen named source cleared moves))
+      → ((b : ℕ) (o : Owned) → owned_at b v.owns ≡ Some o → LawfulOwned z g id v.work cleared v.wiped b o)
+      → Lawful z g (set vs id (seer seen named source cleared moves))
   sees seen named source cleared moves begins own_calls lawful owned =
       let h = law.views id v at in
       let kind = h.kind in
@@ -55,7 +59,7 @@ module _ (z : Numbers) (g : World) (vs : List View) (id : ℕ) (v : View) (n : N
         kind = kind_with kind refl kind.opens
             (λ is. let no : true ≡ false = sym (ap is_player role) ∙ is in absurd (cc))
             kind.owns_none kind.reclaims;
-        knowledge = record { seen = begins; pin = knows.pin; known = knows.known; programs = knows.programs; erases = knows.erases; copy = knows.copy; older = knows.older; out = knows.out };
+        knowledge = knowledge_with (seer seen named source cleared moves) knows refl begins knows.pin knows.known knows.programs knows.erases;
         holding = holding_with holds refl refl (λ t is. ((holds.calls t is).0, own_calls t is)) holds.lists owned holds.work lawful;
       })
       (λ b. refl) refl refl refl refl refl
@@ -85,19 +89,24 @@ module _ (z : Numbers) (g : World) (vs : List View) (id : ℕ) (v : View) (n : N
         let a5 = its.generation in record { generation = omega arith; block = omega arith; page = omega arith }
 
     -- whoever names its page is the sector of its stamp
-    pub source_named : (s : ℕ) → s < z.sectors → g.map s ≡ Some (record { generation = its.entry.generation; block = x.page.block; page = v.cleared }) → (x.stamp ≡ s) × (g.map s ≡ Some x.page)
+    pub source_named : (s : ℕ) → s < z.sectors → g.map s ≡ Some (record { generation = its.entry.generation; block = x.page.block; page = v.cleared })
+        → (x.stamp ≡ s) × (g.map s ≡ Some x.page)
     source_named s low named =
-        let page : record { generation = its.entry.generation; block = x.page.block; page = v.cleared } ≡ x.page = λ i. record { generation = its.generation i; block = x.page.block; page = sym its.page i } in
+        let page : record { generation = its.entry.generation; block = x.page.block; page = v.cleared } ≡ x.page =
+        λ i. record { generation = its.generation i; block = x.page.block; page = sym its.page i } in
         let here : g.map s ≡ Some x.page = named ∙ ap Some page in (sym its.stamp ∙ ((law.sectors s low).named x.page here).stamp, here)
 
     -- so if that sector's map word doesn't name it, none does
-    source_dead : ¬ (g.map x.stamp ≡ Some x.page) → (s : ℕ) → s < z.sectors → ¬ (g.map s ≡ Some (record { generation = its.entry.generation; block = x.page.block; page = v.cleared }))
+    source_dead : ¬ (g.map x.stamp ≡ Some x.page) → (s : ℕ) → s < z.sectors
+        → ¬ (g.map s ≡ Some (record { generation = its.entry.generation; block = x.page.block; page = v.cleared }))
     source_dead apart s low named = let k = source_named s low named in apart (ap g.map k.0 ∙ k.1)
 
-    pub source_clears : ¬ (g.map x.stamp ≡ Some x.page) → (b : ℕ) (o : Owned) → owned_at b v.owns ≡ Some o → LawfulOwned z g id v.work (v.cleared + 1) v.wiped b o
+    pub source_clears : ¬ (g.map x.stamp ≡ Some x.page) → (b : ℕ) (o : Owned) → owned_at b v.owns ≡ Some o
+        → LawfulOwned z g id v.work (v.cleared + 1) v.wiped b o
     source_clears apart b o own =
         let h = law.views id v at in
-        clears z g id v.work v.cleared v.wiped v.owns x.page.block its.entry h.kind.reclaims its.own its.victim (source_dead apart) b o own (h.holding.owned b o own)
+        clears z g id v.work v.cleared v.wiped v.owns x.page.block its.entry h.kind.reclaims its.own its.victim (source_dead apart) b o own
+        (h.holding.owned b o own)
 
     -- the map word names the source's page just where it is that page's word
     pub names_source : x.stamp < z.sectors → sector_word (g.map x.stamp) ≡ map_word x.page → g.map x.stamp ≡ Some x.page
@@ -107,7 +116,8 @@ module _ (z : Numbers) (g : World) (vs : List View) (id : ℕ) (v : View) (n : N
         k.1 ∙ ap Some (map_same k.0 x.page (map_fits z g vs x.stamp k.0 law current).0 source_fits (ap sector_word (sym k.1) ∙ found))
 
     -- then the sector holds the value that was read
-    pub source_value : x.stamp < z.sectors → g.map x.stamp ≡ Some x.page → (value : List ℕ) → x.value ≡ Some value → held z.sectors g.history x.stamp ≡ Some value
+    pub source_value : x.stamp < z.sectors → g.map x.stamp ≡ Some x.page → (value : List ℕ) → x.value ≡ Some value
+        → held z.sectors g.history x.stamp ≡ Some value
     source_value low named value live =
         let current = (law.sectors x.stamp low).named x.page named in
         let known = its.value value live in
@@ -125,7 +135,8 @@ module _ (z : Numbers) (g : World) (vs : List View) (id : ℕ) (v : View) (n : N
     empty_now : looked_word ≡ 0 → held v.numbers.sectors g.history s ≡ None
     empty_now none = ap (λ (y : Numbers). held y.sectors g.history s) numbers_same ∙ (law.sectors s low).empty (word_empty (g.map s) none)
 
-    page_now : ¬ (looked_word ≡ 0) → (m : MapWord) × (value : List ℕ) × (looked_word ≡ map_word m) × FitsMap m × (held v.numbers.sectors g.history s ≡ Some value) × IsValue v.numbers value
+    page_now : ¬ (looked_word ≡ 0) → (m : MapWord) × (value : List ℕ) × (looked_word ≡ map_word m) × FitsMap m
+        × (held v.numbers.sectors g.history s ≡ Some value) × IsValue v.numbers value
         × (m.block < v.numbers.blocks) × (m.page < v.numbers.pages)
     page_now not =
         let same = numbers_same in
@@ -142,7 +153,8 @@ module _ (z : Numbers) (g : World) (vs : List View) (id : ℕ) (v : View) (n : N
           (let e : v.numbers.pages ≡ z.pages = ap (λ (y : Numbers). y.pages) same in let l = fits.1 in omega arith),
         )
 
-    met_here : (w : View) → w.role ≡ v.role → w.seen ≡ g.history → w.programs ≡ v.programs → w.erases ≡ v.erases → w.older ≡ v.older → (c : Carried) → v.copy ≡ Some c → Met w c
+    met_here : (w : View) → w.role ≡ v.role → w.seen ≡ g.history → w.programs ≡ v.programs → w.erases ≡ v.erases → w.older ≡ v.older → (c : Carried)
+        → v.copy ≡ Some c → Met w c
     met_here = met_now z g v n role (law.views id v at).knowledge
 
     own_calls : (t : ℕ) → v.role ≡ Player (Pass t) → calls_of t g.history ≡ v.mine
@@ -190,14 +202,17 @@ module _ (z : Numbers) (g : World) (vs : List View) (id : ℕ) (v : View) (n : N
             page = source.page;
             written = source.written;
             stamp = source.stamp;
-            value = λ value live. subst (λ (u : List ℕ). HoldsValue z (g.pages x.page.block x.page.page) u × IsValue z u) (some_same live_page.value value live) (live_page.stands, live_page.whole);
+            value = λ value live. subst (λ (u : List ℕ). HoldsValue z (g.pages x.page.block x.page.page) u × IsValue z u)
+                (some_same live_page.value value live) (live_page.stands, live_page.whole);
           }
 
-      live_told : (y : Source) (value : List ℕ) → v.source ≡ Some y → held v.numbers.sectors g.history s ≡ Some value → Some live_source ≡ Some (record y { value = Some value })
+      live_told : (y : Source) (value : List ℕ) → v.source ≡ Some y → held v.numbers.sectors g.history s ≡ Some value
+          → Some live_source ≡ Some (record y { value = Some value })
       unfolding live_source
       live_told y value its_before holds =
           let one : x ≡ y = some_same x y (sym is ∙ its_before) in
-          let values : live_page.value ≡ value = some_same live_page.value value (sym live_page.here ∙ (sym (ap (λ (y : Numbers). held y.sectors g.history s) numbers_same) ∙ holds)) in
+          let values : live_page.value ≡ value =
+          some_same live_page.value value (sym live_page.here ∙ (sym (ap (λ (y : Numbers). held y.sectors g.history s) numbers_same) ∙ holds)) in
           λ i. Some (record (one i) { value = Some (values i) })
 
       not_dead : (y : Source) → v.source ≡ Some y → ¬ (looked_word ≡ map_word y.page) → ⊥
@@ -223,11 +238,13 @@ module _ (z : Numbers) (g : World) (vs : List View) (id : ℕ) (v : View) (n : N
           )
 
     -- the source's page is the sector's no more
-    look_dead : (x : Source) → v.source ≡ Some x → x.stamp ≡ s → ¬ (looked_word ≡ map_word x.page) → (w : View) × Lawful z g (set vs id w) × Named v s looked_word w
+    look_dead : (x : Source) → v.source ≡ Some x → x.stamp ≡ s → ¬ (looked_word ≡ map_word x.page) → (w : View) × Lawful z g (set vs id w)
+        × Named v s looked_word w
     look_dead x is stamp other =
         let apart : ¬ (g.map x.stamp ≡ Some x.page) = λ named. other (ap sector_word (sym (ap g.map stamp) ∙ named)) in (
           looker None (v.cleared + 1),
-          sees g.history (v.named ++ (s, looked_word) ∷ []) None (v.cleared + 1) v.moves (Begins-refl g.history) own_calls (λ y none. absurd (none_some y none)) (source_clears x is apart),
+          sees g.history (v.named ++ (s, looked_word) ∷ []) None (v.cleared + 1) v.moves (Begins-refl g.history) own_calls
+              (λ y none. absurd (none_some y none)) (source_clears x is apart),
           record {
             changed = refl;
             later = (law.views id v at).knowledge.seen;
@@ -275,7 +292,16 @@ module _ (z : Numbers) (g : World) (vs : List View) (id : ℕ) (v : View) (n : N
           seer v.seen v.named (Some source) v.cleared v.moves,
           sees v.seen v.named (Some source) v.cleared v.moves h.knowledge.seen seen_calls
               (λ y is. subst (λ (y : Source). LawfulSource z g v.owns v.cleared y) (some_same source y is)
-              (record { entry = o; own = can.own; victim = can.victim; generation = refl; page = refl; written = can.written; stamp = refl; value = λ value none. absurd (none_some value none) })) h.holding.owned,
+              (record {
+                entry = o;
+                own = can.own;
+                victim = can.victim;
+                generation = refl;
+                page = refl;
+                written = can.written;
+                stamp = refl;
+                value = λ value none. absurd (none_some value none);
+              })) h.holding.owned,
           record { sector = λ _. refl; dead = λ high. absurd (omega arith) },
         )
 
@@ -286,7 +312,8 @@ module _ (z : Numbers) (g : World) (vs : List View) (id : ℕ) (v : View) (n : N
           seer v.seen v.named None (v.cleared + 1) v.moves,
           sees v.seen v.named None (v.cleared + 1) v.moves h.knowledge.seen seen_calls (λ y none. absurd (none_some y none))
               (λ b e own. clears z g id v.work v.cleared v.wiped v.owns o.block o h.kind.reclaims can.own can.victim
-              (λ s low named. let stamp : stamp_word ≡ s = ((law.sectors s low).named (victim_page v o) named).stamp in absurd (omega arith)) b e own (h.holding.owned b e own)),
+              (λ s low named. let stamp : stamp_word ≡ s = ((law.sectors s low).named (victim_page v o) named).stamp in absurd (omega arith)) b e own
+              (h.holding.owned b e own)),
           record { sector = λ low. absurd (omega arith); dead = λ _. refl },
         )
 
@@ -294,5 +321,6 @@ module _ (z : Numbers) (g : World) (vs : List View) (id : ℕ) (v : View) (n : N
     gets_stamp = dite (dec_lt stamp_word z.sectors) stamp_of_sector (λ not. stamp_of_none (omega arith))
 
   -- ---- a word of the source
-  pub gets_source : (x : Source) (value : List ℕ) (i : ℕ) → v.source ≡ Some x → x.value ≡ Some value → i < z.words → g.pages x.page.block x.page.page i ≡ data_word value i
+  pub gets_source : (x : Source) (value : List ℕ) (i : ℕ) → v.source ≡ Some x → x.value ≡ Some value → i < z.words
+      → g.pages x.page.block x.page.page i ≡ data_word value i
   gets_source x value i is live low = ((its x is).value value live).0 i low

@@ -9,8 +9,10 @@ use Rattle.flash_rule.proofs.Assembly.{sector_kept}
 use Rattle.flash_rule.proofs.MapSteps.{places, placer, place_world}
 
 -- a page that a player has filled and counted with the sector's value is one that its map word may name
-pub filled : (z : Numbers) (g : World) (vs : List View) (id : ℕ) (v : View) (n : Name) (s : ℕ) (m : MapWord) (value : List ℕ) → Lawful z g vs → get_elem? vs id ≡ some v → v.role ≡ Player n → CanPlace v s m value
-    → (history : List Call) (map : ℕ → Option MapWord) → held z.sectors history s ≡ Some value → (g.owner m.block ≡ id) × ((g.pins m.block).phase ≡ Open) × IsCurrent z (record g { history = history; map = map }) s m
+pub filled : (z : Numbers) (g : World) (vs : List View) (id : ℕ) (v : View) (n : Name) (s : ℕ) (m : MapWord) (value : List ℕ) → Lawful z g vs
+    → get_elem? vs id ≡ some v → v.role ≡ Player n → CanPlace v s m value
+    → (history : List Call) (map : ℕ → Option MapWord) → held z.sectors history s ≡ Some value
+    → (g.owner m.block ≡ id) × ((g.pins m.block).phase ≡ Open) × IsCurrent z (record g { history = history; map = map }) s m
 filled z g vs id v n s m value law at role can history map here =
     let h = law.views id v at in
     let same : v.numbers ≡ z = h.kind.numbers (ap is_live_role role) in
@@ -42,11 +44,13 @@ filled z g vs id v n s m value law at role can history map here =
       },
     )
 
-module _ (z : Numbers) (g : World) (vs : List View) (id : ℕ) (v : View) (t s : ℕ) (law : Lawful z g vs) (at : get_elem? vs id ≡ some v) (role : v.role ≡ Player (Pass t)) (low : s < z.sectors) where
+module _ (z : Numbers) (g : World) (vs : List View) (id : ℕ) (v : View) (t s : ℕ) (law : Lawful z g vs) (at : get_elem? vs id ≡ some v)
+    (role : v.role ≡ Player (Pass t)) (low : s < z.sectors) where
   -- a trim empties its sector
   pub trims : Lawful z (place_world z g vs id v t s (Trim t s) None law at role refl) (set vs id (placer z g vs id v t s (Trim t s) None law at role refl))
   trims =
-      places z g vs id v t s (Trim t s) None law at role refl (λ n is. absurd (none_some n is)) (λ other unlike. held_by_trim z.sectors g.history t s other unlike)
+      places z g vs id v t s (Trim t s) None law at role refl (λ n is. absurd (none_some n is))
+      (λ other unlike. held_by_trim z.sectors g.history t s other unlike)
       (record {
         empty = λ _. held_trimmed z.sectors g.history t s low;
         named = λ n is. absurd (none_some n (sym (put_here g.map s None) ∙ is));
@@ -54,7 +58,8 @@ module _ (z : Numbers) (g : World) (vs : List View) (id : ℕ) (v : View) (t s :
 
   -- a write names the page that was filled and counted
   pub writes : (m : MapWord) (value : List ℕ) → CanPlace v s m value
-      → Lawful z (place_world z g vs id v t s (Write t s value) (Some m) law at role refl) (set vs id (placer z g vs id v t s (Write t s value) (Some m) law at role refl))
+      → Lawful z (place_world z g vs id v t s (Write t s value) (Some m) law at role refl)
+      (set vs id (placer z g vs id v t s (Write t s value) (Some m) law at role refl))
   writes m value can =
       let after = place_world z g vs id v t s (Write t s value) (Some m) law at role refl in
       let own = filled z g vs id v (Pass t) s m value law at role can after.history after.map (held_written z.sectors g.history t s value low) in
@@ -68,7 +73,8 @@ module _ (z : Numbers) (g : World) (vs : List View) (id : ℕ) (v : View) (t s :
 
   -- so does a write of an empty sector, where no page is named
   pub writes_new : (m : MapWord) (value : List ℕ) → g.map s ≡ None → CanPlace v s m value
-      → Lawful z (place_world z g vs id v t s (WriteNew t s value) (Some m) law at role refl) (set vs id (placer z g vs id v t s (WriteNew t s value) (Some m) law at role refl))
+      → Lawful z (place_world z g vs id v t s (WriteNew t s value) (Some m) law at role refl)
+      (set vs id (placer z g vs id v t s (WriteNew t s value) (Some m) law at role refl))
   writes_new m value none can =
       let after = place_world z g vs id v t s (WriteNew t s value) (Some m) law at role refl in
       let here = held_new z.sectors g.history t s value low ((law.sectors s low).empty none) in
@@ -83,10 +89,13 @@ module _ (z : Numbers) (g : World) (vs : List View) (id : ℕ) (v : View) (t s :
 
   -- and it leaves the page that is named, where one is
   pub leaves : (m : MapWord) (value : List ℕ) → g.map s ≡ Some m
-      → Lawful z (place_world z g vs id v t s (WriteNew t s value) (g.map s) law at role refl) (set vs id (placer z g vs id v t s (WriteNew t s value) (g.map s) law at role refl))
+      → Lawful z (place_world z g vs id v t s (WriteNew t s value) (g.map s) law at role refl)
+      (set vs id (placer z g vs id v t s (WriteNew t s value) (g.map s) law at role refl))
   leaves m value named =
       let after = place_world z g vs id v t s (WriteNew t s value) (g.map s) law at role refl in
       let now = (law.sectors s low).named m named in
       let stays = after_refused z.sectors g.history t s value now.value now.here in
-      places z g vs id v t s (WriteNew t s value) (g.map s) law at role refl (λ n is. inl is) (λ other unlike. held_by_new z.sectors g.history t s value other unlike)
-      (sector_kept z g after s (law.sectors s low) (put_here g.map s (g.map s)) (ap (λ a. get_or a s None) stays) (λ b _ is. (refl, is, omega arith, λ p i _. refl)))
+      places z g vs id v t s (WriteNew t s value) (g.map s) law at role refl (λ n is. inl is)
+      (λ other unlike. held_by_new z.sectors g.history t s value other unlike)
+      (sector_kept z g after s (law.sectors s low) (put_here g.map s (g.map s)) (ap (λ a. get_or a s None) stays)
+      (λ b _ is. (refl, is, omega arith, λ p i _. refl)))

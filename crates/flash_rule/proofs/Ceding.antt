@@ -33,7 +33,8 @@ drained_end (x ∷ os) o =
     let same : more ≡ fewer ++ last = there in
     by_test c more fewer last (is_drained x.phase) same
   where
-    by_test : (c : Cycle) (more fewer last : List Cycle) (t : Bool) → more ≡ fewer ++ last → (if t then (c ∷ more) else more) ≡ (if t then (c ∷ fewer) else fewer) ++ last
+    by_test : (c : Cycle) (more fewer last : List Cycle) (t : Bool) → more ≡ fewer ++ last
+        → (if t then (c ∷ more) else more) ≡ (if t then (c ∷ fewer) else fewer) ++ last
     by_test c more fewer last true same = ap (λ (l : List Cycle). c ∷ l) same
     by_test c more fewer last false same = same
 
@@ -72,12 +73,14 @@ module _ (z : Numbers) (pins pins' : ℕ → PinWord) (vs vs' : List View) (law 
   pub ceded_kept : LawfulCeded z pins' vs'
   ceded_kept =
       record {
-        reached = λ id k o h. let r = law.reached id k o (was_ceded id k o h) in (r.0, reached_on o o.block (pins o.block) (pins' o.block) r.1 (on o.block r.0));
+        reached = λ id k o h. let r = law.reached id k o (was_ceded id k o h) in
+            (r.0, reached_on o o.block (pins o.block) (pins' o.block) r.1 (on o.block r.0));
         once = λ id k o j i e h t. law.once id k o j i e (was_ceded id k o h) (was_ceded j i e t);
         drained = λ id u is.
             ⊎_elim
             (λ (none : (u.ceded ≡ []) × (u.drains ≡ [])). none.1 ∙ ap drained_of (sym none.0))
-            (λ (old : (x : View) × (get_elem? vs id ≡ some x) × (u.ceded ≡ x.ceded) × (u.drains ≡ x.drains) × (u.role ≡ x.role)). old.3 ∙ (law.drained id old.0 old.1 ∙ ap drained_of (sym old.2)))
+            (λ (old : (x : View) × (get_elem? vs id ≡ some x) × (u.ceded ≡ x.ceded) × (u.drains ≡ x.drains) × (u.role ≡ x.role)). old.3
+            ∙ (law.drained id old.0 old.1 ∙ ap drained_of (sym old.2)))
             (was id u is);
         left = λ b low nobodys.
             let s = same b low nobodys in
@@ -88,7 +91,8 @@ module _ (z : Numbers) (pins pins' : ℕ → PinWord) (vs vs' : List View) (law 
         owners = λ id u is none.
             ⊎_elim
             (λ (t : (u.ceded ≡ []) × (u.drains ≡ [])). t.0)
-            (λ (old : (x : View) × (get_elem? vs id ≡ some x) × (u.ceded ≡ x.ceded) × (u.drains ≡ x.drains) × (u.role ≡ x.role)). old.2 ∙ law.owners id old.0 old.1 (sym (ap may_own old.4) ∙ none))
+            (λ (old : (x : View) × (get_elem? vs id ≡ some x) × (u.ceded ≡ x.ceded) × (u.drains ≡ x.drains) × (u.role ≡ x.role)). old.2
+            ∙ law.owners id old.0 old.1 (sym (ap may_own old.4) ∙ none))
             (was id u is);
       }
 
@@ -98,10 +102,12 @@ view_set (x ∷ xs) zero v w at = refl
 view_set (x ∷ xs) (suc id) v w at = view_set xs id v w at
 
 -- ---- one seat steps
-module _ (z : Numbers) (pins : ℕ → PinWord) (vs : List View) (id : ℕ) (v w : View) (law : LawfulCeded z pins vs) (at : get_elem? vs id ≡ some v) (role : w.role ≡ v.role) where
+module _ (z : Numbers) (pins : ℕ → PinWord) (vs : List View) (id : ℕ) (v w : View) (law : LawfulCeded z pins vs) (at : get_elem? vs id ≡ some v)
+    (role : w.role ≡ v.role) where
   -- it gives nothing up, and each block that no seat owns stays, but for its readers
   pub ceded_on : (pins' : ℕ → PinWord) → w.ceded ≡ v.ceded → w.drains ≡ v.drains → ((b : ℕ) → b < z.blocks → IsReached (entry_of b (pins b)) (pins' b))
-      → ((b : ℕ) → b < z.blocks → is_owned (pins' b).phase ≡ false → (is_owned (pins b).phase ≡ false) × (entry_of b (pins' b) ≡ entry_of b (pins b))) → LawfulCeded z pins' (set vs id w)
+      → ((b : ℕ) → b < z.blocks → is_owned (pins' b).phase ≡ false → (is_owned (pins b).phase ≡ false) × (entry_of b (pins' b) ≡ entry_of b (pins b)))
+      → LawfulCeded z pins' (set vs id w)
   ceded_on pins' ceded drains on same =
       ceded_kept z pins pins' vs (set vs id w) law on same
       (λ j u is. ⊎_elim
@@ -125,47 +131,58 @@ module _ (z : Numbers) (pins : ℕ → PinWord) (vs : List View) (id : ℕ) (v w
   ceded_still ceded drains = ceded_on pins ceded drains (λ b _. reached_now b (pins b)) (λ b _ nobodys. (nobodys, refl))
 
   -- one block goes on, and is some seat's then
-  pub ceded_owned : (b : ℕ) (q : PinWord) → w.ceded ≡ v.ceded → w.drains ≡ v.drains → is_owned q.phase ≡ true → IsReached (entry_of b (pins b)) q → LawfulCeded z (put pins b q) (set vs id w)
+  pub ceded_owned : (b : ℕ) (q : PinWord) → w.ceded ≡ v.ceded → w.drains ≡ v.drains → is_owned q.phase ≡ true → IsReached (entry_of b (pins b)) q
+      → LawfulCeded z (put pins b q) (set vs id w)
   ceded_owned b q ceded drains owned on =
       ceded_on (put pins b q) ceded drains (λ c _. put_all pins b q (λ j p. IsReached (entry_of j (pins j)) p) on (λ j _. reached_now j (pins j)) c)
       (λ c _. put_all pins b q (λ j p. is_owned p.phase ≡ false → (is_owned (pins j).phase ≡ false) × (entry_of j p ≡ entry_of j (pins j)))
       (λ not. let no : true ≡ false = sym owned ∙ not in absurd (cc)) (λ j _ nobodys. (nobodys, refl)) c)
 
   -- one block has other readers
-  pub ceded_read : (b : ℕ) (q : PinWord) → w.ceded ≡ v.ceded → w.drains ≡ v.drains → q ≡ record (pins b) { readers = q.readers } → LawfulCeded z (put pins b q) (set vs id w)
+  pub ceded_read : (b : ℕ) (q : PinWord) → w.ceded ≡ v.ceded → w.drains ≡ v.drains → q ≡ record (pins b) { readers = q.readers }
+      → LawfulCeded z (put pins b q) (set vs id w)
   ceded_read b q ceded drains same =
       let entry : entry_of b q ≡ entry_of b (pins b) = ap (entry_of b) same in
       let phase : is_owned q.phase ≡ is_owned (pins b).phase = ap (λ (p : PinWord). is_owned p.phase) same in
       ceded_on (put pins b q) ceded drains
-      (λ c _. put_all pins b q (λ j p. IsReached (entry_of j (pins j)) p) (subst (λ (o : Owned). IsReached o q) entry (reached_now b q)) (λ j _. reached_now j (pins j)) c)
+      (λ c _. put_all pins b q (λ j p. IsReached (entry_of j (pins j)) p)
+      (subst (λ (o : Owned). IsReached o q) entry (reached_now b q)) (λ j _. reached_now j (pins j)) c)
       (λ c _. put_all pins b q (λ j p. is_owned p.phase ≡ false → (is_owned (pins j).phase ≡ false) × (entry_of j p ≡ entry_of j (pins j)))
       (λ not. (sym phase ∙ not, entry)) (λ j _ nobodys. (nobodys, refl)) c)
 
   -- it gives up one block, which goes on to a later phase or generation
-  module _ (b : ℕ) (q : PinWord) (low : b < z.blocks) (later : ((pins b).generation < q.generation) ⊎ (((pins b).generation ≡ q.generation) × (rank (pins b).phase < rank q.phase) × ((pins b).written ≤ q.written))) where
+  module _ (b : ℕ) (q : PinWord) (low : b < z.blocks)
+      (later : ((pins b).generation < q.generation)
+      ⊎ (((pins b).generation ≡ q.generation) × (rank (pins b).phase < rank q.phase) × ((pins b).written ≤ q.written))) where
     reached_later : IsReached (entry_of b (pins b)) q
     reached_later =
         ⊎_elim (λ (older : (pins b).generation < q.generation). inl older)
-        (λ (same : ((pins b).generation ≡ q.generation) × (rank (pins b).phase < rank q.phase) × ((pins b).written ≤ q.written)). let r = same.1 in inr (same.0, omega arith, same.2)) later
+        (λ (same : ((pins b).generation ≡ q.generation) × (rank (pins b).phase < rank q.phase) × ((pins b).written ≤ q.written)). let r = same.1 in
+        inr (same.0, omega arith, same.2)) later
 
     -- no earlier entry is of this turn
     none_yet : (o : Owned) → o.block ≡ b → IsReached o (pins b) → o.phase ≡ q.phase → o.generation ≡ q.generation → ⊥
     none_yet o block r phase generation = by_both r later where
-      by_both : IsReached o (pins b) → ((pins b).generation < q.generation) ⊎ (((pins b).generation ≡ q.generation) × (rank (pins b).phase < rank q.phase) × ((pins b).written ≤ q.written)) → ⊥
+      by_both : IsReached o (pins b)
+          → ((pins b).generation < q.generation)
+          ⊎ (((pins b).generation ≡ q.generation) × (rank (pins b).phase < rank q.phase) × ((pins b).written ≤ q.written)) → ⊥
       by_both (inl older) (inl more) = absurd (omega arith)
       by_both (inl older) (inr same) = let e = same.0 in absurd (omega arith)
       by_both (inr here) (inl more) = let e = here.0 in absurd (omega arith)
       by_both (inr here) (inr same) = let e : rank o.phase ≡ rank q.phase = ap rank phase in let r = here.1 in let s = same.1 in absurd (omega arith)
 
-    pub ceded_last : (e : Owned) → e ≡ entry_of b q → w.ceded ≡ v.ceded ++ e ∷ [] → w.drains ≡ v.drains ++ drained_of (e ∷ []) → may_own v.role ≡ true → LawfulCeded z (put pins b q) (set vs id w)
+    pub ceded_last : (e : Owned) → e ≡ entry_of b q → w.ceded ≡ v.ceded ++ e ∷ [] → w.drains ≡ v.drains ++ drained_of (e ∷ []) → may_own v.role ≡ true
+        → LawfulCeded z (put pins b q) (set vs id w)
     ceded_last e is ceded drains owner =
         record {
           reached = λ j k o h.
-              let reached_as : (o : Owned) → (o.block < z.blocks) × IsReached o (pins o.block) → (o.block < z.blocks) × IsReached o (put pins b q o.block) = λ o r.
+              let reached_as : (o : Owned) → (o.block < z.blocks) × IsReached o (pins o.block)
+              → (o.block < z.blocks) × IsReached o (put pins b q o.block) = λ o r.
               (r.0, reached_on o o.block (pins o.block) (put pins b q o.block) r.1 (onward o.block)) in
               ⊎_elim (λ (old : IsCededBy vs j k o). reached_as o (law.reached j k o old))
               (λ (new : (j ≡ id) × (k ≡ length v.ceded) × (e ≡ o)).
-              let now : (b < z.blocks) × IsReached (entry_of b q) (put pins b q b) = (low, subst (λ (p : PinWord). IsReached (entry_of b q) p) (sym (put_here pins b q)) (reached_now b q)) in
+              let now : (b < z.blocks) × IsReached (entry_of b q) (put pins b q b) =
+              (low, subst (λ (p : PinWord). IsReached (entry_of b q) p) (sym (put_here pins b q)) (reached_now b q)) in
               subst (λ (x : Owned). (x.block < z.blocks) × IsReached x (put pins b q x.block)) (sym is ∙ new.2) now)
               (last_or j k o h);
           once = λ j k o i l x h t turn.
@@ -175,7 +192,9 @@ module _ (z : Numbers) (pins : ℕ → PinWord) (vs : List View) (id : ℕ) (v w
               (λ (new : (i ≡ id) × (l ≡ length v.ceded) × (e ≡ x)). absurd (not_new j k o old (same_turn o x turn (sym is ∙ new.2))))
               (last_or i l x t))
               (λ (new : (j ≡ id) × (k ≡ length v.ceded) × (e ≡ o)). ⊎_elim
-              (λ (old' : IsCededBy vs i l x). absurd (not_new i l x old' (same_turn x o (record { block = sym turn.block; phase = sym turn.phase; generation = sym turn.generation }) (sym is ∙ new.2))))
+              (λ (old' : IsCededBy vs i l x).
+              absurd (not_new i l x old'
+              (same_turn x o (record { block = sym turn.block; phase = sym turn.phase; generation = sym turn.generation }) (sym is ∙ new.2))))
               (λ (new' : (i ≡ id) × (l ≡ length v.ceded) × (e ≡ x)). (new.0 ∙ sym new'.0, new.1 ∙ sym new'.1))
               (last_or i l x t))
               (last_or j k o h);
@@ -190,7 +209,8 @@ module _ (z : Numbers) (pins : ℕ → PinWord) (vs : List View) (id : ℕ) (v w
           left = λ c below nobodys. left_as c below nobodys;
           owners = λ j u has none.
               ⊎_elim
-              (λ (t : (j ≡ id) × (w ≡ u)). let no : true ≡ false = sym owner ∙ (sym (ap may_own role) ∙ (ap (λ (x : View). may_own x.role) t.1 ∙ none)) in absurd (cc))
+              (λ (t : (j ≡ id) × (w ≡ u)). let no : true ≡ false = sym owner
+              ∙ (sym (ap may_own role) ∙ (ap (λ (x : View). may_own x.role) t.1 ∙ none)) in absurd (cc))
               (λ (t : (j ≢ id) × (get_elem? vs j ≡ some u)). law.owners j u t.1 none)
               (at_set vs id j w u has);
         }
@@ -203,22 +223,34 @@ module _ (z : Numbers) (pins : ℕ → PinWord) (vs : List View) (id : ℕ) (v w
         last_or j k o h =
             ⊎_elim
             (λ (t : (j ≡ id) × (w ≡ h.view)).
-            let there : slice_get (v.ceded ++ e ∷ []) k ≡ Some o = sym (ap (λ (l : List Owned). slice_get l k) ceded) ∙ (ap (λ (x : View). slice_get x.ceded k) t.1 ∙ h.entry) in
+            let there : slice_get (v.ceded ++ e ∷ []) k ≡ Some o =
+            sym (ap (λ (l : List Owned). slice_get l k) ceded) ∙ (ap (λ (x : View). slice_get x.ceded k) t.1 ∙ h.entry) in
             ⊎_elim
-            (λ (old : slice_get v.ceded k ≡ Some o). let before : IsCededBy vs j k o = record { view = v; seat = ap (λ i. get_elem? vs i) t.0 ∙ at; entry = old } in inl before)
+            (λ (old : slice_get v.ceded k ≡ Some o). let before : IsCededBy vs j k o =
+            record { view = v; seat = ap (λ i. get_elem? vs i) t.0 ∙ at; entry = old } in inl before)
             (λ (new : (k ≡ length v.ceded) × (e ≡ o)). inr (t.0, new.0, new.1))
             (get_last v.ceded e o k there))
-            (λ (t : (j ≢ id) × (get_elem? vs j ≡ some h.view)). let before : IsCededBy vs j k o = record { view = h.view; seat = t.1; entry = h.entry } in inl before)
+            (λ (t : (j ≢ id) × (get_elem? vs j ≡ some h.view)). let before : IsCededBy vs j k o =
+            record { view = h.view; seat = t.1; entry = h.entry } in inl before)
             (at_set vs id j w h.view h.seat)
 
         same_turn : (o x : Owned) → IsSameTurn o x → entry_of b q ≡ x → (o.block ≡ b) × (o.phase ≡ q.phase) × (o.generation ≡ q.generation)
-        same_turn o x turn its = (turn.block ∙ sym (ap (λ (y : Owned). y.block) its), turn.phase ∙ sym (ap (λ (y : Owned). y.phase) its), turn.generation ∙ sym (ap (λ (y : Owned). y.generation) its))
+        same_turn o x turn its = (
+          turn.block
+              ∙ sym (ap (λ (y : Owned). y.block) its),
+          turn.phase ∙ sym (ap (λ (y : Owned). y.phase) its),
+          turn.generation ∙ sym (ap (λ (y : Owned). y.generation) its),
+        )
 
         not_new : (j k : ℕ) (o : Owned) → IsCededBy vs j k o → (o.block ≡ b) × (o.phase ≡ q.phase) × (o.generation ≡ q.generation) → ⊥
         not_new j k o old t = none_yet o t.0 (subst (λ c. IsReached o (pins c)) t.0 (law.reached j k o old).1) t.1 t.2
 
         newest : IsCeded (set vs id w) e
-        newest = (id, length v.ceded, record { view = w; seat = view_set vs id v w at; entry = ap (λ (l : List Owned). slice_get l (length v.ceded)) ceded ∙ last_at v.ceded e })
+        newest = (
+          id,
+          length v.ceded,
+          record { view = w; seat = view_set vs id v w at; entry = ap (λ (l : List Owned). slice_get l (length v.ceded)) ceded ∙ last_at v.ceded e },
+        )
           where
             last_at : (os : List Owned) (o : Owned) → slice_get (os ++ o ∷ []) (length os) ≡ Some o
             last_at [] o = refl
@@ -244,11 +276,14 @@ module _ (z : Numbers) (pins : ℕ → PinWord) (vs : List View) (id : ℕ) (v w
             longer_at (x ∷ os) e zero o is = is
             longer_at (x ∷ os) e (suc k) o is = longer_at os e k o is
 
-        left_as : (c : ℕ) → c < z.blocks → is_owned (put pins b q c).phase ≡ false → IsUnused (put pins b q c) ⊎ IsCeded (set vs id w) (entry_of c (put pins b q c))
+        left_as : (c : ℕ) → c < z.blocks → is_owned (put pins b q c).phase ≡ false
+            → IsUnused (put pins b q c) ⊎ IsCeded (set vs id w) (entry_of c (put pins b q c))
         left_as =
             put_all pins b q (λ j p. j < z.blocks → is_owned p.phase ≡ false → IsUnused p ⊎ IsCeded (set vs id w) (entry_of j p))
             (λ _ _. inr (subst (λ (x : Owned). IsCeded (set vs id w) x) is newest))
-            (λ j _ under nobodys. ⊎_elim (λ (unused : IsUnused (pins j)). inl unused) (λ (t : IsCeded vs (entry_of j (pins j))). inr (longer (entry_of j (pins j)) t)) (law.left j under nobodys))
+            (λ j _ under nobodys. ⊎_elim
+            (λ (unused : IsUnused (pins j)). inl unused) (λ (t : IsCeded vs (entry_of j (pins j))). inr (longer (entry_of j (pins j)) t))
+            (law.left j under nobodys))
 
 -- ---- a seat is split, and the new seat has given nothing up
 pub ceded_split : (z : Numbers) (pins : ℕ → PinWord) (vs : List View) (id : ℕ) (v l r : View) → LawfulCeded z pins vs → get_elem? vs id ≡ some v
@@ -263,8 +298,10 @@ ceded_split z pins vs id v l r law at role ceded drains bare fresh =
     (λ j x is. inr (x, at_longer (set vs id l) (r ∷ []) j x is, refl))
 
 -- ---- a seat that gave nothing up is joined into another one, and nothing is left of it
-pub ceded_gone : (z : Numbers) (pins : ℕ → PinWord) (vs : List View) (id other : ℕ) (v w u left : View) → LawfulCeded z pins vs → get_elem? vs id ≡ some v → ¬ (other ≡ id) → get_elem? vs other ≡ some w
-    → may_own w.role ≡ false → u.role ≡ v.role → u.ceded ≡ v.ceded → u.drains ≡ v.drains → left.ceded ≡ [] → left.drains ≡ [] → LawfulCeded z pins (set (set vs id u) other left)
+pub ceded_gone : (z : Numbers) (pins : ℕ → PinWord) (vs : List View) (id other : ℕ) (v w u left : View) → LawfulCeded z pins vs
+    → get_elem? vs id ≡ some v → ¬ (other ≡ id) → get_elem? vs other ≡ some w
+    → may_own w.role ≡ false → u.role ≡ v.role → u.ceded ≡ v.ceded → u.drains ≡ v.drains → left.ceded ≡ [] → left.drains ≡ []
+    → LawfulCeded z pins (set (set vs id u) other left)
 ceded_gone z pins vs id other v w u left law at apart there note role ceded drains bare fresh =
     let first : LawfulCeded z pins (set vs id u) = ceded_still z pins vs id v u law at role ceded drains in
     let there' : get_elem? (set vs id u) other ≡ some w = set_else vs id other u apart ∙ there in

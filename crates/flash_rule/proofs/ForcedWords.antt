@@ -1,18 +1,18 @@
 -- For each step on a pin word: what its play fixes of the seat, and so the one operation that is allowed.
-use Rattle.flash_rule.proofs.Words.{◌≡◌, ℕ, ◌+◌, ◌^◌, ◌-◌, ◌<◌, ⊎_elim, true, List, [], ◌∷◌, ◌++◌, Some, sym, refl, ap, ◌∙◌, subst}
-use Rattle.flash_rule.proofs.Words.{none, dite, ℕ_discrete, State, step, Numbers, pin_word, freed_added}
-use Rattle.flash_rule.proofs.Words.{kept_added, pin_index, MapWord, PinWord, Free, Open, READER, PAGE_WRITTEN, NEXT_PHASE, TAKEN, Owned}
-use Rattle.flash_rule.proofs.Words.{Work, View, is_pass, is_broom, is_player, owned_at, with_owned}
-use Rattle.flash_rule.proofs.Words.{Intact, Lawful, Sitter, Took, Pinned, take_told, pin_told, unpin_told, count_told}
-use Rattle.flash_rule.proofs.Words.{close_told, Claimed, Condemned, claim_told, drain_told}
-use Rattle.flash_rule.proofs.Words.{condemn_told, freed_told, kept_told, retired_told, SitsAt}
+use Rattle.flash_rule.proofs.Words.{◌≡◌, ℕ, ◌+◌, ◌^◌, ◌-◌, ◌<◌, ⊎_elim, true, List, [], ◌∷◌, ◌++◌, Some, sym, refl, ap, ◌∙◌, subst, none, dite}
+use Rattle.flash_rule.proofs.Words.{ℕ_discrete, State, step, Numbers, pin_word, freed_added, kept_added, pin_index, MapWord, PinWord, Free, Open}
+use Rattle.flash_rule.proofs.Words.{READER, PAGE_WRITTEN, NEXT_PHASE, TAKEN, Owned, Work, View, is_pass, is_broom, is_player, owned_at, with_owned}
+use Rattle.flash_rule.proofs.Words.{Intact, Lawful, Sitter, Took, Pinned, take_told, pin_told, unpin_told, count_told, close_told, Claimed, Condemned}
+use Rattle.flash_rule.proofs.Words.{claim_told, drain_told, condemn_told, freed_told, kept_told, retired_told, SitsAt}
 use Rattle.std.proofs.Common.{bit_or}
 use Rattle.geometry.proofs.PinBits as bits
-use Rattle.flash_rule.specs.Forced.{plus, to_next_phase, TakeSets, PinAdds, UnpinTakesOff, CountAdds, CloseAdds, ClaimExchanges, DrainAdds, CondemnExchanges, FreeAdds, KeepAdds, RetireAdds}
+use Rattle.flash_rule.specs.Forced.{plus, to_next_phase, TakeSets, PinAdds, UnpinTakesOff, CountAdds, CloseAdds, ClaimExchanges, DrainAdds}
+use Rattle.flash_rule.specs.Forced.{CondemnExchanges, FreeAdds, KeepAdds, RetireAdds}
+use Rattle.flash_rule.proofs.Roles.{player_live, broom_live, phase_or_not}
 use Rattle.flash_rule.proofs.OwnSteps.{worker}
-use Rattle.flash_rule.proofs.Reclaiming.{owner_numbers, broom_live}
+use Rattle.flash_rule.proofs.Reclaiming.{owner_numbers}
 use Rattle.flash_rule.proofs.Still.{pass_numbers}
-use Rattle.flash_rule.proofs.Steps.{free_or_not, player_live, take_allowed, count_allowed, close_allowed}
+use Rattle.flash_rule.proofs.Steps.{take_allowed, count_allowed, close_allowed}
 use Rattle.flash_rule.proofs.ReaderSteps.{intact_or_not, pin_allowed, unpin_allowed}
 use Rattle.flash_rule.proofs.ReclaimAllowed.{claim_allowed, condemn_allowed, drain_allowed, freed_allowed, kept_allowed, retired_allowed}
 use Rattle.flash_rule.proofs.Forcing.{Alike, alike_same, forced}
@@ -28,9 +28,14 @@ took_alike v b n w u one two =
     ⊎_elim
     (λ (free : one.state.phase ≡ Free).
     let other : two.state.phase ≡ Free = sym (ap (λ (p : PinWord). p.phase) same) ∙ free in
-    alike_same w u (one.free free ∙ ((λ i. record v { taken = v.taken + 1; owns = with_owned (record { block = b; phase = Open; generation = (same i).generation; written = 0 }) v.owns }) ∙ sym (two.free other))))
-    (λ (not : ¬ (one.state.phase ≡ Free)). both (record v { denied = v.denied ++ b ∷ [] }) w u (one.denied not) (two.denied (λ e. not (ap (λ (p : PinWord). p.phase) same ∙ e))))
-    (free_or_not one.state.phase)
+    alike_same w u (one.free free
+    ∙ ((λ i. record v {
+      taken = v.taken + 1;
+      owns = with_owned (record { block = b; phase = Open; generation = (same i).generation; written = 0 }) v.owns;
+    }) ∙ sym (two.free other))))
+    (λ (not : ¬ (one.state.phase ≡ Free)).
+    both (record v { denied = v.denied ++ b ∷ [] }) w u (one.denied not) (two.denied (λ e. not (ap (λ (p : PinWord). p.phase) same ∙ e))))
+    (phase_or_not one.state.phase Free)
 
 pinned_alike : (v : View) (m : MapWord) (value : List ℕ) (n : ℕ) (w u : View) → Pinned v m value n w → Pinned v m value n u → Alike w u
 pinned_alike v m value n w u one two =
@@ -40,7 +45,8 @@ pinned_alike v m value n w u one two =
       ceded = ap (λ (x : View). x.ceded) one.changed ∙ sym (ap (λ (x : View). x.ceded) two.changed);
       pin = ⊎_elim
           (λ (is : Intact one.state m.generation). (one.accepted is).0 ∙ sym (two.accepted (subst (λ (p : PinWord). Intact p m.generation) same is)).0)
-          (λ (not : ¬ Intact one.state m.generation). (one.stray not).0 ∙ sym (two.stray (λ is. not (subst (λ (p : PinWord). Intact p m.generation) (sym same) is))).0)
+          (λ (not : ¬ Intact one.state m.generation). (one.stray not).0
+          ∙ sym (two.stray (λ is. not (subst (λ (p : PinWord). Intact p m.generation) (sym same) is))).0)
           (intact_or_not one.state m.generation);
     }
 
@@ -96,7 +102,8 @@ pins_forced z slots id me x y m value pass is low other also t sits =
     let k : ℕ = pin_index z m.block in
     let at = placed z slots id me (pass_here z slots id me t k sits pass) m.block in
     forced z slots id me m.block (plus READER) (pin_told (step slots k x y none) me) low
-    (λ n w u one two. pinned_alike me.0 m value n w.0 u.0 (one.1 m value is at) (two.1 m value is at)) (pin_allowed z slots id me m value pass is low) other also t sits
+    (λ n w u one two. pinned_alike me.0 m value n w.0 u.0 (one.1 m value is at) (two.1 m value is at))
+    (pin_allowed z slots id me m value pass is low) other also t sits
 
 pub unpins_forced : UnpinTakesOff
 unpins_forced z slots id me x y b pass on low other also t sits =
@@ -119,7 +126,8 @@ closes_forced z slots id me x y o can other also t sits =
     let k : ℕ = pin_index z o.block in
     let at = there z slots id me t k sits o can.own in
     forced z slots id me o.block (plus NEXT_PHASE) (close_told (step slots k x y none) me) (owned_low z slots id me t k sits o can.own)
-    (λ n w u one two. alike_same w.0 u.0 (one.1 o can at ∙ sym (two.1 o can at))) (close_allowed z slots id me o (owner_here z slots id me t k sits o can.own) can) other also t sits
+    (λ n w u one two. alike_same w.0 u.0 (one.1 o can at ∙ sym (two.1 o can at)))
+    (close_allowed z slots id me o (owner_here z slots id me t k sits o can.own) can) other also t sits
 
 pub drains_forced : DrainAdds
 drains_forced z slots id me x y o can other also t sits =
@@ -156,7 +164,8 @@ claims_forced z slots id me x y b p broom can other also t sits =
     let at = placed z slots id me numbers b in
     let low : b < z.blocks = subst (λ (n : Numbers). b < n.blocks) numbers can.low in
     forced z slots id me b (to_next_phase p) (claim_told (step slots k (pin_word p) y none) me) low
-    (λ n w u one two. claimed_alike me.0 b p n w.0 u.0 (one.1 b p can at refl) (two.1 b p can at refl)) (claim_allowed z slots id me b p broom can) other also t sits
+    (λ n w u one two. claimed_alike me.0 b p n w.0 u.0 (one.1 b p can at refl) (two.1 b p can at refl))
+    (claim_allowed z slots id me b p broom can) other also t sits
 
 pub condemns_forced : CondemnExchanges
 condemns_forced z slots id me x y b p broom can other also t sits =
@@ -165,4 +174,5 @@ condemns_forced z slots id me x y b p broom can other also t sits =
     let at = placed z slots id me numbers b in
     let low : b < z.blocks = subst (λ (n : Numbers). b < n.blocks) numbers can.low in
     forced z slots id me b (to_next_phase p) (condemn_told (step slots k (pin_word p) y none) me) low
-    (λ n w u one two. condemned_alike me.0 b p n w.0 u.0 (one.1 b p can at refl) (two.1 b p can at refl)) (condemn_allowed z slots id me b p broom can) other also t sits
+    (λ n w u one two. condemned_alike me.0 b p n w.0 u.0 (one.1 b p can at refl) (two.1 b p can at refl))
+    (condemn_allowed z slots id me b p broom can) other also t sits

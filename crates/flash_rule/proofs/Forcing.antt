@@ -1,9 +1,9 @@
 -- The states of all blocks follow from what the seats own, gave up and have pinned; so a step on a pin word can leave one word alone.
-use Rattle.flash_rule.proofs.Words.{◌≡◌, ◌≢◌, ℕ, zero, suc, ◌<◌, inl, inr, ⊎_elim, Bool, true, false, List, length, set}
-use Rattle.flash_rule.proofs.Words.{slice_get, sym, refl, ap, ◌∙◌, arith, get_or, get_or-set_same, some, get_elem?, Allows, at_set}
-use Rattle.flash_rule.proofs.Words.{set_else, Numbers, pin_word, pin_index, PinWord, Phase, Free, Open, Closed, Victim, Drained, Erasing, Retired}
-use Rattle.flash_rule.proofs.Words.{Owned, Pin, View, one_if, pin_is_on, pins_on, owned_at, World, is_owned, rank, entry_of, IsReached, IsUnused}
-use Rattle.flash_rule.proofs.Words.{IsCededBy, IsCeded, Lawful, Ruled, Sitter, Forces}
+use Rattle.flash_rule.proofs.Words.{◌≡◌, ◌≢◌, ℕ, zero, suc, ◌<◌, inl, inr, ⊎_elim, Bool, true, false, List, length, set, slice_get, sym, refl, ap}
+use Rattle.flash_rule.proofs.Words.{◌∙◌, arith, get_or, get_or-set_same, some, get_elem?, Allows, at_set, set_else, Numbers, pin_word, pin_index}
+use Rattle.flash_rule.proofs.Words.{PinWord, Owned, Pin, View, one_if, pin_is_on, pins_on, owned_at, World, is_owned, rank, entry_of, IsReached}
+use Rattle.flash_rule.proofs.Words.{IsUnused, IsCededBy, IsCeded, Lawful, Ruled, Sitter, Forces}
+use Rattle.flash_rule.proofs.Roles.{phase_of, of_rank}
 use Rattle.flash_rule.proofs.Points.{total_set}
 use Rattle.flash_rule.proofs.Places.{pin_within}
 use Rattle.flash_rule.proofs.Ceding.{view_set}
@@ -22,25 +22,6 @@ pub record SameBlock (p q : PinWord) : Type 0 where
   pub phase : p.phase ≡ q.phase
   pub generation : p.generation ≡ q.generation
   pub written : p.written ≡ q.written
-
-phase_of : ℕ → Phase
-phase_of zero = Free
-phase_of (suc zero) = Open
-phase_of (suc (suc zero)) = Closed
-phase_of (suc (suc (suc zero))) = Victim
-phase_of (suc (suc (suc (suc zero)))) = Drained
-phase_of (suc (suc (suc (suc (suc zero))))) = Erasing
-phase_of (suc (suc (suc (suc (suc (suc n)))))) = Retired
-
-of_rank : (f : Phase) → phase_of (rank f) ≡ f
-unfolding phase_of
-of_rank Free = refl
-of_rank Open = refl
-of_rank Closed = refl
-of_rank Victim = refl
-of_rank Drained = refl
-of_rank Erasing = refl
-of_rank Retired = refl
 
 -- two states that have each got as far as the other are one
 each_reached : (b : ℕ) (p q : PinWord) → IsReached (entry_of b p) q → IsReached (entry_of b q) p → SameBlock p q
@@ -84,16 +65,20 @@ module _ (z : Numbers) (g h : World) (vs us : List View) (one : Lawful z g vs) (
       (λ (left : IsCeded vs (entry_of b (g.pins b))).
       let by = left.2 in
       let t = tied left.0 by.view by.seat in
-      let there : IsCededBy us left.0 left.1 (entry_of b (g.pins b)) = record { view = t.0; seat = t.1; entry = sym (ap (λ (l : List Owned). slice_get l left.1) t.3) ∙ by.entry } in
+      let there : IsCededBy us left.0 left.1 (entry_of b (g.pins b)) =
+      record { view = t.0; seat = t.1; entry = sym (ap (λ (l : List Owned). slice_get l left.1) t.3) ∙ by.entry } in
       (two.ceded.reached left.0 left.1 (entry_of b (g.pins b)) there).1)
       (one.ceded.left b low nobodys)
 
-pub block_same : (z : Numbers) (g h : World) (vs us : List View) → Lawful z g vs → Lawful z h us → Tied vs us → Tied us vs → (b : ℕ) → b < z.blocks → SameBlock (g.pins b) (h.pins b)
+pub block_same : (z : Numbers) (g h : World) (vs us : List View) → Lawful z g vs → Lawful z h us → Tied vs us → Tied us vs → (b : ℕ) → b < z.blocks
+    → SameBlock (g.pins b) (h.pins b)
 block_same z g h vs us one two there back b low = by_owners (is_owned (g.pins b).phase) (is_owned (h.pins b).phase) refl refl where
   by_owners : (s t : Bool) → is_owned (g.pins b).phase ≡ s → is_owned (h.pins b).phase ≡ t → SameBlock (g.pins b) (h.pins b)
   by_owners true t mine its = owned_same z g h vs us one two there b low mine
-  by_owners false true mine its = let e = owned_same z h g us vs two one back b low its in record { phase = sym e.phase; generation = sym e.generation; written = sym e.written }
-  by_owners false false mine its = each_reached b (g.pins b) (h.pins b) (left_reached z g h vs us one two there b low mine) (left_reached z h g us vs two one back b low its)
+  by_owners false true mine its = let e = owned_same z h g us vs two one back b low its in
+      record { phase = sym e.phase; generation = sym e.generation; written = sym e.written }
+  by_owners false false mine its =
+      each_reached b (g.pins b) (h.pins b) (left_reached z g h vs us one two there b low mine) (left_reached z h g us vs two one back b low its)
 
 tied_sets : (vs : List View) (id : ℕ) (v w u : View) → get_elem? vs id ≡ some v → w.owns ≡ u.owns → w.ceded ≡ u.ceded → Tied (set vs id w) (set vs id u)
 tied_sets vs id v w u at owns ceded j x is =
@@ -108,10 +93,12 @@ tied_sets vs id v w u at owns ceded j x is =
     (at_set vs id j w x is)
 
 -- one seat changes, to views that are alike: each block is in one state, with its readers
-pub state_same : (z : Numbers) (g h : World) (vs : List View) (id : ℕ) (v w u : View) → get_elem? vs id ≡ some v → Lawful z g (set vs id w) → Lawful z h (set vs id u) → Alike w u
+pub state_same : (z : Numbers) (g h : World) (vs : List View) (id : ℕ) (v w u : View) → get_elem? vs id ≡ some v → Lawful z g (set vs id w)
+    → Lawful z h (set vs id u) → Alike w u
     → (b : ℕ) → b < z.blocks → g.pins b ≡ h.pins b
 state_same z g h vs id v w u at one two alike b low =
-    let same = block_same z g h (set vs id w) (set vs id u) one two (tied_sets vs id v w u at alike.owns alike.ceded) (tied_sets vs id v u w at (sym alike.owns) (sym alike.ceded)) b low in
+    let same = block_same z g h (set vs id w) (set vs id u) one two (tied_sets vs id v w u at alike.owns alike.ceded)
+    (tied_sets vs id v u w at (sym alike.owns) (sym alike.ceded)) b low in
     let a = (one.blocks b low).readers in
     let c = (two.blocks b low).readers in
     let s = total_set (pins_on b) vs id v w at in
@@ -122,7 +109,8 @@ state_same z g h vs id v w u at one two alike b low =
 
 -- where a play fixes what its seat owns, gave up and has pinned, one operation that is allowed is the only one
 pub forced : (z : Numbers) (slots id : ℕ) (me : Sitter) (b : ℕ) (f : ℕ → ℕ) (told : ℕ → Sitter → Type 0) → b < z.blocks
-    → ((n : ℕ) (w u : Sitter) → told n w → told n u → Alike w.0 u.0) → Allows (Ruled z) slots id me (pin_index z b) f told → Forces z slots id me (pin_index z b) f told
+    → ((n : ℕ) (w u : Sitter) → told n w → told n u → Alike w.0 u.0) → Allows (Ruled z) slots id me (pin_index z b) f told
+    → Forces z slots id me (pin_index z b) f told
 forced z slots id me b f told low fixes allowed other also t sits =
     let k : ℕ = pin_index z b in
     let n : ℕ = get_or t.words k 0 in

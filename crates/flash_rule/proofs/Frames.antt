@@ -25,7 +25,11 @@ begins_same k l same = ([], append-nil k ∙ sym same)
 -- where nothing is programmed or erased, all lists stay
 pub lists_stay : (g g' : World) (id : ℕ) (n : Name) → g'.programs n ≡ g.programs n → g'.erases n ≡ g.erases n → ListsOnward g g' id n
 lists_stay g g' id n programs erases =
-    record { programs = begins_same (g.programs n) (g'.programs n) programs; erases = begins_same (g.erases n) (g'.erases n) erases; others = λ _. (programs, erases) }
+    record {
+      programs = begins_same (g.programs n) (g'.programs n) programs;
+      erases = begins_same (g.erases n) (g'.erases n) erases;
+      others = λ _. (programs, erases);
+    }
 
 -- one view's number is part of the total
 pub total_at : (f : View → ℕ) (vs : List View) (id : ℕ) (v : View) → get_elem? vs id ≡ some v → f v ≤ total f vs
@@ -34,7 +38,8 @@ total_at f (x ∷ xs) zero v at = let e : f x ≡ f v = ap f (some-injective x v
 total_at f (x ∷ xs) (suc id) v at = let r = total_at f xs id v at in omega arith
 
 -- a counted pin has its block read
-pub counted : {z : Numbers} {g : World} (vs : List View) → Lawful z g vs → (at : ℕ) (v : View) → get_elem? vs at ≡ some v → (b : ℕ) → pin_is_on b v.pin ≡ true → b < z.blocks → 0 < (g.pins b).readers
+pub counted : {z : Numbers} {g : World} (vs : List View) → Lawful z g vs → (at : ℕ) (v : View) → get_elem? vs at ≡ some v → (b : ℕ)
+    → pin_is_on b v.pin ≡ true → b < z.blocks → 0 < (g.pins b).readers
 counted {z} {g} vs law at v is b on low =
     let all = total_at (pins_on b) vs at v is in
     let one : pins_on b v ≡ 1 = ap one_if on in
@@ -85,7 +90,8 @@ module _ (z : Numbers) (g g' : World) (id other : ℕ) (on : Onward z g g' id ot
         age = a.age;
       }
 
-  pub pin_kept : (known : List ℕ) (pin : Pin) → ((b : ℕ) → pin_is_on b pin ≡ true → b < z.blocks → 0 < (g.pins b).readers) → LawfulPin z g known pin → LawfulPin z g' known pin
+  pub pin_kept : (known : List ℕ) (pin : Pin) → ((b : ℕ) → pin_is_on b pin ≡ true → b < z.blocks → 0 < (g.pins b).readers) → LawfulPin z g known pin
+      → LawfulPin z g' known pin
   pin_kept known Clear counted h = tt
   pin_kept known (Candidate m value) counted h = candidate_kept known m value h
   pin_kept known (Accepted m value) counted h = accepted_kept m value (counted m.block (eq_self m.block) h.block) h
@@ -112,7 +118,8 @@ module _ (z : Numbers) (g g' : World) (id other : ℕ) (on : Onward z g g' id ot
         erases = subst (λ l. Begins c.erases l) (ap g.erases same ∙ sym all.1) h.erased;
       }
 
-  pub knowledge_kept : (v : View) → ((b : ℕ) → pin_is_on b v.pin ≡ true → b < z.blocks → 0 < (g.pins b).readers) → LawfulKnowledge z g v → LawfulKnowledge z g' v
+  pub knowledge_kept : (v : View) → ((b : ℕ) → pin_is_on b v.pin ≡ true → b < z.blocks → 0 < (g.pins b).readers) → LawfulKnowledge z g v
+      → LawfulKnowledge z g' v
   knowledge_kept v counted h =
       record {
         seen = Begins-trans v.seen g.history g'.history h.seen on.history;
@@ -173,7 +180,8 @@ module _ (z : Numbers) (g g' : World) (id other : ℕ) (on : Onward z g g' id ot
           whole = λ whole n is. let k = h.whole whole n is in (on.badge n (h.name n is).1 (λ e. apart (sym k ∙ e)) (λ e. apart' (sym k ∙ e))).0 ∙ k;
           guest = λ n is. let k = h.guest n is in ((on.badge n k.1 (λ e. apart (sym k.0 ∙ e)) (λ e. apart' (sym k.0 ∙ e))).0 ∙ k.0, (on.seat n k.1).1);
           note = λ n role is. let k = h.guest n is in (on.badge n k.1 (λ e. apart (sym k.0 ∙ e)) (λ e. apart' (sym k.0 ∙ e))).1 ∙ h.note n role is;
-          home = λ n is whole. let k = h.whole whole n is in (on.badge n (h.name n is).1 (λ e. apart (sym k ∙ e)) (λ e. apart' (sym k ∙ e))).1 ∙ h.home n is whole;
+          home = λ n is whole. let k = h.whole whole n is in
+              (on.badge n (h.name n is).1 (λ e. apart (sym k ∙ e)) (λ e. apart' (sym k ∙ e))).1 ∙ h.home n is whole;
           dealer = λ is. let k = h.dealer is in let d = on.dealer (λ e. apart (k.0 ∙ sym e)) in (k.0, k.1 ∙ sym d.0, k.2 ∙ sym d.1);
         }
 

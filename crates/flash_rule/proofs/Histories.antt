@@ -1,6 +1,6 @@
 -- The calls of each host in a history that only grows: where no host has made a call in between, two histories are one.
-use Rattle.flash_rule.proofs.Words.{◌≡◌, ℕ, ◌<◌, eq-eqb, ne_eqb, List, [], ◌∷◌, ◌++◌, length, sym, refl, ap, ◌∙◌, subst, arith, length-append, All-nil}
-use Rattle.flash_rule.proofs.Words.{dite, ℕ_discrete, Call, Begins, caller, calls_of}
+use Rattle.flash_rule.proofs.Words.{◌≡◌, ℕ, ◌<◌, eq-eqb, ne_eqb, List, [], ◌∷◌, ◌++◌, length, sym, refl, ap, ◌∙◌, subst, arith, length-append}
+use Rattle.flash_rule.proofs.Words.{All-nil, dite, ℕ_discrete, Call, Begins, caller, calls_of}
 use Rattle.std.proofs.Common.{append-nil}
 use Rattle.std.specs.Prelude.{All}
 use Rattle.std.proofs.lemmas.List.{append_cancel_left, nil_from_length}
@@ -51,13 +51,16 @@ pub still : (hosts : ℕ) (k l : List Call) → Begins k l → All (λ c. caller
 still hosts k l b callers same =
     let rest : All (λ c. caller c < hosts) b.0 = rest_callers hosts k b.0 (subst (λ x. All (λ c. caller c < hosts) x) (sym b.1) callers) in
     let none : b.0 ≡ [] = nobody hosts b.0 rest
-    (λ t low. append_cancel_left (calls_of t k) (calls_of t b.0) [] (sym (calls_of-append t k b.0) ∙ (ap (calls_of t) b.1 ∙ (same t low ∙ sym (append-nil (calls_of t k)))))) in
+    (λ t low. append_cancel_left (calls_of t k) (calls_of t b.0) []
+    (sym (calls_of-append t k b.0) ∙ (ap (calls_of t) b.1 ∙ (same t low ∙ sym (append-nil (calls_of t k)))))) in
     sym b.1 ∙ (ap (λ x. k ++ x) none ∙ append-nil k)
 
 -- the callers of the first part of a history
 pub first_callers : (hosts : ℕ) (k l : List Call) → All (λ c. caller c < hosts) (k ++ l) → All (λ c. caller c < hosts) k
 first_callers hosts [] l callers = All-nil (λ c. caller c < hosts)
-first_callers hosts (c ∷ k) l callers = All-cons (λ c. caller c < hosts) c k (All-head (λ c. caller c < hosts) c (k ++ l) callers) (first_callers hosts k l (All-tail (λ c. caller c < hosts) c (k ++ l) callers))
+first_callers hosts (c ∷ k) l callers =
+    All-cons (λ c. caller c < hosts) c k (All-head (λ c. caller c < hosts) c (k ++ l) callers)
+    (first_callers hosts k l (All-tail (λ c. caller c < hosts) c (k ++ l) callers))
 
 -- the callers of a beginning of a history
 pub callers_before : (hosts : ℕ) (k l : List Call) → Begins k l → All (λ c. caller c < hosts) l → All (λ c. caller c < hosts) k

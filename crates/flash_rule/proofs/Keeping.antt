@@ -1,8 +1,10 @@
 -- What a step leaves as it is to the seat that makes it.
-use Rattle.flash_rule.proofs.Words.{◌≡◌, ℕ, ◌+◌, ◌*◌, ◌<◌, ◌≤◌, false, true, List, [], Option, None, Some, refl, ap, ◌∙◌, sym, subst, Numbers, PinWord}
-use Rattle.flash_rule.proofs.Words.{Free, Open, Victim, Erasing, Name, Pass, Player, Owned, Work, Source, View, is_pass, is_player, may_own, owned_at}
-use Rattle.flash_rule.proofs.Words.{calls_of, World, IsBlank, blank_word, IsFilling, ReclaimsOne, LawfulKind, LawfulKnowledge, LawfulOwned, LawfulWork}
-use Rattle.flash_rule.proofs.Words.{LawfulSource, LawfulHolding, gone}
+use Rattle.flash_rule.proofs.Words.{◌≡◌, ℕ, ◌+◌, ◌*◌, ◌<◌, ◌≤◌, false, true, List, [], Option, None, Some, refl, ap, ◌∙◌, sym, subst, Numbers}
+use Rattle.flash_rule.proofs.Words.{PinWord, Free, Open, Victim, Erasing, Name, Pass, Player, Owned, Work, Source, View, is_pass, is_player, may_own}
+use Rattle.flash_rule.proofs.Words.{owned_at, calls_of, World, IsBlank, blank_word, IsFilling, ReclaimsOne, LawfulKind, LawfulKnowledge, LawfulOwned}
+use Rattle.flash_rule.proofs.Words.{LawfulWork}
+use Rattle.std.specs.Prelude.{slice_index}
+use Rattle.flash_rule.proofs.Words.{LawfulSource, LawfulHolding, gone, Begins, LawfulPin, Programs, Erases, age_of}
 
 -- what is said of a view's kind, but for its blocks and work
 abbrev kind_of : View → View
@@ -10,7 +12,16 @@ kind_of v = record gone { role = v.role; numbers = v.numbers; known = v.known; p
 
 -- what a view knows
 abbrev known_of : View → View
-known_of v = record gone { role = v.role; seen = v.seen; pin = v.pin; known = v.known; programs = v.programs; erases = v.erases; copy = v.copy; older = v.older }
+known_of v = record gone {
+  role = v.role;
+  seen = v.seen;
+  pin = v.pin;
+  known = v.known;
+  programs = v.programs;
+  erases = v.erases;
+  copy = v.copy;
+  older = v.older;
+}
 
 -- what is said of a seat's name and badges
 abbrev badges_of : View → View
@@ -23,7 +34,8 @@ abbrev pub idle_of : View → Type 0
 idle_of v = is_player v.role ≡ false → (v.work ≡ None) × (v.source ≡ None) × (v.programs ≡ []) × (v.erases ≡ [])
 
 -- the kind of a view whose blocks and work may be others
-pub kind_with : {z : Numbers} {v w : View} → LawfulKind z v → kind_of v ≡ kind_of w → opens_of w → idle_of w → (may_own w.role ≡ false → w.owns ≡ []) → ReclaimsOne w.owns → LawfulKind z w
+pub kind_with : {z : Numbers} {v w : View} → LawfulKind z v → kind_of v ≡ kind_of w → opens_of w → idle_of w → (may_own w.role ≡ false → w.owns ≡ [])
+    → ReclaimsOne w.owns → LawfulKind z w
 kind_with {z} {v} {w} h same opens idle owns_none reclaims =
     let bare : LawfulKind z (kind_of v) = record {
       numbers = h.numbers;
@@ -36,7 +48,16 @@ kind_with {z} {v} {w} h same opens idle owns_none reclaims =
       host = h.host;
     } in
     let its : LawfulKind z (kind_of w) = subst (λ (x : View). LawfulKind z x) same bare in
-    record { numbers = its.numbers; known = its.known; opens = opens; unpinned = its.unpinned; idle = idle; owns_none = owns_none; reclaims = reclaims; host = its.host }
+    record {
+      numbers = its.numbers;
+      known = its.known;
+      opens = opens;
+      unpinned = its.unpinned;
+      idle = idle;
+      owns_none = owns_none;
+      reclaims = reclaims;
+      host = its.host;
+    }
 
 -- what a view knows, where nothing of that changes
 pub knowledge_as : {z : Numbers} {g : World} {v w : View} → LawfulKnowledge z g v → known_of v ≡ known_of w → LawfulKnowledge z g w
@@ -53,6 +74,24 @@ knowledge_as {z} {g} {v} {w} h same =
     } in
     let k : LawfulKnowledge z g (known_of w) = subst (λ (x : View). LawfulKnowledge z g x) same bare in
     record { seen = k.seen; pin = k.pin; known = k.known; programs = k.programs; erases = k.erases; copy = k.copy; older = k.older; out = k.out }
+
+-- what a view knows, where its copies stay
+pub knowledge_with : {z : Numbers} {g : World} {v : View} (w : View) → LawfulKnowledge z g v
+    → known_of (record v { seen = w.seen; pin = w.pin; known = w.known; programs = w.programs; erases = w.erases }) ≡ known_of w → Begins w.seen g.history
+    → LawfulPin z g w.known w.pin → ((b : ℕ) → b < z.blocks → slice_index w.known b ≤ age_of (g.pins b))
+    → ((n : Name) → v.role ≡ Player n → Programs z g n w.programs) → ((n : Name) → v.role ≡ Player n → Erases z g n w.erases) → LawfulKnowledge z g w
+knowledge_with {z} {g} {v} w h same seen pin known programs erases =
+    let learnt : LawfulKnowledge z g (record v { seen = w.seen; pin = w.pin; known = w.known; programs = w.programs; erases = w.erases }) = record {
+      seen = seen;
+      pin = pin;
+      known = known;
+      programs = programs;
+      erases = erases;
+      copy = h.copy;
+      older = h.older;
+      out = h.out;
+    } in
+    knowledge_as learnt same
 
 -- the kind of a view, where nothing of it changes
 pub kind_as : {z : Numbers} {v w : View} → LawfulKind z v → kind_of v ≡ kind_of w → w.owns ≡ v.owns
@@ -154,7 +193,8 @@ source_with {z} h own same pages =
     }
 
 -- an owned block whose state and owner stay
-pub owned_with : {z : Numbers} {g g' : World} {id : ℕ} {doing doing' : Option Work} {cleared cleared' wiped wiped' b : ℕ} {o : Owned} → LawfulOwned z g id doing cleared wiped b o
+pub owned_with : {z : Numbers} {g g' : World} {id : ℕ} {doing doing' : Option Work} {cleared cleared' wiped wiped' b : ℕ} {o : Owned}
+    → LawfulOwned z g id doing cleared wiped b o
     → g'.pins b ≡ g.pins b → g'.owner b ≡ g.owner b
     → (o.phase ≡ Open → (p : ℕ) → o.written ≤ p → p < z.pages → ¬ IsFilling doing' b p → IsBlank z (g'.pages b p))
     → (o.phase ≡ Victim → (p s : ℕ) → p < cleared' → s < z.sectors → ¬ (g'.map s ≡ Some (record { generation = o.generation; block = b; page = p })))

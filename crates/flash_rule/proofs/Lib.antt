@@ -1,6 +1,7 @@
 pub mod Words
 pub mod Points
 pub mod Values
+pub mod Roles
 pub mod Owning
 pub mod Keeping
 pub mod Frames
@@ -9,6 +10,7 @@ pub mod Assembly
 pub mod Ceding
 pub mod Still
 pub mod PinSteps
+pub mod Ruling
 pub mod OwnSteps
 pub mod PageSteps
 pub mod MapSteps

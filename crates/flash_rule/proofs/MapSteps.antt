@@ -1,8 +1,8 @@
 -- One map word changes, and the history with it: what a place does.
-use Rattle.flash_rule.proofs.Words.{◌≡◌, ◌≢◌, ℕ, ◌<◌, ◌⊎◌, inl, eq-eqb, ne_eqb, true, List, [], ◌∷◌, ◌++◌, Option, None, Some, set, sym, refl, ap, ◌∙◌}
-use Rattle.flash_rule.proofs.Words.{subst, arith, some, dite, ℕ_discrete, get_elem?, Call, held, Begins-refl, Numbers, MapWord, Open, Victim, Pass}
-use Rattle.flash_rule.proofs.Words.{Dealer, Player, View, is_pass, AreOfHosts, calls_of, caller, World, put, sector_word, LawfulSector, LawfulView}
-use Rattle.flash_rule.proofs.Words.{Lawful, Onward, Placed}
+use Rattle.flash_rule.proofs.Words.{◌≡◌, ◌≢◌, ℕ, ◌<◌, ◌⊎◌, inl, eq-eqb, ne_eqb, true, List, [], ◌∷◌, ◌++◌, Option, None, Some, set, sym, refl, ap}
+use Rattle.flash_rule.proofs.Words.{◌∙◌, subst, arith, some, dite, ℕ_discrete, get_elem?, Call, held, Begins-refl, Numbers, MapWord, Open, Victim}
+use Rattle.flash_rule.proofs.Words.{Pass, Dealer, Player, View, is_pass, AreOfHosts, calls_of, caller, World, put, sector_word, LawfulSector}
+use Rattle.flash_rule.proofs.Words.{LawfulView, Lawful, Onward, Placed}
 use Rattle.std.proofs.lemmas.List.Elements.{All-push}
 use Rattle.geometry.proofs.Histories.{Begins-push}
 use Rattle.flash_rule.proofs.Points.{put_else, put_all}
@@ -10,7 +10,7 @@ use Rattle.flash_rule.proofs.Frames.{counted, knowledge_kept, lists_stay}
 use Rattle.flash_rule.proofs.Assembly.{assembled, block_kept, sector_kept}
 use Rattle.flash_rule.proofs.Ceding.{ceded_still}
 use Rattle.flash_rule.proofs.Still.{pin_stays, pass_numbers}
-use Rattle.flash_rule.proofs.Keeping.{kind_as, owned_with, work_with}
+use Rattle.flash_rule.proofs.Keeping.{kind_as, owned_with, work_with, knowledge_with}
 
 calls_else : (t : ℕ) (h : List Call) (c : Call) → caller c ≢ t → calls_of t (h ++ c ∷ []) ≡ calls_of t h
 calls_else t [] c apart = rw (ne_eqb (caller c) t apart) refl
@@ -39,7 +39,8 @@ word_named None e = absurd (e refl)
 word_named (Some m) e = (m, refl)
 
 -- a change of a map word is lawful where the call does to its sector what the word says, and a page that is newly named is the caller's own
-module _ (z : Numbers) (g : World) (vs : List View) (id : ℕ) (v : View) (t s : ℕ) (c : Call) (m : Option MapWord) (law : Lawful z g vs) (at : get_elem? vs id ≡ some v) (role : v.role ≡ Player (Pass t)) (by_me : caller c ≡ t) where
+module _ (z : Numbers) (g : World) (vs : List View) (id : ℕ) (v : View) (t s : ℕ) (c : Call) (m : Option MapWord) (law : Lawful z g vs)
+    (at : get_elem? vs id ≡ some v) (role : v.role ≡ Player (Pass t)) (by_me : caller c ≡ t) where
   abbrev pub placer : View
   placer = record v { seen = g.history ++ c ∷ []; mine = v.mine ++ c ∷ [] }
 
@@ -56,7 +57,8 @@ module _ (z : Numbers) (g : World) (vs : List View) (id : ℕ) (v : View) (t s :
   is_a_pass : is_pass v.role ≡ true
   is_a_pass = ap is_pass role
 
-  pub places : ((n : MapWord) → m ≡ Some n → (g.map s ≡ Some n) ⊎ (g.owner n.block ≡ id)) → ((other : ℕ) → other ≢ s → held z.sectors (g.history ++ c ∷ []) other ≡ held z.sectors g.history other)
+  pub places : ((n : MapWord) → m ≡ Some n → (g.map s ≡ Some n) ⊎ (g.owner n.block ≡ id))
+      → ((other : ℕ) → other ≢ s → held z.sectors (g.history ++ c ∷ []) other ≡ held z.sectors g.history other)
       → LawfulSector z place_world s → Lawful z place_world (set vs id placer)
   places mine others here =
       let h = law.views id v at in
@@ -84,7 +86,7 @@ module _ (z : Numbers) (g : World) (vs : List View) (id : ℕ) (v : View) (t s :
       let same : t ≡ u = pass_same t u (sym role ∙ is) in calls_here u g.history c (by_me ∙ same) ∙ ap (λ l. l ++ c ∷ []) (holds.calls u is).0 in
       let after : LawfulView z g' id placer = record {
         kind = kind_as kind refl refl (refl, refl, refl, refl);
-        knowledge = record { seen = Begins-refl (g.history ++ c ∷ []); pin = knows.pin; known = knows.known; programs = knows.programs; erases = knows.erases; copy = knows.copy; older = knows.older; out = knows.out };
+        knowledge = knowledge_with placer knows refl (Begins-refl (g.history ++ c ∷ [])) knows.pin knows.known knows.programs knows.erases;
         holding = record {
           name = holds.name;
           calls = λ u is. (calls u is, calls u is);
@@ -128,6 +130,8 @@ module _ (z : Numbers) (g : World) (vs : List View) (id : ℕ) (v : View) (t s :
         now = refl;
         callers = subst (λ (y : Numbers). AreOfHosts y (g.history ++ c ∷ [])) (sym same) called_by_hosts;
         empty = λ none. ap (λ (y : Numbers). held y.sectors g.history s) same ∙ sector.empty (word_empty (g.map s) (sym found ∙ none));
-        written = λ not. let k = word_named (g.map s) (λ e. not (found ∙ e)) in let cur = sector.named k.0 k.1 in (cur.value, ap (λ (y : Numbers). held y.sectors g.history s) same ∙ cur.here);
-        own = λ u is. let same : t ≡ u = pass_same t u (sym role ∙ is) in calls_here u g.history c (by_me ∙ same) ∙ ap (λ l. l ++ c ∷ []) (h.holding.calls u is).0;
+        written = λ not. let k = word_named (g.map s) (λ e. not (found ∙ e)) in let cur = sector.named k.0 k.1 in
+            (cur.value, ap (λ (y : Numbers). held y.sectors g.history s) same ∙ cur.here);
+        own = λ u is. let same : t ≡ u = pass_same t u (sym role ∙ is) in
+            calls_here u g.history c (by_me ∙ same) ∙ ap (λ l. l ++ c ∷ []) (h.holding.calls u is).0;
       }

@@ -6,13 +6,14 @@ use Rattle.flash_rule.proofs.Words.{is_live_role, may_own, pin_is_on, pins_on, w
 use Rattle.flash_rule.proofs.Words.{put_name, LawfulBlock, LawfulCopy, Grown, LawfulKnowledge, LawfulView, Lawful, IsDealt, Onward, Ruled, gone}
 use Rattle.atomic_table.specs.Table.{Joins}
 use Rattle.flash_rule.specs.Seats.{newcomer, name_of, carried, lender, lent_note, host_of, giver, given_note, home}
+use Rattle.flash_rule.proofs.Roles.{player_same}
 use Rattle.flash_rule.proofs.Points.{total_set, name_here, name_else, name_all}
 use Rattle.flash_rule.proofs.Owning.{some_same, none_some}
 use Rattle.flash_rule.proofs.Ceding.{ceded_split, ceded_gone}
 use Rattle.flash_rule.proofs.Frames.{begins_same, counted, others, knowledge_kept, copy_kept}
 use Rattle.flash_rule.proofs.Assembly.{owner_kept}
 use Rattle.flash_rule.proofs.Still.{onward_of}
-use Rattle.flash_rule.proofs.Splitting.{split, current_kept, player_same}
+use Rattle.flash_rule.proofs.Splitting.{split, current_kept}
 use Rattle.flash_rule.proofs.Keeping.{knowledge_as, owned_as, source_with, work_with}
 
 -- the table with one badge moved, and what it has with it
@@ -38,7 +39,8 @@ name_is : (r : Role) (n : Name) → r ≡ Player n → name_of r ≡ n
 name_is r n is = ap name_of is
 
 -- a new note: the badge of n, and copies of a player's lists
-note_lawful : (z : Numbers) (g : World) (seat : ℕ) (v : View) (owner n : Name) → v.numbers ≡ z → v.role ≡ Player owner → IsDealt g owner → (g.programs owner ≡ v.programs) × (g.erases owner ≡ v.erases)
+note_lawful : (z : Numbers) (g : World) (seat : ℕ) (v : View) (owner n : Name) → v.numbers ≡ z → v.role ≡ Player owner → IsDealt g owner
+    → (g.programs owner ≡ v.programs) × (g.erases owner ≡ v.erases)
     → LawfulKnowledge z g v → g.badge n ≡ seat → IsDealt g n → g.carries n ≡ Some (carried v) → ((d : Carried) → g.carries owner ≡ Some d → Grown (carried v) d)
     → LawfulView z g seat (record (newcomer v.numbers Note) { guest = Some n; copy = Some (carried v) })
 note_lawful z g seat v owner n numbers role known lists knows here dealt carries out =
@@ -93,14 +95,16 @@ note_lawful z g seat v owner n numbers role known lists knows here dealt carries
         whole = λ is. absurd (cc);
         note = λ m _ is. ap g.carries (sym (some_same n m is)) ∙ carries;
         home = λ m is. absurd (cc);
-        guest = λ m is. let same : n ≡ m = some_same n m is in let P : Name → Type 0 = λ m. (g.badge m ≡ seat) × IsDealt g m in let now : P n = (here, dealt) in subst P same now;
+        guest = λ m is. let same : n ≡ m = some_same n m is in let P : Name → Type 0 = λ m. (g.badge m ≡ seat) × IsDealt g m in
+            let now : P n = (here, dealt) in subst P same now;
         dealer = λ is. absurd (cc);
       };
     }
 
 -- copies are lawful for any seat that isn't their player's
 another : (z : Numbers) (g : World) (from taker : Role) (c : Carried) → LawfulCopy z g from c → ¬ (taker ≡ Player c.of) → LawfulCopy z g taker c
-another z g from taker c h other = record { dealt = h.dealt; other = other; seen = h.seen; programmed = h.programmed; erased = h.erased; programs = h.programs; erases = h.erases }
+another z g from taker c h other =
+    record { dealt = h.dealt; other = other; seen = h.seen; programmed = h.programmed; erased = h.erased; programs = h.programs; erases = h.erases }
 
 -- copies grow at their end, if at all
 grown_refl : (c : Carried) → Grown c c
@@ -111,8 +115,47 @@ copies_all : (g : World) (v : View) (n : Name) → v.role ≡ Player n → (g.pr
     → (d : Carried) → Some (carried v) ≡ Some d → (d.programs ≡ g.programs d.of) × (d.erases ≡ g.erases d.of)
 copies_all g v n role lists d is =
     let name : n ≡ name_of v.role = sym (name_is v.role n role) in
-    let all : (v.programs ≡ g.programs (name_of v.role)) × (v.erases ≡ g.erases (name_of v.role)) = (sym lists.0 ∙ ap g.programs name, sym lists.1 ∙ ap g.erases name) in
+    let all : (v.programs ≡ g.programs (name_of v.role)) × (v.erases ≡ g.erases (name_of v.role)) =
+    (sym lists.0 ∙ ap g.programs name, sym lists.1 ∙ ap g.erases name) in
     subst (λ (d : Carried). (d.programs ≡ g.programs d.of) × (d.erases ≡ g.erases d.of)) (some_same (carried v) d is) all
+
+-- a player's view after a move of a badge, by which only its guest, its copies and whether it is whole may be others
+badged_view : (z : Numbers) (g : World) (id : ℕ) (v w : View) (n m : Name) (seat : ℕ) (c : Option Carried) → v.role ≡ Player n → LawfulView z g id v
+    → ((k l : Name) → v.role ≡ Player k → w.guest ≡ Some l → w.whole ≡ true)
+    → LawfulKnowledge z (badged g m seat c) (record v { guest = w.guest; whole = w.whole; copy = w.copy; older = w.older })
+    → (w.whole ≡ true → (k : Name) → v.role ≡ Player k → put_name g.badge m seat k ≡ id)
+    → ((k : Name) → w.guest ≡ Some k → (put_name g.badge m seat k ≡ id) × IsDealt (badged g m seat c) k)
+    → ((k : Name) → v.role ≡ Player k → w.whole ≡ true → put_name g.carries m c k ≡ None)
+    → LawfulView z (badged g m seat c) id (record v { guest = w.guest; whole = w.whole; copy = w.copy; older = w.older })
+badged_view z g id v w n m seat c role h host knowledge whole guest home =
+    let kind = h.kind in
+    let holds = h.holding in
+    record {
+      kind = record {
+        numbers = kind.numbers;
+        host = host;
+        known = kind.known;
+        opens = kind.opens;
+        unpinned = kind.unpinned;
+        idle = kind.idle;
+        owns_none = kind.owns_none;
+        reclaims = kind.reclaims;
+      };
+      knowledge = knowledge;
+      holding = record {
+        name = λ k is. let t = holds.name k is in (t.0, as_dealt g m seat c k t.1);
+        calls = holds.calls;
+        lists = holds.lists;
+        owned = λ b o is. let k = holds.owned b o is in owned_as k refl refl refl refl;
+        work = λ x is. let k = holds.work x is in work_with k k.own (λ _. refl);
+        source = λ x is. let k = holds.source x is in source_with k k.own refl (λ _. refl);
+        whole = whole;
+        guest = guest;
+        note = λ k is. let e : Player n ≡ Note = sym role ∙ is in absurd (cc);
+        home = home;
+        dealer = λ is. let e : Player n ≡ Dealer = sym role ∙ is in absurd (cc);
+      };
+    }
 
 player_live : (r : Role) (n : Name) → r ≡ Player n → is_live_role r ≡ true
 player_live r n is = ap is_live_role is
@@ -129,35 +172,24 @@ module _ (z : Numbers) (id : ℕ) (v : View) (n : Name) (role : v.role ≡ Playe
       let g' : World = badged g n new (Some (carried v)) in
       let named = h.holding.name n role in
       let was : g.badge n ≡ id = h.holding.whole whole n role in
-      let all : (d : Carried) → Some (carried v) ≡ Some d → (d.programs ≡ g.programs d.of) × (d.erases ≡ g.erases d.of) = copies_all g v n role (h.holding.lists n role) in
+      let all : (d : Carried) → Some (carried v) ≡ Some d → (d.programs ≡ g.programs d.of) × (d.erases ≡ g.erases d.of) =
+      copies_all g v n role (h.holding.lists n role) in
       let on : Onward z g g' id id = badge_moves z g id id n new (Some (carried v)) (inl was) all in
       let knows = knowledge_kept z g g' id id on v (λ b is below. counted vs law id v at b is below) h.knowledge in
-      let holds = h.holding in
-      let own : LawfulView z g' id (lender v) = record {
-        kind = record { numbers = kind.numbers; host = λ _ m _ is. absurd (none_some m (sym alone ∙ is)); known = kind.known; opens = kind.opens; unpinned = kind.unpinned; idle = kind.idle; owns_none = kind.owns_none; reclaims = kind.reclaims };
-        knowledge = knowledge_as knows refl;
-        holding = record {
-          name = λ m is. let k = holds.name m is in (k.0, as_dealt g n new (Some (carried v)) m k.1);
-          calls = holds.calls;
-          lists = holds.lists;
-          owned = λ b o is. let k = holds.owned b o is in owned_as k refl refl refl refl;
-          work = λ w is. let k = holds.work w is in work_with k k.own (λ _. refl);
-          source = λ x is. let k = holds.source x is in source_with k k.own refl (λ _. refl);
-          whole = λ is. absurd (cc);
-          guest = λ m is. absurd (none_some m (sym alone ∙ is));
-          note = λ m is. let e : Player n ≡ Note = sym role ∙ is in absurd (cc);
-          home = λ m _ is. absurd (cc);
-          dealer = λ is. let e : Player n ≡ Dealer = sym role ∙ is in absurd (cc);
-        };
-      } in
+      let own : LawfulView z g' id (lender v) = badged_view z g id v (lender v) n n new (Some (carried v)) role h
+      (λ _ m _ is. absurd (none_some m (sym alone ∙ is))) (knowledge_as knows refl) (λ is. absurd (cc))
+      (λ m is. absurd (none_some m (sym alone ∙ is))) (λ m _ is. absurd (cc)) in
       let added : LawfulView z g' new (lent_note v) =
       subst (λ (m : Name). LawfulView z g' new (record (newcomer v.numbers Note) { guest = Some m; copy = Some (carried v) })) (sym (name_is v.role n role))
-      (note_lawful z g' new v n n numbers role (as_dealt g n new (Some (carried v)) n named.1) (h.holding.lists n role) knows (name_here g.badge n new) (as_dealt g n new (Some (carried v)) n named.1)
+      (note_lawful z g' new v n n numbers role (as_dealt g n new (Some (carried v)) n named.1) (h.holding.lists n role) knows
+      (name_here g.badge n new) (as_dealt g n new (Some (carried v)) n named.1)
       (name_here g.carries n (Some (carried v)))
-      (λ d is. let its : carried v ≡ d = some_same (carried v) d (sym (name_here g.carries n (Some (carried v))) ∙ is) in subst (λ (d : Carried). Grown (carried v) d) its (grown_refl (carried v)))) in (
+      (λ d is. let its : carried v ≡ d = some_same (carried v) d (sym (name_here g.carries n (Some (carried v))) ∙ is) in
+      subst (λ (d : Carried). Grown (carried v) d) its (grown_refl (carried v)))) in (
         g',
         fits,
-        split z g g' vs id v (lender v) (lent_note v) law at refl refl refl on refl own added (λ b. refl) refl refl (omega arith) (omega arith) law.dealt (λ s low. current_kept z g g' s refl refl refl refl (law.sectors s low))
+        split z g g' vs id v (lender v) (lent_note v) law at refl refl refl on refl own added (λ b. refl) refl refl (omega arith)
+            (omega arith) law.dealt (λ s low. current_kept z g g' s refl refl refl refl (law.sectors s low))
             (ceded_split z g.pins vs id v (lender v) (lent_note v) law.ceded at refl refl refl refl refl),
       )
 
@@ -171,37 +203,27 @@ module _ (z : Numbers) (id : ℕ) (v : View) (n : Name) (role : v.role ≡ Playe
       let new : ℕ = length vs in
       let g' : World = badged g m new (Some (carried v)) in
       let was = h.holding.guest m guest in
-      let all : (d : Carried) → Some (carried v) ≡ Some d → (d.programs ≡ g.programs d.of) × (d.erases ≡ g.erases d.of) = copies_all g v n role (h.holding.lists n role) in
+      let all : (d : Carried) → Some (carried v) ≡ Some d → (d.programs ≡ g.programs d.of) × (d.erases ≡ g.erases d.of) =
+      copies_all g v n role (h.holding.lists n role) in
       let on : Onward z g g' id id = badge_moves z g id id m new (Some (carried v)) (inl was.0) all in
       let whole : v.whole ≡ true = kind.host n m role guest in
       let unlike : ¬ (n ≡ m) = λ same. apart (role ∙ ap Player same) in
       let nothing_out : g'.carries n ≡ None = name_else g.carries m (Some (carried v)) n unlike ∙ h.holding.home n role whole in
       let knows = knowledge_kept z g g' id id on v (λ b is below. counted vs law id v at b is below) h.knowledge in
-      let holds = h.holding in
-      let own : LawfulView z g' id (giver v) = record {
-        kind = record { numbers = kind.numbers; host = λ _ k _ is. absurd (none_some k is); known = kind.known; opens = kind.opens; unpinned = kind.unpinned; idle = kind.idle; owns_none = kind.owns_none; reclaims = kind.reclaims };
-        knowledge = knowledge_as knows refl;
-        holding = record {
-          name = λ k is. let t = holds.name k is in (t.0, as_dealt g m new (Some (carried v)) k t.1);
-          calls = holds.calls;
-          lists = holds.lists;
-          owned = λ b o is. let k = holds.owned b o is in owned_as k refl refl refl refl;
-          work = λ w is. let k = holds.work w is in work_with k k.own (λ _. refl);
-          source = λ x is. let k = holds.source x is in source_with k k.own refl (λ _. refl);
-          whole = λ is k role'. name_else g.badge m new k (λ same. apart (role' ∙ ap Player same)) ∙ holds.whole is k role';
-          guest = λ k is. absurd (none_some k is);
-          note = λ k is. let e : Player n ≡ Note = sym role ∙ is in absurd (cc);
-          home = λ k is _. ap g'.carries (sym (player_same n k (sym role ∙ is))) ∙ nothing_out;
-          dealer = λ is. let e : Player n ≡ Dealer = sym role ∙ is in absurd (cc);
-        };
-      } in
+      let own : LawfulView z g' id (giver v) = badged_view z g id v (giver v) n m new (Some (carried v)) role h
+      (λ _ k _ is. absurd (none_some k is)) (knowledge_as knows refl)
+      (λ is k role'. name_else g.badge m new k (λ same. apart (role' ∙ ap Player same)) ∙ h.holding.whole is k role')
+      (λ k is. absurd (none_some k is))
+      (λ k is _. ap g'.carries (sym (player_same n k (sym role ∙ is))) ∙ nothing_out) in
       let added : LawfulView z g' new (given_note v) =
       subst (λ (x : Option Name). LawfulView z g' new (record (newcomer v.numbers Note) { guest = x; copy = Some (carried v) })) (sym guest)
-      (note_lawful z g' new v n m numbers role (as_dealt g m new (Some (carried v)) n (h.holding.name n role).1) (h.holding.lists n role) knows (name_here g.badge m new) (as_dealt g m new (Some (carried v)) m was.1)
+      (note_lawful z g' new v n m numbers role (as_dealt g m new (Some (carried v)) n (h.holding.name n role).1) (h.holding.lists n role) knows
+      (name_here g.badge m new) (as_dealt g m new (Some (carried v)) m was.1)
       (name_here g.carries m (Some (carried v))) (λ d is. absurd (none_some d (sym nothing_out ∙ is)))) in (
         g',
         fits,
-        split z g g' vs id v (giver v) (given_note v) law at refl refl refl on refl own added (λ b. refl) refl refl (omega arith) (omega arith) law.dealt (λ s low. current_kept z g g' s refl refl refl refl (law.sectors s low))
+        split z g g' vs id v (giver v) (given_note v) law at refl refl refl on refl own added (λ b. refl) refl refl (omega arith)
+            (omega arith) law.dealt (λ s low. current_kept z g g' s refl refl refl refl (law.sectors s low))
             (ceded_split z g.pins vs id v (giver v) (given_note v) law.ceded at refl refl refl refl refl),
       )
 
@@ -216,8 +238,27 @@ stays_with f m id x is = by_test (same_name x m) where
 gone_lawful : (z : Numbers) (g : World) (seat : ℕ) → LawfulView z g seat gone
 gone_lawful z g seat =
     record {
-      kind = record { numbers = λ is. absurd (cc); host = λ n m is. absurd (cc); known = λ is. absurd (cc); opens = λ is. absurd (cc); unpinned = λ _. refl; idle = λ _. (refl, refl, refl, refl); owns_none = λ _. refl; reclaims = λ b c o e is. absurd (none_some o is) };
-      knowledge = record { seen = (g.history, refl); pin = tt; known = λ b _. omega arith; programs = λ m is. absurd (cc); erases = λ m is. absurd (cc); copy = λ c is. absurd (none_some c is); older = λ o c is. absurd (none_some o is); out = λ m c d _ is. absurd (none_some c is) };
+      kind = record {
+        numbers = λ is. absurd (cc);
+        host = λ n m is. absurd (cc);
+        known = λ is. absurd (cc);
+        opens = λ is. absurd (cc);
+        unpinned = λ _. refl;
+        idle = λ _. (refl, refl, refl, refl);
+        owns_none = λ _. refl;
+        reclaims = λ b c o e is. absurd (none_some o is);
+      };
+      knowledge = record {
+        seen = (g.history, refl);
+        pin = tt;
+        known = λ b _. omega arith;
+        programs = λ m is. absurd (cc);
+        erases = λ m is. absurd (cc);
+        copy = λ c is. absurd (none_some c is);
+        older = λ o c is. absurd (none_some o is);
+        out =
+            λ m c d _ is. absurd (none_some c is);
+      };
       holding = record {
         name = λ m is. absurd (cc);
         calls = λ t is. absurd (cc);
@@ -233,14 +274,16 @@ gone_lawful z g seat =
       };
     }
 
-module _ (z : Numbers) (g : World) (vs : List View) (id other : ℕ) (v w u : View) (n : Name) (law : Lawful z g vs) (at : get_elem? vs id ≡ some v) (apart : ¬ (other ≡ id)) (there : get_elem? vs other ≡ some w) (note : w.role ≡ Note) where
+module _ (z : Numbers) (g : World) (vs : List View) (id other : ℕ) (v w u : View) (n : Name) (law : Lawful z g vs) (at : get_elem? vs id ≡ some v)
+    (apart : ¬ (other ≡ id)) (there : get_elem? vs other ≡ some w) (note : w.role ≡ Note) where
   note_owns : w.owns ≡ []
   note_owns = (law.views other w there).kind.owns_none (ap may_own note)
 
   note_clear : w.pin ≡ Clear
   note_clear = (law.views other w there).kind.unpinned (ap is_pass note)
 
-  join_block : (b : ℕ) → LawfulBlock z g vs b → pins_on b u ≡ pins_on b v → u.owns ≡ v.owns → LawfulBlock z (badged g n id None) (set (set vs id u) other gone) b
+  join_block : (b : ℕ) → LawfulBlock z g vs b → pins_on b u ≡ pins_on b v → u.owns ≡ v.owns
+      → LawfulBlock z (badged g n id None) (set (set vs id u) other gone) b
   join_block b block same owns =
       let there' : get_elem? (set vs id u) other ≡ some w = set_else vs id other u apart ∙ there in
       let t = total_set (pins_on b) vs id v u at in
@@ -258,11 +301,13 @@ module _ (z : Numbers) (g : World) (vs : List View) (id other : ℕ) (v w u : Vi
             dite (ℕ_discrete (g.owner b) other)
             (λ is.
             let its : k.0 ≡ w = some-injective k.0 w (sym k.2 ∙ (ap (λ j. get_elem? (set vs id u) j) is ∙ there')) in
-            let e : None ≡ Some k.1 = sym (ap (λ (x : List Owned). owned_at b x) note_owns) ∙ (ap (λ (x : View). owned_at b x.owns) (sym its) ∙ k.3) in absurd (none_some k.1 e))
+            let e : None ≡ Some k.1 =
+            sym (ap (λ (x : List Owned). owned_at b x) note_owns) ∙ (ap (λ (x : View). owned_at b x.owns) (sym its) ∙ k.3) in absurd (none_some k.1 e))
             (λ unlike. (k.0, k.1, set_else (set vs id u) other (g.owner b) gone unlike ∙ k.2, k.3));
       }
 
-  pub join : (g.badge n ≡ id) ⊎ (g.badge n ≡ other) → LawfulView z (badged g n id None) id u → ((b : ℕ) → pins_on b u ≡ pins_on b v) → u.owns ≡ v.owns → weight z u ≡ weight z v → u.role ≡ v.role → u.ceded ≡ v.ceded → u.drains ≡ v.drains → Lawful z (badged g n id None) (set (set vs id u) other gone)
+  pub join : (g.badge n ≡ id) ⊎ (g.badge n ≡ other) → LawfulView z (badged g n id None) id u → ((b : ℕ) → pins_on b u ≡ pins_on b v) → u.owns ≡ v.owns
+      → weight z u ≡ weight z v → u.role ≡ v.role → u.ceded ≡ v.ceded → u.drains ≡ v.drains → Lawful z (badged g n id None) (set (set vs id u) other gone)
   join was own same owns weighs role ceded drains =
       let g' = badged g n id None in
       let on : Onward z g g' id other = badge_moves z g id other n id None was (λ d is. absurd (none_some d is)) in
@@ -274,18 +319,21 @@ module _ (z : Numbers) (g : World) (vs : List View) (id other : ℕ) (v w u : Vi
         blocks = λ b low. join_block b (law.blocks b low) (same b) owns;
         views = λ j x is.
             ⊎_elim
-            (λ (t : (j ≡ other) × (gone ≡ x)). let P : ℕ × View → Type 0 = λ y. LawfulView z g' y.0 y.1 in subst P (λ i. (sym t.0 i, t.1 i)) (gone_lawful z g' other))
+            (λ (t : (j ≡ other) × (gone ≡ x)). let P : ℕ × View
+            → Type 0 = λ y. LawfulView z g' y.0 y.1 in subst P (λ i. (sym t.0 i, t.1 i)) (gone_lawful z g' other))
             (λ (t : (j ≢ other) × (get_elem? (set vs id u) j ≡ some x)). ⊎_elim
             (λ (k : (j ≡ id) × (u ≡ x)). let P : ℕ × View → Type 0 = λ y. LawfulView z g' y.0 y.1 in subst P (λ i. (sym k.0 i, k.1 i)) own)
             (λ (k : (j ≢ id) × (get_elem? vs j ≡ some x)). others z g g' id other on vs law j x k.0 t.0 k.1) (at_set vs id j u x t.1))
             (at_set (set vs id u) other j gone x is);
         strangers = law.strangers;
-        seats = (let s = total_set (weight z) vs id v u at in let t = total_set (weight z) (set vs id u) other w gone there' in let e = law.seats in let none : weight z w ≡ 0 = ap (λ r. role_weight z.hosts r w.passes) note in omega arith);
+        seats = (let s = total_set (weight z) vs id v u at in let t = total_set (weight z) (set vs id u) other w gone there' in let e = law.seats in
+            let none : weight z w ≡ 0 = ap (λ r. role_weight z.hosts r w.passes) note in omega arith);
         dealt = law.dealt;
         ceded = ceded_gone z g.pins vs id other v w u gone law.ceded at apart there (ap may_own note) role ceded drains refl refl;
       }
 
-module _ (z : Numbers) (id other : ℕ) (v w : View) (n m : Name) (c : Carried) (role : v.role ≡ Player n) (note : w.role ≡ Note) (guest : w.guest ≡ Some m) (copy : w.copy ≡ Some c) where
+module _ (z : Numbers) (id other : ℕ) (v w : View) (n m : Name) (c : Carried) (role : v.role ≡ Player n) (note : w.role ≡ Note)
+    (guest : w.guest ≡ Some m) (copy : w.copy ≡ Some c) where
   -- TAKE IN
   pub takes_in : v.whole ≡ true → c.of ≡ m → Joins (Ruled z) id v other w (host_of v w) gone
   takes_in whole of_is s (g, fits, law) at apart there =
@@ -299,50 +347,34 @@ module _ (z : Numbers) (id other : ℕ) (v w : View) (n m : Name) (c : Carried) 
       let names : ¬ (n ≡ m) = λ e. apart (sym was.0 ∙ (ap g.badge (sym e) ∙ mine)) in
       let on : Onward z g g' id other = badge_moves z g id other m id None (inr was.0) (λ d is. absurd (none_some d is)) in
       let knows = knowledge_kept z g g' id other on v (λ b is below. counted vs law id v at b is below) h.knowledge in
-      let kind = h.kind in
-      let holds = h.holding in
       let none_here : g'.carries m ≡ None = name_here g.carries m None in
       let nothing_out : g'.carries n ≡ None = name_else g.carries m None n names ∙ h.holding.home n role whole in
-      let own : LawfulView z g' id (host_of v w) = record {
-        kind = record { numbers = kind.numbers; host = λ _ _ _ _. whole; known = kind.known; opens = kind.opens; unpinned = kind.unpinned; idle = kind.idle; owns_none = kind.owns_none; reclaims = kind.reclaims };
-        knowledge = record {
-          seen = knows.seen;
-          pin = knows.pin;
-          known = knows.known;
-          programs = knows.programs;
-          erases = knows.erases;
-          copy = λ d is.
-              let old = k.knowledge.copy c copy in
-              let new : LawfulCopy z g' w.role c = copy_kept z g g' id other on w.role c old in
-              let same : c ≡ d = some_same c d (sym copy ∙ is) in
-              subst (λ (d : Carried). LawfulCopy z g' v.role d) same
-              (another z g' w.role v.role c new (λ e. names (player_same n m (sym role ∙ (e ∙ ap Player of_is)))));
-          older = λ o d old new same.
-              let its : c ≡ d = some_same c d (sym copy ∙ new) in
-              h.knowledge.out m o d (inl (sym of_is ∙ (ap (λ (x : Carried). x.of) its ∙ sym same))) old (k.holding.note m note guest ∙ new) same;
-          out = λ x d e whose is there same.
-              let its : c ≡ d = some_same c d (sym copy ∙ is) in
-              ⊎_elim
-              (λ (his : x ≡ d.of). let name : x ≡ m = his ∙ (ap (λ (y : Carried). y.of) (sym its) ∙ of_is) in absurd (none_some e (sym none_here ∙ (ap g'.carries (sym name) ∙ there))))
-              (λ (own : v.role ≡ Player x). absurd (none_some e (sym nothing_out ∙ (ap g'.carries (player_same n x (sym role ∙ own)) ∙ there)))) whose;
-        };
-        holding = record {
-          name = λ x is. let t = holds.name x is in (t.0, as_dealt g m id None x t.1);
-          calls = holds.calls;
-          lists = holds.lists;
-          owned = λ b o is. let k = holds.owned b o is in owned_as k refl refl refl refl;
-          work = λ x is. let k = holds.work x is in work_with k k.own (λ _. refl);
-          source = λ x is. let k = holds.source x is in source_with k k.own refl (λ _. refl);
-          whole = λ is x role'. name_else g.badge m id x (λ same. names (player_same n x (sym role ∙ role') ∙ same)) ∙ holds.whole is x role';
-          guest = λ x is.
-              let same : m ≡ x = some_same m x (sym guest ∙ is) in
-              let P : Name → Type 0 = λ x. (g'.badge x ≡ id) × IsDealt g' x in
-              let now : P m = (name_here g.badge m id, as_dealt g m id None m was.1) in subst P same now;
-          note = λ x is. let e : Player n ≡ Note = sym role ∙ is in absurd (cc);
-          home = λ x is _. ap g'.carries (sym (player_same n x (sym role ∙ is))) ∙ nothing_out;
-          dealer = λ is. let e : Player n ≡ Dealer = sym role ∙ is in absurd (cc);
-        };
+      let learnt : LawfulKnowledge z g' (host_of v w) = record {
+        seen = knows.seen;
+        pin = knows.pin;
+        known = knows.known;
+        programs = knows.programs;
+        erases = knows.erases;
+        copy = λ d is.
+            let old = k.knowledge.copy c copy in
+            let new : LawfulCopy z g' w.role c = copy_kept z g g' id other on w.role c old in
+            let same : c ≡ d = some_same c d (sym copy ∙ is) in
+            subst (λ (d : Carried). LawfulCopy z g' v.role d) same
+            (another z g' w.role v.role c new (λ e. names (player_same n m (sym role ∙ (e ∙ ap Player of_is)))));
+        older = λ o d old new same.
+            let its : c ≡ d = some_same c d (sym copy ∙ new) in
+            h.knowledge.out m o d (inl (sym of_is ∙ (ap (λ (x : Carried). x.of) its ∙ sym same))) old (k.holding.note m note guest ∙ new) same;
+        out = λ x d e whose is there same.
+            let its : c ≡ d = some_same c d (sym copy ∙ is) in
+            ⊎_elim
+            (λ (his : x ≡ d.of). let name : x ≡ m = his ∙ (ap (λ (y : Carried). y.of) (sym its) ∙ of_is) in
+            absurd (none_some e (sym none_here ∙ (ap g'.carries (sym name) ∙ there))))
+            (λ (own : v.role ≡ Player x). absurd (none_some e (sym nothing_out ∙ (ap g'.carries (player_same n x (sym role ∙ own)) ∙ there)))) whose;
       } in
+      let own : LawfulView z g' id (host_of v w) = badged_view z g id v (host_of v w) n m id None role h (λ _ _ _ _. whole) learnt
+      (λ is x role'. name_else g.badge m id x (λ same. names (player_same n x (sym role ∙ role') ∙ same)) ∙ h.holding.whole is x role')
+      (λ x is. subst (λ x. (g'.badge x ≡ id) × IsDealt g' x) (some_same m x (sym guest ∙ is)) (name_here g.badge m id, as_dealt g m id None m was.1))
+      (λ x is _. ap g'.carries (sym (player_same n x (sym role ∙ is))) ∙ nothing_out) in
       (g', fits, join z g vs id other v w (host_of v w) m law at apart there' note (inr was.0) own (λ b. refl) refl refl refl refl refl)
 
   -- COME HOME
@@ -357,42 +389,26 @@ module _ (z : Numbers) (id other : ℕ) (v w : View) (n m : Name) (c : Carried) 
       let on : Onward z g g' id other = badge_moves z g id other m id None (inr was.0) (λ d is. absurd (none_some d is)) in
       let knows = knowledge_kept z g g' id other on v (λ b is below. counted vs law id v at b is below) h.knowledge in
       let its_knows = knowledge_kept z g g' id other on w (λ b is below. counted vs law other w there' b is below) k.knowledge in
-      let kind = h.kind in
-      let holds = h.holding in
       let none_here : g'.carries m ≡ None = name_here g.carries m None in
-      let own : LawfulView z g' id (home v w) = record {
-        kind = record { numbers = kind.numbers; host = λ _ _ _ _. refl; known = kind.known; opens = kind.opens; unpinned = kind.unpinned; idle = kind.idle; owns_none = kind.owns_none; reclaims = kind.reclaims };
-        knowledge = record {
-          seen = knows.seen;
-          pin = knows.pin;
-          known = knows.known;
-          programs = knows.programs;
-          erases = knows.erases;
-          copy = λ d is.
-              let old = k.knowledge.copy c copy in
-              let new : LawfulCopy z g' w.role c = copy_kept z g g' id other on w.role c old in
-              let same : c ≡ d = some_same c d (sym copy ∙ is) in
-              subst (λ (d : Carried). LawfulCopy z g' v.role d) same (another z g' w.role v.role c new unlike);
-          older = λ o d old new same. h.knowledge.out m o d (inr (role ∙ ap Player (sym mine))) old (k.holding.note m note guest ∙ new) same;
-          out = λ x d e whose is there same.
-              ⊎_elim (λ (his : x ≡ d.of). its_knows.out x d e (inl his) is there same)
-              (λ (own : v.role ≡ Player x). let name : m ≡ x = mine ∙ player_same n x (sym role ∙ own) in absurd (none_some e (sym none_here ∙ (ap g'.carries name ∙ there)))) whose;
-        };
-        holding = record {
-          name = λ x is. let t = holds.name x is in (t.0, as_dealt g m id None x t.1);
-          calls = holds.calls;
-          lists = holds.lists;
-          owned = λ b o is. let k = holds.owned b o is in owned_as k refl refl refl refl;
-          work = λ x is. let k = holds.work x is in work_with k k.own (λ _. refl);
-          source = λ x is. let k = holds.source x is in source_with k k.own refl (λ _. refl);
-          whole = λ _ x role'.
-              let same : m ≡ x = mine ∙ player_same n x (sym role ∙ role') in
-              let P : Name → Type 0 = λ x. g'.badge x ≡ id in
-              let now : P m = name_here g.badge m id in subst P same now;
-          guest = λ x is. let t = holds.guest x is in (stays_with g.badge m id x t.0, as_dealt g m id None x t.1);
-          note = λ x is. let e : Player n ≡ Note = sym role ∙ is in absurd (cc);
-          home = λ x is _. ap g'.carries (sym (mine ∙ player_same n x (sym role ∙ is))) ∙ none_here;
-          dealer = λ is. let e : Player n ≡ Dealer = sym role ∙ is in absurd (cc);
-        };
+      let learnt : LawfulKnowledge z g' (home v w) = record {
+        seen = knows.seen;
+        pin = knows.pin;
+        known = knows.known;
+        programs = knows.programs;
+        erases = knows.erases;
+        copy = λ d is.
+            let old = k.knowledge.copy c copy in
+            let new : LawfulCopy z g' w.role c = copy_kept z g g' id other on w.role c old in
+            let same : c ≡ d = some_same c d (sym copy ∙ is) in
+            subst (λ (d : Carried). LawfulCopy z g' v.role d) same (another z g' w.role v.role c new unlike);
+        older = λ o d old new same. h.knowledge.out m o d (inr (role ∙ ap Player (sym mine))) old (k.holding.note m note guest ∙ new) same;
+        out = λ x d e whose is there same.
+            ⊎_elim (λ (his : x ≡ d.of). its_knows.out x d e (inl his) is there same)
+            (λ (own : v.role ≡ Player x). let name : m ≡ x = mine ∙ player_same n x (sym role ∙ own) in
+            absurd (none_some e (sym none_here ∙ (ap g'.carries name ∙ there)))) whose;
       } in
+      let own : LawfulView z g' id (home v w) = badged_view z g id v (home v w) n m id None role h (λ _ _ _ _. refl) learnt
+      (λ _ x role'. subst (λ x. g'.badge x ≡ id) (mine ∙ player_same n x (sym role ∙ role')) (name_here g.badge m id))
+      (λ x is. let t = h.holding.guest x is in (stays_with g.badge m id x t.0, as_dealt g m id None x t.1))
+      (λ x is _. ap g'.carries (sym (mine ∙ player_same n x (sym role ∙ is))) ∙ none_here) in
       (g', fits, join z g vs id other v w (home v w) m law at apart there' note (inr was.0) own (λ b. refl) refl refl refl refl refl)

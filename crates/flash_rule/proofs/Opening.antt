@@ -3,7 +3,8 @@ use Rattle.flash_rule.proofs.Words.{◌≡◌, ℕ, zero, suc, ◌*◌, ◌+◌,
 use Rattle.flash_rule.proofs.Words.{length, replicate, slice_get, sym, refl, ap, ◌∙◌, subst, arith, length-append, length-replicate, All-nil, get_or}
 use Rattle.flash_rule.proofs.Words.{if◌then◌else◌, some, some-injective, some-ne-none, dite, ℕ_discrete, dec_lt, get_elem?, Begins-refl, Numbers}
 use Rattle.flash_rule.proofs.Words.{pin_index, page_index, PinWord, Free, Open, Owned, View, owned_at, caller, World, Fits, is_owned, is_reclaimed}
-use Rattle.flash_rule.proofs.Words.{blank_word, IsCededBy, drained_of, LawfulCeded, LawfulBlock, LawfulOwned, LawfulView, Lawful, Ruled, spare, spares}
+use Rattle.flash_rule.proofs.Words.{blank_word, IsCededBy, drained_of, LawfulCeded, LawfulBlock, LawfulOwned, LawfulView, Lawful, Ruled, spare}
+use Rattle.flash_rule.proofs.Words.{spares}
 use Rattle.std.specs.Prelude.{nat_lt}
 use Rattle.atomic_table.specs.Table.{opening}
 use Rattle.geometry.proofs.Histories.{held_at_first}
@@ -49,7 +50,8 @@ spare_at (suc n) from b low high = dite (ℕ_discrete from b)
 
 module _ (z : Numbers) (limits : IsWithinLimits z) where
   enough : z.brooms ≤ z.blocks
-  enough = dite (ℕ_discrete z.hosts 0) (λ none. let e = limits.lone none in omega arith) (λ some_host. let e = limits.shared_blocks (omega arith) in omega arith)
+  enough = dite (ℕ_discrete z.hosts 0) (λ none. let e = limits.lone none in omega arith)
+      (λ some_host. let e = limits.shared_blocks (omega arith) in omega arith)
 
   opening_pin : ℕ → PinWord
   opening_pin b = record { readers = 0; phase = if nat_lt b (z.blocks - z.brooms) then Free else Open; written = 0; generation = 0 }
@@ -98,7 +100,8 @@ module _ (z : Numbers) (limits : IsWithinLimits z) where
       let l4 : length pages ≡ z.blocks * z.pages * (z.words + 1) = length-replicate (z.blocks * z.pages * (z.words + 1)) blank_word in
       let l5 : length (frees ++ opens) ≡ length frees + length opens = length-append frees opens in
       let l6 : length (maps ++ (frees ++ opens)) ≡ length maps + length (frees ++ opens) = length-append maps (frees ++ opens) in
-      let l7 : length ((maps ++ (frees ++ opens)) ++ pages) ≡ length (maps ++ (frees ++ opens)) + length pages = length-append (maps ++ (frees ++ opens)) pages in
+      let l7 : length ((maps ++ (frees ++ opens)) ++ pages) ≡ length (maps ++ (frees ++ opens)) + length pages =
+      length-append (maps ++ (frees ++ opens)) pages in
       record {
         size = omega arith;
         sectors = λ s low. front (maps ++ (frees ++ opens)) pages s (omega arith) ∙ (front maps (frees ++ opens) s (omega arith) ∙ same_all z.sectors 0 s low);
@@ -107,11 +110,13 @@ module _ (z : Numbers) (limits : IsWithinLimits z) where
             ∙ (back maps (frees ++ opens) (pin_index z b) b (omega arith)
             ∙ dite (dec_lt b (z.blocks - z.brooms))
             (λ below. front frees opens b (omega arith) ∙ (same_all (z.blocks - z.brooms) (phase_bits Free) b below
-            ∙ (let p = blank_pin b in let r = p.0 in let w = p.1 in let g = p.2 in let f : phase_bits (opening_pin b).phase ≡ phase_bits Free = ap phase_bits (phase_low b below) in omega arith)))
+            ∙ (let p = blank_pin b in let r = p.0 in let w = p.1 in let g = p.2 in
+            let f : phase_bits (opening_pin b).phase ≡ phase_bits Free = ap phase_bits (phase_low b below) in omega arith)))
             (λ above.
             let j : ℕ = b - (z.blocks - z.brooms) in
             back frees opens b j (omega arith) ∙ (same_all z.brooms (phase_bits Open) j (omega arith)
-            ∙ (let p = blank_pin b in let r = p.0 in let w = p.1 in let g = p.2 in let f : phase_bits (opening_pin b).phase ≡ phase_bits Open = ap phase_bits (phase_high b above) in omega arith))));
+            ∙ (let p = blank_pin b in let r = p.0 in let w = p.1 in let g = p.2 in
+            let f : phase_bits (opening_pin b).phase ≡ phase_bits Open = ap phase_bits (phase_high b above) in omega arith))));
         pages = λ b p i b_low p_low i_low.
             let j : ℕ = (b * z.pages + p) * (z.words + 1) + i in
             let r = row_within b z.blocks z.pages p b_low p_low in
@@ -161,8 +166,27 @@ module _ (z : Numbers) (limits : IsWithinLimits z) where
   opening_view : LawfulView z opening_world 0 (dealer z)
   opening_view =
       record {
-        kind = record { numbers = λ _. refl; host = λ n m is. absurd (cc); known = λ is. absurd (cc); opens = λ is. absurd (cc); unpinned = λ _. refl; idle = λ _. (refl, refl, refl, refl); owns_none = λ is. absurd (cc); reclaims = λ b c o e is _ busy. absurd (idle b o is busy) };
-        knowledge = record { seen = Begins-refl []; pin = tt; known = λ b _. omega arith; programs = λ n is. absurd (cc); erases = λ n is. absurd (cc); copy = λ c is. absurd (none_some c is); older = λ o c is. absurd (none_some o is); out = λ m c d _ is. absurd (none_some c is) };
+        kind = record {
+          numbers = λ _. refl;
+          host = λ n m is. absurd (cc);
+          known = λ is. absurd (cc);
+          opens = λ is. absurd (cc);
+          unpinned = λ _. refl;
+          idle = λ _. (refl, refl, refl, refl);
+          owns_none = λ is. absurd (cc);
+          reclaims = λ b c o e is _ busy. absurd (idle b o is busy);
+        };
+        knowledge = record {
+          seen = Begins-refl [];
+          pin = tt;
+          known = λ b _. omega arith;
+          programs = λ n is. absurd (cc);
+          erases = λ n is. absurd (cc);
+          copy = λ c is. absurd (none_some c is);
+          older = λ o c is. absurd (none_some o is);
+          out =
+              λ m c d _ is. absurd (none_some c is);
+        };
         holding = record {
           name = λ n is. absurd (cc);
           calls = λ t is. absurd (cc);
@@ -179,7 +203,8 @@ module _ (z : Numbers) (limits : IsWithinLimits z) where
       }
     where
       idle : (b : ℕ) (o : Owned) → owned_at b (dealer z).owns ≡ Some o → is_reclaimed o.phase ≡ true → ⊥
-      idle b o is busy = let r = spare_is z.brooms (z.blocks - z.brooms) b o is in let no : false ≡ true = ap (λ (x : Owned). is_reclaimed x.phase) r.2 ∙ busy in absurd (cc)
+      idle b o is busy = let r = spare_is z.brooms (z.blocks - z.brooms) b o is in
+          let no : false ≡ true = ap (λ (x : Owned). is_reclaimed x.phase) r.2 ∙ busy in absurd (cc)
 
   opening_ceded : LawfulCeded z opening_pin (dealer z ∷ [])
   opening_ceded =

@@ -1,36 +1,27 @@
 -- The owner's steps on the pin word of an open block: count and close.
-use Rattle.flash_rule.proofs.Words.{◌≡◌, ◌≢◌, ℕ, ◌+◌, ◌<◌, ◌≤◌, ◌⊎◌, inl, inr, ⊎_elim, true, false, List, [], ◌∷◌, ◌++◌, Option, None, Some, length}
-use Rattle.flash_rule.proofs.Words.{set, slice_get, sym, refl, ap, ◌∙◌, subst, arith, some, dite, ℕ_discrete, get_elem?, Begins, Numbers, Begins-refl}
-use Rattle.flash_rule.proofs.Words.{MapWord, PinWord, Free, Open, Closed, Owned, Name, Role, Dealer, Player, Note, Gone, Work, View, is_player}
-use Rattle.flash_rule.proofs.Words.{may_own, pins_on, owned_at, without, with_owned, World, put, put_name, is_owned, is_intact, is_still, half_cycle}
-use Rattle.flash_rule.proofs.Words.{rank, IsProgrammed, IsDealt, IsFilling, LawfulKind, LawfulOwned, LawfulWork, LawfulView, Lawful, ListsOnward}
-use Rattle.flash_rule.proofs.Words.{Onward, next_page}
+use Rattle.flash_rule.proofs.Words.{◌≡◌, ℕ, ◌+◌, ◌<◌, ◌≤◌, inl, inr, ⊎_elim, true, false, List, [], ◌∷◌, ◌++◌, Option, None, Some, length, set}
+use Rattle.flash_rule.proofs.Words.{slice_get, sym, refl, ap, ◌∙◌, subst, arith, some, get_elem?, Begins, Numbers, Begins-refl, MapWord, PinWord}
+use Rattle.flash_rule.proofs.Words.{Free, Open, Closed, Owned, Name, Player, Work, View, is_player, may_own, owned_at, without, with_owned, World}
+use Rattle.flash_rule.proofs.Words.{put, put_name, is_owned, is_intact, is_still, half_cycle, rank, IsProgrammed, IsDealt, IsFilling, Programs}
+use Rattle.flash_rule.proofs.Words.{LawfulKind, LawfulOwned, LawfulWork, LawfulView, Lawful, ListsOnward, Onward, next_page}
 use Rattle.std.proofs.lemmas.List.{append-nil}
 use Rattle.flash_rule.specs.Plays.{IsSettled}
-use Rattle.flash_rule.proofs.Points.{put_here, total_set, name_here, name_else, name_all}
-use Rattle.flash_rule.proofs.Owning.{owns_none_else, may_own_else, some_same, none_some, with_here, with_else, without_here, without_else, one_with_open, one_without, get_last, put3, put3_here, put3_else, blocks_apart, open_victim}
+pub use Rattle.flash_rule.proofs.Roles.{player_of}
+use Rattle.flash_rule.proofs.Roles.{player_same, idle_or_player, may_own_else}
+use Rattle.flash_rule.proofs.Points.{put_here, name_here, name_else, name_all}
+use Rattle.flash_rule.proofs.Owning.{owns_none_else, some_same, none_some, with_here, with_else, without_else, each_with, each_without, one_with_open}
+use Rattle.flash_rule.proofs.Owning.{one_without, get_last, put3, put3_here, put3_else, blocks_apart, open_victim}
 use Rattle.flash_rule.proofs.Frames.{counted, knowledge_kept}
 use Rattle.flash_rule.proofs.Ceding.{ceded_owned, ceded_last}
-use Rattle.flash_rule.proofs.PinSteps.{Deeds, deeds, turned, moved, pin_turns, pin_moves, pin_turned_nameable, turned_else, seat_set}
-use Rattle.flash_rule.proofs.Keeping.{holding_with, kind_with, knowledge_as, source_with}
+use Rattle.flash_rule.proofs.PinSteps.{Deeds, deeds, turned, moved, pin_turns, pin_moves, block_owned, block_turned, pin_turned_nameable, turned_else, seat_set}
+use Rattle.flash_rule.proofs.Keeping.{holding_with, kind_with, knowledge_as, source_with, knowledge_with}
 
 -- a seat with work is a player's
-pub player_of : (r : Role) → is_player r ≡ true → (n : Name) × (r ≡ Player n)
-player_of (Player n) is = (n, refl)
-player_of Dealer is = absurd (cc)
-player_of Note is = absurd (cc)
-player_of Gone is = absurd (cc)
-
-idle_or_player : (r : Role) → (is_player r ≡ true) ⊎ (is_player r ≡ false)
-idle_or_player (Player n) = inl refl
-idle_or_player Dealer = inr refl
-idle_or_player Note = inr refl
-idle_or_player Gone = inr refl
-
 pub worker : (z : Numbers) (v : View) (x : Work) → LawfulKind z v → v.work ≡ Some x → (n : Name) × (v.role ≡ Player n)
 worker z v x kind is = ⊎_elim (λ p. player_of v.role p) (λ idle. absurd (none_some x (sym (kind.idle idle).0 ∙ is))) (idle_or_player v.role)
 
-module _ (z : Numbers) (g : World) (vs : List View) (id : ℕ) (v : View) (o : Owned) (law : Lawful z g vs) (at : get_elem? vs id ≡ some v) (own : owned_at o.block v.owns ≡ Some o) (opened : o.phase ≡ Open) where
+module _ (z : Numbers) (g : World) (vs : List View) (id : ℕ) (v : View) (o : Owned) (law : Lawful z g vs) (at : get_elem? vs id ≡ some v)
+    (own : owned_at o.block v.owns ≡ Some o) (opened : o.phase ≡ Open) where
   entry : LawfulOwned z g id v.work v.cleared v.wiped o.block o
   entry = (law.views id v at).holding.owned o.block o own
 
@@ -69,30 +60,22 @@ module _ (z : Numbers) (g : World) (vs : List View) (id : ℕ) (v : View) (o : O
         let holds = (law.views id v at).holding in
         let its = (holds.lists n role).0 in
         record {
-          programs = name_all g.programs n (v.programs ++ x.page ∷ []) (λ k l. Begins (g.programs k) l) (x.page ∷ [], ap (λ l. l ++ x.page ∷ []) its) (λ k _. Begins-refl (g.programs k)) m;
+          programs = name_all g.programs n (v.programs ++ x.page ∷ []) (λ k l. Begins (g.programs k) l) (x.page ∷ [], ap (λ l. l ++ x.page ∷ []) its)
+              (λ k _. Begins-refl (g.programs k)) m;
           erases = Begins-refl (g.erases m);
           others = λ other. (name_else g.programs n (v.programs ++ x.page ∷ []) m (λ same. other (ap g.seat same ∙ (holds.name n role).0)), refl);
         }
 
     -- the page is below the end of its block
     pub page_room : o.written < z.pages
-    page_room = let w = (law.views id v at).holding.work x doing in let low = w.page in let e : x.page.page ≡ (next_page o).page = ap (λ (m : MapWord). m.page) page in omega arith
+    page_room = let w = (law.views id v at).holding.work x doing in let low = w.page in let e : x.page.page ≡ (next_page o).page =
+        ap (λ (m : MapWord). m.page) page in omega arith
 
-    pub counts_page : (n : Name) → v.role ≡ Player n → Lawful z (count_world n) (set vs id counter)
-    counts_page n role =
-        let h = law.views id v at in
+    counts_onward : (n : Name) → v.role ≡ Player n → Onward z g (count_world n) id id
+    counts_onward n role =
         let b = o.block in
-        let q = counted_state in
-        let kind = h.kind in
-        let holds = h.holding in
-        let block = law.blocks b own_low in
         let mine = entry in
-        let room = page_room in
-        let g' = count_world n in
-        let here : put g.pins b q b ≡ q = put_here g.pins b q in
-        let written_is : (g.pins b).written ≡ o.written = mine.written in
-        let generation_is : (g.pins b).generation ≡ o.generation = mine.generation in
-        let on : Onward z g g' id id = pin_turns z g id b q id (count_deeds n)
+        pin_turns z g id b counted_state id (count_deeds n)
         (record {
           generation = omega arith;
           age = omega arith;
@@ -103,106 +86,91 @@ module _ (z : Numbers) (g : World) (vs : List View) (id : ℕ) (v : View) (o : O
         })
         (λ other _. absurd (other mine.owner))
         (λ m done. put3_else g.programmer b o.written o.generation (Some (n, length v.programs)) m.block m.page m.generation (λ same.
-        let P : ℕ → Type 0 = λ c. IsProgrammed (g.pins c) m in
-        let done' : P b = subst P same.0 done in
         let e1 = same.1 in
         let e2 = same.2 in
-        ⊎_elim (λ (older : m.generation < (g.pins b).generation). absurd (omega arith)) (λ (h : (m.generation ≡ (g.pins b).generation) × (m.page < (g.pins b).written)). let l = h.1 in absurd (omega arith)) done'))
-        (λ c k _. refl) (page_listed n role) in
+        ⊎_elim (λ (older : m.generation < (g.pins b).generation). absurd (omega arith))
+        (λ (h : (m.generation ≡ (g.pins b).generation) × (m.page < (g.pins b).written)). let l = h.1 in absurd (omega arith))
+        (subst (λ c. IsProgrammed (g.pins c) m) same.0 done)))
+        (λ c k _. refl) (page_listed n role)
+
+    -- the page is listed as this player's
+    program_listed : (n : Name) → v.role ≡ Player n → (n' : Name) → v.role ≡ Player n' → Programs z (count_world n) n' v.programs
+        → Programs z (count_world n) n' (v.programs ++ x.page ∷ [])
+    program_listed n role n' role' old k m is =
+        ⊎_elim (λ (was : slice_get v.programs k ≡ Some m). old k m was)
+        (λ (new : (k ≡ length v.programs) × (x.page ≡ m)).
+        let q : PinWord = counted_state in
+        let written = entry.written in
+        let its : IsProgrammed q (next_page o) = inr (sym entry.generation, omega arith) in
+        let same_name : n ≡ n' = player_same n n' (sym role ∙ role') in
+        let whose : programmed n o.block o.written o.generation ≡ Some (n', k) =
+        put3_here g.programmer o.block o.written o.generation (Some (n, length v.programs)) ∙ λ i. Some (same_name i, sym new.0 i) in
+        subst (λ (m : MapWord). (m.block < z.blocks) × IsProgrammed (put g.pins o.block q m.block) m
+        × (programmed n m.block m.page m.generation ≡ Some (n', k)))
+        (sym page ∙ new.1)
+        (own_low, subst (λ (p : PinWord). IsProgrammed p (next_page o)) (sym (put_here g.pins o.block q)) its, whose))
+        (get_last v.programs x.page m k is)
+
+    counted_block : (n : Name) → LawfulOwned z (count_world n) id v.work v.cleared v.wiped o.block more
+    counted_block n =
+        block_owned z g id o.block counted_state (count_deeds n) v.work v.cleared v.wiped more refl own_low entry.owned
+        (entry.phase, entry.generation, ap (λ k. k + 1) entry.written) (λ is p from below not. entry.rest is p (omega arith) below not)
+        entry.dead entry.clean
+
+    counted_work : (n : Name) → LawfulWork z (count_world n) (with_owned more v.owns) x
+    counted_work n =
+        let k = (law.views id v at).holding.work x doing in
+        let page_is : x.page.page ≡ o.written = ap (λ (m : MapWord). m.page) page in
+        record {
+          entry = more;
+          own = ap (λ (m : MapWord). owned_at m.block (with_owned more v.owns)) page ∙ with_here more v.owns;
+          opened = opened;
+          generation = sym (ap (λ (m : MapWord). m.generation) page);
+          page = k.page;
+          counted = inl (omega arith);
+          short = k.short;
+          full = λ _. full;
+          stands = k.stands;
+        }
+
+    pub counts_page : (n : Name) → v.role ≡ Player n → Lawful z (count_world n) (set vs id counter)
+    counts_page n role =
+        let h = law.views id v at in
+        let b = o.block in
+        let q = counted_state in
+        let kind = h.kind in
+        let holds = h.holding in
+        let mine = entry in
+        let room = page_room in
+        let g' = count_world n in
+        let on = counts_onward n role in
         let knows = knowledge_kept z g g' id id on v (λ c is below. counted vs law id v at c is below) h.knowledge in
-        let page_block : x.page.block ≡ b = ap (λ (m : MapWord). m.block) page in
-        let page_page : x.page.page ≡ o.written = ap (λ (m : MapWord). m.page) page in
-        let page_generation : x.page.generation ≡ o.generation = ap (λ (m : MapWord). m.generation) page in
-        let now : LawfulOwned z g' id v.work v.cleared v.wiped b more = record {
-          block = refl;
-          low = own_low;
-          owner = put_here g.owner b id;
-          owned = mine.owned;
-          phase = ap (λ (p : PinWord). p.phase) here ∙ mine.phase;
-          generation = ap (λ (p : PinWord). p.generation) here ∙ mine.generation;
-          written = ap (λ (p : PinWord). p.written) here ∙ ap (λ k. k + 1) mine.written;
-          rest = λ is p from below not. mine.rest is p (omega arith) below not;
-          dead = mine.dead;
-          clean = mine.clean;
-        } in
-        let same_entry : (c : ℕ) (e : Owned) → c ≡ b → owned_at c (with_owned more v.owns) ≡ Some e → more ≡ e = λ c e same owns.
-        some_same more e (sym (with_here more v.owns) ∙ (ap (λ j. owned_at j (with_owned more v.owns)) (sym same) ∙ owns)) in
-        let mine_after : LawfulView z g' id counter = record {
-          kind = kind_with kind refl
-              (λ is c e owns. dite (ℕ_discrete c b)
-              (λ same. sym (ap (λ (x : Owned). x.phase) (same_entry c e same owns)) ∙ opened)
-              (λ unlike. kind.opens is c e (sym (with_else more c v.owns unlike) ∙ owns)))
+        let after : LawfulView z g' id counter = record {
+          kind = kind_with kind refl (λ is. each_with (λ c e. e.phase ≡ Open) more v.owns opened (λ c e _ owns. kind.opens is c e owns))
               (λ is. let no : true ≡ false = sym (ap is_player role) ∙ is in absurd (cc))
               (λ is. let no : true ≡ false = sym (ap may_own role) ∙ is in absurd (cc))
               (one_with_open more v.owns opened kind.reclaims);
-          knowledge = record {
-            seen = knows.seen;
-            pin = knows.pin;
-            known = knows.known;
-            programs = λ n' role' k m is.
-                ⊎_elim (λ (old : slice_get v.programs k ≡ Some m). knows.programs n' role' k m old)
-                (λ (new : (k ≡ length v.programs) × (x.page ≡ m)).
-                let same_name : n ≡ n' = player_same n n' (sym role ∙ role') in
-                let m_block : m.block ≡ b = sym (ap (λ (m : MapWord). m.block) new.1) ∙ page_block in
-                let m_page : m.page ≡ o.written = sym (ap (λ (m : MapWord). m.page) new.1) ∙ page_page in
-                let m_generation : m.generation ≡ o.generation = sym (ap (λ (m : MapWord). m.generation) new.1) ∙ page_generation in
-                let Q : ℕ → Type 0 = λ c. (c < z.blocks) × IsProgrammed (put g.pins b q c) m × (programmed n c m.page m.generation ≡ Some (n', k)) in
-                let e : put3 g.programmer b o.written o.generation (Some (n, length v.programs)) b o.written o.generation ≡ Some (n, length v.programs) = put3_here g.programmer b o.written o.generation (Some (n, length v.programs)) in
-                let at_b : Q b = (
-                  own_low,
-                  subst (λ (p : PinWord). IsProgrammed p m) (sym here) (inr (m_generation ∙ sym generation_is, omega arith)),
-                  ap (λ i. programmed n b i m.generation) m_page ∙ (ap (λ i. programmed n b o.written i) m_generation ∙ (e ∙ λ i. Some (same_name i, sym new.0 i))),
-                ) in
-                subst Q (sym m_block) at_b)
-                (get_last v.programs x.page m k is);
-            erases = knows.erases;
-            copy = knows.copy;
-            older = knows.older;
-            out = knows.out;
-          };
+          knowledge = knowledge_with counter knows refl knows.seen knows.pin knows.known
+              (λ n' role'. program_listed n role n' role' (knows.programs n' role')) knows.erases;
           holding = holding_with holds refl refl holds.calls
-              (λ n' role'.
-              let same_name : n ≡ n' = player_same n n' (sym role ∙ role') in
-              let P : Name → Type 0 = λ k. (listed n k ≡ counter.programs) × (g.erases k ≡ v.erases) in
-              let its : P n = (name_here g.programs n (v.programs ++ x.page ∷ []), (holds.lists n role).1) in subst P same_name its)
-              (λ c e owns. dite (ℕ_discrete c b)
-              (λ same. let P : ℕ × Owned → Type 0 = λ x. LawfulOwned z g' id v.work v.cleared v.wiped x.0 x.1 in subst P (λ i. (sym same i, same_entry c e same owns i)) now)
-              (λ unlike. turned_else z g vs id v counter b q id (count_deeds n) law at v.work v.work v.cleared v.wiped c e unlike (λ p _ f. f) (holds.owned c e (sym (with_else more c v.owns unlike) ∙ owns))))
-              (λ y is.
-              let k = holds.work x doing in
-              let same : x ≡ y = some_same x y (sym doing ∙ is) in
-              subst (λ (y : Work). LawfulWork z g' (with_owned more v.owns) y) same
-              (record {
-                entry = more;
-                own = ap (λ c. owned_at c (with_owned more v.owns)) page_block ∙ with_here more v.owns;
-                opened = opened;
-                generation = sym page_generation;
-                page = k.page;
-                counted = inl (omega arith);
-                short = k.short;
-                full = λ _. full;
-                stands = k.stands;
-              }))
+              (λ n' role'. subst (λ k. (listed n k ≡ counter.programs) × (g.erases k ≡ v.erases)) (player_same n n' (sym role ∙ role'))
+              (name_here g.programs n (v.programs ++ x.page ∷ []), (holds.lists n role).1))
+              (each_with (λ c e. LawfulOwned z g' id v.work v.cleared v.wiped c e) more v.owns (counted_block n) (λ c e unlike owns.
+              turned_else z g vs id v counter b q id (count_deeds n) law at v.work v.work v.cleared v.wiped c e unlike (λ p _ f. f) (holds.owned c e owns)))
+              (λ y is. subst (λ (y : Work). LawfulWork z g' (with_owned more v.owns) y) (some_same x y (sym doing ∙ is)) (counted_work n))
               (λ y is.
               let k = holds.source y is in
               let unlike = blocks_apart v.owns o k.entry y.page.block own k.own (open_victim o k.entry opened k.victim) in
               source_with k (with_else more y.page.block v.owns unlike ∙ k.own) refl (λ _. refl));
         } in
-        pin_turned_nameable z g vs id v counter b q id (count_deeds n) law at on mine_after
+        pin_turned_nameable z g vs id v counter b q id (count_deeds n) law at on after
         (λ named. (refl, named, omega arith))
-        (record {
-          readers = (let e : (put g.pins b q b).readers ≡ (g.pins b).readers = ap (λ (p : PinWord). p.readers) here in let r = block.readers in let t = total_set (pins_on b) vs id v counter at in omega arith);
-          written = (let e : (put g.pins b q b).written ≡ (g.pins b).written + 1 = ap (λ (p : PinWord). p.written) here in omega arith);
-          generation = (let e : (put g.pins b q b).generation ≡ (g.pins b).generation = ap (λ (p : PinWord). p.generation) here in let r = block.generation in omega arith);
-          free = λ is. let e : Open ≡ Free = sym is_open ∙ (sym (ap (λ (p : PinWord). p.phase) here) ∙ is) in absurd (cc);
-          rest = λ is. let e : false ≡ true = sym (ap is_still is_open) ∙ (sym (ap (λ (p : PinWord). is_still p.phase) here) ∙ is) in absurd (cc);
-          owner = λ _. (counter, more, ap (λ j. get_elem? (set vs id counter) j) (put_here g.owner b id) ∙ seat_set vs id v counter at, with_here more v.owns);
-        })
+        (block_turned z g vs id v counter b q id (count_deeds n) law at own_low refl (omega arith) (law.blocks b own_low).generation
+        (λ is. let e : Open ≡ Free = sym is_open ∙ is in absurd (cc))
+        (λ is. let e : false ≡ true = sym (ap is_still is_open) ∙ is in absurd (cc))
+        (λ _. (counter, more, seat_set vs id v counter at, with_here more v.owns)))
         (λ c _. refl) (λ c unlike e is. (e, with_else more c v.owns unlike ∙ is)) refl
         (ceded_owned z g.pins vs id v counter law.ceded at refl b q refl refl (ap is_owned is_open) (inr (refl, omega arith, omega arith)))
-      where
-        player_same : (n m : Name) → Player n ≡ Player m → n ≡ m
-        player_same n m e = cc
 
   -- ---- close
   abbrev pub closed_block : Owned
@@ -227,7 +195,6 @@ module _ (z : Numbers) (g : World) (vs : List View) (id : ℕ) (v : View) (o : O
       let block = law.blocks b own_low in
       let mine = entry in
       let g' = close_world in
-      let here : put g.pins b q b ≡ q = put_here g.pins b q in
       let phase_is = is_open in
       let on : Onward z g g' id id = pin_moves z g id b q id
       (record {
@@ -240,23 +207,20 @@ module _ (z : Numbers) (g : World) (vs : List View) (id : ℕ) (v : View) (o : O
       })
       (λ other _. absurd (other mine.owner)) in
       let knows = knowledge_kept z g g' id id on v (λ c is below. counted vs law id v at c is below) h.knowledge in
-      let elsewhere : (c : ℕ) (e : Owned) → owned_at c (without b v.owns) ≡ Some e → c ≢ b = λ c e owns same.
-      absurd (none_some e (sym (without_here b v.owns) ∙ (ap (λ j. owned_at j (without b v.owns)) (sym same) ∙ owns))) in
       let not_filling : (c p : ℕ) (e : Owned) → owned_at c v.owns ≡ Some e → e.written ≤ p → IsFilling v.work c p → ⊥ = λ c p e owns from f.
       let P : ℕ → Type 0 = λ c. owned_at c v.owns ≡ Some e in
       let s = settled f.work e f.is (subst P (sym f.block) owns) in
       let l = f.page in absurd (omega arith) in
       let after : LawfulView z g' id closer = record {
         kind = kind_with kind refl
-            (λ is c e owns. kind.opens is c e (sym (without_else b c v.owns (elsewhere c e owns)) ∙ owns))
+            (λ is. each_without (λ c e. e.phase ≡ Open) b v.owns (λ c e _ owns. kind.opens is c e owns))
             (λ is. let i = kind.idle is in (refl, i.1, i.2, i.3)) (λ is. ap (λ l. without b l) (kind.owns_none is))
             (one_without b v.owns kind.reclaims);
         knowledge = knowledge_as knows refl;
         holding = holding_with holds refl refl holds.calls holds.lists
-            (λ c e owns.
-            let unlike = elsewhere c e owns in
-            let was = sym (without_else b c v.owns unlike) ∙ owns in
-            turned_else z g vs id v closer b q id (deeds g) law at v.work None v.cleared v.wiped c e unlike (λ p from f. absurd (not_filling c p e was from f)) (holds.owned c e was))
+            (each_without (λ c e. LawfulOwned z g' id None v.cleared v.wiped c e) b v.owns (λ c e unlike owns.
+            turned_else z g vs id v closer b q id (deeds g) law at v.work None v.cleared v.wiped c e unlike
+            (λ p from f. absurd (not_filling c p e owns from f)) (holds.owned c e owns)))
             (λ y is. absurd (none_some y is))
             (λ y is.
             let k = holds.source y is in
@@ -265,18 +229,11 @@ module _ (z : Numbers) (g : World) (vs : List View) (id : ℕ) (v : View) (o : O
       } in
       pin_turned_nameable z g vs id v closer b q id (deeds g) law at on after
       (λ named. (refl, refl, omega arith))
-      (record {
-        readers = (let e : (put g.pins b q b).readers ≡ (g.pins b).readers = ap (λ (p : PinWord). p.readers) here in let r = block.readers in let t = total_set (pins_on b) vs id v closer at in omega arith);
-        written = (let e : (put g.pins b q b).written ≡ (g.pins b).written = ap (λ (p : PinWord). p.written) here in let r = block.written in omega arith);
-        generation = (let e : (put g.pins b q b).generation ≡ (g.pins b).generation = ap (λ (p : PinWord). p.generation) here in let r = block.generation in omega arith);
-        free = λ is. let e : Closed ≡ Free = sym (ap (λ (p : PinWord). p.phase) here) ∙ is in absurd (cc);
-        rest = λ _ p from below.
-            let e : (put g.pins b q b).written ≡ (g.pins b).written = ap (λ (p : PinWord). p.written) here in
-            let m = mine.written in mine.rest opened p (omega arith) below (λ f. not_filling b p o own (omega arith) f);
-        owner = λ is. let e : false ≡ true = sym (ap (λ (p : PinWord). is_owned p.phase) here) ∙ is in absurd (cc);
-      })
+      (block_turned z g vs id v closer b q id (deeds g) law at own_low refl block.written block.generation (λ is. absurd (cc))
+      (λ _ p from below. let m = mine.written in mine.rest opened p (omega arith) below (λ f. not_filling b p o own (omega arith) f)) (λ is. absurd (cc)))
       (λ c _. refl) (λ c unlike e is. (e, without_else b c v.owns unlike ∙ is)) refl
       (ceded_last z g.pins vs id v closer law.ceded at refl b q own_low
       (inr (refl, (let e : rank (g.pins b).phase ≡ 1 = ap rank phase_is in omega arith), omega arith))
-      closed_block (λ i. record { block = b; phase = Closed; generation = sym mine.generation i; written = sym mine.written i }) refl (sym (append-nil v.drains))
+      closed_block (λ i. record { block = b; phase = Closed; generation = sym mine.generation i; written = sym mine.written i }) refl
+      (sym (append-nil v.drains))
       (may_own_else v.role (λ is. owns_none_else v.owns o own (kind.owns_none is))))

@@ -1,8 +1,7 @@
 -- The blocks that a seat owns, one entry changed; and what an owned block keeps while another one changes.
-use Rattle.flash_rule.proofs.Words.{Victim, ◌≡◌, ◌≢◌, ℕ, zero, suc, ◌≤◌, ◌⊎◌, inl, inr, ⊎_elim, eq-eqb, ne_eqb, true, false, List, [], ◌∷◌, ◌++◌, Option, None}
-use Rattle.flash_rule.proofs.Words.{Some, length, slice_get, sym, refl, ap, ◌∙◌, dite, ℕ_discrete, Numbers, MapWord, Open, Owned, Role}
-use Rattle.flash_rule.proofs.Words.{Dealer, Player, Note, Gone, Work, may_own, owned_at, without, with_owned, World, put, is_reclaimed, IsFilling}
-use Rattle.flash_rule.proofs.Words.{LawfulOwned, ReclaimsOne}
+use Rattle.flash_rule.proofs.Words.{Victim, ◌≡◌, ◌≢◌, ℕ, zero, suc, ◌≤◌, ◌⊎◌, inl, inr, ⊎_elim, eq-eqb, ne_eqb, true, false, List, [], ◌∷◌, ◌++◌}
+use Rattle.flash_rule.proofs.Words.{Option, None, Some, length, slice_get, sym, refl, ap, ◌∙◌, subst, dite, ℕ_discrete, Numbers, MapWord, Open, Owned}
+use Rattle.flash_rule.proofs.Words.{Work, owned_at, without, with_owned, World, put, is_reclaimed, IsFilling, LawfulOwned, ReclaimsOne}
 use Rattle.flash_rule.proofs.Points.{eq_self}
 use Rattle.flash_rule.proofs.Keeping.{owned_with}
 
@@ -28,7 +27,8 @@ without_else b c (o ∷ os) apart =
     let there = without_else b c os apart in
     dite (ℕ_discrete o.block b)
     (λ same. rw (eq-eqb o.block b same) (rw (ne_eqb o.block c (λ e. apart (sym e ∙ same))) there))
-    (λ other. rw (ne_eqb o.block b other) (dite (ℕ_discrete o.block c) (λ same. rw (eq-eqb o.block c same) refl) (λ unlike. rw (ne_eqb o.block c unlike) there)))
+    (λ other. rw (ne_eqb o.block b other)
+    (dite (ℕ_discrete o.block c) (λ same. rw (eq-eqb o.block c same) refl) (λ unlike. rw (ne_eqb o.block c unlike) there)))
 
 pub with_here : (o : Owned) (os : List Owned) → owned_at o.block (with_owned o os) ≡ Some o
 with_here o os = rw (eq_self o.block) refl
@@ -74,8 +74,28 @@ put3_else f a b c x i j k apart =
     (λ q. rw (eq-eqb i a p) (rw (ne_eqb j b q) (λ t. f (sym p t) j k))))
     (λ p. rw (ne_eqb i a p) refl)
 
+-- ---- each entry
+-- what holds of an entry that is set, and of each other one, holds of each
+pub each_with : (P : ℕ → Owned → Type 0) (o : Owned) (owns : List Owned) → P o.block o
+    → ((c : ℕ) (e : Owned) → c ≢ o.block → owned_at c owns ≡ Some e → P c e) → (c : ℕ) (e : Owned) → owned_at c (with_owned o owns) ≡ Some e → P c e
+each_with P o owns here there c e is =
+    dite (ℕ_discrete c o.block)
+    (λ same.
+    let its : o ≡ e = some_same o e (sym (with_here o owns) ∙ (ap (λ j. owned_at j (with_owned o owns)) (sym same) ∙ is)) in
+    subst (λ (x : ℕ × Owned). P x.0 x.1) (λ i. (sym same i, its i)) here)
+    (λ unlike. there c e unlike (sym (with_else o c owns unlike) ∙ is))
+
+-- and what holds of each other one, where one is taken out
+pub each_without : (P : ℕ → Owned → Type 0) (b : ℕ) (owns : List Owned) → ((c : ℕ) (e : Owned) → c ≢ b → owned_at c owns ≡ Some e → P c e)
+    → (c : ℕ) (e : Owned) → owned_at c (without b owns) ≡ Some e → P c e
+each_without P b owns there c e is =
+    dite (ℕ_discrete c b)
+    (λ same. absurd (none_some e (sym (without_here b owns) ∙ (ap (λ j. owned_at j (without b owns)) (sym same) ∙ is))))
+    (λ unlike. there c e unlike (sym (without_else b c owns unlike) ∙ is))
+
 -- ---- at most one block drained or erased
-one_of_fewer : (owns fewer : List Owned) → ((b : ℕ) (o : Owned) → owned_at b fewer ≡ Some o → is_reclaimed o.phase ≡ true → owned_at b owns ≡ Some o) → ReclaimsOne owns → ReclaimsOne fewer
+one_of_fewer : (owns fewer : List Owned) → ((b : ℕ) (o : Owned) → owned_at b fewer ≡ Some o → is_reclaimed o.phase ≡ true → owned_at b owns ≡ Some o)
+    → ReclaimsOne owns → ReclaimsOne fewer
 one_of_fewer owns fewer was one b c o e here there first second = one b c o e (was b o here first) (was c e there second) first second
 
 not_reclaimed : (o : Owned) → o.phase ≡ Open → is_reclaimed o.phase ≡ true → ⊥
@@ -84,40 +104,27 @@ not_reclaimed o opened is = let no : true ≡ false = sym is ∙ ap is_reclaimed
 -- an own block that opens, or another entry of an open one
 pub one_with_open : (o : Owned) (owns : List Owned) → o.phase ≡ Open → ReclaimsOne owns → ReclaimsOne (with_owned o owns)
 one_with_open o owns opened =
-    one_of_fewer owns (with_owned o owns) (λ b e is reclaimed.
-    dite (ℕ_discrete b o.block)
-    (λ same.
-    let its : o ≡ e = some_same o e (sym (with_here o owns) ∙ (ap (λ j. owned_at j (with_owned o owns)) (sym same) ∙ is)) in
-    absurd (not_reclaimed e (sym (ap (λ (x : Owned). x.phase) its) ∙ opened) reclaimed))
-    (λ unlike. sym (with_else o b owns unlike) ∙ is))
+    one_of_fewer owns (with_owned o owns)
+    (each_with (λ b e. is_reclaimed e.phase ≡ true → owned_at b owns ≡ Some e) o owns (λ is. absurd (not_reclaimed o opened is)) (λ b e _ was _. was))
 
 -- a block that is given up
 pub one_without : (b : ℕ) (owns : List Owned) → ReclaimsOne owns → ReclaimsOne (without b owns)
 one_without b owns =
-    one_of_fewer owns (without b owns) (λ c o is _.
-    dite (ℕ_discrete c b)
-    (λ same. absurd (none_some o (sym (without_here b owns) ∙ (ap (λ j. owned_at j (without b owns)) (sym same) ∙ is))))
-    (λ unlike. sym (without_else b c owns unlike) ∙ is))
+    one_of_fewer owns (without b owns) (each_without (λ c o. is_reclaimed o.phase ≡ true → owned_at c owns ≡ Some o) b owns (λ c o _ was _. was))
 
 -- a block that a seat at rest claims or condemns
 pub one_at_rest : (o : Owned) (owns : List Owned) → ((b : ℕ) (e : Owned) → owned_at b owns ≡ Some e → e.phase ≡ Open) → ReclaimsOne (with_owned o owns)
 one_at_rest o owns rested b c x y here there first second = only b x here first ∙ sym (only c y there second) where
   only : (d : ℕ) (e : Owned) → owned_at d (with_owned o owns) ≡ Some e → is_reclaimed e.phase ≡ true → d ≡ o.block
-  only d e is reclaimed =
-      dite (ℕ_discrete d o.block) (λ same. same) (λ unlike. absurd (not_reclaimed e (rested d e (sym (with_else o d owns unlike) ∙ is)) reclaimed))
+  only = each_with (λ d e. is_reclaimed e.phase ≡ true → d ≡ o.block) o owns (λ _. refl) (λ d e _ was is. absurd (not_reclaimed e (rested d e was) is))
 
 -- ---- whose blocks they are
 pub owns_none_else : (owns : List Owned) (o : Owned) → owned_at o.block owns ≡ Some o → ¬ (owns ≡ [])
 owns_none_else owns o own none = absurd (none_some o (sym (ap (λ (l : List Owned). owned_at o.block l) none) ∙ own))
 
-pub may_own_else : (r : Role) → ¬ (may_own r ≡ false) → may_own r ≡ true
-may_own_else (Player n) owns = refl
-may_own_else Dealer owns = refl
-may_own_else Note owns = absurd (owns refl)
-may_own_else Gone owns = absurd (owns refl)
-
 -- An owned block that the step doesn't concern
-pub owned_else : (z : Numbers) (g g' : World) (id : ℕ) (doing doing' : Option Work) (cleared wiped b : ℕ) (o : Owned) → g'.pins b ≡ g.pins b → g'.owner b ≡ g.owner b
+pub owned_else : (z : Numbers) (g g' : World) (id : ℕ) (doing doing' : Option Work) (cleared wiped b : ℕ) (o : Owned) → g'.pins b ≡ g.pins b
+    → g'.owner b ≡ g.owner b
     → ((p i : ℕ) → g'.pages b p i ≡ g.pages b p i) → ((s : ℕ) (m : MapWord) → g'.map s ≡ Some m → m.block ≡ b → (g.map s ≡ Some m) ⊎ (g.owner b ≢ id))
     → ((p : ℕ) → o.written ≤ p → IsFilling doing b p → IsFilling doing' b p)
     → LawfulOwned z g id doing cleared wiped b o → LawfulOwned z g' id doing' cleared wiped b o

@@ -1,9 +1,9 @@
 -- Steps on page words: put and get.
 use Rattle.flash_rule.proofs.Words.{◌≡◌, ◌≢◌, ℕ, zero, suc, ◌*◌, ◌<◌, ◌≤◌, inl, inr, ⊎_elim, eq-eqb, ne_eqb, true, false, List, [], ◌∷◌, ◌++◌, Option}
 use Rattle.flash_rule.proofs.Words.{None, Some, length, set, sym, refl, ap, ◌∙◌, subst, arith, length-append, get_or, some, dite, ℕ_discrete}
-use Rattle.flash_rule.proofs.Words.{get_elem?, Numbers, MapWord, Open, Erasing, Pin, Owned, Pass, Broom, Role, Dealer, Player}
-use Rattle.flash_rule.proofs.Words.{Note, Gone, Clear, Accepted, Work, Carried, View, is_pass, is_player, owned_at, World, put_word, is_still, age_of}
-use Rattle.flash_rule.proofs.Words.{data_word, IsFilling, LawfulOwned, LawfulWork, LawfulView, Lawful, LawfulPin, Onward, next_page, words_in}
+use Rattle.flash_rule.proofs.Words.{get_elem?, Numbers, MapWord, Open, Erasing, Pin, Owned, Pass, Broom, Role, Dealer, Player, Note, Gone, Clear}
+use Rattle.flash_rule.proofs.Words.{Accepted, Work, Carried, View, is_pass, is_player, owned_at, World, put_word, is_still, age_of, data_word}
+use Rattle.flash_rule.proofs.Words.{IsFilling, LawfulOwned, LawfulWork, LawfulView, Lawful, LawfulPin, Onward, next_page, words_in, ◌+◌}
 use Rattle.flash_rule.specs.Plays.{SettledBut, Spared}
 use Rattle.flash_rule.proofs.Points.{eq_self}
 use Rattle.flash_rule.proofs.Owning.{some_same, blocks_apart, open_victim}
@@ -36,7 +36,8 @@ get_end (x ∷ xs) y zero is = absurd (omega arith)
 get_end (x ∷ xs) y (suc k) is = get_end xs y k (omega arith)
 
 -- the words put so far into the next page stand in it
-words_stand : (z : Numbers) (g : World) (owns : List Owned) (doing : Option Work) (o : Owned) → ((w : Work) → doing ≡ Some w → LawfulWork z g owns w) → (j : ℕ) → j < length (words_in doing o)
+words_stand : (z : Numbers) (g : World) (owns : List Owned) (doing : Option Work) (o : Owned) → ((w : Work) → doing ≡ Some w → LawfulWork z g owns w)
+    → (j : ℕ) → j < length (words_in doing o)
     → g.pages o.block (next_page o).page j ≡ get_or (words_in doing o) j 0
 words_stand z g owns None o lawful j low = absurd (omega arith)
 words_stand z g owns (Some w) o lawful j low =
@@ -45,14 +46,17 @@ words_stand z g owns (Some w) o lawful j low =
     (λ p.
     let here : words_in (Some w) o ≡ w.words = rw (eq-eqb w.page.block o.block b) (rw (eq-eqb w.page.page (next_page o).page p) refl) in
     let within : j < length w.words = subst (λ (l : List ℕ). j < length l) here low in
-    ap (λ c. g.pages c (next_page o).page j) (sym b) ∙ (ap (λ c. g.pages w.page.block c j) (sym p) ∙ ((lawful w refl).stands j within ∙ ap (λ (l : List ℕ). get_or l j 0) (sym here))))
-    (λ p. let none : words_in (Some w) o ≡ [] = rw (eq-eqb w.page.block o.block b) (rw (ne_eqb w.page.page (next_page o).page p) refl) in absurd (nothing j (subst (λ (l : List ℕ). j < length l) none low))))
+    ap (λ c. g.pages c (next_page o).page j) (sym b)
+    ∙ (ap (λ c. g.pages w.page.block c j) (sym p) ∙ ((lawful w refl).stands j within ∙ ap (λ (l : List ℕ). get_or l j 0) (sym here))))
+    (λ p. let none : words_in (Some w) o ≡ [] = rw (eq-eqb w.page.block o.block b) (rw (ne_eqb w.page.page (next_page o).page p) refl) in
+    absurd (nothing j (subst (λ (l : List ℕ). j < length l) none low))))
     (λ b. let none : words_in (Some w) o ≡ [] = rw (ne_eqb w.page.block o.block b) refl in absurd (nothing j (subst (λ (l : List ℕ). j < length l) none low)))
   where
     nothing : (j : ℕ) → j < 0 → ⊥
     nothing j low = omega arith
 
-module _ (z : Numbers) (g : World) (vs : List View) (id : ℕ) (v : View) (o : Owned) (x : ℕ) (law : Lawful z g vs) (at : get_elem? vs id ≡ some v) (player : is_player v.role ≡ true) (own : owned_at o.block v.owns ≡ Some o) (opened : o.phase ≡ Open) where
+module _ (z : Numbers) (g : World) (vs : List View) (id : ℕ) (v : View) (o : Owned) (x : ℕ) (law : Lawful z g vs) (at : get_elem? vs id ≡ some v)
+    (player : is_player v.role ≡ true) (own : owned_at o.block v.owns ≡ Some o) (opened : o.phase ≡ Open) where
   abbrev pub put_at : ℕ
   put_at = length (words_in v.work o)
 
@@ -68,42 +72,76 @@ module _ (z : Numbers) (g : World) (vs : List View) (id : ℕ) (v : View) (o : O
   entry : LawfulOwned z g id v.work v.cleared v.wiped o.block o
   entry = (law.views id v at).holding.owned o.block o own
 
+  else_block : (c q j : ℕ) → c ≢ o.block → put_world.pages c q j ≡ g.pages c q j
+  else_block c q j unlike = word_else g.pages o.block (next_page o).page put_at x c q j (λ same. unlike same.0)
+
+  else_page : (c q j : ℕ) → q ≢ (next_page o).page → put_world.pages c q j ≡ g.pages c q j
+  else_page c q j unlike = word_else g.pages o.block (next_page o).page put_at x c q j (λ same. unlike same.1)
+
+  programmed_stays : (c q j : ℕ) → q < (g.pins c).written → put_world.pages c q j ≡ g.pages c q j
+  programmed_stays c q j low =
+      word_else g.pages o.block (next_page o).page put_at x c q j (λ same.
+      let l : q < (g.pins o.block).written = subst (λ c. q < (g.pins c).written) same.0 low in
+      let w = entry.written in let e = same.1 in absurd (omega arith))
+
+  -- no later page of the block is being filled
+  filling_none : (q : ℕ) → (next_page o).page ≤ q → q ≢ (next_page o).page → IsFilling v.work o.block q → ⊥
+  filling_none q from later f =
+      let k = (law.views id v at).holding.work f.work f.is in
+      let same : k.entry ≡ o = some_same k.entry o (sym k.own ∙ subst (λ c. owned_at c v.owns ≡ Some o) (sym f.block) own) in
+      let e : k.entry.written ≡ o.written = ap (λ (y : Owned). y.written) same in
+      let l = f.page in
+      ⊎_elim (λ (t : f.work.page.page < k.entry.written). absurd (omega arith))
+      (λ (t : f.work.page.page ≡ k.entry.written). absurd (later (omega arith))) k.counted
+
+  put_block : LawfulOwned z put_world id (Some put_work) v.cleared v.wiped o.block o
+  put_block =
+      let mine = entry in
+      owned_with mine refl refl
+      (λ is q from below not.
+      let later : q ≢ (next_page o).page = λ same. not (record { work = put_work; is = refl; block = refl; page = sym same }) in
+      λ j most. else_page o.block q j later ∙ mine.rest is q from below (λ f. filling_none q from later f) j most)
+      mine.dead
+      (λ is. let e : Open ≡ Erasing = sym opened ∙ is in absurd (cc))
+
+  put_lawful : o.written < z.pages → put_at ≤ z.words → LawfulWork z put_world v.owns put_work
+  put_lawful room short =
+      let words = words_in v.work o in
+      let p = (next_page o).page in
+      let l : length (words ++ x ∷ []) ≡ length words + length (x ∷ []) = length-append words (x ∷ []) in
+      record {
+        entry = o;
+        own = own;
+        opened = opened;
+        generation = refl;
+        page = room;
+        counted = inr refl;
+        short = omega arith;
+        full = λ low. absurd (omega arith);
+        stands = λ j low. dite (ℕ_discrete j put_at)
+            (λ last. ap (λ k. put_word g.pages o.block p put_at x o.block p k) last
+            ∙ (word_here g.pages o.block p put_at x ∙ sym (get_end words x j last)))
+            (λ other.
+            let within : j < length words = omega arith in
+            word_else g.pages o.block p put_at x o.block p j (λ same. other same.2)
+            ∙ (words_stand z g v.owns v.work o (law.views id v at).holding.work j within ∙ sym (get_front words (x ∷ []) j within)));
+      }
+
   pub puts_word : o.written < z.pages → put_at ≤ z.words → SettledBut v o.block → Lawful z put_world (set vs id putter)
   puts_word room short settled =
       let h = law.views id v at in
       let b = o.block in
-      let p = (next_page o).page in
-      let i = put_at in
       let g' = put_world in
       let kind = h.kind in
       let holds = h.holding in
       let mine = entry in
-      let phase_is : (g.pins b).phase ≡ Open = mine.phase ∙ opened in
-      let else_block : (c q j : ℕ) → c ≢ b → g'.pages c q j ≡ g.pages c q j = λ c q j unlike. word_else g.pages b p i x c q j (λ same. unlike same.0) in
-      let else_page : (c q j : ℕ) → q ≢ p → g'.pages c q j ≡ g.pages c q j = λ c q j unlike. word_else g.pages b p i x c q j (λ same. unlike same.1) in
-      let programmed_stays : (c q j : ℕ) → q < (g.pins c).written → g'.pages c q j ≡ g.pages c q j = λ c q j low.
-      word_else g.pages b p i x c q j (λ same. let P : ℕ → Type 0 = λ c. q < (g.pins c).written in let l : q < (g.pins b).written = subst P same.0 low in let w = mine.written in let e = same.1 in absurd (omega arith)) in
       let on : Onward z g g' id id = onward_of z g id id g.map g'.pages g.badge g.carries
       (λ c other q j. else_block c q j (λ same. other (ap g.owner same ∙ mine.owner)))
       (λ c q j _ low. programmed_stays c q j low) (λ s m is. inl is) (λ n _ _. (refl, refl)) (λ n c is. inl is) in
       let knows = knowledge_kept z g g' id id on v (λ c is below. counted vs law id v at c is below) h.knowledge in
       let not_filling : (c q : ℕ) (e : Owned) → owned_at c v.owns ≡ Some e → c ≢ b → e.written ≤ q → IsFilling v.work c q → ⊥ = λ c q e owns unlike from f.
-      let P : ℕ → Type 0 = λ c. owned_at c v.owns ≡ Some e in
-      let s = settled f.work e f.is (subst P (sym f.block) owns) (λ same. unlike (sym f.block ∙ same)) in
+      let s = settled f.work e f.is (subst (λ c. owned_at c v.owns ≡ Some e) (sym f.block) owns) (λ same. unlike (sym f.block ∙ same)) in
       let l = f.page in absurd (omega arith) in
-      let not_filling_later : (q : ℕ) → p ≤ q → q ≢ p → IsFilling v.work b q → ⊥ = λ q from later f.
-      let k = holds.work f.work f.is in
-      let P : ℕ → Type 0 = λ c. owned_at c v.owns ≡ Some o in
-      let same : k.entry ≡ o = some_same k.entry o (sym k.own ∙ subst P (sym f.block) own) in
-      let e : k.entry.written ≡ o.written = ap (λ (y : Owned). y.written) same in
-      let l = f.page in
-      ⊎_elim (λ (t : f.work.page.page < k.entry.written). absurd (omega arith)) (λ (t : f.work.page.page ≡ k.entry.written). absurd (later (omega arith))) k.counted in
-      let now : LawfulOwned z g' id (Some put_work) v.cleared v.wiped b o = owned_with mine refl refl
-      (λ is q from below not.
-      let later : q ≢ p = λ same. not (record { work = put_work; is = refl; block = refl; page = sym same }) in
-      λ j most. else_page b q j later ∙ mine.rest is q from below (λ f. not_filling_later q from later f) j most)
-      mine.dead
-      (λ is. let e : Open ≡ Erasing = sym opened ∙ is in absurd (cc)) in
       let after : LawfulView z g' id putter = record {
         kind = kind_with kind refl kind.opens
             (λ is. let no : true ≡ false = sym player ∙ is in absurd (cc))
@@ -112,35 +150,15 @@ module _ (z : Numbers) (g : World) (vs : List View) (id : ℕ) (v : View) (o : O
         holding = holding_with holds refl refl holds.calls holds.lists
             (λ c e owns. dite (ℕ_discrete c b)
             (λ same.
-            let P : ℕ → Type 0 = λ c. owned_at c v.owns ≡ Some e in
-            let same_entry : o ≡ e = some_same o e (sym own ∙ subst P same owns) in
-            let Q : ℕ × Owned → Type 0 = λ y. LawfulOwned z g' id (Some put_work) v.cleared v.wiped y.0 y.1 in subst Q (λ t. (sym same t, same_entry t)) now)
+            let same_entry : o ≡ e = some_same o e (sym own ∙ subst (λ c. owned_at c v.owns ≡ Some e) same owns) in
+            subst (λ (y : ℕ × Owned). LawfulOwned z g' id (Some put_work) v.cleared v.wiped y.0 y.1) (λ t. (sym same t, same_entry t)) put_block)
             (λ unlike.
             let k = holds.owned c e owns in
             owned_with k refl refl
             (λ is q from below _ j most. else_block c q j unlike ∙ k.rest is q from below (λ f. not_filling c q e owns unlike from f) j most)
             k.dead
             (λ is q j low most below. else_block c q j unlike ∙ k.clean is q j low most below)))
-            (λ y is.
-            let same : put_work ≡ y = some_same put_work y is in
-            subst (λ (y : Work). LawfulWork z g' v.owns y) same
-            (record {
-              entry = o;
-              own = own;
-              opened = opened;
-              generation = refl;
-              page = room;
-              counted = inr refl;
-              short = (let l = length-append (words_in v.work o) (x ∷ []) in omega arith);
-              full = λ low. absurd (omega arith);
-              stands = λ j low. dite (ℕ_discrete j i)
-                  (λ last. ap (λ k. put_word g.pages b p i x b p k) last ∙ (word_here g.pages b p i x ∙ sym (get_end (words_in v.work o) x j last)))
-                  (λ other.
-                  let l = length-append (words_in v.work o) (x ∷ []) in
-                  let within : j < length (words_in v.work o) = omega arith in
-                  word_else g.pages b p i x b p j (λ same. other same.2)
-                  ∙ (words_stand z g v.owns v.work o holds.work j within ∙ sym (get_front (words_in v.work o) (x ∷ []) j within)));
-            }))
+            (λ y is. subst (λ (y : Work). LawfulWork z g' v.owns y) (some_same put_work y is) (put_lawful room short))
             (λ y is.
             let k = holds.source y is in
             let unlike = blocks_apart v.owns o k.entry y.page.block own k.own (open_victim o k.entry opened k.victim) in
@@ -151,14 +169,13 @@ module _ (z : Numbers) (g : World) (vs : List View) (id : ℕ) (v : View) (o : O
       law.callers
       (λ c low. dite (ℕ_discrete c b)
       (λ same.
-      let block = law.blocks c low in
-      let k = block_kept z g g vs id v putter c at block refl refl (λ q j. refl) refl (λ e is. (e, is)) in
+      let k = block_kept z g g vs id v putter c at (law.blocks c low) refl refl (λ q j. refl) refl (λ e is. (e, is)) in
       record {
         readers = k.readers;
         written = k.written;
         generation = k.generation;
         free = k.free;
-        rest = λ is. let e : false ≡ true = sym (ap (λ j. is_still (g.pins j).phase) same ∙ ap is_still phase_is) ∙ is in absurd (cc);
+        rest = λ is. let e : false ≡ true = sym (ap (λ j. is_still (g.pins j).phase) same ∙ ap is_still (mine.phase ∙ opened)) ∙ is in absurd (cc);
         owner = k.owner;
       })
       (λ unlike. block_kept z g g' vs id v putter c at (law.blocks c low) refl refl (λ q j. else_block c q j unlike) refl (λ e is. (e, is))))
@@ -167,7 +184,8 @@ module _ (z : Numbers) (g : World) (vs : List View) (id : ℕ) (v : View) (o : O
 -- ---- get
 
 -- an accepted pin's page is what it was at the look
-pub gets_accepted : (z : Numbers) (g : World) (vs : List View) (id : ℕ) (v : View) (m : MapWord) (value : List ℕ) → Lawful z g vs → get_elem? vs id ≡ some v → v.pin ≡ Accepted m value
+pub gets_accepted : (z : Numbers) (g : World) (vs : List View) (id : ℕ) (v : View) (m : MapWord) (value : List ℕ) → Lawful z g vs
+    → get_elem? vs id ≡ some v → v.pin ≡ Accepted m value
     → (m.block < z.blocks) × (m.page < z.pages) × ((i : ℕ) → i < z.words → g.pages m.block m.page i ≡ data_word value i)
 gets_accepted z g vs id v m value law at is =
     let c = subst (λ (p : Pin). LawfulPin z g v.known p) is (law.views id v at).knowledge.pin in
@@ -188,7 +206,8 @@ pins_by_pass r pin m value free is = by_role r free where
   by_role Gone free = absurd (not_clear (free refl))
 
 -- while a page is pinned, nobody erases its block
-pub spared : (z : Numbers) (g : World) (vs : List View) (id : ℕ) (v : View) (m : MapWord) (value : List ℕ) (c : Carried) → Lawful z g vs → get_elem? vs id ≡ some v → v.pin ≡ Accepted m value → v.copy ≡ Some c → Spared v m c
+pub spared : (z : Numbers) (g : World) (vs : List View) (id : ℕ) (v : View) (m : MapWord) (value : List ℕ) (c : Carried) → Lawful z g vs
+    → get_elem? vs id ≡ some v → v.pin ≡ Accepted m value → v.copy ≡ Some c → Spared v m c
 spared z g vs id v m value c law at pinned copied =
     let h = law.views id v at in
     let t = pass_of v.role (pins_by_pass v.role v.pin m value h.kind.unpinned pinned) in

@@ -14,10 +14,12 @@ pub row_same : (x y n i j : ℕ) → i < n → j < n → x * n + i ≡ y * n + j
 row_same x y n i j low high same =
     dite (dec_lt x y)
     (λ less. absurd (row_apart x y n i j less low same))
-    (λ more. dite (dec_lt y x) (λ less. absurd (row_apart y x n j i less high (sym same))) (λ fewer. let e : x ≡ y = omega arith in let f : x * n ≡ y * n = ap (λ k. k * n) e in (e, omega arith)))
+    (λ more. dite (dec_lt y x) (λ less. absurd (row_apart y x n j i less high (sym same)))
+    (λ fewer. let e : x ≡ y = omega arith in let f : x * n ≡ y * n = ap (λ k. k * n) e in (e, omega arith)))
 
 -- the place of a page word tells block, page and word
-pub page_same : (z : Numbers) (b p i c q j : ℕ) → p < z.pages → q < z.pages → i ≤ z.words → j ≤ z.words → page_index z b p + i ≡ page_index z c q + j → (b ≡ c) × (p ≡ q) × (i ≡ j)
+pub page_same : (z : Numbers) (b p i c q j : ℕ) → p < z.pages → q < z.pages → i ≤ z.words → j ≤ z.words → page_index z b p + i ≡ page_index z c q + j
+    → (b ≡ c) × (p ≡ q) × (i ≡ j)
 page_same z b p i c q j p_low q_low i_low j_low same =
     let r = row_same (b * z.pages + p) (c * z.pages + q) (z.words + 1) i j (omega arith) (omega arith) (omega arith) in
     let t = row_same b c z.pages p q p_low q_low r.0 in (t.0, t.1, r.1)
@@ -29,7 +31,8 @@ row_within x y n i less small = let m : suc x * n ≤ y * n = mul-le-mul_right n
 pub pin_within : (z : Numbers) (b : ℕ) → b < z.blocks → pin_index z b < table_words_of z.blocks z.pages z.words z.sectors
 pin_within z b low = omega arith
 
-pub page_within : (z : Numbers) (b p i : ℕ) → b < z.blocks → p < z.pages → i ≤ z.words → page_index z b p + i < table_words_of z.blocks z.pages z.words z.sectors
+pub page_within : (z : Numbers) (b p i : ℕ) → b < z.blocks → p < z.pages → i ≤ z.words
+    → page_index z b p + i < table_words_of z.blocks z.pages z.words z.sectors
 page_within z b p i b_low p_low i_low =
     let r = row_within b z.blocks z.pages p b_low p_low in
     let t = row_within (b * z.pages + p) (z.blocks * z.pages) (z.words + 1) i r (omega arith) in omega arith
@@ -69,7 +72,8 @@ module _ (z : Numbers) (m : ℕ → Option MapWord) (q : ℕ → PinWord) (r : �
       let n = sector_word x in
       record {
         size = length-set ws s n ∙ fits.size;
-        sectors = λ t below. put_all m s x (λ j y. j < z.sectors → get_or (set ws s n) j 0 ≡ sector_word y) (λ h. at_here s n (omega arith)) (λ j apart h. at_else s n j apart ∙ fits.sectors j h) t below;
+        sectors = λ t below. put_all m s x (λ j y. j < z.sectors → get_or (set ws s n) j 0 ≡ sector_word y) (λ h. at_here s n (omega arith))
+            (λ j apart h. at_else s n j apart ∙ fits.sectors j h) t below;
         blocks = λ c below. at_else s n (pin_index z c) (λ e. absurd (omega arith)) ∙ fits.blocks c below;
         pages = λ c p i c_low p_low i_low. at_else s n (page_index z c p + i) (λ e. absurd (omega arith)) ∙ fits.pages c p i c_low p_low i_low;
       }
@@ -87,7 +91,10 @@ module _ (z : Numbers) (m : ℕ → Option MapWord) (q : ℕ → PinWord) (r : �
             (λ h. put_all (r b) p (put (r b p) i x) (λ d f. d < z.pages → get_or (set ws k x) (page_index z b d + j) 0 ≡ f j)
             (λ h. put_all (r b p) i x (λ j y. j ≤ z.words → get_or (set ws k x) (page_index z b p + j) 0 ≡ y)
             (λ h. at_here k x (page_within z b p i b_low p_low i_low))
-            (λ j apart h. at_else k x (page_index z b p + j) (λ e. apart (page_same z b p j b p i p_low p_low h i_low e).2) ∙ fits.pages b p j b_low p_low h) j j_low)
-            (λ d apart h. at_else k x (page_index z b d + j) (λ e. apart (page_same z b d j b p i h p_low j_low i_low e).1) ∙ fits.pages b d j b_low h j_low) d d_low)
-            (λ c apart h. at_else k x (page_index z c d + j) (λ e. apart (page_same z c d j b p i d_low p_low j_low i_low e).0) ∙ fits.pages c d j h d_low j_low) c c_low;
+            (λ j apart h. at_else k x (page_index z b p + j) (λ e. apart (page_same z b p j b p i p_low p_low h i_low e).2)
+            ∙ fits.pages b p j b_low p_low h) j j_low)
+            (λ d apart h. at_else k x (page_index z b d + j) (λ e. apart (page_same z b d j b p i h p_low j_low i_low e).1)
+            ∙ fits.pages b d j b_low h j_low) d d_low)
+            (λ c apart h. at_else k x (page_index z c d + j) (λ e. apart (page_same z c d j b p i d_low p_low j_low i_low e).0)
+            ∙ fits.pages c d j h d_low j_low) c c_low;
       }

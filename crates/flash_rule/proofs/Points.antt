@@ -52,7 +52,8 @@ module _ {X : Type 0} (f : Name → X) (n : Name) (x : X) where
   name_all P here there m = by_test (same_name m n) refl where
     by_test : (t : Bool) → same_name m n ≡ t → P m (put_name f n x m)
     by_test true is = let same = one_name m n is in subst (λ (k : Name). P k (put_name f n x k)) (sym same) (subst (P n) (sym name_here) here)
-    by_test false is = let apart : ¬ (m ≡ n) = λ same. let no : false ≡ true = sym is ∙ (ap (λ k. same_name k n) same ∙ name_self n) in absurd (cc) in subst (P m) (sym (name_else m apart)) (there m apart)
+    by_test false is = let apart : ¬ (m ≡ n) = λ same. let no : false ≡ true = sym is ∙ (ap (λ k. same_name k n) same ∙ name_self n) in absurd (cc) in
+        subst (P m) (sym (name_else m apart)) (there m apart)
 
 -- the total after a change of one view
 pub total_set : (f : View → ℕ) (vs : List View) (id : ℕ) (v w : View) → get_elem? vs id ≡ some v → total f (set vs id w) + f v ≡ total f vs + f w

@@ -1,36 +1,21 @@
 -- Each step of a broom on a pin word, as the table asks for it: whatever the table is, the step keeps the rule and tells what it says.
-use Rattle.flash_rule.proofs.Words.{◌≡◌, ◌≢◌, ℕ, ◌+◌, ◌%◌, ◌^◌, ◌<◌, ◌≤◌, ◌⊎◌, inl, inr, ⊎_elim, ◌==◌, eq-eqb, ne_eqb, true, List, [], ◌∷◌, ◌++◌, Some}
-use Rattle.flash_rule.proofs.Words.{set, sym, refl, ap, ◌∙◌, subst, arith, get_or, either, some, none, dite, ℕ_discrete, get_elem?, State, Act, Valid}
-use Rattle.flash_rule.proofs.Words.{step, keeps, stepped, carried_after, Allows, Numbers, pin_word, FitsPin, freed_added, kept_added, pin_index}
-use Rattle.flash_rule.proofs.Words.{PinWord, Phase, Free, Open, Closed, Victim, Drained, Erasing, Retired, NEXT_PHASE, Name, Role, Dealer, Player}
-use Rattle.flash_rule.proofs.Words.{Note, Gone, Owned, View, is_broom, owned_at, without, with_owned, World, Fits, put, is_owned, freed_as, Lawful}
-use Rattle.flash_rule.proofs.Words.{Ruled, Sitter, CanClaim, Claimed, CanCondemn, Condemned, CanDrain, CanRenew, CanRetire, owned_as, cycle_of}
-use Rattle.flash_rule.proofs.Words.{claim_told, condemn_told, drain_told, freed_told, kept_told, retired_told}
+use Rattle.flash_rule.proofs.Words.{◌≡◌, ◌≢◌, ℕ, ◌+◌, ◌%◌, ◌^◌, ◌<◌, ◌≤◌, ⊎_elim, ◌==◌, eq-eqb, ne_eqb, true, List, [], ◌∷◌, ◌++◌, set, sym, refl, ap}
+use Rattle.flash_rule.proofs.Words.{◌∙◌, subst, arith, get_or, either, some, none, dite, ℕ_discrete, get_elem?, State, Act, Valid, step, keeps}
+use Rattle.flash_rule.proofs.Words.{stepped, carried_after, Allows, Numbers, pin_word, FitsPin, freed_added, kept_added, pin_index, PinWord, Open}
+use Rattle.flash_rule.proofs.Words.{Closed, Victim, Drained, Erasing, Retired, NEXT_PHASE, Owned, View, is_broom, without, with_owned, World, Fits}
+use Rattle.flash_rule.proofs.Words.{is_owned, freed_as, Lawful, Ruled, Sitter, CanClaim, Claimed, CanCondemn, Condemned, CanDrain, CanRenew}
+use Rattle.flash_rule.proofs.Words.{CanRetire, owned_as, cycle_of, claim_told, condemn_told, drain_told, freed_told, kept_told, retired_told}
 use Rattle.geometry.proofs.PinBits as bits
 use Rattle.flash_rule.specs.BroomPlays.{Loaded, state_told}
-use Rattle.flash_rule.proofs.Points.{put_here}
-use Rattle.flash_rule.proofs.Places.{fits_load, fits_pin, pin_within}
-use Rattle.flash_rule.proofs.Owning.{some_same}
+use Rattle.flash_rule.proofs.Roles.{player_of, broom_player, broom_live, phase_or_not}
 use Rattle.flash_rule.proofs.Assembly.{state_fits}
-use Rattle.flash_rule.proofs.PinSteps.{Deeds, deeds, turned, moved}
-use Rattle.flash_rule.proofs.Reclaiming.{unowned, notes, owner_numbers, broom_live}
-use Rattle.flash_rule.proofs.ReclaimSteps.{claims, claimed_state, claimer, condemns, condemned_state, condemner, condemn_deeds, drains_block, drained_state, drainer}
-use Rattle.flash_rule.proofs.EraseSteps.{retires, retired_state, retirer, frees, freed_state, freer, keeps_block, kept_state, keeper, erasing_low, erasing_written, is_erasing}
-
-drained_or_not : (f : Phase) → (f ≡ Drained) ⊎ (¬ (f ≡ Drained))
-drained_or_not Free = inr (λ e. absurd (cc))
-drained_or_not Open = inr (λ e. absurd (cc))
-drained_or_not Closed = inr (λ e. absurd (cc))
-drained_or_not Victim = inr (λ e. absurd (cc))
-drained_or_not Drained = inl refl
-drained_or_not Erasing = inr (λ e. absurd (cc))
-drained_or_not Retired = inr (λ e. absurd (cc))
-
-broom_name : (r : Role) → is_broom r ≡ true → (n : Name) × (r ≡ Player n)
-broom_name (Player n) is = (n, refl)
-broom_name Dealer is = absurd (cc)
-broom_name Note is = absurd (cc)
-broom_name Gone is = absurd (cc)
+use Rattle.flash_rule.proofs.PinSteps.{Deeds, deeds, turned}
+use Rattle.flash_rule.proofs.Ruling.{ruled_as, ruled_plus, ruled_still, same_block, same_owned}
+use Rattle.flash_rule.proofs.Reclaiming.{unowned, notes, owner_numbers}
+use Rattle.flash_rule.proofs.ReclaimSteps.{claims, claimed_state, claimer, condemns, condemned_state, condemner, condemn_deeds, drains_block}
+use Rattle.flash_rule.proofs.ReclaimSteps.{drained_state, drainer}
+use Rattle.flash_rule.proofs.EraseSteps.{retires, retired_state, retirer, frees, freed_state, freer, keeps_block, kept_state, keeper, erasing_low}
+use Rattle.flash_rule.proofs.EraseSteps.{erasing_written, is_erasing}
 
 -- what an exchange leaves
 exchanged : (n old new : ℕ) → n ≡ old → either (n == old) new n ≡ new
@@ -39,50 +24,14 @@ exchanged n old new same = ap (λ t. either t new n) (eq-eqb n old same)
 left_alone : (n old new : ℕ) → n ≢ old → either (n == old) new n ≡ n
 left_alone n old new other = ap (λ t. either t new n) (ne_eqb n old other)
 
--- a pin word after a step on it that keeps the rule
-module _ (z : Numbers) (id : ℕ) (me : Sitter) (t : State (Unit {0}) View) (g : World) (fits : Fits z g.map g.pins g.pages t.words) (b : ℕ) (low : b < z.blocks) where
-  abbrev word_of : ℕ
-  word_of = get_or t.words (pin_index z b) 0
-
-  -- it becomes that of another state
-  ruled_as : (q : PinWord) (d : Deeds) (w : View) (new : ℕ) → new ≡ pin_word q → Lawful z (turned g b q id d) (set t.views id w)
-      → Ruled z (stepped t (pin_index z b) new id me.1 w keeps)
-  ruled_as q d w new is lawful = (
-    turned g b q id d,
-    subst (λ y. Fits z g.map (put g.pins b q) g.pages (set t.words (pin_index z b) y)) (sym is) (fits_pin z g.map g.pins g.pages t.words fits b q low),
-    lawful,
-  )
-
-  -- an addition doesn't wrap
-  ruled_plus : (q : PinWord) (w : View) (added : ℕ) → pin_word (g.pins b) + added ≡ pin_word q → Lawful z (moved g b q id) (set t.views id w)
-      → Ruled z (stepped t (pin_index z b) ((word_of + added) % 2 ^ 64) id me.1 w keeps)
-  ruled_plus q w added sum lawful =
-      let after : World = moved g b q id in
-      let fitting : FitsPin q = subst FitsPin (put_here g.pins b q) (state_fits z after (set t.views id w) lawful b low) in
-      let found : word_of ≡ pin_word (g.pins b) = fits.blocks b low in
-      ruled_as q (deeds g) w ((word_of + added) % 2 ^ 64) (ap (λ (y : ℕ). (y + added) % 2 ^ 64) found ∙ bits.adds (g.pins b) q added fitting sum) lawful
-
-  -- it stays
-  ruled_still : (w : View) (new : ℕ) → new ≡ word_of → Lawful z g (set t.views id w) → Ruled z (stepped t (pin_index z b) new id me.1 w keeps)
-  ruled_still w new is lawful = (
-    g,
-    subst (λ y. Fits z g.map g.pins g.pages (set t.words (pin_index z b) y)) (sym is) (fits_load z g.map g.pins g.pages t.words fits (pin_index z b) (pin_within z b low)),
-    lawful,
-  )
-
 module _ (z : Numbers) (slots id : ℕ) (me : Sitter) where
-  same_block : me.0.numbers ≡ z → (b c : ℕ) → pin_index z b ≡ pin_index me.0.numbers c → b ≡ c
-  same_block numbers b c is = let e : me.0.numbers.sectors ≡ z.sectors = ap (λ (y : Numbers). y.sectors) numbers in omega arith
-
-  same_owned : me.0.numbers ≡ z → (o e : Owned) → owned_at o.block me.0.owns ≡ Some o → owned_at e.block me.0.owns ≡ Some e → pin_index z o.block ≡ pin_index me.0.numbers e.block → o ≡ e
-  same_owned numbers o e here there is = some_same o e (sym here ∙ (ap (λ c. owned_at c me.0.owns) (same_block numbers o.block e.block is) ∙ there))
-
   numbers_now : (g : World) (vs : List View) → Lawful z g vs → get_elem? vs id ≡ some me.0 → is_broom me.0.role ≡ true → me.0.numbers ≡ z
   numbers_now g vs law at broom = (law.views id me.0 at).kind.numbers (broom_live me.0.role broom)
 
   -- ---- state
   -- a broom loads the state of a block
-  pub state_allowed : (b : ℕ) → is_broom me.0.role ≡ true → b < z.blocks → Allows (Ruled z) slots id me (pin_index z b) (λ n. n) (state_told (step slots (pin_index z b) 0 0 none) me)
+  pub state_allowed : (b : ℕ) → is_broom me.0.role ≡ true → b < z.blocks
+      → Allows (Ruled z) slots id me (pin_index z b) (λ n. n) (state_told (step slots (pin_index z b) 0 0 none) me)
   state_allowed b broom low t (g, fits, law) _ at _ =
       let v : View = me.0 in
       let p : PinWord = g.pins b in
@@ -91,34 +40,67 @@ module _ (z : Numbers) (slots id : ℕ) (me : Sitter) where
       let found : n ≡ pin_word p = fits.blocks b low in
       let fitting = state_fits z g t.views law b low in
       let numbers = numbers_now g t.views law at broom in
-      let young : p.generation < v.numbers.endurance = let r = (law.blocks b low).generation in let e : v.numbers.endurance ≡ z.endurance = ap (λ (y : Numbers). y.endurance) numbers in omega arith in
-      let within : p.written ≤ v.numbers.pages = let r = (law.blocks b low).written in let e : v.numbers.pages ≡ z.pages = ap (λ (y : Numbers). y.pages) numbers in omega arith in
+      let young : p.generation < v.numbers.endurance = let r = (law.blocks b low).generation in let e : v.numbers.endurance ≡ z.endurance =
+      ap (λ (y : Numbers). y.endurance) numbers in omega arith in
+      let within : p.written ≤ v.numbers.pages = let r = (law.blocks b low).written in
+      let e : v.numbers.pages ≡ z.pages = ap (λ (y : Numbers). y.pages) numbers in omega arith in
       let noted : List (ℕ × ℕ) = v.loaded ++ (b, n) ∷ [] in
       let answer : (w : View) → Lawful z g (set t.views id w) → Loaded v b n w
-      → (w : View) × (a : Act (Unit {0})) × Valid t.homes me.1 a × Ruled z (stepped t k n id me.1 w a) × state_told (step slots k 0 0 none) me n (w, carried_after me.1 a) = λ w lawful told. (
+      → (w : View) × (a : Act (Unit {0})) × Valid t.homes me.1 a × Ruled z (stepped t k n id me.1 w a)
+      × state_told (step slots k 0 0 none) me n (w, carried_after me.1 a) = λ w lawful told. (
         w,
         keeps,
         tt,
         ruled_still z id me t g fits b low w n refl lawful,
-        (refl, λ c _ is. subst (λ (j : ℕ). Loaded v j n w) (same_block numbers b c is) told),
+        (refl, λ c _ is. subst (λ (j : ℕ). Loaded v j n w) (same_block z me numbers b c is) told),
       ) in
       ⊎_elim
       (λ (drained : p.phase ≡ Drained). dite (ℕ_discrete p.readers 0)
       (λ none. answer (record v { loaded = noted }) (notes z g t.views id v law at noted v.lost v.busy v.stale)
-      (record { state = p; fits = fitting; young = young; within = within; found = found; ready = λ _ _. refl; busy = λ _ some. absurd (omega arith); stale = λ not. absurd (not drained) }))
+      (record {
+        state = p;
+        fits = fitting;
+        young = young;
+        within = within;
+        found = found;
+        ready = λ _ _. refl;
+        busy = λ _ some. absurd (omega arith);
+        stale = λ not. absurd (not drained);
+      }))
       (λ some. answer (record v { loaded = noted; busy = v.busy ++ b ∷ [] }) (notes z g t.views id v law at noted v.lost (v.busy ++ b ∷ []) v.stale)
-      (record { state = p; fits = fitting; young = young; within = within; found = found; ready = λ _ none. absurd (some none); busy = λ _ _. refl; stale = λ not. absurd (not drained) })))
-      (λ (other : ¬ (p.phase ≡ Drained)). answer (record v { loaded = noted; stale = v.stale ++ b ∷ [] }) (notes z g t.views id v law at noted v.lost v.busy (v.stale ++ b ∷ []))
-      (record { state = p; fits = fitting; young = young; within = within; found = found; ready = λ drained _. absurd (other drained); busy = λ drained _. absurd (other drained); stale = λ _. refl }))
-      (drained_or_not p.phase)
+      (record {
+        state = p;
+        fits = fitting;
+        young = young;
+        within = within;
+        found = found;
+        ready = λ _ none. absurd (some none);
+        busy = λ _ _. refl;
+        stale = λ not. absurd (not drained);
+      })))
+      (λ (other : ¬ (p.phase ≡ Drained)).
+      answer (record v { loaded = noted; stale = v.stale ++ b ∷ [] }) (notes z g t.views id v law at noted v.lost v.busy (v.stale ++ b ∷ []))
+      (record {
+        state = p;
+        fits = fitting;
+        young = young;
+        within = within;
+        found = found;
+        ready = λ drained _. absurd (other drained);
+        busy = λ drained _. absurd (other drained);
+        stale = λ _. refl;
+      }))
+      (phase_or_not p.phase Drained)
 
   -- ---- an exchange
   -- it finds the expected word, and the block turns, or it finds another one, and only the seat's notes change
-  exchange : (b : ℕ) (p q : PinWord) (d : Deeds) (won lost : View) (Tells : View → Type 0) (t : State (Unit {0}) View) (g : World) → Fits z g.map g.pins g.pages t.words
+  exchange : (b : ℕ) (p q : PinWord) (d : Deeds) (won lost : View) (Tells : View → Type 0) (t : State (Unit {0}) View) (g : World)
+      → Fits z g.map g.pins g.pages t.words
       → Lawful z g t.views → b < z.blocks → FitsPin p → (g.pins b ≡ p → pin_word (g.pins b) + NEXT_PHASE ≡ pin_word q)
       → (get_or t.words (pin_index z b) 0 ≡ pin_word p → g.pins b ≡ p → Lawful z (turned g b q id d) (set t.views id won) × Tells won)
       → (get_or t.words (pin_index z b) 0 ≢ pin_word p → Lawful z g (set t.views id lost) × Tells lost)
-      → (w : View) × Ruled z (stepped t (pin_index z b) (either (get_or t.words (pin_index z b) 0 == pin_word p) (pin_word p + NEXT_PHASE) (get_or t.words (pin_index z b) 0)) id me.1 w keeps) × Tells w
+      → (w : View) × Ruled z (stepped t (pin_index z b)
+      (either (get_or t.words (pin_index z b) 0 == pin_word p) (pin_word p + NEXT_PHASE) (get_or t.words (pin_index z b) 0)) id me.1 w keeps) × Tells w
   exchange b p q d won lost Tells t g fits law low fitting next wins loses =
       let n : ℕ = get_or t.words (pin_index z b) 0 in
       let old : ℕ = pin_word p in
@@ -128,29 +110,33 @@ module _ (z : Numbers) (slots id : ℕ) (me : Sitter) where
       (λ (is : n ≡ old).
       let same : g.pins b ≡ p = bits.pin_same (g.pins b) p (state_fits z g t.views law b low) fitting (sym found ∙ is) in
       let now : either (n == old) new n ≡ pin_word q = exchanged n old new is ∙ (ap (λ (y : PinWord). pin_word y + NEXT_PHASE) (sym same) ∙ next same) in
-      let k = wins is same in (won, ruled_as z id me t g fits b low q d won (either (n == old) new n) now k.0, k.1))
+      let k = wins is same in (won, ruled_as z id me t g fits b low q id d won (either (n == old) new n) now k.0, k.1))
       (λ (other : n ≢ old).
       let k = loses other in (lost, ruled_still z id me t g fits b low lost (either (n == old) new n) (left_alone n old new other) k.0, k.1))
 
   -- what it records is of the block and of the state that were asked for
-  told_of : (Won : ℕ → PinWord → Type 0) (b : ℕ) (p : PinWord) → me.0.numbers ≡ z → FitsPin p → Won b p → (c : ℕ) (q : PinWord) → FitsPin q → pin_index z b ≡ pin_index me.0.numbers c
+  told_of : (Won : ℕ → PinWord → Type 0) (b : ℕ) (p : PinWord) → me.0.numbers ≡ z → FitsPin p → Won b p → (c : ℕ) (q : PinWord) → FitsPin q
+      → pin_index z b ≡ pin_index me.0.numbers c
       → pin_word p ≡ pin_word q → Won c q
   told_of Won b p numbers fitting told c q fitting' is first =
-      let same : p ≡ q = bits.pin_same p q fitting fitting' first in subst (λ (x : ℕ × PinWord). Won x.0 x.1) (λ i. (same_block numbers b c is i, same i)) told
+      let same : p ≡ q = bits.pin_same p q fitting fitting' first in
+      subst (λ (x : ℕ × PinWord). Won x.0 x.1) (λ i. (same_block z me numbers b c is i, same i)) told
 
   low_block : (b : ℕ) → me.0.numbers ≡ z → b < me.0.numbers.blocks → b < z.blocks
   low_block b numbers low = let e : me.0.numbers.blocks ≡ z.blocks = ap (λ (y : Numbers). y.blocks) numbers in omega arith
 
   -- a broom exchanges a closed block's word for a victim's
   pub claim_allowed : (b : ℕ) (p : PinWord) → is_broom me.0.role ≡ true → CanClaim me.0 b p
-      → Allows (Ruled z) slots id me (pin_index z b) (λ n. either (n == pin_word p) (pin_word p + NEXT_PHASE) n) (claim_told (step slots (pin_index z b) (pin_word p) (pin_word p + NEXT_PHASE) none) me)
+      → Allows (Ruled z) slots id me (pin_index z b) (λ n. either (n == pin_word p) (pin_word p + NEXT_PHASE) n)
+      (claim_told (step slots (pin_index z b) (pin_word p) (pin_word p + NEXT_PHASE) none) me)
   claim_allowed b p broom can t (g, fits, law) _ at _ =
       let v : View = me.0 in
       let n : ℕ = get_or t.words (pin_index z b) 0 in
       let numbers = numbers_now g t.views law at broom in
       let low = low_block b numbers can.low in
       let closed : g.pins b ≡ p → (g.pins b).phase ≡ Closed = λ same. ap (λ (y : PinWord). y.phase) same ∙ can.closed in
-      let e = exchange b p (claimed_state z g t.views id v b law at broom low can.rested) (deeds g) (claimer z g t.views id v b law at broom low can.rested) (record v { lost = v.lost ++ b ∷ [] })
+      let e = exchange b p (claimed_state z g t.views id v b law at broom low can.rested) (deeds g)
+      (claimer z g t.views id v b law at broom low can.rested) (record v { lost = v.lost ++ b ∷ [] })
       (Claimed v b p n) t g fits law low can.fits (λ same. bits.next_phase (g.pins b) Closed Victim (closed same) refl)
       (λ is same. (
         claims z g t.views id v b law at broom low can.rested (closed same),
@@ -160,36 +146,46 @@ module _ (z : Numbers) (slots id : ℕ) (me : Sitter) where
           lost = λ not. absurd (not is);
         },
       ))
-      (λ other. (notes z g t.views id v law at v.loaded (v.lost ++ b ∷ []) v.busy v.stale, record { fresh = λ is. absurd (other is); won = λ is. absurd (other is); lost = λ _. refl })) in
+      (λ other. (
+        notes z g t.views id v law at v.loaded (v.lost ++ b ∷ []) v.busy v.stale,
+        record { fresh = λ is. absurd (other is); won = λ is. absurd (other is); lost = λ _. refl },
+      )) in
       (e.0, keeps, tt, e.1, (refl, λ c y can' is first. told_of (λ c y. Claimed v c y n e.0) b p numbers can.fits e.2 c y can'.fits is first))
 
   -- a broom exchanges the word of a drained block without readers for an erasing one's
   pub condemn_allowed : (b : ℕ) (p : PinWord) → is_broom me.0.role ≡ true → CanCondemn me.0 b p
-      → Allows (Ruled z) slots id me (pin_index z b) (λ n. either (n == pin_word p) (pin_word p + NEXT_PHASE) n) (condemn_told (step slots (pin_index z b) (pin_word p) (pin_word p + NEXT_PHASE) none) me)
+      → Allows (Ruled z) slots id me (pin_index z b) (λ n. either (n == pin_word p) (pin_word p + NEXT_PHASE) n)
+      (condemn_told (step slots (pin_index z b) (pin_word p) (pin_word p + NEXT_PHASE) none) me)
   condemn_allowed b p broom can t (g, fits, law) _ at _ =
       let v : View = me.0 in
       let n : ℕ = get_or t.words (pin_index z b) 0 in
       let numbers = numbers_now g t.views law at broom in
       let low = low_block b numbers can.low in
-      let name = broom_name v.role broom in
+      let name = player_of v.role (broom_player v.role broom) in
       let drained : g.pins b ≡ p → (g.pins b).phase ≡ Drained = λ same. ap (λ (y : PinWord). y.phase) same ∙ can.drained in
-      let e = exchange b p (condemned_state z g t.views id v b law at broom low can.rested) (condemn_deeds z g t.views id v b law at broom low can.rested name.0)
+      let e = exchange b p (condemned_state z g t.views id v b law at broom low can.rested)
+      (condemn_deeds z g t.views id v b law at broom low can.rested name.0)
       (condemner z g t.views id v b law at broom low can.rested) (record v { busy = v.busy ++ b ∷ [] })
       (Condemned v b p n) t g fits law low can.fits (λ same. bits.next_phase (g.pins b) Drained Erasing (drained same) refl)
       (λ is same. (
         condemns z g t.views id v b law at broom low can.rested name.0 name.1 (drained same) (ap (λ (y : PinWord). y.readers) same ∙ can.unread),
         record {
           fresh = λ _. unowned z g t.views id v law at b (ap is_owned (drained same));
-          won = λ _. ap (λ (y : PinWord). record v { owns = with_owned (owned_as b y Erasing) v.owns; erases = v.erases ++ cycle_of (owned_as b y Erasing) ∷ []; wiped = 0 }) same;
+          won = λ _. ap (λ (y : PinWord).
+              record v { owns = with_owned (owned_as b y Erasing) v.owns; erases = v.erases ++ cycle_of (owned_as b y Erasing) ∷ []; wiped = 0 }) same;
           busy = λ not. absurd (not is);
         },
       ))
-      (λ other. (notes z g t.views id v law at v.loaded v.lost (v.busy ++ b ∷ []) v.stale, record { fresh = λ is. absurd (other is); won = λ is. absurd (other is); busy = λ _. refl })) in
+      (λ other. (
+        notes z g t.views id v law at v.loaded v.lost (v.busy ++ b ∷ []) v.stale,
+        record { fresh = λ is. absurd (other is); won = λ is. absurd (other is); busy = λ _. refl },
+      )) in
       (e.0, keeps, tt, e.1, (refl, λ c y can' is first. told_of (λ c y. Condemned v c y n e.0) b p numbers can.fits e.2 c y can'.fits is first))
 
   -- ---- drain
   -- the owner of a cleared victim gives it up
-  pub drain_allowed : (o : Owned) → CanDrain me.0 o → Allows (Ruled z) slots id me (pin_index z o.block) (λ n. (n + NEXT_PHASE) % 2 ^ 64) (drain_told (step slots (pin_index z o.block) NEXT_PHASE 0 none) me)
+  pub drain_allowed : (o : Owned) → CanDrain me.0 o
+      → Allows (Ruled z) slots id me (pin_index z o.block) (λ n. (n + NEXT_PHASE) % 2 ^ 64) (drain_told (step slots (pin_index z o.block) NEXT_PHASE 0 none) me)
   drain_allowed o can t (g, fits, law) _ at _ =
       let v : View = me.0 in
       let h = law.views id v at in
@@ -200,14 +196,21 @@ module _ (z : Numbers) (slots id : ℕ) (me : Sitter) where
         w,
         keeps,
         tt,
-        ruled_plus z id me t g fits o.block mine.low (drained_state z g t.views id v o law at) w NEXT_PHASE sum (drains_block z g t.views id v o law at can),
-        (refl, λ e can' is. ap (λ (y : Owned). record v { owns = without y.block v.owns; drains = v.drains ++ cycle_of y ∷ []; ceded = v.ceded ++ record y { phase = Drained } ∷ [] }) (same_owned numbers o e can.own can'.own is)),
+        ruled_plus z id me t g fits o.block mine.low (drained_state z g t.views id v o law at) id (deeds g) w NEXT_PHASE sum
+            (drains_block z g t.views id v o law at can),
+        (
+          refl,
+          λ e can' is. ap (λ (y : Owned).
+              record v { owns = without y.block v.owns; drains = v.drains ++ cycle_of y ∷ []; ceded = v.ceded ++ record y { phase = Drained } ∷ [] })
+              (same_owned z me numbers o e can.own can'.own is),
+        ),
       )
 
   -- ---- free, keep, retire
   -- the eraser of a wiped block makes it free
   pub freed_allowed : (o : Owned) → CanRenew me.0 o
-      → Allows (Ruled z) slots id me (pin_index z o.block) (λ n. (n + freed_added o.written) % 2 ^ 64) (freed_told (step slots (pin_index z o.block) (freed_added o.written) 0 none) me)
+      → Allows (Ruled z) slots id me (pin_index z o.block) (λ n. (n + freed_added o.written) % 2 ^ 64)
+      (freed_told (step slots (pin_index z o.block) (freed_added o.written) 0 none) me)
   freed_allowed o can t (g, fits, law) _ at _ =
       let v : View = me.0 in
       let own = can.erasing.own in
@@ -219,13 +222,19 @@ module _ (z : Numbers) (slots id : ℕ) (me : Sitter) where
         w,
         keeps,
         tt,
-        ruled_plus z id me t g fits o.block low (freed_state z g t.views id v o law at can.erasing) w (freed_added o.written) sum (frees z g t.views id v o law at can.erasing can),
-        (refl, λ e can' is. ap (λ (y : Owned). record v { owns = without y.block v.owns; ceded = v.ceded ++ freed_as y ∷ [] }) (same_owned numbers o e own can'.erasing.own is)),
+        ruled_plus z id me t g fits o.block low (freed_state z g t.views id v o law at can.erasing) id (deeds g) w (freed_added o.written) sum
+            (frees z g t.views id v o law at can.erasing can),
+        (
+          refl,
+          λ e can' is. ap (λ (y : Owned). record v { owns = without y.block v.owns; ceded = v.ceded ++ freed_as y ∷ [] })
+              (same_owned z me numbers o e own can'.erasing.own is),
+        ),
       )
 
   -- or keeps it
   pub kept_allowed : (o : Owned) → CanRenew me.0 o
-      → Allows (Ruled z) slots id me (pin_index z o.block) (λ n. (n + kept_added o.written) % 2 ^ 64) (kept_told (step slots (pin_index z o.block) (kept_added o.written) 0 none) me)
+      → Allows (Ruled z) slots id me (pin_index z o.block) (λ n. (n + kept_added o.written) % 2 ^ 64)
+      (kept_told (step slots (pin_index z o.block) (kept_added o.written) 0 none) me)
   kept_allowed o can t (g, fits, law) _ at _ =
       let v : View = me.0 in
       let own = can.erasing.own in
@@ -237,15 +246,20 @@ module _ (z : Numbers) (slots id : ℕ) (me : Sitter) where
         w,
         keeps,
         tt,
-        ruled_plus z id me t g fits o.block low (kept_state z g t.views id v o law at can.erasing) w (kept_added o.written) sum (keeps_block z g t.views id v o law at can.erasing can),
+        ruled_plus z id me t g fits o.block low (kept_state z g t.views id v o law at can.erasing) id (deeds g) w (kept_added o.written) sum
+            (keeps_block z g t.views id v o law at can.erasing can),
         (
           refl,
-          λ e can' is. ap (λ (y : Owned). record v { owns = with_owned (record { block = y.block; phase = Open; generation = y.generation + 1; written = 0 }) v.owns }) (same_owned numbers o e own can'.erasing.own is),
+          λ e can' is. ap (λ (y : Owned).
+              record v { owns = with_owned (record { block = y.block; phase = Open; generation = y.generation + 1; written = 0 }) v.owns })
+              (same_owned z me numbers o e own can'.erasing.own is),
         ),
       )
 
   -- or retires it
-  pub retired_allowed : (o : Owned) → CanRetire me.0 o → Allows (Ruled z) slots id me (pin_index z o.block) (λ n. (n + NEXT_PHASE) % 2 ^ 64) (retired_told (step slots (pin_index z o.block) NEXT_PHASE 0 none) me)
+  pub retired_allowed : (o : Owned) → CanRetire me.0 o
+      → Allows (Ruled z) slots id me (pin_index z o.block) (λ n. (n + NEXT_PHASE) % 2 ^ 64)
+      (retired_told (step slots (pin_index z o.block) NEXT_PHASE 0 none) me)
   retired_allowed o can t (g, fits, law) _ at _ =
       let v : View = me.0 in
       let erasing = can.erasing in
@@ -256,6 +270,11 @@ module _ (z : Numbers) (slots id : ℕ) (me : Sitter) where
         w,
         keeps,
         tt,
-        ruled_plus z id me t g fits o.block low (retired_state z g t.views id v o law at erasing) w NEXT_PHASE sum (retires z g t.views id v o law at erasing),
-        (refl, λ e can' is. ap (λ (y : Owned). record v { owns = without y.block v.owns; ceded = v.ceded ++ record y { phase = Retired } ∷ [] }) (same_owned numbers o e erasing.own can'.erasing.own is)),
+        ruled_plus z id me t g fits o.block low (retired_state z g t.views id v o law at erasing) id (deeds g) w NEXT_PHASE sum
+            (retires z g t.views id v o law at erasing),
+        (
+          refl,
+          λ e can' is. ap (λ (y : Owned). record v { owns = without y.block v.owns; ceded = v.ceded ++ record y { phase = Retired } ∷ [] })
+              (same_owned z me numbers o e erasing.own can'.erasing.own is),
+        ),
       )

@@ -1,52 +1,18 @@
 -- A change of one pin word by which a seat gets a block to drain or erase, or is done with it: what the six steps have in common.
 use Rattle.flash_rule.proofs.Words.{◌≡◌, ◌≢◌, ℕ, ◌*◌, ◌<◌, ◌≤◌, inl, true, false, List, [], Option, None, Some, set, sym, refl, ap, ◌∙◌, subst, arith}
-use Rattle.flash_rule.proofs.Words.{some, dite, ℕ_discrete, get_elem?, Begins, Numbers, Begins-refl, MapWord, PinWord, Free, Open, Name, Role, Dealer}
-use Rattle.flash_rule.proofs.Words.{Player, Note, Gone, Pass, Broom, Owned, Source, Cycle, View, is_pass, is_broom, is_player, is_live_role, may_own}
-use Rattle.flash_rule.proofs.Words.{pins_on, owned_at, without, with_owned, World, put, is_owned, is_nameable, is_still, age_of, IsBlank, LawfulCeded}
-use Rattle.flash_rule.proofs.Words.{IsCurrent, Erases, ReclaimsOne, LawfulOwned, LawfulSource, LawfulKind, LawfulView, Lawful, IsDealt, PinOnward}
-use Rattle.flash_rule.proofs.Words.{Onward}
-use Rattle.flash_rule.proofs.Points.{put_here, put_else, total_set}
+use Rattle.flash_rule.proofs.Words.{some, dite, ℕ_discrete, get_elem?, Begins, Numbers, Begins-refl, MapWord, PinWord, Free, Open, Name, Player}
+use Rattle.flash_rule.proofs.Words.{Owned, Source, Cycle, View, is_pass, is_player, may_own, pins_on, owned_at, without, with_owned, World, put}
+use Rattle.flash_rule.proofs.Words.{is_owned, is_nameable, is_still, age_of, IsBlank, LawfulCeded, IsCurrent, Erases, ReclaimsOne, LawfulOwned}
+use Rattle.flash_rule.proofs.Words.{LawfulSource, LawfulKind, LawfulView, Lawful, IsDealt, PinOnward, Onward, ◌+◌}
+use Rattle.flash_rule.proofs.Roles.{owner_live}
+use Rattle.flash_rule.proofs.Points.{put_else}
 use Rattle.flash_rule.proofs.Owning.{owns_none_else, some_same, none_some, with_here, without_here, owned_else, without_else, with_else, one_without}
 use Rattle.flash_rule.proofs.Frames.{counted, knowledge_kept}
 use Rattle.flash_rule.proofs.Still.{still}
-use Rattle.flash_rule.proofs.PinSteps.{Deeds, deeds, turned, pin_turns, pin_turned, seat_set}
-use Rattle.flash_rule.proofs.Keeping.{holding_with, kind_as, kind_with, knowledge_as, owned_with, source_with, work_with}
-
--- ---- a broom's role
-pub broom_player : (r : Role) → is_broom r ≡ true → is_player r ≡ true
-broom_player (Player (Pass t)) is = absurd (cc)
-broom_player (Player (Broom i)) is = refl
-broom_player Dealer is = absurd (cc)
-broom_player Note is = absurd (cc)
-broom_player Gone is = absurd (cc)
-
-pub broom_live : (r : Role) → is_broom r ≡ true → is_live_role r ≡ true
-broom_live (Player n) is = refl
-broom_live Dealer is = absurd (cc)
-broom_live Note is = absurd (cc)
-broom_live Gone is = absurd (cc)
-
-pub broom_no_pass : (r : Role) → is_broom r ≡ true → is_pass r ≡ false
-broom_no_pass (Player (Pass t)) is = absurd (cc)
-broom_no_pass (Player (Broom i)) is = refl
-broom_no_pass Dealer is = absurd (cc)
-broom_no_pass Note is = absurd (cc)
-broom_no_pass Gone is = absurd (cc)
-
-pub broom_may_own : (r : Role) → is_broom r ≡ true → may_own r ≡ true
-broom_may_own (Player (Pass t)) is = absurd (cc)
-broom_may_own (Player (Broom i)) is = refl
-broom_may_own Dealer is = absurd (cc)
-broom_may_own Note is = absurd (cc)
-broom_may_own Gone is = absurd (cc)
+use Rattle.flash_rule.proofs.PinSteps.{Deeds, deeds, turned, pin_turns, pin_turned, block_turned, seat_set}
+use Rattle.flash_rule.proofs.Keeping.{holding_with, kind_as, kind_with, knowledge_as, owned_with, source_with, work_with, knowledge_with}
 
 -- ---- who owns a block has the table's numbers
-owner_live : (r : Role) → ¬ (may_own r ≡ false) → is_live_role r ≡ true
-owner_live (Player n) owns = refl
-owner_live Dealer owns = refl
-owner_live Note owns = absurd (owns refl)
-owner_live Gone owns = absurd (owns refl)
-
 pub owner_numbers : (z : Numbers) (v : View) (o : Owned) → LawfulKind z v → owned_at o.block v.owns ≡ Some o → v.numbers ≡ z
 owner_numbers z v o kind own = kind.numbers (owner_live v.role (λ is. owns_none_else v.owns o own (kind.owns_none is)))
 
@@ -68,7 +34,8 @@ module _ (z : Numbers) (g : World) (vs : List View) (id : ℕ) (v : View) (law :
         let no : true ≡ false = sym k.owned ∙ (ap is_owned (sym k.phase) ∙ nobodys) in absurd (cc)
 
   -- a broom's state step, and an exchange of a pin word that found another word, change no word and only these lists
-  pub notes : (loaded : List (ℕ × ℕ)) (lost busy stale : List ℕ) → Lawful z g (set vs id (record v { loaded = loaded; lost = lost; busy = busy; stale = stale }))
+  pub notes : (loaded : List (ℕ × ℕ)) (lost busy stale : List ℕ)
+      → Lawful z g (set vs id (record v { loaded = loaded; lost = lost; busy = busy; stale = stale }))
   notes loaded lost busy stale =
       let h = law.views id v at in
       let kind = h.kind in
@@ -104,7 +71,8 @@ pub record IsOwning (z : Numbers) (g' : World) (id : ℕ) (v : View) (b : ℕ) (
 
 -- The state q of the block b, and what its seat has then, fit together: the new state is onward of the old one, which is nobody else's and
 -- not open; what a map word names of the block it may still name; and no more is cleared or wiped than was
-pub record IsTurn (z : Numbers) (g g' : World) (id : ℕ) (v : View) (b : ℕ) (q : PinWord) (owns' : List Owned) (erases' : List Cycle) (cleared' wiped' : ℕ) : Type 0 where
+pub record IsTurn (z : Numbers) (g g' : World) (id : ℕ) (v : View) (b : ℕ) (q : PinWord) (owns' : List Owned) (erases' : List Cycle)
+    (cleared' wiped' : ℕ) : Type 0 where
   pub onward : PinOnward (g.pins b) q
   pub alone : g.owner b ≢ id → ¬ (is_owned (g.pins b).phase ≡ true)
   pub shut : ¬ ((g.pins b).phase ≡ Open)
@@ -129,7 +97,13 @@ turned_block g b q id = turned g b q id (erased_as g g.eraser g.erases)
 -- then all lists of erases stay
 pub no_erase : (z : Numbers) (g : World) (id : ℕ) (v : View) (b : ℕ) (q : PinWord) → LawfulKind z v → IsListed z g (turned_block g b q id) id v v.erases
 no_erase z g id v b q kind =
-    record { eraser = λ c n _. refl; idle = λ is. (kind.idle is).3; erases = λ n _ old. old; lists = λ n _. (Begins-refl (g.erases n), λ _. refl); listed = λ n _ its. its }
+    record {
+      eraser = λ c n _. refl;
+      idle = λ is. (kind.idle is).3;
+      erases = λ n _ old. old;
+      lists = λ n _. (Begins-refl (g.erases n), λ _. refl);
+      listed = λ n _ its. its;
+    }
 
 -- a seat that gives a block up owns its others
 pub given_up : (z : Numbers) (g' : World) (id : ℕ) (v : View) (b cleared wiped : ℕ) → LawfulKind z v → IsOwning z g' id v b (without b v.owns) cleared wiped
@@ -143,7 +117,8 @@ given_up z g' id v b cleared wiped kind =
     }
 
 -- and one that gets a block, or keeps it in another state, owns it and the others
-pub got : (z : Numbers) (g' : World) (id : ℕ) (v : View) (o : Owned) (cleared wiped : ℕ) → LawfulOwned z g' id v.work cleared wiped o.block o → (is_pass v.role ≡ true → o.phase ≡ Open)
+pub got : (z : Numbers) (g' : World) (id : ℕ) (v : View) (o : Owned) (cleared wiped : ℕ) → LawfulOwned z g' id v.work cleared wiped o.block o
+    → (is_pass v.role ≡ true → o.phase ≡ Open)
     → ¬ (may_own v.role ≡ false) → ReclaimsOne (with_owned o v.owns) → IsOwning z g' id v o.block (with_owned o v.owns) cleared wiped
 got z g' id v o cleared wiped fresh opened owner reclaims =
     record {
@@ -154,33 +129,40 @@ got z g' id v o cleared wiped fresh opened owner reclaims =
       reclaims = reclaims;
     }
 
-module _ (z : Numbers) (g : World) (vs : List View) (id : ℕ) (v : View) (b : ℕ) (q : PinWord) (owns : List Owned) (erases : List Cycle) (cleared wiped : ℕ) (drains : List Cycle) (ceded : List Owned) (eraser : ℕ → ℕ → Option (Name × ℕ)) (listed : Name → List Cycle) (law : Lawful z g vs) (at : get_elem? vs id ≡ some v) (low : b < z.blocks) where
+module _ (z : Numbers) (g : World) (vs : List View) (id : ℕ) (v : View) (b : ℕ) (q : PinWord) (owns : List Owned) (erases : List Cycle)
+    (cleared wiped : ℕ) (drains : List Cycle) (ceded : List Owned) (eraser : ℕ → ℕ → Option (Name × ℕ)) (listed : Name → List Cycle)
+    (law : Lawful z g vs) (at : get_elem? vs id ≡ some v) (low : b < z.blocks) where
   abbrev pub turner : View
   turner = record v { owns = owns; erases = erases; cleared = cleared; wiped = wiped; drains = drains; ceded = ceded }
 
   -- the rule after such a change
-  pub turns : LawfulCeded z (put g.pins b q) (set vs id turner) → IsTurn z g (turned g b q id (erased_as g eraser listed)) id v b q owns erases cleared wiped → Lawful z (turned g b q id (erased_as g eraser listed)) (set vs id turner)
+  pub turns : LawfulCeded z (put g.pins b q) (set vs id turner)
+      → IsTurn z g (turned g b q id (erased_as g eraser listed)) id v b q owns erases cleared wiped
+      → Lawful z (turned g b q id (erased_as g eraser listed)) (set vs id turner)
   turns given t =
       let h = law.views id v at in
       let kind = h.kind in
       let holds = h.holding in
-      let block = law.blocks b low in
       let g' : World = turned g b q id (erased_as g eraser listed) in
-      let here : put g.pins b q b ≡ q = put_here g.pins b q in
-      let on : Onward z g g' id id = pin_turns z g id b q id (erased_as g eraser listed) t.onward (λ other is. absurd (t.alone other is)) (λ m _. refl) t.listing.eraser
+      let on : Onward z g g' id id =
+      pin_turns z g id b q id (erased_as g eraser listed) t.onward (λ other is. absurd (t.alone other is)) (λ m _. refl) t.listing.eraser
       (λ n dealt. let l = t.listing.lists n dealt in record { programs = Begins-refl (g.programs n); erases = l.0; others = λ other. (refl, l.1 other) }) in
       let knows = knowledge_kept z g g' id id on v (λ c is below. counted vs law id v at c is below) h.knowledge in
-      let elsewhere : (c : ℕ) (e : Owned) → c ≢ b → LawfulOwned z g id v.work v.cleared v.wiped c e → LawfulOwned z g' id v.work cleared wiped c e = λ c e unlike k.
+      let elsewhere : (c : ℕ) (e : Owned) → c ≢ b → LawfulOwned z g id v.work v.cleared v.wiped c e → LawfulOwned z g' id v.work cleared wiped c e =
+      λ c e unlike k.
       let fewer = t.cleared in
       let less = t.wiped in
-      owned_else z g g' id v.work v.work cleared wiped c e (put_else g.pins b q c unlike) (put_else g.owner b id c unlike) (λ p i. refl) (λ s m is _. inl is) (λ p _ f. f)
+      owned_else z g g' id v.work v.work cleared wiped c e (put_else g.pins b q c unlike) (put_else g.owner b id c unlike) (λ p i. refl)
+      (λ s m is _. inl is) (λ p _ f. f)
       (owned_with k refl refl k.rest (λ victim p s below. k.dead victim p s (omega arith))
       (λ erasing p i below most under. k.clean erasing p i below most (omega arith))) in
       let own : LawfulView z g' id turner = record {
         kind = kind_with kind refl
-            (λ is c e has. dite (ℕ_discrete c b) (λ same. t.owning.opens is e (ap (λ j. owned_at j owns) (sym same) ∙ has)) (λ unlike. kind.opens is c e (sym (t.owning.there c unlike) ∙ has)))
+            (λ is c e has. dite (ℕ_discrete c b) (λ same. t.owning.opens is e (ap (λ j. owned_at j owns) (sym same) ∙ has))
+            (λ unlike. kind.opens is c e (sym (t.owning.there c unlike) ∙ has)))
             (λ is. let i = kind.idle is in (i.0, i.1, i.2, t.listing.idle is)) t.owning.owns_none t.owning.reclaims;
-        knowledge = record { seen = knows.seen; pin = knows.pin; known = knows.known; programs = knows.programs; erases = λ n is. t.listing.erases n is (knows.erases n is); copy = knows.copy; older = knows.older; out = knows.out };
+        knowledge = knowledge_with turner knows refl knows.seen knows.pin knows.known knows.programs
+            (λ n is. t.listing.erases n is (knows.erases n is));
         holding = holding_with holds refl refl holds.calls
             (λ n is. ((holds.lists n is).0, t.listing.listed n is (holds.lists n is).1))
             (λ c e has. dite (ℕ_discrete c b)
@@ -188,7 +170,8 @@ module _ (z : Numbers) (g : World) (vs : List View) (id : ℕ) (v : View) (b : �
             (λ unlike. elsewhere c e unlike (holds.owned c e (sym (t.owning.there c unlike) ∙ has))))
             (λ x is.
             let k = holds.work x is in
-            let unlike : x.page.block ≢ b = λ same. t.shut (ap (λ j. (g.pins j).phase) (sym same) ∙ ((holds.owned x.page.block k.entry k.own).phase ∙ k.opened)) in
+            let unlike : x.page.block ≢ b =
+            λ same. t.shut (ap (λ j. (g.pins j).phase) (sym same) ∙ ((holds.owned x.page.block k.entry k.own).phase ∙ k.opened)) in
             work_with k (t.owning.there x.page.block unlike ∙ k.own) (λ _. refl))
             (λ x is.
             let k = holds.source x is in
@@ -196,14 +179,6 @@ module _ (z : Numbers) (g : World) (vs : List View) (id : ℕ) (v : View) (b : �
             source_with k (t.owning.there x.page.block s.0 ∙ k.own) s.1 (λ _. refl));
       } in
       pin_turned z g vs id v turner b q id (erased_as g eraser listed) law at on own t.named
-      (record {
-        readers = (let e : (put g.pins b q b).readers ≡ q.readers = ap (λ (p : PinWord). p.readers) here in let r = block.readers in let u = t.readers in let s = total_set (pins_on b) vs id v turner at in omega arith);
-        written = (let e : (put g.pins b q b).written ≡ q.written = ap (λ (p : PinWord). p.written) here in let r = t.written in omega arith);
-        generation = (let e : (put g.pins b q b).generation ≡ q.generation = ap (λ (p : PinWord). p.generation) here in let r = t.generation in omega arith);
-        free = λ is. ap (λ (p : PinWord). p.written) here ∙ t.free (sym (ap (λ (p : PinWord). p.phase) here) ∙ is);
-        rest = λ is p from below. t.rest (sym (ap (λ (p : PinWord). is_still p.phase) here) ∙ is) p (subst (λ (x : PinWord). x.written ≤ p) here from) below;
-        owner = λ is.
-            let e = t.owner (sym (ap (λ (p : PinWord). is_owned p.phase) here) ∙ is) in
-            (turner, e.0, ap (λ j. get_elem? (set vs id turner) j) (put_here g.owner b id) ∙ seat_set vs id v turner at, e.1);
-      })
+      (block_turned z g vs id v turner b q id (erased_as g eraser listed) law at low (ap (λ n. n + pins_on b v) t.readers) t.written t.generation t.free
+      t.rest (λ is. let e = t.owner is in (turner, e.0, seat_set vs id v turner at, e.1)))
       (λ c _. refl) (λ c unlike e is. (e, t.owning.there c unlike ∙ is)) refl given

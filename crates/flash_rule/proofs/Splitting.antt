@@ -4,9 +4,10 @@ use Rattle.flash_rule.proofs.Words.{set, replicate, sym, refl, ap, ◌∙◌, su
 use Rattle.flash_rule.proofs.Words.{some-ne-none, get_elem?, Splits, at_set, at_longer, Begins-refl, Numbers, PinWord, Name, Pass, Broom, Dealer}
 use Rattle.flash_rule.proofs.Words.{Player, Note, Owned, Pin, Clear, View, one_if, total, is_player, is_live_role, pin_is_on, pins_on, weight}
 use Rattle.flash_rule.proofs.Words.{role_weight, owned_at, AreOfHosts, calls_of, World, put_name, is_owned, is_still, is_nameable, LawfulCeded, held}
-use Rattle.flash_rule.proofs.Words.{Free, LawfulSector, LawfulBlock, LawfulView, Lawful, IsDealt, Onward, Ruled}
-use Rattle.flash_rule.proofs.Words.{LawfulHolding, LawfulKnowledge, LawfulOwned, age_of}
+use Rattle.flash_rule.proofs.Words.{Free, LawfulSector, LawfulBlock, LawfulView, Lawful, IsDealt, Onward, Ruled, LawfulHolding, LawfulKnowledge}
+use Rattle.flash_rule.proofs.Words.{LawfulOwned, age_of}
 use Rattle.flash_rule.specs.Seats.{newcomer, new_pass, dealt_pass}
+use Rattle.flash_rule.proofs.Roles.{player_same}
 use Rattle.flash_rule.proofs.Points.{total_set, name_here, name_else, name_all}
 use Rattle.flash_rule.proofs.Owning.{none_some, nothing}
 use Rattle.flash_rule.proofs.Ceding.{ceded_split}
@@ -31,9 +32,6 @@ seat_low (x ∷ vs) zero v at = omega arith
 seat_low (x ∷ vs) (suc id) v at = let r = seat_low vs id v at in omega arith
 
 -- ---- names
-pub player_same : (n m : Name) → Player n ≡ Player m → n ≡ m
-player_same n m e = cc
-
 pass_same : (t u : ℕ) → Player (Pass t) ≡ Player (Pass u) → t ≡ u
 pass_same t u e = cc
 
@@ -54,7 +52,8 @@ dealt_more g g' passes brooms (Pass u) low = omega arith
 dealt_more g g' passes brooms (Broom j) low = omega arith
 
 -- a page that a map word may name is named still where map, states, pages and history are the same
-pub current_kept : (z : Numbers) (g g' : World) (s : ℕ) → g'.map ≡ g.map → g'.pins ≡ g.pins → g'.pages ≡ g.pages → g'.history ≡ g.history → LawfulSector z g s → LawfulSector z g' s
+pub current_kept : (z : Numbers) (g g' : World) (s : ℕ) → g'.map ≡ g.map → g'.pins ≡ g.pins → g'.pages ≡ g.pages → g'.history ≡ g.history
+    → LawfulSector z g s → LawfulSector z g' s
 current_kept z g g' s map pins pages history h =
     sector_kept z g g' s h (ap (λ f. f s) map) (ap (λ l. held z.sectors l s) history)
     (λ b low named. (
@@ -69,8 +68,10 @@ abbrev pub Owner : World → List View → ℕ → Type 0
 Owner g vs b = (u : View) × (o : Owned) × (get_elem? vs (g.owner b) ≡ some u) × (owned_at b u.owns ≡ Some o)
 
 -- ---- a seat is split: no state and no page changes, but who is who, and who owns what
-module _ (z : Numbers) (g g' : World) (vs : List View) (id : ℕ) (v l r : View) (law : Lawful z g vs) (at : get_elem? vs id ≡ some v) (pins : g'.pins ≡ g.pins) (pages : g'.pages ≡ g.pages) where
-  split_block : (b : ℕ) → LawfulBlock z g vs b → pins_on b l ≡ pins_on b v → r.pin ≡ Clear → (is_owned (g.pins b).phase ≡ true → Owner g' (set vs id l ++ r ∷ []) b) → LawfulBlock z g' (set vs id l ++ r ∷ []) b
+module _ (z : Numbers) (g g' : World) (vs : List View) (id : ℕ) (v l r : View) (law : Lawful z g vs) (at : get_elem? vs id ≡ some v)
+    (pins : g'.pins ≡ g.pins) (pages : g'.pages ≡ g.pages) where
+  split_block : (b : ℕ) → LawfulBlock z g vs b → pins_on b l ≡ pins_on b v → r.pin ≡ Clear
+      → (is_owned (g.pins b).phase ≡ true → Owner g' (set vs id l ++ r ∷ []) b) → LawfulBlock z g' (set vs id l ++ r ∷ []) b
   split_block b block same clear owner =
       let t = total_set (pins_on b) vs id v l at in
       let e = total_end (pins_on b) (set vs id l) r in
@@ -82,13 +83,17 @@ module _ (z : Numbers) (g g' : World) (vs : List View) (id : ℕ) (v l r : View)
         written = subst (λ (f : ℕ → PinWord). (f b).written ≤ z.pages) (sym pins) block.written;
         generation = subst (λ (f : ℕ → PinWord). (f b).generation < z.endurance) (sym pins) block.generation;
         free = subst (λ (f : ℕ → PinWord). (f b).phase ≡ Free → (f b).written ≡ 0) (sym pins) block.free;
-        rest = λ still p from below i most. ap (λ f. f b p i) pages ∙ block.rest (ap (λ (f : ℕ → PinWord). is_still (f b).phase) (sym pins) ∙ still) p (subst (λ (f : ℕ → PinWord). (f b).written ≤ p) pins from) below i most;
+        rest = λ still p from below i most. ap (λ f. f b p i) pages
+            ∙ block.rest (ap (λ (f : ℕ → PinWord). is_still (f b).phase) (sym pins) ∙ still) p
+            (subst (λ (f : ℕ → PinWord). (f b).written ≤ p) pins from) below i most;
         owner = λ owned. owner (ap (λ (f : ℕ → PinWord). is_owned (f b).phase) (sym pins) ∙ owned);
       }
 
-  pub split_with : Onward z g g' id id → g'.history ≡ g.history → LawfulView z g' id l → LawfulView z g' (length vs) r → ((b : ℕ) → pins_on b l ≡ pins_on b v) → r.pin ≡ Clear
+  pub split_with : Onward z g g' id id → g'.history ≡ g.history → LawfulView z g' id l → LawfulView z g' (length vs) r
+      → ((b : ℕ) → pins_on b l ≡ pins_on b v) → r.pin ≡ Clear
       → ((b : ℕ) → b < z.blocks → is_owned (g.pins b).phase ≡ true → Owner g' (set vs id l ++ r ∷ []) b)
-      → weight z l + weight z r ≡ weight z v → g.passes ≤ g'.passes → g'.passes ≤ z.hosts → ((s : ℕ) → s < z.sectors → LawfulSector z g' s) → LawfulCeded z g.pins (set vs id l ++ r ∷ []) → Lawful z g' (set vs id l ++ r ∷ [])
+      → weight z l + weight z r ≡ weight z v → g.passes ≤ g'.passes → g'.passes ≤ z.hosts → ((s : ℕ) → s < z.sectors → LawfulSector z g' s)
+      → LawfulCeded z g.pins (set vs id l ++ r ∷ []) → Lawful z g' (set vs id l ++ r ∷ [])
   split_with on history own new same clear owners weighs more dealt sectors ceded =
       record {
         limits = law.limits;
@@ -111,13 +116,16 @@ module _ (z : Numbers) (g g' : World) (vs : List View) (id : ℕ) (v l r : View)
       }
 
   -- where the seat keeps its blocks, each block keeps its owner
-  pub split : g'.owner ≡ g.owner → Onward z g g' id id → g'.history ≡ g.history → LawfulView z g' id l → LawfulView z g' (length vs) r → ((b : ℕ) → pins_on b l ≡ pins_on b v) → r.pin ≡ Clear → l.owns ≡ v.owns
-      → weight z l + weight z r ≡ weight z v → g.passes ≤ g'.passes → g'.passes ≤ z.hosts → ((s : ℕ) → s < z.sectors → LawfulSector z g' s) → LawfulCeded z g.pins (set vs id l ++ r ∷ []) → Lawful z g' (set vs id l ++ r ∷ [])
+  pub split : g'.owner ≡ g.owner → Onward z g g' id id → g'.history ≡ g.history → LawfulView z g' id l → LawfulView z g' (length vs) r
+      → ((b : ℕ) → pins_on b l ≡ pins_on b v) → r.pin ≡ Clear → l.owns ≡ v.owns
+      → weight z l + weight z r ≡ weight z v → g.passes ≤ g'.passes → g'.passes ≤ z.hosts → ((s : ℕ) → s < z.sectors → LawfulSector z g' s)
+      → LawfulCeded z g.pins (set vs id l ++ r ∷ []) → Lawful z g' (set vs id l ++ r ∷ [])
   split owner on history own new same clear owns weighs more dealt sectors ceded =
       split_with on history own new same clear owners weighs more dealt sectors ceded where
         owners : (b : ℕ) → b < z.blocks → is_owned (g.pins b).phase ≡ true → Owner g' (set vs id l ++ r ∷ []) b
         owners b low owned =
-            let k = owner_kept z g g' vs id v l b at (law.blocks b low) owned (ap (λ f. f b) owner) (λ o is. (o, ap (λ (x : List Owned). owned_at b x) owns ∙ is)) in
+            let k = owner_kept z g g' vs id v l b at (law.blocks b low) owned (ap (λ f. f b) owner)
+            (λ o is. (o, ap (λ (x : List Owned). owned_at b x) owns ∙ is)) in
             (k.0, k.1, at_longer (set vs id l) (r ∷ []) (g'.owner b) k.0 k.2, k.3)
 
 -- the table with one player more, which has the seat `new`
@@ -134,7 +142,8 @@ dealt_world g n new passes brooms owner =
       carries = put_name g.carries n None;
     }
 
-module _ (z : Numbers) (g : World) (id new : ℕ) (n : Name) (passes brooms : ℕ) (owner : ℕ → ℕ) (not_yet : (m : Name) → IsDealt g m → ¬ (m ≡ n)) (still_dealt : (m : Name) → IsDealt g m → IsDealt (dealt_world g n new passes brooms owner) m) where
+module _ (z : Numbers) (g : World) (id new : ℕ) (n : Name) (passes brooms : ℕ) (owner : ℕ → ℕ) (not_yet : (m : Name) → IsDealt g m → ¬ (m ≡ n))
+    (still_dealt : (m : Name) → IsDealt g m → IsDealt (dealt_world g n new passes brooms owner) m) where
   abbrev after_deal : World
   after_deal = dealt_world g n new passes brooms owner
 
@@ -202,7 +211,8 @@ module _ (z : Numbers) (g : World) (id new : ℕ) (n : Name) (passes brooms : �
       record {
         name = λ m is. subst (λ (m : Name). (after_deal.seat m ≡ new) × IsDealt after_deal m) (same m is) (name_here g.seat n new, here);
         calls = λ t is. (none t (same (Pass t) is), refl);
-        lists = λ m is. subst (λ (m : Name). (after_deal.programs m ≡ []) × (after_deal.erases m ≡ [])) (same m is) (name_here g.programs n [], name_here g.erases n []);
+        lists = λ m is. subst (λ (m : Name). (after_deal.programs m ≡ []) × (after_deal.erases m ≡ [])) (same m is)
+            (name_here g.programs n [], name_here g.erases n []);
         owned = owned;
         work = λ x is. absurd (none_some x is);
         source = λ x is. absurd (none_some x is);

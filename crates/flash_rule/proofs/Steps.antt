@@ -1,12 +1,11 @@
 -- Each kind of step of a pass, as the table asks for it: whatever the table is, the step keeps the rule and tells what it says.
-use Rattle.flash_rule.proofs.Words.{◌≡◌, ℕ, ◌+◌, ◌%◌, ◌^◌, ◌<◌, ◌≤◌, ◌==◌, eq-eqb, ne_eqb, ◌⊎◌, inl, inr, ⊎_elim, true, List, [], ◌∷◌, ◌++◌, Option}
-use Rattle.flash_rule.proofs.Words.{None, Some, length, set, sym, refl, ap, ◌∙◌, subst, arith, get_or, some, none, get_elem?, Act, Valid, step, keeps}
-use Rattle.flash_rule.proofs.Words.{stepped, carried_after, Allows, set_again, dite, ℕ_discrete, either, Call, Write, WriteNew, Trim, Numbers}
-use Rattle.flash_rule.proofs.Words.{map_word, FitsMap, pin_word, FitsPin, pin_index, page_index, MapWord, PinWord, Phase, Free, Open, Closed, Victim}
-use Rattle.flash_rule.proofs.Words.{Drained, Erasing, Retired, TAKEN, NEXT_PHASE, PAGE_WRITTEN, Role, Dealer, Player, Note, Gone, Owned, Accepted}
-use Rattle.flash_rule.proofs.Words.{Work, View, is_pass, is_player, is_live_role, owned_at, without, with_owned, World, Fits, is_owned, sector_word}
-use Rattle.flash_rule.proofs.Words.{Lawful, Ruled, Sitter, Looked, Placed, Took, CanPlace, CanCount, CanClose, words_in, next_page, take_told}
-use Rattle.flash_rule.proofs.Words.{count_told, close_told, is_unpinned, adds, map_same}
+use Rattle.flash_rule.proofs.Words.{◌≡◌, ℕ, ◌+◌, ◌%◌, ◌^◌, ◌<◌, ◌≤◌, ◌==◌, eq-eqb, ne_eqb, ⊎_elim, true, List, [], ◌∷◌, ◌++◌, Option, None, Some}
+use Rattle.flash_rule.proofs.Words.{length, set, sym, refl, ap, ◌∙◌, subst, arith, get_or, some, none, get_elem?, Act, Valid, step, keeps, stepped}
+use Rattle.flash_rule.proofs.Words.{carried_after, Allows, set_again, dite, ℕ_discrete, either, Call, Write, WriteNew, Trim, Numbers, map_word}
+use Rattle.flash_rule.proofs.Words.{FitsMap, pin_word, pin_index, page_index, MapWord, PinWord, Free, Open, Closed, TAKEN, NEXT_PHASE, PAGE_WRITTEN}
+use Rattle.flash_rule.proofs.Words.{Owned, Accepted, Work, View, is_pass, is_player, owned_at, without, with_owned, World, Fits, is_owned}
+use Rattle.flash_rule.proofs.Words.{sector_word, Lawful, Ruled, Sitter, Looked, Placed, Took, CanPlace, CanCount, CanClose, words_in, next_page}
+use Rattle.flash_rule.proofs.Words.{take_told, count_told, close_told, is_unpinned, map_same}
 use Rattle.std.specs.Int.Bits.{bit_or}
 use Rattle.geometry.specs.Sectors.{was_of}
 use Rattle.geometry.specs.declared.answer.Was.{Was}
@@ -14,52 +13,34 @@ use Rattle.geometry.specs.declared.answer.Was.TheVariants.{Empty, Written}
 use Rattle.geometry.specs.declared.map_word.TheConstants.{UNMAPPED}
 use Rattle.flash_rule.specs.Plays.{CanPut, look_told, write_told, new_told, trim_told, put_told, get_told, Called}
 use Rattle.geometry.proofs.PinBits.{next_phase, counts, takes_free, takes_taken}
-use Rattle.flash_rule.proofs.Places.{fits_load, fits_pin, fits_map, fits_page, pin_within, page_within, page_same}
+use Rattle.flash_rule.proofs.Roles.{player_live, phase_or_not}
+use Rattle.flash_rule.proofs.Places.{fits_load, fits_map, fits_page, page_within, page_same}
 use Rattle.flash_rule.proofs.Owning.{some_same}
 use Rattle.flash_rule.proofs.Assembly.{state_fits}
 use Rattle.flash_rule.proofs.Still.{look_empty, look_named, pass_of}
-use Rattle.flash_rule.proofs.PinSteps.{takes, taken, denied, taken_state, taker}
-use Rattle.flash_rule.proofs.OwnSteps.{counts_page, closes, worker, own_low, is_open, counter, count_world, counted_state, closer, close_world, closed_state}
+use Rattle.flash_rule.proofs.PinSteps.{deeds, takes, denied, taken_state, taker}
+use Rattle.flash_rule.proofs.Ruling.{ruled_as, ruled_plus, ruled_still, same_block, same_owned}
+use Rattle.flash_rule.proofs.OwnSteps.{counts_page, closes, worker, own_low, is_open, counter, count_deeds, counted_state, closer, closed_state}
 use Rattle.flash_rule.proofs.PageSteps.{puts_word, putter, put_world, gets_accepted, spared}
 use Rattle.flash_rule.proofs.MapSteps.{placed, placer, place_world, pass_same, word_empty, word_named}
 use Rattle.flash_rule.proofs.Calls.{trims, writes, writes_new, leaves}
 use Rattle.flash_rule.proofs.Values.{value_same}
-use Rattle.flash_rule.proofs.Points.{put_here}
 use Rattle.flash_rule.proofs.Reclaiming.{unowned}
-
-pub player_live : (r : Role) → is_player r ≡ true → is_live_role r ≡ true
-player_live (Player n) is = refl
-player_live Dealer is = absurd (cc)
-player_live Note is = absurd (cc)
-player_live Gone is = absurd (cc)
-
-pass_player : (r : Role) → is_pass r ≡ true → is_player r ≡ true
-pass_player (Player n) is = refl
-pass_player Dealer is = absurd (cc)
-pass_player Note is = absurd (cc)
-pass_player Gone is = absurd (cc)
-
-pub free_or_not : (f : Phase) → (f ≡ Free) ⊎ (¬ (f ≡ Free))
-free_or_not Free = inl refl
-free_or_not Open = inr (λ e. absurd (cc))
-free_or_not Closed = inr (λ e. absurd (cc))
-free_or_not Victim = inr (λ e. absurd (cc))
-free_or_not Drained = inr (λ e. absurd (cc))
-free_or_not Erasing = inr (λ e. absurd (cc))
-free_or_not Retired = inr (λ e. absurd (cc))
 
 module _ (z : Numbers) (slots id : ℕ) (me : Sitter) where
   numbers_now : (g : World) (vs : List View) → Lawful z g vs → get_elem? vs id ≡ some me.0 → is_player me.0.role ≡ true → me.0.numbers ≡ z
   numbers_now g vs law at player = (law.views id me.0 at).kind.numbers (player_live me.0.role player)
 
   -- ---- look
-  look_any : (g : World) (vs : List View) (s : ℕ) → Lawful z g vs → get_elem? vs id ≡ some me.0 → is_pass me.0.role ≡ true → is_unpinned me.0.pin ≡ true → s < z.sectors
+  look_any : (g : World) (vs : List View) (s : ℕ) → Lawful z g vs → get_elem? vs id ≡ some me.0 → is_pass me.0.role ≡ true
+      → is_unpinned me.0.pin ≡ true → s < z.sectors
       → (x : Option MapWord) → g.map s ≡ x → (w : View) × Lawful z g (set vs id w) × Looked me.0 s (sector_word x) w
   look_any g vs s law at pass unpinned low None is = look_empty z g vs id me.0 s law at pass unpinned is low
   look_any g vs s law at pass unpinned low (Some m) is = look_named z g vs id me.0 s law at pass unpinned m is low
 
   -- a pass with nothing pinned looks at a sector
-  pub look_allowed : (s : ℕ) → is_pass me.0.role ≡ true → is_unpinned me.0.pin ≡ true → s < z.sectors → Allows (Ruled z) slots id me s (λ n. n) (look_told (step slots s 0 0 none) me)
+  pub look_allowed : (s : ℕ) → is_pass me.0.role ≡ true → is_unpinned me.0.pin ≡ true → s < z.sectors
+      → Allows (Ruled z) slots id me s (λ n. n) (look_told (step slots s 0 0 none) me)
   look_allowed s pass unpinned low t (g, fits, law) _ at _ =
       let h = look_any g t.views s law at pass unpinned low (g.map s) refl in
       let found : get_or t.words s 0 ≡ sector_word (g.map s) = fits.sectors s low in (
@@ -89,7 +70,8 @@ module _ (z : Numbers) (slots id : ℕ) (me : Sitter) where
       )
 
   -- a pass writes a sector, whose new page it has filled and counted
-  pub write_allowed : (s word : ℕ) (m : MapWord) (value : List ℕ) → is_pass me.0.role ≡ true → s < z.sectors → word ≡ map_word m → FitsMap m → CanPlace me.0 s m value
+  pub write_allowed : (s word : ℕ) (m : MapWord) (value : List ℕ) → is_pass me.0.role ≡ true → s < z.sectors → word ≡ map_word m → FitsMap m
+      → CanPlace me.0 s m value
       → Allows (Ruled z) slots id me s (λ _. word) (write_told (step slots s word 0 none) me)
   write_allowed s word m value pass low packed fitting can t (g, fits, law) _ at _ =
       let is = pass_of me.0.role pass in
@@ -97,7 +79,8 @@ module _ (z : Numbers) (slots id : ℕ) (me : Sitter) where
       let n : ℕ = get_or t.words s 0 in
       let found : n ≡ sector_word (g.map s) = fits.sectors s low in
       let w : View = placer z g t.views id me.0 by s (Write by s value) (Some m) law at is.1 refl in
-      let told : Placed me.0 (Write by s value) s n w = placed z g t.views id me.0 by s (Write by s value) (Some m) law at is.1 refl (law.sectors s low) n found in
+      let told : Placed me.0 (Write by s value) s n w =
+      placed z g t.views id me.0 by s (Write by s value) (Some m) law at is.1 refl (law.sectors s low) n found in
       let after : World = place_world z g t.views id me.0 by s (Write by s value) (Some m) law at is.1 refl in (
         w,
         keeps,
@@ -111,15 +94,19 @@ module _ (z : Numbers) (slots id : ℕ) (me : Sitter) where
           refl,
           λ u m' value' role first fitting' can'.
               let same : m ≡ m' = map_same m m' fitting fitting' (sym packed ∙ first) in
-              let words : me.0.numbers.words ≡ z.words = ap (λ (y : Numbers). y.words) (numbers_now g t.views law at (pass_player me.0.role pass)) in
+              let words : me.0.numbers.words ≡ z.words =
+              ap (λ (y : Numbers). y.words) (numbers_now g t.views law at (ap is_player (pass_of me.0.role pass).1)) in
               let works : can.work ≡ can'.work = some_same can.work can'.work (sym can.is ∙ can'.is) in
-              let values : value ≡ value' = value_same me.0.numbers value value' can.whole can'.whole (λ i low. sym (can.words i low) ∙ (ap (λ (x : Work). get_or x.words i 0) works ∙ can'.words i low)) in
+              let values : value ≡ value' =
+              value_same me.0.numbers value value' can.whole can'.whole
+              (λ i low. sym (can.words i low) ∙ (ap (λ (x : Work). get_or x.words i 0) works ∙ can'.words i low)) in
               subst (λ (x : ℕ × List ℕ). Placed me.0 (Write x.0 s x.1) s n w) (λ i. (pass_same by u (sym is.1 ∙ role) i, values i)) told,
         ),
       )
 
   -- a pass writes a sector if it is empty, whose new page it has filled and counted
-  pub new_allowed : (s word : ℕ) (m : MapWord) (value : List ℕ) → is_pass me.0.role ≡ true → s < z.sectors → word ≡ map_word m → FitsMap m → CanPlace me.0 s m value
+  pub new_allowed : (s word : ℕ) (m : MapWord) (value : List ℕ) → is_pass me.0.role ≡ true → s < z.sectors → word ≡ map_word m → FitsMap m
+      → CanPlace me.0 s m value
       → Allows (Ruled z) slots id me s (λ n. either (n == UNMAPPED) word n) (new_told (step slots s UNMAPPED word none) me)
   new_allowed s word m value pass low packed fitting can t (g, fits, law) _ at _ =
       let is = pass_of me.0.role pass in
@@ -127,13 +114,17 @@ module _ (z : Numbers) (slots id : ℕ) (me : Sitter) where
       let n : ℕ = get_or t.words s 0 in
       let f : ℕ → ℕ = λ n. either (n == UNMAPPED) word n in
       let found : n ≡ sector_word (g.map s) = fits.sectors s low in
-      let told : (x : Option MapWord) → new_told (step slots s UNMAPPED word none) me n (placer z g t.views id me.0 by s (WriteNew by s value) x law at is.1 refl, me.1) = λ x. (
+      let told : (x : Option MapWord)
+      → new_told (step slots s UNMAPPED word none) me n (placer z g t.views id me.0 by s (WriteNew by s value) x law at is.1 refl, me.1) = λ x. (
         refl,
         λ u m' value' role _ second fitting' can'.
             let w : View = placer z g t.views id me.0 by s (WriteNew by s value) x law at is.1 refl in
-            let tells : Placed me.0 (WriteNew by s value) s n w = placed z g t.views id me.0 by s (WriteNew by s value) x law at is.1 refl (law.sectors s low) n found in
+            let tells : Placed me.0 (WriteNew by s value) s n w =
+            placed z g t.views id me.0 by s (WriteNew by s value) x law at is.1 refl (law.sectors s low) n found in
             let works : can.work ≡ can'.work = some_same can.work can'.work (sym can.is ∙ can'.is) in
-            let values : value ≡ value' = value_same me.0.numbers value value' can.whole can'.whole (λ i low. sym (can.words i low) ∙ (ap (λ (x : Work). get_or x.words i 0) works ∙ can'.words i low)) in
+            let values : value ≡ value' =
+            value_same me.0.numbers value value' can.whole can'.whole
+            (λ i low. sym (can.words i low) ∙ (ap (λ (x : Work). get_or x.words i 0) works ∙ can'.words i low)) in
             subst (λ (y : ℕ × List ℕ). Placed me.0 (WriteNew y.0 s y.1) s n w) (λ i. (pass_same by u (sym is.1 ∙ role) i, values i)) tells,
       ) in
       dite (ℕ_discrete n UNMAPPED)
@@ -141,7 +132,8 @@ module _ (z : Numbers) (slots id : ℕ) (me : Sitter) where
       let w : View = placer z g t.views id me.0 by s (WriteNew by s value) (Some m) law at is.1 refl in
       let after : World = place_world z g t.views id me.0 by s (WriteNew by s value) (Some m) law at is.1 refl in
       let now : f n ≡ map_word m = ap (λ b. either b word n) (eq-eqb n UNMAPPED empty) ∙ packed in
-      let answer : (w : View) × (a : Act (Unit {0})) × Valid t.homes me.1 a × Ruled z (stepped t s (f n) id me.1 w a) × new_told (step slots s UNMAPPED word none) me n (w, carried_after me.1 a) = (
+      let answer : (w : View) × (a : Act (Unit {0})) × Valid t.homes me.1 a × Ruled z (stepped t s (f n) id me.1 w a)
+      × new_told (step slots s UNMAPPED word none) me n (w, carried_after me.1 a) = (
         w,
         keeps,
         tt,
@@ -157,7 +149,8 @@ module _ (z : Numbers) (slots id : ℕ) (me : Sitter) where
       let after : World = place_world z g t.views id me.0 by s (WriteNew by s value) (g.map s) law at is.1 refl in
       let named = word_named (g.map s) (λ e. other (found ∙ e)) in
       let now : f n ≡ sector_word (g.map s) = ap (λ b. either b word n) (ne_eqb n UNMAPPED other) ∙ found in
-      let answer : (w : View) × (a : Act (Unit {0})) × Valid t.homes me.1 a × Ruled z (stepped t s (f n) id me.1 w a) × new_told (step slots s UNMAPPED word none) me n (w, carried_after me.1 a) = (
+      let answer : (w : View) × (a : Act (Unit {0})) × Valid t.homes me.1 a × Ruled z (stepped t s (f n) id me.1 w a)
+      × new_told (step slots s UNMAPPED word none) me n (w, carried_after me.1 a) = (
         w,
         keeps,
         tt,
@@ -171,42 +164,50 @@ module _ (z : Numbers) (slots id : ℕ) (me : Sitter) where
 
   -- ---- take
   -- a pass or a broom sets the taking bit of a block
-  pub take_allowed : (b : ℕ) → is_player me.0.role ≡ true → b < z.blocks → Allows (Ruled z) slots id me (pin_index z b) (λ n. bit_or n TAKEN) (take_told (step slots (pin_index z b) TAKEN 0 none) me)
+  pub take_allowed : (b : ℕ) → is_player me.0.role ≡ true → b < z.blocks
+      → Allows (Ruled z) slots id me (pin_index z b) (λ n. bit_or n TAKEN) (take_told (step slots (pin_index z b) TAKEN 0 none) me)
   take_allowed b player low t (g, fits, law) _ at _ =
       let p : PinWord = g.pins b in
-      let k : ℕ = pin_index z b in
-      let n : ℕ = get_or t.words k 0 in
+      let n : ℕ = get_or t.words (pin_index z b) 0 in
       let found : n ≡ pin_word p = fits.blocks b low in
       let fitting = state_fits z g t.views law b low in
       let numbers = numbers_now g t.views law at player in
-      let same_block : (c : ℕ) → k ≡ pin_index me.0.numbers c → b ≡ c = λ c is. let e : me.0.numbers.sectors ≡ z.sectors = ap (λ (y : Numbers). y.sectors) numbers in omega arith in
-      let young : p.generation < me.0.numbers.endurance = let r = (law.blocks b low).generation in let e : me.0.numbers.endurance ≡ z.endurance = ap (λ (y : Numbers). y.endurance) numbers in omega arith in
+      let young : p.generation < me.0.numbers.endurance = let r = (law.blocks b low).generation in let e : me.0.numbers.endurance ≡ z.endurance =
+      ap (λ (y : Numbers). y.endurance) numbers in omega arith in
+      let answer : (w : View) → Ruled z (stepped t (pin_index z b) (bit_or n TAKEN) id me.1 w keeps) → Took me.0 b n w
+      → (w : View) × (a : Act (Unit {0})) × Valid t.homes me.1 a × Ruled z (stepped t (pin_index z b) (bit_or n TAKEN) id me.1 w a)
+      × take_told (step slots (pin_index z b) TAKEN 0 none) me n (w, carried_after me.1 a) = λ w ruled told.
+      (w, keeps, tt, ruled, (refl, λ c _ is. subst (λ (j : ℕ). Took me.0 j n w) (same_block z me numbers b c is) told)) in
       ⊎_elim
       (λ (free : p.phase ≡ Free).
       let w : View = taker z g t.views id me.0 b law at player low in
-      let q : PinWord = taken_state z g t.views id me.0 b law at player low in
-      let now : bit_or n TAKEN ≡ pin_word q = ap (λ x. bit_or x TAKEN) found ∙ takes_free p fitting free in
-      let after : World = taken z g t.views id me.0 b law at player low in
-      let told : Took me.0 b n w = record { state = p; fits = fitting; young = young; found = found; fresh = λ _. unowned z g t.views id me.0 law at b (ap is_owned free); free = λ _. refl; denied = λ not. absurd (not free) } in
-      let answer : (w : View) × (a : Act (Unit {0})) × Valid t.homes me.1 a × Ruled z (stepped t k (bit_or n TAKEN) id me.1 w a) × take_told (step slots k TAKEN 0 none) me n (w, carried_after me.1 a) = (
-        w,
-        keeps,
-        tt,
-        (after, subst (λ x. Fits z g.map after.pins g.pages (set t.words k x)) (sym now) (fits_pin z g.map g.pins g.pages t.words fits b q low), takes z g t.views id me.0 b law at player low free),
-        (refl, λ c _ is. subst (λ (j : ℕ). Took me.0 j n w) (same_block c is) told),
-      ) in answer)
+      answer w
+      (ruled_as z id me t g fits b low (taken_state z g t.views id me.0 b law at player low) id (deeds g) w (bit_or n TAKEN)
+      (ap (λ x. bit_or x TAKEN) found ∙ takes_free p fitting free) (takes z g t.views id me.0 b law at player low free))
+      (record {
+        state = p;
+        fits = fitting;
+        young = young;
+        found = found;
+        fresh = λ _. unowned z g t.views id me.0 law at b (ap is_owned free);
+        free = λ _. refl;
+        denied = λ not. absurd (not free);
+      }))
       (λ (not : ¬ (p.phase ≡ Free)).
       let w : View = record me.0 { denied = me.0.denied ++ b ∷ [] } in
-      let now : bit_or n TAKEN ≡ n = ap (λ x. bit_or x TAKEN) found ∙ (takes_taken p fitting not ∙ sym found) in
-      let told : Took me.0 b n w = record { state = p; fits = fitting; young = young; found = found; fresh = λ free. absurd (not free); free = λ free. absurd (not free); denied = λ _. refl } in
-      let answer : (w : View) × (a : Act (Unit {0})) × Valid t.homes me.1 a × Ruled z (stepped t k (bit_or n TAKEN) id me.1 w a) × take_told (step slots k TAKEN 0 none) me n (w, carried_after me.1 a) = (
-        w,
-        keeps,
-        tt,
-        (g, subst (λ x. Fits z g.map g.pins g.pages (set t.words k x)) (sym now) (fits_load z g.map g.pins g.pages t.words fits k (pin_within z b low)), denied z g t.views id me.0 b law at player low),
-        (refl, λ c _ is. subst (λ (j : ℕ). Took me.0 j n w) (same_block c is) told),
-      ) in answer)
-      (free_or_not p.phase)
+      answer w
+      (ruled_still z id me t g fits b low w (bit_or n TAKEN) (ap (λ x. bit_or x TAKEN) found ∙ (takes_taken p fitting not ∙ sym found))
+      (denied z g t.views id me.0 b law at player low))
+      (record {
+        state = p;
+        fits = fitting;
+        young = young;
+        found = found;
+        fresh = λ free. absurd (not free);
+        free = λ free. absurd (not free);
+        denied = λ _. refl;
+      }))
+      (phase_or_not p.phase Free)
 
   -- ---- put
   -- the owner of an open block puts the next word of its first page not written
@@ -236,7 +237,8 @@ module _ (z : Numbers) (slots id : ℕ) (me : Sitter) where
               let short' : length (words_in me.0.work o') ≤ z.words = let r = can'.short in omega arith in
               let is' : page_index z o.block (next_page o).page + i ≡ page_index z o'.block (next_page o').page + length (words_in me.0.work o') =
               is ∙ ap (λ (y : Numbers). page_index y o'.block (next_page o').page + length (words_in me.0.work o')) numbers in
-              let blocks = (page_same z o.block (next_page o).page i o'.block (next_page o').page (length (words_in me.0.work o')) room room' short short' is').0 in
+              let blocks = (page_same z o.block (next_page o).page i o'.block (next_page o').page
+              (length (words_in me.0.work o')) room room' short short' is').0 in
               let same : o ≡ o' = some_same o o' (sym can.own ∙ (ap (λ c. owned_at c me.0.owns) blocks ∙ can'.own)) in
               ap (λ (y : Owned). record me.0 { work = Some (record { page = next_page y; words = words_in me.0.work y ++ x ∷ [] }) }) same,
         ),
@@ -245,39 +247,30 @@ module _ (z : Numbers) (slots id : ℕ) (me : Sitter) where
   -- ---- count
   -- the owner of an open block counts the page that it has filled
   pub count_allowed : (o : Owned) (x : Work) → is_player me.0.role ≡ true → me.0.numbers ≡ z → CanCount me.0 o x
-      → Allows (Ruled z) slots id me (pin_index z o.block) (λ n. (n + PAGE_WRITTEN) % 2 ^ 64) (count_told (step slots (pin_index z o.block) PAGE_WRITTEN 0 none) me)
+      → Allows (Ruled z) slots id me (pin_index z o.block) (λ n. (n + PAGE_WRITTEN) % 2 ^ 64)
+      (count_told (step slots (pin_index z o.block) PAGE_WRITTEN 0 none) me)
   count_allowed o x player numbers can t (g, fits, law) _ at _ =
       let h = law.views id me.0 at in
       let name = worker z me.0 x h.kind can.is in
       let words : me.0.numbers.words ≡ z.words = ap (λ (y : Numbers). y.words) numbers in
       let full : length x.words ≡ z.words + 1 = let f = can.full in omega arith in
       let low = own_low z g t.views id me.0 o law at can.own can.opened in
-      let p : PinWord = g.pins o.block in
-      let k : ℕ = pin_index z o.block in
-      let n : ℕ = get_or t.words k 0 in
-      let found : n ≡ pin_word p = fits.blocks o.block low in
-      let q : PinWord = counted_state z g t.views id me.0 o law at can.own can.opened x can.is can.page full in
-      let w : View = counter z g t.views id me.0 o law at can.own can.opened x can.is can.page full in
-      let after : World = count_world z g t.views id me.0 o law at can.own can.opened x can.is can.page full name.0 in
-      let lawful = counts_page z g t.views id me.0 o law at can.own can.opened x can.is can.page full name.0 name.1 in
-      let fitting : FitsPin q = subst FitsPin (put_here g.pins o.block q) (state_fits z after (set t.views id w) lawful o.block low) in
-      let now : (n + PAGE_WRITTEN) % 2 ^ 64 ≡ pin_word q = ap (λ (y : ℕ). (y + PAGE_WRITTEN) % 2 ^ 64) found ∙ adds p q PAGE_WRITTEN fitting (counts p) in (
+      let w : View = counter z g t.views id me.0 o law at can.own can.opened x can.is can.page full in (
         w,
         keeps,
         tt,
-        (
-          after,
-          subst (λ y. Fits z g.map after.pins g.pages (set t.words k y)) (sym now) (fits_pin z g.map g.pins g.pages t.words fits o.block q low),
-          lawful,
-        ),
+        ruled_plus z id me t g fits o.block low (counted_state z g t.views id me.0 o law at can.own can.opened x can.is can.page full) id
+            (count_deeds z g t.views id me.0 o law at can.own can.opened x can.is can.page full name.0) w PAGE_WRITTEN (counts (g.pins o.block))
+            (counts_page z g t.views id me.0 o law at can.own can.opened x can.is can.page full name.0 name.1),
         (
           refl,
           λ o' x' can' is.
-              let sectors : me.0.numbers.sectors ≡ z.sectors = ap (λ (y : Numbers). y.sectors) numbers in
-              let blocks : o.block ≡ o'.block = omega arith in
-              let same : o ≡ o' = some_same o o' (sym can.own ∙ (ap (λ c. owned_at c me.0.owns) blocks ∙ can'.own)) in
+              let same : o ≡ o' = same_owned z me numbers o o' can.own can'.own is in
               let works : x ≡ x' = some_same x x' (sym can.is ∙ can'.is) in
-              λ i. record me.0 { programs = me.0.programs ++ (works i).page ∷ []; owns = with_owned (record (same i) { written = (same i).written + 1 }) me.0.owns },
+              λ i. record me.0 {
+                programs = me.0.programs ++ (works i).page ∷ [];
+                owns = with_owned (record (same i) { written = (same i).written + 1 }) me.0.owns;
+              },
         ),
       )
 
@@ -286,39 +279,26 @@ module _ (z : Numbers) (slots id : ℕ) (me : Sitter) where
   pub close_allowed : (o : Owned) → me.0.numbers ≡ z → CanClose me.0 o
       → Allows (Ruled z) slots id me (pin_index z o.block) (λ n. (n + NEXT_PHASE) % 2 ^ 64) (close_told (step slots (pin_index z o.block) NEXT_PHASE 0 none) me)
   close_allowed o numbers can t (g, fits, law) _ at _ =
-      let low = own_low z g t.views id me.0 o law at can.own can.opened in
-      let p : PinWord = g.pins o.block in
-      let k : ℕ = pin_index z o.block in
-      let n : ℕ = get_or t.words k 0 in
-      let found : n ≡ pin_word p = fits.blocks o.block low in
-      let q : PinWord = closed_state z g t.views id me.0 o law at can.own can.opened in
       let w : View = closer z g t.views id me.0 o law at can.own can.opened in
-      let after : World = close_world z g t.views id me.0 o law at can.own can.opened in
-      let lawful = closes z g t.views id me.0 o law at can.own can.opened can.settled in
-      let fitting : FitsPin q = subst FitsPin (put_here g.pins o.block q) (state_fits z after (set t.views id w) lawful o.block low) in
-      let now : (n + NEXT_PHASE) % 2 ^ 64 ≡ pin_word q =
-      ap (λ (y : ℕ). (y + NEXT_PHASE) % 2 ^ 64) found ∙ adds p q NEXT_PHASE fitting (next_phase p Open Closed (is_open z g t.views id me.0 o law at can.own can.opened) refl) in (
+      let sum = next_phase (g.pins o.block) Open Closed (is_open z g t.views id me.0 o law at can.own can.opened) refl in (
         w,
         keeps,
         tt,
-        (
-          after,
-          subst (λ y. Fits z g.map after.pins g.pages (set t.words k y)) (sym now) (fits_pin z g.map g.pins g.pages t.words fits o.block q low),
-          lawful,
-        ),
+        ruled_plus z id me t g fits o.block (own_low z g t.views id me.0 o law at can.own can.opened)
+            (closed_state z g t.views id me.0 o law at can.own can.opened) id (deeds g) w NEXT_PHASE sum
+            (closes z g t.views id me.0 o law at can.own can.opened can.settled),
         (
           refl,
           λ o' can' is.
-              let sectors : me.0.numbers.sectors ≡ z.sectors = ap (λ (y : Numbers). y.sectors) numbers in
-              let blocks : o.block ≡ o'.block = omega arith in
-              let same : o ≡ o' = some_same o o' (sym can.own ∙ (ap (λ c. owned_at c me.0.owns) blocks ∙ can'.own)) in
-              ap (λ (y : Owned). record me.0 { owns = without y.block me.0.owns; work = None; ceded = me.0.ceded ++ record y { phase = Closed } ∷ [] }) same,
+              ap (λ (y : Owned). record me.0 { owns = without y.block me.0.owns; work = None; ceded = me.0.ceded ++ record y { phase = Closed } ∷ [] })
+              (same_owned z me numbers o o' can.own can'.own is),
         ),
       )
 
 -- ---- get
 -- a pass reads the page of its accepted pin
-pub get_allowed : (z : Numbers) (slots id : ℕ) (me : Sitter) (m : MapWord) (value : List ℕ) (i : ℕ) → me.0.numbers ≡ z → me.0.pin ≡ Accepted m value → m.block < z.blocks → m.page < z.pages → i < z.words
+pub get_allowed : (z : Numbers) (slots id : ℕ) (me : Sitter) (m : MapWord) (value : List ℕ) (i : ℕ) → me.0.numbers ≡ z → me.0.pin ≡ Accepted m value
+    → m.block < z.blocks → m.page < z.pages → i < z.words
     → Allows (Ruled z) slots id me (page_index z m.block m.page + i) (λ n. n) (get_told (step slots (page_index z m.block m.page + i) 0 0 none) me)
 get_allowed z slots id me m value i numbers pin block page low t (g, fits, law) _ at _ =
     let k : ℕ = page_index z m.block m.page + i in
@@ -327,7 +307,11 @@ get_allowed z slots id me m value i numbers pin block page low t (g, fits, law) 
       me.0,
       keeps,
       tt,
-      (g, fits_load z g.map g.pins g.pages t.words fits k (page_within z m.block m.page i block page (omega arith)), subst (λ vs. Lawful z g vs) (sym (set_again t.views id me.0 at)) law),
+      (
+        g,
+        fits_load z g.map g.pins g.pages t.words fits k (page_within z m.block m.page i block page (omega arith)),
+        subst (λ vs. Lawful z g vs) (sym (set_again t.views id me.0 at)) law,
+      ),
       (
         refl,
         λ m' value' i' pin' low' is.
@@ -341,7 +325,8 @@ get_allowed z slots id me m value i numbers pin block page low t (g, fits, law) 
     )
 
 -- the answer of a call, from the word that was swapped out
-pub called : (v : View) (c : Call) (s n : ℕ) (answer : Was) (w : View) → Placed v c s n w → (n ≡ 0 → answer ≡ Empty) → (¬ (n ≡ 0) → answer ≡ Written) → Called v c s answer w
+pub called : (v : View) (c : Call) (s n : ℕ) (answer : Was) (w : View) → Placed v c s n w → (n ≡ 0 → answer ≡ Empty) → (¬ (n ≡ 0) → answer ≡ Written)
+    → Called v c s answer w
 called v c s n answer w h empty written =
     record {
       changed = h.changed;
@@ -349,6 +334,7 @@ called v c s n answer w h empty written =
       later = h.later;
       now = h.now;
       callers = h.callers;
-      answered = dite (ℕ_discrete n 0) (λ none. empty none ∙ ap was_of (sym (h.empty none))) (λ not. let k = h.written not in written not ∙ ap was_of (sym k.1));
+      answered = dite (ℕ_discrete n 0) (λ none. empty none ∙ ap was_of (sym (h.empty none)))
+          (λ not. let k = h.written not in written not ∙ ap was_of (sym k.1));
       own = h.own;
     }

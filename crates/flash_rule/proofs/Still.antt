@@ -1,21 +1,28 @@
 -- A step that changes no word: the looks of a pass.
-use Rattle.flash_rule.proofs.Words.{◌⊎◌, ◌≡◌, ◌≢◌, ℕ, zero, suc, ◌*◌, ◌+◌, ◌<◌, ◌≤◌, inl, true, false, List, [], ◌∷◌, Option, None, Some, length, set, sym}
-use Rattle.flash_rule.proofs.Words.{refl, ap, ◌∙◌, subst, arith, length-set, suc-mul, get_or, get_or-set_same, get_or-set_other, some, dite}
+use Rattle.flash_rule.proofs.Words.{◌⊎◌, ◌≡◌, ◌≢◌, ℕ, zero, suc, ◌*◌, ◌+◌, ◌<◌, ◌≤◌, inl, true, false, List, [], ◌∷◌, Option, None, Some, length, set}
+use Rattle.flash_rule.proofs.Words.{sym, refl, ap, ◌∙◌, subst, arith, length-set, suc-mul, get_or, get_or-set_same, get_or-set_other, some, dite}
 use Rattle.flash_rule.proofs.Words.{ℕ_discrete, get_elem?, Begins, held, Numbers, Begins-refl, map_word, FitsMap, MapWord, PinWord, Phase, Free, Open}
 use Rattle.flash_rule.proofs.Words.{Closed, Victim, Drained, Erasing, Retired, Name, Pass, Broom, Role, Dealer, Player, Note, Gone, Pin, Clear}
 use Rattle.flash_rule.proofs.Words.{Candidate, Accepted, Stray, Cycle, Carried, View, one_if, is_pass, is_live_role, pin_is_on, pins_on, weight}
 use Rattle.flash_rule.proofs.Words.{owned_at, AreOfHosts, calls_of, sum_of, World, is_intact, is_nameable, age_of, half_cycle, IsCurrent, Programs}
-use Rattle.flash_rule.proofs.Words.{Erases, LawfulKind, LawfulKnowledge, LawfulPin, LawfulView, LawfulCopy, Lawful, IsValue, PinOnward, Onward, Looked}
-use Rattle.flash_rule.proofs.Words.{Met, is_unpinned}
+use Rattle.flash_rule.proofs.Words.{Erases, LawfulKind, LawfulKnowledge, LawfulPin, LawfulView, LawfulCopy, Lawful, IsValue, PinOnward, Onward}
+use Rattle.flash_rule.proofs.Words.{Looked, Met, is_unpinned}
 use Rattle.flash_rule.specs.Plays.{Disjoint, Once}
 use Rattle.flash_rule.proofs.Frames.{lists_stay}
 use Rattle.flash_rule.proofs.Assembly.{assembled, block_kept}
 use Rattle.flash_rule.proofs.Ceding.{ceded_still}
 use Rattle.flash_rule.proofs.Owning.{some_same}
-use Rattle.flash_rule.proofs.Keeping.{holding_with}
+use Rattle.flash_rule.proofs.Keeping.{holding_with, knowledge_with}
 
 pub pin_stays : (p : PinWord) → PinOnward p p
-pin_stays p = record { generation = omega arith; age = omega arith; written = λ _. omega arith; held = λ _ intact. (refl, intact); was = λ _ intact _. intact; free = λ _ free. free }
+pin_stays p = record {
+  generation = omega arith;
+  age = omega arith;
+  written = λ _. omega arith;
+  held = λ _ intact. (refl, intact);
+  was = λ _ intact _. intact;
+  free = λ _ free. free;
+}
 
 -- the table with another map, other pages, and badges elsewhere
 abbrev pub with_words : World → (ℕ → Option MapWord) → (ℕ → ℕ → ℕ → ℕ) → (Name → ℕ) → (Name → Option Carried) → World
@@ -47,11 +54,13 @@ onward_of z g id other map pages badge carries apart readable named badges carri
     }
 
 pub all_stays : (z : Numbers) (g : World) (id other : ℕ) → Onward z g g id other
-all_stays z g id other = onward_of z g id other g.map g.pages g.badge g.carries (λ _ _ p i. refl) (λ b p i _ _. refl) (λ s m is. inl is) (λ n _ _. (refl, refl)) (λ n c is. inl is)
+all_stays z g id other = onward_of z g id other g.map g.pages g.badge g.carries (λ _ _ p i. refl) (λ b p i _ _. refl) (λ s m is. inl is)
+    (λ n _ _. (refl, refl)) (λ n c is. inl is)
 
 -- a seat that keeps its blocks and its pinned block
 pub still : (z : Numbers) (g : World) (vs : List View) (id : ℕ) (v w : View) → Lawful z g vs → get_elem? vs id ≡ some v → LawfulView z g id w
-    → ((b : ℕ) → pins_on b w ≡ pins_on b v) → w.owns ≡ v.owns → weight z w ≡ weight z v → w.role ≡ v.role → w.ceded ≡ v.ceded → w.drains ≡ v.drains → Lawful z g (set vs id w)
+    → ((b : ℕ) → pins_on b w ≡ pins_on b v) → w.owns ≡ v.owns → weight z w ≡ weight z v → w.role ≡ v.role → w.ceded ≡ v.ceded → w.drains ≡ v.drains
+    → Lawful z g (set vs id w)
 still z g vs id v w law at own counted owns weighs role ceded drains =
     assembled z g g vs id v w law at (all_stays z g id id) own law.sectors law.callers
     (λ b low. block_kept z g g vs id v w b at (law.blocks b low) refl refl (λ p i. refl) (counted b) (λ o is. (o, ap (λ l. owned_at b l) owns ∙ is)))
@@ -102,6 +111,15 @@ age_low z g vs law b low = by_phase (g.pins b).phase where
   by_phase Erasing = let r = (law.blocks b low).generation in omega arith
   by_phase Retired = let r = (law.blocks b low).generation in omega arith
 
+-- ages that are known of all blocks are bounded in sum
+pub ages_bounded : (z : Numbers) (g : World) (vs : List View) → Lawful z g vs → (known : List ℕ) → length known ≡ z.blocks
+    → ((b : ℕ) → b < z.blocks → get_or known b 0 ≤ age_of (g.pins b)) → sum_of known ≤ z.blocks * (2 * z.endurance)
+ages_bounded z g vs law known long ages =
+    let each : (k : ℕ) → k < length known → get_or known k 0 ≤ 2 * z.endurance = λ k low.
+    let below : k < z.blocks = omega arith in let a = ages k below in let b = age_low z g vs law k below in omega arith in
+    let s = sum_below known (2 * z.endurance) each in
+    let e : length known * (2 * z.endurance) ≡ z.blocks * (2 * z.endurance) = ap (λ k. k * (2 * z.endurance)) long in omega arith
+
 pub pass_of : (r : Role) → is_pass r ≡ true → (t : ℕ) × (r ≡ Player (Pass t))
 pass_of (Player (Pass t)) is = (t, refl)
 pass_of (Player (Broom i)) is = absurd (cc)
@@ -148,7 +166,8 @@ met z g v n c role h copy = (
     same_first a j b k e = ap (first_or a) e
 
 -- the copies that a player has, once it sees the history of this moment
-pub met_now : (z : Numbers) (g : World) (v : View) (n : Name) → v.role ≡ Player n → LawfulKnowledge z g v → (w : View) → w.role ≡ v.role → w.seen ≡ g.history → w.programs ≡ v.programs → w.erases ≡ v.erases → w.older ≡ v.older
+pub met_now : (z : Numbers) (g : World) (v : View) (n : Name) → v.role ≡ Player n → LawfulKnowledge z g v → (w : View) → w.role ≡ v.role
+    → w.seen ≡ g.history → w.programs ≡ v.programs → w.erases ≡ v.erases → w.older ≡ v.older
     → (c : Carried) → v.copy ≡ Some c → Met w c
 met_now z g v n player h w role seen programs erases older c is =
     let copy = h.copy c is in
@@ -158,8 +177,14 @@ met_now z g v n player h w role seen programs erases older c is =
       seen = subst (λ l. Begins c.seen l) (sym seen) m.0;
       programs = subst (λ l. Disjoint l c.programs) (sym programs) m.1;
       erases = subst (λ l. Disjoint l c.erases) (sym erases) m.2;
-      programmed_once = (subst (λ (l : List MapWord). Once l) (sym programs) (programs_once z g n v.programs (h.programs n player)), programs_once z g c.of c.programs copy.programs);
-      erased_once = (subst (λ (l : List Cycle). Once l) (sym erases) (erases_once z g n v.erases (h.erases n player)), erases_once z g c.of c.erases copy.erases);
+      programmed_once = (
+        subst (λ (l : List MapWord). Once l) (sym programs) (programs_once z g n v.programs (h.programs n player)),
+        programs_once z g c.of c.programs copy.programs,
+      );
+      erased_once = (
+        subst (λ (l : List Cycle). Once l) (sym erases) (erases_once z g n v.erases (h.erases n player)),
+        erases_once z g c.of c.erases copy.erases,
+      );
       newer = λ o was. h.older o c (sym older ∙ was) is;
     }
 
@@ -176,7 +201,8 @@ map_fits z g vs s m law c =
     let a7 = b.generation in
     let a8 = c.same in (record { generation = omega arith; block = omega arith; page = omega arith }, omega arith)
 
-module _ (z : Numbers) (g : World) (vs : List View) (id : ℕ) (v : View) (s : ℕ) (law : Lawful z g vs) (at : get_elem? vs id ≡ some v) (pass : is_pass v.role ≡ true) (unpinned : is_unpinned v.pin ≡ true) where
+module _ (z : Numbers) (g : World) (vs : List View) (id : ℕ) (v : View) (s : ℕ) (law : Lawful z g vs) (at : get_elem? vs id ≡ some v)
+    (pass : is_pass v.role ≡ true) (unpinned : is_unpinned v.pin ≡ true) where
   abbrev looking : Pin → List ℕ → View
   looking pin known = record v { seen = g.history; looks = v.looks + 1; pin = pin; known = known }
 
@@ -186,7 +212,8 @@ module _ (z : Numbers) (g : World) (vs : List View) (id : ℕ) (v : View) (s : �
   no_pin (Accepted m value) is b = absurd (cc)
   no_pin (Stray c) is b = absurd (cc)
 
-  looking_lawful : (pin : Pin) (known : List ℕ) → is_unpinned pin ≡ true → LawfulPin z g known pin → length known ≡ z.blocks → ((b : ℕ) → b < z.blocks → get_or known b 0 ≤ age_of (g.pins b))
+  looking_lawful : (pin : Pin) (known : List ℕ) → is_unpinned pin ≡ true → LawfulPin z g known pin → length known ≡ z.blocks
+      → ((b : ℕ) → b < z.blocks → get_or known b 0 ≤ age_of (g.pins b))
       → Lawful z g (set vs id (looking pin known))
   looking_lawful pin known free lawful long ages =
       let h = law.views id v at in
@@ -196,19 +223,24 @@ module _ (z : Numbers) (g : World) (vs : List View) (id : ℕ) (v : View) (s : �
       let holds = h.holding in
       still z g vs id v w law at
       (record {
-        kind = record { numbers = kind.numbers; host = kind.host; known = λ _. long; opens = kind.opens; unpinned = λ not. let no : true ≡ false = sym pass ∙ not in absurd (cc); idle = kind.idle; owns_none = kind.owns_none; reclaims = kind.reclaims };
-        knowledge = record { seen = Begins-refl g.history; pin = lawful; known = ages; programs = knows.programs; erases = knows.erases; copy = knows.copy; older = knows.older; out = knows.out };
+        kind = record {
+          numbers = kind.numbers;
+          host = kind.host;
+          known = λ _. long;
+          opens = kind.opens;
+          unpinned = λ not. let no : true ≡ false =
+              sym pass ∙ not in absurd (cc);
+          idle = kind.idle;
+          owns_none = kind.owns_none;
+          reclaims = kind.reclaims;
+        };
+        knowledge = knowledge_with w knows refl (Begins-refl g.history) lawful ages knows.programs knows.erases;
         holding = holding_with holds refl refl (λ t is. let c = (holds.calls t is).0 in (c, c)) holds.lists holds.owned holds.work holds.source;
       })
       (λ b. no_pin pin free b ∙ sym (no_pin v.pin unpinned b)) refl refl refl refl refl
 
   own_calls : (t : ℕ) → v.role ≡ Player (Pass t) → calls_of t g.history ≡ v.mine
   own_calls t is = ((law.views id v at).holding.calls t is).0
-
-  known_bounded : (known : List ℕ) → length known ≡ z.blocks → ((b : ℕ) → b < z.blocks → get_or known b 0 ≤ age_of (g.pins b)) → sum_of known ≤ z.blocks * (2 * z.endurance)
-  known_bounded known long ages =
-      let each : (k : ℕ) → k < length known → get_or known k 0 ≤ 2 * z.endurance = λ k low. let below : k < z.blocks = omega arith in let a = ages k below in let b = age_low z g vs law k below in omega arith in
-      let s = sum_below known (2 * z.endurance) each in let e : length known * (2 * z.endurance) ≡ z.blocks * (2 * z.endurance) = ap (λ k. k * (2 * z.endurance)) long in omega arith
 
   -- the look, by what the map word names
   pub look_empty : g.map s ≡ None → s < z.sectors → (w : View) × Lawful z g (set vs id w) × Looked v s 0 w
@@ -228,7 +260,9 @@ module _ (z : Numbers) (g : World) (vs : List View) (id : ℕ) (v : View) (s : �
           empty = λ _. (ap (λ (y : Numbers). held y.sectors g.history s) same ∙ (law.sectors s low).empty is, refl, refl);
           named = λ not. absurd (not refl);
           rises = omega arith;
-          bounded = let b = known_bounded v.known long h.knowledge.known in let e : v.numbers.blocks * (2 * v.numbers.endurance) ≡ z.blocks * (2 * z.endurance) = ap (λ (y : Numbers). y.blocks * (2 * y.endurance)) same in omega arith;
+          bounded = let b = ages_bounded z g vs law v.known long h.knowledge.known in
+              let e : v.numbers.blocks * (2 * v.numbers.endurance) ≡ z.blocks * (2 * z.endurance) =
+              ap (λ (y : Numbers). y.blocks * (2 * y.endurance)) same in omega arith;
           met = met_now z g v (Pass by.0) by.1 h.knowledge w refl refl refl refl refl;
         },
       )
@@ -281,7 +315,8 @@ module _ (z : Numbers) (g : World) (vs : List View) (id : ℕ) (v : View) (s : �
             (let e : v.numbers.pages ≡ z.pages = ap (λ (y : Numbers). y.pages) same in let l = fits.1 in omega arith),
           );
           rises = let k = h.knowledge.known m.block c.block in let t = sum_set v.known m.block (2 * m.generation) in_range in omega arith;
-          bounded = let b = known_bounded known long' ages in let e : v.numbers.blocks * (2 * v.numbers.endurance) ≡ z.blocks * (2 * z.endurance) = ap (λ (y : Numbers). y.blocks * (2 * y.endurance)) same in omega arith;
+          bounded = let b = ages_bounded z g vs law known long' ages in let e : v.numbers.blocks * (2 * v.numbers.endurance) ≡ z.blocks * (2 * z.endurance) =
+              ap (λ (y : Numbers). y.blocks * (2 * y.endurance)) same in omega arith;
           met = met_now z g v (Pass by.0) by.1 h.knowledge w refl refl refl refl refl;
         },
       )

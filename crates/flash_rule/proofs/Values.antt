@@ -1,6 +1,5 @@
 -- A page's words tell its bytes.
-use Rattle.flash_rule.proofs.Words.{◌≡◌, ℕ, zero, suc, ◌+◌, ◌*◌, ◌<◌, List, [], ◌∷◌, ◌++◌, length, sym, refl, ap, ◌∙◌, subst, arith, get_or, Numbers}
-use Rattle.flash_rule.proofs.Words.{IsValue}
+use Rattle.flash_rule.proofs.Words.{◌≡◌, ℕ, zero, suc, ◌+◌, ◌*◌, ◌<◌, List, [], ◌∷◌, ◌++◌, length, sym, refl, ap, ◌∙◌, subst, arith, get_or, Numbers, IsValue}
 use Rattle.std.proofs.Common.{take, drop}
 use Rattle.std.proofs.lemmas.List.{get_or-drop, take-append-drop, drop-drop, length-drop, length-take}
 use Rattle.std.proofs.lemmas.Nat.{le_bytes_8}
@@ -15,8 +14,10 @@ take_bytes (x ∷ u) (suc n) h zero = h zero
 take_bytes (x ∷ u) (suc n) h (suc k) = take_bytes u n (λ k. h (suc k)) k
 
 -- eight bytes are told by their word
-bytes_same : (n : ℕ) (u v : List ℕ) → n ≡ 8 → length u ≡ n → length v ≡ n → ((k : ℕ) → get_or u k 0 < 256) → ((k : ℕ) → get_or v k 0 < 256) → from_le_bytes w64 u ≡ from_le_bytes w64 v → u ≡ v
-bytes_same n u v eight a b low high same = sym (le_bytes_8 u (from_le_bytes w64 u) (a ∙ eight) low refl) ∙ le_bytes_8 v (from_le_bytes w64 u) (b ∙ eight) high same
+bytes_same : (n : ℕ) (u v : List ℕ) → n ≡ 8 → length u ≡ n → length v ≡ n → ((k : ℕ) → get_or u k 0 < 256) → ((k : ℕ) → get_or v k 0 < 256)
+    → from_le_bytes w64 u ≡ from_le_bytes w64 v → u ≡ v
+bytes_same n u v eight a b low high same =
+    sym (le_bytes_8 u (from_le_bytes w64 u) (a ∙ eight) low refl) ∙ le_bytes_8 v (from_le_bytes w64 u) (b ∙ eight) high same
 
 chunks_same : (n e : ℕ) (u v : List ℕ) → e ≡ 8 → length u ≡ e * n → length v ≡ e * n → ((k : ℕ) → get_or u k 0 < 256) → ((k : ℕ) → get_or v k 0 < 256)
     → ((i : ℕ) → i < n → from_le_bytes w64 (take e (drop (e * i) u)) ≡ from_le_bytes w64 (take e (drop (e * i) v))) → u ≡ v

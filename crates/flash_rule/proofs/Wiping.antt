@@ -1,7 +1,7 @@
 -- A broom sets the next word of its erasing block to all ones.
 use Rattle.flash_rule.proofs.Words.{◌≡◌, ◌≢◌, ℕ, zero, suc, ◌+◌, ◌-◌, ◌*◌, ◌<◌, ◌≤◌, inl, true, false, List, Some, set, sym, refl, ap, ◌∙◌, subst}
-use Rattle.flash_rule.proofs.Words.{arith, suc-mul, some, dite, ℕ_discrete, dec_lt, get_elem?, Numbers, page_index, Open, Victim, Erasing}
-use Rattle.flash_rule.proofs.Words.{Name, Player, Owned, View, is_player, owned_at, World, put_word, is_intact, is_nameable, is_reclaimed, is_still}
+use Rattle.flash_rule.proofs.Words.{arith, suc-mul, some, dite, ℕ_discrete, dec_lt, get_elem?, Numbers, page_index, Open, Victim, Erasing, Name}
+use Rattle.flash_rule.proofs.Words.{Player, Owned, View, is_player, owned_at, World, put_word, is_intact, is_nameable, is_reclaimed, is_still}
 use Rattle.flash_rule.proofs.Words.{blank_word, LawfulOwned, LawfulView, Lawful, Onward, IsErasing, wiper}
 use Rattle.std.proofs.Math.Nat.{add-mul}
 use Rattle.flash_rule.proofs.Owning.{some_same}
@@ -26,7 +26,9 @@ row_of (suc rows) n k low =
 pub wiped_index : (z : Numbers) (b p i k : ℕ) → p * (z.words + 1) + i ≡ k → page_index z b 0 + k ≡ page_index z b p + i
 wiped_index z b p i k is = let first = add-mul (b * z.pages) 0 (z.words + 1) in let later = add-mul (b * z.pages) p (z.words + 1) in omega arith
 
-module _ (z : Numbers) (g : World) (vs : List View) (id : ℕ) (v : View) (n : Name) (o : Owned) (p i : ℕ) (law : Lawful z g vs) (at : get_elem? vs id ≡ some v) (role : v.role ≡ Player n) (erasing : IsErasing v o) (page : p < z.pages) (word : i ≤ z.words) (next : p * (z.words + 1) + i ≡ v.wiped) where
+module _ (z : Numbers) (g : World) (vs : List View) (id : ℕ) (v : View) (n : Name) (o : Owned) (p i : ℕ) (law : Lawful z g vs)
+    (at : get_elem? vs id ≡ some v) (role : v.role ≡ Player n) (erasing : IsErasing v o) (page : p < z.pages) (word : i ≤ z.words)
+    (next : p * (z.words + 1) + i ≡ v.wiped) where
   abbrev pub wipe_world : World
   wipe_world = record g { pages = put_word g.pages o.block p i blank_word }
 
@@ -66,7 +68,8 @@ module _ (z : Numbers) (g : World) (vs : List View) (id : ℕ) (v : View) (n : N
       let here = row_same q p (z.words + 1) j i (omega arith) (omega arith) (last ∙ sym next) in
       (λ t. put_word g.pages o.block p i blank_word o.block (here.0 t) (here.1 t)) ∙ word_here g.pages o.block p i blank_word)
       (λ earlier.
-      word_else g.pages o.block p i blank_word o.block q j (λ same. earlier ((λ t. same.1 t * (z.words + 1) + same.2 t) ∙ next)) ∙ mine.clean is q j low most (omega arith)))
+      word_else g.pages o.block p i blank_word o.block q j (λ same. earlier ((λ t. same.1 t * (z.words + 1) + same.2 t) ∙ next))
+      ∙ mine.clean is q j low most (omega arith)))
 
   wiped_else : (c : ℕ) (e : Owned) → c ≢ o.block → owned_at c v.owns ≡ Some e → LawfulOwned z wipe_world id v.work v.cleared (wiper v).wiped c e
   wiped_else c e unlike owns =
@@ -85,7 +88,8 @@ module _ (z : Numbers) (g : World) (vs : List View) (id : ℕ) (v : View) (n : N
       let knows = knowledge_kept z g wipe_world id id wipe_onward v (λ c is below. counted vs law id v at c is below) h.knowledge in
       -- the blocks of its work and of its source are others
       let apart : (c : ℕ) (e : Owned) → owned_at c v.owns ≡ Some e → ¬ (e.phase ≡ Erasing) → c ≢ o.block = λ c e owns not same.
-      let entry : e ≡ o = some_same e o (sym owns ∙ (ap (λ j. owned_at j v.owns) same ∙ erasing.own)) in not (ap (λ (y : Owned). y.phase) entry ∙ erasing.erasing) in
+      let entry : e ≡ o = some_same e o (sym owns ∙ (ap (λ j. owned_at j v.owns) same ∙ erasing.own)) in
+      not (ap (λ (y : Owned). y.phase) entry ∙ erasing.erasing) in
       record {
         kind = kind_with kind refl kind.opens
             (λ is. let no : true ≡ false = sym (ap is_player role) ∙ is in absurd (cc))
@@ -95,7 +99,8 @@ module _ (z : Numbers) (g : World) (vs : List View) (id : ℕ) (v : View) (n : N
             (λ c e owns. dite (ℕ_discrete c o.block)
             (λ same.
             let entry : o ≡ e = some_same o e (sym erasing.own ∙ (ap (λ j. owned_at j v.owns) (sym same) ∙ owns)) in
-            let P : ℕ × Owned → Type 0 = λ y. LawfulOwned z wipe_world id v.work v.cleared (wiper v).wiped y.0 y.1 in subst P (λ t. (sym same t, entry t)) wiped_more)
+            let P : ℕ × Owned → Type 0 = λ y. LawfulOwned z wipe_world id v.work v.cleared (wiper v).wiped y.0 y.1 in
+            subst P (λ t. (sym same t, entry t)) wiped_more)
             (λ unlike. wiped_else c e unlike owns))
             (λ w is.
             let k = holds.work w is in
@@ -110,7 +115,8 @@ module _ (z : Numbers) (g : World) (vs : List View) (id : ℕ) (v : View) (n : N
   pub wipes_word : Lawful z wipe_world (set vs id (wiper v))
   wipes_word =
       assembled z g wipe_world vs id v (wiper v) law at wipe_onward wiper_lawful
-      (λ s low. sector_kept z g wipe_world s (law.sectors s low) refl refl (λ c _ named. (refl, named, omega arith, λ q j _. other_block c q j (not_nameable c named))))
+      (λ s low. sector_kept z g wipe_world s (law.sectors s low) refl refl
+      (λ c _ named. (refl, named, omega arith, λ q j _. other_block c q j (not_nameable c named))))
       law.callers
       (λ c low. dite (ℕ_discrete c o.block)
       (λ same.

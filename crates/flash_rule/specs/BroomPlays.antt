@@ -30,7 +30,8 @@ pub record Named (v : View) (s n : ℕ) (w : View) : Type 0 where
   pub later : Begins v.seen w.seen
   pub callers : AreOfHosts v.numbers w.seen
   pub empty : n ≡ 0 → held v.numbers.sectors w.seen s ≡ None
-  pub page : ¬ (n ≡ 0) → (m : MapWord) × (value : List ℕ) × (n ≡ map_word m) × FitsMap m × (held v.numbers.sectors w.seen s ≡ Some value) × IsValue v.numbers value
+  pub page : ¬ (n ≡ 0) → (m : MapWord) × (value : List ℕ) × (n ≡ map_word m) × FitsMap m × (held v.numbers.sectors w.seen s ≡ Some value)
+      × IsValue v.numbers value
       × (m.block < v.numbers.blocks) × (m.page < v.numbers.pages)
   pub live : (x : Source) (value : List ℕ) → v.source ≡ Some x → x.stamp ≡ s → n ≡ map_word x.page → held v.numbers.sectors w.seen s ≡ Some value
       → (w.source ≡ Some (record x { value = Some value })) × (w.cleared ≡ v.cleared)
@@ -92,7 +93,8 @@ pub record Moved (v : View) (x : Source) (n : ℕ) (w : View) : Type 0 where
 abbrev pub move_told : Step (Unit {0}) → Sitter → ℕ → Sitter → Type 0
 move_told st me n after =
     (after.1 ≡ me.1)
-    × ((x : Source) (copy : MapWord) → CanMove me.0 x copy → FitsMap x.page → FitsMap copy → st.word ≡ x.stamp → st.first ≡ map_word x.page → st.second ≡ map_word copy
+    × ((x : Source) (copy : MapWord) → CanMove me.0 x copy → FitsMap x.page → FitsMap copy → st.word ≡ x.stamp → st.first ≡ map_word x.page
+    → st.second ≡ map_word copy
     → Moved me.0 x n after.0)
 
 -- STATE. The broom records the block and its word. Its generation is less than the endurance, and it has no more pages written than a block
@@ -164,7 +166,8 @@ pub record CanCondemn (v : View) (b : ℕ) (p : PinWord) : Type 0 where
 -- it is busy
 pub record Condemned (v : View) (b : ℕ) (p : PinWord) (n : ℕ) (w : View) : Type 0 where
   pub fresh : n ≡ pin_word p → owned_at b v.owns ≡ None
-  pub won : n ≡ pin_word p → w ≡ record v { owns = with_owned (owned_as b p Erasing) v.owns; erases = v.erases ++ cycle_of (owned_as b p Erasing) ∷ []; wiped = 0 }
+  pub won : n ≡ pin_word p → w
+      ≡ record v { owns = with_owned (owned_as b p Erasing) v.owns; erases = v.erases ++ cycle_of (owned_as b p Erasing) ∷ []; wiped = 0 }
   pub busy : ¬ (n ≡ pin_word p) → w ≡ record v { busy = v.busy ++ b ∷ [] }
 
 -- what a condemn records for a broom
@@ -183,7 +186,12 @@ pub record CanDrain (v : View) (o : Owned) : Type 0 where
 abbrev pub drain_told : Step (Unit {0}) → Sitter → ℕ → Sitter → Type 0
 drain_told st me n after =
     (after.1 ≡ me.1)
-    × ((o : Owned) → CanDrain me.0 o → st.word ≡ pin_index me.0.numbers o.block → after.0 ≡ record me.0 { owns = without o.block me.0.owns; drains = me.0.drains ++ cycle_of o ∷ []; ceded = me.0.ceded ++ record o { phase = Drained } ∷ [] })
+    × ((o : Owned) → CanDrain me.0 o → st.word ≡ pin_index me.0.numbers o.block
+    → after.0 ≡ record me.0 {
+      owns = without o.block me.0.owns;
+      drains = me.0.drains ++ cycle_of o ∷ [];
+      ceded = me.0.ceded ++ record o { phase = Drained } ∷ [];
+    })
 
 -- the broom erases this block of its own
 pub record IsErasing (v : View) (o : Owned) : Type 0 where

@@ -35,4 +35,13 @@ calls_coded = coded_list call_coded
 abbrev pub numbers_coded : Coded Numbers
 numbers_coded = coded_via (coded× coded_ℕ (coded× coded_ℕ (coded× coded_ℕ (coded× coded_ℕ (coded× coded_ℕ (coded× coded_ℕ (coded× coded_ℕ coded_ℕ)))))))
     (λ (n : Numbers). (n.luns, (n.blocks, (n.pages, (n.words, (n.sectors, (n.endurance, (n.hosts, n.brooms))))))))
-    (λ x y e i. record { luns = (e i).0; blocks = (e i).1.0; pages = (e i).1.1.0; words = (e i).1.1.1.0; sectors = (e i).1.1.1.1.0; endurance = (e i).1.1.1.1.1.0; hosts = (e i).1.1.1.1.1.1.0; brooms = (e i).1.1.1.1.1.1.1 })
+    (λ x y e i. record {
+      luns = (e i).0;
+      blocks = (e i).1.0;
+      pages = (e i).1.1.0;
+      words = (e i).1.1.1.0;
+      sectors = (e i).1.1.1.1.0;
+      endurance = (e i).1.1.1.1.1.0;
+      hosts = (e i).1.1.1.1.1.1.0;
+      brooms = (e i).1.1.1.1.1.1.1;
+    })

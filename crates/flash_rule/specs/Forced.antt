@@ -18,7 +18,8 @@ use Rattle.flash_rule.specs.declared.view.View.{View}
 use Rattle.flash_rule.specs.Views.{is_pass, is_player, is_broom}
 use Rattle.flash_rule.specs.Seats.{Ruled}
 use Rattle.flash_rule.specs.Plays.{Sitter, IsOn, CanCount, CanClose, take_told, pin_told, unpin_told, count_told, close_told}
-use Rattle.flash_rule.specs.BroomPlays.{CanClaim, CanDrain, CanCondemn, CanRenew, CanRetire, claim_told, drain_told, condemn_told, freed_told, kept_told, retired_told}
+use Rattle.flash_rule.specs.BroomPlays.{CanClaim, CanDrain, CanCondemn, CanRenew, CanRetire, claim_told, drain_told}
+use Rattle.flash_rule.specs.BroomPlays.{condemn_told, freed_told, kept_told, retired_told}
 
 -- The table meets the rule and has this many slots; this is the seat that makes the step; and word k fits into 64 bits
 pub record SitsAt (z : Numbers) (slots id : ℕ) (me : Sitter) (k : ℕ) (t : State (Unit {0}) View) : Type 0 where
@@ -31,7 +32,8 @@ pub record SitsAt (z : Numbers) (slots id : ℕ) (me : Sitter) (k : ℕ) (t : St
 -- it
 abbrev pub Forces : Numbers → ℕ → ℕ → Sitter → ℕ → (ℕ → ℕ) → (ℕ → Sitter → Type 0) → Type 0
 Forces z slots id me k f told =
-    (other : ℕ → ℕ) → Allows (Ruled z) slots id me k other told → (t : State (Unit {0}) View) → SitsAt z slots id me k t → other (slice_index t.words k) ≡ f (slice_index t.words k)
+    (other : ℕ → ℕ) → Allows (Ruled z) slots id me k other told → (t : State (Unit {0}) View) → SitsAt z slots id me k t
+    → other (slice_index t.words k) ≡ f (slice_index t.words k)
 
 -- the law, for the numbers of each device, each number of slots, each seat and each pair of operands
 abbrev pub AtEach : (Numbers → ℕ → ℕ → Sitter → ℕ → ℕ → Type 0) → Type 0

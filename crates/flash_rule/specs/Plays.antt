@@ -1,5 +1,6 @@
 -- What each kind of step needs from the seat that makes it, and what it records: the change of that seat's view.
-use Rattle.std.specs.Prelude.{◌≡◌, ℕ, ◌+◌, ◌*◌, ◌<◌, ◌≤◌, ◌==◌, ◌&&◌, Bool, true, false, List, [], ◌∷◌, ◌++◌, Option, None, Some, if◌then◌else◌, length, slice_get, slice_set, slice_index}
+use Rattle.std.specs.Prelude.{◌≡◌, ℕ, ◌+◌, ◌*◌, ◌<◌, ◌≤◌, ◌==◌, ◌&&◌, Bool, true, false, List, [], ◌∷◌, ◌++◌, Option}
+use Rattle.std.specs.Prelude.{None, Some, if◌then◌else◌, length, slice_get, slice_set, slice_index}
 use Rattle.atomic_table.specs.Table.{Step, Me}
 use Rattle.geometry.specs.History.{Call, Write, WriteNew, Trim, held, was, Begins}
 use Rattle.geometry.specs.declared.answer.Was.{Was}
@@ -65,7 +66,8 @@ pub record Looked (v : View) (s n : ℕ) (w : View) : Type 0 where
   pub callers : AreOfHosts v.numbers w.seen
   pub own : (t : ℕ) → v.role ≡ Player (Pass t) → calls_of t w.seen ≡ w.mine
   pub empty : n ≡ 0 → (held v.numbers.sectors w.seen s ≡ None) × (w.pin ≡ Clear) × (w.known ≡ v.known)
-  pub named : ¬ (n ≡ 0) → (m : MapWord) × (value : List ℕ) × (n ≡ map_word m) × FitsMap m × (held v.numbers.sectors w.seen s ≡ Some value) × IsValue v.numbers value
+  pub named : ¬ (n ≡ 0) → (m : MapWord) × (value : List ℕ) × (n ≡ map_word m) × FitsMap m × (held v.numbers.sectors w.seen s ≡ Some value)
+      × IsValue v.numbers value
       × (w.pin ≡ Candidate m value) × (w.known ≡ slice_set v.known m.block (2 * m.generation)) × (m.block < v.numbers.blocks) × (m.page < v.numbers.pages)
   pub rises : sum_of v.known ≤ sum_of w.known
   pub bounded : sum_of w.known ≤ v.numbers.blocks * (2 * v.numbers.endurance)
@@ -102,13 +104,15 @@ pub record CanPlace (v : View) (s : ℕ) (m : MapWord) (value : List ℕ) : Type
 abbrev pub write_told : Step (Unit {0}) → Sitter → ℕ → Sitter → Type 0
 write_told st me n after =
     (after.1 ≡ me.1)
-    × ((t : ℕ) (m : MapWord) (value : List ℕ) → me.0.role ≡ Player (Pass t) → st.first ≡ map_word m → FitsMap m → CanPlace me.0 st.word m value → Placed me.0 (Write t st.word value) st.word n after.0)
+    × ((t : ℕ) (m : MapWord) (value : List ℕ) → me.0.role ≡ Player (Pass t) → st.first ≡ map_word m → FitsMap m → CanPlace me.0 st.word m value
+    → Placed me.0 (Write t st.word value) st.word n after.0)
 
 -- what the exchange of a map word by a write of an empty sector records for a pass: the word expected is that of no page
 abbrev pub new_told : Step (Unit {0}) → Sitter → ℕ → Sitter → Type 0
 new_told st me n after =
     (after.1 ≡ me.1)
-    × ((t : ℕ) (m : MapWord) (value : List ℕ) → me.0.role ≡ Player (Pass t) → st.first ≡ UNMAPPED → st.second ≡ map_word m → FitsMap m → CanPlace me.0 st.word m value
+    × ((t : ℕ) (m : MapWord) (value : List ℕ) → me.0.role ≡ Player (Pass t) → st.first ≡ UNMAPPED → st.second ≡ map_word m → FitsMap m
+    → CanPlace me.0 st.word m value
     → Placed me.0 (WriteNew t st.word value) st.word n after.0)
 
 -- what the exchange of a map word by a trim records for a pass
@@ -123,7 +127,8 @@ pub record Took (v : View) (b n : ℕ) (w : View) : Type 0 where
   pub young : state.generation < v.numbers.endurance
   pub found : n ≡ pin_word state
   pub fresh : state.phase ≡ Free → owned_at b v.owns ≡ None
-  pub free : state.phase ≡ Free → w ≡ record v { taken = v.taken + 1; owns = with_owned (record { block = b; phase = Open; generation = state.generation; written = 0 }) v.owns }
+  pub free : state.phase ≡ Free
+      → w ≡ record v { taken = v.taken + 1; owns = with_owned (record { block = b; phase = Open; generation = state.generation; written = 0 }) v.owns }
   pub denied : ¬ (state.phase ≡ Free) → w ≡ record v { denied = v.denied ++ b ∷ [] }
 
 -- what a take records for a pass or a broom
@@ -175,7 +180,8 @@ pub record Spared (v : View) (m : MapWord) (c : Carried) : Type 0 where
 abbrev pub get_told : Step (Unit {0}) → Sitter → ℕ → Sitter → Type 0
 get_told st me n after =
     (after ≡ me)
-    × ((m : MapWord) (value : List ℕ) (i : ℕ) → me.0.pin ≡ Accepted m value → i < me.0.numbers.words → st.word ≡ page_index me.0.numbers m.block m.page + i → n ≡ data_word value i)
+    × ((m : MapWord) (value : List ℕ) (i : ℕ) → me.0.pin ≡ Accepted m value → i < me.0.numbers.words
+    → st.word ≡ page_index me.0.numbers m.block m.page + i → n ≡ data_word value i)
     × ((m : MapWord) (value : List ℕ) (c : Carried) → me.0.pin ≡ Accepted m value → me.0.copy ≡ Some c → Spared me.0 m c)
 
 -- COUNT. The page that was filled is programmed: the block has one page more written
@@ -203,7 +209,8 @@ pub record CanClose (v : View) (o : Owned) : Type 0 where
 abbrev pub close_told : Step (Unit {0}) → Sitter → ℕ → Sitter → Type 0
 close_told st me n after =
     (after.1 ≡ me.1)
-    × ((o : Owned) → CanClose me.0 o → st.word ≡ pin_index me.0.numbers o.block → after.0 ≡ record me.0 { owns = without o.block me.0.owns; work = None; ceded = me.0.ceded ++ record o { phase = Closed } ∷ [] })
+    × ((o : Owned) → CanClose me.0 o → st.word ≡ pin_index me.0.numbers o.block
+    → after.0 ≡ record me.0 { owns = without o.block me.0.owns; work = None; ceded = me.0.ceded ++ record o { phase = Closed } ∷ [] })
 
 -- PIN. The candidate is accepted if the block is intact in its generation; otherwise the pin is stray. The block's age is known
 pub record Pinned (v : View) (m : MapWord) (value : List ℕ) (n : ℕ) (w : View) : Type 0 where
@@ -219,7 +226,8 @@ pub record Pinned (v : View) (m : MapWord) (value : List ℕ) (n : ℕ) (w : Vie
 -- what a pin records for a pass
 abbrev pub pin_told : Step (Unit {0}) → Sitter → ℕ → Sitter → Type 0
 pin_told st me n after =
-    (after.1 ≡ me.1) × ((m : MapWord) (value : List ℕ) → me.0.pin ≡ Candidate m value → st.word ≡ pin_index me.0.numbers m.block → Pinned me.0 m value n after.0)
+    (after.1 ≡ me.1) × ((m : MapWord) (value : List ℕ) → me.0.pin ≡ Candidate m value → st.word ≡ pin_index me.0.numbers m.block
+    → Pinned me.0 m value n after.0)
 
 -- the block that a pin is on
 abbrev pub IsOn : Pin → ℕ → Type 0

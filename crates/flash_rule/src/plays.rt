@@ -1,6 +1,7 @@
 //! What each kind of step records for the seat that makes it.
 ghost use Rattle.flash_rule.specs.Seats.{dealt_pass, new_pass, dealt_broom, new_broom, lender, lent_note, host_of, giver, given_note, home, gone};
-ghost use Rattle.flash_rule.specs.Plays.{look_told, write_told, new_told, trim_told, take_told, put_told, get_told, count_told, close_told, pin_told, unpin_told};
+ghost use Rattle.flash_rule.specs.Plays.{look_told, write_told, new_told, trim_told, take_told, put_told};
+ghost use Rattle.flash_rule.specs.Plays.{get_told, count_told, close_told, pin_told, unpin_told};
 
 use crate::view::View;
 use atomic_table::{Join, Play, Split};

@@ -1,14 +1,17 @@
 -- The greedy choice: the relation of a chosen place to the others fixes what the search of the definition finds.
-use Rattle.std.proofs.Common.{◌≡◌, inl, inr, ℕ, zero, suc, ◌+◌, ◌<◌, ◌≤◌, Bool, true, false, not, ◌&&◌, ◌||◌, List, [], ◌∷◌, length, get_or, Option, None, Some, sym, ap, ◌∙◌, refl, arith, leb, subst}
+use Rattle.std.proofs.Common.{◌≡◌, inl, inr, ℕ, zero, suc, ◌+◌, ◌<◌, ◌≤◌, Bool, true, false, not, ◌&&◌, ◌||◌, List, [], ◌∷◌}
+use Rattle.std.proofs.Common.{length, get_or, Option, None, Some, sym, ap, ◌∙◌, refl, arith, leb, subst}
 use Rattle.std.specs.List.{zip, position_or_len, list_all}
-use Rattle.std.proofs.lemmas.Bool.{false≢true, le-leb, leb-true, lt-ltb, le-ltb, and_from, and_parts, or_cases, cases_Bool, not-true, and_left, and_right, or_left, or_right, cases_lt, cases_eq, ltb-true}
+use Rattle.std.proofs.lemmas.Bool.{false≢true, le-leb, leb-true, lt-ltb, le-ltb, and_from, and_parts, or_cases, cases_Bool}
+use Rattle.std.proofs.lemmas.Bool.{not-true, and_left, and_right, or_left, or_right, cases_lt, cases_eq, ltb-true}
 use Rattle.std.proofs.lemmas.List.Quantifiers.{position-Some}
 use Rattle.std.proofs.lemmas.List.Sums.{position_or_len_is}
 use Rattle.std.proofs.lemmas.List.{get_or_past}
 use Rattle.geometry.specs.Greedy.{greedy_of, IsClosed, IsGreedy, is_better_than}
 
 -- the pair at a place
-get_or-zip : (counts : List ℕ) (closed : List Bool) (i : ℕ) → length counts ≡ length closed → get_or (zip counts closed) i (0, false) ≡ (get_or counts i 0, get_or closed i false)
+get_or-zip : (counts : List ℕ) (closed : List Bool) (i : ℕ) → length counts ≡ length closed
+    → get_or (zip counts closed) i (0, false) ≡ (get_or counts i 0, get_or closed i false)
 get_or-zip [] [] i e = refl
 get_or-zip [] (b ∷ bs) i e = absurd (omega arith)
 get_or-zip (c ∷ cs) [] i e = absurd (omega arith)
@@ -56,7 +59,8 @@ module _ (counts : List ℕ) (closed : List Bool) (e : length counts ≡ length 
       (all_from_places (within (get_or counts b 0, get_or closed b false)) places (0, false) (λ k low.
       rw (get_or-zip counts closed k e)
       (elim (cases_Bool (get_or closed k false)) [
-        | inl shut ↦ or_right (not (get_or closed k false)) (leb (get_or counts b 0) (get_or counts k 0)) (le-leb (get_or counts b 0) (get_or counts k 0) (best.least k shut))
+        | inl shut ↦ or_right (not (get_or closed k false)) (leb (get_or counts b 0) (get_or counts k 0))
+            (le-leb (get_or counts b 0) (get_or counts k 0) (best.least k shut))
         | inr ajar ↦ or_left (not (get_or closed k false)) (leb (get_or counts b 0) (get_or counts k 0)) (ap not ajar)
       ]))))
 
@@ -76,7 +80,8 @@ module _ (counts : List ℕ) (closed : List Bool) (e : length counts ≡ length 
           | inr none ↦ and_right (get_or closed k false) (list_all (within (get_or counts k 0, get_or closed k false)) places) none
           | inl all ↦
               let below : b < length places = omega (arith, length-zip counts closed e, closed_below closed b best.is_closed) in
-              let at_b = rw (get_or-zip counts closed b e) at (places_from_all (within (get_or counts k 0, get_or closed k false)) places (0, false) all b below) in
+              let at_b = rw (get_or-zip counts closed b e) at (places_from_all (within (get_or counts k 0, get_or closed k false)) places
+              (0, false) all b below) in
               elim (or_cases (not (get_or closed b false)) (leb (get_or counts k 0) (get_or counts b 0)) at_b) [
                 | inl off ↦ absurd (false≢true (sym (not-true (get_or closed b false) off) ∙ best.is_closed))
                 | inr le ↦ absurd (omega (arith, leb-true (get_or counts k 0) (get_or counts b 0) le, best.lowest k low shut))
@@ -97,7 +102,8 @@ module _ (counts : List ℕ) (closed : List Bool) (e : length counts ≡ length 
   pub greedy_of-none : ((k : ℕ) → IsClosed closed k → ⊥) → greedy_of counts closed ≡ None
   unfolding greedy_of chosen within places
   greedy_of-none none =
-      let off : (k : ℕ) → get_or closed k false ≡ false = λ k. elim (cases_Bool (get_or closed k false)) [ inl shut ↦ absurd (none k shut) | inr ajar ↦ ajar ] in
+      let off : (k : ℕ) → get_or closed k false ≡ false =
+      λ k. elim (cases_Bool (get_or closed k false)) [ inl shut ↦ absurd (none k shut) | inr ajar ↦ ajar ] in
       let found : position_or_len (chosen places) places ≡ length places =
       position_or_len_is (chosen places) places (length places) (0, false) (omega arith) (λ k low. not_chosen_open k (off k)) (λ h. absurd (omega arith)) in
       rw found (rw (le-ltb (length places) (length places) (omega arith)) refl)
@@ -114,8 +120,10 @@ BestBelow counts closed i None = (k : ℕ) → k < i → IsClosed closed k → �
 BestBelow counts closed i (Some b) = IsBestBelow counts closed i b
 
 -- a place that is not closed changes nothing
-pub BestBelow-open : (counts : List ℕ) (closed : List Bool) (i : ℕ) (best : Option ℕ) → BestBelow counts closed i best → (IsClosed closed i → ⊥) → BestBelow counts closed (i + 1) best
-BestBelow-open counts closed i None h ajar = λ k low is. elim (cases_eq k i) [ inl e ↦ ajar (subst (λ (j : ℕ). IsClosed closed j) e is) | inr apart ↦ h k (omega arith) is ]
+pub BestBelow-open : (counts : List ℕ) (closed : List Bool) (i : ℕ) (best : Option ℕ) → BestBelow counts closed i best → (IsClosed closed i → ⊥)
+    → BestBelow counts closed (i + 1) best
+BestBelow-open counts closed i None h ajar =
+    λ k low is. elim (cases_eq k i) [ inl e ↦ ajar (subst (λ (j : ℕ). IsClosed closed j) e is) | inr apart ↦ h k (omega arith) is ]
 BestBelow-open counts closed i (Some b) h ajar =
     record {
       below = omega (arith, h.below);
@@ -125,22 +133,32 @@ BestBelow-open counts closed i (Some b) h ajar =
     }
 
 -- nor does one that is no better
-pub BestBelow-keeps : (counts : List ℕ) (closed : List Bool) (i b : ℕ) → IsBestBelow counts closed i b → get_or counts b 0 ≤ get_or counts i 0 → IsBestBelow counts closed (i + 1) b
+pub BestBelow-keeps : (counts : List ℕ) (closed : List Bool) (i b : ℕ) → IsBestBelow counts closed i b → get_or counts b 0 ≤ get_or counts i 0
+    → IsBestBelow counts closed (i + 1) b
 BestBelow-keeps counts closed i b h no_better =
     record {
       below = omega (arith, h.below);
       is_closed = h.is_closed;
-      least = λ k low is. elim (cases_eq k i) [ inl e ↦ subst (λ (j : ℕ). get_or counts b 0 ≤ get_or counts j 0) (sym e) no_better | inr apart ↦ h.least k (omega arith) is ];
+      least = λ k low is. elim (cases_eq k i) [
+        | inl e ↦ subst (λ (j : ℕ). get_or counts b 0 ≤ get_or counts j 0) (sym e) no_better
+        | inr apart ↦
+            h.least k (omega arith) is
+      ];
       lowest = h.lowest;
     }
 
 -- a better one is the best
-pub BestBelow-takes : (counts : List ℕ) (closed : List Bool) (i : ℕ) (best : Option ℕ) → BestBelow counts closed i best → IsClosed closed i → is_better_than counts i best ≡ true → IsBestBelow counts closed (i + 1) i
+pub BestBelow-takes : (counts : List ℕ) (closed : List Bool) (i : ℕ) (best : Option ℕ) → BestBelow counts closed i best → IsClosed closed i
+    → is_better_than counts i best ≡ true → IsBestBelow counts closed (i + 1) i
 BestBelow-takes counts closed i None h shut better =
     record {
       below = omega arith;
       is_closed = shut;
-      least = λ k low is. elim (cases_eq k i) [ inl e ↦ subst (λ (j : ℕ). get_or counts i 0 ≤ get_or counts j 0) (sym e) (omega arith) | inr apart ↦ absurd (h k (omega arith) is) ];
+      least = λ k low is. elim (cases_eq k i) [
+        | inl e ↦ subst (λ (j : ℕ). get_or counts i 0 ≤ get_or counts j 0) (sym e) (omega arith)
+        | inr apart ↦
+            absurd (h k (omega arith) is)
+      ];
       lowest = λ k low is. absurd (h k low is);
     }
 BestBelow-takes counts closed i (Some b) h shut better =
@@ -148,12 +166,17 @@ BestBelow-takes counts closed i (Some b) h shut better =
     record {
       below = omega arith;
       is_closed = shut;
-      least = λ k low is. elim (cases_eq k i) [ inl e ↦ subst (λ (j : ℕ). get_or counts i 0 ≤ get_or counts j 0) (sym e) (omega arith) | inr apart ↦ omega (arith, less, h.least k (omega arith) is) ];
+      least = λ k low is. elim (cases_eq k i) [
+        | inl e ↦ subst (λ (j : ℕ). get_or counts i 0 ≤ get_or counts j 0) (sym e) (omega arith)
+        | inr apart ↦
+            omega (arith, less, h.least k (omega arith) is)
+      ];
       lowest = λ k low is. omega (arith, less, h.least k low is);
     }
 
 -- the best of all places is the greedy one
-pub BestBelow-all : (counts : List ℕ) (closed : List Bool) (b : ℕ) → length counts ≡ length closed → IsBestBelow counts closed (length counts) b → IsGreedy counts closed b
+pub BestBelow-all : (counts : List ℕ) (closed : List Bool) (b : ℕ) → length counts ≡ length closed → IsBestBelow counts closed (length counts) b
+    → IsGreedy counts closed b
 BestBelow-all counts closed b e h =
     record {
       is_closed = h.is_closed;
@@ -161,7 +184,8 @@ BestBelow-all counts closed b e h =
       lowest = h.lowest;
     }
 
-pub greedy_of-all : (counts : List ℕ) (closed : List Bool) (best : Option ℕ) → length counts ≡ length closed → BestBelow counts closed (length counts) best → best ≡ greedy_of counts closed
+pub greedy_of-all : (counts : List ℕ) (closed : List Bool) (best : Option ℕ) → length counts ≡ length closed
+    → BestBelow counts closed (length counts) best → best ≡ greedy_of counts closed
 greedy_of-all counts closed None e h = sym (greedy_of-none counts closed e (λ k is. h k (omega (arith, closed_below closed k is)) is))
 greedy_of-all counts closed (Some b) e h = sym (greedy_of-best counts closed e b (BestBelow-all counts closed b e h))
 
@@ -174,7 +198,8 @@ module _ (counts : List ℕ) (closed : List Bool) (e : length counts ≡ length 
   parts_found : (get_or closed b false ≡ true) × (list_all (within (get_or counts b 0, get_or closed b false)) (zip counts closed) ≡ true)
   unfolding chosen
   parts_found =
-      and_parts (get_or closed b false) (list_all (within (get_or counts b 0, get_or closed b false)) (zip counts closed)) (rw (get_or-zip counts closed b e) at at_found)
+      and_parts (get_or closed b false) (list_all (within (get_or counts b 0, get_or closed b false)) (zip counts closed))
+      (rw (get_or-zip counts closed b e) at at_found)
 
   pub greedy_of-closed : IsClosed closed b
   greedy_of-closed = parts_found.0
@@ -183,7 +208,8 @@ module _ (counts : List ℕ) (closed : List Bool) (e : length counts ≡ length 
   unfolding within
   greedy_of-least k shut =
       let below : k < length (zip counts closed) = omega (arith, closed_below closed k shut, length-zip counts closed e) in
-      let at_k = rw (get_or-zip counts closed k e) at (places_from_all (within (get_or counts b 0, get_or closed b false)) (zip counts closed) (0, false) parts_found.1 k below) in
+      let at_k = rw (get_or-zip counts closed k e) at (places_from_all (within (get_or counts b 0, get_or closed b false)) (zip counts closed)
+      (0, false) parts_found.1 k below) in
       elim (or_cases (not (get_or closed k false)) (leb (get_or counts b 0) (get_or counts k 0)) at_k) [
         | inl off ↦ absurd (false≢true (sym (not-true (get_or closed k false) off) ∙ shut))
         | inr le ↦ leb-true (get_or counts b 0) (get_or counts k 0) le

@@ -1,5 +1,6 @@
 -- Laws of histories: one more call, and what the last call of a sector leaves there.
-use Rattle.std.proofs.Common.{◌≡◌, ℕ, ◌<◌, ◌≢◌, List, [], ◌∷◌, ◌++◌, None, Some, zero, suc, length, replicate, refl, sym, ◌∙◌, ap, arith, append_assoc, append-nil}
+use Rattle.std.proofs.Common.{◌≡◌, ℕ, ◌<◌, ◌≢◌, List, [], ◌∷◌, ◌++◌, None, Some, zero, suc, length, replicate}
+use Rattle.std.proofs.Common.{refl, sym, ◌∙◌, ap, arith, append_assoc, append-nil}
 use Rattle.std.proofs.Math.ListN.{get_or, length-set}
 use Rattle.std.specs.List.{fold}
 use Rattle.std.proofs.lemmas.List.{get_or-set_same, get_or-set_other, length-replicate}
@@ -44,7 +45,8 @@ held_trimmed n h pass s low =
 pub held_new : (n : ℕ) (h : List Call) (pass s : ℕ) (v : List ℕ) → s < n → held n h s ≡ None → held n (h ++ WriteNew pass s v ∷ []) s ≡ Some v
 held_new n h pass s v low empty =
     let room : s < length (after n h) = omega (arith, length-after n h) in
-    ap (λ a. get_or a s None) (after_push n h (WriteNew pass s v)) ∙ (ap (λ x. get_or (put_new (after n h) s x v) s None) empty ∙ get_or-set_same (after n h) s (Some v) None room)
+    ap (λ a. get_or a s None) (after_push n h (WriteNew pass s v))
+    ∙ (ap (λ x. get_or (put_new (after n h) s x v) s None) empty ∙ get_or-set_same (after n h) s (Some v) None room)
 
 -- and changes nothing where it is written
 pub after_refused : (n : ℕ) (h : List Call) (pass s : ℕ) (v old : List ℕ) → held n h s ≡ Some old → after n (h ++ WriteNew pass s v ∷ []) ≡ after n h

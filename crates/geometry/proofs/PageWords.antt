@@ -13,7 +13,8 @@ part_below xs ys i k n below room =
     take-put_mid_below (8 * i) n xs ys (8 * k + 8) (omega arith) (omega arith) in
     sym (drop-take (8 * k) 8 (put_mid (8 * i) n xs ys)) ∙ (ap (drop (8 * k)) kept ∙ drop-take (8 * k) 8 xs)
 
-part_above : (xs ys : List ℕ) (i k n : ℕ) → n ≡ 8 → length ys ≡ n → i < k → 8 * i + 8 ≤ length xs → take 8 (drop (8 * k) (put_mid (8 * i) n xs ys)) ≡ take 8 (drop (8 * k) xs)
+part_above : (xs ys : List ℕ) (i k n : ℕ) → n ≡ 8 → length ys ≡ n → i < k → 8 * i + 8 ≤ length xs
+    → take 8 (drop (8 * k) (put_mid (8 * i) n xs ys)) ≡ take 8 (drop (8 * k) xs)
 part_above xs ys i k n is_8 len above room =
     ap (take 8) (drop-put_mid (8 * i) n xs ys (8 * k) (omega arith) (omega arith) len)
 

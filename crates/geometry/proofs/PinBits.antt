@@ -31,7 +31,8 @@ phase_numbered Erasing = (refl, omega arith)
 phase_numbered Retired = (refl, omega arith)
 
 phase_of : ℕ → Phase
-phase_of n = if n == 0 then Free else if n == 1 then Open else if n == 3 then Closed else if n == 5 then Victim else if n == 7 then Drained else if n == 9 then Erasing else Retired
+phase_of n = if n == 0 then Free else if n == 1 then Open else if n == 3 then Closed else if n == 5 then Victim else if n == 7 then Drained
+    else if n == 9 then Erasing else Retired
 
 phase_again : (p : Phase) → phase_of (phase_number p) ≡ p
 unfolding phase_of phase_number
@@ -65,7 +66,8 @@ pin_same p q a b e =
 
 -- a word of a state is a word of 64 bits
 pub pin_fits : (p : PinWord) → FitsPin p → pin_word p < 2 ^ 64
-pin_fits p a = let m = phase_numbered p.phase in let m_is = m.0 in let m_low = m.1 in let r = a.readers in let w = a.written in let g = a.generation in omega arith
+pin_fits p a = let m = phase_numbered p.phase in let m_is = m.0 in let m_low = m.1 in let r = a.readers in let w = a.written in
+    let g = a.generation in omega arith
 
 -- an addition that makes one state of another doesn't wrap
 pub adds : (p q : PinWord) (k : ℕ) → FitsPin q → pin_word p + k ≡ pin_word q → (pin_word p + k) % 2 ^ 64 ≡ pin_word q
@@ -75,7 +77,8 @@ adds p q k fits is = let low = pin_fits q fits in omega arith
 pub takes_off : (p q : PinWord) (k : ℕ) → FitsPin p → pin_word q + k ≡ pin_word p → k ≤ 2 ^ 64 → (pin_word p + (2 ^ 64 - k)) % 2 ^ 64 ≡ pin_word q
 takes_off p q k fits is small = let low = pin_fits p fits in omega arith
 
-pub next_phase : (p : PinWord) (from to : Phase) → p.phase ≡ from → phase_bits from + NEXT_PHASE ≡ phase_bits to → pin_word p + NEXT_PHASE ≡ pin_word (record p { phase = to })
+pub next_phase : (p : PinWord) (from to : Phase) → p.phase ≡ from → phase_bits from + NEXT_PHASE ≡ phase_bits to
+    → pin_word p + NEXT_PHASE ≡ pin_word (record p { phase = to })
 next_phase p from to is next = let e : phase_bits p.phase ≡ phase_bits from = ap phase_bits is in omega arith
 
 pub counts : (p : PinWord) → pin_word p + PAGE_WRITTEN ≡ pin_word (record p { written = p.written + 1 })
@@ -85,11 +88,13 @@ pub reads : (p : PinWord) → pin_word p + 1 ≡ pin_word (record p { readers = 
 reads p = omega arith
 
 -- an erased block gets free in its next generation
-pub frees : (p : PinWord) → FitsPin p → p.phase ≡ Erasing → pin_word p + freed_added p.written ≡ pin_word (record p { phase = Free; written = 0; generation = p.generation + 1 })
+pub frees : (p : PinWord) → FitsPin p → p.phase ≡ Erasing
+    → pin_word p + freed_added p.written ≡ pin_word (record p { phase = Free; written = 0; generation = p.generation + 1 })
 frees p fits is = let e : phase_bits p.phase ≡ phase_bits Erasing = ap phase_bits is in let w = fits.written in omega arith
 
 -- or stays open in it
-pub keeps : (p : PinWord) → FitsPin p → p.phase ≡ Erasing → pin_word p + kept_added p.written ≡ pin_word (record p { phase = Open; written = 0; generation = p.generation + 1 })
+pub keeps : (p : PinWord) → FitsPin p → p.phase ≡ Erasing
+    → pin_word p + kept_added p.written ≡ pin_word (record p { phase = Open; written = 0; generation = p.generation + 1 })
 keeps p fits is = let e : phase_bits p.phase ≡ phase_bits Erasing = ap phase_bits is in let w = fits.written in omega arith
 
 -- setting the lowest bit

@@ -38,7 +38,16 @@ brooms_of g = g.brooms
 
 -- all eight numbers of a device
 abbrev pub numbers_of : Geometry → Numbers
-numbers_of g = record { luns = g.luns; blocks = g.blocks; pages = g.pages; words = g.words; sectors = g.sectors; endurance = g.endurance; hosts = g.hosts; brooms = g.brooms }
+numbers_of g = record {
+  luns = g.luns;
+  blocks = g.blocks;
+  pages = g.pages;
+  words = g.words;
+  sectors = g.sectors;
+  endurance = g.endurance;
+  hosts = g.hosts;
+  brooms = g.brooms;
+}
 
 -- how many bytes a page has
 abbrev pub page_bytes_of : Geometry → ℕ

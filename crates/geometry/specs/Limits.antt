@@ -1,5 +1,6 @@
 -- The limits of a device, and the first of them that its numbers break.
-use Rattle.std.specs.Prelude.{◌≡◌, ℕ, ◌+◌, ◌-◌, ◌*◌, ◌%◌, ◌≤◌, ◌<◌, ◌==◌, Bool, not, ◌&&◌, ◌||◌, nat_lt, nat_le, List, [], ◌∷◌, Option, None, Some, if◌then◌else◌}
+use Rattle.std.specs.Prelude.{◌≡◌, ℕ, ◌+◌, ◌-◌, ◌*◌, ◌%◌, ◌≤◌, ◌<◌, ◌==◌, Bool, not, ◌&&◌, ◌||◌, nat_lt}
+use Rattle.std.specs.Prelude.{nat_le, List, [], ◌∷◌, Option, None, Some, if◌then◌else◌}
 use Rattle.geometry.specs.declared.fault.GeometryFault.{GeometryFault}
 use Rattle.geometry.specs.declared.fault.GeometryFault.TheVariants.{Luns, Blocks, Pages, Words, Sectors, Endurance, Passes, TooManyWords, TooFewBlocks}
 

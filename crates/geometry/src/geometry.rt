@@ -38,13 +38,15 @@ pub struct Geometry {
     endurance: u32,
     hosts: u32,
     brooms: u32,
-    pub ghost in_limits: { IsWithinLimits (record { luns = luns; blocks = blocks; pages = pages; words = words; sectors = sectors; endurance = endurance; hosts = hosts; brooms = brooms }) },
+    pub ghost in_limits: { IsWithinLimits
+        (record { luns = luns; blocks = blocks; pages = pages; words = words; sectors = sectors; endurance = endurance; hosts = hosts; brooms = brooms }) },
 }
 
 ghost use Rattle.geometry.specs.Limits.{IsWithinLimits, first_fault, numbers, table_words_of, has_room_of};
 
 impl Geometry {
-    ghost use Rattle.geometry.specs.Geometry.{numbers_in, numbers_of, luns_of, blocks_of, pages_of, words_of, sectors_of, endurance_of, hosts_of, brooms_of, page_bytes_of, lun_of};
+    ghost use Rattle.geometry.specs.Geometry.{numbers_in, numbers_of, luns_of, blocks_of, pages_of, words_of, sectors_of};
+    ghost use Rattle.geometry.specs.Geometry.{endurance_of, hosts_of, brooms_of, page_bytes_of, lun_of};
 
     /// A device of these numbers: LUNs, blocks in all, pages of a block, 64-bit words of a page,
     /// sectors, erase cycles of a block, host passes and brooms.

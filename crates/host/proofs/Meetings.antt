@@ -47,7 +47,8 @@ module _ (v v' w : View) (n : ℕ) (pass : is_pass v.role ≡ true) (pass' : is_
   pub guest : (name : Name) × (w.guest ≡ Some name) × (¬ (w.role ≡ Player name))
   guest = (name_of v'.role, ap (λ (x : View). x.guest) looked.changed, met.other)
 
-  pub given : (note : View) → note ≡ given_note w → (name : Name) × (c : Carried) × ((lender v').role ≡ Player name) × (note.guest ≡ Some name) × (note.copy ≡ Some c) × (¬ ((lender v').role ≡ Player c.of))
+  pub given : (note : View) → note ≡ given_note w → (name : Name) × (c : Carried) × ((lender v').role ≡ Player name) × (note.guest ≡ Some name)
+      × (note.copy ≡ Some c) × (¬ ((lender v').role ≡ Player c.of))
   given note is = (
     name_of v'.role,
     carried w,
@@ -64,8 +65,10 @@ module _ (v v' w : View) (n : ℕ) (pass : is_pass v.role ≡ true) (pass' : is_
       let copied = ap (λ (x : View). x.copy) looked.changed in
       let again_copied = ap (λ (x : View). x.copy) again.changed in
       record {
-        first = ap giver looked.changed ∙ (λ i. record v { seen = w.seen; looks = v.looks + 1; pin = w.pin; known = w.known; copy = sym copied i; older = v.copy; guest = sym alone i });
-        second = again.changed ∙ (λ i. record v' { seen = u.seen; looks = v'.looks + 1; pin = u.pin; known = u.known; copy = sym again_copied i; older = v'.copy; whole = sym whole i });
+        first = ap giver looked.changed
+            ∙ (λ i. record v { seen = w.seen; looks = v.looks + 1; pin = w.pin; known = w.known; copy = sym copied i; older = v.copy; guest = sym alone i });
+        second = again.changed ∙ (λ i.
+            record v' { seen = u.seen; looks = v'.looks + 1; pin = u.pin; known = u.known; copy = sym again_copied i; older = v'.copy; whole = sym whole i });
         later = looked.later;
         brought = met.seen;
         shared = last.seen;
@@ -78,13 +81,17 @@ module _ (v v' w : View) (n : ℕ) (pass : is_pass v.role ≡ true) (pass' : is_
           (λ c had of. let grown = met.newer c (ap (λ (x : View). x.older) looked.changed ∙ had) (sym (ap name_of of)) in (grown.programs, grown.erases)),
           λ c had of.
               let grown = last.newer c (ap (λ (x : View). x.older) again.changed ∙ had) (sym (ap name_of (role ∙ of))) in
-              let stays = looked.changed in
-              (subst (Begins c.programs) (ap (λ (x : View). x.programs) stays) grown.programs, subst (Begins c.erases) (ap (λ (x : View). x.erases) stays) grown.erases),
+              let stays = looked.changed in (
+                subst (Begins c.programs)
+                    (ap (λ (x : View). x.programs) stays) grown.programs,
+                subst (Begins c.erases) (ap (λ (x : View). x.erases) stays) grown.erases,
+              ),
         );
       }
 
 -- a pass that holds a page, v, has read a word of it with the note of another pass, x
-module _ (v x : View) (page : MapWord) (pass : is_pass v.role ≡ true) (pass' : is_pass x.role ≡ true) (spared : Spared (host_of v (lent_note x)) page (carried x)) where
+module _ (v x : View) (page : MapWord) (pass : is_pass v.role ≡ true) (pass' : is_pass x.role ≡ true)
+    (spared : Spared (host_of v (lent_note x)) page (carried x)) where
   pub holds_guest : (name : Name) × ((host_of v (lent_note x)).guest ≡ Some name) × (¬ ((host_of v (lent_note x)).role ≡ Player name))
   holds_guest = (name_of x.role, refl, spared.other)
 
@@ -106,7 +113,8 @@ module _ (v x : View) (page : MapWord) (pass : is_pass v.role ≡ true) (pass' :
       let met : Met y (carried v) = looked.met (carried v) refl in
       record {
         holder = λ i. record v { copy = Some (carried x); older = v.copy; guest = sym alone i };
-        other = looked.changed ∙ (λ i. record x { seen = y.seen; looks = x.looks + 1; pin = y.pin; known = y.known; copy = Some (carried v); older = x.copy; whole = sym whole i });
+        other = looked.changed ∙ (λ i.
+            record x { seen = y.seen; looks = x.looks + 1; pin = y.pin; known = y.known; copy = Some (carried v); older = x.copy; whole = sym whole i });
         later = looked.later;
         brought = met.seen;
         apart = λ same. spared.other (same ∙ named x.role pass');
@@ -120,11 +128,13 @@ module _ (v x : View) (page : MapWord) (pass : is_pass v.role ≡ true) (pass' :
       }
 
 -- a pass with nothing open owns nothing and fills nothing
-pub nothing_left : (f : Flash) (p : Pass) → IsRested f p → opened_of p ≡ None → view_of p ≡ record (view_of p) { owns = []; work = None; ceded = (view_of p).ceded ++ closed_list (opened_of p) }
+pub nothing_left : (f : Flash) (p : Pass) → IsRested f p → opened_of p ≡ None
+    → view_of p ≡ record (view_of p) { owns = []; work = None; ceded = (view_of p).ceded ++ closed_list (opened_of p) }
 nothing_left f p rested closed =
     let owns : (view_of p).owns ≡ [] = p.owns ∙ ap owned_list closed in
     let work = rested.idle closed in
-    let ceded : (view_of p).ceded ≡ (view_of p).ceded ++ closed_list (opened_of p) = sym (append-nil (view_of p).ceded) ∙ ap (λ (l : List Owned). (view_of p).ceded ++ l) (ap closed_list (sym closed)) in
+    let ceded : (view_of p).ceded ≡ (view_of p).ceded ++ closed_list (opened_of p) =
+    sym (append-nil (view_of p).ceded) ∙ ap (λ (l : List Owned). (view_of p).ceded ++ l) (ap closed_list (sym closed)) in
     λ i. record (view_of p) { owns = owns i; work = work i; ceded = ceded i }
 
 -- without a block that is open there is none

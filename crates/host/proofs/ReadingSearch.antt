@@ -45,7 +45,8 @@ pub record IsSearching (v : View) (tries : ℕ) (w : View) : Type 0 where
   pub unpinned : is_unpinned w.pin ≡ true
 
 -- A view whose four fields were set, by its own fields
-moved : (v w : View) (tries : ℕ) (seen : List Call) (pin : Pin) (known : List ℕ) → w ≡ record v { seen = seen; looks = v.looks + tries; pin = pin; known = known } → Moved v tries w
+moved : (v w : View) (tries : ℕ) (seen : List Call) (pin : Pin) (known : List ℕ)
+    → w ≡ record v { seen = seen; looks = v.looks + tries; pin = pin; known = known } → Moved v tries w
 moved v w tries seen pin known e =
     let s : seen ≡ w.seen = sym (ap (λ (x : View). x.seen) e) in
     let p : pin ≡ w.pin = sym (ap (λ (x : View). x.pin) e) in
@@ -86,8 +87,10 @@ search_looks v w x tries s n h look =
     }
 
 pub look_knows : (w x : View) (s n : ℕ) → Looked w s n x → KnowsCalls x
-look_knows w x s n look =
-    (subst (λ (z : Numbers). AreOfHosts z x.seen) (sym (ap (λ (y : View). y.numbers) look.changed)) look.callers, λ t is. look.own t (sym (ap (λ (y : View). y.role) look.changed) ∙ is))
+look_knows w x s n look = (
+  subst (λ (z : Numbers). AreOfHosts z x.seen) (sym (ap (λ (y : View). y.numbers) look.changed)) look.callers,
+  λ t is. look.own t (sym (ap (λ (y : View). y.role) look.changed) ∙ is),
+)
 
 -- A pin that was taken, and perhaps given back, leaves what a search tells
 pub search_pins : (v x y : View) (tries : ℕ) (pin : Pin) → Searched v tries x → y ≡ record x { pin = pin } → Searched v tries y
@@ -127,7 +130,8 @@ search_goes_on v x z tries h own late =
     }
 
 -- The ages that a stray pin tells of are more, and within their bound
-pub late_nearer : (z : Numbers) (w x u : View) (s n : ℕ) → x.numbers ≡ z → Looked w s n x → CameLate x u → most_known z - sum_of u.known < most_known z - sum_of w.known
+pub late_nearer : (z : Numbers) (w x u : View) (s n : ℕ) → x.numbers ≡ z → Looked w s n x → CameLate x u
+    → most_known z - sum_of u.known < most_known z - sum_of w.known
 late_nearer z w x u s n numbers look late =
     let bounded : sum_of u.known ≤ most_known z = subst (λ (y : Numbers). sum_of u.known ≤ most_known y) numbers late.bounded in
     let rises = late.rises in
@@ -159,14 +163,16 @@ look_names f w x s page numbers fits look =
       page_low = subst (λ (m : MapWord). m.page < (device f).pages) same (subst (λ (z : Numbers). t.0.page < z.pages) numbers t.9);
     }
 
-pub look_finds_empty : (f : Flash) (w x : View) (s : ℕ) → w.numbers ≡ device f → Looked w s 0 x → (held (device f).sectors x.seen s ≡ None) × (is_unpinned x.pin ≡ true)
+pub look_finds_empty : (f : Flash) (w x : View) (s : ℕ) → w.numbers ≡ device f → Looked w s 0 x → (held (device f).sectors x.seen s ≡ None)
+    × (is_unpinned x.pin ≡ true)
 look_finds_empty f w x s numbers look =
     let t = look.empty refl in
     (subst (λ (z : Numbers). held z.sectors x.seen s ≡ None) numbers t.0, ap is_unpinned t.1)
 
 -- ---- the pass is at rest
 
-pub rested_same : (f : Flash) (p q : Pass) → IsRested f p → IsPassOf f q → opened_of q ≡ opened_of p → (view_of q).owns ≡ (view_of p).owns → (view_of q).work ≡ (view_of p).work
+pub rested_same : (f : Flash) (p q : Pass) → IsRested f p → IsPassOf f q → opened_of q ≡ opened_of p → (view_of q).owns ≡ (view_of p).owns
+    → (view_of q).work ≡ (view_of p).work
     → (view_of q).whole ≡ (view_of p).whole → (view_of q).guest ≡ (view_of p).guest → KnowsCalls (view_of q) → IsRested f q
 rested_same f p q h pass opened owns work whole guest own =
     record {
@@ -180,13 +186,17 @@ rested_same f p q h pass opened owns work whole guest own =
       alone = guest ∙ h.alone;
     }
 
-pub rested_searched : (f : Flash) (p q : Pass) (tries : ℕ) → IsRested f p → IsPassOf f q → opened_of q ≡ opened_of p → Moved (view_of p) tries (view_of q) → KnowsCalls (view_of q) → IsRested f q
+pub rested_searched : (f : Flash) (p q : Pass) (tries : ℕ) → IsRested f p → IsPassOf f q → opened_of q ≡ opened_of p
+    → Moved (view_of p) tries (view_of q) → KnowsCalls (view_of q) → IsRested f q
 rested_searched f p q tries h pass opened e own =
-    rested_same f p q h pass opened (ap (λ (x : View). x.owns) e) (ap (λ (x : View). x.work) e) (ap (λ (x : View). x.whole) e) (ap (λ (x : View). x.guest) e) own
+    rested_same f p q h pass opened (ap (λ (x : View). x.owns) e) (ap (λ (x : View). x.work) e) (ap (λ (x : View). x.whole) e)
+    (ap (λ (x : View). x.guest) e) own
 
-pub rested_pinned : (f : Flash) (p q : Pass) (pin : Pin) → IsRested f p → IsPassOf f q → opened_of q ≡ opened_of p → view_of q ≡ record (view_of p) { pin = pin } → IsRested f q
+pub rested_pinned : (f : Flash) (p q : Pass) (pin : Pin) → IsRested f p → IsPassOf f q → opened_of q ≡ opened_of p
+    → view_of q ≡ record (view_of p) { pin = pin } → IsRested f q
 rested_pinned f p q pin h pass opened e =
-    rested_same f p q h pass opened (ap (λ (x : View). x.owns) e) (ap (λ (x : View). x.work) e) (ap (λ (x : View). x.whole) e) (ap (λ (x : View). x.guest) e) (pin_knows (view_of p) (view_of q) pin (h.callers, h.own) e)
+    rested_same f p q h pass opened (ap (λ (x : View). x.owns) e) (ap (λ (x : View). x.work) e) (ap (λ (x : View). x.whole) e)
+    (ap (λ (x : View). x.guest) e) (pin_knows (view_of p) (view_of q) pin (h.callers, h.own) e)
 
 -- ---- the looks of a search, as its pass tells them
 
@@ -196,7 +206,8 @@ pub record Sighted (f : Flash) (p : Pass) (tries s : ℕ) (page : MapWord) (x : 
   pub told : Searched (view_of p) tries x
   pub own : KnowsCalls x
 
-pub sighted : (f : Flash) (p w : Pass) (x : View) (tries s : ℕ) (page : MapWord) → IsSearching (view_of p) tries (view_of w) → IsPassOf f w → FitsMap page → Looked (view_of w) s (map_word page) x → Sighted f p (tries + 1) s page x
+pub sighted : (f : Flash) (p w : Pass) (x : View) (tries s : ℕ) (page : MapWord) → IsSearching (view_of p) tries (view_of w) → IsPassOf f w
+    → FitsMap page → Looked (view_of w) s (map_word page) x → Sighted f p (tries + 1) s page x
 sighted f p w x tries s page h pass fits look =
     record {
       named = look_names f (view_of w) x s page pass.numbers fits look;
@@ -205,8 +216,10 @@ sighted f p w x tries s page h pass fits look =
     }
 
 -- The page is pinned, and the search ends
-pub found : (f : Flash) (p q : Pass) (tries s : ℕ) (page : MapWord) (x : View) (sight : Sighted f p tries s page x) → IsRested f p → IsPassOf f q → opened_of q ≡ opened_of p
-    → view_of q ≡ record x { pin = Accepted page sight.named.value } → (value : List ℕ) × IsPinned f q page value × (held (device f).sectors (view_of q).seen s ≡ Some value)
+pub found : (f : Flash) (p q : Pass) (tries s : ℕ) (page : MapWord) (x : View) (sight : Sighted f p tries s page x) → IsRested f p → IsPassOf f q
+    → opened_of q ≡ opened_of p
+    → view_of q ≡ record x { pin = Accepted page sight.named.value } → (value : List ℕ) × IsPinned f q page value
+    × (held (device f).sectors (view_of q).seen s ≡ Some value)
 found f p q tries s page x sight h pass opened e =
     let value = sight.named.value in
     let pin = Accepted page value in
@@ -224,7 +237,8 @@ found f p q tries s page x sight h pass opened e =
     )
 
 -- The sector is empty, and the search ends
-pub found_empty : (f : Flash) (p w q : Pass) (tries s : ℕ) → IsSearching (view_of p) tries (view_of w) → IsPassOf f w → Looked (view_of w) s 0 (view_of q) → IsRested f p → IsPassOf f q → opened_of q ≡ opened_of p
+pub found_empty : (f : Flash) (p w q : Pass) (tries s : ℕ) → IsSearching (view_of p) tries (view_of w) → IsPassOf f w
+    → Looked (view_of w) s 0 (view_of q) → IsRested f p → IsPassOf f q → opened_of q ≡ opened_of p
     → IsReady f q × (held (device f).sectors (view_of q).seen s ≡ None)
 found_empty f p w q tries s h pass look rested now opened =
     let empty = look_finds_empty f (view_of w) (view_of q) s pass.numbers look in
@@ -239,14 +253,16 @@ pub record LookedOnce (f : Flash) (p q : Pass) (s : ℕ) (found : Option MapWord
   pub answer : is_some found ≡ is_some (held (device f).sectors (view_of q).seen s)
   pub ready : IsReady f q
 
-pub looked_once : (f : Flash) (p q : Pass) (s : ℕ) (found : Option MapWord) → IsReady f p → IsPassOf f q → opened_of q ≡ opened_of p → IfSome found FitsMap → Looked (view_of p) s (sector_word found) (view_of q)
+pub looked_once : (f : Flash) (p q : Pass) (s : ℕ) (found : Option MapWord) → IsReady f p → IsPassOf f q → opened_of q ≡ opened_of p
+    → IfSome found FitsMap → Looked (view_of p) s (sector_word found) (view_of q)
     → LookedOnce f p q s found
 looked_once f p q s found h pass opened fits look =
     let told = search_looks (view_of p) (view_of p) (view_of q) 0 s (sector_word found) (search_begins f p h) look in
     let rested = rested_searched f p q 1 h.rested pass opened told.changed (look_knows (view_of p) (view_of q) s (sector_word found) look) in
     let seen = what found fits look in record { told = told; answer = seen.0; ready = record { rested = rested; unpinned = seen.1 } }
   where
-    what : (found : Option MapWord) → IfSome found FitsMap → Looked (view_of p) s (sector_word found) (view_of q) → (is_some found ≡ is_some (held (device f).sectors (view_of q).seen s)) × (is_unpinned (view_of q).pin ≡ true)
+    what : (found : Option MapWord) → IfSome found FitsMap → Looked (view_of p) s (sector_word found) (view_of q)
+        → (is_some found ≡ is_some (held (device f).sectors (view_of q).seen s)) × (is_unpinned (view_of q).pin ≡ true)
     what None fits look = let t = look_finds_empty f (view_of p) (view_of q) s h.rested.pass.numbers look in (sym (ap is_some t.0), t.1)
     what (Some page) fits look =
         let t = look_names f (view_of p) (view_of q) s page h.rested.pass.numbers fits look in (sym (ap is_some t.here), ap is_unpinned t.candidate)

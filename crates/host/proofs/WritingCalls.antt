@@ -1,5 +1,6 @@
 -- A write and a trim, made of their steps.
-use Rattle.std.proofs.Common.{◌≡◌, ℕ, ◌+◌, ◌<◌, ◌≤◌, true, false, is_some, ⊎_elim, inl, inr, ◌⊎◌, List, [], ◌∷◌, ◌++◌, Option, None, Some, sym, refl, ap, ◌∙◌, subst, arith}
+use Rattle.std.proofs.Common.{◌≡◌, ℕ, ◌+◌, ◌<◌, ◌≤◌, true, false, is_some, ⊎_elim, inl, inr, ◌⊎◌, List, [], ◌∷◌}
+use Rattle.std.proofs.Common.{◌++◌, Option, None, Some, sym, refl, ap, ◌∙◌, subst, arith}
 use Rattle.std.specs.List.{range_with_len}
 use mathlib.Core.Logic.{dite}
 use native.Mathlib.Decide.{ℕ_discrete}
@@ -32,7 +33,8 @@ lt_or_eq : (m n : ℕ) → m ≤ n → (m < n) ⊎ (m ≡ n)
 lt_or_eq m n le = dite (ℕ_discrete m n) (λ same. inr same) (λ other. inl (omega arith))
 
 -- ---- a trim
-pub ready_called : (f : Flash) (p q : Pass) (c : Call) (s : ℕ) (answer : Was) → IsReady f p → IsPassOf f q → opened_of q ≡ opened_of p → Called (view_of p) c s answer (view_of q) → IsReady f q
+pub ready_called : (f : Flash) (p q : Pass) (c : Call) (s : ℕ) (answer : Was) → IsReady f p → IsPassOf f q → opened_of q ≡ opened_of p
+    → Called (view_of p) c s answer (view_of q) → IsReady f q
 ready_called f p q c s answer h pass opened told =
     let r = h.rested in
     record {
@@ -74,7 +76,8 @@ starts_open f p o h is =
       begun = λ none. let e : owned_of o ∷ [] ≡ [] = sym owns ∙ none in absurd (cc);
     }
 
-pub starts_taken : (f : Flash) (p q : Pass) → IsReady f p → opened_of p ≡ None → IsPassOf f q → TookLowest (view_of p) (view_of q) (opened_of q) → (o : OpenBlock) × Starts f (view_of p) q o
+pub starts_taken : (f : Flash) (p q : Pass) → IsReady f p → opened_of p ≡ None → IsPassOf f q → TookLowest (view_of p) (view_of q) (opened_of q)
+    → (o : OpenBlock) × Starts f (view_of p) q o
 starts_taken f p q h none pass took =
     let o : OpenBlock = record { block = took.block; generation = took.generation; written = 0 } in
     let nothing : (view_of p).owns ≡ [] = p.owns ∙ ap owned_list none in
@@ -93,7 +96,8 @@ starts_taken f p q h none pass took =
         left = omega arith;
         young = omega arith;
         settled = λ x e work own. absurd (none_some x (sym idle ∙ work));
-        changed = took.changed ∙ (λ i. record (view_of p) { taken = (sym took.changed i).taken; denied = (sym took.changed i).denied; owns = (sym took.changed i).owns });
+        changed = took.changed ∙ (λ i.
+            record (view_of p) { taken = (sym took.changed i).taken; denied = (sym took.changed i).denied; owns = (sym took.changed i).owns });
         continued = λ x same. let e : x ∷ [] ≡ [] = sym same ∙ nothing in absurd (cc);
         begun = λ _. (refl, ap (λ (w : View). w.taken) took.changed, ap (λ (w : View). w.denied) took.changed);
       },
@@ -109,7 +113,8 @@ can_settled v s m value h x e work own =
     let written : h.entry.written ≡ e.written = ap (λ (y : Owned). y.written) entry in omega arith
 
 -- ---- a write goes on
-module _ (f : Flash) (v : View) (p q : Pass) (o : OpenBlock) (h : Starts f v p o) (s : ℕ) (value : List ℕ) (page : MapWord) (x : Filled (view_of p) o s value page (view_of q)) where
+module _ (f : Flash) (v : View) (p q : Pass) (o : OpenBlock) (h : Starts f v p o) (s : ℕ) (value : List ℕ) (page : MapWord)
+    (x : Filled (view_of p) o s value page (view_of q)) where
   pub fits_map : FitsMap page
   fits_map =
       let limits = (geometry_of f).in_limits in
@@ -136,12 +141,23 @@ module _ (f : Flash) (v : View) (p q : Pass) (o : OpenBlock) (h : Starts f v p o
       last : view_of w ≡ record (view_of r) { owns = (view_of w).owns; work = (view_of w).work; ceded = (view_of w).ceded }
       last =
           ⊎_elim
-          (λ (left : o.written + 1 < pages_of (geometry_of f)). let same = (e.kept left).0 in same ∙ (λ i. record (view_of r) { owns = (sym same i).owns; work = (sym same i).work; ceded = (sym same i).ceded }))
-          (λ (full : o.written + 1 ≡ pages_of (geometry_of f)). let same = (e.full full).0 in same ∙ (λ i. record (view_of r) { owns = (sym same i).owns; work = (sym same i).work; ceded = (sym same i).ceded }))
+          (λ (left : o.written + 1 < pages_of (geometry_of f)). let same = (e.kept left).0 in
+          same ∙ (λ i. record (view_of r) { owns = (sym same i).owns; work = (sym same i).work; ceded = (sym same i).ceded }))
+          (λ (full : o.written + 1 ≡ pages_of (geometry_of f)). let same = (e.full full).0 in
+          same ∙ (λ i. record (view_of r) { owns = (sym same i).owns; work = (sym same i).work; ceded = (sym same i).ceded }))
           left_or_full
 
       -- all steps
-      whole : view_of w ≡ record v { seen = (view_of r).seen; mine = v.mine ++ c ∷ []; programs = v.programs ++ page ∷ []; owns = (view_of w).owns; work = (view_of w).work; taken = (view_of p).taken; denied = (view_of p).denied; ceded = (view_of w).ceded }
+      whole : view_of w ≡ record v {
+        seen = (view_of r).seen;
+        mine = v.mine ++ c ∷ [];
+        programs = v.programs ++ page ∷ [];
+        owns = (view_of w).owns;
+        work = (view_of w).work;
+        taken = (view_of p).taken;
+        denied = (view_of p).denied;
+        ceded = (view_of w).ceded;
+      }
       whole =
           let owns = (view_of w).owns in
           let work = (view_of w).work in
@@ -155,7 +171,8 @@ module _ (f : Flash) (v : View) (p q : Pass) (o : OpenBlock) (h : Starts f v p o
           ∙ (λ i. record (h.changed i) { seen = seen; mine = mine (h.changed i); programs = programs (h.changed i); owns = owns; work = work; ceded = ceded })))
 
       -- the block, where a page is left in it, or where none is
-      owns_left : o.written + 1 < pages_of (geometry_of f) → (view_of w).owns ≡ record { block = page.block; phase = Open; generation = page.generation; written = page.page + 1 } ∷ []
+      owns_left : o.written + 1 < pages_of (geometry_of f)
+          → (view_of w).owns ≡ record { block = page.block; phase = Open; generation = page.generation; written = page.page + 1 } ∷ []
       owns_left left =
           let entry : MapWord → List Owned = λ m. record { block = m.block; phase = Open; generation = m.generation; written = m.page + 1 } ∷ [] in
           ap (λ (y : View). y.owns) (e.kept left).0 ∙ (ap (λ (y : View). y.owns) told.changed ∙ (ap (λ (y : View). y.owns) x.changed ∙ ap entry (sym x.next)))
@@ -164,7 +181,8 @@ module _ (f : Flash) (v : View) (p q : Pass) (o : OpenBlock) (h : Starts f v p o
       given_before : (view_of r).ceded ≡ v.ceded
       given_before = ap (λ (y : View). y.ceded) told.changed ∙ (ap (λ (y : View). y.ceded) x.changed ∙ ap (λ (y : View). y.ceded) h.changed)
 
-      given_at_last : o.written + 1 ≡ pages_of (geometry_of f) → (view_of w).ceded ≡ v.ceded ++ record { block = page.block; phase = Closed; generation = page.generation; written = page.page + 1 } ∷ []
+      given_at_last : o.written + 1 ≡ pages_of (geometry_of f)
+          → (view_of w).ceded ≡ v.ceded ++ record { block = page.block; phase = Closed; generation = page.generation; written = page.page + 1 } ∷ []
       given_at_last full =
           let entry : MapWord → List Owned = λ m. record { block = m.block; phase = Closed; generation = m.generation; written = m.page + 1 } ∷ [] in
           ap (λ (y : View). y.ceded) (e.full full).0 ∙ (λ i. given_before i ++ entry (sym x.next i))
@@ -186,7 +204,8 @@ module _ (f : Flash) (v : View) (p q : Pass) (o : OpenBlock) (h : Starts f v p o
           let all = whole in
           let seen : (view_of w).seen ≡ (view_of r).seen = ap (λ (y : View). y.seen) all in
           let begin : (view_of q).seen ≡ v.seen = ap (λ (y : View). y.seen) x.changed ∙ ap (λ (y : View). y.seen) h.changed in
-          let sectors : (view_of q).numbers.sectors ≡ v.numbers.sectors = ap (λ (y : View). y.numbers.sectors) x.changed ∙ ap (λ (y : View). y.numbers.sectors) h.changed in
+          let sectors : (view_of q).numbers.sectors ≡ v.numbers.sectors =
+          ap (λ (y : View). y.numbers.sectors) x.changed ∙ ap (λ (y : View). y.numbers.sectors) h.changed in
           let taken : (view_of w).taken ≡ (view_of p).taken = ap (λ (y : View). y.taken) all in
           let denied : (view_of w).denied ≡ (view_of p).denied = ap (λ (y : View). y.denied) all in
           let pages = pages_same in
@@ -195,7 +214,17 @@ module _ (f : Flash) (v : View) (p q : Pass) (o : OpenBlock) (h : Starts f v p o
           let on = block_is in
           let low = h.low in
           let left = h.left in
-          let others : View → View = λ y. record v { seen = y.seen; mine = v.mine ++ c ∷ []; programs = y.programs; owns = y.owns; work = y.work; taken = y.taken; denied = y.denied; ceded = y.ceded } in
+          let others : View → View =
+          λ y. record v {
+            seen = y.seen;
+            mine = v.mine ++ c ∷ [];
+            programs = y.programs;
+            owns = y.owns;
+            work = y.work;
+            taken = y.taken;
+            denied = y.denied;
+            ceded = y.ceded;
+          } in
           record {
             changed = all ∙ ap others (sym all);
             before = told.before;
@@ -228,20 +257,23 @@ module _ (f : Flash) (v : View) (p q : Pass) (o : OpenBlock) (h : Starts f v p o
               room = λ k is.
                   ⊎_elim
                   (λ (left : o.written + 1 < pages_of (geometry_of f)).
-                  let P : OpenBlock → Type 0 = λ y. (y.block < blocks_of (geometry_of f)) × (y.written < pages_of (geometry_of f)) × (y.generation < endurance_of (geometry_of f)) in
+                  let P : OpenBlock → Type 0 = λ y. (y.block < blocks_of (geometry_of f)) × (y.written < pages_of (geometry_of f))
+                  × (y.generation < endurance_of (geometry_of f)) in
                   subst P (some_same now k (sym (e.kept left).1 ∙ is)) (low, left, young))
                   (λ (full : o.written + 1 ≡ pages_of (geometry_of f)). absurd (none_some k (sym (e.full full).1 ∙ is)))
                   left_or_full;
               settled = ⊎_elim
                   (λ (left : o.written + 1 < pages_of (geometry_of f)). subst (λ (y : View). IsSettled y) (sym (e.kept left).0) placed_settled)
-                  (λ (full : o.written + 1 ≡ pages_of (geometry_of f)). λ y d work own. absurd (none_some y (sym (ap (λ (z : View). z.work) (e.full full).0) ∙ work)))
+                  (λ (full : o.written + 1 ≡ pages_of (geometry_of f)). λ y d work own.
+                  absurd (none_some y (sym (ap (λ (z : View). z.work) (e.full full).0) ∙ work)))
                   left_or_full;
               idle = λ none.
                   ⊎_elim
                   (λ (left : o.written + 1 < pages_of (geometry_of f)). absurd (none_some now (sym none ∙ (e.kept left).1)))
                   (λ (full : o.written + 1 ≡ pages_of (geometry_of f)). ap (λ (z : View). z.work) (e.full full).0)
                   left_or_full;
-              callers = subst (λ (z : Numbers). AreOfHosts z (view_of w).seen) (sym numbers) (subst (AreOfHosts (view_of q).numbers) (sym (ap (λ (y : View). y.seen) last)) told.callers);
+              callers = subst (λ (z : Numbers). AreOfHosts z (view_of w).seen) (sym numbers)
+                  (subst (AreOfHosts (view_of q).numbers) (sym (ap (λ (y : View). y.seen) last)) told.callers);
               own = λ t is. ap (λ (y : View). calls_of t y.seen) last ∙ (told.own t (sym role ∙ is) ∙ ap (λ (y : View). y.mine) (sym last));
               whole = ap (λ (y : View). y.whole) all ∙ badge;
               alone = ap (λ (y : View). y.guest) all ∙ alone;
@@ -250,7 +282,8 @@ module _ (f : Flash) (v : View) (p q : Pass) (o : OpenBlock) (h : Starts f v p o
           }
 
 -- ---- a write of either kind, once its page is programmed and the sector's map word was exchanged
-module _ (f : Flash) (p q r : Pass) (s : ℕ) (value : List ℕ) (page : MapWord) (h : IsReady f p) (x : IsProgrammed f (view_of p) s value page q) (call : ℕ → List ℕ → Call) (answer : Was) (told : PlaceTold call q s page answer r) where
+module _ (f : Flash) (p q r : Pass) (s : ℕ) (value : List ℕ) (page : MapWord) (h : IsReady f p) (x : IsProgrammed f (view_of p) s value page q)
+    (call : ℕ → List ℕ → Call) (answer : Was) (told : PlaceTold call q s page answer r) where
   called : (n : ℕ) → HasNumber n p → Called (view_of q) (call n value) s answer (view_of r)
   called n is = told n value (ap (λ (y : View). y.role) x.filled.changed ∙ (ap (λ (y : View). y.role) x.starts.changed ∙ is)) x.filled.placeable
 
@@ -268,4 +301,5 @@ module _ (f : Flash) (p q r : Pass) (s : ℕ) (value : List ℕ) (page : MapWord
     write_done n is = wrote f (view_of p) x.start q x.block x.starts s value page x.filled r (call n value) answer (called n is) w ended
 
     pub write_ready : IsPassOf f w → IsReady f w
-    write_ready pass = ready_written f (view_of p) x.start q x.block x.starts s value page x.filled r (call number.0 value) answer (called number.0 number.1) w ended pass h.unpinned h.rested.whole h.rested.alone
+    write_ready pass = ready_written f (view_of p) x.start q x.block x.starts s value page x.filled r (call number.0 value) answer
+        (called number.0 number.1) w ended pass h.unpinned h.rested.whole h.rested.alone

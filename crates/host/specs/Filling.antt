@@ -22,7 +22,11 @@ pub record TookLowest (v : View) (w : View) (opened : Option OpenBlock) : Type 0
   pub low : block < v.numbers.blocks
   pub young : generation < v.numbers.endurance
   pub opens : opened ≡ Some (record { block = block; generation = generation; written = 0 })
-  pub changed : w ≡ record v { taken = v.taken + 1; denied = v.denied ++ range_with_len 0 block; owns = owned_of (record { block = block; generation = generation; written = 0 }) ∷ [] }
+  pub changed : w ≡ record v {
+    taken = v.taken + 1;
+    denied = v.denied ++ range_with_len 0 block;
+    owns = owned_of (record { block = block; generation = generation; written = 0 }) ∷ [];
+  }
 
 -- The first unwritten page of the open block was filled with a value and a sector's stamp, and counted. It can be named as the sector's
 pub record Filled (v : View) (o : OpenBlock) (s : ℕ) (value : List ℕ) (page : MapWord) (w : View) : Type 0 where

@@ -45,6 +45,7 @@ IsSpared h = (c : Carried) → (view_of (pass_of h)).copy ≡ Some c → Spared 
 -- then
 abbrev pub Found : Flash → View → ℕ → Holding → Type 0
 Found f v s (holding.Held h) =
-    (value : List ℕ) × Holds f h value × (held (sectors_of (geometry_of f)) (view_of (pass_of h)).seen s ≡ Some value) × ((tries : ℕ) × Searched v tries (view_of (pass_of h)))
+    (value : List ℕ) × Holds f h value × (held (sectors_of (geometry_of f)) (view_of (pass_of h)).seen s ≡ Some value)
+    × ((tries : ℕ) × Searched v tries (view_of (pass_of h)))
 Found f v s (holding.Empty p) =
     IsReady f p × (held (sectors_of (geometry_of f)) (view_of p).seen s ≡ None) × ((tries : ℕ) × Searched v tries (view_of p))

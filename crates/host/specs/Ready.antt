@@ -19,7 +19,8 @@ use Rattle.geometry.specs.History.{held}
 -- and no note is out
 pub record IsRested (f : Flash) (p : Pass) : Type 0 where
   pub pass : IsPassOf f p
-  pub room : (o : OpenBlock) → opened_of p ≡ Some o → (o.block < blocks_of (geometry_of f)) × (o.written < pages_of (geometry_of f)) × (o.generation < endurance_of (geometry_of f))
+  pub room : (o : OpenBlock) → opened_of p ≡ Some o → (o.block < blocks_of (geometry_of f)) × (o.written < pages_of (geometry_of f))
+      × (o.generation < endurance_of (geometry_of f))
   pub settled : IsSettled (view_of p)
   pub idle : opened_of p ≡ None → (view_of p).work ≡ None
   pub callers : AreOfHosts (view_of p).numbers (view_of p).seen

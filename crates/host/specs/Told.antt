@@ -42,7 +42,16 @@ pub record Searched (v : View) (tries : ℕ) (w : View) : Type 0 where
 -- one of a block that was taken, the lowest that was free: the blocks below it were tried in order and found taken. The block stays open as
 -- long as a page is left, and then it is closed and given up as full
 pub record Programmed (v : View) (call : Call) (s : ℕ) (answer : Was) (w : View) : Type 0 where
-  pub changed : w ≡ record v { seen = w.seen; mine = v.mine ++ call ∷ []; programs = w.programs; owns = w.owns; work = w.work; taken = w.taken; denied = w.denied; ceded = w.ceded }
+  pub changed : w ≡ record v {
+    seen = w.seen;
+    mine = v.mine ++ call ∷ [];
+    programs = w.programs;
+    owns = w.owns;
+    work = w.work;
+    taken = w.taken;
+    denied = w.denied;
+    ceded = w.ceded;
+  }
   pub before : List Call
   pub later : Begins v.seen before
   pub now : w.seen ≡ before ++ call ∷ []
@@ -55,7 +64,8 @@ pub record Programmed (v : View) (call : Call) (s : ℕ) (answer : Was) (w : Vie
   pub kept : page.page + 1 < v.numbers.pages → w.owns ≡ record { block = page.block; phase = Open; generation = page.generation; written = page.page + 1 } ∷ []
   pub closed : page.page + 1 ≡ v.numbers.pages → w.owns ≡ []
   pub none_given_up : page.page + 1 < v.numbers.pages → w.ceded ≡ v.ceded
-  pub given_up : page.page + 1 ≡ v.numbers.pages → w.ceded ≡ v.ceded ++ record { block = page.block; phase = Closed; generation = page.generation; written = page.page + 1 } ∷ []
+  pub given_up : page.page + 1 ≡ v.numbers.pages
+      → w.ceded ≡ v.ceded ++ record { block = page.block; phase = Closed; generation = page.generation; written = page.page + 1 } ∷ []
 
 -- A write that is done
 abbrev pub Wrote : View → ℕ → ℕ → List ℕ → Was → View → Type 0

@@ -66,7 +66,8 @@ pub(crate) fn read_page(flash: &Flash, pass: &mut Pass, page: MapWord, out: &mut
     requires pinned { (value : List ℕ) × IsPinned flash.now pass.old page value }
     requires out { length out.old ≡ page_bytes_of (geometry_of flash.now) }
     ensures value { (value : List ℕ) → IsPinned flash.now pass.old page value → (out.new ≡ value) × IsPinned flash.now pass.new page value }
-    ensures spared { (value : List ℕ) (c : Carried) → IsPinned flash.now pass.old page value → (view_of pass.old).copy ≡ Some c → Spared (view_of pass.old) page c }
+    ensures spared { (value : List ℕ) (c : Carried) → IsPinned flash.now pass.old page value → (view_of pass.old).copy ≡ Some c
+        → Spared (view_of pass.old) page c }
     ensures same { view_of pass.new ≡ view_of pass.old }
     ensures opened { opened_of pass.new ≡ opened_of pass.old }
 {

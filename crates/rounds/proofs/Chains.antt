@@ -1,5 +1,6 @@
 -- Rounds one behind another, each answered between two histories.
-use Rattle.std.proofs.Common.{◌≡◌, ℕ, ◌+◌, ◌<◌, ◌≤◌, All, Bool, true, false, List, [], ◌∷◌, ◌++◌, length, take, drop, refl, sym, ap, ◌∙◌, subst, arith, append_assoc, append-nil, length-append}
+use Rattle.std.proofs.Common.{◌≡◌, ℕ, ◌+◌, ◌<◌, ◌≤◌, All, Bool, true, false, List, [], ◌∷◌, ◌++◌, length, take, drop, refl}
+use Rattle.std.proofs.Common.{sym, ap, ◌∙◌, subst, arith, append_assoc, append-nil, length-append}
 use Rattle.std.specs.Prelude.{if◌then◌else◌, not, ◌&&◌, ◌==◌}
 use Rattle.std.proofs.lemmas.List.{take-take, drop-take, drop-drop}
 use Rattle.std.proofs.lemmas.List.Elements.{All-head, All-tail, All-nil, All-cons, All-append, filter-append}
@@ -21,15 +22,18 @@ use Rattle.rounds.proofs.Sequential.{sequential, leaves_same}
 use Rattle.rounds.proofs.Told.{answered_more, callers_in, targets_in}
 
 -- A round that passes have played between the history to which they were tied and the one at which they have met, disjoint or not
-pub round_answered : (hosts n : ℕ) (first last : List Call) (before played after : ℕ → View) (cs : List Command) (rows : ℕ → List Said) → 0 < hosts → All (λ c. c.worker < hosts) cs → All (λ c. c.sector < n) cs
-    → AreTied hosts first before → HavePlayed worker_of sector_of calls_in is_right hosts n before (merge cs rows) played → HaveMet hosts last played after → RoundAnswered n hosts first cs rows last
+pub round_answered : (hosts n : ℕ) (first last : List Call) (before played after : ℕ → View) (cs : List Command) (rows : ℕ → List Said) → 0 < hosts
+    → All (λ c. c.worker < hosts) cs → All (λ c. c.sector < n) cs
+    → AreTied hosts first before → HavePlayed worker_of sector_of calls_in is_right hosts n before (merge cs rows) played
+    → HaveMet hosts last played after → RoundAnswered n hosts first cs rows last
 round_answered hosts n first last before played after cs rows some workers sectors tied play met =
     let xs = merge cs rows in
     let commands = commands_in-merge cs rows in
     let round : PlayedRound worker_of sector_of calls_in is_right hosts n first xs last =
     round_between worker_of sector_of calls_in is_right hosts n first last before played after xs some tied play met in
     let range : AreInRange worker_of sector_of hosts n xs =
-    lines_in_range hosts n xs (subst (λ ds. All (λ c. c.worker < hosts) ds) (sym commands) workers) (subst (λ ds. All (λ c. c.sector < n) ds) (sym commands) sectors) in
+    lines_in_range hosts n xs (subst (λ ds. All (λ c. c.worker < hosts) ds) (sym commands) workers)
+    (subst (λ ds. All (λ c. c.sector < n) ds) (sym commands) sectors) in
     record {
       played = round;
       exact = λ disjoint.
@@ -82,7 +86,8 @@ same_rest cs ds rows others same t =
     let all : take (a + k) (rows t) ≡ take (a + k) (others t) = subst (λ j. take j (rows t) ≡ take j (others t)) (line_count-append t cs ds) (same t) in
     sym (drop-take a k (rows t)) ∙ (ap (drop a) all ∙ drop-take a k (others t))
 
-round_same : (n hosts : ℕ) (first : List Call) (cs : List Command) (rows others : ℕ → List Said) (last : List Call) → AreSameFor cs rows others → RoundAnswered n hosts first cs rows last → RoundAnswered n hosts first cs others last
+round_same : (n hosts : ℕ) (first : List Call) (cs : List Command) (rows others : ℕ → List Said) (last : List Call) → AreSameFor cs rows others
+    → RoundAnswered n hosts first cs rows last → RoundAnswered n hosts first cs others last
 round_same n hosts first cs rows others last same round =
     let e = merge_same cs rows others same in
     record {
@@ -92,7 +97,8 @@ round_same n hosts first cs rows others last same round =
     }
 
 -- rounds are answered by the part of the rows that they take
-pub rounds_same : (n hosts : ℕ) (first : List Call) (rs : List (List Command)) (rows others : ℕ → List Said) (last : List Call) → AreSameFor (flat rs) rows others → AreRounds n hosts first rs rows last → AreRounds n hosts first rs others last
+pub rounds_same : (n hosts : ℕ) (first : List Call) (rs : List (List Command)) (rows others : ℕ → List Said) (last : List Call)
+    → AreSameFor (flat rs) rows others → AreRounds n hosts first rs rows last → AreRounds n hosts first rs others last
 rounds_same n hosts first [] rows others last same is = is
 rounds_same n hosts first (cs ∷ rest) rows others last same (h, round, behind) = (
   h,
@@ -115,11 +121,13 @@ pub nobody_of : (t : ℕ) (c : Command) → is_meet c.op ≡ true → lines_for 
 nobody_of t c meet = ap (λ b. if (not b && (c.worker == t)) then c ∷ [] else []) meet
 
 -- commands that are answered in order, and a disjoint round behind them
-round_behind : (n hosts : ℕ) (first last : List Call) (done cs : List Command) (rows : ℕ → List Said) → AreAnswered n first (merge done rows) → RoundAnswered n hosts first cs (rows_after done rows) last → AreDisjointCommands cs
+round_behind : (n hosts : ℕ) (first last : List Call) (done cs : List Command) (rows : ℕ → List Said) → AreAnswered n first (merge done rows)
+    → RoundAnswered n hosts first cs (rows_after done rows) last → AreDisjointCommands cs
     → AreAnswered n last (merge (done ++ cs) rows)
 round_behind n hosts first last done cs rows answered round disjoint =
     let both = round.exact disjoint in
-    subst (λ all. AreAnswered n last all) (sym (merge-append done cs rows)) (answered_more n first last (merge done rows) (merge cs (rows_after done rows)) answered both.0 both.1)
+    subst (λ all. AreAnswered n last all) (sym (merge-append done cs rows))
+    (answered_more n first last (merge done rows) (merge cs (rows_after done rows)) answered both.0 both.1)
 
 meet_count : (t : ℕ) (cs : List Command) (d : Command) → is_meet d.op ≡ true → line_count t cs ≡ line_count t (cs ++ d ∷ [])
 meet_count t cs d meet =
@@ -132,7 +140,8 @@ by_bool false here away = away refl
 
 -- all rounds behind commands that are answered in order; of the first of them some commands may stand apart
 module _ (n hosts : ℕ) (last : List Call) (rows : ℕ → List Said) where
-  all_behind : (first : List Call) (done cs ds : List Command) → HaveNoMeeting cs → AreAnswered n first (merge done rows) → AreRounds n hosts first (rounds_of (cs ++ ds)) (rows_after done rows) last
+  all_behind : (first : List Call) (done cs ds : List Command) → HaveNoMeeting cs → AreAnswered n first (merge done rows)
+      → AreRounds n hosts first (rounds_of (cs ++ ds)) (rows_after done rows) last
       → All AreDisjointCommands (rounds_of (cs ++ ds)) → AreAnswered n last (merge (done ++ (cs ++ ds)) rows)
   all_behind first done cs [] plain answered chain apart =
       let only : rounds_of (cs ++ []) ≡ cs ∷ [] = ap rounds_of (append-nil cs) ∙ rounds_of-last cs plain in
@@ -144,19 +153,26 @@ module _ (n hosts : ℕ) (last : List Call) (rows : ℕ → List Said) where
       by_bool (is_meet d.op)
       (λ meet.
       let parts = rounds_of-meet cs d ds plain meet in
-      let c : AreRounds n hosts first (cs ∷ rounds_of ds) (rows_after done rows) last = subst (λ rs. AreRounds n hosts first rs (rows_after done rows) last) parts chain in
+      let c : AreRounds n hosts first (cs ∷ rounds_of ds) (rows_after done rows) last =
+      subst (λ rs. AreRounds n hosts first rs (rows_after done rows) last) parts chain in
       let disjoint : All AreDisjointCommands (cs ∷ rounds_of ds) = subst (All AreDisjointCommands) parts apart in
       let here = round_behind n hosts first c.0 done cs rows answered c.1 (All-head AreDisjointCommands cs (rounds_of ds) disjoint) in
       let behind = (done ++ cs) ++ d ∷ [] in
       let met : AreAnswered n c.0 (merge behind rows) = meeting_goes_on n c.0 (done ++ cs) d rows meet here in
-      let left : rows_after cs (rows_after done rows) ≡ rows_after behind rows = rows_more done cs rows ∙ rows_count (done ++ cs) behind rows (λ t. meet_count t (done ++ cs) d meet) in
-      let rest = all_behind c.0 behind [] ds (All-nil (λ c. is_meet c.op ≡ false)) met (subst (λ r. AreRounds n hosts c.0 (rounds_of ds) r last) left c.2) (All-tail AreDisjointCommands cs (rounds_of ds) disjoint) in
+      let left : rows_after cs (rows_after done rows) ≡ rows_after behind rows =
+      rows_more done cs rows ∙ rows_count (done ++ cs) behind rows (λ t. meet_count t (done ++ cs) d meet) in
+      let rest = all_behind c.0 behind [] ds (All-nil (λ c. is_meet c.op ≡ false)) met
+      (subst (λ r. AreRounds n hosts c.0 (rounds_of ds) r last) left c.2) (All-tail AreDisjointCommands cs (rounds_of ds) disjoint) in
       subst (λ l. AreAnswered n last (merge l rows)) (append_assoc (done ++ cs) (d ∷ []) ds ∙ append_assoc done cs (d ∷ ds)) rest)
       (λ line.
       let whole = append_assoc cs (d ∷ []) ds in
-      let more : HaveNoMeeting (cs ++ d ∷ []) = All-append (λ c. is_meet c.op ≡ false) cs (d ∷ []) plain (All-cons (λ c. is_meet c.op ≡ false) d [] line (All-nil (λ c. is_meet c.op ≡ false))) in
+      let more : HaveNoMeeting (cs ++ d ∷ []) =
+      All-append (λ c. is_meet c.op ≡ false) cs (d ∷ []) plain (All-cons (λ c. is_meet c.op ≡ false) d [] line (All-nil (λ c. is_meet c.op ≡ false))) in
       subst (λ l. AreAnswered n last (merge (done ++ l) rows)) whole
-      (all_behind first done (cs ++ d ∷ []) ds more answered (subst (λ l. AreRounds n hosts first (rounds_of l) (rows_after done rows) last) (sym whole) chain) (subst (λ l. All AreDisjointCommands (rounds_of l)) (sym whole) apart)))
+      (all_behind first done (cs ++ d ∷ []) ds more answered
+      (subst (λ l. AreRounds n hosts first (rounds_of l) (rows_after done rows) last) (sym whole) chain)
+      (subst (λ l. All AreDisjointCommands (rounds_of l)) (sym whole) apart)))
 
 pub rounds_go_on : RoundsGoOn
-rounds_go_on n hosts h commands rows chain disjoint = all_behind n hosts h rows [] [] [] commands (All-nil (λ c. is_meet c.op ≡ false)) (run_begins n rows) chain disjoint
+rounds_go_on n hosts h commands rows chain disjoint =
+    all_behind n hosts h rows [] [] [] commands (All-nil (λ c. is_meet c.op ≡ false)) (run_begins n rows) chain disjoint

@@ -44,7 +44,9 @@ step_at a (WriteNew t r v) s low = by_sector (sector_at a r) refl where
   by_sector : (x : Sector) → sector_at a r ≡ x → sector_at (put_new a r x v) s ≡ effect_at s (WriteNew t r v) (sector_at a s)
   by_sector None is =
       dite (ℕ_discrete r s)
-      (λ same. rw (eq-eqb r s same) (ap (λ k. sector_at (slice_set a k (Some v)) s) same ∙ (get_or-set_same a s (Some v) None low ∙ ap (effect (WriteNew t r v)) (sym is ∙ ap (sector_at a) same))))
+      (λ same. rw (eq-eqb r s same)
+      (ap (λ k. sector_at (slice_set a k (Some v)) s) same
+      ∙ (get_or-set_same a s (Some v) None low ∙ ap (effect (WriteNew t r v)) (sym is ∙ ap (sector_at a) same))))
       (λ other. rw (ne_eqb r s other) (get_or-set_other a r s (Some v) None (λ e. other (sym e))))
   by_sector (Some w) is =
       dite (ℕ_discrete r s)

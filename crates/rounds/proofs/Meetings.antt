@@ -21,12 +21,14 @@ pub tied_again : (hosts : ℕ) (h : List Call) (before after : ℕ → View) →
 tied_again hosts h before after s = record { callers = s.callers; later = s.given; own = own_met hosts h before after s }
 
 -- and a round was played between the history to which they were tied and the one to which they are tied
-module _ {X : Type 0} (worker sector : X → ℕ) (calls : X → List Call) (right : X → Sector → Type 0) (hosts n : ℕ) (first last : List Call) (before played after : ℕ → View) (xs : List X) where
+module _ {X : Type 0} (worker sector : X → ℕ) (calls : X → List Call) (right : X → Sector → Type 0) (hosts n : ℕ) (first last : List Call)
+    (before played after : ℕ → View) (xs : List X) where
   pub round_between : 0 < hosts → AreTied hosts first before → HavePlayed worker sector calls right hosts n before xs played → HaveMet hosts last played after
       → PlayedRound worker sector calls right hosts n first xs last
   round_between some tied play met = record {
     later = Begins-trans first (before 0).seen last (tied.later 0 some)
-        (Begins-trans (before 0).seen (played 0).seen last (plays_later worker sector calls right n (before 0).seen (lines_of worker 0 xs) (played 0).seen (play.plays 0 some)) (met.brought 0 some));
+        (Begins-trans (before 0).seen (played 0).seen last
+        (plays_later worker sector calls right n (before 0).seen (lines_of worker 0 xs) (played 0).seen (play.plays 0 some)) (met.brought 0 some));
     callers = met.callers;
     seen = λ t. (played t).seen;
     plays = λ t low. plays_from worker sector calls right n first (before t).seen (lines_of worker t xs) (played t).seen (tied.later t low) (play.plays t low);

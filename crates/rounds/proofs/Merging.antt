@@ -1,5 +1,6 @@
 -- What the merged rows of the workers' answers are, by commands and by workers.
-use Rattle.std.proofs.Common.{◌≡◌, ℕ, zero, suc, ◌<◌, ◌≤◌, All, List, [], ◌∷◌, ◌++◌, Bool, true, false, Option, None, Some, length, get_or, take, drop, refl, sym, ap, ◌∙◌, subst, arith, eq-eqb, ne_eqb}
+use Rattle.std.proofs.Common.{◌≡◌, ℕ, zero, suc, ◌<◌, ◌≤◌, All, List, [], ◌∷◌, ◌++◌, Bool, true, false, Option, None, Some}
+use Rattle.std.proofs.Common.{length, get_or, take, drop, refl, sym, ap, ◌∙◌, subst, arith, eq-eqb, ne_eqb}
 use Rattle.std.specs.Prelude.{slice_get, if◌then◌else◌, not, ◌&&◌, ◌==◌}
 use Rattle.std.proofs.lemmas.Bool.{false≢true}
 use Rattle.std.proofs.lemmas.List.Elements.{All-head, All-tail, All-nil, All-cons}
@@ -13,7 +14,8 @@ use Rattle.rounds.specs.Orders.{lines_of}
 use Rattle.rounds.specs.Rounds.{AreDisjoint, AreInRange}
 use Rattle.rounds.specs.Told.{Line, worker_of, sector_of, calls_in, line, told}
 use Rattle.rounds.specs.Texts.{commands_in}
-use Rattle.rounds.specs.Merging.{is_meet, changes, is_line_of, lines_for, line_count, answer_for, next_of, after_line, merge, rows_after, AreSameFor, HaveNoMeeting, AreDisjointCommands, in_first_round, rounds_of}
+use Rattle.rounds.specs.Merging.{is_meet, changes, is_line_of, lines_for, line_count, answer_for, next_of, after_line, merge}
+use Rattle.rounds.specs.Merging.{rows_after, AreSameFor, HaveNoMeeting, AreDisjointCommands, in_first_round, rounds_of}
 
 command_of_answer : (c : Command) (o : Option Said) → (answer_for c o).command ≡ c
 command_of_answer c None = refl
@@ -37,7 +39,8 @@ drop_one n (x ∷ xs) = refl
 after_more : (c : Command) (cs : List Command) (rows : ℕ → List Said) (t : ℕ) → rows_after cs (after_line c rows) t ≡ rows_after (c ∷ cs) rows t
 after_more c cs rows t = go (is_line_of t c)
   where
-    go : (b : Bool) → drop (length (lines_for t cs)) (if b then drop 1 (rows t) else rows t) ≡ drop (length (if b then c ∷ lines_for t cs else lines_for t cs)) (rows t)
+    go : (b : Bool) → drop (length (lines_for t cs)) (if b then drop 1 (rows t) else rows t)
+        ≡ drop (length (if b then c ∷ lines_for t cs else lines_for t cs)) (rows t)
     go true = drop_one (length (lines_for t cs)) (rows t)
     go false = refl
 
@@ -74,7 +77,9 @@ merge_same (c ∷ cs) rows others same =
     let rest = merge_same cs (after_line c rows) (after_line c others) (λ t. left t (is_line_of t c) (same t)) in
     λ i. answer_for c (first i) ∷ rest i
   where
-    at_own : (b : Bool) → b ≡ true → take (length (if b then c ∷ lines_for c.worker cs else lines_for c.worker cs)) (rows c.worker) ≡ take (length (if b then c ∷ lines_for c.worker cs else lines_for c.worker cs)) (others c.worker)
+    at_own : (b : Bool) → b ≡ true
+        → take (length (if b then c ∷ lines_for c.worker cs else lines_for c.worker cs)) (rows c.worker)
+        ≡ take (length (if b then c ∷ lines_for c.worker cs else lines_for c.worker cs)) (others c.worker)
         → slice_get (rows c.worker) 0 ≡ slice_get (others c.worker) 0
     at_own true is e = first_same (length (lines_for c.worker cs)) (rows c.worker) (others c.worker) e
     at_own false is e = absurd (false≢true is)
@@ -83,22 +88,27 @@ merge_same (c ∷ cs) rows others same =
     next true is = refl
     next false is = at_own (is_line_of c.worker c) (own_line c is) (same c.worker)
 
-    left : (t : ℕ) (b : Bool) → take (length (if b then c ∷ lines_for t cs else lines_for t cs)) (rows t) ≡ take (length (if b then c ∷ lines_for t cs else lines_for t cs)) (others t)
+    left : (t : ℕ) (b : Bool)
+        → take (length (if b then c ∷ lines_for t cs else lines_for t cs)) (rows t) ≡ take (length (if b then c ∷ lines_for t cs else lines_for t cs))
+        (others t)
         → take (length (lines_for t cs)) (if b then drop 1 (rows t) else rows t) ≡ take (length (lines_for t cs)) (if b then drop 1 (others t) else others t)
     left t true e = rest_same (length (lines_for t cs)) (rows t) (others t) e
     left t false e = e
 
 -- one line more of a worker, and one of another
 module _ (t : ℕ) (c : Command) (cs : List Command) (rows : ℕ → List Said) (plain : is_meet c.op ≡ false)
-    (rest : line_count t cs ≤ length (after_line c rows t) → lines_of worker_of t (merge cs (after_line c rows)) ≡ told (lines_for t cs) (after_line c rows t)) where
-  own_merged : c.worker ≡ t → (row : List Said) → rows t ≡ row → line_count t (c ∷ cs) ≤ length row → lines_of worker_of t (merge (c ∷ cs) rows) ≡ told (lines_for t (c ∷ cs)) (rows t)
+    (rest : line_count t cs ≤ length (after_line c rows t)
+    → lines_of worker_of t (merge cs (after_line c rows)) ≡ told (lines_for t cs) (after_line c rows t)) where
+  own_merged : c.worker ≡ t → (row : List Said) → rows t ≡ row → line_count t (c ∷ cs) ≤ length row
+      → lines_of worker_of t (merge (c ∷ cs) rows) ≡ told (lines_for t (c ∷ cs)) (rows t)
   own_merged same row is enough =
       let others = lines_for t cs in
       let mine : is_line_of t c ≡ true = ap (λ b. not b && (c.worker == t)) plain ∙ eq-eqb c.worker t same in
       let count : suc (length others) ≤ length row = subst (λ b. length (if b then c ∷ others else others) ≤ length row) mine enough in
       go row is count mine
     where
-      go : (r : List Said) → rows t ≡ r → suc (line_count t cs) ≤ length r → is_line_of t c ≡ true → lines_of worker_of t (merge (c ∷ cs) rows) ≡ told (lines_for t (c ∷ cs)) (rows t)
+      go : (r : List Said) → rows t ≡ r → suc (line_count t cs) ≤ length r → is_line_of t c ≡ true
+          → lines_of worker_of t (merge (c ∷ cs) rows) ≡ told (lines_for t (c ∷ cs)) (rows t)
       go [] is count mine = absurd (omega arith)
       go (a ∷ behind) is count mine =
           let others = lines_for t cs in
@@ -126,7 +136,8 @@ module _ (t : ℕ) (c : Command) (cs : List Command) (rows : ℕ → List Said) 
       ∙ (rest (omega (arith, long)) ∙ (ap (told others) left ∙ sym (ap (λ b. told (if b then c ∷ others else others) (rows t)) not_mine)))
 
 -- the merged lines of one worker are its own, with its row
-pub lines_of-merge : (t : ℕ) (cs : List Command) (rows : ℕ → List Said) → HaveNoMeeting cs → line_count t cs ≤ length (rows t) → lines_of worker_of t (merge cs rows) ≡ told (lines_for t cs) (rows t)
+pub lines_of-merge : (t : ℕ) (cs : List Command) (rows : ℕ → List Said) → HaveNoMeeting cs → line_count t cs ≤ length (rows t)
+    → lines_of worker_of t (merge cs rows) ≡ told (lines_for t cs) (rows t)
 lines_of-merge t [] rows plain enough = refl
 lines_of-merge t (c ∷ cs) rows plain enough =
     let no_meet = All-head (λ c. is_meet c.op ≡ false) c cs plain in
@@ -159,15 +170,19 @@ disjoint_lines xs apart =
     of_commands (λ f. changes c.op ≡ true → c.sector ≡ f.sector → c.worker ≡ f.worker) xs (rows k d low) j e below
     (calls_change (is_full (get_or xs k d).kind) c.worker c.op c.sector c.page some) same
 
-pub lines_in_range : (hosts n : ℕ) (xs : List Line) → All (λ c. c.worker < hosts) (commands_in xs) → All (λ c. c.sector < n) (commands_in xs) → AreInRange worker_of sector_of hosts n xs
-lines_in_range hosts n xs workers sectors = record { workers = of_commands (λ c. c.worker < hosts) xs workers; sectors = of_commands (λ c. c.sector < n) xs sectors }
+pub lines_in_range : (hosts n : ℕ) (xs : List Line) → All (λ c. c.worker < hosts) (commands_in xs) → All (λ c. c.sector < n) (commands_in xs)
+    → AreInRange worker_of sector_of hosts n xs
+lines_in_range hosts n xs workers sectors =
+    record { workers = of_commands (λ c. c.worker < hosts) xs workers; sectors = of_commands (λ c. c.sector < n) xs sectors }
 
 -- commands of a round in front of a meeting and the rounds behind it, or of the last round
-pub rounds_of-meet : (cs : List Command) (c : Command) (ds : List Command) → HaveNoMeeting cs → is_meet c.op ≡ true → rounds_of (cs ++ c ∷ ds) ≡ cs ∷ rounds_of ds
+pub rounds_of-meet : (cs : List Command) (c : Command) (ds : List Command) → HaveNoMeeting cs → is_meet c.op ≡ true
+    → rounds_of (cs ++ c ∷ ds) ≡ cs ∷ rounds_of ds
 rounds_of-meet [] c ds plain meet = ap (λ b. if b then [] ∷ rounds_of ds else in_first_round c (rounds_of ds)) meet
 rounds_of-meet (d ∷ cs) c ds plain meet =
     let rest = rounds_of-meet cs c ds (All-tail (λ c. is_meet c.op ≡ false) d cs plain) meet in
-    ap (λ b. if b then [] ∷ rounds_of (cs ++ c ∷ ds) else in_first_round d (rounds_of (cs ++ c ∷ ds))) (All-head (λ c. is_meet c.op ≡ false) d cs plain) ∙ ap (in_first_round d) rest
+    ap (λ b. if b then [] ∷ rounds_of (cs ++ c ∷ ds) else in_first_round d (rounds_of (cs ++ c ∷ ds)))
+    (All-head (λ c. is_meet c.op ≡ false) d cs plain) ∙ ap (in_first_round d) rest
 
 pub rounds_of-last : (cs : List Command) → HaveNoMeeting cs → rounds_of cs ≡ cs ∷ []
 rounds_of-last [] plain = refl

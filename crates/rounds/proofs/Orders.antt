@@ -17,7 +17,8 @@ module _ {X : Type 0} (sector : X → ℕ) (calls : X → List Call) (right : X 
   in_order_same h k (x ∷ xs) same (here, rest) =
       (subst (λ a. right x (sector_at a (sector x))) same here, in_order_same (h ++ calls x) (k ++ calls x) xs (same-append n h k (calls x) same) rest)
 
-  pub in_order_append : (h : List Call) (xs ys : List X) → InOrder sector calls right n h xs → InOrder sector calls right n (h ++ made calls xs) ys → InOrder sector calls right n h (xs ++ ys)
+  pub in_order_append : (h : List Call) (xs ys : List X) → InOrder sector calls right n h xs → InOrder sector calls right n (h ++ made calls xs) ys
+      → InOrder sector calls right n h (xs ++ ys)
   in_order_append h [] ys o p = subst (λ k. InOrder sector calls right n k ys) (append-nil h) p
   in_order_append h (x ∷ xs) ys (here, rest) p =
       (here, in_order_append (h ++ calls x) xs ys rest (subst (λ k. InOrder sector calls right n k ys) (sym (append_assoc h (calls x) (made calls xs))) p))

@@ -1,5 +1,6 @@
 -- Pages side by side: one more, and the one of an answer.
-use Rattle.std.proofs.Common.{◌≡◌, ℕ, zero, suc, ◌+◌, ◌≤◌, All, List, [], ◌∷◌, ◌++◌, Some, length, take, drop, refl, sym, ap, ◌∙◌, subst, arith, add-zero, length-append}
+use Rattle.std.proofs.Common.{◌≡◌, ℕ, zero, suc, ◌+◌, ◌≤◌, All, List, [], ◌∷◌, ◌++◌, Some, length, take, drop}
+use Rattle.std.proofs.Common.{refl, sym, ap, ◌∙◌, subst, arith, add-zero, length-append}
 use Rattle.std.specs.Prelude.{slice_get}
 use Rattle.std.proofs.lemmas.List.{drop-append-le, drop-drop, length-drop, length-take-le, take-append-le}
 use Rattle.std.proofs.lemmas.List.Elements.{All-nil, All-cons}
@@ -19,7 +20,8 @@ pub bytes_more : (n : ℕ) (kinds : List Kind) (k : Kind) → bytes_in n (kinds 
 bytes_more n [] k = omega arith
 bytes_more n (j ∷ kinds) k = let rest = bytes_more n kinds k in omega (arith, rest)
 
-pub bytes_till : (n : ℕ) (kinds : List Kind) (i : ℕ) (k : Kind) → slice_get kinds i ≡ Some k → (bytes_in n (take (i + 1) kinds) ≡ bytes_in n (take i kinds) + bytes_of n k) × (bytes_in n (take (i + 1) kinds) ≤ bytes_in n kinds)
+pub bytes_till : (n : ℕ) (kinds : List Kind) (i : ℕ) (k : Kind) → slice_get kinds i ≡ Some k
+    → (bytes_in n (take (i + 1) kinds) ≡ bytes_in n (take i kinds) + bytes_of n k) × (bytes_in n (take (i + 1) kinds) ≤ bytes_in n kinds)
 bytes_till n [] i k is = absurd (cc)
 bytes_till n (j ∷ kinds) zero k is =
     let same : j ≡ k = cc in
@@ -30,7 +32,8 @@ bytes_till n (j ∷ kinds) (suc i) k is =
     let rest = bytes_till n kinds i k is in
     let equal = rest.0 in
     let below = rest.1 in
-    subst (λ m. (bytes_in n (take m (j ∷ kinds)) ≡ bytes_in n (take (suc i) (j ∷ kinds)) + bytes_of n k) × (bytes_in n (take m (j ∷ kinds)) ≤ bytes_in n (j ∷ kinds))) on
+    subst (λ m. (bytes_in n (take m (j ∷ kinds)) ≡ bytes_in n (take (suc i) (j ∷ kinds)) + bytes_of n k)
+    × (bytes_in n (take m (j ∷ kinds)) ≤ bytes_in n (j ∷ kinds))) on
     (omega (arith, equal), omega (arith, below))
 
 pub said_long : (n : ℕ) (kinds : List Kind) (bytes : List ℕ) → length (said_from n kinds bytes) ≡ length kinds
@@ -45,7 +48,8 @@ said_more n [] (b ∷ bytes) k more long = absurd (omega arith)
 said_more n (j ∷ kinds) bytes k more long =
     let within : bytes_of n j ≤ length bytes = omega arith in
     let fewer : length (drop (bytes_of n j) bytes) ≡ bytes_in n kinds = omega (arith, length-drop (bytes_of n j) bytes) in
-    let rest = ap (said_from n (kinds ++ k ∷ [])) (drop-append-le (bytes_of n j) bytes more within) ∙ said_more n kinds (drop (bytes_of n j) bytes) k more fewer in
+    let rest = ap (said_from n (kinds ++ k ∷ [])) (drop-append-le (bytes_of n j) bytes more within)
+    ∙ said_more n kinds (drop (bytes_of n j) bytes) k more fewer in
     let first = take-append-le (bytes_of n j) bytes more within in
     λ i. record { kind = j; page = first i } ∷ rest i
 
@@ -61,11 +65,13 @@ said_at n (j ∷ kinds) bytes (suc i) k is =
     ∙ ap (λ l. Some (record { kind = k; page = take (bytes_of n k) l })) (drop-drop (bytes_in n (take i kinds)) (bytes_of n j) bytes)
 
 -- a page that is told has its bytes
-pub said_whole : (n : ℕ) (kinds : List Kind) (bytes : List ℕ) → length bytes ≡ bytes_in n kinds → All (λ (a : Said). a.kind ≡ kind.Page → length a.page ≡ n) (said_from n kinds bytes)
+pub said_whole : (n : ℕ) (kinds : List Kind) (bytes : List ℕ) → length bytes ≡ bytes_in n kinds
+    → All (λ (a : Said). a.kind ≡ kind.Page → length a.page ≡ n) (said_from n kinds bytes)
 said_whole n [] bytes long = All-nil _
 said_whole n (k ∷ kinds) bytes long =
     let fewer : length (drop (bytes_of n k) bytes) ≡ bytes_in n kinds = omega (arith, length-drop (bytes_of n k) bytes) in
     let size : length (take (bytes_of n k) bytes) ≡ bytes_of n k = length-take-le (bytes_of n k) bytes (omega arith) in
     let one : Said = record { kind = k; page = take (bytes_of n k) bytes } in
     let first : one.kind ≡ kind.Page → length one.page ≡ n = λ is. size ∙ ap (bytes_of n) is in
-    All-cons (λ (a : Said). a.kind ≡ kind.Page → length a.page ≡ n) one (said_from n kinds (drop (bytes_of n k) bytes)) first (said_whole n kinds (drop (bytes_of n k) bytes) fewer)
+    All-cons (λ (a : Said). a.kind ≡ kind.Page → length a.page ≡ n) one (said_from n kinds (drop (bytes_of n k) bytes)) first
+    (said_whole n kinds (drop (bytes_of n k) bytes) fewer)

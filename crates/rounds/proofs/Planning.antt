@@ -1,5 +1,6 @@
 -- One command more in a plan, and a round's places in a worker's row.
-use Rattle.std.proofs.Common.{◌≡◌, ℕ, zero, suc, ◌+◌, ◌<◌, All, Some, take, List, [], ◌∷◌, ◌++◌, Bool, true, false, map, length, replicate, get_or, refl, sym, ap, ◌∙◌, subst, arith, eq-eqb, ne_eqb, add-zero, zero-add, append-nil}
+use Rattle.std.proofs.Common.{◌≡◌, ℕ, zero, suc, ◌+◌, ◌<◌, All, Some, take, List, [], ◌∷◌, ◌++◌, Bool, true, false, map, length, replicate}
+use Rattle.std.proofs.Common.{get_or, refl, sym, ap, ◌∙◌, subst, arith, eq-eqb, ne_eqb, add-zero, zero-add, append-nil}
 use Rattle.std.specs.Prelude.{if◌then◌else◌, not, ◌&&◌, ◌==◌, slice_set, slice_get, Vec}
 use Rattle.std.specs.Global.{Global}
 use Rattle.std.specs.List.{range_with_len}
@@ -23,7 +24,8 @@ places_from-append k t (c ∷ cs) ds =
     go (is_line_of t c) rest
   where
     go : (b : Bool) → places_from (k + 1) t (cs ++ ds) ≡ places_from (k + 1) t cs ++ places_from (k + suc (length cs)) t ds
-        → (if b then k ∷ places_from (k + 1) t (cs ++ ds) else places_from (k + 1) t (cs ++ ds)) ≡ (if b then k ∷ places_from (k + 1) t cs else places_from (k + 1) t cs) ++ places_from (k + suc (length cs)) t ds
+        → (if b then k ∷ places_from (k + 1) t (cs ++ ds) else places_from (k + 1) t (cs ++ ds))
+        ≡ (if b then k ∷ places_from (k + 1) t cs else places_from (k + 1) t cs) ++ places_from (k + suc (length cs)) t ds
     go true rest = ap (λ l. k ∷ l) rest
     go false rest = rest
 
@@ -35,14 +37,17 @@ meetings_from-append k (c ∷ cs) ds =
     go (is_meet c.op) rest
   where
     go : (b : Bool) → meetings_from (k + 1) (cs ++ ds) ≡ meetings_from (k + 1) cs ++ meetings_from (k + suc (length cs)) ds
-        → (if b then k ∷ meetings_from (k + 1) (cs ++ ds) else meetings_from (k + 1) (cs ++ ds)) ≡ (if b then k ∷ meetings_from (k + 1) cs else meetings_from (k + 1) cs) ++ meetings_from (k + suc (length cs)) ds
+        → (if b then k ∷ meetings_from (k + 1) (cs ++ ds) else meetings_from (k + 1) (cs ++ ds))
+        ≡ (if b then k ∷ meetings_from (k + 1) cs else meetings_from (k + 1) cs) ++ meetings_from (k + suc (length cs)) ds
     go true rest = ap (λ l. k ∷ l) rest
     go false rest = rest
 
 -- one command more is a meeting
-pub meeting_more : (i : ℕ) (cs more : List Command) (c : Command) → more ≡ cs ++ c ∷ [] → length cs ≡ i → is_meet c.op ≡ true → meetings_from 0 more ≡ meetings_from 0 cs ++ i ∷ []
+pub meeting_more : (i : ℕ) (cs more : List Command) (c : Command) → more ≡ cs ++ c ∷ [] → length cs ≡ i → is_meet c.op ≡ true
+    → meetings_from 0 more ≡ meetings_from 0 cs ++ i ∷ []
 meeting_more i cs more c is long meet =
-    ap (meetings_from 0) is ∙ (meetings_from-append 0 cs (c ∷ []) ∙ ap (λ l. meetings_from 0 cs ++ l) (ap (λ b. if b then (0 + length cs) ∷ [] else []) meet ∙ ap (λ k. k ∷ []) at_end))
+    ap (meetings_from 0) is ∙ (meetings_from-append 0 cs (c ∷ [])
+    ∙ ap (λ l. meetings_from 0 cs ++ l) (ap (λ b. if b then (0 + length cs) ∷ [] else []) meet ∙ ap (λ k. k ∷ []) at_end))
   where
     at_end : 0 + length cs ≡ i
     at_end = omega arith
@@ -50,12 +55,15 @@ meeting_more i cs more c is long meet =
 -- or a line
 pub no_meeting_more : (cs more : List Command) (c : Command) → more ≡ cs ++ c ∷ [] → is_meet c.op ≡ false → meetings_from 0 more ≡ meetings_from 0 cs
 no_meeting_more cs more c is plain =
-    ap (meetings_from 0) is ∙ (meetings_from-append 0 cs (c ∷ []) ∙ (ap (λ b. meetings_from 0 cs ++ (if b then (0 + length cs) ∷ [] else [])) plain ∙ append-nil (meetings_from 0 cs)))
+    ap (meetings_from 0) is ∙ (meetings_from-append 0 cs (c ∷ [])
+    ∙ (ap (λ b. meetings_from 0 cs ++ (if b then (0 + length cs) ∷ [] else [])) plain ∙ append-nil (meetings_from 0 cs)))
 
 -- a line more in its worker's row
-line_more : (i t : ℕ) (cs more : List Command) (c : Command) → more ≡ cs ++ c ∷ [] → length cs ≡ i → is_line_of t c ≡ true → places_for t more ≡ places_for t cs ++ i ∷ []
+line_more : (i t : ℕ) (cs more : List Command) (c : Command) → more ≡ cs ++ c ∷ [] → length cs ≡ i → is_line_of t c ≡ true
+    → places_for t more ≡ places_for t cs ++ i ∷ []
 line_more i t cs more c is long mine =
-    ap (places_from 0 t) is ∙ (places_from-append 0 t cs (c ∷ []) ∙ ap (λ l. places_from 0 t cs ++ l) (ap (λ b. if b then (0 + length cs) ∷ [] else []) mine ∙ ap (λ k. k ∷ []) at_end))
+    ap (places_from 0 t) is ∙ (places_from-append 0 t cs (c ∷ [])
+    ∙ ap (λ l. places_from 0 t cs ++ l) (ap (λ b. if b then (0 + length cs) ∷ [] else []) mine ∙ ap (λ k. k ∷ []) at_end))
   where
     at_end : 0 + length cs ≡ i
     at_end = omega arith
@@ -63,7 +71,8 @@ line_more i t cs more c is long mine =
 -- and in no other
 no_line_more : (t : ℕ) (cs more : List Command) (c : Command) → more ≡ cs ++ c ∷ [] → is_line_of t c ≡ false → places_for t more ≡ places_for t cs
 no_line_more t cs more c is other =
-    ap (places_from 0 t) is ∙ (places_from-append 0 t cs (c ∷ []) ∙ (ap (λ b. places_from 0 t cs ++ (if b then (0 + length cs) ∷ [] else [])) other ∙ append-nil (places_from 0 t cs)))
+    ap (places_from 0 t) is ∙ (places_from-append 0 t cs (c ∷ [])
+    ∙ (ap (λ b. places_from 0 t cs ++ (if b then (0 + length cs) ∷ [] else [])) other ∙ append-nil (places_from 0 t cs)))
 
 -- the rows of a plan, by workers
 abbrev pub rows_of : ℕ → List Command → List (List ℕ)
@@ -94,7 +103,8 @@ rows_line hosts i cs more c is long plain low =
     dite (ℕ_discrete k w)
     (λ same.
     subst (λ j. get_or (slice_set (rows_of hosts cs) w (places_for w cs ++ i ∷ [])) j [] ≡ places_for j more) (sym same)
-    (get_or-set_same (rows_of hosts cs) w (places_for w cs ++ i ∷ []) [] inside ∙ sym (line_more i w cs more c is long (ap (λ b. not b && (w == w)) plain ∙ eq-eqb w w refl))))
+    (get_or-set_same (rows_of hosts cs) w (places_for w cs ++ i ∷ []) [] inside
+    ∙ sym (line_more i w cs more c is long (ap (λ b. not b && (w == w)) plain ∙ eq-eqb w w refl))))
     (λ other.
     get_or-set_other (rows_of hosts cs) w k (places_for w cs ++ i ∷ []) [] other
     ∙ (get_or-map-range_with_len (λ t. places_for t cs) 0 hosts k k [] below (from_zero k)
@@ -130,15 +140,18 @@ is_line op.Trim other = refl
 is_line op.Meet other = absurd (other refl)
 
 -- the rows with a place more in one of them
-pub row_grown : (hosts i : ℕ) (rows : List (Vec ℕ Global)) (old new : Vec ℕ Global) (cs more : List Command) (c : Command) → map items_of rows ≡ rows_of hosts cs → more ≡ cs ++ c ∷ [] → length cs ≡ i
-    → is_meet c.op ≡ false → c.worker < hosts → old ≡ get_or rows c.worker old → new.items ≡ old.items ++ i ∷ [] → map items_of (slice_set rows c.worker new) ≡ rows_of hosts more
+pub row_grown : (hosts i : ℕ) (rows : List (Vec ℕ Global)) (old new : Vec ℕ Global) (cs more : List Command) (c : Command)
+    → map items_of rows ≡ rows_of hosts cs → more ≡ cs ++ c ∷ [] → length cs ≡ i
+    → is_meet c.op ≡ false → c.worker < hosts → old ≡ get_or rows c.worker old → new.items ≡ old.items ++ i ∷ []
+    → map items_of (slice_set rows c.worker new) ≡ rows_of hosts more
 row_grown hosts i rows old new cs more c are is long plain low there grown =
     let w = c.worker in
     let size = ap (length {A = List ℕ}) are in
     let count : length rows ≡ hosts = omega (arith, size, length-map rows items_of, length-map-range_with_len (λ t. places_for t cs) 0 hosts) in
     let inside : w < length rows = omega arith in
     let own : old.items ≡ places_for w cs =
-    ap items_of there ∙ (sym (get_or-map items_of rows w old [] inside) ∙ (ap (λ l. get_or l w []) are ∙ get_or-map-range_with_len (λ t. places_for t cs) 0 hosts w w [] low (zero-add w))) in
+    ap items_of there ∙ (sym (get_or-map items_of rows w old [] inside)
+    ∙ (ap (λ l. get_or l w []) are ∙ get_or-map-range_with_len (λ t. places_for t cs) 0 hosts w w [] low (zero-add w))) in
     map-set items_of rows w new
     ∙ (ap (λ l. slice_set l w new.items) are
     ∙ (ap (slice_set (rows_of hosts cs) w) (grown ∙ ap (λ l. l ++ i ∷ []) own) ∙ rows_line hosts i cs more c is long plain low))

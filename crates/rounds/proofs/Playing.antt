@@ -1,5 +1,6 @@
 -- One worker's play: by counting its calls, the history of each of its lines has just the calls of its lines before.
-use Rattle.std.proofs.Common.{◌≡◌, ℕ, ◌+◌, ◌≤◌, All, List, [], ◌∷◌, ◌++◌, eq-eqb, ne_eqb, length, take, refl, sym, ap, ◌∙◌, arith, subst, append_assoc, length-append}
+use Rattle.std.proofs.Common.{◌≡◌, ℕ, ◌+◌, ◌≤◌, All, List, [], ◌∷◌, ◌++◌, eq-eqb, ne_eqb, length, take, refl}
+use Rattle.std.proofs.Common.{sym, ap, ◌∙◌, arith, subst, append_assoc, length-append}
 use Rattle.std.proofs.lemmas.List.{take_at}
 use Rattle.std.proofs.lemmas.List.Elements.{All-head, All-tail}
 use Rattle.std.proofs.lemmas.List.Concat.{flat_map-append}
@@ -80,7 +81,8 @@ module _ {X : Type 0} (worker sector : X → ℕ) (calls : X → List Call) (rig
         omega (arith, length-append (calls_of t h) (calls x), length-append (calls x) (made calls xs), long, there, grown)
 
     -- the history of a line, in a play that is part of a whole in which the worker has made the calls of its lines and no others
-    pub at_line : (t : ℕ) (a : List Call) (ds : List X) (x : X) (rs : List X) (b last : List Call) → All (λ x. worker x ≡ t) ds → All (λ x. worker x ≡ t) (x ∷ rs)
+    pub at_line : (t : ℕ) (a : List Call) (ds : List X) (x : X) (rs : List X) (b last : List Call) → All (λ x. worker x ≡ t) ds
+        → All (λ x. worker x ≡ t) (x ∷ rs)
         → Plays sector calls right n a (ds ++ x ∷ rs) b → Begins b last → calls_of t last ≡ calls_of t a ++ made calls (ds ++ x ∷ rs)
         → (h : List Call) × Begins a h × Begins h last × right x (held n h (sector x)) × (calls_of t h ≡ calls_of t a ++ made calls ds)
     at_line t a ds x rs b last before mine p whole own =
@@ -91,13 +93,30 @@ module _ {X : Type 0} (worker sector : X → ℕ) (calls : X → List Call) (rig
         let onward : Begins h last = Begins-trans h (h ++ calls x) last (calls x, refl) upto in
         let low = least t a ds h before s.1 in
         let high = least t (h ++ calls x) rs b rest s.3 in
-        let more = ap (length {A = Call}) (calls_of-append t h (calls x) ∙ ap (λ k. calls_of t h ++ k) (own_calls t x (All-head (λ x. worker x ≡ t) x rs mine))) in
+        let more = ap (length {A = Call})
+        (calls_of-append t h (calls x) ∙ ap (λ k. calls_of t h ++ k) (own_calls t x (All-head (λ x. worker x ≡ t) x rs mine))) in
         let grown = begins_length (calls_of t b) (calls_of t last) (calls_grow t b last whole) in
         let split = flat_map-append calls ds (x ∷ rs) in
         let all : calls_of t last ≡ (calls_of t a ++ made calls ds) ++ made calls (x ∷ rs) =
         own ∙ (ap (λ k. calls_of t a ++ k) split ∙ sym (append_assoc (calls_of t a) (made calls ds) (made calls (x ∷ rs)))) in
         let size = ap (length {A = Call}) all in
         let long : length (calls_of t h) ≡ length (calls_of t a ++ made calls ds) =
-        omega (arith, low, high, more, grown, size, length-append (calls_of t h) (calls x), length-append (calls_of t a ++ made calls ds) (made calls (x ∷ rs)), length-append (calls_of t a) (made calls ds), length-append (calls x) (made calls rs)) in
-        let first : Begins (calls_of t a ++ made calls ds) (calls_of t last) = (made calls (x ∷ rs), sym all) in
-        (h, plays_later a ds h s.1, onward, s.2, same_beginning (calls_of t h) (calls_of t a ++ made calls ds) (calls_of t last) (calls_grow t h last onward) first long)
+        omega (
+          arith,
+          low,
+          high,
+          more,
+          grown,
+          size,
+          length-append (calls_of t h) (calls x),
+          length-append (calls_of t a ++ made calls ds) (made calls (x ∷ rs)),
+          length-append (calls_of t a) (made calls ds),
+          length-append (calls x) (made calls rs),
+        ) in
+        let first : Begins (calls_of t a ++ made calls ds) (calls_of t last) = (made calls (x ∷ rs), sym all) in (
+          h,
+          plays_later a ds h s.1,
+          onward,
+          s.2,
+          same_beginning (calls_of t h) (calls_of t a ++ made calls ds) (calls_of t last) (calls_grow t h last onward) first long,
+        )

@@ -24,7 +24,8 @@ run_goes_on hosts n first last before played after done cs rows others r answere
     let so_far : AreAnswered n first (merge done others) = subst (λ all. AreAnswered n first all) (merge_same done rows others r.kept) answered in
     let round : RoundOf hosts n first last before played after xs = record {
       some = r.some;
-      range = lines_in_range hosts n xs (subst (λ ds. All (λ c. c.worker < hosts) ds) (sym commands) r.workers) (subst (λ ds. All (λ c. c.sector < n) ds) (sym commands) r.sectors);
+      range = lines_in_range hosts n xs (subst (λ ds. All (λ c. c.worker < hosts) ds) (sym commands) r.workers)
+          (subst (λ ds. All (λ c. c.sector < n) ds) (sym commands) r.sectors);
       disjoint = disjoint_lines xs (subst AreDisjointCommands (sym commands) r.disjoint);
       tied = r.tied;
       play = r.play;
@@ -34,7 +35,8 @@ run_goes_on hosts n first last before played after done cs rows others r answere
     (both.0, subst (λ all. AreAnswered n last all) (sym (merge-append done cs others)) both.1)
 
 -- a meeting's line makes no call, and is rightly answered anywhere
-meeting_right : (n : ℕ) (h : List Call) (o : Op) (w s : ℕ) (page : List ℕ) → is_meet o ≡ true → let x : Line = answer_for (record { worker = w; op = o; sector = s; page = page }) None in
+meeting_right : (n : ℕ) (h : List Call) (o : Op) (w s : ℕ) (page : List ℕ) → is_meet o ≡ true → let x : Line =
+    answer_for (record { worker = w; op = o; sector = s; page = page }) None in
     InOrder sector_of calls_in is_right n h (x ∷ []) × (calls_in x ≡ [])
 meeting_right n h op.Read w s page meet = absurd (false≢true meet)
 meeting_right n h op.Write w s page meet = absurd (false≢true meet)
@@ -45,7 +47,8 @@ meeting_right n h op.Meet w s page meet = ((refl, tt), refl)
 pub meeting_goes_on : MeetingGoesOn
 meeting_goes_on n h done c rows meet answered =
     let x = answer_for c None in
-    let is : merge (c ∷ []) (rows_after done rows) ≡ x ∷ [] = ap (λ b. answer_for c (if b then None else slice_get (rows_after done rows c.worker) 0) ∷ []) meet in
+    let is : merge (c ∷ []) (rows_after done rows) ≡ x ∷ [] =
+    ap (λ b. answer_for c (if b then None else slice_get (rows_after done rows c.worker) 0) ∷ []) meet in
     let right = meeting_right n h c.op c.worker c.sector c.page meet in
     let same : LeaveSame n h (h ++ (calls_in x ++ [])) = ap (after n) (sym (ap (λ k. h ++ (k ++ [])) right.1 ∙ append-nil h)) in
     subst (λ all. AreAnswered n h all) (sym (merge-append done (c ∷ []) rows ∙ ap (λ ys. merge done rows ++ ys) is))
@@ -53,4 +56,5 @@ meeting_goes_on n h done c rows meet answered =
 
 pub run_is_text : RunIsText
 run_is_text n h commands rows answered =
-    subst (λ cs. IsTextOfSome n cs (lines_text 0 (merge commands rows))) (commands_in-merge commands rows) (order_is_text n (merge commands rows) answered.in_order)
+    subst (λ cs. IsTextOfSome n cs (lines_text 0 (merge commands rows))) (commands_in-merge commands rows)
+    (order_is_text n (merge commands rows) answered.in_order)

@@ -1,5 +1,7 @@
--- A round of lines at disjoint sectors: each line's answer is the one that it has where the lines are done one after another, and the array is the same at the end.
-use Rattle.std.proofs.Common.{◌≡◌, ℕ, ◌<◌, ◌⊎◌, inl, inr, ⊎_elim, All, List, [], ◌∷◌, ◌++◌, None, true, eq-eqb, ne_eqb, length, refl, sym, ap, ◌∙◌, arith, subst, append_assoc, append-nil}
+-- A round of lines at disjoint sectors: each line's answer is the one that it has where the lines are done one after another, and the array is the
+-- same at the end.
+use Rattle.std.proofs.Common.{◌≡◌, ℕ, ◌<◌, ◌⊎◌, inl, inr, ⊎_elim, All, List, [], ◌∷◌, ◌++◌, None, true, eq-eqb, ne_eqb}
+use Rattle.std.proofs.Common.{length, refl, sym, ap, ◌∙◌, arith, subst, append_assoc, append-nil}
 use Rattle.std.specs.Prelude.{◌==◌}
 use Rattle.std.proofs.lemmas.List.{append_cancel_left, ext_get_or}
 use Rattle.std.proofs.lemmas.List.Elements.{All-head, All-tail, All-nil, All-cons, All-append, All-filter, All-weaker, filter-append, filter_passes}
@@ -32,7 +34,8 @@ of_whole P {xs} {ys} same all = subst (All P) (sym same) all
 
 -- the lines that are picked for a worker are its own
 pub picked : {X : Type 0} (worker : X → ℕ) (t : ℕ) (xs : List X) → All (λ x. worker x ≡ t) (lines_of worker t xs)
-picked worker t xs = All-weaker (λ x. (worker x == t) ≡ true) (λ x. worker x ≡ t) (λ x same. eqb-true (worker x) t same) (lines_of worker t xs) (filter_passes (λ x. worker x == t) xs)
+picked worker t xs = All-weaker (λ x. (worker x == t) ≡ true) (λ x. worker x ≡ t) (λ x same. eqb-true (worker x) t same) (lines_of worker t xs)
+    (filter_passes (λ x. worker x == t) xs)
 
 -- what holds of all calls of each host holds of all calls
 all_from_callers : (P : Call → Type 0) (hosts : ℕ) (cs : List Call) → All (λ c. caller c < hosts) cs → ((u : ℕ) → u < hosts → All P (calls_of u cs)) → All P cs
@@ -66,10 +69,12 @@ module _ {X : Type 0} (worker sector : X → ℕ) (calls : X → List Call) (rig
   made_by_owner : (s t : ℕ) (xs : List X) → All (IsOwner s t) xs → AreBy s t (made calls xs)
   made_by_owner s t [] all = All-nil (λ c. target c ≡ s → caller c ≡ t)
   made_by_owner s t (x ∷ xs) all =
-      All-append (λ c. target c ≡ s → caller c ≡ t) (calls x) (made calls xs) (calls_by_owner s t x (All-head (IsOwner s t) x xs all)) (made_by_owner s t xs (All-tail (IsOwner s t) x xs all))
+      All-append (λ c. target c ≡ s → caller c ≡ t) (calls x) (made calls xs) (calls_by_owner s t x (All-head (IsOwner s t) x xs all))
+      (made_by_owner s t xs (All-tail (IsOwner s t) x xs all))
 
   -- what lines make of a sector that one worker alone changes is told by the calls of that worker's lines
-  made_of_owner : (s t : ℕ) (old : Sector) (xs : List X) → All (IsOwner s t) xs → content s old (made calls xs) ≡ content s old (made calls (lines_of worker t xs))
+  made_of_owner : (s t : ℕ) (old : Sector) (xs : List X) → All (IsOwner s t) xs
+      → content s old (made calls xs) ≡ content s old (made calls (lines_of worker t xs))
   made_of_owner s t old xs all =
       content_own s t old (made calls xs) (made_by_owner s t xs all) ∙ ap (content s old) (calls_of-made worker sector calls right 0 by t xs)
 
@@ -88,8 +93,10 @@ module _ {X : Type 0} (worker sector : X → ℕ) (calls : X → List Call) (rig
     since_by_owner : (s t : ℕ) → All (IsOwner s t) xs → AreBy s t since
     unfolding since
     since_by_owner s t all =
-        all_from_callers (λ c. target c ≡ s → caller c ≡ t) hosts since (rest_callers hosts first since (subst (λ h. All (λ c. caller c < hosts) h) (sym round.later.1) round.callers))
-        (λ u low. subst (λ cs. AreBy s t cs) (sym (of_host u low)) (made_by_owner s t (lines_of worker u xs) (All-filter (λ x. worker x == u) (IsOwner s t) xs all)))
+        all_from_callers (λ c. target c ≡ s → caller c ≡ t) hosts since
+        (rest_callers hosts first since (subst (λ h. All (λ c. caller c < hosts) h) (sym round.later.1) round.callers))
+        (λ u low. subst (λ cs. AreBy s t cs) (sym (of_host u low))
+        (made_by_owner s t (lines_of worker u xs) (All-filter (λ x. worker x == u) (IsOwner s t) xs all)))
 
     -- the sectors that a line names are its worker's
     owner_of : (x : X) → All (λ y. ¬ (calls y ≡ []) → sector y ≡ sector x → worker y ≡ worker x) xs → All (IsOwner (sector x) (worker x)) xs
@@ -103,28 +110,36 @@ module _ {X : Type 0} (worker sector : X → ℕ) (calls : X → List Call) (rig
         let t = worker x in
         let ds = lines_of worker t done in
         let rs = lines_of worker t rest in
-        let in_range : s < n = All-head (λ x. sector x < n) x rest (All-second (λ x. sector x < n) done (x ∷ rest) (of_whole (λ x. sector x < n) whole range.sectors)) in
-        let low : t < hosts = All-head (λ x. worker x < hosts) x rest (All-second (λ x. worker x < hosts) done (x ∷ rest) (of_whole (λ x. worker x < hosts) whole range.workers)) in
+        let in_range : s < n = All-head (λ x. sector x < n) x rest
+        (All-second (λ x. sector x < n) done (x ∷ rest) (of_whole (λ x. sector x < n) whole range.sectors)) in
+        let low : t < hosts = All-head (λ x. worker x < hosts) x rest
+        (All-second (λ x. worker x < hosts) done (x ∷ rest) (of_whole (λ x. worker x < hosts) whole range.workers)) in
         let first_is : lines_of worker t (x ∷ rest) ≡ x ∷ rs = rw (eq-eqb (worker x) t refl) in
         let split : lines_of worker t xs ≡ ds ++ x ∷ rs =
         ap (lines_of worker t) (sym whole) ∙ (filter-append (λ x. worker x == t) done (x ∷ rest) ∙ ap (λ ys. ds ++ ys) first_is) in
         let owners : All (IsOwner s t) xs = All-weaker
         (λ y. All (λ z. ¬ (calls y ≡ []) → sector y ≡ sector z → worker y ≡ worker z) xs) (IsOwner s t)
         (λ y row. All-head (λ z. ¬ (calls y ≡ []) → sector y ≡ sector z → worker y ≡ worker z) x rest
-        (All-second (λ z. ¬ (calls y ≡ []) → sector y ≡ sector z → worker y ≡ worker z) done (x ∷ rest) (of_whole (λ z. ¬ (calls y ≡ []) → sector y ≡ sector z → worker y ≡ worker z) whole row)))
+        (All-second (λ z. ¬ (calls y ≡ []) → sector y ≡ sector z → worker y ≡ worker z) done (x ∷ rest)
+        (of_whole (λ z. ¬ (calls y ≡ []) → sector y ≡ sector z → worker y ≡ worker z) whole row)))
         xs apart in
         let mine = picked worker t in
-        let line = at_line worker sector calls right n by t first ds x rs (round.seen t) last (mine done) (subst (λ ys. All (λ x. worker x ≡ t) ys) first_is (mine (x ∷ rest)))
+        let line = at_line worker sector calls right n by t first ds x rs (round.seen t) last (mine done)
+        (subst (λ ys. All (λ x. worker x ≡ t) ys) first_is (mine (x ∷ rest)))
         (subst (λ ys. Plays sector calls right n first ys (round.seen t)) split (round.plays t low)) (round.whole t low)
         (round.own t low ∙ ap (λ ys. calls_of t first ++ made calls ys) split) in
         let h = line.0 in
         let k = line.1.0 in
         let same_since : k ++ line.2.0 ≡ since =
-        append_cancel_left first (k ++ line.2.0) since (sym (append_assoc first k line.2.0) ∙ (ap (λ g. g ++ line.2.0) line.1.1 ∙ (line.2.1 ∙ sym round.later.1))) in
-        let by_owner : AreBy s t k = All-first (λ c. target c ≡ s → caller c ≡ t) k line.2.0 (subst (λ cs. AreBy s t cs) (sym same_since) (since_by_owner s t owners)) in
-        let own : calls_of t k ≡ made calls ds = append_cancel_left (calls_of t first) (calls_of t k) (made calls ds) (sym (calls_of-append t first k) ∙ (ap (calls_of t) line.1.1 ∙ line.4)) in
+        append_cancel_left first (k ++ line.2.0) since
+        (sym (append_assoc first k line.2.0) ∙ (ap (λ g. g ++ line.2.0) line.1.1 ∙ (line.2.1 ∙ sym round.later.1))) in
+        let by_owner : AreBy s t k =
+        All-first (λ c. target c ≡ s → caller c ≡ t) k line.2.0 (subst (λ cs. AreBy s t cs) (sym same_since) (since_by_owner s t owners)) in
+        let own : calls_of t k ≡ made calls ds =
+        append_cancel_left (calls_of t first) (calls_of t k) (made calls ds) (sym (calls_of-append t first k) ∙ (ap (calls_of t) line.1.1 ∙ line.4)) in
         let there : held n h s ≡ content s (held n first s) (made calls ds) =
-        ap (λ g. held n g s) (sym line.1.1) ∙ (held-append n s in_range first k ∙ (content_own s t (held n first s) k by_owner ∙ ap (content s (held n first s)) own)) in
+        ap (λ g. held n g s) (sym line.1.1)
+        ∙ (held-append n s in_range first k ∙ (content_own s t (held n first s) k by_owner ∙ ap (content s (held n first s)) own)) in
         let before : All (IsOwner s t) done = All-first (IsOwner s t) done (x ∷ rest) (of_whole (IsOwner s t) whole owners) in
         let here : held n (first ++ made calls done) s ≡ content s (held n first s) (made calls ds) =
         held-append n s in_range first (made calls done) ∙ made_of_owner s t (held n first s) done before in
@@ -148,7 +163,8 @@ module _ {X : Type 0} (worker sector : X → ℕ) (calls : X → List Call) (rig
     sequential = subst (λ h. InOrder sector calls right n h xs) (append-nil first) (from_place [] xs refl)
 
     -- some worker is the only one that changes a sector
-    find_owner : (s : ℕ) (ys : List X) → All (λ y. worker y < hosts) ys → All (λ y. All (λ z. ¬ (calls y ≡ []) → sector y ≡ sector z → worker y ≡ worker z) xs) ys
+    find_owner : (s : ℕ) (ys : List X) → All (λ y. worker y < hosts) ys
+        → All (λ y. All (λ z. ¬ (calls y ≡ []) → sector y ≡ sector z → worker y ≡ worker z) xs) ys
         → ((t : ℕ) × (t < hosts) × All (IsOwner s t) xs) ⊎ All (λ y. ¬ (calls y ≡ []) → sector y ≡ s → ⊥) ys
     find_owner s [] workers rows = inr (All-nil (λ y. ¬ (calls y ≡ []) → sector y ≡ s → ⊥))
     find_owner s (y ∷ ys) workers rows =
@@ -161,10 +177,16 @@ module _ {X : Type 0} (worker sector : X → ℕ) (calls : X → List Call) (rig
         (λ (empty : calls y ≡ []). inr (All-cons (λ y. ¬ (calls y ≡ []) → sector y ≡ s → ⊥) y ys (λ changes here. changes empty) none))
         (λ (changes : ¬ (calls y ≡ [])).
         dite (ℕ_discrete (sector y) s)
-        (λ here. inl (worker y, low, All-weaker (λ z. ¬ (calls y ≡ []) → sector y ≡ sector z → worker y ≡ worker z) (IsOwner s (worker y)) (λ z same _ there. sym (same changes (here ∙ sym there))) xs row))
+        (λ here. inl (
+          worker y,
+          low,
+          All-weaker (λ z. ¬ (calls y ≡ []) → sector y ≡ sector z → worker y ≡ worker z) (IsOwner s (worker y))
+              (λ z same _ there. sym (same changes (here ∙ sym there))) xs row,
+        ))
         (λ away. inr (All-cons (λ y. ¬ (calls y ≡ []) → sector y ≡ s → ⊥) y ys (λ _ here. away here) none)))
         (empty_or_not (calls y)))
-        (find_owner s ys (All-tail (λ y. worker y < hosts) y ys workers) (All-tail (λ y. All (λ z. ¬ (calls y ≡ []) → sector y ≡ sector z → worker y ≡ worker z) xs) y ys rows))
+        (find_owner s ys (All-tail (λ y. worker y < hosts) y ys workers)
+        (All-tail (λ y. All (λ z. ¬ (calls y ≡ []) → sector y ≡ sector z → worker y ≡ worker z) xs) y ys rows))
 
     an_owner : (s : ℕ) → (t : ℕ) × (t < hosts) × All (IsOwner s t) xs
     an_owner s =

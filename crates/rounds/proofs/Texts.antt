@@ -1,5 +1,6 @@
 -- Lines that are answered in order are the answers of their commands, as text.
-use Rattle.std.proofs.Common.{◌≡◌, ℕ, ◌+◌, ◌⊎◌, inl, inr, ⊎_elim, List, [], ◌∷◌, ◌++◌, Bool, true, false, None, Some, zero, suc, length, refl, sym, ap, ◌∙◌, subst, append_assoc, append-nil, codes}
+use Rattle.std.proofs.Common.{◌≡◌, ℕ, ◌+◌, ◌⊎◌, inl, inr, ⊎_elim, List, [], ◌∷◌, ◌++◌, Bool, true, false, None, Some, zero}
+use Rattle.std.proofs.Common.{suc, length, refl, sym, ap, ◌∙◌, subst, append_assoc, append-nil, codes}
 use Rattle.std.specs.Prelude.{slice_get, if◌then◌else◌}
 use Rattle.std.specs.List.{fold}
 use Rattle.std.specs.Option.{option_map, option_map_or}
@@ -56,11 +57,13 @@ only_writes op.Trim (Some v) k page r full = absurd (false≢true (sym (ap is_fu
 only_writes op.Meet x k page r full = absurd (false≢true (sym (ap is_full r) ∙ full))
 
 -- which pass makes a call is no matter to the array
-same_step : (a : List Sector) (full : Bool) (t : ℕ) (o : Op) (s : ℕ) (value : List ℕ) (c : Command) → c ≡ record { worker = t; op = o; sector = s; page = value }
+same_step : (a : List Sector) (full : Bool) (t : ℕ) (o : Op) (s : ℕ) (value : List ℕ) (c : Command)
+    → c ≡ record { worker = t; op = o; sector = s; page = value }
     → fold step a (if full then [] else calls_by t o s value) ≡ fold step a (calls_of full c)
 same_step a full t o s value c is = go full o ∙ ap (λ d. fold step a (calls_of full d)) (sym is)
   where
-    go : (b : Bool) (p : Op) → fold step a (if b then [] else calls_by t p s value) ≡ fold step a (calls_of b (record { worker = t; op = p; sector = s; page = value }))
+    go : (b : Bool) (p : Op) → fold step a (if b then [] else calls_by t p s value)
+        ≡ fold step a (calls_of b (record { worker = t; op = p; sector = s; page = value }))
     go true p = refl
     go false op.Read = refl
     go false op.Write = refl
@@ -74,8 +77,10 @@ there [] x rest = refl
 there (d ∷ done) x rest = there done x rest
 
 module _ (n : ℕ) (all : List Line) where
-  text_from : (done rest : List Line) (h : List Call) → done ++ rest ≡ all → LeaveSame n h (history_before (refused_in all) (commands_in all) (length done)) → InOrder sector_of calls_in is_right n h rest
-      → lines_before (codes "full") n (refused_in all) (commands_in all) (length done) ++ lines_text (length done) rest ≡ lines_before (codes "full") n (refused_in all) (commands_in all) (length all)
+  text_from : (done rest : List Line) (h : List Call) → done ++ rest ≡ all
+      → LeaveSame n h (history_before (refused_in all) (commands_in all) (length done)) → InOrder sector_of calls_in is_right n h rest
+      → lines_before (codes "full") n (refused_in all) (commands_in all) (length done)
+      ++ lines_text (length done) rest ≡ lines_before (codes "full") n (refused_in all) (commands_in all) (length all)
   text_from done [] h whole same order =
       append-nil (lines_before (codes "full") n (refused_in all) (commands_in all) (length done))
       ∙ ap (λ xs. lines_before (codes "full") n (refused_in all) (commands_in all) (length xs)) (sym (append-nil done) ∙ whole)
@@ -94,18 +99,22 @@ module _ (n : ℕ) (all : List Line) where
       ∙ (ap (λ b. fold step (after n (history_before refused cs k)) (calls_of b c)) (sym full) ∙ sym (array_more n refused cs k c is)))) in
       let text : answer_text x.kind x.page ≡ answer_of (codes "full") (refused k) c.op (held n (history_before refused cs k) c.sector) =
       answer_is c.op (held n h c.sector) x.kind x.page right
-      ∙ (ap (λ b. answer_of (codes "full") b c.op (held n h c.sector)) (sym full) ∙ ap (λ a. answer_of (codes "full") (refused k) c.op (sector_at a c.sector)) same) in
+      ∙ (ap (λ b. answer_of (codes "full") b c.op (held n h c.sector)) (sym full)
+      ∙ ap (λ a. answer_of (codes "full") (refused k) c.op (sector_at a c.sector)) same) in
       let more = lines_more (codes "full") n refused cs k c is in
       let long : length (done ++ x ∷ []) ≡ k + 1 = length-append done (x ∷ []) in
       let next = text_from (done ++ x ∷ []) rest (h ++ calls_in x) (append_assoc done (x ∷ []) rest ∙ whole)
       (array ∙ ap (λ j. after n (history_before refused cs j)) (sym long)) order in
       ap (λ a. lines_before (codes "full") n refused cs k ++ (line_text (k + 1) c.op c.sector a ++ lines_text (k + 1) rest)) text
-      ∙ (sym (append_assoc (lines_before (codes "full") n refused cs k) (line_text (k + 1) c.op c.sector (answer_of (codes "full") (refused k) c.op (held n (history_before refused cs k) c.sector))) (lines_text (k + 1) rest))
+      ∙ (sym (append_assoc (lines_before (codes "full") n refused cs k)
+      (line_text (k + 1) c.op c.sector (answer_of (codes "full") (refused k) c.op (held n (history_before refused cs k) c.sector)))
+      (lines_text (k + 1) rest))
       ∙ (ap (λ l. l ++ lines_text (k + 1) rest) (sym more)
       ∙ subst (λ j. lines_before (codes "full") n refused cs j ++ lines_text j rest ≡ lines_before (codes "full") n refused cs (length all)) long next))
 
   -- the lines at the refused places are writes
-  refused_are_writes : (h : List Call) (xs : List Line) → InOrder sector_of calls_in is_right n h xs → (k : ℕ) (c : Command) → slice_get (commands_in xs) k ≡ Some c → refused_in xs k ≡ true → (c.op ≡ op.Write) ⊎ (c.op ≡ op.New)
+  refused_are_writes : (h : List Call) (xs : List Line) → InOrder sector_of calls_in is_right n h xs → (k : ℕ) (c : Command)
+      → slice_get (commands_in xs) k ≡ Some c → refused_in xs k ≡ true → (c.op ≡ op.Write) ⊎ (c.op ≡ op.New)
   refused_are_writes h [] order k c is full = absurd (cc)
   refused_are_writes h (x ∷ xs) (right, order) zero c is full =
       let same : x.command ≡ c = same_Some x.command c is in
@@ -116,5 +125,6 @@ pub order_is_text : OrderIsText
 order_is_text n xs order = record {
   refused = refused_in xs;
   writes = refused_are_writes n xs [] xs order;
-  answers = text_from n xs [] xs [] refl refl order ∙ ap (λ k. lines_before (codes "full") n (refused_in xs) (commands_in xs) k) (sym (length-map xs (λ (x : Line). x.command)));
+  answers = text_from n xs [] xs [] refl refl order
+      ∙ ap (λ k. lines_before (codes "full") n (refused_in xs) (commands_in xs) k) (sym (length-map xs (λ (x : Line). x.command)));
 }

@@ -48,10 +48,12 @@ targets_in x =
     of_calls (λ call. target call ≡ c.sector) (is_full x.kind) (calls_by c.worker c.op c.sector c.page) (at_sector c.worker c.op c.sector c.page)
 
 -- lines behind others
-pub answered_more : (n : ℕ) (first last : List Call) (all xs : List Line) → AreAnswered n first all → InOrder sector_of calls_in is_right n first xs → LeaveSame n last (first ++ made calls_in xs) → AreAnswered n last (all ++ xs)
+pub answered_more : (n : ℕ) (first last : List Call) (all xs : List Line) → AreAnswered n first all → InOrder sector_of calls_in is_right n first xs
+    → LeaveSame n last (first ++ made calls_in xs) → AreAnswered n last (all ++ xs)
 answered_more n first last all xs a order same =
     record {
-      in_order = in_order_append sector_of calls_in is_right n [] all xs a.in_order (in_order_same sector_of calls_in is_right n first (made calls_in all) xs a.same order);
+      in_order = in_order_append sector_of calls_in is_right n [] all xs a.in_order
+          (in_order_same sector_of calls_in is_right n first (made calls_in all) xs a.same order);
       same = same ∙ (same-append n first (made calls_in all) (made calls_in xs) a.same ∙ ap (after n) (sym (flat_map-append calls_in all xs)));
     }
 
@@ -76,14 +78,17 @@ plays_told n t seen (c ∷ lines) (a ∷ answers) last mine (h, from, fits, rest
   from,
   fits,
   plays_told n t (h ++ calls_in (line c a)) lines answers last (All-tail (λ c. c.worker ≡ t) c lines mine)
-      (subst (λ u. playing.Plays n t (h ++ (if is_full a.kind then [] else calls_by u c.op c.sector c.page)) lines answers last) (sym (All-head (λ c. c.worker ≡ t) c lines mine)) rest),
+      (subst (λ u. playing.Plays n t (h ++ (if is_full a.kind then [] else calls_by u c.op c.sector c.page)) lines answers last)
+      (sym (All-head (λ c. c.worker ≡ t) c lines mine)) rest),
 )
 
 -- and the calls that it has made
-pub calls_told : (t : ℕ) (lines : List Command) (answers : List Said) → All (λ c. c.worker ≡ t) lines → playing.calls_done t lines answers ≡ made calls_in (told lines answers)
+pub calls_told : (t : ℕ) (lines : List Command) (answers : List Said) → All (λ c. c.worker ≡ t) lines
+    → playing.calls_done t lines answers ≡ made calls_in (told lines answers)
 calls_told t [] answers mine = refl
 calls_told t (c ∷ lines) [] mine = refl
 calls_told t (c ∷ lines) (a ∷ answers) mine =
     let rest = calls_told t lines answers (All-tail (λ c. c.worker ≡ t) c lines mine) in
-    ap (λ u. (if is_full a.kind then [] else calls_by u c.op c.sector c.page) ++ playing.calls_done t lines answers) (sym (All-head (λ c. c.worker ≡ t) c lines mine))
+    ap (λ u. (if is_full a.kind then [] else calls_by u c.op c.sector c.page) ++ playing.calls_done t lines answers)
+    (sym (All-head (λ c. c.worker ≡ t) c lines mine))
     ∙ ap (λ k. calls_in (line c a) ++ k) rest

@@ -13,7 +13,8 @@ pub record AreTied (hosts : ℕ) (h : List Call) (view : ℕ → View) : Type 0 
   pub own : (t : ℕ) → t < hosts → calls_of t h ≡ (view t).mine
 
 -- Each pass has played its worker's lines, and has made the calls of these and no others
-pub record HavePlayed {X : Type 0} (worker sector : X → ℕ) (calls : X → List Call) (right : X → Sector → Type 0) (hosts n : ℕ) (before : ℕ → View) (xs : List X) (after : ℕ → View) : Type 0 where
+pub record HavePlayed {X : Type 0} (worker sector : X → ℕ) (calls : X → List Call) (right : X → Sector → Type 0) (hosts n : ℕ) (before : ℕ → View)
+    (xs : List X) (after : ℕ → View) : Type 0 where
   pub plays : (t : ℕ) → t < hosts → Plays sector calls right n (before t).seen (lines_of worker t xs) (after t).seen
   pub mine : (t : ℕ) → t < hosts → (after t).mine ≡ (before t).mine ++ made calls (lines_of worker t xs)
 

@@ -1,5 +1,6 @@
 -- The lines of a trace from the answers of its workers: each worker's answers are a row, in the order of its lines.
-use Rattle.std.specs.Prelude.{◌≡◌, ℕ, ◌≤◌, ◌==◌, ◌&&◌, not, All, Bool, true, false, if◌then◌else◌, List, [], ◌∷◌, length, take, drop, Option, None, Some, slice_get}
+use Rattle.std.specs.Prelude.{◌≡◌, ℕ, ◌≤◌, ◌==◌, ◌&&◌, not, All, Bool, true, false, if◌then◌else◌, List, []}
+use Rattle.std.specs.Prelude.{◌∷◌, length, take, drop, Option, None, Some, slice_get}
 use Rattle.std.specs.List.{filter}
 use Rattle.trace.specs.declared.commands.Command.{Command}
 use Rattle.trace.specs.declared.commands.Op.{Op}

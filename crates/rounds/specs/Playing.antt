@@ -72,7 +72,8 @@ LinesFound patience blocks [] [] found = found ≡ []
 LinesFound patience blocks [] (a ∷ answers) found = ⊥
 LinesFound patience blocks (c ∷ lines) [] found = ⊥
 LinesFound patience blocks (c ∷ lines) (a ∷ answers) found =
-    (first : List ℕ) × (rest : List ℕ) × (found ≡ first ++ rest) × LineFound patience blocks c.op (is_full a.kind) first × LinesFound patience blocks lines answers rest
+    (first : List ℕ) × (rest : List ℕ) × (found ≡ first ++ rest) × LineFound patience blocks c.op (is_full a.kind) first
+    × LinesFound patience blocks lines answers rest
 
 -- A pass has played lines, with this many tries of each write. Exactly the calls of the lines that were done were added to its own, in
 -- order; for each write that was done one page was programmed, and at most one block taken; and the blocks that it has found taken are

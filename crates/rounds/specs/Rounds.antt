@@ -16,7 +16,8 @@ pub record AreInRange {X : Type 0} (worker sector : X → ℕ) (hosts n : ℕ) (
 
 -- A round was played between two histories: each worker has played its own lines, by histories that begin the last one, and each worker's
 -- calls in between are those of its lines, and no others
-pub record PlayedRound {X : Type 0} (worker sector : X → ℕ) (calls : X → List Call) (right : X → Sector → Type 0) (hosts n : ℕ) (first : List Call) (xs : List X) (last : List Call) : Type 0 where
+pub record PlayedRound {X : Type 0} (worker sector : X → ℕ) (calls : X → List Call) (right : X → Sector → Type 0) (hosts n : ℕ) (first : List Call)
+    (xs : List X) (last : List Call) : Type 0 where
   pub later : Begins first last
   pub callers : All (λ c. caller c < hosts) last
   pub seen : ℕ → List Call

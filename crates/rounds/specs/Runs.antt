@@ -10,8 +10,10 @@ use Rattle.rounds.specs.Texts.{lines_text, IsTextOfSome}
 use Rattle.rounds.specs.Merging.{is_meet, merge, rows_after, rounds_of, AreSameFor, AreDisjointCommands, IsDisjointTrace}
 use Rattle.rounds.specs.Rows.{AreRounds}
 
--- A round of commands at disjoint sectors was played behind others: the answers before it stay, each pass has played its worker's commands, and the passes have met
-pub record RoundOfRun (hosts n : ℕ) (first last : List Call) (before played after : ℕ → View) (done cs : List Command) (rows others : ℕ → List Said) : Type 0 where
+-- A round of commands at disjoint sectors was played behind others: the answers before it stay, each pass has played its worker's commands, and the
+-- passes have met
+pub record RoundOfRun (hosts n : ℕ) (first last : List Call) (before played after : ℕ → View) (done cs : List Command)
+    (rows others : ℕ → List Said) : Type 0 where
   pub some : 0 < hosts
   pub workers : All (λ c. c.worker < hosts) cs
   pub sectors : All (λ c. c.sector < n) cs
@@ -34,12 +36,15 @@ RunGoesOn =
 
 -- A meeting adds a line and no call
 abbrev pub MeetingGoesOn : Type 0
-MeetingGoesOn = (n : ℕ) (h : List Call) (done : List Command) (c : Command) (rows : ℕ → List Said) → is_meet c.op ≡ true → AreAnswered n h (merge done rows) → AreAnswered n h (merge (done ++ c ∷ []) rows)
+MeetingGoesOn = (n : ℕ) (h : List Call) (done : List Command) (c : Command) (rows : ℕ → List Said) → is_meet c.op ≡ true
+    → AreAnswered n h (merge done rows) → AreAnswered n h (merge (done ++ c ∷ []) rows)
 
 -- If all rounds are disjoint, the lines of all rounds, each round answered between two histories, are answered in order
 abbrev pub RoundsGoOn : Type 0
-RoundsGoOn = (n hosts : ℕ) (h : List Call) (commands : List Command) (rows : ℕ → List Said) → AreRounds n hosts [] (rounds_of commands) rows h → IsDisjointTrace commands → AreAnswered n h (merge commands rows)
+RoundsGoOn = (n hosts : ℕ) (h : List Call) (commands : List Command) (rows : ℕ → List Said) → AreRounds n hosts [] (rounds_of commands) rows h
+    → IsDisjointTrace commands → AreAnswered n h (merge commands rows)
 
 -- If all commands are answered so, the text of their lines is the answers of the trace, with the writes turned away at some set of lines
 abbrev pub RunIsText : Type 0
-RunIsText = (n : ℕ) (h : List Call) (commands : List Command) (rows : ℕ → List Said) → AreAnswered n h (merge commands rows) → IsTextOfSome n commands (lines_text 0 (merge commands rows))
+RunIsText = (n : ℕ) (h : List Call) (commands : List Command) (rows : ℕ → List Said) → AreAnswered n h (merge commands rows)
+    → IsTextOfSome n commands (lines_text 0 (merge commands rows))

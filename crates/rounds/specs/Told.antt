@@ -47,7 +47,8 @@ pub record AreAnswered (n : ℕ) (h : List Call) (xs : List Line) : Type 0 where
   pub in_order : InOrder sector_of calls_in is_right n [] xs
   pub same : LeaveSame n h (made calls_in xs)
 
--- A round of lines at disjoint sectors, from one history that all passes have seen to the next: each pass has played its worker's lines, and the passes have met
+-- A round of lines at disjoint sectors, from one history that all passes have seen to the next: each pass has played its worker's lines, and the
+-- passes have met
 pub record RoundOf (hosts n : ℕ) (first last : List Call) (before played after : ℕ → View) (xs : List Line) : Type 0 where
   pub some : 0 < hosts
   pub range : AreInRange worker_of sector_of hosts n xs

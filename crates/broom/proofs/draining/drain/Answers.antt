@@ -10,11 +10,14 @@ pub drain_marked-requires-clause-marked : goal.drain_marked-requires-clause-mark
 drain_marked-requires-clause-marked g c = c.in-Some.ensures.marked
 
 pub returns-clause-told : goal.returns-clause-told
-returns-clause-told g c = drain_told c.args.broom.now c.choose.new.broom c.drain_marked.new.broom c.in-Some.block c.drain_marked.result c.in-Some.ensures.told c.choose.ensures.blocks c.drain_marked.ensures.told
+returns-clause-told g c =
+    drain_told c.args.broom.now c.choose.new.broom c.drain_marked.new.broom c.in-Some.block c.drain_marked.result c.in-Some.ensures.told
+    c.choose.ensures.blocks c.drain_marked.ensures.told
 
 pub returns-clause-left : goal.returns-clause-left
 returns-clause-left g c =
-    drain_left c.args.broom.now c.choose.new.broom c.drain_marked.new.broom c.in-Some.block c.drain_marked.result c.in-Some.ensures.told c.choose.ensures.blocks c.drain_marked.ensures.told c.drain_marked.ensures.marks
+    drain_left c.args.broom.now c.choose.new.broom c.drain_marked.new.broom c.in-Some.block c.drain_marked.result c.in-Some.ensures.told
+    c.choose.ensures.blocks c.drain_marked.ensures.told c.drain_marked.ensures.marks
 
 pub returns-in_default-clause-told : goal.returns-in_default-clause-told
 returns-in_default-clause-told g c = (c.in_default.ensures.told.gained, c.choose.ensures.blocks)

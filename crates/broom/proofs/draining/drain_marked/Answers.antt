@@ -8,7 +8,8 @@ use Rattle.broom.specs.Ready.{view_of_broom}
 use Rattle.broom.specs.Relocating.{Sweeps}
 use Rattle.broom.proofs.Marking.{marks_kept, still_marked}
 use Rattle.broom.proofs.Ranks.{ranks_fewer}
-use Rattle.broom.proofs.Drains.{low_mark, low_block, state_closed, last_loaded, victim_of_state, claimed_sweeps, claimed_room, did_drain, drained_rested, drained_loaded}
+use Rattle.broom.proofs.Drains.{low_mark, low_block, state_closed, last_loaded, victim_of_state, claimed_sweeps}
+use Rattle.broom.proofs.Drains.{claimed_room, did_drain, drained_rested, drained_loaded}
 use Rattle.broom.proofs.Choosing.{rested_lost}
 use Rattle.broom.proofs.draining.drain_marked.Given.{Over}
 use Rattle.broom.proofs.draining.drain_marked.Goals as goal
@@ -18,16 +19,22 @@ pub claim-requires-clause-block : goal.claim-requires-clause-block
 claim-requires-clause-block g c = low_block c.args.flash.now c.args.broom.now c.args.block c.requires.ready c.requires.marked
 
 pub claim-requires-clause-state : goal.claim-requires-clause-state
-claim-requires-clause-state g c = state_closed c.args.flash.now c.args.broom.now c.args.block c.requires.ready c.requires.marked c.index-state.result.now c.index-state.ensures
+claim-requires-clause-state g c =
+    state_closed c.args.flash.now c.args.broom.now c.args.block c.requires.ready c.requires.marked c.index-state.result.now c.index-state.ensures
 
 pub claim-requires-clause-loaded : goal.claim-requires-clause-loaded
-claim-requires-clause-loaded g c = last_loaded c.args.flash.now c.args.broom.now c.args.block c.requires.ready c.requires.marked c.index-state.result.now c.index-state.ensures
+claim-requires-clause-loaded g c =
+    last_loaded c.args.flash.now c.args.broom.now c.args.block c.requires.ready c.requires.marked c.index-state.result.now c.index-state.ensures
 
 -- the claim was won: the broom sweeps its victim
-sweeping : (g : Over) (c : Else-not-claim g) → Sweeps c.args.flash.now c.claim.new.broom (victim_of_state c.args.flash.now c.args.broom.now c.args.block c.requires.ready c.requires.marked c.index-state.result.now c.index-state.ensures)
+sweeping : (g : Over) (c : Else-not-claim g)
+    → Sweeps c.args.flash.now c.claim.new.broom
+    (victim_of_state c.args.flash.now c.args.broom.now c.args.block c.requires.ready c.requires.marked c.index-state.result.now c.index-state.ensures)
 sweeping g c =
-    claimed_sweeps c.args.flash.now c.args.broom.now c.args.block c.requires.ready c.requires.marked c.index-state.result.now c.index-state.ensures c.claim.new.broom c.claim.ensures.broom
-    (with_owned (owned_as c.args.block c.index-state.result.now Victim) (view_of_broom c.args.broom.now).owns) c.if-not-claim.ensures.told c.if-not-claim.ensures.blocks
+    claimed_sweeps c.args.flash.now c.args.broom.now c.args.block c.requires.ready c.requires.marked c.index-state.result.now c.index-state.ensures
+    c.claim.new.broom c.claim.ensures.broom
+    (with_owned (owned_as c.args.block c.index-state.result.now Victim) (view_of_broom c.args.broom.now).owns) c.if-not-claim.ensures.told
+    c.if-not-claim.ensures.blocks
 
 pub relocate-copied-requires-clause-sweeps : goal.relocate-copied-requires-clause-sweeps
 relocate-copied-requires-clause-sweeps g c =
@@ -35,14 +42,19 @@ relocate-copied-requires-clause-sweeps g c =
     let r = c.args.broom.now in
     let q = c.index-state.result.now in
     let at = (goal.at.relocate-copied-requires-clause-sweeps g c).Else-not-claim in
-    let room = claimed_room f r c.args.block c.requires.ready c.requires.marked q c.index-state.ensures c.claim.new.broom c.claim.ensures.broom (with_owned (owned_as c.args.block q Victim) (view_of_broom r).owns) c.if-not-claim.ensures.told c.if-not-claim.ensures.blocks c.requires.spare in
+    let room = claimed_room f r c.args.block c.requires.ready c.requires.marked q c.index-state.ensures c.claim.new.broom c.claim.ensures.broom
+    (with_owned (owned_as c.args.block q Victim) (view_of_broom r).owns) c.if-not-claim.ensures.told c.if-not-claim.ensures.blocks c.requires.spare in
     (victim_of_state f r c.args.block c.requires.ready c.requires.marked q c.index-state.ensures, sweeping g at, room)
 
 -- and still sweeps it when all its pages are cleared
-swept : (g : Over) (c : After-relocate-copied g) → Sweeps c.args.flash.now c.relocate-copied.new.seat (victim_of_state c.args.flash.now c.args.broom.now c.args.block c.requires.ready c.requires.marked c.index-state.result.now c.index-state.ensures)
+swept : (g : Over) (c : After-relocate-copied g)
+    → Sweeps c.args.flash.now c.relocate-copied.new.seat
+    (victim_of_state c.args.flash.now c.args.broom.now c.args.block c.requires.ready c.requires.marked c.index-state.result.now c.index-state.ensures)
 swept g c =
     let at = (goal.at.After-relocate-copied g c).Else-not-claim in
-    c.relocate-copied.ensures.sweeps (victim_of_state c.args.flash.now c.args.broom.now c.args.block c.requires.ready c.requires.marked c.index-state.result.now c.index-state.ensures) (sweeping g at)
+    c.relocate-copied.ensures.sweeps
+    (victim_of_state c.args.flash.now c.args.broom.now c.args.block c.requires.ready c.requires.marked c.index-state.result.now
+    c.index-state.ensures) (sweeping g at)
 
 pub drain-requires-clause-broom : goal.drain-requires-clause-broom
 drain-requires-clause-broom g c = (swept g (goal.at.drain-requires-clause-broom g c).After-relocate-copied).seat
@@ -66,8 +78,10 @@ returns-clause-told g c =
     let told = c.relocate-copied.ensures in
     let began = sweeping g (goal.at.After-relocate-copied g at).Else-not-claim in (
       refl,
-      did_drain f r b c.requires.ready c.requires.marked q c.index-state.ensures c.claim.new.broom c.claim.ensures.broom (with_owned (owned_as b q Victim) (view_of_broom r).owns) c.if-not-claim.ensures.told c.if-not-claim.ensures.blocks
-          c.relocate-copied.new.seat c.drain.new.broom c.relocate-copied.result told.told told.source h (without b (broom_view c.relocate-copied.new.seat).owns) (c.drain.ensures.told x h.draining) c.drain.ensures.blocks
+      did_drain f r b c.requires.ready c.requires.marked q c.index-state.ensures c.claim.new.broom c.claim.ensures.broom
+          (with_owned (owned_as b q Victim) (view_of_broom r).owns) c.if-not-claim.ensures.told c.if-not-claim.ensures.blocks
+          c.relocate-copied.new.seat c.drain.new.broom c.relocate-copied.result told.told told.source h
+          (without b (broom_view c.relocate-copied.new.seat).owns) (c.drain.ensures.told x h.draining) c.drain.ensures.blocks
           c.requires.ready.rested.source (told.cleared x began) (told.emptied x began),
     )
 
@@ -84,18 +98,24 @@ returns-clause-ready g c =
     let began = sweeping g (goal.at.After-relocate-copied g at).Else-not-claim in
     let ready = c.requires.ready in
     record {
-      rested = drained_rested f r b ready c.requires.marked q c.index-state.ensures c.claim.new.broom c.claim.ensures.broom (with_owned (owned_as b q Victim) (view_of_broom r).owns) c.if-not-claim.ensures.told c.if-not-claim.ensures.blocks
-          c.relocate-copied.new.seat c.drain.new.broom c.relocate-copied.result told.told told.source h (without b (broom_view c.relocate-copied.new.seat).owns) (c.drain.ensures.told x h.draining) c.drain.ensures.blocks
+      rested = drained_rested f r b ready c.requires.marked q c.index-state.ensures c.claim.new.broom c.claim.ensures.broom
+          (with_owned (owned_as b q Victim) (view_of_broom r).owns) c.if-not-claim.ensures.told c.if-not-claim.ensures.blocks
+          c.relocate-copied.new.seat c.drain.new.broom c.relocate-copied.result told.told told.source h
+          (without b (broom_view c.relocate-copied.new.seat).owns) (c.drain.ensures.told x h.draining) c.drain.ensures.blocks
           ready.rested.source (told.cleared x began) (told.emptied x began) c.drain.ensures.broom;
       states = ready.states;
       counts = ready.counts;
       closed = length-set r.closed.items b false ∙ ready.closed;
       marks =
-          let loaded = drained_loaded f r b ready c.requires.marked q c.index-state.ensures c.claim.new.broom c.claim.ensures.broom (with_owned (owned_as b q Victim) (view_of_broom r).owns) c.if-not-claim.ensures.told c.if-not-claim.ensures.blocks
-          c.relocate-copied.new.seat c.drain.new.broom c.relocate-copied.result told.told told.source h (without b (broom_view c.relocate-copied.new.seat).owns) (c.drain.ensures.told x h.draining) c.drain.ensures.blocks
+          let loaded = drained_loaded f r b ready c.requires.marked q c.index-state.ensures c.claim.new.broom c.claim.ensures.broom
+          (with_owned (owned_as b q Victim) (view_of_broom r).owns) c.if-not-claim.ensures.told c.if-not-claim.ensures.blocks
+          c.relocate-copied.new.seat c.drain.new.broom c.relocate-copied.result told.told told.source h
+          (without b (broom_view c.relocate-copied.new.seat).owns) (c.drain.ensures.told x h.draining) c.drain.ensures.blocks
           ready.rested.source (told.cleared x began) (told.emptied x began) in
-          marks_kept (device f) r.states.items (view_of_broom r) (broom_view c.drain.new.broom) r.closed.items (set r.closed.items b false) loaded (still_marked r.closed.items b (low_mark f r b ready c.requires.marked)) ready.marks;
-      ranking = ranks_fewer r.counts.items r.closed.items (set r.closed.items b false) r.ranking (length-set r.closed.items b false) (still_marked r.closed.items b (low_mark f r b ready c.requires.marked)) ready.ranking;
+          marks_kept (device f) r.states.items (view_of_broom r) (broom_view c.drain.new.broom) r.closed.items (set r.closed.items b false) loaded
+          (still_marked r.closed.items b (low_mark f r b ready c.requires.marked)) ready.marks;
+      ranking = ranks_fewer r.counts.items r.closed.items (set r.closed.items b false) r.ranking (length-set r.closed.items b false)
+          (still_marked r.closed.items b (low_mark f r b ready c.requires.marked)) ready.ranking;
     }
 
 pub returns-clause-block : goal.returns-clause-block
@@ -113,6 +133,8 @@ returns-then-not-claim-clause-ready g c =
       states = h.states;
       counts = h.counts;
       closed = length-set r.closed.items b false ∙ h.closed;
-      marks = marks_kept (device c.args.flash.now) r.states.items (view_of_broom r) (broom_view c.claim.new.broom) r.closed.items (set r.closed.items b false) (ap (λ (v : View). v.loaded) lost.told) (still_marked r.closed.items b low) h.marks;
-      ranking = ranks_fewer r.counts.items r.closed.items (set r.closed.items b false) r.ranking (length-set r.closed.items b false) (still_marked r.closed.items b low) h.ranking;
+      marks = marks_kept (device c.args.flash.now) r.states.items (view_of_broom r) (broom_view c.claim.new.broom) r.closed.items
+          (set r.closed.items b false) (ap (λ (v : View). v.loaded) lost.told) (still_marked r.closed.items b low) h.marks;
+      ranking = ranks_fewer r.counts.items r.closed.items (set r.closed.items b false) r.ranking (length-set r.closed.items b false)
+          (still_marked r.closed.items b low) h.ranking;
     }

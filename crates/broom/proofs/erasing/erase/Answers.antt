@@ -8,7 +8,8 @@ use Rattle.geometry.specs.declared.pin_word.Phase.TheVariants.{Drained}
 use Rattle.flash_table.specs.declared.broom_seat.Reclaiming.TheVariants.{Nothing}
 use Rattle.flash_table.specs.Flash.{broom_view, own_blocks, geometry_of, device}
 use Rattle.broom.specs.Erasing.{DidKeep, DidFree}
-use Rattle.broom.proofs.Renewing.{loaded_stale, loaded_busy, loaded_changed, rested_loaded, WasWiped, was_wiped, its, did_retire, did_renew, told_erased, rested_retired, rested_renewed}
+use Rattle.broom.proofs.Renewing.{loaded_stale, loaded_busy, loaded_changed, rested_loaded, WasWiped, was_wiped, its}
+use Rattle.broom.proofs.Renewing.{did_retire, did_renew, told_erased, rested_retired, rested_renewed}
 use Rattle.broom.specs.Ready.{view_of_broom}
 use Rattle.broom.proofs.Marking.{marks_after, still_marked}
 use Rattle.broom.proofs.Ranks.{ranks_fewer}
@@ -22,7 +23,8 @@ wiped g c =
     let drained : c.load_state-state.result.phase ≡ Drained = search rules in
     let loaded : own_blocks c.load_state-state.new.broom ≡ own_blocks c.args.broom.now.seat = cc in
     let wiped : own_blocks c.wipe_all.new.seat ≡ own_blocks c.condemn.new.broom = cc in
-    was_wiped c.args.flash.now c.args.broom.now.seat c.load_state-state.new.broom c.condemn.new.broom c.wipe_all.new.seat c.args.block c.load_state-state.result c.requires.broom.rested c.load_state-state.ensures.fits
+    was_wiped c.args.flash.now c.args.broom.now.seat c.load_state-state.new.broom c.condemn.new.broom c.wipe_all.new.seat c.args.block
+    c.load_state-state.result c.requires.broom.rested c.load_state-state.ensures.fits
     drained (omega arith) c.load_state-state.ensures.told loaded c.if-not-condemn.ensures.told c.wipe_all.ensures.told wiped
 
 -- the endurance, as the device and as the broom's view have it
@@ -46,7 +48,18 @@ returns-then-ne-clause-ready g c =
     let is = (returns-then-ne-clause-told g c).0.changed in
     let h0 = c.args.broom.now in
     let low : c.args.block < length h0.closed.items = let long = h.closed in let block = c.requires.block in omega arith in
-    record { rested = rested_loaded c.args.flash.now c.args.broom.now.seat c.load_state-state.new.broom h.rested load.broom load.blocks _ _ _ is; states = h.states; counts = h.counts; closed = length-set c.args.broom.now.closed.items c.args.block false ∙ h.closed; marks = marks_after (device c.args.flash.now) h0.states.items (view_of_broom h0) _ h0.closed.items c.args.block _ low (ap (λ (v : View). v.loaded) is) h.marks; ranking = ranks_fewer h0.counts.items h0.closed.items (set h0.closed.items c.args.block false) h0.ranking (length-set h0.closed.items c.args.block false) (still_marked h0.closed.items c.args.block low) h.ranking }
+    record {
+      rested = rested_loaded c.args.flash.now c.args.broom.now.seat c.load_state-state.new.broom h.rested load.broom load.blocks _ _ _ is;
+      states = h.states;
+      counts = h.counts;
+      closed = length-set c.args.broom.now.closed.items c.args.block false ∙ h.closed;
+      marks =
+          marks_after (device c.args.flash.now) h0.states.items (view_of_broom h0) _ h0.closed.items c.args.block _ low
+          (ap (λ (v : View). v.loaded) is) h.marks;
+      ranking =
+          ranks_fewer h0.counts.items h0.closed.items (set h0.closed.items c.args.block false) h0.ranking
+          (length-set h0.closed.items c.args.block false) (still_marked h0.closed.items c.args.block low) h.ranking;
+    }
 
 -- it has readers
 pub returns-then-state-gt0-clause-told : goal.returns-then-state-gt0-clause-told
@@ -65,7 +78,18 @@ returns-then-state-gt0-clause-ready g c =
     let is = (returns-then-state-gt0-clause-told g c).0.changed in
     let h0 = c.args.broom.now in
     let low : c.args.block < length h0.closed.items = let long = h.closed in let block = c.requires.block in omega arith in
-    record { rested = rested_loaded c.args.flash.now c.args.broom.now.seat c.load_state-state.new.broom h.rested load.broom load.blocks _ _ _ is; states = h.states; counts = h.counts; closed = length-set c.args.broom.now.closed.items c.args.block false ∙ h.closed; marks = marks_after (device c.args.flash.now) h0.states.items (view_of_broom h0) _ h0.closed.items c.args.block _ low (ap (λ (v : View). v.loaded) is) h.marks; ranking = ranks_fewer h0.counts.items h0.closed.items (set h0.closed.items c.args.block false) h0.ranking (length-set h0.closed.items c.args.block false) (still_marked h0.closed.items c.args.block low) h.ranking }
+    record {
+      rested = rested_loaded c.args.flash.now c.args.broom.now.seat c.load_state-state.new.broom h.rested load.broom load.blocks _ _ _ is;
+      states = h.states;
+      counts = h.counts;
+      closed = length-set c.args.broom.now.closed.items c.args.block false ∙ h.closed;
+      marks =
+          marks_after (device c.args.flash.now) h0.states.items (view_of_broom h0) _ h0.closed.items c.args.block _ low
+          (ap (λ (v : View). v.loaded) is) h.marks;
+      ranking =
+          ranks_fewer h0.counts.items h0.closed.items (set h0.closed.items c.args.block false) h0.ranking
+          (length-set h0.closed.items c.args.block false) (still_marked h0.closed.items c.args.block low) h.ranking;
+    }
 
 -- its word has changed
 pub returns-then-not-condemn-clause-told : goal.returns-then-not-condemn-clause-told
@@ -75,7 +99,8 @@ returns-then-not-condemn-clause-told g c =
     let load = c.load_state-state.ensures in
     let drained : p.phase ≡ Drained = search rules in
     let busy = c.if-not-condemn.ensures.told in
-    let is = loaded_changed (broom_view s) (broom_view c.load_state-state.new.broom) (broom_view c.condemn.new.broom) c.args.block p load.fits drained (omega arith) load.told busy.changed in
+    let is = loaded_changed (broom_view s) (broom_view c.load_state-state.new.broom) (broom_view c.condemn.new.broom) c.args.block p load.fits drained
+    (omega arith) load.told busy.changed in
     (record { state = p; fits = load.fits; drained = drained; changed = is }, (busy.blocks ∙ load.blocks))
 
 pub returns-then-not-condemn-clause-ready : goal.returns-then-not-condemn-clause-ready
@@ -86,7 +111,20 @@ returns-then-not-condemn-clause-ready g c =
     let is = (returns-then-not-condemn-clause-told g c).0.changed in
     let h0 = c.args.broom.now in
     let low : c.args.block < length h0.closed.items = let long = h.closed in let block = c.requires.block in omega arith in
-    record { rested = rested_loaded c.args.flash.now c.args.broom.now.seat c.condemn.new.broom h.rested c.condemn.ensures.broom (busy.blocks ∙ load.blocks) _ _ _ is; states = h.states; counts = h.counts; closed = length-set c.args.broom.now.closed.items c.args.block false ∙ h.closed; marks = marks_after (device c.args.flash.now) h0.states.items (view_of_broom h0) _ h0.closed.items c.args.block _ low (ap (λ (v : View). v.loaded) is) h.marks; ranking = ranks_fewer h0.counts.items h0.closed.items (set h0.closed.items c.args.block false) h0.ranking (length-set h0.closed.items c.args.block false) (still_marked h0.closed.items c.args.block low) h.ranking }
+    record {
+      rested = rested_loaded c.args.flash.now c.args.broom.now.seat c.condemn.new.broom h.rested c.condemn.ensures.broom
+          (busy.blocks ∙ load.blocks) _ _ _ is;
+      states = h.states;
+      counts = h.counts;
+      closed =
+          length-set c.args.broom.now.closed.items c.args.block false ∙ h.closed;
+      marks =
+          marks_after (device c.args.flash.now) h0.states.items (view_of_broom h0) _ h0.closed.items c.args.block _ low
+          (ap (λ (v : View). v.loaded) is) h.marks;
+      ranking =
+          ranks_fewer h0.counts.items h0.closed.items (set h0.closed.items c.args.block false) h0.ranking
+          (length-set h0.closed.items c.args.block false) (still_marked h0.closed.items c.args.block low) h.ranking;
+    }
 
 pub condemn-requires-clause-expected : goal.condemn-requires-clause-expected
 condemn-requires-clause-expected g c = search rules
@@ -114,14 +152,18 @@ returns-then-state-endurance-clause-ready g c =
       states = h.states;
       counts = h.counts;
       closed = length-set h0.closed.items c.args.block false ∙ h.closed;
-      marks = marks_after (device c.args.flash.now) h0.states.items (view_of_broom h0) _ h0.closed.items c.args.block _ low (ap (λ (v : View). v.loaded) did.1.erased.changed) h.marks;
-      ranking = ranks_fewer h0.counts.items h0.closed.items (set h0.closed.items c.args.block false) h0.ranking (length-set h0.closed.items c.args.block false) (still_marked h0.closed.items c.args.block low) h.ranking;
+      marks = marks_after (device c.args.flash.now) h0.states.items (view_of_broom h0) _ h0.closed.items c.args.block _ low
+          (ap (λ (v : View). v.loaded) did.1.erased.changed) h.marks;
+      ranking = ranks_fewer h0.counts.items h0.closed.items (set h0.closed.items c.args.block false) h0.ranking
+          (length-set h0.closed.items c.args.block false) (still_marked h0.closed.items c.args.block low) h.ranking;
     }
 
 -- the block begins its next generation
 renewed : (g : Over) (c : goal.After-renew-kept g) → MatchBool c.renew-kept.result
-    (DidKeep (broom_view c.args.broom.now.seat) (own_blocks c.args.broom.now.seat) c.args.block (broom_view c.renew-kept.new.seat) (own_blocks c.renew-kept.new.seat))
-    (DidFree (broom_view c.args.broom.now.seat) (own_blocks c.args.broom.now.seat) c.args.block (broom_view c.renew-kept.new.seat) (own_blocks c.renew-kept.new.seat))
+    (DidKeep (broom_view c.args.broom.now.seat) (own_blocks c.args.broom.now.seat) c.args.block (broom_view c.renew-kept.new.seat)
+    (own_blocks c.renew-kept.new.seat))
+    (DidFree (broom_view c.args.broom.now.seat) (own_blocks c.args.broom.now.seat) c.args.block (broom_view c.renew-kept.new.seat)
+    (own_blocks c.renew-kept.new.seat))
 renewed g c =
     let at = (goal.at.returns-clause-told g c).After-wipe_all in
     let s = c.args.broom.now.seat in
@@ -132,7 +174,8 @@ renewed g c =
     did_renew s c.wipe_all.new.seat c.renew-kept.new.seat c.args.block p (wiped g at) c.renew-kept.result (omega arith)
     (c.renew-kept.ensures.told _ (its s c.wipe_all.new.seat c.args.block p (wiped g at)))
 
-renewed_loaded : (v : View) (x : BroomBlocks) (b : ℕ) (w : View) (y : BroomBlocks) (kept : Bool) → MatchBool kept (DidKeep v x b w y) (DidFree v x b w y) → (n : ℕ) × (w.loaded ≡ v.loaded ++ (b, n) ∷ [])
+renewed_loaded : (v : View) (x : BroomBlocks) (b : ℕ) (w : View) (y : BroomBlocks) (kept : Bool)
+    → MatchBool kept (DidKeep v x b w y) (DidFree v x b w y) → (n : ℕ) × (w.loaded ≡ v.loaded ++ (b, n) ∷ [])
 renewed_loaded v x b w y true h = (pin_word h.state, ap (λ (z : View). z.loaded) h.erased.changed)
 renewed_loaded v x b w y false h = (pin_word h.state, ap (λ (z : View). z.loaded) h.erased.changed)
 
@@ -145,10 +188,13 @@ returns-clause-ready g c =
     let h0 = c.args.broom.now in
     let low : c.args.block < length h0.closed.items = let long = h.closed in let block = c.requires.block in omega arith in
     record {
-      rested = rested_renewed c.args.flash.now c.args.broom.now.seat c.renew-kept.new.seat c.args.block h.rested c.renew-kept.ensures.seat c.renew-kept.result c.requires.block (renewed g c);
+      rested = rested_renewed c.args.flash.now c.args.broom.now.seat c.renew-kept.new.seat c.args.block h.rested c.renew-kept.ensures.seat
+          c.renew-kept.result c.requires.block (renewed g c);
       states = h.states;
       counts = h.counts;
       closed = length-set h0.closed.items c.args.block false ∙ h.closed;
-      marks = let more = renewed_loaded _ _ c.args.block _ _ c.renew-kept.result (renewed g c) in marks_after (device c.args.flash.now) h0.states.items (view_of_broom h0) _ h0.closed.items c.args.block more.0 low more.1 h.marks;
-      ranking = ranks_fewer h0.counts.items h0.closed.items (set h0.closed.items c.args.block false) h0.ranking (length-set h0.closed.items c.args.block false) (still_marked h0.closed.items c.args.block low) h.ranking;
+      marks = let more = renewed_loaded _ _ c.args.block _ _ c.renew-kept.result (renewed g c) in
+          marks_after (device c.args.flash.now) h0.states.items (view_of_broom h0) _ h0.closed.items c.args.block more.0 low more.1 h.marks;
+      ranking = ranks_fewer h0.counts.items h0.closed.items (set h0.closed.items c.args.block false) h0.ranking
+          (length-set h0.closed.items c.args.block false) (still_marked h0.closed.items c.args.block low) h.ranking;
     }

@@ -16,13 +16,15 @@ returns-then-is_some-clause-told c =
     let s = c.args.seat.now in
     let here = ap (λ (x : BroomBlocks). x.destination) c.blocks-2.ensures in
     let found = the_block c.blocks-2.result.destination (sym c.is_some.ensures ∙ c.if-is_some.true) in
-    closes_one (broom_view s) (broom_view c.close_destination.new.broom) (own_blocks s) found.0 (sym here ∙ found.1) (c.close_destination.ensures.told found.0 (sym here ∙ found.1))
+    closes_one (broom_view s) (broom_view c.close_destination.new.broom) (own_blocks s) found.0 (sym here ∙ found.1)
+    (c.close_destination.ensures.told found.0 (sym here ∙ found.1))
 
 pub returns-else-is_some-clause-told : goal.returns-else-is_some-clause-told
 returns-else-is_some-clause-told c =
     let s = c.args.seat.now in
     let here = ap (λ (x : BroomBlocks). x.destination) c.blocks-2.ensures in
-    let none = no_block c.blocks-2.result.destination (sym c.is_some.ensures ∙ c.if-is_some.false) in stays_idle (broom_view s) (own_blocks s) c.requires.filed (sym here ∙ none)
+    let none = no_block c.blocks-2.result.destination (sym c.is_some.ensures ∙ c.if-is_some.false) in
+    stays_idle (broom_view s) (own_blocks s) c.requires.filed (sym here ∙ none)
 
 pub returns-else-is_some-clause-blocks : goal.returns-else-is_some-clause-blocks
 returns-else-is_some-clause-blocks c = search rules

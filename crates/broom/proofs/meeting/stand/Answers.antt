@@ -18,7 +18,9 @@ take_in-requires-clause-lent c = lent (view_of_broom c.args.broom.now) (note_vie
 hosted : (c : After-get_word) → view_of c.take_in.new.pass ≡ host_of (view_of c.args.pass.now) (lent_note (view_of_broom c.args.broom.now))
 hosted c = c.take_in.ensures.told ∙ ap (host_of (view_of c.args.pass.now)) c.broom_lend-note.ensures.note.0
 
-spares : (c : After-get_word) → Spared (host_of (view_of c.args.pass.now) (lent_note (view_of_broom c.args.broom.now))) (page_in c.args.page c.args.generation) (carried (view_of_broom c.args.broom.now))
+spares : (c : After-get_word)
+    → Spared (host_of (view_of c.args.pass.now) (lent_note (view_of_broom c.args.broom.now))) (page_in c.args.page c.args.generation)
+    (carried (view_of_broom c.args.broom.now))
 spares c =
     let h = c.requires.pass in
     let same = hosted c in
@@ -30,7 +32,8 @@ give_back-note-requires-clause-guest c =
     let at = (goal.at.give_back-note-requires-clause-guest c).After-get_word in
     let v = view_of c.args.pass.now in
     let x = view_of_broom c.args.broom.now in
-    let t = stood_guest v x (page_in c.args.page c.args.generation) (named_pass v.role c.requires.pass.1.pass.role) (named_broom x.role c.requires.broom.rested.seat.role) (spares at) in
+    let t = stood_guest v x (page_in c.args.page c.args.generation) (named_pass v.role c.requires.pass.1.pass.role)
+    (named_broom x.role c.requires.broom.rested.seat.role) (spares at) in
     let same = c.get_word.ensures.same ∙ hosted at in (t.0, ap (λ (y : View). y.guest) same ∙ t.1, λ e. t.2 (sym (ap (λ (y : View). y.role) same) ∙ e))
 
 pub broom_come_home-requires-clause-given : goal.broom_come_home-requires-clause-given
@@ -39,7 +42,8 @@ broom_come_home-requires-clause-given c =
     let v = view_of c.args.pass.now in
     let x = view_of_broom c.args.broom.now in
     let note = c.give_back-note.ensures.note.0 ∙ ap given_note (c.get_word.ensures.same ∙ hosted at) in
-    let t = stood_given v x (page_in c.args.page c.args.generation) (named_pass v.role c.requires.pass.1.pass.role) (named_broom x.role c.requires.broom.rested.seat.role) (spares at) (note_view c.give_back-note.result) note in
+    let t = stood_given v x (page_in c.args.page c.args.generation) (named_pass v.role c.requires.pass.1.pass.role)
+    (named_broom x.role c.requires.broom.rested.seat.role) (spares at) (note_view c.give_back-note.result) note in
     let role = ap (λ (y : View). y.role) c.broom_lend-note.ensures.told in (t.0, t.1, role ∙ t.2, t.3, t.4, λ same. t.5 (sym role ∙ same))
 
 pub returns-clause-told : goal.returns-clause-told
@@ -52,7 +56,8 @@ returns-clause-told c =
     let came = c.broom_come_home.ensures.told ∙ (λ i. home (c.broom_lend-note.ensures.told i) ((c.give_back-note.ensures.note.0 ∙ ap given_note read) i)) in
     let looked = subst (λ (z : View). Named z 0 (sector_word c.broom_look.result) y) came c.broom_look.ensures.told in
     let t =
-    stood v x (page_in c.args.page c.args.generation) (named_pass v.role c.requires.pass.1.pass.role) (named_broom x.role c.requires.broom.rested.seat.role) (spares at) y c.broom_look.result c.requires.broom.rested.source
+    stood v x (page_in c.args.page c.args.generation) (named_pass v.role c.requires.pass.1.pass.role)
+    (named_broom x.role c.requires.broom.rested.seat.role) (spares at) y c.broom_look.result c.requires.broom.rested.source
     c.requires.broom.rested.whole looked c.requires.pass.1.alone in
     subst (λ (z : View). StoodTold v x (page_in c.args.page c.args.generation) z y) (sym (c.give_back-note.ensures.told ∙ ap giver read)) t
 

@@ -16,14 +16,16 @@ pages_are c = c.pages.ensures.value ∙ ap pages_of c.geometry.ensures
 pub close_destination-requires-clause-settled : goal.close_destination-requires-clause-settled
 close_destination-requires-clause-settled c =
     let is = opened (goal.at.close_destination-requires-clause-settled c).In-Some in
-    let g = c.requires.sweeps.1 in (c.in-Some.destination, is, close_can c.args.flash.now c.args.seat.now c.in-Some.destination is g.filed, (g.destination c.in-Some.destination is).low)
+    let g = c.requires.sweeps.1 in
+    (c.in-Some.destination, is, close_can c.args.flash.now c.args.seat.now c.in-Some.destination is g.filed, (g.destination c.in-Some.destination is).low)
 
 pub returns-then-destination-pages-clause-told : goal.returns-then-destination-pages-clause-told
 returns-then-destination-pages-clause-told c =
     let at = goal.at.returns-then-destination-pages-clause-told c in
     let o = c.in-Some.destination in
     let is = opened at.In-Some in
-    closed_tidied c.args.flash.now c.args.seat.now o is c.close_destination.new.broom (without o.block (broom_view c.args.seat.now).owns) (c.close_destination.ensures.told o is) c.close_destination.ensures.blocks
+    closed_tidied c.args.flash.now c.args.seat.now o is c.close_destination.new.broom (without o.block (broom_view c.args.seat.now).owns)
+    (c.close_destination.ensures.told o is) c.close_destination.ensures.blocks
     (let full = c.if-destination-pages.true in let pages = pages_are at.After-pages in omega (arith, full, pages))
 
 pub returns-then-destination-pages-clause-sweeps : goal.returns-then-destination-pages-clause-sweeps
@@ -31,13 +33,17 @@ returns-then-destination-pages-clause-sweeps c x =
     let at = goal.at.returns-then-destination-pages-clause-sweeps c in
     let o = c.in-Some.destination in
     let is = opened at.In-Some in
-    closed_sweeps c.args.flash.now c.args.seat.now o is c.close_destination.new.broom (without o.block (broom_view c.args.seat.now).owns) (c.close_destination.ensures.told o is) c.close_destination.ensures.blocks
+    closed_sweeps c.args.flash.now c.args.seat.now o is c.close_destination.new.broom (without o.block (broom_view c.args.seat.now).owns)
+    (c.close_destination.ensures.told o is) c.close_destination.ensures.blocks
     (let full = c.if-destination-pages.true in let pages = pages_are at.After-pages in omega (arith, full, pages)) x c.close_destination.ensures.broom
 
 pub returns-else-destination-pages-clause-told : goal.returns-else-destination-pages-clause-told
-returns-else-destination-pages-clause-told c = let at = goal.at.returns-else-destination-pages-clause-told c in left_tidied c.args.flash.now c.args.seat.now c.in-Some.destination (opened at.In-Some) (λ e. let pages = pages_are at.After-pages in c.if-destination-pages.false (omega (arith, e, pages)))
+returns-else-destination-pages-clause-told c = let at = goal.at.returns-else-destination-pages-clause-told c in
+    left_tidied c.args.flash.now c.args.seat.now c.in-Some.destination (opened at.In-Some)
+    (λ e. let pages = pages_are at.After-pages in c.if-destination-pages.false (omega (arith, e, pages)))
 
 pub returns-else-destination-pages-clause-sweeps : goal.returns-else-destination-pages-clause-sweeps
 returns-else-destination-pages-clause-sweeps c x =
     let at = goal.at.returns-else-destination-pages-clause-sweeps c in
-    left_sweeps c.args.flash.now c.args.seat.now c.in-Some.destination (opened at.In-Some) x (λ e. let pages = pages_are at.After-pages in c.if-destination-pages.false (omega (arith, e, pages)))
+    left_sweeps c.args.flash.now c.args.seat.now c.in-Some.destination (opened at.In-Some) x
+    (λ e. let pages = pages_are at.After-pages in c.if-destination-pages.false (omega (arith, e, pages)))

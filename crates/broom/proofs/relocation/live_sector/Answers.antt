@@ -7,7 +7,8 @@ use Rattle.flash_table.specs.Flash.{broom_view, geometry_of}
 use Rattle.flash_table.specs.declared.broom_seat.ReclaimedBlock.{ReclaimedBlock}
 use Rattle.broom.specs.Emptying.{victim_page}
 use Rattle.broom.specs.Relocating.{Sweeps, Relocated}
-use Rattle.broom.proofs.Sweeping.{Untouched, untouched_source, relocated_source, sweeps_on, page_fits, stamp_dead, callers_same, look_callers, look_live, look_dead, found_dead_then, found_live_then}
+use Rattle.broom.proofs.Sweeping.{Untouched, untouched_source, relocated_source, sweeps_on, page_fits, stamp_dead, callers_same}
+use Rattle.broom.proofs.Sweeping.{look_callers, look_live, look_dead, found_dead_then, found_live_then}
 use Rattle.broom.proofs.relocation.live_sector.Goals as goal
 use Rattle.broom.proofs.relocation.live_sector.Goals.{After-sectors, After-found}
 
@@ -21,7 +22,8 @@ returns-then-stamp-from-clause-told c =
     let sectors = sectors_are (goal.at.returns-then-stamp-from-clause-told c).After-sectors in
     let past = c.if-stamp-from.true in
     let from = c.from.ensures in
-    stamp_dead (broom_view c.args.seat.now) (broom_view c.get_stamp-stamp.new.broom) t.0 c.get_stamp-stamp.result (c.get_stamp-stamp.ensures.told t.0 t.1.draining) c.args.page (omega arith)
+    stamp_dead (broom_view c.args.seat.now) (broom_view c.get_stamp-stamp.new.broom) t.0 c.get_stamp-stamp.result
+    (c.get_stamp-stamp.ensures.told t.0 t.1.draining) c.args.page (omega arith)
 
 pub returns-then-stamp-from-clause-sweeps : goal.returns-then-stamp-from-clause-sweeps
 returns-then-stamp-from-clause-sweeps c x h =
@@ -31,11 +33,14 @@ returns-then-stamp-from-clause-sweeps c x h =
     let past = c.if-stamp-from.true in
     let from = c.from.ensures in
     let e = (c.get_stamp-stamp.ensures.told x h.draining).dead (omega arith) in
-    sweeps_on c.args.flash.now (pages_of (geometry_of c.args.flash.now)) c.args.seat.now c.get_stamp-stamp.new.broom x h c.get_stamp-stamp.ensures.broom c.get_stamp-stamp.ensures.blocks (ap (λ (y : View). y.work) e)
+    sweeps_on c.args.flash.now (pages_of (geometry_of c.args.flash.now)) c.args.seat.now c.get_stamp-stamp.new.broom x h
+    c.get_stamp-stamp.ensures.broom c.get_stamp-stamp.ensures.blocks (ap (λ (y : View). y.work) e)
     (callers_same v w None (v.cleared + 1) e h.callers)
 
 -- the stamp's sector is the device's, and the page is the source
-source_is : (c : After-found) → broom_view c.get_stamp-stamp.new.broom ≡ record (broom_view c.args.seat.now) { source = Some (record { page = c.args.page; stamp = c.get_stamp-stamp.result; value = None }) }
+source_is : (c : After-found)
+    → broom_view c.get_stamp-stamp.new.broom
+    ≡ record (broom_view c.args.seat.now) { source = Some (record { page = c.args.page; stamp = c.get_stamp-stamp.result; value = None }) }
 source_is c =
     let t = c.requires.next in
     let sectors = sectors_are (goal.at.After-found c).After-sectors in
@@ -47,10 +52,14 @@ source_is c =
 
 -- the part up to the look
 began : (c : After-found) → Relocated (broom_view c.args.seat.now) 0 (broom_view c.get_stamp-stamp.new.broom)
-began c = let v = broom_view c.args.seat.now in relocated_source v (broom_view c.get_stamp-stamp.new.broom) (Some (record { page = c.args.page; stamp = c.get_stamp-stamp.result; value = None })) v.cleared (source_is c)
+began c = let v = broom_view c.args.seat.now in
+    relocated_source v (broom_view c.get_stamp-stamp.new.broom) (Some (record { page = c.args.page; stamp = c.get_stamp-stamp.result; value = None }))
+    v.cleared (source_is c)
 
 alone : (c : After-found) → Untouched (broom_view c.args.seat.now) (broom_view c.get_stamp-stamp.new.broom)
-alone c = let v = broom_view c.args.seat.now in untouched_source v (broom_view c.get_stamp-stamp.new.broom) (Some (record { page = c.args.page; stamp = c.get_stamp-stamp.result; value = None })) v.cleared (source_is c)
+alone c = let v = broom_view c.args.seat.now in
+    untouched_source v (broom_view c.get_stamp-stamp.new.broom) (Some (record { page = c.args.page; stamp = c.get_stamp-stamp.result; value = None }))
+    v.cleared (source_is c)
 
 sweeping : (c : After-found) (x : ReclaimedBlock) → Sweeps c.args.flash.now c.args.seat.now x → Sweeps c.args.flash.now c.broom_look-named.new.broom x
 sweeping c x h =
@@ -59,7 +68,8 @@ sweeping c x h =
     let y = broom_view c.broom_look-named.new.broom in
     let e = source_is c in
     let look = c.broom_look-named.ensures in
-    sweeps_on c.args.flash.now (pages_of (geometry_of c.args.flash.now)) c.args.seat.now c.broom_look-named.new.broom x h look.broom (look.blocks ∙ c.get_stamp-stamp.ensures.blocks)
+    sweeps_on c.args.flash.now (pages_of (geometry_of c.args.flash.now)) c.args.seat.now c.broom_look-named.new.broom x h look.broom
+    (look.blocks ∙ c.get_stamp-stamp.ensures.blocks)
     (ap (λ (z : View). z.work) look.told.changed ∙ ap (λ (z : View). z.work) e) (look_callers w y c.get_stamp-stamp.result c.broom_look-named.result look.told)
 
 pub returns-then-found-clause-told : goal.returns-then-found-clause-told
@@ -74,7 +84,8 @@ returns-then-found-clause-told c =
     let from = c.from.ensures in
     let numbers : w.numbers.sectors ≡ v.numbers.sectors = ap (λ (z : View). z.numbers.sectors) e in
     found_live_then v w y c.args.page c.get_stamp-stamp.result (began at) (ap (λ (z : View). z.cleared) e) (alone at)
-    (look_live w y c.get_stamp-stamp.result c.broom_look-named.result c.broom_look-named.ensures.told c.args.page (ap (λ (z : View). z.source) e) (omega arith) c.if-found.ensures)
+    (look_live w y c.get_stamp-stamp.result c.broom_look-named.result c.broom_look-named.ensures.told c.args.page
+    (ap (λ (z : View). z.source) e) (omega arith) c.if-found.ensures)
 
 pub returns-then-found-clause-sweeps : goal.returns-then-found-clause-sweeps
 returns-then-found-clause-sweeps c = sweeping (goal.at.returns-then-found-clause-sweeps c).After-found
@@ -87,9 +98,11 @@ returns-else-found-clause-told c =
     let y = broom_view c.broom_look-named.new.broom in
     let e = source_is at in
     let t = c.requires.next in
-    let fits = subst FitsMap (sym t.2.0) (page_fits c.args.flash.now (pages_of (geometry_of c.args.flash.now)) c.args.seat.now t.0 c.args.page.page t.1 t.2.1) in
+    let fits = subst FitsMap (sym t.2.0)
+    (page_fits c.args.flash.now (pages_of (geometry_of c.args.flash.now)) c.args.seat.now t.0 c.args.page.page t.1 t.2.1) in
     found_dead_then v w y c.args.page (began at) (ap (λ (z : View). z.cleared) e) (alone at)
-    (look_dead w y c.get_stamp-stamp.result c.broom_look-named.result c.broom_look-named.ensures.told c.args.page (ap (λ (z : View). z.source) e) c.broom_look-named.ensures.fits fits c.if-found.ensures)
+    (look_dead w y c.get_stamp-stamp.result c.broom_look-named.result c.broom_look-named.ensures.told c.args.page
+    (ap (λ (z : View). z.source) e) c.broom_look-named.ensures.fits fits c.if-found.ensures)
 
 pub returns-else-found-clause-sweeps : goal.returns-else-found-clause-sweeps
 returns-else-found-clause-sweeps c = sweeping (goal.at.returns-else-found-clause-sweeps c).After-found

@@ -25,8 +25,10 @@ returns-then-index-pages-clause-told c =
     let h = c.requires.ready in
     let is = next_is (goal.at.returns-then-index-pages-clause-told c).In-Some in
     let low = next_low c.args.flash.now b c.in-Some.victim h is in
-    let count : get_or b.counts.items c.in-Some.victim 0 ≡ c.index.result.now = get_or_default b.counts.items c.in-Some.victim 0 c.index.result.now (let long = h.counts in omega arith) ∙ sym c.index.ensures in
-    let pages : c.pages-pages.result ≡ (view_of_broom b).numbers.pages = c.pages-pages.ensures.value ∙ (ap pages_of c.geometry.ensures ∙ ap (λ (z : Numbers). z.pages) (sym h.rested.seat.numbers)) in
+    let count : get_or b.counts.items c.in-Some.victim 0 ≡ c.index.result.now =
+    get_or_default b.counts.items c.in-Some.victim 0 c.index.result.now (let long = h.counts in omega arith) ∙ sym c.index.ensures in
+    let pages : c.pages-pages.result ≡ (view_of_broom b).numbers.pages =
+    c.pages-pages.ensures.value ∙ (ap pages_of c.geometry.ensures ∙ ap (λ (z : Numbers). z.pages) (sym h.rested.seat.numbers)) in
     let P : Option ℕ → Type 0 = λ o. IfSome o (λ block. get_or (counts_kept b) block 0 ≡ (view_of_broom b).numbers.pages) in
     let full = c.if-index-pages.true in
     let live : get_or b.counts.items c.in-Some.victim 0 ≡ (view_of_broom b).numbers.pages = omega arith in

@@ -15,9 +15,11 @@ loop-block-preserved c =
     let state = c.load_state-state.result in
     let told = c.load_state-state.ensures in
     let more =
-    loaded_more f v (own_blocks c.args.seat.now) c.loop-block.block c.loop-block.seat c.load_state-state.new.broom c.loop-block.states c.loop-block.closed state c.loop-block.invariant (omega arith) (omega arith) told.broom told.blocks
+    loaded_more f v (own_blocks c.args.seat.now) c.loop-block.block c.loop-block.seat c.load_state-state.new.broom c.loop-block.states
+    c.loop-block.closed state c.loop-block.invariant (omega arith) (omega arith) told.broom told.blocks
     (record { fits = told.fits; young = told.ranges.0; within = told.ranges.1 }) told.told in
-    let P : Bool → Type 0 = λ mark. LoadedTo f v (own_blocks c.args.seat.now) (c.loop-block.block + 1) c.load_state-state.new.broom (set c.loop-block.states c.loop-block.block state) (set c.loop-block.closed c.loop-block.block mark) in
+    let P : Bool → Type 0 = λ mark. LoadedTo f v (own_blocks c.args.seat.now) (c.loop-block.block + 1) c.load_state-state.new.broom
+    (set c.loop-block.states c.loop-block.block state) (set c.loop-block.closed c.loop-block.block mark) in
     subst P (sym c.is_closed.ensures) more
 
 pub returns-clause-told : goal.returns-clause-told
@@ -28,4 +30,5 @@ returns-clause-told c =
     let least = c.loop-block-test.false in
     let states = c.requires.states in
     let closed = c.requires.closed in
-    loaded_all f (broom_view c.args.seat.now) (own_blocks c.args.seat.now) c.loop-block.block c.loop-block.seat c.loop-block.states c.loop-block.closed c.loop-block.invariant (omega arith) (omega arith)
+    loaded_all f (broom_view c.args.seat.now) (own_blocks c.args.seat.now) c.loop-block.block c.loop-block.seat c.loop-block.states
+    c.loop-block.closed c.loop-block.invariant (omega arith) (omega arith)

@@ -8,7 +8,8 @@ pub returns-in_default : goal.returns-in_default
 returns-in_default g c =
     let told = c.drain_next-answer.ensures in
     record {
-      told = drained_none NextTold (λ b x told. told) _ c.args.broom.now c.relieve.new.broom c.drain_next-answer.new.broom c.drain_next-answer.result c.in_default.not-Drained c.if-not-relieve.ensures.told told.told told.queue;
+      told = drained_none NextTold (λ b x told. told) _ c.args.broom.now c.relieve.new.broom c.drain_next-answer.new.broom c.drain_next-answer.result
+          c.in_default.not-Drained c.if-not-relieve.ensures.told told.told told.queue;
       ready = told.ready;
       queued = still_queued c.args.queue.now c.relieve.new.broom c.drain_next-answer.new.broom told.queue c.relieve.ensures.queued;
     }
@@ -16,7 +17,8 @@ returns-in_default g c =
 pub returns-clause-told : goal.returns-clause-told
 returns-clause-told g c =
     let told = c.drain_next-answer.ensures in
-    drained_one NextTold _ c.args.broom.now c.relieve.new.broom c.drain_next-answer.new.broom c.hand_on.new.broom c.in-Drained.block c.in-Drained.copied c.drain_next-answer.result c.in-Drained.is c.if-not-relieve.ensures.told told.told told.queue c.hand_on.ensures.told
+    drained_one NextTold _ c.args.broom.now c.relieve.new.broom c.drain_next-answer.new.broom c.hand_on.new.broom c.in-Drained.block
+    c.in-Drained.copied c.drain_next-answer.result c.in-Drained.is c.if-not-relieve.ensures.told told.told told.queue c.hand_on.ensures.told
 
 pub relieve-requires : goal.relieve-requires
 relieve-requires g c = c.requires.queued
@@ -34,7 +36,8 @@ pub drain_next-answer-requires : goal.drain_next-answer-requires
 drain_next-answer-requires g c = still_at c.args.flash.now c.args.broom.now c.relieve.new.broom c.relieve.ensures.rest c.requires.ready
 
 pub hand_on-requires-clause-queued : goal.hand_on-requires-clause-queued
-hand_on-requires-clause-queued g c = still_queued c.args.queue.now c.relieve.new.broom c.drain_next-answer.new.broom c.drain_next-answer.ensures.queue c.relieve.ensures.queued
+hand_on-requires-clause-queued g c =
+    still_queued c.args.queue.now c.relieve.new.broom c.drain_next-answer.new.broom c.drain_next-answer.ensures.queue c.relieve.ensures.queued
 
 pub hand_on-requires-clause-aside : goal.hand_on-requires-clause-aside
 hand_on-requires-clause-aside g c = c.drain_next-answer.ensures.queue.aside ∙ c.if-not-relieve.ensures.told.none

@@ -7,7 +7,8 @@ pub returns-in_default-answer : goal.returns-in_default-answer
 returns-in_default-answer g c =
     let told = c.erase-answer.ensures in
     record {
-      told = erased_one _ c.args.broom.now c.fetch.new.broom c.erase-answer.new.broom c.in-Some.block c.erase-answer.result c.in_default-answer.not-Pinned c.in-Some.ensures.told told.told told.marks told.queue;
+      told = erased_one _ c.args.broom.now c.fetch.new.broom c.erase-answer.new.broom c.in-Some.block c.erase-answer.result
+          c.in_default-answer.not-Pinned c.in-Some.ensures.told told.told told.marks told.queue;
       ready = told.ready;
       queued = still_queued c.args.queue.now c.fetch.new.broom c.erase-answer.new.broom told.queue c.fetch.ensures.queued;
     }
@@ -15,7 +16,8 @@ returns-in_default-answer g c =
 pub returns-clause-told : goal.returns-clause-told
 returns-clause-told g c =
     let told = c.erase-answer.ensures in
-    pinned_one _ c.args.broom.now c.fetch.new.broom c.erase-answer.new.broom c.hand_on.new.broom c.in-Some.block c.erase-answer.result c.in-Pinned.is c.in-Some.ensures.told told.told told.marks told.queue c.hand_on.ensures.told
+    pinned_one _ c.args.broom.now c.fetch.new.broom c.erase-answer.new.broom c.hand_on.new.broom c.in-Some.block c.erase-answer.result c.in-Pinned.is
+    c.in-Some.ensures.told told.told told.marks told.queue c.hand_on.ensures.told
 
 pub fetch-requires-clause-queued : goal.fetch-requires-clause-queued
 fetch-requires-clause-queued g c = c.requires.queued
@@ -36,7 +38,8 @@ pub erase-answer-requires-clause-block : goal.erase-answer-requires-clause-block
 erase-answer-requires-clause-block g c = subst (λ n. c.in-Some.block < n) c.requires.limit c.in-Some.ensures.block
 
 pub hand_on-requires-clause-queued : goal.hand_on-requires-clause-queued
-hand_on-requires-clause-queued g c = still_queued c.args.queue.now c.fetch.new.broom c.erase-answer.new.broom c.erase-answer.ensures.queue c.fetch.ensures.queued
+hand_on-requires-clause-queued g c =
+    still_queued c.args.queue.now c.fetch.new.broom c.erase-answer.new.broom c.erase-answer.ensures.queue c.fetch.ensures.queued
 
 pub hand_on-requires-clause-aside : goal.hand_on-requires-clause-aside
 hand_on-requires-clause-aside g c = c.erase-answer.ensures.queue.aside ∙ c.in-Some.ensures.told.none

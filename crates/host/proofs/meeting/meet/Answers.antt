@@ -27,7 +27,8 @@ come_home-requires-clause-given c =
     let v' = view_of c.args.second.now in
     let hosted : view_of c.take_in.new.pass ≡ host_of v (lent_note v') = c.take_in.ensures.told ∙ ap (host_of v) c.lend-note.ensures.note.0 in
     let looked = subst (λ (x : View). Looked x 0 (sector_word c.look.result) (view_of c.look.new.pass)) hosted c.look.ensures.told in
-    let t = given v v' (view_of c.look.new.pass) _ c.requires.first.rested.pass.role c.requires.second.rested.pass.role looked (note_view c.give_back-note.result) c.give_back-note.ensures.note.0 in
+    let t = given v v' (view_of c.look.new.pass) _ c.requires.first.rested.pass.role c.requires.second.rested.pass.role looked
+    (note_view c.give_back-note.result) c.give_back-note.ensures.note.0 in
     let role : (view_of c.lend-note.new.pass).role ≡ (lender v').role = ap (λ (x : View). x.role) c.lend-note.ensures.told in
     (t.0, t.1, role ∙ t.2, t.3, t.4, λ same. t.5 (sym role ∙ same))
 
@@ -39,9 +40,11 @@ returns-clause-told c =
     let u = view_of c.look-2.new.pass in
     let hosted : view_of c.take_in.new.pass ≡ host_of v (lent_note v') = c.take_in.ensures.told ∙ ap (host_of v) c.lend-note.ensures.note.0 in
     let looked = subst (λ (x : View). Looked x 0 (sector_word c.look.result) w) hosted c.look.ensures.told in
-    let came : view_of c.come_home.new.pass ≡ home (lender v') (given_note w) = c.come_home.ensures.told ∙ (λ i. home (c.lend-note.ensures.told i) (c.give_back-note.ensures.note.0 i)) in
+    let came : view_of c.come_home.new.pass ≡ home (lender v') (given_note w) =
+    c.come_home.ensures.told ∙ (λ i. home (c.lend-note.ensures.told i) (c.give_back-note.ensures.note.0 i)) in
     let again = subst (λ (x : View). Looked x 0 (sector_word c.look-2.result) u) came c.look-2.ensures.told in
-    let t = told v v' w _ c.requires.first.rested.pass.role c.requires.second.rested.pass.role looked u _ c.requires.first.rested.alone c.requires.second.rested.whole again in
+    let t = told v v' w _ c.requires.first.rested.pass.role c.requires.second.rested.pass.role looked u _ c.requires.first.rested.alone
+    c.requires.second.rested.whole again in
     subst (λ (x : View). MetTold v v' x u) (sym c.give_back-note.ensures.told) t
 
 pub returns-clause-first : goal.returns-clause-first

@@ -17,7 +17,8 @@ take_in-requires-clause-lent c = lent (view_of c.args.other.now) (note_view c.le
 hosted : (c : After-get_word) → view_of c.take_in.new.pass ≡ host_of (view_of (pass_of c.args.held)) (lent_note (view_of c.args.other.now))
 hosted c = c.take_in.ensures.told ∙ ap (host_of (view_of (pass_of c.args.held))) c.lend-note.ensures.note.0
 
-spares : (c : After-get_word) → Spared (host_of (view_of (pass_of c.args.held)) (lent_note (view_of c.args.other.now))) (page_of c.args.held) (carried (view_of c.args.other.now))
+spares : (c : After-get_word)
+    → Spared (host_of (view_of (pass_of c.args.held)) (lent_note (view_of c.args.other.now))) (page_of c.args.held) (carried (view_of c.args.other.now))
 spares c =
     let h = c.requires.held in
     let same = hosted c in
@@ -27,7 +28,8 @@ spares c =
 pub give_back-note-requires-clause-guest : goal.give_back-note-requires-clause-guest
 give_back-note-requires-clause-guest c =
     let at = (goal.at.give_back-note-requires-clause-guest c).After-get_word in
-    let t = holds_guest (view_of (pass_of c.args.held)) (view_of c.args.other.now) (page_of c.args.held) c.requires.held.1.rested.pass.role c.requires.other.rested.pass.role (spares at) in
+    let t = holds_guest (view_of (pass_of c.args.held)) (view_of c.args.other.now)
+    (page_of c.args.held) c.requires.held.1.rested.pass.role c.requires.other.rested.pass.role (spares at) in
     let same = c.get_word.ensures.same ∙ hosted at in (t.0, ap (λ (y : View). y.guest) same ∙ t.1, λ e. t.2 (sym (ap (λ (y : View). y.role) same) ∙ e))
 
 pub come_home-requires-clause-given : goal.come_home-requires-clause-given
@@ -35,7 +37,8 @@ come_home-requires-clause-given c =
     let at = (goal.at.come_home-requires-clause-given c).After-get_word in
     let note = c.give_back-note.ensures.note.0 ∙ ap given_note (c.get_word.ensures.same ∙ hosted at) in
     let t =
-    holds_given (view_of (pass_of c.args.held)) (view_of c.args.other.now) (page_of c.args.held) c.requires.held.1.rested.pass.role c.requires.other.rested.pass.role (spares at) (note_view c.give_back-note.result) note in
+    holds_given (view_of (pass_of c.args.held)) (view_of c.args.other.now)
+    (page_of c.args.held) c.requires.held.1.rested.pass.role c.requires.other.rested.pass.role (spares at) (note_view c.give_back-note.result) note in
     let role = ap (λ (y : View). y.role) c.lend-note.ensures.told in (t.0, t.1, role ∙ t.2, t.3, t.4, λ same. t.5 (sym role ∙ same))
 
 pub returns-clause-told : goal.returns-clause-told
@@ -47,5 +50,6 @@ returns-clause-told c =
     let read = c.get_word.ensures.same ∙ hosted at in
     let came = c.come_home.ensures.told ∙ (λ i. home (c.lend-note.ensures.told i) ((c.give_back-note.ensures.note.0 ∙ ap given_note read) i)) in
     let looked = subst (λ (z : View). Looked z 0 (sector_word c.look.result) y) came c.look.ensures.told in
-    let t = met_holding v x (page_of c.args.held) c.requires.held.1.rested.pass.role c.requires.other.rested.pass.role (spares at) y _ c.requires.held.1.rested.alone c.requires.other.rested.whole looked in
+    let t = met_holding v x (page_of c.args.held) c.requires.held.1.rested.pass.role c.requires.other.rested.pass.role
+    (spares at) y _ c.requires.held.1.rested.alone c.requires.other.rested.whole looked in
     subst (λ (z : View). MetHolding v x (page_of c.args.held) z y) (sym (c.give_back-note.ensures.told ∙ ap giver read)) t

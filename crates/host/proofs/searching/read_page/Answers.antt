@@ -37,7 +37,8 @@ loop-i-preserved c =
           let room = c.requires.out in
           let below = c.loop-i-test.true in c.put_word.ensures.others k earlier (omega arith) ∙ inv.words value h k (omega arith));
       spared = λ _ value copy h is.
-          subst (λ (v : View). Spared v c.args.page copy) inv.same (c.get_word-word.ensures.spared value copy (ap (λ (v : View). v.pin) inv.same ∙ h.pinned) (ap (λ (v : View). v.copy) inv.same ∙ is));
+          subst (λ (v : View). Spared v c.args.page copy) inv.same
+          (c.get_word-word.ensures.spared value copy (ap (λ (v : View). v.pin) inv.same ∙ h.pinned) (ap (λ (v : View). v.copy) inv.same ∙ is));
     }
 
 pub returns-clause-spared : goal.returns-clause-spared

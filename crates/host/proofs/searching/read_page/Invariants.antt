@@ -15,5 +15,6 @@ invariant-loop-i l = record {
   opened : opened_of l.pass ≡ opened_of l.initial.pass;
   bytes : (k : ℕ) → get_or l.out k 0 < 2 ^ 8;
   words : (value : List ℕ) → IsPinned l.flash l.initial.pass l.page value → (k : ℕ) → k < l.i → word_of l.out k ≡ data_word value k;
-  spared : 0 < l.i → (value : List ℕ) (c : Carried) → IsPinned l.flash l.initial.pass l.page value → (view_of l.initial.pass).copy ≡ Some c → Spared (view_of l.initial.pass) l.page c;
+  spared : 0 < l.i → (value : List ℕ) (c : Carried) → IsPinned l.flash l.initial.pass l.page value → (view_of l.initial.pass).copy ≡ Some c
+      → Spared (view_of l.initial.pass) l.page c;
 }

@@ -15,11 +15,13 @@ opened : (c : In-Some) → opened_of c.args.pass.now ≡ Some c.in-Some.opened
 opened c = sym c.opened.ensures ∙ c.in-Some.is
 
 -- the open block has a page left
-room : (c : In-Some) → (c.in-Some.opened.block < blocks_of (geometry_of c.args.flash.now)) × (c.in-Some.opened.written < pages_of (geometry_of c.args.flash.now))
+room : (c : In-Some) → (c.in-Some.opened.block < blocks_of (geometry_of c.args.flash.now))
+    × (c.in-Some.opened.written < pages_of (geometry_of c.args.flash.now))
 room c =
     let f = c.args.flash.now in
     let t = c.requires.room in
-    let P : OpenBlock → Type 0 = λ x. (x.block < blocks_of (geometry_of f)) × (x.written < pages_of (geometry_of f)) in subst P (same_block t.0 c.in-Some.opened (opened_of c.args.pass.now) t.1 (opened c)) (t.2, t.3)
+    let P : OpenBlock → Type 0 = λ x. (x.block < blocks_of (geometry_of f)) × (x.written < pages_of (geometry_of f)) in
+    subst P (same_block t.0 c.in-Some.opened (opened_of c.args.pass.now) t.1 (opened c)) (t.2, t.3)
 
 pub page_start-start-requires-clause-block : goal.page_start-start-requires-clause-block
 page_start-start-requires-clause-block c = (room (goal.at.page_start-start-requires-clause-block c).In-Some).0
@@ -33,7 +35,8 @@ loop-i-init c o is = filling_none c.args.flash.now c.args.pass.now o c.args.byte
 pub loop-i-preserved : goal.loop-i-preserved
 loop-i-preserved c o is =
     let h = c.loop-i.invariant o is in
-    filling_more c.args.flash.now (view_of c.args.pass.now) o c.args.bytes.now c.loop-i.i _ c.loop-i.pass c.put_word.new.pass h c.put_word.ensures.pass c.put_word.ensures.opened
+    filling_more c.args.flash.now (view_of c.args.pass.now) o c.args.bytes.now c.loop-i.i _ c.loop-i.pass c.put_word.new.pass h
+    c.put_word.ensures.pass c.put_word.ensures.opened
     (c.put_word.ensures.told o h.opened) (omega (arith, c.word_at.ensures, word_is c.args.bytes.now c.loop-i.i))
 
 pub put_word-requires-clause-pass : goal.put_word-requires-clause-pass
@@ -47,7 +50,8 @@ put_word-requires-clause-next c =
     let h = c.loop-i.invariant o (opened here) in
     let left = room here in
     let words : c.words-words.result ≡ words_of (geometry_of f) = c.words-words.ensures.value ∙ ap words_of c.geometry.ensures in
-    let below = c.loop-i-test.true in (o, h.opened, filling_can f (view_of c.args.pass.now) o c.args.bytes.now c.loop-i.i c.loop-i.pass h left.1 (omega arith), sym h.long, left.0)
+    let below = c.loop-i-test.true in
+    (o, h.opened, filling_can f (view_of c.args.pass.now) o c.args.bytes.now c.loop-i.i c.loop-i.pass h left.1 (omega arith), sym h.long, left.0)
 
 pub put_word-requires-clause-start : goal.put_word-requires-clause-start
 put_word-requires-clause-start c o is =
@@ -57,13 +61,15 @@ put_word-requires-clause-start c o is =
     starts_same (numbers_of (geometry_of f)) c.page_start-start.result p o (opened_of c.loop-i.pass) c.page_start-start.ensures h.opened is
 
 -- all words of the value stand in the page
-full : (c : After-loop-i) (o : OpenBlock) → opened_of c.args.pass.now ≡ Some o → Filling c.args.flash.now (view_of c.args.pass.now) o c.args.bytes.now (words_of (geometry_of c.args.flash.now)) c.loop-i.pass
+full : (c : After-loop-i) (o : OpenBlock) → opened_of c.args.pass.now ≡ Some o
+    → Filling c.args.flash.now (view_of c.args.pass.now) o c.args.bytes.now (words_of (geometry_of c.args.flash.now)) c.loop-i.pass
 full c o is =
     let f = c.args.flash.now in
     let words : c.words-words.result ≡ words_of (geometry_of f) = c.words-words.ensures.value ∙ ap words_of c.geometry.ensures in
     let most = c.loop-i.auto.i-end in
     let least = c.loop-i-test.false in
-    let all : c.loop-i.i ≡ words_of (geometry_of f) = omega arith in subst (λ k. Filling f (view_of c.args.pass.now) o c.args.bytes.now k c.loop-i.pass) all (c.loop-i.invariant o is)
+    let all : c.loop-i.i ≡ words_of (geometry_of f) = omega arith in
+    subst (λ k. Filling f (view_of c.args.pass.now) o c.args.bytes.now k c.loop-i.pass) all (c.loop-i.invariant o is)
 
 pub put_word-requires-2-clause-pass : goal.put_word-requires-2-clause-pass
 put_word-requires-2-clause-pass c = (c.loop-i.invariant c.in-Some.opened (opened (goal.at.put_word-requires-2-clause-pass c).In-Some)).pass
@@ -116,7 +122,8 @@ returns-clause-filled c o is =
     let now = c.put_word-2.ensures.opened ∙ h.opened in
     let can = filled_can f (view_of c.args.pass.now) p c.args.bytes.now c.args.sector c.loop-i.pass c.put_word-2.new.pass h told c.put_word-2.ensures.opened in
     let counted = c.count.ensures.told p (put_work p c.loop-i.pass c.args.sector) now can in
-    let done = filled f (view_of c.args.pass.now) p c.args.bytes.now c.args.sector c.loop-i.pass c.put_word-2.new.pass h told (view_of c.count.new.pass) counted c.requires.page c.type_inv.bytes in
+    let done = filled f (view_of c.args.pass.now) p c.args.bytes.now c.args.sector c.loop-i.pass c.put_word-2.new.pass h told
+    (view_of c.count.new.pass) counted c.requires.page c.type_inv.bytes in
     let same = same_block p o (opened_of c.args.pass.now) here is in
     let page : OpenBlock → MapWord = λ x. next_page (owned_of x) in
     let P : OpenBlock → Type 0 = λ x. Filled (view_of c.args.pass.now) x c.args.sector c.args.bytes.now (page p) (view_of c.count.new.pass) in subst P same done

@@ -17,8 +17,11 @@ returns-clause-filled c =
           let t = starts_taken c.args.flash.now c.args.pass.now w.take_lowest.new.pass c.requires.pass none took.pass took.told in
           (t.0, subst (λ (p : Pass). Starts c.args.flash.now (view_of c.args.pass.now) p t.0) (sym w.pass-is) t.1)
       | else-is_none-via-else-is_none w ↦
-          let t = some_open (opened_of c.args.pass.now) (ap is_some (sym c.opened.ensures) ∙ w.if-is_none.ensures) in
-          (t.0, subst (λ (p : Pass). Starts c.args.flash.now (view_of c.args.pass.now) p t.0) (sym w.pass-is) (starts_open c.args.flash.now c.args.pass.now t.0 c.requires.pass t.1))
+          let t = some_open (opened_of c.args.pass.now) (ap is_some (sym c.opened.ensures) ∙ w.if-is_none.ensures) in (
+            t.0,
+            subst (λ (p : Pass). Starts c.args.flash.now (view_of c.args.pass.now) p t.0) (sym w.pass-is)
+                (starts_open c.args.flash.now c.args.pass.now t.0 c.requires.pass t.1),
+          )
     ] in
     record {
       start = c.else-is_none.pass;

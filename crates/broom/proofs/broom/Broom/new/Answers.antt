@@ -16,8 +16,11 @@ returns-clause-ready c f same rested =
       states = ap length c.in-Ok.ensures ∙ (length-replicate c.blocks-blocks.result _ ∙ blocks);
       counts = ap length c.in-Ok-row.ensures ∙ (length-replicate c.blocks-blocks.result _ ∙ blocks);
       closed = ap length c.in-Ok-row-2.ensures ∙ (length-replicate c.blocks-blocks.result _ ∙ blocks);
-      marks = let P : List Bool → Type 0 = λ l. AreMarked (device f) (broom_view c.args.seat) c.in-Ok.states.items l in subst P (sym c.in-Ok-row-2.ensures) (none_marked (device f) (broom_view c.args.seat) c.in-Ok.states.items c.blocks-blocks.result);
-      ranking = begun c.in-Ok-row.counts.items c.in-Ok-row-2.closed.items c.in-Ok-new.ranking (let long = ap (length {A = Bool}) c.in-Ok-row-2.ensures ∙ length-replicate c.blocks-blocks.result _ in let room = c.in-Ok-new.ensures.0 in omega arith) c.in-Ok-new.ensures.1;
+      marks = let P : List Bool → Type 0 = λ l. AreMarked (device f) (broom_view c.args.seat) c.in-Ok.states.items l in
+          subst P (sym c.in-Ok-row-2.ensures) (none_marked (device f) (broom_view c.args.seat) c.in-Ok.states.items c.blocks-blocks.result);
+      ranking = begun c.in-Ok-row.counts.items c.in-Ok-row-2.closed.items c.in-Ok-new.ranking
+          (let long = ap (length {A = Bool}) c.in-Ok-row-2.ensures ∙ length-replicate c.blocks-blocks.result _ in let room = c.in-Ok-new.ensures.0 in
+          omega arith) c.in-Ok-new.ensures.1;
     }
 
 pub returns-clause-unmarked : goal.returns-clause-unmarked

@@ -12,9 +12,15 @@ another-requires-clause-rule c = deals _ _ (ap (λ (v : Sight). v.role) c.loop.i
 
 pub loop-preserved : goal.loop-preserved
 loop-preserved c =
-    let IsDealt : QueuePass → Type 0 = λ p. IsPassOf c.in_ok-numbers.numbers p.port × (view p.port ≡ user_of (counter c.args.limit)) × (p.fulls ≡ 0) × (p.empties ≡ 0) in
-    let dealt : IsDealt c.new.result = search rules in
-    (search rules, search rules, search rules, search rules, rw c.push_reserved.ensures.items (All-push IsDealt c.loop.passes.items c.new.result c.loop.invariant.4 dealt))
+    let IsDealt : QueuePass → Type 0 = λ p. IsPassOf c.in_ok-numbers.numbers p.port × (view p.port ≡ user_of (counter c.args.limit)) × (p.fulls ≡ 0)
+    × (p.empties ≡ 0) in
+    let dealt : IsDealt c.new.result = search rules in (
+      search rules,
+      search rules,
+      search rules,
+      search rules,
+      rw c.push_reserved.ensures.items (All-push IsDealt c.loop.passes.items c.new.result c.loop.invariant.4 dealt),
+    )
 
 pub returns-clause-passes : goal.returns-clause-passes
 returns-clause-passes c = search rules

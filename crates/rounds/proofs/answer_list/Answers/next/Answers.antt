@@ -12,11 +12,13 @@ use Rattle.rounds.proofs.answer_list.Answers.next.Goals as goal
 within : (answers : Answers) (i : ℕ) → i < length (said_from answers.page_bytes answers.kinds.items answers.pages.items) → i < length answers.kinds.items
 within answers i low = subst (λ n. i < n) (said_long answers.page_bytes answers.kinds.items answers.pages.items) low
 
-there : (answers : Answers) (i : ℕ) (k : Kind) → i < length (said_from answers.page_bytes answers.kinds.items answers.pages.items) → k ≡ get_or answers.kinds.items i k → slice_get answers.kinds.items i ≡ Some k
+there : (answers : Answers) (i : ℕ) (k : Kind) → i < length (said_from answers.page_bytes answers.kinds.items answers.pages.items)
+    → k ≡ get_or answers.kinds.items i k → slice_get answers.kinds.items i ≡ Some k
 there answers i k low is = slice_get_read answers.kinds.items (length answers.kinds.items) i k refl (within answers i low) is
 
 pub index-kind-requires : goal.index-kind-requires
-index-kind-requires c = subst (λ n. c.args.cursor.now.line < n) (sym c.args.self.now.kinds.ok.0) (within c.args.self.now c.args.cursor.now.line c.requires.there)
+index-kind-requires c = subst (λ n. c.args.cursor.now.line < n) (sym c.args.self.now.kinds.ok.0)
+    (within c.args.self.now c.args.cursor.now.line c.requires.there)
 
 pub returns-in_default : goal.returns-in_default
 returns-in_default c =
@@ -28,7 +30,8 @@ returns-in_default c =
     let none = no_bytes n k c.in_default.not-Page in
     let till = (bytes_till n answers.kinds.items i k is).0 in
     record {
-      answer = said_at n answers.kinds.items answers.pages.items i k is ∙ ap (λ m. Some (record { kind = k; page = take m (drop (bytes_in n (take i answers.kinds.items)) answers.pages.items) })) none;
+      answer = said_at n answers.kinds.items answers.pages.items i k is
+          ∙ ap (λ m. Some (record { kind = k; page = take m (drop (bytes_in n (take i answers.kinds.items)) answers.pages.items) })) none;
       place = refl;
       at = c.requires.at ∙ sym (till ∙ (ap (λ m. bytes_in n (take i answers.kinds.items) + m) none ∙ add-zero _));
     }
@@ -42,7 +45,8 @@ overflow_add-cursor c =
     let small = answers.kinds.small in omega arith
 
 -- where the page of the answer ends
-page_end : (answers : Answers) (i : ℕ) (k : Kind) (page : ℕ) → slice_get answers.kinds.items i ≡ Some k → k ≡ kind.Page → page ≡ bytes_in answers.page_bytes (take i answers.kinds.items)
+page_end : (answers : Answers) (i : ℕ) (k : Kind) (page : ℕ) → slice_get answers.kinds.items i ≡ Some k → k ≡ kind.Page
+    → page ≡ bytes_in answers.page_bytes (take i answers.kinds.items)
     → (page + answers.page_bytes ≡ bytes_in answers.page_bytes (take (i + 1) answers.kinds.items)) × (page + answers.page_bytes ≤ length answers.pages.items)
 page_end answers i k page is tells at =
     let n = answers.page_bytes in

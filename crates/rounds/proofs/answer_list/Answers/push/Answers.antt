@@ -51,10 +51,12 @@ returns-in_default c =
     record {
       more =
           (λ i. said_from n (c.push_reserved.ensures.items i) (sym (append-nil old.pages.items) i))
-          ∙ (more ∙ (λ i. said_from n old.kinds.items old.pages.items ++ record { kind = k; page = take (none i) nothing } ∷ []) ∙ (λ i. said_from n old.kinds.items old.pages.items ++ record { kind = k; page = take (sym none i) c.args.page.now } ∷ []));
+          ∙ (more ∙ (λ i. said_from n old.kinds.items old.pages.items ++ record { kind = k; page = take (none i) nothing } ∷ [])
+          ∙ (λ i. said_from n old.kinds.items old.pages.items ++ record { kind = k; page = take (sym none i) c.args.page.now } ∷ []));
       page = refl;
       space = λ a b space. record {
-        kinds = (let room = space.kinds in let long = ap (length {A = Kind}) c.push_reserved.ensures.items in let cap = c.push_reserved.ensures.capacity in omega (arith, length_push old.kinds.items k));
+        kinds = (let room = space.kinds in let long = ap (length {A = Kind}) c.push_reserved.ensures.items in
+            let cap = c.push_reserved.ensures.capacity in omega (arith, length_push old.kinds.items k));
         pages = (let room = space.pages in omega (arith, none));
       };
     }
