@@ -10,7 +10,6 @@ use crate::lanes::{LANES, WIDE, are_digits, decode_block, digit_run};
 // How many blocks of digits are looked at one by one. Most data is short.
 const NEAR_BLOCKS: usize = 3;
 
-
 // The value of each byte as a digit, and 16 if it is none.
 #[rattlefmt::skip]
 static VALUES: [u8; 256] = [
