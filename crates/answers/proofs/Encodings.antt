@@ -1,42 +1,24 @@
 -- Digits of sixteen values at once.
-use Rattle.std.proofs.Common.{◌≡◌, ℕ, ◌+◌, ◌-◌, ◌*◌, ◌/◌, ◌%◌, ◌^◌, ◌<◌, ◌≤◌, true, cond, eqb, ltb, List, [], ◌∷◌, ◌++◌, map, length, slice_index, take, drop, replicate, bit_and, refl, sym, ap, ap₂, ◌∙◌, subst, arith, eqb-true, take-add, w8, Fits}
-use Rattle.std.proofs.lemmas.Bool.{agree_below_at}
+use Rattle.std.proofs.Common.{◌≡◌, ℕ, suc, ◌+◌, ◌-◌, ◌*◌, ◌/◌, ◌%◌, ◌^◌, ◌<◌, ◌≤◌, List, [], ◌∷◌, ◌++◌, map, length, slice_index, take, drop, replicate, bit_and, refl, sym, ap, ap₂, ◌∙◌, subst, arith, take-add, w8, Fits}
 use Rattle.std.proofs.lemmas.List.{append_assoc, append-nil, drop_all, length-drop, take-append-drop}
 use Rattle.std.proofs.lemmas.Nat.{and_mask, and_le_r}
-use Rattle.std.proofs.lemmas.Simd.{Each1-all, Each1-weaker, Each1-zip2, Each2-splat, below_from_Fits, pick_l_whole, take_more_put_chunk, length-put_chunk}
+use Rattle.std.proofs.lemmas.Simd.{Each1-all, Each1-weaker, Each1-zip2, Each2-splat, below_from_Fits, get_or-swz_l_below, pick_l_whole, swz_l, take_more_put_chunk, length-put_chunk}
 use Rattle.std.specs.List.{range_with_len}
 use borrow.Rule.Slice.PartMut.{put_mid}
-use lib.Lanes.{zip2, sel_l, top, pick_l, put_chunk, chunk, Each1}
+use lib.Lanes.{zip2, pick_l, put_chunk, chunk, Each1}
 use Rattle.hex.specs.Hex.{encode_with, encode_lower, lower_digits}
 use Rattle.answers.specs.Encoding.{AreValues, digit_of}
-
-abbrev pub plus : ℕ → ℕ → ℕ
-plus a b = (a + b) % 2 ^ 8
-
-abbrev pub is_above : ℕ → ℕ → ℕ
-is_above a b = cond (ltb a b) 255 0
 
 abbrev pub down : ℕ → ℕ → ℕ
 down a b = a / 2 ^ b
 
-abbrev lane : ℕ → ℕ
-lane value = plus (plus value 48) (cond (top 7 (is_above 9 value)) 39 0)
-
-lane_is : (value : ℕ) → value < 16 → lane value ≡ digit_of value
-lane_is value h = eqb-true _ _ (agree_below_at (λ v. eqb (lane v) (digit_of v)) (λ _. true) 16 value refl h)
-
--- the digits of as many values
-abbrev pub by_lanes : ℕ → List ℕ → List ℕ
-by_lanes n values =
-    zip2 plus (zip2 plus values (replicate n 48)) (sel_l (map (top 7) (zip2 is_above (replicate n 9) values)) (replicate n 39) (replicate n 0))
-
-lanes_are : (values : List ℕ) → AreValues values → by_lanes (length values) values ≡ map digit_of values
-lanes_are [] h = refl
-lanes_are (x ∷ xs) h = ap₂ (λ (d : ℕ) (ds : List ℕ). d ∷ ds) (lane_is x h.0) (lanes_are xs h.1)
-
--- the digits of sixteen values
-pub sixteen_are : (values : List ℕ) → length values ≡ 16 → AreValues values → by_lanes 16 values ≡ map digit_of values
-sixteen_are values long h = subst (λ n. by_lanes n values ≡ map digit_of values) long (lanes_are values h)
+-- the digits at the places of values, from a lane on
+pub picked : (at : ℕ) (values : List ℕ) → at + length values ≤ 16 → AreValues values → swz_l w8 16 lower_digits at values ≡ map digit_of values
+picked at [] few h = refl
+picked at (x ∷ xs) few h =
+    let first = get_or-swz_l_below w8 16 lower_digits at (x ∷ xs) 0 (omega arith) h.0 in
+    let place : 16 * ((at + 0) / 16) + x ≡ x = omega arith in
+    ap₂ (λ (d : ℕ) (ds : List ℕ). d ∷ ds) (first ∙ ap digit_of place) (picked (suc at) xs (omega arith) h.1)
 
 -- the high and the low four bits of bytes are values
 pub high_are : (v : List ℕ) → Each1 (Fits w8) v → AreValues (zip2 down v (replicate 16 4))

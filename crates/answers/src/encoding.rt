@@ -8,15 +8,16 @@ use std::simd::prelude::*;
 
 const LANES: usize = 16;
 
-// The digits of sixteen values.
+// The digit of each value.
+const DIGITS: [u8; LANES] = *b"0123456789abcdef";
+
+// The digits of sixteen values, by one lookup.
 #[inline(always)]
 fn digits_of(values: u8x16) -> u8x16
     requires { AreValues values }
     ensures { result ≡ map digit_of values }
 {
-    let letters = values.simd_gt(u8x16::splat(9));
-    let beyond = letters.select(u8x16::splat(b'a' - b'9' - 1), u8x16::splat(0));
-    values + u8x16::splat(b'0') + beyond
+    u8x16::from_array(DIGITS).swizzle_dyn(values)
 }
 
 // The digits of sixteen bytes.

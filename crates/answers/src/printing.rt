@@ -40,6 +40,7 @@ impl Lines {
     }
 
     /// Adds an answer line. `page` is the value that a read found.
+    #[inline(always)]
     pub fn answer(&mut self, line: u64, op: Op, sector: u32, reply: Reply, page: &[u8])
         requires page { reply ≡ replies.Page → page_digits_of self.old ≡ 2 * length page.now }
         requires room { length (waiting_of self.old) ≤ PIECE_BYTES }

@@ -5,7 +5,10 @@ ghost use Rattle.std.specs.Prelude.{◌≡◌, ◌*◌, ◌≤◌, length, unwra
 ghost use Rattle.hex.specs.Hex.{decode_of, hex_digit_value};
 ghost use Rattle.trace.specs.Digits.{EndsDigits, bytes_of};
 
-use crate::lanes::{LANES, decode_block, digit_run};
+use crate::lanes::{LANES, WIDE, are_digits, decode_block, digit_run};
+
+// How many blocks of digits are looked at one by one. Most data is short.
+const NEAR_BLOCKS: usize = 3;
 
 // The value of each byte as a digit, and 16 if it is none.
 #[rattlefmt::skip]
@@ -43,6 +46,29 @@ pub(crate) fn digits_end(text: &[u8], start: usize) -> usize
     ensures { EndsDigits text.now start result }
 {
     let mut at = start;
+    'near: for _ in 0..NEAR_BLOCKS {
+        if text.len() - at < LANES {
+            return far_digits_end(text, at);
+        }
+        let run = digit_run(text, at);
+        if run < LANES {
+            return at + run;
+        }
+        at += LANES;
+    }
+    far_digits_end(text, at)
+}
+
+// The same for many digits. A function of its own leaves the caller its registers.
+#[inline(never)]
+fn far_digits_end(text: &[u8], start: usize) -> usize
+    requires { start ≤ length text.now }
+    ensures { EndsDigits text.now start result }
+{
+    let mut at = start;
+    'wide: while text.len() - at >= WIDE && are_digits(text, at) {
+        at += WIDE;
+    }
     'blocks: while text.len() - at >= LANES {
         let run = digit_run(text, at);
         if run < LANES {

@@ -1,12 +1,16 @@
 // Sixteen bytes of a text at once.
 
-ghost use Rattle.std.specs.Prelude.{◌≡◌, ◌+◌, ◌*◌, ◌≤◌, length, map};
+ghost use Rattle.std.specs.Prelude.{◌≡◌, ℕ, ◌+◌, ◌*◌, ◌<◌, ◌≤◌, true, length, map, slice_index};
+ghost use Rattle.hex.specs.Hex.{is_hex_digit};
 ghost use Rattle.trace.specs.Lanes.{Decodes, IsBlock, IsDigitRun, IsRun, digit_lane, first_set};
 
 use std::simd::prelude::*;
 
 /// How many bytes are compared at once.
 pub(crate) const LANES: usize = 16;
+
+/// How many bytes of a long row of digits are looked at before it is asked whether one of them is no digit.
+pub(crate) const WIDE: usize = 4 * LANES;
 
 // The place of the lowest bit that is set.
 #[inline(always)]
@@ -42,6 +46,18 @@ pub(crate) fn digit_run(text: &[u8], at: usize) -> usize
     let not_decimal = (bytes - u8x16::splat(b'0')).simd_ge(u8x16::splat(10));
     let no_letter = ((bytes | u8x16::splat(0x20)) - u8x16::splat(b'a')).simd_ge(u8x16::splat(6));
     first_set((not_decimal & no_letter).to_bitmask())
+}
+
+/// Whether all of the next bytes are digits.
+#[inline(always)]
+pub(crate) fn are_digits(text: &[u8], at: usize) -> bool
+    requires { at + WIDE ≤ length text.now }
+    ensures { result ≡ true → (k : ℕ) → at ≤ k → k < at + WIDE → is_hex_digit (slice_index text.now k) ≡ true }
+{
+    digit_run(text, at) == LANES
+        && digit_run(text, at + LANES) == LANES
+        && digit_run(text, at + 2 * LANES) == LANES
+        && digit_run(text, at + 3 * LANES) == LANES
 }
 
 // The values of digits.

@@ -65,21 +65,27 @@ fn line_start(text: &[u8], at: usize) -> usize
     if has(text, at, b'\n') { at + 1 } else { at }
 }
 
-// The number that begins here, if it is below the bound and a comma ends it.
+// The number that begins here, if it is below the bound and a comma ends it. A number near the end of the text is not
+// usual, so that the loop has always the same steps, which the compiler writes out.
 #[inline(always)]
 fn usual_number(text: &[u8], start: usize, bound: u32) -> Option<Number>
     requires { start ≤ length text.now }
     ensures { IfSome result (IsNumber text.now start bound) }
 {
-    let near = text.len().min(start + MAX_DIGITS + 1);
+    if text.len() - start <= MAX_DIGITS {
+        return None;
+    }
     let mut value = 0;
-    for end in start..near {
-        let byte = text[end];
+    for i in 0..MAX_DIGITS + 1 {
+        let byte = text[start + i];
         if !byte.is_ascii_digit() {
-            if byte != b',' || end == start || value >= bound {
+            if byte != b',' || i == 0 || value >= bound {
                 return None;
             }
-            return Some(Number { value, end });
+            return Some(Number {
+                value,
+                end: start + i,
+            });
         }
         value = 10 * value + u32::from(byte - b'0');
     }
