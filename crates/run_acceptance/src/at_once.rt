@@ -1,5 +1,5 @@
 //! Workers run at the same time.
-use crate::saying::expect;
+use crate::assertions::expect;
 use crate::shared_text::text_of;
 use flash_table::{Gate, Point};
 use std::sync::atomic::{AtomicBool, Ordering};

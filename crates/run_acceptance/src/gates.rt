@@ -1,8 +1,10 @@
 //! Each thread of a run asks the gate that has its number: first the workers, then the brooms.
-use crate::saying::expect;
+use crate::assertions::expect;
+use crate::run::{small, tally_of};
 use crate::shared_text::text_of;
 use crate::visits::{NO_VISITS, Visits};
 use std::test::Fail;
+use workers::Tally;
 
 // A write yields at each sixteenth of its tries, so even on a busy machine a broom runs long before the last one.
 const PATIENCE: u32 = 10_000_000;
@@ -117,5 +119,35 @@ fn the_broom_asks_the_gate_behind_the_workers(rt: HostRuntime) -> Result<(), Fai
         &gates,
     );
     expect(&rt, is_by_broom(&gates[2]), &gates);
+    Ok(())
+}
+
+// Whether a broom's gate was asked before each of its claims, each move and each erase.
+fn is_asked_each_time(visits: &Visits, done: &Tally) -> bool {
+    visits.claims == done.drained.wrapping_add(done.lost)
+        && visits.moves >= done.moved
+        && visits.erases >= done.erased
+        && done.drained > 0
+        && done.erased > 0
+}
+
+// The broom drains up to four blocks by one survey. Most blocks have no page in use when it looks at them.
+#[test]
+fn each_drain_of_a_run_asks_the_gate_of_its_broom(rt: HostRuntime) -> Result<(), Fail> {
+    let mut trace = String::new(rt.alloc());
+    for _ in 0..500 {
+        trace.push_str("0,write,0,41\n")?;
+    }
+    let mut gates = [
+        NO_VISITS,
+        Visits {
+            number: 1,
+            ..NO_VISITS
+        },
+    ];
+    let geometry = small(24, 1, 1)?;
+    let done = tally_of(&rt, &geometry, trace.as_bytes(), PATIENCE, &mut gates)?;
+    let done = done.ok_or("no broom")?;
+    expect(&rt, is_asked_each_time(&gates[1], &done), &(gates, done));
     Ok(())
 }

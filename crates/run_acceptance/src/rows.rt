@@ -1,6 +1,6 @@
 //! Rows whose answers are the same in every schedule, and a trace whose answers are not.
+use crate::assertions::expect;
 use crate::run::{answers_of, play_freely, small};
-use crate::saying::expect;
 use rounds::{Answer, Kind};
 use std::test::Fail;
 
@@ -120,10 +120,10 @@ fn a_later_round_reads_what_an_earlier_one_left(rt: HostRuntime) -> Result<(), F
     let trace =
         b"0,write,0,41\n0,meet,0,\n0,write,0,42\n1,write,0,43\n0,meet,0,\n0,read,0,\n1,read,0,\n2,read,0,\n".as_slice();
     for _ in 0..40 {
-        let told = answers_of(&rt, &small(8, 3, 1)?, trace, 1000000)?;
-        let first = told.as_str() == "empty written C | written C | C | ";
-        let second = told.as_str() == "empty written B | written B | B | ";
-        expect(&rt, first || second, &told);
+        let answer_words = answers_of(&rt, &small(8, 3, 1)?, trace, 1000000)?;
+        let first = answer_words.as_str() == "empty written C | written C | C | ";
+        let second = answer_words.as_str() == "empty written B | written B | B | ";
+        expect(&rt, first || second, &answer_words);
     }
     Ok(())
 }
@@ -137,7 +137,7 @@ fn count_done(row: &[Answer]) -> usize {
 
 // There are ten pages, so a block was erased and used again.
 #[test]
-fn a_broom_wins_room_for_a_worker(rt: HostRuntime) -> Result<(), Fail> {
+fn a_broom_frees_blocks_for_a_worker(rt: HostRuntime) -> Result<(), Fail> {
     let trace = repeated(&rt, "0,write,0,41\n", 14)?;
     let rows = play_freely(&rt, &small(5, 1, 1)?, trace.as_bytes(), 10000000)?;
     for row in &rows {

@@ -10,7 +10,7 @@ use std::test::Fail;
 use std::thread::Threads;
 use std::time::Clock;
 use trace::Watched;
-use workers::{RoundFault, RunEnd, play_commands};
+use workers::{RunEnd, Tally, play_commands};
 
 // How many blocks a broom drains by one survey.
 const DRAINS: u32 = 4;
@@ -33,29 +33,52 @@ fn listed(alloc: Global, row: &Answers) -> Result<Vec<Answer>, Fail> {
 }
 
 /// Plays a trace, with these gates.
-pub(crate) fn play<R: Threads + Wait + Clock + Sync + Abort + AllocGlobal, G: Gate + Send>(
+fn play_all<R: Threads + Wait + Clock + Sync + Abort + AllocGlobal, G: Gate + Send>(
     rt: &R,
     geometry: &Geometry,
     trace: &[u8],
     patience: u32,
     gates: &mut [G],
-) -> Result<Result<Vec<Vec<Answer>>, RoundFault>, Fail> {
+) -> Result<RunEnd, Fail> {
     let commands = read_commands(rt.alloc(), &mut Watched::new(trace), geometry)?;
     let Ok(commands) = Arc::new(rt.alloc(), commands) else {
         panic!(rt; "memory")
     };
     assert!(rt; geometry.hosts() > 0);
     assert!(rt; gates.len() == geometry.hosts() as usize + geometry.brooms() as usize);
-    let alloc = rt.alloc();
-    let rows = match play_commands(rt, alloc, geometry, &commands, patience, DRAINS, gates) {
-        Ok(RunEnd { rows, brooms: _ }) => rows,
-        Err(fault) => return Ok(Err(fault)),
-    };
-    let mut answers = Vec::new(alloc);
+    let end = play_commands(rt, rt.alloc(), geometry, &commands, patience, DRAINS, gates)?;
+    Ok(end)
+}
+
+/// The answers of the workers to a trace, with these gates.
+fn play<R: Threads + Wait + Clock + Sync + Abort + AllocGlobal, G: Gate + Send>(
+    rt: &R,
+    geometry: &Geometry,
+    trace: &[u8],
+    patience: u32,
+    gates: &mut [G],
+) -> Result<Vec<Vec<Answer>>, Fail> {
+    let RunEnd { rows, brooms: _ } = play_all(rt, geometry, trace, patience, gates)?;
+    let mut answers = Vec::new(rt.alloc());
     for row in &rows {
-        answers.push(listed(alloc, row)?)?;
+        answers.push(listed(rt.alloc(), row)?)?;
     }
-    Ok(Ok(answers))
+    Ok(answers)
+}
+
+/// What the first broom has done beside the workers of a trace, if there is one, with these gates.
+pub(crate) fn tally_of<R: Threads + Wait + Clock + Sync + Abort + AllocGlobal, G: Gate + Send>(
+    rt: &R,
+    geometry: &Geometry,
+    trace: &[u8],
+    patience: u32,
+    gates: &mut [G],
+) -> Result<Option<Tally>, Fail> {
+    let RunEnd { rows: _, brooms } = play_all(rt, geometry, trace, patience, gates)?;
+    for broom in &brooms {
+        return Ok(Some(broom.tally));
+    }
+    Ok(None)
 }
 
 /// Plays a trace with gates that do nothing.
@@ -67,11 +90,11 @@ pub(crate) fn play_freely<R: Threads + Wait + Clock + Sync + Abort + AllocGlobal
 ) -> Result<Vec<Vec<Answer>>, Fail> {
     let count = geometry.hosts() as usize + geometry.brooms() as usize;
     let mut gates = vec![in rt.alloc(); NoGate; count]?;
-    Ok(play(rt, geometry, trace, patience, &mut gates)??)
+    play(rt, geometry, trace, patience, &mut gates)
 }
 
 // Adds a word for an answer: that of a page is its first byte, which is a letter.
-fn tell(text: &mut String, answer: &Answer) -> Result<(), Fail> {
+fn push_word(text: &mut String, answer: &Answer) -> Result<(), Fail> {
     match answer.kind {
         Kind::Empty => text.push_str("empty ")?,
         Kind::Written => text.push_str("written ")?,
@@ -88,11 +111,11 @@ fn tell(text: &mut String, answer: &Answer) -> Result<(), Fail> {
 }
 
 /// The answers of the workers: a word for each line, and a bar after each worker's.
-pub(crate) fn told(alloc: Global, rows: &[Vec<Answer>]) -> Result<String, Fail> {
+pub(crate) fn answer_words(alloc: Global, rows: &[Vec<Answer>]) -> Result<String, Fail> {
     let mut text = String::new(alloc);
     for row in rows {
         for answer in row {
-            tell(&mut text, answer)?;
+            push_word(&mut text, answer)?;
         }
         text.push_str("| ")?;
     }
@@ -107,5 +130,5 @@ pub(crate) fn answers_of<R: Threads + Wait + Clock + Sync + Abort + AllocGlobal>
     patience: u32,
 ) -> Result<String, Fail> {
     let rows = play_freely(rt, geometry, trace, patience)?;
-    told(rt.alloc(), &rows)
+    answer_words(rt.alloc(), &rows)
 }

@@ -1,0 +1,106 @@
+//! The text of each fault, as it is printed.
+use crate::assertions::expect;
+use ftl_one::{NewOneFault, WornOut};
+use geometry::GeometryFault;
+use host::{NewFault, NoBlock};
+use player::{RunFault, TraceFault, TraceFaultKind};
+use std::alloc::{AllocError, Global};
+use std::fmt::Display;
+use std::test::Fail;
+use uses::NotStored;
+use workers::RoundFault;
+
+const OF_GEOMETRY: [(GeometryFault, &str); 9] = [
+    (GeometryFault::Luns, "Luns"),
+    (GeometryFault::Blocks, "Blocks"),
+    (GeometryFault::Pages, "Pages"),
+    (GeometryFault::Words, "Words"),
+    (GeometryFault::Sectors, "Sectors"),
+    (GeometryFault::Endurance, "Endurance"),
+    (GeometryFault::Passes, "Passes"),
+    (GeometryFault::TooManyWords, "TooManyWords"),
+    (GeometryFault::TooFewBlocks, "TooFewBlocks"),
+];
+
+const OF_TRACES: [(TraceFaultKind, &str); 10] = [
+    (TraceFaultKind::Fields, "Fields"),
+    (TraceFaultKind::Worker, "Worker"),
+    (TraceFaultKind::Op, "Op"),
+    (TraceFaultKind::Sector, "Sector"),
+    (TraceFaultKind::Hex, "Hex"),
+    (TraceFaultKind::TooLong, "TooLong"),
+    (TraceFaultKind::Unused, "Unused"),
+    (TraceFaultKind::Read, "Read"),
+    (TraceFaultKind::Memory, "Memory"),
+    (TraceFaultKind::Big, "Big"),
+];
+
+const OF_LINE_TWO: TraceFault = TraceFault {
+    line: 2,
+    kind: TraceFaultKind::Sector,
+};
+
+const OF_RUNS: [(RunFault, &str); 4] = [
+    (RunFault::Trace(OF_LINE_TWO), "line 2: Sector"),
+    (RunFault::Memory, "memory: refused"),
+    (RunFault::Threads, "threads: refused"),
+    (RunFault::Output, "output: failed"),
+];
+
+const OF_ROUNDS: [(RoundFault, &str); 2] = [
+    (RoundFault::Memory, "memory: refused"),
+    (RoundFault::Threads, "threads: refused"),
+];
+
+const OF_NEW: [(NewFault, &str); 2] = [
+    (NewFault::NoBlock, "every block is taken"),
+    (NewFault::Written, "the sector is written"),
+];
+
+const OF_NEW_ONE: [(NewOneFault, &str); 2] = [
+    (NewOneFault::WornOut, "no page is left to write"),
+    (NewOneFault::Written, "the sector is written"),
+];
+
+const OF_STORING: [(NotStored, &str); 2] = [
+    (NotStored::Memory(AllocError), "out of memory"),
+    (NotStored::WornOut(WornOut), "no page is left to write"),
+];
+
+// Whether each of these faults is printed as the text beside it.
+fn print<F: Display>(alloc: Global, faults: &[(F, &str)]) -> Result<bool, Fail> {
+    for (fault, text) in faults {
+        if format!(in alloc; "{fault}")?.as_str() != *text {
+            return Ok(false);
+        }
+    }
+    Ok(true)
+}
+
+#[test]
+fn each_fault_prints_its_text(rt: HostRuntime) -> Result<(), Fail> {
+    let alloc = rt.alloc();
+    expect(&rt, print(alloc, &OF_GEOMETRY)?, &"geometry");
+    expect(&rt, print(alloc, &OF_TRACES)?, &"traces");
+    expect(
+        &rt,
+        print(alloc, &[(OF_LINE_TWO, "line 2: Sector")])?,
+        &"a trace",
+    );
+    expect(&rt, print(alloc, &OF_RUNS)?, &"runs");
+    expect(&rt, print(alloc, &OF_ROUNDS)?, &"rounds");
+    expect(&rt, print(alloc, &OF_NEW)?, &"writes of an empty sector");
+    expect(&rt, print(alloc, &OF_NEW_ONE)?, &"the same by one thread");
+    expect(&rt, print(alloc, &OF_STORING)?, &"storing");
+    expect(
+        &rt,
+        print(alloc, &[(WornOut, "no page is left to write")])?,
+        &"writes by one thread",
+    );
+    expect(
+        &rt,
+        print(alloc, &[(NoBlock, "every block is taken")])?,
+        &"writes",
+    );
+    Ok(())
+}
