@@ -3,7 +3,6 @@ ghost use Rattle.geometry.specs.History.{Call, Trim, Begins, held};
 ghost use Rattle.geometry.specs.History as call;
 ghost use Rattle.geometry.specs.Sectors.{Answers};
 ghost use Rattle.geometry.specs.declared.answer.Got.{Got};
-ghost use Rattle.geometry.specs.declared.answer.Got.TheVariants as got;
 ghost use Rattle.geometry.specs.declared.answer.Was.{Was};
 ghost use Rattle.flash_rule.specs.declared.carried.Carried.{Carried};
 ghost use Rattle.flash_rule.specs.declared.view.View.{View};
@@ -17,19 +16,19 @@ ghost use Rattle.uses.specs.Standing.{HasNoErase};
 ghost use Rattle.volume.specs.Correct.{Answer, Asked, Correct, Found, Known, Read, Replaced, Write};
 ghost use Rattle.volume.specs.LeavesArray.{LeavesArray};
 ghost use Rattle.volume.specs.Undisturbed.{AreEarlier, Undisturbed};
-ghost use Rattle.laws.specs.Steps.{ProgramsApart, StaysAt, erase_in, knows, two_times, wrote_two};
+ghost use Rattle.laws.specs.Steps.{ProgramsApart, ReadsPage, StaysAt, erase_in, knows, two_times, wrote_two};
 
 /// What a step of an array of sectors is, and what is none.
 pub fn steps_of_an_array()
     // A read of a value that the pass itself wrote.
-    ensures reads { (t : ℕ) (x old : List ℕ) → let k = knows (call.Write t 0 x ∷ []) in Correct 1 t (Read 0) (Found got.Data old x) k k }
+    ensures reads { (t : ℕ) (x old : List ℕ) → let k = knows (call.Write t 0 x ∷ []) in ReadsPage t old x k k }
 
     // A read is answered by the array at the end of what its pass has seen, which begins with all that it had seen.
     ensures read { (n t s : ℕ) (g : Got) (old new : List ℕ) (v w : Known) → Correct n t (Read s) (Found g old new) v w → Answers (held n w.seen s) g old new }
     ensures later { (n t : ℕ) (asked : Asked) (answer : Answer) (v w : Known) → Correct n t asked answer v w → Begins v.seen w.seen }
 
     // So a value that was overwritten before can't be read.
-    ensures stale { (t : ℕ) (x y old : List ℕ) (w : Known) → ¬ (x ≡ y) → w.seen ≡ (wrote_two t x y).seen → ¬ Correct 1 t (Read 0) (Found got.Data old x) (wrote_two t x y) w }
+    ensures stale { (t : ℕ) (x y old : List ℕ) (w : Known) → ¬ (x ≡ y) → w.seen ≡ (wrote_two t x y).seen → ¬ ReadsPage t old x (wrote_two t x y) w }
 
     // A write is the last call that its pass has seen, and is its own, once.
     ensures wrote { (t : ℕ) (x : List ℕ) (a : Was) (v w : Known) → Correct 1 t (Write 0 x) (Replaced a) v w → held 1 w.seen 0 ≡ Some x }
