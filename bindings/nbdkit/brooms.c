@@ -9,8 +9,12 @@
 #include <stdio.h>
 #include <stdlib.h>
 #include <string.h>
+#include <sys/resource.h>
 
-enum { DRAINS_OF_A_SURVEY = 64 };
+enum {
+    DRAINS_OF_A_SURVEY = 64,
+    HEAD_START = 10, // how many nice values a broom's thread is below those of the requests
+};
 
 int brooms_begin(struct brooms *brooms, const struct options *options, struct stock *stock, struct mintlintel_seat *seats) {
     *brooms = (struct brooms){.stock = stock, .count = options->brooms, .blocks = options->blocks};
@@ -155,6 +159,9 @@ static void *sweep(void *argument) {
     char name[16];
     snprintf(name, sizeof name, "broom-%" PRIu32, broom->number);
     pthread_setname_np(pthread_self(), name);
+    // Writes wait for this thread, and if many go on at once, they would take the processors from it. Linux sets the nice value of a thread alone.
+    // Without the right to do so the value stays.
+    setpriority(PRIO_PROCESS, 0, getpriority(PRIO_PROCESS, 0) - HEAD_START);
     uint64_t known;
     while (stock_begin_round(stock, broom->number, &known)) {
         int was_fruitful = erase_drained(broom);
