@@ -12,7 +12,8 @@ module _ (z k : Numbers) (same : k ≡ z) (slots id : ℕ) (me : Sitter) where
   at_place_with A f told word place x y is equal law = let P : Numbers × ℕ × A → Type 0 = λ t. Allows (Ruled t.0) slots id me t.1 (f t.2) (told t.1 t.2) in
       subst P (λ i. (sym same i, sym is i, sym equal i)) law
 
-  pub at_place : (f : ℕ → ℕ) (told : ℕ → ℕ → Sitter → Type 0) (word place : ℕ) → word ≡ place → Allows (Ruled z) slots id me place f (told place) → Allows (Ruled k) slots id me word f (told word)
+  pub at_place : (f : ℕ → ℕ) (told : ℕ → ℕ → Sitter → Type 0) (word place : ℕ) → word ≡ place → Allows (Ruled z) slots id me place f (told place)
+      → Allows (Ruled k) slots id me word f (told word)
   at_place f told word place is law = at_place_with ℕ (λ _. f) (λ w _. told w) word place 0 0 is refl law
 
   -- a step at a place that the code doesn't compute

@@ -39,7 +39,8 @@ module _ (x : BroomBlocks) (owns : List Owned) (h : OwnsJust (blocks_list x) own
 
   with_spare : (o : OpenBlock) → x.spare ≡ Some o → OwnsJust (owned_list x.destination ++ owned_of o ∷ reclaimed_list x.reclaiming) owns
   with_spare o is =
-      let there : OwnsJust (row x.destination (Some o) (reclaimed_list x.reclaiming)) owns = subst (λ s. OwnsJust (row x.destination s (reclaimed_list x.reclaiming)) owns) is h in
+      let there : OwnsJust (row x.destination (Some o) (reclaimed_list x.reclaiming)) owns =
+      subst (λ s. OwnsJust (row x.destination s (reclaimed_list x.reclaiming)) owns) is h in
       subst (λ l. OwnsJust l owns) (sym (middle x.destination (owned_of o) (reclaimed_list x.reclaiming))) there
 
   with_reclaiming : (r : Reclaiming) → x.reclaiming ≡ r → OwnsJust (row x.destination x.spare (reclaimed_list r)) owns
@@ -60,7 +61,8 @@ module _ (x : BroomBlocks) (owns : List Owned) (h : OwnsJust (blocks_list x) own
   -- a broom that drains and erases nothing has open blocks alone
   pub all_open : x.reclaiming ≡ reclaiming.Nothing → (b : ℕ) (o : Owned) → owned_at b owns ≡ Some o → o.phase ≡ Open
   all_open is b o at = opens x.destination x.spare b o (sym ((with_reclaiming reclaiming.Nothing is).same b) ∙ at) where
-    found : (y : OpenBlock) (os : List Owned) (b : ℕ) (o : Owned) → owned_at b (owned_of y ∷ os) ≡ Some o → (owned_at b os ≡ Some o → o.phase ≡ Open) → o.phase ≡ Open
+    found : (y : OpenBlock) (os : List Owned) (b : ℕ) (o : Owned) → owned_at b (owned_of y ∷ os) ≡ Some o → (owned_at b os ≡ Some o → o.phase ≡ Open)
+        → o.phase ≡ Open
     found y os b o at behind =
         dite (ℕ_discrete b y.block)
         (λ same. sym (ap (λ (p : Owned). p.phase) (some_same (owned_of y) o (sym (at_first (owned_of y) os b same) ∙ at))))
@@ -73,17 +75,22 @@ module _ (x : BroomBlocks) (owns : List Owned) (h : OwnsJust (blocks_list x) own
     opens (Some y) (Some z) b o at = found y (owned_of z ∷ []) b o at (λ e. found z [] b o e (λ e. absurd (none_some o e)))
 
   -- ---- what each step makes of them
-  pub counted_just : (o e : OpenBlock) → x.destination ≡ Some o → e.block ≡ o.block → OwnsJust (blocks_list (record x { destination = Some e })) (with_owned (owned_of e) owns)
+  pub counted_just : (o e : OpenBlock) → x.destination ≡ Some o → e.block ≡ o.block
+      → OwnsJust (blocks_list (record x { destination = Some e })) (with_owned (owned_of e) owns)
   counted_just o e is block = just_set [] (owned_list x.spare ++ reclaimed_list x.reclaiming) owns (owned_of o) (owned_of e) block (with_destination o is)
 
   pub closed_just : (o : OpenBlock) → x.destination ≡ Some o → OwnsJust (blocks_list (record x { destination = None })) (without o.block owns)
   closed_just o is = just_without [] (owned_list x.spare ++ reclaimed_list x.reclaiming) owns (owned_of o) (with_destination o is)
 
-  pub claimed_just : (o : ReclaimedBlock) → x.reclaiming ≡ reclaiming.Nothing → owned_at o.block owns ≡ None → OwnsJust (blocks_list (record x { reclaiming = reclaiming.Draining o })) (with_owned (reclaimed_as Victim o) owns)
-  claimed_just o is fresh = just_with (owned_list x.destination ++ owned_list x.spare) [] owns (reclaimed_as Victim o) fresh (with_reclaiming reclaiming.Nothing is)
+  pub claimed_just : (o : ReclaimedBlock) → x.reclaiming ≡ reclaiming.Nothing → owned_at o.block owns ≡ None
+      → OwnsJust (blocks_list (record x { reclaiming = reclaiming.Draining o })) (with_owned (reclaimed_as Victim o) owns)
+  claimed_just o is fresh =
+      just_with (owned_list x.destination ++ owned_list x.spare) [] owns (reclaimed_as Victim o) fresh (with_reclaiming reclaiming.Nothing is)
 
-  pub condemned_just : (o : ReclaimedBlock) → x.reclaiming ≡ reclaiming.Nothing → owned_at o.block owns ≡ None → OwnsJust (blocks_list (record x { reclaiming = reclaiming.Erasing o })) (with_owned (reclaimed_as Erasing o) owns)
-  condemned_just o is fresh = just_with (owned_list x.destination ++ owned_list x.spare) [] owns (reclaimed_as Erasing o) fresh (with_reclaiming reclaiming.Nothing is)
+  pub condemned_just : (o : ReclaimedBlock) → x.reclaiming ≡ reclaiming.Nothing → owned_at o.block owns ≡ None
+      → OwnsJust (blocks_list (record x { reclaiming = reclaiming.Erasing o })) (with_owned (reclaimed_as Erasing o) owns)
+  condemned_just o is fresh =
+      just_with (owned_list x.destination ++ owned_list x.spare) [] owns (reclaimed_as Erasing o) fresh (with_reclaiming reclaiming.Nothing is)
 
   pub spared_just : (e : OpenBlock) → x.spare ≡ None → owned_at e.block owns ≡ None → OwnsJust (blocks_list (record x { spare = Some e })) (owned_of e ∷ owns)
   spared_just e none fresh =
@@ -91,19 +98,23 @@ module _ (x : BroomBlocks) (owns : List Owned) (h : OwnsJust (blocks_list x) own
       let there : OwnsJust (row x.destination None r) owns = subst (λ s. OwnsJust (row x.destination s r) owns) none h in
       let bare : OwnsJust (owned_list x.destination ++ r) owns = subst (λ l. OwnsJust l owns) (parted x.destination r) there in
       let more : OwnsJust (owned_list x.destination ++ owned_of e ∷ r) (owned_of e ∷ owns) =
-      subst (λ l. OwnsJust (owned_list x.destination ++ owned_of e ∷ r) (owned_of e ∷ l)) (stays_without e.block owns fresh) (just_with (owned_list x.destination) r owns (owned_of e) fresh bare) in
+      subst (λ l. OwnsJust (owned_list x.destination ++ owned_of e ∷ r) (owned_of e ∷ l)) (stays_without e.block owns fresh)
+      (just_with (owned_list x.destination) r owns (owned_of e) fresh bare) in
       subst (λ l. OwnsJust l (owned_of e ∷ owns)) (middle x.destination (owned_of e) r) more
 
-  pub drained_just : (o : ReclaimedBlock) → x.reclaiming ≡ reclaiming.Draining o → OwnsJust (blocks_list (record x { reclaiming = reclaiming.Nothing })) (without o.block owns)
+  pub drained_just : (o : ReclaimedBlock) → x.reclaiming ≡ reclaiming.Draining o
+      → OwnsJust (blocks_list (record x { reclaiming = reclaiming.Nothing })) (without o.block owns)
   drained_just o is = just_without (owned_list x.destination ++ owned_list x.spare) [] owns (reclaimed_as Victim o) (with_reclaiming (reclaiming.Draining o) is)
 
-  pub erased_just : (o : ReclaimedBlock) → x.reclaiming ≡ reclaiming.Erasing o → OwnsJust (blocks_list (record x { reclaiming = reclaiming.Nothing })) (without o.block owns)
+  pub erased_just : (o : ReclaimedBlock) → x.reclaiming ≡ reclaiming.Erasing o
+      → OwnsJust (blocks_list (record x { reclaiming = reclaiming.Nothing })) (without o.block owns)
   erased_just o is = just_without (owned_list x.destination ++ owned_list x.spare) [] owns (reclaimed_as Erasing o) (with_reclaiming (reclaiming.Erasing o) is)
 
   pub kept_just : (o : ReclaimedBlock) (e : OpenBlock) → x.reclaiming ≡ reclaiming.Erasing o → x.spare ≡ None → e.block ≡ o.block
       → OwnsJust (blocks_list (record x { spare = Some e; reclaiming = reclaiming.Nothing })) (with_owned (owned_of e) owns)
   kept_just o e is none block =
-      let there : OwnsJust (row x.destination None (reclaimed_as Erasing o ∷ [])) owns = subst (λ s. OwnsJust (row x.destination s (reclaimed_as Erasing o ∷ [])) owns) none (with_reclaiming (reclaiming.Erasing o) is) in
+      let there : OwnsJust (row x.destination None (reclaimed_as Erasing o ∷ [])) owns =
+      subst (λ s. OwnsJust (row x.destination s (reclaimed_as Erasing o ∷ [])) owns) none (with_reclaiming (reclaiming.Erasing o) is) in
       subst (λ l. OwnsJust l (with_owned (owned_of e) owns)) (last x.destination (owned_of e))
       (just_set (owned_list x.destination ++ []) [] owns (reclaimed_as Erasing o) (owned_of e) block there)
 
@@ -113,6 +124,9 @@ owns_none : (owns : List Owned) → ((b : ℕ) → owned_at b owns ≡ None) →
 owns_none [] none = refl
 owns_none (o ∷ os) none = absurd (none_some o (sym (none o.block) ∙ at_first o os o.block refl))
 
-pub owns_nothing : (x : BroomBlocks) (owns : List Owned) → OwnsJust (blocks_list x) owns → x.destination ≡ None → x.spare ≡ None → x.reclaiming ≡ reclaiming.Nothing → owns ≡ []
+pub owns_nothing : (x : BroomBlocks) (owns : List Owned) → OwnsJust (blocks_list x) owns → x.destination ≡ None → x.spare ≡ None
+    → x.reclaiming ≡ reclaiming.Nothing → owns ≡ []
 owns_nothing x owns h destination spare rested =
-    let bare : OwnsJust [] owns = subst (λ (y : BroomBlocks). OwnsJust (blocks_list y) owns) (λ i. record { destination = destination i; spare = spare i; reclaiming = rested i }) h in owns_none owns bare.same
+    let bare : OwnsJust [] owns =
+    subst (λ (y : BroomBlocks). OwnsJust (blocks_list y) owns)
+    (λ i. record { destination = destination i; spare = spare i; reclaiming = rested i }) h in owns_none owns bare.same

@@ -26,10 +26,13 @@ pub record Deals (f : Flash) (dealer : Seat (Unit {0}) View) (passes : List Pass
   pub owns : dealer.me.0.owns ≡ spares (device f).brooms ((device f).blocks - (device f).brooms)
   pub each : (k : ℕ) (p : Pass) → slice_get passes k ≡ Some p → IsPassOf f p × (view_of p ≡ first_view (device f) k) × (opened_of p ≡ None)
 
-pub deal_here : (z k : Numbers) (same : k ≡ z) (id : ℕ) (v : View) → v.role ≡ Dealer → v.passes < v.numbers.hosts → Splits (Ruled k) id v (dealt_pass v) (new_pass v)
-deal_here z k same id v role room = let P : Numbers → Type 0 = λ x. Splits (Ruled x) id v (dealt_pass v) (new_pass v) in subst P (sym same) (deals_pass z id v role room)
+pub deal_here : (z k : Numbers) (same : k ≡ z) (id : ℕ) (v : View) → v.role ≡ Dealer → v.passes < v.numbers.hosts
+    → Splits (Ruled k) id v (dealt_pass v) (new_pass v)
+deal_here z k same id v role room = let P : Numbers → Type 0 = λ x. Splits (Ruled x) id v (dealt_pass v) (new_pass v) in
+    subst P (sym same) (deals_pass z id v role room)
 
-pub deals_next : (f : Flash) (before after : Seat (Unit {0}) View) (passes : List Pass) (p : Pass) (t : ℕ) → Deals f before passes t → after.table_id ≡ before.table_id → after.me.0 ≡ dealt_pass before.me.0
+pub deals_next : (f : Flash) (before after : Seat (Unit {0}) View) (passes : List Pass) (p : Pass) (t : ℕ) → Deals f before passes t
+    → after.table_id ≡ before.table_id → after.me.0 ≡ dealt_pass before.me.0
     → p.seat.table_id ≡ before.table_id → view_of p ≡ new_pass before.me.0 → opened_of p ≡ None → Deals f after (passes ++ p ∷ []) (t + 1)
 deals_next f before after passes p t h table now seat view closed =
     record {
@@ -45,7 +48,11 @@ deals_next f before after passes p t h table now seat view closed =
           (λ (new : (k ≡ length passes) × (p ≡ q)).
           let place : t ≡ k = sym (new.0 ∙ h.long) in
           let first : view_of p ≡ first_view (device f) t = view ∙ (λ i. first_view (h.numbers i) (h.count i)) in
-          let its : IsPassOf f p = record { table = seat ∙ h.table; role = ap (λ (v : View). is_pass v.role) view; numbers = ap (λ (v : View). v.numbers) view ∙ h.numbers } in
+          let its : IsPassOf f p = record {
+            table = seat ∙ h.table;
+            role = ap (λ (v : View). is_pass v.role) view;
+            numbers = ap (λ (v : View). v.numbers) view ∙ h.numbers;
+          } in
           let P : ℕ × Pass → Type 0 = λ x. IsPassOf f x.1 × (view_of x.1 ≡ first_view (device f) x.0) × (opened_of x.1 ≡ None) in
           let now : P (t, p) = (its, first, closed) in subst P (λ i. (place i, new.1 i)) now)
           (get_last passes p q k is);
@@ -60,10 +67,12 @@ pub record DealsBrooms (f : Flash) (dealer : Seat (Unit {0}) View) (brooms : Lis
   pub numbers : dealer.me.0.numbers ≡ device f
   pub owns : dealer.me.0.owns ≡ spares ((device f).brooms - t) (spare_of (device f) t)
   pub long : length brooms ≡ t
-  pub each : (k : ℕ) (b : BroomSeat) → slice_get brooms k ≡ Some b → IsBroomOf f b × (broom_view b ≡ first_broom (device f) k) × (own_blocks b ≡ first_blocks (device f) k)
+  pub each : (k : ℕ) (b : BroomSeat) → slice_get brooms k ≡ Some b → IsBroomOf f b × (broom_view b ≡ first_broom (device f) k)
+      × (own_blocks b ≡ first_blocks (device f) k)
 
 -- once all passes are dealt, no broom is
-pub no_broom_yet : (f : Flash) (dealer : Seat (Unit {0}) View) (passes : List Pass) (t : ℕ) (brooms : List BroomSeat) → Deals f dealer passes t → brooms ≡ [] → DealsBrooms f dealer brooms 0
+pub no_broom_yet : (f : Flash) (dealer : Seat (Unit {0}) View) (passes : List Pass) (t : ℕ) (brooms : List BroomSeat) → Deals f dealer passes t
+    → brooms ≡ [] → DealsBrooms f dealer brooms 0
 no_broom_yet f dealer passes t brooms h empty =
     record {
       table = h.table;
@@ -81,7 +90,8 @@ no_broom_yet f dealer passes t brooms h empty =
     first : (device f).blocks - (device f).brooms ≡ spare_of (device f) 0
     first = omega arith
 
-module _ (z : Numbers) (v : View) (t : ℕ) (numbers : v.numbers ≡ z) (count : v.brooms ≡ t) (owns : v.owns ≡ spares (z.brooms - t) (spare_of z t)) (more : t < z.brooms) where
+module _ (z : Numbers) (v : View) (t : ℕ) (numbers : v.numbers ≡ z) (count : v.brooms ≡ t) (owns : v.owns ≡ spares (z.brooms - t) (spare_of z t))
+    (more : t < z.brooms) where
   next_is : next_spare v ≡ spare_of z t
   next_is i = spare_of (numbers i) (count i)
 
@@ -90,19 +100,25 @@ module _ (z : Numbers) (v : View) (t : ℕ) (numbers : v.numbers ≡ z) (count :
 
   -- the dealer owns the next broom's spare
   pub next_owned : owned_at (next_spare v) v.owns ≡ Some (spare (next_spare v))
-  next_owned = (λ i. owned_at (next_is i) ((owns ∙ ap (λ n. spares n (spare_of z t)) one_more) i)) ∙ (first_spare (z.brooms - (t + 1)) (spare_of z t) ∙ ap (λ b. Some (spare b)) (sym next_is))
+  next_owned = (λ i. owned_at (next_is i) ((owns ∙ ap (λ n. spares n (spare_of z t)) one_more) i))
+      ∙ (first_spare (z.brooms - (t + 1)) (spare_of z t) ∙ ap (λ b. Some (spare b)) (sym next_is))
 
   -- and then those of the brooms behind it
   pub others_owned : without (next_spare v) v.owns ≡ spares (z.brooms - (t + 1)) (spare_of z (t + 1))
   others_owned =
       let behind : spare_of z t + 1 ≡ spare_of z (t + 1) = omega arith in
-      (λ i. without (next_is i) ((owns ∙ ap (λ n. spares n (spare_of z t)) one_more) i)) ∙ (other_spares (z.brooms - (t + 1)) (spare_of z t) ∙ ap (λ b. spares (z.brooms - (t + 1)) b) behind)
+      (λ i. without (next_is i) ((owns ∙ ap (λ n. spares n (spare_of z t)) one_more) i))
+      ∙ (other_spares (z.brooms - (t + 1)) (spare_of z t) ∙ ap (λ b. spares (z.brooms - (t + 1)) b) behind)
 
-pub deal_broom_here : (z k : Numbers) (same : k ≡ z) (id : ℕ) (v : View) → v.role ≡ Dealer → owned_at (next_spare v) v.owns ≡ Some (spare (next_spare v)) → Splits (Ruled k) id v (dealt_broom v) (new_broom v)
-deal_broom_here z k same id v role has = let P : Numbers → Type 0 = λ x. Splits (Ruled x) id v (dealt_broom v) (new_broom v) in subst P (sym same) (deals_broom z id v role has)
+pub deal_broom_here : (z k : Numbers) (same : k ≡ z) (id : ℕ) (v : View) → v.role ≡ Dealer
+    → owned_at (next_spare v) v.owns ≡ Some (spare (next_spare v)) → Splits (Ruled k) id v (dealt_broom v) (new_broom v)
+deal_broom_here z k same id v role has = let P : Numbers → Type 0 = λ x. Splits (Ruled x) id v (dealt_broom v) (new_broom v) in
+    subst P (sym same) (deals_broom z id v role has)
 
-pub deals_next_broom : (f : Flash) (before after : Seat (Unit {0}) View) (brooms : List BroomSeat) (b : BroomSeat) (t : ℕ) → DealsBrooms f before brooms t → t < (device f).brooms → after.table_id ≡ before.table_id
-    → after.me.0 ≡ dealt_broom before.me.0 → b.seat.table_id ≡ before.table_id → broom_view b ≡ new_broom before.me.0 → own_blocks b ≡ first_blocks (device f) t → DealsBrooms f after (brooms ++ b ∷ []) (t + 1)
+pub deals_next_broom : (f : Flash) (before after : Seat (Unit {0}) View) (brooms : List BroomSeat) (b : BroomSeat) (t : ℕ)
+    → DealsBrooms f before brooms t → t < (device f).brooms → after.table_id ≡ before.table_id
+    → after.me.0 ≡ dealt_broom before.me.0 → b.seat.table_id ≡ before.table_id → broom_view b ≡ new_broom before.me.0
+    → own_blocks b ≡ first_blocks (device f) t → DealsBrooms f after (brooms ++ b ∷ []) (t + 1)
 deals_next_broom f before after brooms b t h more table now seat view blocks =
     record {
       table = table ∙ h.table;
@@ -116,8 +132,14 @@ deals_next_broom f before after brooms b t h more table now seat view blocks =
           (λ (new : (k ≡ length brooms) × (b ≡ q)).
           let place : t ≡ k = sym (new.0 ∙ h.long) in
           let first : broom_view b ≡ first_broom (device f) t = view ∙ (λ i. first_broom (h.numbers i) (h.count i)) in
-          let its : IsBroomOf f b = record { table = seat ∙ h.table; role = (before.me.0.brooms, ap (λ (v : View). v.role) view); numbers = ap (λ (v : View). v.numbers) view ∙ h.numbers } in
-          let P : ℕ × BroomSeat → Type 0 = λ x. IsBroomOf f x.1 × (broom_view x.1 ≡ first_broom (device f) x.0) × (own_blocks x.1 ≡ first_blocks (device f) x.0) in
+          let its : IsBroomOf f b =
+          record {
+            table = seat ∙ h.table;
+            role = (before.me.0.brooms, ap (λ (v : View). v.role) view);
+            numbers = ap (λ (v : View). v.numbers) view ∙ h.numbers;
+          } in
+          let P : ℕ × BroomSeat → Type 0 =
+          λ x. IsBroomOf f x.1 × (broom_view x.1 ≡ first_broom (device f) x.0) × (own_blocks x.1 ≡ first_blocks (device f) x.0) in
           let now : P (t, b) = (its, first, blocks) in subst P (λ i. (place i, new.1 i)) now)
           (get_last brooms b q k is);
     }

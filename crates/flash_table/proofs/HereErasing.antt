@@ -22,24 +22,30 @@ module _ (z k : Numbers) (same : k ≡ z) (slots id : ℕ) (me : Sitter) where
   pub condemn_here : (word b old : ℕ) (p : PinWord) → word ≡ pin_index z b → old ≡ pin_word p → is_broom me.0.role ≡ true → CanCondemn me.0 b p
       → Allows (Ruled k) slots id me word (λ n. either (n == old) (old + NEXT_PHASE) n) (condemn_told (step slots word old (old + NEXT_PHASE) none) me)
   condemn_here word b old p is packed broom can =
-      at_place_with z k same slots id me ℕ (λ x n. either (n == x) (x + NEXT_PHASE) n) (λ w x. condemn_told (step slots w x (x + NEXT_PHASE) none) me) word (pin_index z b) old (pin_word p) is packed (condemn_allowed z slots id me b p broom can)
+      at_place_with z k same slots id me ℕ (λ x n. either (n == x) (x + NEXT_PHASE) n)
+      (λ w x. condemn_told (step slots w x (x + NEXT_PHASE) none) me) word (pin_index z b) old (pin_word p) is packed
+      (condemn_allowed z slots id me b p broom can)
 
   pub wipe_here : (word : ℕ) (o : Owned) → word ≡ page_index z o.block 0 + me.0.wiped → is_player me.0.role ≡ true → me.0.numbers ≡ z → CanWipe me.0 o
       → Allows (Ruled k) slots id me word (λ _. blank_word) (λ _. wipe_told (step slots word blank_word 0 none) me blank_word)
   wipe_here word o is player numbers can =
-      at_place z k same slots id me (λ _. blank_word) (λ w _. wipe_told (step slots w blank_word 0 none) me blank_word) word (page_index z o.block 0 + me.0.wiped) is (wipe_allowed z slots id me o player numbers can)
+      at_place z k same slots id me (λ _. blank_word) (λ w _. wipe_told (step slots w blank_word 0 none) me blank_word) word
+      (page_index z o.block 0 + me.0.wiped) is (wipe_allowed z slots id me o player numbers can)
 
   pub freed_here : (word added : ℕ) (o : Owned) → word ≡ pin_index z o.block → added ≡ freed_added o.written → CanRenew me.0 o
       → Allows (Ruled k) slots id me word (λ n. (n + added) % 2 ^ 64) (freed_told (step slots word added 0 none) me)
   freed_here word added o is adds can =
-      at_place_with z k same slots id me ℕ (λ x n. (n + x) % 2 ^ 64) (λ w x. freed_told (step slots w x 0 none) me) word (pin_index z o.block) added (freed_added o.written) is adds (freed_allowed z slots id me o can)
+      at_place_with z k same slots id me ℕ (λ x n. (n + x) % 2 ^ 64) (λ w x. freed_told (step slots w x 0 none) me) word (pin_index z o.block) added
+      (freed_added o.written) is adds (freed_allowed z slots id me o can)
 
   pub kept_here : (word added : ℕ) (o : Owned) → word ≡ pin_index z o.block → added ≡ kept_added o.written → CanRenew me.0 o
       → Allows (Ruled k) slots id me word (λ n. (n + added) % 2 ^ 64) (kept_told (step slots word added 0 none) me)
   kept_here word added o is adds can =
-      at_place_with z k same slots id me ℕ (λ x n. (n + x) % 2 ^ 64) (λ w x. kept_told (step slots w x 0 none) me) word (pin_index z o.block) added (kept_added o.written) is adds (kept_allowed z slots id me o can)
+      at_place_with z k same slots id me ℕ (λ x n. (n + x) % 2 ^ 64) (λ w x. kept_told (step slots w x 0 none) me) word (pin_index z o.block) added
+      (kept_added o.written) is adds (kept_allowed z slots id me o can)
 
   pub retired_here : (word : ℕ) (o : Owned) → word ≡ pin_index z o.block → CanRetire me.0 o
       → Allows (Ruled k) slots id me word (λ n. (n + NEXT_PHASE) % 2 ^ 64) (retired_told (step slots word NEXT_PHASE 0 none) me)
   retired_here word o is can =
-      at_place z k same slots id me (λ n. (n + NEXT_PHASE) % 2 ^ 64) (λ w. retired_told (step slots w NEXT_PHASE 0 none) me) word (pin_index z o.block) is (retired_allowed z slots id me o can)
+      at_place z k same slots id me (λ n. (n + NEXT_PHASE) % 2 ^ 64) (λ w. retired_told (step slots w NEXT_PHASE 0 none) me) word
+      (pin_index z o.block) is (retired_allowed z slots id me o can)

@@ -60,7 +60,8 @@ moved (x ∷ xs) ys o b fresh =
     (λ same. at_first x (xs ++ o ∷ ys) b same ∙ (sym (at_first x (xs ++ ys) b same) ∙ sym (past_first o (x ∷ xs ++ ys) b (λ e. t.0 (sym e ∙ same)))))
     (λ unlike.
     past_first x (xs ++ o ∷ ys) b unlike
-    ∙ (there ∙ dite (ℕ_discrete b o.block) (λ same. at_first o (xs ++ ys) b same ∙ sym (at_first o (x ∷ xs ++ ys) b same)) (λ other. past_first o (xs ++ ys) b other ∙ (sym (past_first x (xs ++ ys) b unlike) ∙ sym (past_first o (x ∷ xs ++ ys) b other)))))
+    ∙ (there ∙ dite (ℕ_discrete b o.block) (λ same. at_first o (xs ++ ys) b same ∙ sym (at_first o (x ∷ xs ++ ys) b same))
+    (λ other. past_first o (xs ++ ys) b other ∙ (sym (past_first x (xs ++ ys) b unlike) ∙ sym (past_first o (x ∷ xs ++ ys) b other)))))
 
 to_front : (xs ys owns : List Owned) (o : Owned) → OwnsJust (xs ++ o ∷ ys) owns → OwnsJust (o ∷ xs ++ ys) owns
 to_front xs ys owns o h = let apart = out xs ys o h.apart in record { same = λ b. h.same b ∙ moved xs ys o b apart.0; apart = apart }
@@ -80,7 +81,8 @@ just_set xs ys owns o e block h =
     from_front xs ys (with_owned e owns) e (record {
       same = λ b. dite (ℕ_discrete b e.block)
           (λ same. ap (λ c. owned_at c (with_owned e owns)) same ∙ (with_here e owns ∙ sym (at_first e (xs ++ ys) b same)))
-          (λ unlike. with_else e b owns unlike ∙ (f.same b ∙ (past_first o (xs ++ ys) b (λ s. unlike (s ∙ sym block)) ∙ sym (past_first e (xs ++ ys) b unlike))));
+          (λ unlike. with_else e b owns unlike
+          ∙ (f.same b ∙ (past_first o (xs ++ ys) b (λ s. unlike (s ∙ sym block)) ∙ sym (past_first e (xs ++ ys) b unlike))));
       apart = (ap (λ c. owned_at c (xs ++ ys)) block ∙ f.apart.0, f.apart.1);
     })
 
@@ -90,7 +92,8 @@ just_without xs ys owns o h =
     let f = to_front xs ys owns o h in
     record {
       same = λ b. dite (ℕ_discrete b o.block)
-          (λ same. ap (λ c. owned_at c (without o.block owns)) same ∙ (without_here o.block owns ∙ (sym f.apart.0 ∙ ap (λ c. owned_at c (xs ++ ys)) (sym same))))
+          (λ same. ap (λ c. owned_at c (without o.block owns)) same
+          ∙ (without_here o.block owns ∙ (sym f.apart.0 ∙ ap (λ c. owned_at c (xs ++ ys)) (sym same))))
           (λ unlike. without_else o.block b owns unlike ∙ (f.same b ∙ past_first o (xs ++ ys) b unlike));
       apart = f.apart.1;
     }

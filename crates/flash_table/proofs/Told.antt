@@ -21,7 +21,8 @@ use Rattle.geometry.specs.declared.pin_word.TheConstants.{TAKEN, NEXT_PHASE, PAG
 use Rattle.flash_rule.specs.declared.facts.Work.{Work}
 use Rattle.flash_rule.specs.declared.facts.Pin.TheVariants.{Clear, Candidate, Accepted}
 use Rattle.flash_rule.specs.World.{data_word, Intact}
-use Rattle.flash_rule.specs.Plays.{Sitter, Took, Placed, CanPlace, CanPut, CanCount, CanClose, words_in, next_page, write_told, new_told, trim_told, take_told, put_told, count_told, close_told, IsOn, Pinned, pin_told, unpin_told, get_told}
+use Rattle.flash_rule.specs.Plays.{Sitter, Took, Placed, CanPlace, CanPut, CanCount, CanClose, words_in, next_page, write_told, new_told, trim_told}
+use Rattle.flash_rule.specs.Plays.{take_told, put_told, count_told, close_told, IsOn, Pinned, pin_told, unpin_told, get_told}
 use Rattle.flash_rule.proofs.Still.{pass_of}
 use Rattle.flash_rule.proofs.Owning.{some_same}
 use Rattle.geometry.proofs.PinBits.{pin_same}
@@ -38,7 +39,8 @@ pass_player Dealer is = absurd (cc)
 pass_player Note is = absurd (cc)
 pass_player Gone is = absurd (cc)
 
-pub stays_pass : (f : Flash) (p q : Pass) → IsPassOf f p → q.seat.table_id ≡ p.seat.table_id → (view_of q).role ≡ (view_of p).role → (view_of q).numbers ≡ (view_of p).numbers → IsPassOf f q
+pub stays_pass : (f : Flash) (p q : Pass) → IsPassOf f p → q.seat.table_id ≡ p.seat.table_id → (view_of q).role ≡ (view_of p).role
+    → (view_of q).numbers ≡ (view_of p).numbers → IsPassOf f q
 stays_pass f p q h table role numbers = record { table = table ∙ h.table; role = ap is_pass role ∙ h.role; numbers = numbers ∙ h.numbers }
 
 pub without_one : (o : Owned) → without o.block (o ∷ []) ≡ []
@@ -47,7 +49,8 @@ without_one o = rw (eq_self o.block) refl
 pub owned_one : (o : Owned) → owned_at o.block (o ∷ []) ≡ Some o
 owned_one o = rw (eq_self o.block) refl
 
-pub took_free : (v w : View) (b n : ℕ) (state : PinWord) → v.owns ≡ [] → Took v b n w → FitsPin state → pin_word state ≡ n → state.phase ≡ Free → Taken v b w (Some (record { block = b; generation = state.generation; written = 0 }))
+pub took_free : (v w : View) (b n : ℕ) (state : PinWord) → v.owns ≡ [] → Took v b n w → FitsPin state → pin_word state ≡ n → state.phase ≡ Free
+    → Taken v b w (Some (record { block = b; generation = state.generation; written = 0 }))
 took_free v w b n state nothing took fits word free =
     let same : took.state ≡ state = pin_same took.state state took.fits fits (sym took.found ∙ sym word) in
     let changed = took.free (ap (λ (p : PinWord). p.phase) same ∙ free) in
@@ -74,16 +77,21 @@ pub same_block : (a b : OpenBlock) (x : Option OpenBlock) → x ≡ Some a → x
 same_block a b x p q = some_same a b (sym p ∙ q)
 
 -- a place at which one block's next page begins, where another name of that block is asked for
-pub starts_same : (z : Numbers) (start : ℕ) (a b : OpenBlock) (x : Option OpenBlock) → start ≡ page_index z a.block a.written → x ≡ Some a → x ≡ Some b → start ≡ page_index z b.block b.written
+pub starts_same : (z : Numbers) (start : ℕ) (a b : OpenBlock) (x : Option OpenBlock) → start ≡ page_index z a.block a.written → x ≡ Some a
+    → x ≡ Some b → start ≡ page_index z b.block b.written
 starts_same z start a b x at p q = at ∙ ap (λ (o : OpenBlock). page_index z o.block o.written) (same_block a b x p q)
 
 module _ (f : Flash) (p : Pass) (h : IsPassOf f p) (slots n : ℕ) (after : Sitter) where
   -- ---- close
-  pub close_can : (o : OpenBlock) → p.opened ≡ Some o → (x : OpenBlock) × (p.opened ≡ Some x) × CanClose (view_of p) (owned_of x) × (x.block < (device f).blocks) → CanClose (view_of p) (owned_of o) × (o.block < (device f).blocks)
-  close_can o is t = let P : OpenBlock → Type 0 = λ x. CanClose (view_of p) (owned_of x) × (x.block < (device f).blocks) in subst P (same_block t.0 o p.opened t.1 is) (t.2, t.3)
+  pub close_can : (o : OpenBlock) → p.opened ≡ Some o → (x : OpenBlock) × (p.opened ≡ Some x) × CanClose (view_of p) (owned_of x)
+      × (x.block < (device f).blocks) → CanClose (view_of p) (owned_of o) × (o.block < (device f).blocks)
+  close_can o is t = let P : OpenBlock → Type 0 = λ x. CanClose (view_of p) (owned_of x) × (x.block < (device f).blocks) in
+      subst P (same_block t.0 o p.opened t.1 is) (t.2, t.3)
 
-  pub close_view : (word : ℕ) (o : OpenBlock) → p.opened ≡ Some o → (x : OpenBlock) × (p.opened ≡ Some x) × CanClose (view_of p) (owned_of x) × (x.block < (device f).blocks)
-      → word ≡ pin_index (device f) o.block → close_told (step slots word NEXT_PHASE 0 none) p.seat.me n after → after.0 ≡ record (view_of p) { owns = []; work = None; ceded = (view_of p).ceded ++ closed_list p.opened }
+  pub close_view : (word : ℕ) (o : OpenBlock) → p.opened ≡ Some o → (x : OpenBlock) × (p.opened ≡ Some x) × CanClose (view_of p) (owned_of x)
+      × (x.block < (device f).blocks)
+      → word ≡ pin_index (device f) o.block → close_told (step slots word NEXT_PHASE 0 none) p.seat.me n after
+      → after.0 ≡ record (view_of p) { owns = []; work = None; ceded = (view_of p).ceded ++ closed_list p.opened }
   close_view word o is t at told =
       let can = close_can o is t in
       let owns : (view_of p).owns ≡ owned_of o ∷ [] = p.owns ∙ ap owned_list is in
@@ -94,32 +102,42 @@ module _ (f : Flash) (p : Pass) (h : IsPassOf f p) (slots n : ℕ) (after : Sitt
 
   -- ---- count
   pub count_can : (o : OpenBlock) → p.opened ≡ Some o
-      → (y : OpenBlock) × (x : Work) × (p.opened ≡ Some y) × CanCount (view_of p) (owned_of y) x × (y.written < (device f).pages) × (y.block < (device f).blocks)
+      → (y : OpenBlock) × (x : Work) × (p.opened ≡ Some y) × CanCount (view_of p) (owned_of y) x × (y.written < (device f).pages)
+      × (y.block < (device f).blocks)
       → (x : Work) × CanCount (view_of p) (owned_of o) x × (o.written < (device f).pages) × (o.block < (device f).blocks)
   count_can o is t =
-      let P : OpenBlock → Type 0 = λ y. (x : Work) × CanCount (view_of p) (owned_of y) x × (y.written < (device f).pages) × (y.block < (device f).blocks) in subst P (same_block t.0 o p.opened t.2 is) (t.1, t.3, t.4, t.5)
+      let P : OpenBlock → Type 0 = λ y. (x : Work) × CanCount (view_of p) (owned_of y) x × (y.written < (device f).pages)
+      × (y.block < (device f).blocks) in subst P (same_block t.0 o p.opened t.2 is) (t.1, t.3, t.4, t.5)
 
-  pub count_view : (word : ℕ) (o : OpenBlock) (x : Work) → p.opened ≡ Some o → CanCount (view_of p) (owned_of o) x → word ≡ pin_index (device f) o.block → count_told (step slots word PAGE_WRITTEN 0 none) p.seat.me n after
+  pub count_view : (word : ℕ) (o : OpenBlock) (x : Work) → p.opened ≡ Some o → CanCount (view_of p) (owned_of o) x
+      → word ≡ pin_index (device f) o.block → count_told (step slots word PAGE_WRITTEN 0 none) p.seat.me n after
       → after.0 ≡ record (view_of p) { programs = (view_of p).programs ++ x.page ∷ []; owns = owned_of (record o { written = o.written + 1 }) ∷ [] }
   count_view word o x is can at told =
       let owns : (view_of p).owns ≡ owned_of o ∷ [] = p.owns ∙ ap owned_list is in
       let changed = told.1 (owned_of o) x can (at ∙ ap (λ y. pin_index y o.block) (sym h.numbers)) in
-      changed ∙ ap (λ (l : List Owned). record (view_of p) { programs = (view_of p).programs ++ x.page ∷ []; owns = owned_of (record o { written = o.written + 1 }) ∷ l })
+      changed ∙ ap (λ (l : List Owned).
+      record (view_of p) { programs = (view_of p).programs ++ x.page ∷ []; owns = owned_of (record o { written = o.written + 1 }) ∷ l })
       (ap (λ (l : List Owned). without o.block l) owns ∙ without_one (owned_of o))
 
   -- ---- put
-  pub put_can : (o : OpenBlock) (i : ℕ) → p.opened ≡ Some o → (x : OpenBlock) × (p.opened ≡ Some x) × CanPut (view_of p) (owned_of x) × (i ≡ length (words_in (view_of p).work (owned_of x))) × (x.block < (device f).blocks)
+  pub put_can : (o : OpenBlock) (i : ℕ) → p.opened ≡ Some o → (x : OpenBlock) × (p.opened ≡ Some x) × CanPut (view_of p) (owned_of x)
+      × (i ≡ length (words_in (view_of p).work (owned_of x))) × (x.block < (device f).blocks)
       → CanPut (view_of p) (owned_of o) × (i ≡ length (words_in (view_of p).work (owned_of o))) × (o.block < (device f).blocks)
   put_can o i is t =
-      let P : OpenBlock → Type 0 = λ x. CanPut (view_of p) (owned_of x) × (i ≡ length (words_in (view_of p).work (owned_of x))) × (x.block < (device f).blocks) in subst P (same_block t.0 o p.opened t.1 is) (t.2, t.3, t.4)
+      let P : OpenBlock → Type 0 = λ x. CanPut (view_of p) (owned_of x) × (i ≡ length (words_in (view_of p).work (owned_of x)))
+      × (x.block < (device f).blocks) in subst P (same_block t.0 o p.opened t.1 is) (t.2, t.3, t.4)
 
-  pub put_view : (word i x : ℕ) (o : OpenBlock) → CanPut (view_of p) (owned_of o) → i ≡ length (words_in (view_of p).work (owned_of o)) → word ≡ page_index (device f) o.block o.written + i
-      → put_told (step slots word x 0 none) p.seat.me n after → after.0 ≡ record (view_of p) { work = Some (record { page = next_page (owned_of o); words = words_in (view_of p).work (owned_of o) ++ x ∷ [] }) }
+  pub put_view : (word i x : ℕ) (o : OpenBlock) → CanPut (view_of p) (owned_of o) → i ≡ length (words_in (view_of p).work (owned_of o))
+      → word ≡ page_index (device f) o.block o.written + i
+      → put_told (step slots word x 0 none) p.seat.me n after
+      → after.0 ≡ record (view_of p) { work = Some (record { page = next_page (owned_of o); words = words_in (view_of p).work (owned_of o) ++ x ∷ [] }) }
   put_view word i x o can here at told =
-      told.1 (owned_of o) can (at ∙ (ap (λ k. page_index (device f) o.block o.written + k) here ∙ ap (λ y. page_index y o.block o.written + length (words_in (view_of p).work (owned_of o))) (sym h.numbers)))
+      told.1 (owned_of o) can (at ∙ (ap (λ k. page_index (device f) o.block o.written + k) here
+      ∙ ap (λ y. page_index y o.block o.written + length (words_in (view_of p).work (owned_of o))) (sym h.numbers)))
 
   -- ---- take
-  pub take_took : (word b : ℕ) → b < (device f).blocks → word ≡ pin_index (device f) b → take_told (step slots word TAKEN 0 none) p.seat.me n after → Took (view_of p) b n after.0
+  pub take_took : (word b : ℕ) → b < (device f).blocks → word ≡ pin_index (device f) b → take_told (step slots word TAKEN 0 none) p.seat.me n after
+      → Took (view_of p) b n after.0
   take_took word b low at told = let blocks : (view_of p).numbers.blocks ≡ (device f).blocks = ap (λ (y : Numbers). y.blocks) h.numbers in
       told.1 b (omega arith) (at ∙ ap (λ y. pin_index y b) (sym h.numbers))
 
@@ -127,43 +145,54 @@ module _ (f : Flash) (p : Pass) (h : IsPassOf f p) (slots n : ℕ) (after : Sitt
   pub trim_changed : (s : ℕ) → trim_told (step slots s 0 0 none) p.seat.me n after → (t : ℕ) × Placed (view_of p) (Trim t s) s n after.0
   trim_changed s told = let t = pass_of (view_of p).role h.role in (t.0, told.1 t.0 t.1)
 
-  pub write_changed : (s word : ℕ) (m : MapWord) → word ≡ map_word m → FitsMap m → (value : List ℕ) × CanPlace (view_of p) s m value → write_told (step slots s word 0 none) p.seat.me n after
+  pub write_changed : (s word : ℕ) (m : MapWord) → word ≡ map_word m → FitsMap m → (value : List ℕ) × CanPlace (view_of p) s m value
+      → write_told (step slots s word 0 none) p.seat.me n after
       → (t : ℕ) × (value : List ℕ) × Placed (view_of p) (Write t s value) s n after.0
   write_changed s word m packed fits can told = let t = pass_of (view_of p).role h.role in (t.0, can.0, told.1 t.0 m can.0 t.1 packed fits can.1)
 
-  pub new_changed : (s word : ℕ) (m : MapWord) → word ≡ map_word m → FitsMap m → (value : List ℕ) × CanPlace (view_of p) s m value → new_told (step slots s UNMAPPED word none) p.seat.me n after
+  pub new_changed : (s word : ℕ) (m : MapWord) → word ≡ map_word m → FitsMap m → (value : List ℕ) × CanPlace (view_of p) s m value
+      → new_told (step slots s UNMAPPED word none) p.seat.me n after
       → (t : ℕ) × (value : List ℕ) × Placed (view_of p) (WriteNew t s value) s n after.0
   new_changed s word m packed fits can told = let t = pass_of (view_of p).role h.role in (t.0, can.0, told.1 t.0 m can.0 t.1 refl packed fits can.1)
 
   -- ---- take, by what the word says
-  pub take_free_view : (word b k : ℕ) → b < (device f).blocks → word ≡ pin_index (device f) b → take_told (step slots word TAKEN 0 none) p.seat.me n after → p.opened ≡ None
-      → (state : PinWord) × FitsPin state × (pin_word state ≡ n) × (state.phase ≡ Free) × (state.generation ≡ k) → Taken (view_of p) b after.0 (Some (record { block = b; generation = k; written = 0 }))
+  pub take_free_view : (word b k : ℕ) → b < (device f).blocks → word ≡ pin_index (device f) b
+      → take_told (step slots word TAKEN 0 none) p.seat.me n after → p.opened ≡ None
+      → (state : PinWord) × FitsPin state × (pin_word state ≡ n) × (state.phase ≡ Free) × (state.generation ≡ k)
+      → Taken (view_of p) b after.0 (Some (record { block = b; generation = k; written = 0 }))
   take_free_view word b k low at told closed t =
       let taken = took_free (view_of p) after.0 b n t.0 (p.owns ∙ ap owned_list closed) (take_took word b low at told) t.1 t.2 t.3 in
       subst (λ (k : ℕ). Taken (view_of p) b after.0 (Some (record { block = b; generation = k; written = 0 }))) t.4 taken
 
-  pub take_other_view : (word b : ℕ) → b < (device f).blocks → word ≡ pin_index (device f) b → take_told (step slots word TAKEN 0 none) p.seat.me n after → p.opened ≡ None
+  pub take_other_view : (word b : ℕ) → b < (device f).blocks → word ≡ pin_index (device f) b
+      → take_told (step slots word TAKEN 0 none) p.seat.me n after → p.opened ≡ None
       → ((state : PinWord) → FitsPin state → pin_word state ≡ n → ¬ (state.phase ≡ Free)) → Denied (view_of p) b after.0 p.opened
-  take_other_view word b low at told closed not = record { nothing = closed; changed = (took_other (view_of p) after.0 b n (take_took word b low at told) not).changed }
+  take_other_view word b low at told closed not =
+      record { nothing = closed; changed = (took_other (view_of p) after.0 b n (take_took word b low at told) not).changed }
 
   -- ---- pin
-  pub pin_pinned : (word : ℕ) (m : MapWord) (value : List ℕ) → (view_of p).pin ≡ Candidate m value → word ≡ pin_index (device f) m.block → pin_told (step slots word READER 0 none) p.seat.me n after → Pinned (view_of p) m value n after.0
+  pub pin_pinned : (word : ℕ) (m : MapWord) (value : List ℕ) → (view_of p).pin ≡ Candidate m value → word ≡ pin_index (device f) m.block
+      → pin_told (step slots word READER 0 none) p.seat.me n after → Pinned (view_of p) m value n after.0
   pin_pinned word m value pin at told = told.1 m value pin (at ∙ ap (λ y. pin_index y m.block) (sym h.numbers))
 
-  pub pin_yes : (m : MapWord) (value : List ℕ) (w : View) → Pinned (view_of p) m value n w → (state : PinWord) × FitsPin state × (pin_word state ≡ n) × Intact state m.generation → w ≡ record (view_of p) { pin = Accepted m value }
+  pub pin_yes : (m : MapWord) (value : List ℕ) (w : View) → Pinned (view_of p) m value n w → (state : PinWord) × FitsPin state × (pin_word state ≡ n)
+      × Intact state m.generation → w ≡ record (view_of p) { pin = Accepted m value }
   pin_yes m value w told t =
       let same : told.state ≡ t.0 = pin_same told.state t.0 told.fits t.1 (sym told.found ∙ sym t.2) in
       let a = told.accepted (subst (λ (s : PinWord). Intact s m.generation) (sym same) t.3) in
       told.changed ∙ (λ i. record (view_of p) { pin = a.0 i; known = a.1 i })
 
-  pub pin_no : (m : MapWord) (value : List ℕ) (w : View) → Pinned (view_of p) m value n w → ((state : PinWord) → FitsPin state → pin_word state ≡ n → ¬ Intact state m.generation) → Strayed (view_of p) m.block w
+  pub pin_no : (m : MapWord) (value : List ℕ) (w : View) → Pinned (view_of p) m value n w
+      → ((state : PinWord) → FitsPin state → pin_word state ≡ n → ¬ Intact state m.generation) → Strayed (view_of p) m.block w
   pin_no m value w told not =
       let a = told.stray (not told.state told.fits (sym told.found)) in
       record { changed = told.changed ∙ (λ i. record (view_of p) { pin = a.0 i; known = w.known }); rises = a.1; bounded = told.bounded }
 
-  pub unpin_view : (word b : ℕ) → IsOn (view_of p).pin b → word ≡ pin_index (device f) b → unpin_told (step slots word READER 0 none) p.seat.me n after → after.0 ≡ record (view_of p) { pin = Clear }
+  pub unpin_view : (word b : ℕ) → IsOn (view_of p).pin b → word ≡ pin_index (device f) b
+      → unpin_told (step slots word READER 0 none) p.seat.me n after → after.0 ≡ record (view_of p) { pin = Clear }
   unpin_view word b on at told = told.1 b on (at ∙ ap (λ y. pin_index y b) (sym h.numbers))
 
-  pub get_value : (word i : ℕ) (m : MapWord) (value : List ℕ) → (view_of p).pin ≡ Accepted m value → i < (device f).words → word ≡ page_index (device f) m.block m.page + i → get_told (step slots word 0 0 none) p.seat.me n after → n ≡ data_word value i
+  pub get_value : (word i : ℕ) (m : MapWord) (value : List ℕ) → (view_of p).pin ≡ Accepted m value → i < (device f).words
+      → word ≡ page_index (device f) m.block m.page + i → get_told (step slots word 0 0 none) p.seat.me n after → n ≡ data_word value i
   get_value word i m value pin low at told = let words : (view_of p).numbers.words ≡ (device f).words = ap (λ (y : Numbers). y.words) h.numbers in
       told.1 m value i pin (omega arith) (at ∙ ap (λ y. page_index y m.block m.page + i) (sym h.numbers))

@@ -1,5 +1,6 @@
 -- What a step's play makes of a broom's seat.
-use Rattle.std.proofs.Common.{◌≡◌, ℕ, ◌+◌, ◌-◌, ◌*◌, ◌<◌, ◌≤◌, ◌⊎◌, inl, inr, ⊎_elim, ◌==◌, eq-eqb, ne_eqb, true, [], ◌∷◌, ◌++◌, List, length, Option, None, Some, IfSome, IfNone, sym, refl, ap, ◌∙◌, subst, arith}
+use Rattle.std.proofs.Common.{◌≡◌, ℕ, ◌+◌, ◌-◌, ◌*◌, ◌<◌, ◌≤◌, ◌⊎◌, inl, inr, ⊎_elim, ◌==◌, eq-eqb, ne_eqb, true, [], ◌∷◌, ◌++◌, List}
+use Rattle.std.proofs.Common.{length, Option, None, Some, IfSome, IfNone, sym, refl, ap, ◌∙◌, subst, arith}
 use Rattle.std.specs.Bool.{MatchBool}
 use mathlib.Core.Option.{none}
 use mathlib.Core.Logic.{dite}
@@ -21,7 +22,8 @@ use Rattle.flash_rule.specs.declared.facts.Work.{Work}
 use Rattle.flash_rule.specs.declared.view.View.{View}
 use Rattle.flash_rule.specs.Views.{is_broom, is_player, without, with_owned}
 use Rattle.flash_rule.specs.Plays.{Sitter, CanPut, CanCount, CanClose, words_in, next_page, put_told, count_told, close_told}
-use Rattle.flash_rule.specs.BroomPlays.{GotStamp, CanGetStamp, CanMove, Moved, stamp_told, source_told, move_told, Loaded, IsLastLoaded, CanClaim, Claimed, CanDrain, state_told, claim_told, drain_told}
+use Rattle.flash_rule.specs.BroomPlays.{GotStamp, CanGetStamp, CanMove, Moved, stamp_told, source_told, move_told, Loaded}
+use Rattle.flash_rule.specs.BroomPlays.{IsLastLoaded, CanClaim, Claimed, CanDrain, state_told, claim_told, drain_told}
 use Rattle.flash_rule.specs.World.{data_word, sector_word}
 use Rattle.flash_rule.proofs.Owning.{some_same}
 use Rattle.flash_table.specs.declared.flash.Flash.{Flash}
@@ -37,45 +39,62 @@ use Rattle.flash_table.proofs.Blocks.{all_open, draining_at}
 use Rattle.flash_table.proofs.Told.{same_block}
 
 -- a map word that was found is that of what it was unpacked to
-pub unpacked : (r : Option MapWord) (n : ℕ) → IfSome r (λ p. FitsMap p × (map_word p ≡ n)) → IfNone r (n < MAPPED) → (¬ (n ≡ 0) → (m : MapWord) × (n ≡ map_word m)) → n ≡ sector_word r
+pub unpacked : (r : Option MapWord) (n : ℕ) → IfSome r (λ p. FitsMap p × (map_word p ≡ n)) → IfNone r (n < MAPPED)
+    → (¬ (n ≡ 0) → (m : MapWord) × (n ≡ map_word m)) → n ≡ sector_word r
 unpacked (Some p) n has nothing named = sym has.1
 unpacked None n has nothing named = dite (ℕ_discrete n 0) (λ zero. zero) (λ other. let t = named other in let e = t.1 in absurd (omega arith))
 
 pub broom_player : (f : Flash) (s : BroomSeat) → IsBroomOf f s → is_player (broom_view s).role ≡ true
 broom_player f s h = ap is_player h.role.1
 
-pub stays_broom : (f : Flash) (s t : BroomSeat) → IsBroomOf f s → t.seat.table_id ≡ s.seat.table_id → (broom_view t).role ≡ (broom_view s).role → (broom_view t).numbers ≡ (broom_view s).numbers → IsBroomOf f t
+pub stays_broom : (f : Flash) (s t : BroomSeat) → IsBroomOf f s → t.seat.table_id ≡ s.seat.table_id → (broom_view t).role ≡ (broom_view s).role
+    → (broom_view t).numbers ≡ (broom_view s).numbers → IsBroomOf f t
 stays_broom f s t h table role numbers = record { table = table ∙ h.table; role = (h.role.0, role ∙ h.role.1); numbers = numbers ∙ h.numbers }
 
 module _ (f : Flash) (s : BroomSeat) (h : IsBroomOf f s) (o : OpenBlock) (is : (own_blocks s).destination ≡ Some o) where
   -- ---- what is asked of the destination, of the block that is found there
-  pub put_can : (i : ℕ) → (x : OpenBlock) × ((own_blocks s).destination ≡ Some x) × CanPut (broom_view s) (owned_of x) × (i ≡ length (words_in (broom_view s).work (owned_of x))) × (x.block < (device f).blocks)
+  pub put_can : (i : ℕ) → (x : OpenBlock) × ((own_blocks s).destination ≡ Some x) × CanPut (broom_view s) (owned_of x)
+      × (i ≡ length (words_in (broom_view s).work (owned_of x))) × (x.block < (device f).blocks)
       → CanPut (broom_view s) (owned_of o) × (i ≡ length (words_in (broom_view s).work (owned_of o))) × (o.block < (device f).blocks)
   put_can i t =
-      let P : OpenBlock → Type 0 = λ x. CanPut (broom_view s) (owned_of x) × (i ≡ length (words_in (broom_view s).work (owned_of x))) × (x.block < (device f).blocks) in
+      let P : OpenBlock → Type 0 = λ x. CanPut (broom_view s) (owned_of x) × (i ≡ length (words_in (broom_view s).work (owned_of x)))
+      × (x.block < (device f).blocks) in
       subst P (same_block t.0 o (own_blocks s).destination t.1 is) (t.2, t.3, t.4)
 
-  pub count_can : (y : OpenBlock) × (x : Work) × ((own_blocks s).destination ≡ Some y) × CanCount (broom_view s) (owned_of y) x × (y.written < (device f).pages) × (y.block < (device f).blocks)
+  pub count_can : (y : OpenBlock) × (x : Work) × ((own_blocks s).destination ≡ Some y) × CanCount (broom_view s) (owned_of y) x
+      × (y.written < (device f).pages) × (y.block < (device f).blocks)
       → (x : Work) × CanCount (broom_view s) (owned_of o) x × (o.written < (device f).pages) × (o.block < (device f).blocks)
   count_can t =
       let P : OpenBlock → Type 0 = λ y. (x : Work) × CanCount (broom_view s) (owned_of y) x × (y.written < (device f).pages) × (y.block < (device f).blocks) in
       subst P (same_block t.0 o (own_blocks s).destination t.2 is) (t.1, t.3, t.4, t.5)
 
-  pub close_can : (x : OpenBlock) × ((own_blocks s).destination ≡ Some x) × CanClose (broom_view s) (owned_of x) × (x.block < (device f).blocks) → CanClose (broom_view s) (owned_of o) × (o.block < (device f).blocks)
+  pub close_can : (x : OpenBlock) × ((own_blocks s).destination ≡ Some x) × CanClose (broom_view s) (owned_of x) × (x.block < (device f).blocks)
+      → CanClose (broom_view s) (owned_of o) × (o.block < (device f).blocks)
   close_can t =
-      let P : OpenBlock → Type 0 = λ x. CanClose (broom_view s) (owned_of x) × (x.block < (device f).blocks) in subst P (same_block t.0 o (own_blocks s).destination t.1 is) (t.2, t.3)
+      let P : OpenBlock → Type 0 = λ x. CanClose (broom_view s) (owned_of x) × (x.block < (device f).blocks) in
+      subst P (same_block t.0 o (own_blocks s).destination t.1 is) (t.2, t.3)
 
 module _ (f : Flash) (s : BroomSeat) (h : IsBroomOf f s) (slots n : ℕ) (after : Sitter) where
-  pub put_view : (word i x : ℕ) (o : OpenBlock) → CanPut (broom_view s) (owned_of o) → i ≡ length (words_in (broom_view s).work (owned_of o)) → word ≡ page_index (device f) o.block o.written + i
-      → put_told (step slots word x 0 none) s.seat.me n after → after.0 ≡ record (broom_view s) { work = Some (record { page = next_page (owned_of o); words = words_in (broom_view s).work (owned_of o) ++ x ∷ [] }) }
+  pub put_view : (word i x : ℕ) (o : OpenBlock) → CanPut (broom_view s) (owned_of o) → i ≡ length (words_in (broom_view s).work (owned_of o))
+      → word ≡ page_index (device f) o.block o.written + i
+      → put_told (step slots word x 0 none) s.seat.me n after
+      → after.0 ≡ record (broom_view s) {
+        work = Some (record { page = next_page (owned_of o); words = words_in (broom_view s).work (owned_of o) ++ x ∷ [] });
+      }
   put_view word i x o can here at told =
-      told.1 (owned_of o) can (at ∙ (ap (λ k. page_index (device f) o.block o.written + k) here ∙ ap (λ y. page_index y o.block o.written + length (words_in (broom_view s).work (owned_of o))) (sym h.numbers)))
+      told.1 (owned_of o) can (at ∙ (ap (λ k. page_index (device f) o.block o.written + k) here
+      ∙ ap (λ y. page_index y o.block o.written + length (words_in (broom_view s).work (owned_of o))) (sym h.numbers)))
 
-  pub count_view : (word : ℕ) (o : OpenBlock) (x : Work) → CanCount (broom_view s) (owned_of o) x → word ≡ pin_index (device f) o.block → count_told (step slots word PAGE_WRITTEN 0 none) s.seat.me n after
-      → after.0 ≡ record (broom_view s) { programs = (broom_view s).programs ++ x.page ∷ []; owns = with_owned (owned_of (record o { written = o.written + 1 })) (broom_view s).owns }
+  pub count_view : (word : ℕ) (o : OpenBlock) (x : Work) → CanCount (broom_view s) (owned_of o) x → word ≡ pin_index (device f) o.block
+      → count_told (step slots word PAGE_WRITTEN 0 none) s.seat.me n after
+      → after.0 ≡ record (broom_view s) {
+        programs = (broom_view s).programs ++ x.page ∷ [];
+        owns = with_owned (owned_of (record o { written = o.written + 1 })) (broom_view s).owns;
+      }
   count_view word o x can at told = told.1 (owned_of o) x can (at ∙ ap (λ y. pin_index y o.block) (sym h.numbers))
 
-  pub close_view : (word : ℕ) (o : OpenBlock) → CanClose (broom_view s) (owned_of o) → word ≡ pin_index (device f) o.block → close_told (step slots word NEXT_PHASE 0 none) s.seat.me n after
+  pub close_view : (word : ℕ) (o : OpenBlock) → CanClose (broom_view s) (owned_of o) → word ≡ pin_index (device f) o.block
+      → close_told (step slots word NEXT_PHASE 0 none) s.seat.me n after
       → after.0 ≡ left_closed (broom_view s) o
   close_view word o can at told = told.1 (owned_of o) can (at ∙ ap (λ y. pin_index y o.block) (sym h.numbers))
 
@@ -87,7 +106,8 @@ pub draining_same : (a b : ReclaimedBlock) (x : Reclaiming) → x ≡ reclaiming
 draining_same a b x p q = draining_one a b (sym p ∙ q)
 
 -- what is asked of it holds of the block that is found there
-pub of_draining : (P : ReclaimedBlock → Type 0) (x : Reclaiming) (o : ReclaimedBlock) → x ≡ reclaiming.Draining o → (a : ReclaimedBlock) × (x ≡ reclaiming.Draining a) × P a → P o
+pub of_draining : (P : ReclaimedBlock → Type 0) (x : Reclaiming) (o : ReclaimedBlock) → x ≡ reclaiming.Draining o
+    → (a : ReclaimedBlock) × (x ≡ reclaiming.Draining a) × P a → P o
 of_draining P x o is t = subst P (draining_same t.0 o x t.1 is) t.2
 
 drained_or_not : (f : Phase) → (f ≡ Drained) ⊎ (¬ (f ≡ Drained))
@@ -106,7 +126,8 @@ loaded_changed v w b n h =
     (λ (drained : h.state.phase ≡ Drained). dite (ℕ_discrete h.state.readers 0)
     (λ none. let e = h.ready drained none in e ∙ (λ i. record v { loaded = (sym e i).loaded; busy = (sym e i).busy; stale = (sym e i).stale }))
     (λ some. let e = h.busy drained (omega arith) in e ∙ (λ i. record v { loaded = (sym e i).loaded; busy = (sym e i).busy; stale = (sym e i).stale })))
-    (λ (other : ¬ (h.state.phase ≡ Drained)). let e = h.stale other in e ∙ (λ i. record v { loaded = (sym e i).loaded; busy = (sym e i).busy; stale = (sym e i).stale }))
+    (λ (other : ¬ (h.state.phase ≡ Drained)). let e = h.stale other in
+    e ∙ (λ i. record v { loaded = (sym e i).loaded; busy = (sym e i).busy; stale = (sym e i).stale }))
     (drained_or_not h.state.phase)
 
 -- ---- what each step on a state asks for
@@ -117,10 +138,13 @@ module _ (f : Flash) (s : BroomSeat) (h : IsBroomOf f s) where
   low_here : (b : ℕ) → b < (device f).blocks → b < (broom_view s).numbers.blocks
   low_here b low = subst (λ (y : Numbers). b < y.blocks) (sym h.numbers) low
 
-  pub claim_can : (b : ℕ) (p : PinWord) → b < (device f).blocks → FitsPin p × (p.phase ≡ Closed) → IsLastLoaded (broom_view s) b (pin_word p) → (own_blocks s).reclaiming ≡ reclaiming.Nothing → CanClaim (broom_view s) b p
-  claim_can b p low state loaded rest = record { low = low_here b low; fits = state.0; closed = state.1; loaded = loaded; rested = all_open (own_blocks s) (broom_view s).owns s.owns rest }
+  pub claim_can : (b : ℕ) (p : PinWord) → b < (device f).blocks → FitsPin p × (p.phase ≡ Closed) → IsLastLoaded (broom_view s) b (pin_word p)
+      → (own_blocks s).reclaiming ≡ reclaiming.Nothing → CanClaim (broom_view s) b p
+  claim_can b p low state loaded rest =
+      record { low = low_here b low; fits = state.0; closed = state.1; loaded = loaded; rested = all_open (own_blocks s) (broom_view s).owns s.owns rest }
 
-  pub drain_can : (o : ReclaimedBlock) → (own_blocks s).reclaiming ≡ reclaiming.Draining o → o.written ≤ (broom_view s).cleared → CanDrain (broom_view s) (reclaimed_as Victim o)
+  pub drain_can : (o : ReclaimedBlock) → (own_blocks s).reclaiming ≡ reclaiming.Draining o → o.written ≤ (broom_view s).cleared
+      → CanDrain (broom_view s) (reclaimed_as Victim o)
   drain_can o is cleared = record { own = draining_at (own_blocks s) (broom_view s).owns s.owns o is; victim = refl; cleared = cleared }
 
 -- ---- and what it makes of the seat
@@ -128,14 +152,17 @@ module _ (f : Flash) (s : BroomSeat) (h : IsBroomOf f s) (slots n : ℕ) (after 
   pin_there : (word b : ℕ) → word ≡ pin_index (device f) b → word ≡ pin_index (broom_view s).numbers b
   pin_there word b at = at ∙ ap (λ y. pin_index y b) (sym h.numbers)
 
-  pub loaded_view : (word b : ℕ) → b < (device f).blocks → word ≡ pin_index (device f) b → state_told (step slots word 0 0 none) s.seat.me n after → Loaded (broom_view s) b n after.0
+  pub loaded_view : (word b : ℕ) → b < (device f).blocks → word ≡ pin_index (device f) b → state_told (step slots word 0 0 none) s.seat.me n after
+      → Loaded (broom_view s) b n after.0
   loaded_view word b low at told = told.1 b (low_here f s h b low) (pin_there word b at)
 
-  pub claimed_view : (word b old : ℕ) (p : PinWord) → CanClaim (broom_view s) b p → word ≡ pin_index (device f) b → old ≡ pin_word p → claim_told (step slots word old (old + NEXT_PHASE) none) s.seat.me n after
+  pub claimed_view : (word b old : ℕ) (p : PinWord) → CanClaim (broom_view s) b p → word ≡ pin_index (device f) b → old ≡ pin_word p
+      → claim_told (step slots word old (old + NEXT_PHASE) none) s.seat.me n after
       → Claimed (broom_view s) b p n after.0
   claimed_view word b old p can at packed told = told.1 b p can (pin_there word b at) packed
 
-  pub drained_view : (word : ℕ) (o : ReclaimedBlock) → CanDrain (broom_view s) (reclaimed_as Victim o) → word ≡ pin_index (device f) o.block → drain_told (step slots word NEXT_PHASE 0 none) s.seat.me n after
+  pub drained_view : (word : ℕ) (o : ReclaimedBlock) → CanDrain (broom_view s) (reclaimed_as Victim o) → word ≡ pin_index (device f) o.block
+      → drain_told (step slots word NEXT_PHASE 0 none) s.seat.me n after
       → after.0 ≡ left_drained (broom_view s) o
   drained_view word o can at told = told.1 (reclaimed_as Victim o) can (pin_there word o.block at)
 
@@ -151,21 +178,29 @@ stamp_changed v w o n h =
     (λ above. let e = h.dead (omega arith) in e ∙ (λ i. record v { source = (sym e i).source; cleared = (sym e i).cleared }))
 
 module _ (f : Flash) (s : BroomSeat) (h : IsBroomOf f s) where
-  pub stamp_can : (o : ReclaimedBlock) (page : ℕ) → (own_blocks s).reclaiming ≡ reclaiming.Draining o → page < o.written → page ≡ (broom_view s).cleared → CanGetStamp (broom_view s) (reclaimed_as Victim o)
-  stamp_can o page is below cleared = record { own = draining_at (own_blocks s) (broom_view s).owns s.owns o is; victim = refl; written = subst (λ k. k < o.written) cleared below }
+  pub stamp_can : (o : ReclaimedBlock) (page : ℕ) → (own_blocks s).reclaiming ≡ reclaiming.Draining o → page < o.written
+      → page ≡ (broom_view s).cleared → CanGetStamp (broom_view s) (reclaimed_as Victim o)
+  stamp_can o page is below cleared =
+      record { own = draining_at (own_blocks s) (broom_view s).owns s.owns o is; victim = refl; written = subst (λ k. k < o.written) cleared below }
 
 module _ (f : Flash) (s : BroomSeat) (h : IsBroomOf f s) (slots n : ℕ) (after : Sitter) where
-  pub stamp_view : (word page : ℕ) (o : ReclaimedBlock) → CanGetStamp (broom_view s) (reclaimed_as Victim o) → page ≡ (broom_view s).cleared → word ≡ page_index (device f) o.block page + (device f).words
+  pub stamp_view : (word page : ℕ) (o : ReclaimedBlock) → CanGetStamp (broom_view s) (reclaimed_as Victim o) → page ≡ (broom_view s).cleared
+      → word ≡ page_index (device f) o.block page + (device f).words
       → stamp_told (step slots word 0 0 none) s.seat.me n after → GotStamp (broom_view s) (reclaimed_as Victim o) n after.0
   stamp_view word page o can cleared at told =
-      told.1 (reclaimed_as Victim o) can (at ∙ (ap (λ k. page_index (device f) o.block k + (device f).words) cleared ∙ ap (λ (y : Numbers). page_index y o.block (broom_view s).cleared + y.words) (sym h.numbers)))
+      told.1 (reclaimed_as Victim o) can
+      (at ∙ (ap (λ k. page_index (device f) o.block k + (device f).words) cleared
+      ∙ ap (λ (y : Numbers). page_index y o.block (broom_view s).cleared + y.words) (sym h.numbers)))
 
-  pub source_value : (word i : ℕ) (page : MapWord) (x : Source) (value : List ℕ) → (broom_view s).source ≡ Some x → x.page ≡ page → x.value ≡ Some value → i < (device f).words → word ≡ page_index (device f) page.block page.page + i
+  pub source_value : (word i : ℕ) (page : MapWord) (x : Source) (value : List ℕ) → (broom_view s).source ≡ Some x → x.page ≡ page
+      → x.value ≡ Some value → i < (device f).words → word ≡ page_index (device f) page.block page.page + i
       → source_told (step slots word 0 0 none) s.seat.me n after → n ≡ data_word value i
   source_value word i page x value is same live low at told =
-      told.1 x value i is live (subst (λ (y : Numbers). i < y.words) (sym h.numbers) low) (at ∙ (λ j. page_index (sym h.numbers j) (sym same j).block (sym same j).page + i))
+      told.1 x value i is live (subst (λ (y : Numbers). i < y.words) (sym h.numbers) low)
+      (at ∙ (λ j. page_index (sym h.numbers j) (sym same j).block (sym same j).page + i))
 
-  pub moved_view : (sector old new : ℕ) (x : Source) (from to : MapWord) → CanMove (broom_view s) x to → FitsMap from × FitsMap to → x.page ≡ from → x.stamp ≡ sector → old ≡ map_word from → new ≡ map_word to
+  pub moved_view : (sector old new : ℕ) (x : Source) (from to : MapWord) → CanMove (broom_view s) x to → FitsMap from × FitsMap to → x.page ≡ from
+      → x.stamp ≡ sector → old ≡ map_word from → new ≡ map_word to
       → move_told (step slots sector old new none) s.seat.me n after → Moved (broom_view s) x n after.0
   moved_view sector old new x from to can fits same stamp packed copy told =
       told.1 x to can (subst FitsMap (sym same) fits.0) fits.1 (sym stamp) (packed ∙ ap map_word (sym same)) copy

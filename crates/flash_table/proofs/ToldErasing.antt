@@ -11,7 +11,8 @@ use Rattle.geometry.specs.declared.pin_word.TheConstants.{NEXT_PHASE}
 use Rattle.flash_rule.specs.Views.{is_broom, without, with_owned}
 use Rattle.flash_rule.specs.World.{blank_word}
 use Rattle.flash_rule.specs.Plays.{Sitter}
-use Rattle.flash_rule.specs.BroomPlays.{CanCondemn, Condemned, IsErasing, CanWipe, CanRenew, CanRetire, condemn_told, wipe_told, freed_told, kept_told, retired_told}
+use Rattle.flash_rule.specs.BroomPlays.{CanCondemn, Condemned, IsErasing, CanWipe, CanRenew, CanRetire}
+use Rattle.flash_rule.specs.BroomPlays.{condemn_told, wipe_told, freed_told, kept_told, retired_told}
 use Rattle.flash_rule.proofs.Places.{page_within}
 use Rattle.flash_rule.proofs.Wiping.{row_of, wiped_index}
 use Rattle.flash_table.specs.declared.flash.Flash.{Flash}
@@ -41,7 +42,8 @@ wiped_within z b i low below =
 
 module _ (f : Flash) (s : BroomSeat) (h : IsBroomOf f s) where
   -- ---- what the calls ask is what the rule asks
-  pub can_condemn : (b : ℕ) (p : PinWord) → (own_blocks s).reclaiming ≡ reclaiming.Nothing → b < (device f).blocks → IsUnread (broom_view s) b p → CanCondemn (broom_view s) b p
+  pub can_condemn : (b : ℕ) (p : PinWord) → (own_blocks s).reclaiming ≡ reclaiming.Nothing → b < (device f).blocks → IsUnread (broom_view s) b p
+      → CanCondemn (broom_view s) b p
   can_condemn b p rested low t =
       record {
         low = (let blocks : (broom_view s).numbers.blocks ≡ (device f).blocks = ap (λ (y : Numbers). y.blocks) h.numbers in omega arith);
@@ -61,7 +63,8 @@ module _ (f : Flash) (s : BroomSeat) (h : IsBroomOf f s) where
   endures : (broom_view s).numbers.endurance ≡ (device f).endurance
   endures = ap (λ (y : Numbers). y.endurance) h.numbers
 
-  pub can_wipe : (o : ReclaimedBlock) (i : ℕ) → (own_blocks s).reclaiming ≡ reclaiming.Erasing o → i ≡ (broom_view s).wiped → i < words_in_block (device f) → CanWipe (broom_view s) (reclaimed_as Erasing o)
+  pub can_wipe : (o : ReclaimedBlock) (i : ℕ) → (own_blocks s).reclaiming ≡ reclaiming.Erasing o → i ≡ (broom_view s).wiped
+      → i < words_in_block (device f) → CanWipe (broom_view s) (reclaimed_as Erasing o)
   can_wipe o i its next below = record { erasing = is_erasing o its; room = (let e = all_words in omega arith) }
 
   pub can_renew : (o : ReclaimedBlock) → CanLiveOn f s o → CanRenew (broom_view s) (reclaimed_as Erasing o)
@@ -76,7 +79,8 @@ module _ (f : Flash) (s : BroomSeat) (h : IsBroomOf f s) where
   can_retire o t = record { erasing = is_erasing o t.erases.its; last = t.last ∙ sym endures }
 
   -- ---- what is asked of the block that the broom erases, of the block that is found there
-  pub of_erased : (P : ReclaimedBlock → Type 0) (o : ReclaimedBlock) → (own_blocks s).reclaiming ≡ reclaiming.Erasing o → (x : ReclaimedBlock) → (own_blocks s).reclaiming ≡ reclaiming.Erasing x → P x → P o
+  pub of_erased : (P : ReclaimedBlock → Type 0) (o : ReclaimedBlock) → (own_blocks s).reclaiming ≡ reclaiming.Erasing o → (x : ReclaimedBlock)
+      → (own_blocks s).reclaiming ≡ reclaiming.Erasing x → P x → P o
   of_erased P o is x its can = subst P (same_erased (own_blocks s).reclaiming x o its is) can
 
   pub live_on : (o : ReclaimedBlock) → (own_blocks s).reclaiming ≡ reclaiming.Erasing o → (x : ReclaimedBlock) × CanLiveOn f s x → CanLiveOn f s o
@@ -87,13 +91,16 @@ module _ (f : Flash) (s : BroomSeat) (h : IsBroomOf f s) where
 
 module _ (f : Flash) (s : BroomSeat) (h : IsBroomOf f s) (slots n : ℕ) (after : Sitter) where
   -- ---- what a step's play makes of the seat
-  pub condemned : (word b old : ℕ) (p : PinWord) → word ≡ pin_index (device f) b → old ≡ pin_word p → CanCondemn (broom_view s) b p → condemn_told (step slots word old (old + NEXT_PHASE) none) s.seat.me n after → Condemned (broom_view s) b p n after.0
+  pub condemned : (word b old : ℕ) (p : PinWord) → word ≡ pin_index (device f) b → old ≡ pin_word p → CanCondemn (broom_view s) b p
+      → condemn_told (step slots word old (old + NEXT_PHASE) none) s.seat.me n after → Condemned (broom_view s) b p n after.0
   condemned word b old p at packed can told = told.1 b p can (at ∙ ap (λ y. pin_index y b) (sym h.numbers)) packed
 
-  pub wipe_view : (word i : ℕ) (o : ReclaimedBlock) → CanWipe (broom_view s) (reclaimed_as Erasing o) → i ≡ (broom_view s).wiped → word ≡ page_index (device f) o.block 0 + i
+  pub wipe_view : (word i : ℕ) (o : ReclaimedBlock) → CanWipe (broom_view s) (reclaimed_as Erasing o) → i ≡ (broom_view s).wiped
+      → word ≡ page_index (device f) o.block 0 + i
       → wipe_told (step slots word blank_word 0 none) s.seat.me n after → after.0 ≡ record (broom_view s) { wiped = i + 1 }
   wipe_view word i o can next at told =
-      told.1 (reclaimed_as Erasing o) can (at ∙ λ j. page_index (sym h.numbers j) o.block 0 + next j) refl ∙ ap (λ k. record (broom_view s) { wiped = k + 1 }) (sym next)
+      told.1 (reclaimed_as Erasing o) can (at ∙ λ j. page_index (sym h.numbers j) o.block 0 + next j) refl
+      ∙ ap (λ k. record (broom_view s) { wiped = k + 1 }) (sym next)
 
   pub freed_view : (word added : ℕ) (o : ReclaimedBlock) → CanLiveOn f s o → word ≡ pin_index (device f) o.block
       → freed_told (step slots word added 0 none) s.seat.me n after → after.0 ≡ left_free (broom_view s) o
@@ -101,7 +108,9 @@ module _ (f : Flash) (s : BroomSeat) (h : IsBroomOf f s) (slots n : ℕ) (after 
 
   pub kept_view : (word added : ℕ) (o : ReclaimedBlock) → CanLiveOn f s o → word ≡ pin_index (device f) o.block
       → kept_told (step slots word added 0 none) s.seat.me n after
-      → after.0 ≡ record (broom_view s) { owns = with_owned (owned_of (record { block = o.block; generation = o.generation + 1; written = 0 })) (broom_view s).owns }
+      → after.0 ≡ record (broom_view s) {
+        owns = with_owned (owned_of (record { block = o.block; generation = o.generation + 1; written = 0 })) (broom_view s).owns;
+      }
   kept_view word added o lives at told = told.1 (reclaimed_as Erasing o) (can_renew f s h o lives) (at ∙ ap (λ y. pin_index y o.block) (sym h.numbers))
 
   pub retired_view : (word : ℕ) (o : ReclaimedBlock) → IsLastErase f s o → word ≡ pin_index (device f) o.block

@@ -25,11 +25,13 @@ pub record SpareTaken (v w : View) (b k : ℕ) : Type 0 where
   pub fresh : owned_at b v.owns ≡ None
   pub changed : w ≡ record v { taken = v.taken + 1; owns = owned_of (fresh_block b k) ∷ v.owns }
 
-module _ (f : Flash) (s : BroomSeat) (h : IsBroomOf f s) (slots n : ℕ) (after : Sitter) (word b : ℕ) (low : b < (device f).blocks) (at : word ≡ pin_index (device f) b) (told : take_told (step slots word TAKEN 0 none) s.seat.me n after) where
+module _ (f : Flash) (s : BroomSeat) (h : IsBroomOf f s) (slots n : ℕ) (after : Sitter) (word b : ℕ) (low : b < (device f).blocks)
+    (at : word ≡ pin_index (device f) b) (told : take_told (step slots word TAKEN 0 none) s.seat.me n after) where
   took : Took (broom_view s) b n after.0
   took = told.1 b (subst (λ (y : Numbers). b < y.blocks) (sym h.numbers) low) (at ∙ ap (λ y. pin_index y b) (sym h.numbers))
 
-  pub spare_taken : (k : ℕ) → (state : PinWord) × FitsPin state × (pin_word state ≡ n) × (state.phase ≡ Free) × (state.generation ≡ k) → SpareTaken (broom_view s) after.0 b k
+  pub spare_taken : (k : ℕ) → (state : PinWord) × FitsPin state × (pin_word state ≡ n) × (state.phase ≡ Free) × (state.generation ≡ k)
+      → SpareTaken (broom_view s) after.0 b k
   spare_taken k t =
       let same : took.state ≡ t.0 = pin_same took.state t.0 took.fits t.1 (sym took.found ∙ sym t.2) in
       let free : took.state.phase ≡ Free = ap (λ (p : PinWord). p.phase) same ∙ t.3 in
@@ -38,8 +40,12 @@ module _ (f : Flash) (s : BroomSeat) (h : IsBroomOf f s) (slots n : ℕ) (after 
         young = (let r = took.young in omega arith);
         fresh = took.fresh free;
         changed = took.free free
-            ∙ (λ i. record (broom_view s) { taken = (broom_view s).taken + 1; owns = owned_of (fresh_block b (generation i)) ∷ stays_without b (broom_view s).owns (took.fresh free) i });
+            ∙ (λ i. record (broom_view s) {
+              taken = (broom_view s).taken + 1;
+              owns = owned_of (fresh_block b (generation i)) ∷ stays_without b (broom_view s).owns (took.fresh free) i;
+            });
       }
 
-  pub spare_denied : ((state : PinWord) → FitsPin state → pin_word state ≡ n → ¬ (state.phase ≡ Free)) → after.0 ≡ record (broom_view s) { denied = (broom_view s).denied ++ b ∷ [] }
+  pub spare_denied : ((state : PinWord) → FitsPin state → pin_word state ≡ n → ¬ (state.phase ≡ Free))
+      → after.0 ≡ record (broom_view s) { denied = (broom_view s).denied ++ b ∷ [] }
   spare_denied not = took.denied (not took.state took.fits (sym took.found))

@@ -33,7 +33,9 @@ pub record FoundBusy (v : View) (x : BroomBlocks) (b : ℕ) (w : View) (y : Broo
 
 -- what a condemn records, by its result
 abbrev pub CondemnTold : BroomSeat → ℕ → PinWord → Bool → BroomSeat → Type 0
-CondemnTold s b p result t = MatchBool result (NowErases (broom_view s) (own_blocks s) b p (broom_view t) (own_blocks t)) (FoundBusy (broom_view s) (own_blocks s) b (broom_view t) (own_blocks t))
+CondemnTold s b p result t =
+    MatchBool result (NowErases (broom_view s) (own_blocks s) b p (broom_view t) (own_blocks t))
+    (FoundBusy (broom_view s) (own_blocks s) b (broom_view t) (own_blocks t))
 
 -- The broom erases this block, which is one of the device's and has no more pages written than a block has
 pub record IsErasing (f : Flash) (s : BroomSeat) (o : ReclaimedBlock) : Type 0 where

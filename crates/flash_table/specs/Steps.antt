@@ -19,7 +19,8 @@ use Rattle.flash_rule.specs.BroomPlays.{GotStamp, Moved, owned_as}
 use Rattle.flash_rule.specs.Plays.{CanClose, CanCount, CanPut, Spared, next_page, words_in, Called, CanPlace}
 use Rattle.flash_rule.specs.Views.{with_owned}
 use Rattle.flash_rule.specs.World.{Intact}
-use Rattle.flash_table.specs.Flash.{IsBroomOf, IsPassOf, Strayed, broom_view, device, first_blocks, first_broom, first_view, opened_of, own_blocks, view_of, Taken, Denied}
+use Rattle.flash_table.specs.Flash.{IsBroomOf, IsPassOf, Strayed, broom_view, device, first_blocks, first_broom}
+use Rattle.flash_table.specs.Flash.{first_view, opened_of, own_blocks, view_of, Taken, Denied}
 use Rattle.flash_table.specs.Owning.{owned_of, reclaimed_as}
 use Rattle.flash_table.specs.declared.broom_seat.BroomBlocks.{BroomBlocks}
 use Rattle.flash_table.specs.declared.broom_seat.BroomSeat.{BroomSeat}
@@ -41,7 +42,8 @@ HasCalled old call s answer new = Called (view_of old) call s answer (view_of ne
 
 -- a page that can be named as a sector's was named, by a call of the pass
 abbrev pub PlaceTold : (ℕ → List ℕ → Call) → Pass → ℕ → MapWord → Was → Pass → Type 0
-PlaceTold call old s page answer new = (t : ℕ) (value : List ℕ) → HasNumber t old → CanPlace (view_of old) s page value → HasCalled old (call t value) s answer new
+PlaceTold call old s page answer new = (t : ℕ) (value : List ℕ) → HasNumber t old → CanPlace (view_of old) s page value
+    → HasCalled old (call t value) s answer new
 
 -- what the take of a block records, by its result
 abbrev pub TakeTold : View → ℕ → Bool → View → Option OpenBlock → Type 0
@@ -61,11 +63,13 @@ IsBack v note = (n : Name) × (c : Carried) × (v.role ≡ Player n) × (note.gu
 
 -- this word is the next one of the first unwritten page of the open block
 abbrev pub IsNextWord : Geometry → View → Option OpenBlock → ℕ → Type 0
-IsNextWord geo v opened i = (o : OpenBlock) × (opened ≡ Some o) × CanPut v (owned_of o) × (i ≡ length (words_in v.work (owned_of o))) × (o.block < blocks_of geo)
+IsNextWord geo v opened i = (o : OpenBlock) × (opened ≡ Some o) × CanPut v (owned_of o) × (i ≡ length (words_in v.work (owned_of o)))
+    × (o.block < blocks_of geo)
 
 -- a word was put behind those of the first unwritten page of the open block
 abbrev pub HasPut : View → Option OpenBlock → ℕ → View → Type 0
-HasPut v opened word w = (o : OpenBlock) → opened ≡ Some o → w ≡ record v { work = Some (record { page = next_page (owned_of o); words = words_in v.work (owned_of o) ++ word ∷ [] }) }
+HasPut v opened word w = (o : OpenBlock) → opened ≡ Some o
+    → w ≡ record v { work = Some (record { page = next_page (owned_of o); words = words_in v.work (owned_of o) ++ word ∷ [] }) }
 
 -- the first unwritten page of the open block is filled
 abbrev pub IsFilled : Geometry → View → Option OpenBlock → Type 0
@@ -105,7 +109,8 @@ IsClaimed v block state w = w ≡ record v { owns = with_owned (owned_as block s
 
 -- the broom drains this block; its other blocks are unchanged
 abbrev pub NowDrains : BroomBlocks → ℕ → PinWord → BroomBlocks → Type 0
-NowDrains before block state after = after ≡ record before { reclaiming = reclaiming.Draining (record { block = block; generation = state.generation; written = state.written }) }
+NowDrains before block state after =
+    after ≡ record before { reclaiming = reclaiming.Draining (record { block = block; generation = state.generation; written = state.written }) }
 
 -- all pages written of the victim are cleared
 abbrev pub IsCleared : Geometry → View → BroomBlocks → Type 0

@@ -22,7 +22,8 @@ impl Flash {
     pub fn put_copy_word(&self, broom: &mut BroomSeat, start: usize, i: u32, word: u64)
         requires broom { IsBroomOf self.now broom.old }
         requires next { IsNextWord (geometry_of self.now) (broom_view broom.old) (own_blocks broom.old).destination i }
-        requires start { (o : OpenBlock) → (own_blocks broom.old).destination ≡ Some o → start ≡ page_index (numbers_of (geometry_of self.now)) o.block o.written }
+        requires start { (o : OpenBlock) → (own_blocks broom.old).destination ≡ Some o
+            → start ≡ page_index (numbers_of (geometry_of self.now)) o.block o.written }
         ensures told { HasPut (broom_view broom.old) (own_blocks broom.old).destination word (broom_view broom.new) }
         ensures broom { IsBroomOf self.now broom.new }
         ensures blocks { own_blocks broom.new ≡ own_blocks broom.old }
@@ -38,7 +39,8 @@ impl Flash {
         requires broom { IsBroomOf self.now broom.old }
         requires filled { IsFilled (geometry_of self.now) (broom_view broom.old) (own_blocks broom.old).destination }
         ensures told { (o : OpenBlock) (x : Work) → (own_blocks broom.old).destination ≡ Some o → CanCount (broom_view broom.old) (owned_of o) x
-            → broom_view broom.new ≡ record (broom_view broom.old) { programs = (broom_view broom.old).programs ++ x.page ∷ []; owns = with_owned (owned_of (record o { written = o.written + 1 })) (broom_view broom.old).owns } }
+            → broom_view broom.new ≡ record (broom_view broom.old)
+            { programs = (broom_view broom.old).programs ++ x.page ∷ []; owns = with_owned (owned_of (record o { written = o.written + 1 })) (broom_view broom.old).owns } }
         ensures blocks { HasOneMore (own_blocks broom.old) (own_blocks broom.new) }
         ensures broom { IsBroomOf self.now broom.new }
     {

@@ -69,7 +69,8 @@ impl Flash {
     pub fn free_block(&self, broom: &mut BroomSeat)
         requires broom { IsBroomOf self.now broom.old }
         requires wiped { (o : ReclaimedBlock) × CanLiveOn self.now broom.old o }
-        ensures told { (o : ReclaimedBlock) → (own_blocks broom.old).reclaiming ≡ reclaiming.Erasing o → broom_view broom.new ≡ left_free (broom_view broom.old) o }
+        ensures told { (o : ReclaimedBlock) → (own_blocks broom.old).reclaiming ≡ reclaiming.Erasing o
+            → broom_view broom.new ≡ left_free (broom_view broom.old) o }
         ensures blocks { own_blocks broom.new ≡ record (own_blocks broom.old) { reclaiming = reclaiming.Nothing } }
         ensures broom { IsBroomOf self.now broom.new }
     {
@@ -89,9 +90,11 @@ impl Flash {
         requires wiped { (o : ReclaimedBlock) × CanLiveOn self.now broom.old o }
         requires no_spare { (own_blocks broom.old).spare ≡ None }
         ensures told { (o : ReclaimedBlock) → (own_blocks broom.old).reclaiming ≡ reclaiming.Erasing o
-            → broom_view broom.new ≡ record (broom_view broom.old) { owns = with_owned (owned_of (record { block = o.block; generation = o.generation + 1; written = 0 })) (broom_view broom.old).owns } }
+            → broom_view broom.new ≡ record (broom_view broom.old)
+            { owns = with_owned (owned_of (record { block = o.block; generation = o.generation + 1; written = 0 })) (broom_view broom.old).owns } }
         ensures blocks { (o : ReclaimedBlock) → (own_blocks broom.old).reclaiming ≡ reclaiming.Erasing o
-            → own_blocks broom.new ≡ record (own_blocks broom.old) { spare = Some (record { block = o.block; generation = o.generation + 1; written = 0 }); reclaiming = reclaiming.Nothing } }
+            → own_blocks broom.new ≡ record (own_blocks broom.old)
+            { spare = Some (record { block = o.block; generation = o.generation + 1; written = 0 }); reclaiming = reclaiming.Nothing } }
         ensures broom { IsBroomOf self.now broom.new }
     {
         let Reclaiming::Erasing(erased) = broom.blocks.reclaiming else {
@@ -116,7 +119,8 @@ impl Flash {
     pub fn retire_block(&self, broom: &mut BroomSeat)
         requires broom { IsBroomOf self.now broom.old }
         requires last { (o : ReclaimedBlock) × IsLastErase self.now broom.old o }
-        ensures told { (o : ReclaimedBlock) → (own_blocks broom.old).reclaiming ≡ reclaiming.Erasing o → broom_view broom.new ≡ left_retired (broom_view broom.old) o }
+        ensures told { (o : ReclaimedBlock) → (own_blocks broom.old).reclaiming ≡ reclaiming.Erasing o
+            → broom_view broom.new ≡ left_retired (broom_view broom.old) o }
         ensures blocks { own_blocks broom.new ≡ record (own_blocks broom.old) { reclaiming = reclaiming.Nothing } }
         ensures broom { IsBroomOf self.now broom.new }
     {

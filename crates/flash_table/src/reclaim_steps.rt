@@ -67,7 +67,8 @@ impl Flash {
     pub fn drain(&self, broom: &mut BroomSeat)
         requires broom { IsBroomOf self.now broom.old }
         requires cleared { IsCleared (geometry_of self.now) (broom_view broom.old) (own_blocks broom.old) }
-        ensures told { (o : ReclaimedBlock) → (own_blocks broom.old).reclaiming ≡ reclaiming.Draining o → broom_view broom.new ≡ left_drained (broom_view broom.old) o }
+        ensures told { (o : ReclaimedBlock) → (own_blocks broom.old).reclaiming ≡ reclaiming.Draining o
+            → broom_view broom.new ≡ left_drained (broom_view broom.old) o }
         ensures blocks { own_blocks broom.new ≡ record (own_blocks broom.old) { reclaiming = reclaiming.Nothing } }
         ensures broom { IsBroomOf self.now broom.new }
     {

@@ -161,7 +161,8 @@ impl Flash {
         requires pass { IsPassOf self.now pass.old }
         requires filled { IsFilled (geometry_of self.now) (view_of pass.old) (opened_of pass.old) }
         ensures told { (o : OpenBlock) (x : Work) → opened_of pass.old ≡ Some o → CanCount (view_of pass.old) (owned_of o) x
-            → view_of pass.new ≡ record (view_of pass.old) { programs = (view_of pass.old).programs ++ x.page ∷ []; owns = owned_of (record o { written = o.written + 1 }) ∷ [] } }
+            → view_of pass.new ≡ record (view_of pass.old)
+            { programs = (view_of pass.old).programs ++ x.page ∷ []; owns = owned_of (record o { written = o.written + 1 }) ∷ [] } }
         ensures opened { (o : OpenBlock) → opened_of pass.old ≡ Some o → opened_of pass.new ≡ Some (record o { written = o.written + 1 }) }
         ensures pass { IsPassOf self.now pass.new }
     {

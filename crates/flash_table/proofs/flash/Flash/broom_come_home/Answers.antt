@@ -16,7 +16,8 @@ join_seat-requires c =
       c.requires.note.table,
       c.args.note.bare,
       omega arith,
-      home_here (device f) (numbers_of f.table.shared.key) (ap numbers_of f.key) s.seat.id (broom_view s) (broom_player f s c.requires.broom) c.args.note.seat.id (note_view c.args.note) t.0 t.1 t.2 c.requires.note.role t.3 t.4 t.5,
+      home_here (device f) (numbers_of f.table.shared.key) (ap numbers_of f.key) s.seat.id (broom_view s)
+          (broom_player f s c.requires.broom) c.args.note.seat.id (note_view c.args.note) t.0 t.1 t.2 c.requires.note.role t.3 t.4 t.5,
     )
 
 pub returns-clause-blocks : goal.returns-clause-blocks

@@ -12,8 +12,12 @@ split_seat-seat-requires c =
     let f = c.args.self.now in
     let s = c.args.broom.now in
     let size = f.size in
-    let some_sector = f.geometry.in_limits.sectors_low in
-    (c.requires.broom.table, omega arith, lend_here (device f) (numbers_of f.table.shared.key) (ap numbers_of f.key) s.seat.id (broom_view s) (broom_player f s c.requires.broom) c.requires.whole c.requires.alone)
+    let some_sector = f.geometry.in_limits.sectors_low in (
+      c.requires.broom.table,
+      omega arith,
+      lend_here (device f) (numbers_of f.table.shared.key) (ap numbers_of f.key) s.seat.id (broom_view s)
+          (broom_player f s c.requires.broom) c.requires.whole c.requires.alone,
+    )
 
 pub returns-clause-told : goal.returns-clause-told
 returns-clause-told c = ap (λ x. x.0) c.split_seat-seat.ensures.2
@@ -25,4 +29,8 @@ pub invariant_of-result : goal.invariant_of-result
 invariant_of-result c = record { bare = ap (λ x. x.1) c.split_seat-seat.ensures.4 }
 
 pub invariant_of-broom : goal.invariant_of-broom
-invariant_of-broom c = record { bare = ap (λ x. x.1) c.split_seat-seat.ensures.2 ∙ c.args.broom.now.bare; owns = subst (OwnsJust (blocks_list c.args.broom.now.blocks)) (sym (ap (λ (v : View). v.owns) (ap (λ x. x.0) c.split_seat-seat.ensures.2))) c.args.broom.now.owns }
+invariant_of-broom c = record {
+  bare = ap (λ x. x.1) c.split_seat-seat.ensures.2 ∙ c.args.broom.now.bare;
+  owns = subst (OwnsJust (blocks_list c.args.broom.now.blocks))
+      (sym (ap (λ (v : View). v.owns) (ap (λ x. x.0) c.split_seat-seat.ensures.2))) c.args.broom.now.owns;
+}

@@ -13,8 +13,12 @@ pub load-found-requires : goal.load-found-requires
 load-found-requires c =
     let f = c.args.self.now in
     let size = f.size in
-    let below = c.requires.sector in
-    (c.requires.broom.table, omega arith, broom_look_here (device f) (numbers_of f.table.shared.key) (ap numbers_of f.key) _ _ _ c.args.sector (broom_player f c.args.broom.now c.requires.broom) below)
+    let below = c.requires.sector in (
+      c.requires.broom.table,
+      omega arith,
+      broom_look_here (device f) (numbers_of f.table.shared.key) (ap numbers_of f.key) _ _ _ c.args.sector
+          (broom_player f c.args.broom.now c.requires.broom) below,
+    )
 
 pub invariant_of-broom : goal.invariant_of-broom
 invariant_of-broom c =
@@ -30,7 +34,8 @@ returns-clause-told c =
 pub returns-clause-broom : goal.returns-clause-broom
 returns-clause-broom c =
     let changed = c.load-found.ensures.2.1.changed in
-    stays_broom c.args.self.now c.args.broom.now _ c.requires.broom c.load-found.ensures.0 (ap (λ (w : View). w.role) changed) (ap (λ (w : View). w.numbers) changed)
+    stays_broom c.args.self.now c.args.broom.now _ c.requires.broom c.load-found.ensures.0 (ap (λ (w : View). w.role) changed)
+    (ap (λ (w : View). w.numbers) changed)
 
 pub returns-clause-fits : goal.returns-clause-fits
 returns-clause-fits c = grind (arith, common_steps)

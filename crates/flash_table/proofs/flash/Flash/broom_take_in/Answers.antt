@@ -16,7 +16,8 @@ join_seat-requires c =
       c.requires.note.table,
       c.args.note.bare,
       omega arith,
-      take_in_here (device f) (numbers_of f.table.shared.key) (ap numbers_of f.key) s.seat.id (broom_view s) (broom_player f s c.requires.broom) c.args.note.seat.id (note_view c.args.note) t.0 c.requires.note.role t.2 t.1 c.requires.whole,
+      take_in_here (device f) (numbers_of f.table.shared.key) (ap numbers_of f.key) s.seat.id (broom_view s)
+          (broom_player f s c.requires.broom) c.args.note.seat.id (note_view c.args.note) t.0 c.requires.note.role t.2 t.1 c.requires.whole,
     )
 
 pub returns-clause-blocks : goal.returns-clause-blocks

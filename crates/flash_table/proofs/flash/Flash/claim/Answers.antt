@@ -20,7 +20,8 @@ compare_exchange-found-requires c =
     let size = f.size in (
       c.requires.broom.table,
       omega arith,
-      claim_here (device f) (numbers_of f.table.shared.key) (ap numbers_of f.key) _ _ _ c.pin_at-word.result c.args.block c.pack-expected.result _ c.args.state at c.pack-expected.ensures refl (is_a_broom f s c.requires.broom) can,
+      claim_here (device f) (numbers_of f.table.shared.key) (ap numbers_of f.key) _ _ _ c.pin_at-word.result c.args.block c.pack-expected.result _
+          c.args.state at c.pack-expected.ensures refl (is_a_broom f s c.requires.broom) can,
     )
 
 pub invariant_of-broom : goal.invariant_of-broom
@@ -28,7 +29,9 @@ invariant_of-broom c =
     let f = c.args.self.now in
     let s = c.args.broom.now in
     let can = claim_can f s c.requires.broom c.args.block c.args.state c.requires.block c.requires.state c.requires.loaded c.requires.at_rest in
-    let told = claimed_view f s c.requires.broom f.table.shared.table_id.slots c.compare_exchange-found.result c.compare_exchange-found.new.seat.me c.pin_at-word.result c.args.block c.pack-expected.result c.args.state can c.pin_at-word.ensures c.pack-expected.ensures c.compare_exchange-found.ensures.2 in
+    let told = claimed_view f s c.requires.broom f.table.shared.table_id.slots c.compare_exchange-found.result c.compare_exchange-found.new.seat.me
+    c.pin_at-word.result c.args.block c.pack-expected.result c.args.state can c.pin_at-word.ensures c.pack-expected.ensures
+    c.compare_exchange-found.ensures.2 in
     let changed = told.lost (λ is. c.if-found-expected.true (is ∙ sym c.pack-expected.ensures)) in
     record { bare = c.compare_exchange-found.ensures.2.0 ∙ s.bare; owns = just_now _ _ _ (ap (λ (w : View). w.owns) changed) s.owns }
 
@@ -37,7 +40,9 @@ returns-then-found-expected-clause-told c =
     let f = c.args.self.now in
     let s = c.args.broom.now in
     let can = claim_can f s c.requires.broom c.args.block c.args.state c.requires.block c.requires.state c.requires.loaded c.requires.at_rest in
-    let told = claimed_view f s c.requires.broom f.table.shared.table_id.slots c.compare_exchange-found.result c.compare_exchange-found.new.seat.me c.pin_at-word.result c.args.block c.pack-expected.result c.args.state can c.pin_at-word.ensures c.pack-expected.ensures c.compare_exchange-found.ensures.2 in
+    let told = claimed_view f s c.requires.broom f.table.shared.table_id.slots c.compare_exchange-found.result c.compare_exchange-found.new.seat.me
+    c.pin_at-word.result c.args.block c.pack-expected.result c.args.state can c.pin_at-word.ensures c.pack-expected.ensures
+    c.compare_exchange-found.ensures.2 in
     let changed = told.lost (λ is. c.if-found-expected.true (is ∙ sym c.pack-expected.ensures)) in
     changed
 
@@ -46,7 +51,9 @@ returns-then-found-expected-clause-broom c =
     let f = c.args.self.now in
     let s = c.args.broom.now in
     let can = claim_can f s c.requires.broom c.args.block c.args.state c.requires.block c.requires.state c.requires.loaded c.requires.at_rest in
-    let told = claimed_view f s c.requires.broom f.table.shared.table_id.slots c.compare_exchange-found.result c.compare_exchange-found.new.seat.me c.pin_at-word.result c.args.block c.pack-expected.result c.args.state can c.pin_at-word.ensures c.pack-expected.ensures c.compare_exchange-found.ensures.2 in
+    let told = claimed_view f s c.requires.broom f.table.shared.table_id.slots c.compare_exchange-found.result c.compare_exchange-found.new.seat.me
+    c.pin_at-word.result c.args.block c.pack-expected.result c.args.state can c.pin_at-word.ensures c.pack-expected.ensures
+    c.compare_exchange-found.ensures.2 in
     let changed = told.lost (λ is. c.if-found-expected.true (is ∙ sym c.pack-expected.ensures)) in
     stays_broom f s _ c.requires.broom c.compare_exchange-found.ensures.0 (ap (λ (w : View). w.role) changed) (ap (λ (w : View). w.numbers) changed)
 
@@ -55,18 +62,26 @@ invariant_of-broom-2 c =
     let f = c.args.self.now in
     let s = c.args.broom.now in
     let can = claim_can f s c.requires.broom c.args.block c.args.state c.requires.block c.requires.state c.requires.loaded c.requires.at_rest in
-    let told = claimed_view f s c.requires.broom f.table.shared.table_id.slots c.compare_exchange-found.result c.compare_exchange-found.new.seat.me c.pin_at-word.result c.args.block c.pack-expected.result c.args.state can c.pin_at-word.ensures c.pack-expected.ensures c.compare_exchange-found.ensures.2 in
+    let told = claimed_view f s c.requires.broom f.table.shared.table_id.slots c.compare_exchange-found.result c.compare_exchange-found.new.seat.me
+    c.pin_at-word.result c.args.block c.pack-expected.result c.args.state can c.pin_at-word.ensures c.pack-expected.ensures
+    c.compare_exchange-found.ensures.2 in
     let is = c.if-found-expected.false ∙ c.pack-expected.ensures in
     let changed = told.won is in
     let now : ReclaimedBlock = record { block = c.args.block; generation = c.args.state.generation; written = c.args.state.written } in
-    record { bare = c.compare_exchange-found.ensures.2.0 ∙ s.bare; owns = just_now _ _ _ (ap (λ (w : View). w.owns) changed) (claimed_just (own_blocks s) (broom_view s).owns s.owns now c.requires.at_rest (told.fresh is)) }
+    record {
+      bare = c.compare_exchange-found.ensures.2.0 ∙ s.bare;
+      owns = just_now _ _ _ (ap (λ (w : View). w.owns) changed)
+          (claimed_just (own_blocks s) (broom_view s).owns s.owns now c.requires.at_rest (told.fresh is));
+    }
 
 pub returns-clause-told : goal.returns-clause-told
 returns-clause-told c =
     let f = c.args.self.now in
     let s = c.args.broom.now in
     let can = claim_can f s c.requires.broom c.args.block c.args.state c.requires.block c.requires.state c.requires.loaded c.requires.at_rest in
-    let told = claimed_view f s c.requires.broom f.table.shared.table_id.slots c.compare_exchange-found.result c.compare_exchange-found.new.seat.me c.pin_at-word.result c.args.block c.pack-expected.result c.args.state can c.pin_at-word.ensures c.pack-expected.ensures c.compare_exchange-found.ensures.2 in
+    let told = claimed_view f s c.requires.broom f.table.shared.table_id.slots c.compare_exchange-found.result c.compare_exchange-found.new.seat.me
+    c.pin_at-word.result c.args.block c.pack-expected.result c.args.state can c.pin_at-word.ensures c.pack-expected.ensures
+    c.compare_exchange-found.ensures.2 in
     let is = c.if-found-expected.false ∙ c.pack-expected.ensures in
     let changed = told.won is in
     changed
@@ -76,7 +91,9 @@ returns-clause-broom c =
     let f = c.args.self.now in
     let s = c.args.broom.now in
     let can = claim_can f s c.requires.broom c.args.block c.args.state c.requires.block c.requires.state c.requires.loaded c.requires.at_rest in
-    let told = claimed_view f s c.requires.broom f.table.shared.table_id.slots c.compare_exchange-found.result c.compare_exchange-found.new.seat.me c.pin_at-word.result c.args.block c.pack-expected.result c.args.state can c.pin_at-word.ensures c.pack-expected.ensures c.compare_exchange-found.ensures.2 in
+    let told = claimed_view f s c.requires.broom f.table.shared.table_id.slots c.compare_exchange-found.result c.compare_exchange-found.new.seat.me
+    c.pin_at-word.result c.args.block c.pack-expected.result c.args.state can c.pin_at-word.ensures c.pack-expected.ensures
+    c.compare_exchange-found.ensures.2 in
     let is = c.if-found-expected.false ∙ c.pack-expected.ensures in
     let changed = told.won is in
     stays_broom f s _ c.requires.broom c.compare_exchange-found.ensures.0 (ap (λ (w : View). w.role) changed) (ap (λ (w : View). w.numbers) changed)

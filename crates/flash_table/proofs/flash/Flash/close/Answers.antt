@@ -24,13 +24,17 @@ fetch_add-requires c =
 
 pub invariant_of-pass : goal.invariant_of-pass
 invariant_of-pass c =
-    let changed = close_view c.args.self.now c.args.pass.now c.requires.pass c.args.self.now.table.shared.table_id.slots c.fetch_add.result c.fetch_add.new.seat.me c.pin_at-word.result c.in-Some.opened c.in-Some.is c.requires.settled c.pin_at-word.ensures c.fetch_add.ensures.2 in
+    let changed = close_view c.args.self.now c.args.pass.now c.requires.pass c.args.self.now.table.shared.table_id.slots c.fetch_add.result
+    c.fetch_add.new.seat.me c.pin_at-word.result c.in-Some.opened c.in-Some.is c.requires.settled c.pin_at-word.ensures c.fetch_add.ensures.2 in
     record { bare = c.fetch_add.ensures.2.0 ∙ c.args.pass.now.bare; owns = ap (λ (w : View). w.owns) changed }
 
 pub returns-clause-told : goal.returns-clause-told
-returns-clause-told c = close_view c.args.self.now c.args.pass.now c.requires.pass c.args.self.now.table.shared.table_id.slots c.fetch_add.result c.fetch_add.new.seat.me c.pin_at-word.result c.in-Some.opened c.in-Some.is c.requires.settled c.pin_at-word.ensures c.fetch_add.ensures.2
+returns-clause-told c = close_view c.args.self.now c.args.pass.now c.requires.pass c.args.self.now.table.shared.table_id.slots c.fetch_add.result
+    c.fetch_add.new.seat.me c.pin_at-word.result c.in-Some.opened c.in-Some.is c.requires.settled c.pin_at-word.ensures c.fetch_add.ensures.2
 
 pub returns-clause-pass : goal.returns-clause-pass
 returns-clause-pass c =
-    let changed = close_view c.args.self.now c.args.pass.now c.requires.pass c.args.self.now.table.shared.table_id.slots c.fetch_add.result c.fetch_add.new.seat.me c.pin_at-word.result c.in-Some.opened c.in-Some.is c.requires.settled c.pin_at-word.ensures c.fetch_add.ensures.2 in
-    stays_pass c.args.self.now c.args.pass.now _ c.requires.pass c.fetch_add.ensures.0 (ap (λ (w : View). w.role) changed) (ap (λ (w : View). w.numbers) changed)
+    let changed = close_view c.args.self.now c.args.pass.now c.requires.pass c.args.self.now.table.shared.table_id.slots c.fetch_add.result
+    c.fetch_add.new.seat.me c.pin_at-word.result c.in-Some.opened c.in-Some.is c.requires.settled c.pin_at-word.ensures c.fetch_add.ensures.2 in
+    stays_pass c.args.self.now c.args.pass.now _ c.requires.pass c.fetch_add.ensures.0 (ap (λ (w : View). w.role) changed)
+    (ap (λ (w : View). w.numbers) changed)

@@ -33,7 +33,8 @@ invariant_of-broom c =
     let s = c.args.broom.now in
     let o = c.in-Some.opened in
     let can = close_can f s c.requires.broom o c.in-Some.is c.requires.settled in
-    let changed = close_view f s c.requires.broom f.table.shared.table_id.slots c.fetch_add.result c.fetch_add.new.seat.me c.pin_at-word.result o can.0 c.pin_at-word.ensures c.fetch_add.ensures.2 in
+    let changed = close_view f s c.requires.broom f.table.shared.table_id.slots c.fetch_add.result c.fetch_add.new.seat.me c.pin_at-word.result o
+    can.0 c.pin_at-word.ensures c.fetch_add.ensures.2 in
     record {
       bare = c.fetch_add.ensures.2.0 ∙ s.bare;
       owns = just_now _ _ _ (ap (λ (w : View). w.owns) changed) (closed_just (own_blocks s) (broom_view s).owns s.owns o c.in-Some.is);
@@ -45,7 +46,8 @@ returns-clause-told c o is =
     let s = c.args.broom.now in
     let can = close_can f s c.requires.broom o is c.requires.settled in
     let same = same_block c.in-Some.opened o (own_blocks s).destination c.in-Some.is is in
-    close_view f s c.requires.broom f.table.shared.table_id.slots c.fetch_add.result c.fetch_add.new.seat.me c.pin_at-word.result o can.0 (c.pin_at-word.ensures ∙ ap (λ (y : OpenBlock). pin_index (device f) y.block) same) c.fetch_add.ensures.2
+    close_view f s c.requires.broom f.table.shared.table_id.slots c.fetch_add.result c.fetch_add.new.seat.me c.pin_at-word.result o can.0
+    (c.pin_at-word.ensures ∙ ap (λ (y : OpenBlock). pin_index (device f) y.block) same) c.fetch_add.ensures.2
 
 pub returns-clause-broom : goal.returns-clause-broom
 returns-clause-broom c =
@@ -53,5 +55,6 @@ returns-clause-broom c =
     let s = c.args.broom.now in
     let o = c.in-Some.opened in
     let can = close_can f s c.requires.broom o c.in-Some.is c.requires.settled in
-    let changed = close_view f s c.requires.broom f.table.shared.table_id.slots c.fetch_add.result c.fetch_add.new.seat.me c.pin_at-word.result o can.0 c.pin_at-word.ensures c.fetch_add.ensures.2 in
+    let changed = close_view f s c.requires.broom f.table.shared.table_id.slots c.fetch_add.result c.fetch_add.new.seat.me c.pin_at-word.result o
+    can.0 c.pin_at-word.ensures c.fetch_add.ensures.2 in
     stays_broom f s _ c.requires.broom c.fetch_add.ensures.0 (ap (λ (w : View). w.role) changed) (ap (λ (w : View). w.numbers) changed)

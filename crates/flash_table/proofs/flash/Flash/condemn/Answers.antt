@@ -22,7 +22,8 @@ compare_exchange-found-requires c =
     let size = f.size in (
       c.requires.broom.table,
       omega arith,
-      condemn_here (device f) (numbers_of f.table.shared.key) (ap numbers_of f.key) _ _ _ c.pin_at-word.result c.args.block c.pack-old.result c.args.expected at c.pack-old.ensures (is_a_broom f s c.requires.broom)
+      condemn_here (device f) (numbers_of f.table.shared.key) (ap numbers_of f.key) _ _ _ c.pin_at-word.result c.args.block c.pack-old.result
+          c.args.expected at c.pack-old.ensures (is_a_broom f s c.requires.broom)
           (can_condemn f s c.requires.broom c.args.block c.args.expected c.requires.rested c.requires.block c.requires.expected),
     )
 
@@ -32,7 +33,8 @@ invariant_of-broom c =
     let f = c.args.self.now in
     let s = c.args.broom.now in
     let can = can_condemn f s c.requires.broom c.args.block c.args.expected c.requires.rested c.requires.block c.requires.expected in
-    let told = condemned f s c.requires.broom f.table.shared.table_id.slots c.compare_exchange-found.result c.compare_exchange-found.new.seat.me c.pin_at-word.result c.args.block c.pack-old.result c.args.expected c.pin_at-word.ensures c.pack-old.ensures can c.compare_exchange-found.ensures.2 in
+    let told = condemned f s c.requires.broom f.table.shared.table_id.slots c.compare_exchange-found.result c.compare_exchange-found.new.seat.me
+    c.pin_at-word.result c.args.block c.pack-old.result c.args.expected c.pin_at-word.ensures c.pack-old.ensures can c.compare_exchange-found.ensures.2 in
     let changed = told.busy (λ is. c.if-found-old.true (is ∙ sym c.pack-old.ensures)) in
     record { bare = c.compare_exchange-found.ensures.2.0 ∙ s.bare; owns = just_now _ _ _ (ap (λ (w : View). w.owns) changed) s.owns }
 
@@ -41,7 +43,8 @@ returns-then-found-old-clause-told c =
     let f = c.args.self.now in
     let s = c.args.broom.now in
     let can = can_condemn f s c.requires.broom c.args.block c.args.expected c.requires.rested c.requires.block c.requires.expected in
-    let told = condemned f s c.requires.broom f.table.shared.table_id.slots c.compare_exchange-found.result c.compare_exchange-found.new.seat.me c.pin_at-word.result c.args.block c.pack-old.result c.args.expected c.pin_at-word.ensures c.pack-old.ensures can c.compare_exchange-found.ensures.2 in
+    let told = condemned f s c.requires.broom f.table.shared.table_id.slots c.compare_exchange-found.result c.compare_exchange-found.new.seat.me
+    c.pin_at-word.result c.args.block c.pack-old.result c.args.expected c.pin_at-word.ensures c.pack-old.ensures can c.compare_exchange-found.ensures.2 in
     record { changed = told.busy (λ is. c.if-found-old.true (is ∙ sym c.pack-old.ensures)); blocks = refl }
 
 pub returns-then-found-old-clause-broom : goal.returns-then-found-old-clause-broom
@@ -49,7 +52,8 @@ returns-then-found-old-clause-broom c =
     let f = c.args.self.now in
     let s = c.args.broom.now in
     let can = can_condemn f s c.requires.broom c.args.block c.args.expected c.requires.rested c.requires.block c.requires.expected in
-    let told = condemned f s c.requires.broom f.table.shared.table_id.slots c.compare_exchange-found.result c.compare_exchange-found.new.seat.me c.pin_at-word.result c.args.block c.pack-old.result c.args.expected c.pin_at-word.ensures c.pack-old.ensures can c.compare_exchange-found.ensures.2 in
+    let told = condemned f s c.requires.broom f.table.shared.table_id.slots c.compare_exchange-found.result c.compare_exchange-found.new.seat.me
+    c.pin_at-word.result c.args.block c.pack-old.result c.args.expected c.pin_at-word.ensures c.pack-old.ensures can c.compare_exchange-found.ensures.2 in
     let changed = told.busy (λ is. c.if-found-old.true (is ∙ sym c.pack-old.ensures)) in
     stays_broom f s _ c.requires.broom c.compare_exchange-found.ensures.0 (ap (λ (w : View). w.role) changed) (ap (λ (w : View). w.numbers) changed)
 
@@ -59,12 +63,14 @@ invariant_of-broom-2 c =
     let f = c.args.self.now in
     let s = c.args.broom.now in
     let can = can_condemn f s c.requires.broom c.args.block c.args.expected c.requires.rested c.requires.block c.requires.expected in
-    let told = condemned f s c.requires.broom f.table.shared.table_id.slots c.compare_exchange-found.result c.compare_exchange-found.new.seat.me c.pin_at-word.result c.args.block c.pack-old.result c.args.expected c.pin_at-word.ensures c.pack-old.ensures can c.compare_exchange-found.ensures.2 in
+    let told = condemned f s c.requires.broom f.table.shared.table_id.slots c.compare_exchange-found.result c.compare_exchange-found.new.seat.me
+    c.pin_at-word.result c.args.block c.pack-old.result c.args.expected c.pin_at-word.ensures c.pack-old.ensures can c.compare_exchange-found.ensures.2 in
     let is : c.compare_exchange-found.result ≡ pin_word c.args.expected = c.if-found-old.false ∙ c.pack-old.ensures in
     let o : ReclaimedBlock = record { block = c.args.block; generation = c.args.expected.generation; written = c.args.expected.written } in
     record {
       bare = c.compare_exchange-found.ensures.2.0 ∙ s.bare;
-      owns = just_now _ _ _ (ap (λ (w : View). w.owns) (told.won is)) (condemned_just (own_blocks s) (broom_view s).owns s.owns o c.requires.rested (told.fresh is));
+      owns = just_now _ _ _ (ap (λ (w : View). w.owns) (told.won is))
+          (condemned_just (own_blocks s) (broom_view s).owns s.owns o c.requires.rested (told.fresh is));
     }
 
 pub returns-clause-told : goal.returns-clause-told
@@ -72,7 +78,8 @@ returns-clause-told c =
     let f = c.args.self.now in
     let s = c.args.broom.now in
     let can = can_condemn f s c.requires.broom c.args.block c.args.expected c.requires.rested c.requires.block c.requires.expected in
-    let told = condemned f s c.requires.broom f.table.shared.table_id.slots c.compare_exchange-found.result c.compare_exchange-found.new.seat.me c.pin_at-word.result c.args.block c.pack-old.result c.args.expected c.pin_at-word.ensures c.pack-old.ensures can c.compare_exchange-found.ensures.2 in
+    let told = condemned f s c.requires.broom f.table.shared.table_id.slots c.compare_exchange-found.result c.compare_exchange-found.new.seat.me
+    c.pin_at-word.result c.args.block c.pack-old.result c.args.expected c.pin_at-word.ensures c.pack-old.ensures can c.compare_exchange-found.ensures.2 in
     record { changed = told.won (c.if-found-old.false ∙ c.pack-old.ensures); blocks = refl }
 
 pub returns-clause-broom : goal.returns-clause-broom
@@ -80,6 +87,7 @@ returns-clause-broom c =
     let f = c.args.self.now in
     let s = c.args.broom.now in
     let can = can_condemn f s c.requires.broom c.args.block c.args.expected c.requires.rested c.requires.block c.requires.expected in
-    let told = condemned f s c.requires.broom f.table.shared.table_id.slots c.compare_exchange-found.result c.compare_exchange-found.new.seat.me c.pin_at-word.result c.args.block c.pack-old.result c.args.expected c.pin_at-word.ensures c.pack-old.ensures can c.compare_exchange-found.ensures.2 in
+    let told = condemned f s c.requires.broom f.table.shared.table_id.slots c.compare_exchange-found.result c.compare_exchange-found.new.seat.me
+    c.pin_at-word.result c.args.block c.pack-old.result c.args.expected c.pin_at-word.ensures c.pack-old.ensures can c.compare_exchange-found.ensures.2 in
     let changed = told.won (c.if-found-old.false ∙ c.pack-old.ensures) in
     stays_broom f s _ c.requires.broom c.compare_exchange-found.ensures.0 (ap (λ (w : View). w.role) changed) (ap (λ (w : View). w.numbers) changed)

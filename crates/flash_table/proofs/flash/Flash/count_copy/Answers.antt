@@ -25,7 +25,8 @@ fetch_add-requires c =
     let size = f.size in (
       c.requires.broom.table,
       omega arith,
-      count_here (device f) (numbers_of f.table.shared.key) (ap numbers_of f.key) _ _ _ c.pin_at-word.result (owned_of o) can.0 at (broom_player f s c.requires.broom) c.requires.broom.numbers can.1,
+      count_here (device f) (numbers_of f.table.shared.key) (ap numbers_of f.key) _ _ _ c.pin_at-word.result
+          (owned_of o) can.0 at (broom_player f s c.requires.broom) c.requires.broom.numbers can.1,
     )
 
 pub invariant_of-broom : goal.invariant_of-broom
@@ -35,7 +36,8 @@ invariant_of-broom c =
     let o = c.in-Some.opened in
     let e : OpenBlock = record o { written = o.written + 1 } in
     let can = count_can f s c.requires.broom o c.in-Some.is c.requires.filled in
-    let changed = count_view f s c.requires.broom f.table.shared.table_id.slots c.fetch_add.result c.fetch_add.new.seat.me c.pin_at-word.result o can.0 can.1 c.pin_at-word.ensures c.fetch_add.ensures.2 in
+    let changed = count_view f s c.requires.broom f.table.shared.table_id.slots c.fetch_add.result c.fetch_add.new.seat.me c.pin_at-word.result o
+    can.0 can.1 c.pin_at-word.ensures c.fetch_add.ensures.2 in
     record {
       bare = c.fetch_add.ensures.2.0 ∙ s.bare;
       owns = just_now _ _ _ (ap (λ (w : View). w.owns) changed) (counted_just (own_blocks s) (broom_view s).owns s.owns o e c.in-Some.is refl);
@@ -46,7 +48,8 @@ returns-clause-told c o x is can =
     let f = c.args.self.now in
     let s = c.args.broom.now in
     let same = same_block c.in-Some.opened o (own_blocks s).destination c.in-Some.is is in
-    count_view f s c.requires.broom f.table.shared.table_id.slots c.fetch_add.result c.fetch_add.new.seat.me c.pin_at-word.result o x can (c.pin_at-word.ensures ∙ ap (λ (y : OpenBlock). pin_index (device f) y.block) same) c.fetch_add.ensures.2
+    count_view f s c.requires.broom f.table.shared.table_id.slots c.fetch_add.result c.fetch_add.new.seat.me c.pin_at-word.result o x can
+    (c.pin_at-word.ensures ∙ ap (λ (y : OpenBlock). pin_index (device f) y.block) same) c.fetch_add.ensures.2
 
 pub returns-clause-blocks : goal.returns-clause-blocks
 returns-clause-blocks c o is =
@@ -60,5 +63,6 @@ returns-clause-broom c =
     let s = c.args.broom.now in
     let o = c.in-Some.opened in
     let can = count_can f s c.requires.broom o c.in-Some.is c.requires.filled in
-    let changed = count_view f s c.requires.broom f.table.shared.table_id.slots c.fetch_add.result c.fetch_add.new.seat.me c.pin_at-word.result o can.0 can.1 c.pin_at-word.ensures c.fetch_add.ensures.2 in
+    let changed = count_view f s c.requires.broom f.table.shared.table_id.slots c.fetch_add.result c.fetch_add.new.seat.me c.pin_at-word.result o
+    can.0 can.1 c.pin_at-word.ensures c.fetch_add.ensures.2 in
     stays_broom f s _ c.requires.broom c.fetch_add.ensures.0 (ap (λ (w : View). w.role) changed) (ap (λ (w : View). w.numbers) changed)

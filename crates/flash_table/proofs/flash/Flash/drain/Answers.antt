@@ -18,7 +18,8 @@ fetch_add-requires c =
     let f = c.args.self.now in
     let s = c.args.broom.now in
     let o = c.in-Draining.victim in
-    let asked = of_draining (λ (y : ReclaimedBlock). (y.block < blocks_of (geometry_of f)) × (y.written ≤ (broom_view s).cleared)) (own_blocks s).reclaiming o c.in-Draining.is c.requires.cleared in
+    let asked = of_draining (λ (y : ReclaimedBlock). (y.block < blocks_of (geometry_of f)) × (y.written ≤ (broom_view s).cleared))
+    (own_blocks s).reclaiming o c.in-Draining.is c.requires.cleared in
     let can = drain_can f s c.requires.broom o c.in-Draining.is asked.1 in
     let low = pin_within (device f) o.block asked.0 in
     let at = c.pin_at-word.ensures in
@@ -33,20 +34,27 @@ invariant_of-broom c =
     let f = c.args.self.now in
     let s = c.args.broom.now in
     let o = c.in-Draining.victim in
-    let asked = of_draining (λ (y : ReclaimedBlock). (y.block < blocks_of (geometry_of f)) × (y.written ≤ (broom_view s).cleared)) (own_blocks s).reclaiming o c.in-Draining.is c.requires.cleared in
+    let asked = of_draining (λ (y : ReclaimedBlock). (y.block < blocks_of (geometry_of f)) × (y.written ≤ (broom_view s).cleared))
+    (own_blocks s).reclaiming o c.in-Draining.is c.requires.cleared in
     let can = drain_can f s c.requires.broom o c.in-Draining.is asked.1 in
-    let changed = drained_view f s c.requires.broom f.table.shared.table_id.slots c.fetch_add.result c.fetch_add.new.seat.me c.pin_at-word.result o can c.pin_at-word.ensures c.fetch_add.ensures.2 in
-    record { bare = c.fetch_add.ensures.2.0 ∙ s.bare; owns = just_now _ _ _ (ap (λ (w : View). w.owns) changed) (drained_just (own_blocks s) (broom_view s).owns s.owns o c.in-Draining.is) }
+    let changed = drained_view f s c.requires.broom f.table.shared.table_id.slots c.fetch_add.result c.fetch_add.new.seat.me c.pin_at-word.result o
+    can c.pin_at-word.ensures c.fetch_add.ensures.2 in
+    record {
+      bare = c.fetch_add.ensures.2.0 ∙ s.bare;
+      owns = just_now _ _ _ (ap (λ (w : View). w.owns) changed) (drained_just (own_blocks s) (broom_view s).owns s.owns o c.in-Draining.is);
+    }
 
 pub returns-clause-told : goal.returns-clause-told
 returns-clause-told c e is =
     let f = c.args.self.now in
     let s = c.args.broom.now in
     let o = c.in-Draining.victim in
-    let asked = of_draining (λ (y : ReclaimedBlock). (y.block < blocks_of (geometry_of f)) × (y.written ≤ (broom_view s).cleared)) (own_blocks s).reclaiming o c.in-Draining.is c.requires.cleared in
+    let asked = of_draining (λ (y : ReclaimedBlock). (y.block < blocks_of (geometry_of f)) × (y.written ≤ (broom_view s).cleared))
+    (own_blocks s).reclaiming o c.in-Draining.is c.requires.cleared in
     let can = drain_can f s c.requires.broom o c.in-Draining.is asked.1 in
     let same = draining_same o e (own_blocks s).reclaiming c.in-Draining.is is in
-    let changed = drained_view f s c.requires.broom f.table.shared.table_id.slots c.fetch_add.result c.fetch_add.new.seat.me c.pin_at-word.result o can c.pin_at-word.ensures c.fetch_add.ensures.2 in
+    let changed = drained_view f s c.requires.broom f.table.shared.table_id.slots c.fetch_add.result c.fetch_add.new.seat.me c.pin_at-word.result o
+    can c.pin_at-word.ensures c.fetch_add.ensures.2 in
     changed ∙ ap (left_drained (broom_view s)) same
 
 pub returns-clause-broom : goal.returns-clause-broom
@@ -54,7 +62,9 @@ returns-clause-broom c =
     let f = c.args.self.now in
     let s = c.args.broom.now in
     let o = c.in-Draining.victim in
-    let asked = of_draining (λ (y : ReclaimedBlock). (y.block < blocks_of (geometry_of f)) × (y.written ≤ (broom_view s).cleared)) (own_blocks s).reclaiming o c.in-Draining.is c.requires.cleared in
+    let asked = of_draining (λ (y : ReclaimedBlock). (y.block < blocks_of (geometry_of f)) × (y.written ≤ (broom_view s).cleared))
+    (own_blocks s).reclaiming o c.in-Draining.is c.requires.cleared in
     let can = drain_can f s c.requires.broom o c.in-Draining.is asked.1 in
-    let changed = drained_view f s c.requires.broom f.table.shared.table_id.slots c.fetch_add.result c.fetch_add.new.seat.me c.pin_at-word.result o can c.pin_at-word.ensures c.fetch_add.ensures.2 in
+    let changed = drained_view f s c.requires.broom f.table.shared.table_id.slots c.fetch_add.result c.fetch_add.new.seat.me c.pin_at-word.result o
+    can c.pin_at-word.ensures c.fetch_add.ensures.2 in
     stays_broom f s _ c.requires.broom c.fetch_add.ensures.0 (ap (λ (w : View). w.role) changed) (ap (λ (w : View). w.numbers) changed)

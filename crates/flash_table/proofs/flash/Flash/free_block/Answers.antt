@@ -22,7 +22,8 @@ fetch_add-requires c =
     let size = f.size in (
       c.requires.broom.table,
       omega arith,
-      freed_here (device f) (numbers_of f.table.shared.key) (ap numbers_of f.key) _ _ _ c.pin_at-word.result _ _ at (omega (arith, c.freed.ensures)) (can_renew f s c.requires.broom o t),
+      freed_here (device f) (numbers_of f.table.shared.key) (ap numbers_of f.key) _ _ _ c.pin_at-word.result _ _ at (omega (arith, c.freed.ensures))
+          (can_renew f s c.requires.broom o t),
     )
 
 pub invariant_of-broom : goal.invariant_of-broom
@@ -31,7 +32,8 @@ invariant_of-broom c =
     let s = c.args.broom.now in
     let o = c.in-Erasing.erased in
     let t = live_on f s c.requires.broom o c.in-Erasing.is c.requires.wiped in
-    let changed = freed_view f s c.requires.broom f.table.shared.table_id.slots c.fetch_add.result c.fetch_add.new.seat.me c.pin_at-word.result c.freed.result o t c.pin_at-word.ensures c.fetch_add.ensures.2 in
+    let changed = freed_view f s c.requires.broom f.table.shared.table_id.slots c.fetch_add.result c.fetch_add.new.seat.me c.pin_at-word.result
+    c.freed.result o t c.pin_at-word.ensures c.fetch_add.ensures.2 in
     record {
       bare = c.fetch_add.ensures.2.0 ∙ s.bare;
       owns = just_now _ _ _ (ap (λ (w : View). w.owns) changed) (erased_just (own_blocks s) (broom_view s).owns s.owns o c.in-Erasing.is);
@@ -44,7 +46,8 @@ returns-clause-told c x is =
     let o = c.in-Erasing.erased in
     let t = live_on f s c.requires.broom o c.in-Erasing.is c.requires.wiped in
     let same = same_erased (own_blocks s).reclaiming o x c.in-Erasing.is is in
-    let changed = freed_view f s c.requires.broom f.table.shared.table_id.slots c.fetch_add.result c.fetch_add.new.seat.me c.pin_at-word.result c.freed.result o t c.pin_at-word.ensures c.fetch_add.ensures.2 in
+    let changed = freed_view f s c.requires.broom f.table.shared.table_id.slots c.fetch_add.result c.fetch_add.new.seat.me c.pin_at-word.result
+    c.freed.result o t c.pin_at-word.ensures c.fetch_add.ensures.2 in
     changed ∙ ap (left_free (broom_view s)) same
 
 pub returns-clause-broom : goal.returns-clause-broom
@@ -53,5 +56,6 @@ returns-clause-broom c =
     let s = c.args.broom.now in
     let o = c.in-Erasing.erased in
     let t = live_on f s c.requires.broom o c.in-Erasing.is c.requires.wiped in
-    let changed = freed_view f s c.requires.broom f.table.shared.table_id.slots c.fetch_add.result c.fetch_add.new.seat.me c.pin_at-word.result c.freed.result o t c.pin_at-word.ensures c.fetch_add.ensures.2 in
+    let changed = freed_view f s c.requires.broom f.table.shared.table_id.slots c.fetch_add.result c.fetch_add.new.seat.me c.pin_at-word.result
+    c.freed.result o t c.pin_at-word.ensures c.fetch_add.ensures.2 in
     stays_broom f s _ c.requires.broom c.fetch_add.ensures.0 (ap (λ (w : View). w.role) changed) (ap (λ (w : View). w.numbers) changed)

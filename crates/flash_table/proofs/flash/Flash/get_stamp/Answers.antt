@@ -18,7 +18,8 @@ page_word_at-place-requires-clause-block c =
     let f = c.args.self.now in
     let s = c.args.broom.now in
     let o = c.in-Draining.victim in
-    let asked = of_draining (λ (y : ReclaimedBlock). (y.block < blocks_of (geometry_of f)) × (c.args.page < y.written)) (own_blocks s).reclaiming o c.in-Draining.is c.requires.next in
+    let asked = of_draining (λ (y : ReclaimedBlock). (y.block < blocks_of (geometry_of f)) × (c.args.page < y.written))
+    (own_blocks s).reclaiming o c.in-Draining.is c.requires.next in
     let can = stamp_can f s c.requires.broom o c.args.page c.in-Draining.is asked.1 c.requires.cleared in
     asked.0
 
@@ -27,23 +28,32 @@ load-requires c =
     let f = c.args.self.now in
     let s = c.args.broom.now in
     let o = c.in-Draining.victim in
-    let asked = of_draining (λ (y : ReclaimedBlock). (y.block < blocks_of (geometry_of f)) × (c.args.page < y.written)) (own_blocks s).reclaiming o c.in-Draining.is c.requires.next in
+    let asked = of_draining (λ (y : ReclaimedBlock). (y.block < blocks_of (geometry_of f)) × (c.args.page < y.written))
+    (own_blocks s).reclaiming o c.in-Draining.is c.requires.next in
     let can = stamp_can f s c.requires.broom o c.args.page c.in-Draining.is asked.1 c.requires.cleared in
-    let at : c.page_word_at-place.result ≡ page_index (device f) o.block c.args.page + (device f).words = c.page_word_at-place.ensures ∙ ap (λ i. page_index (device f) o.block c.args.page + i) c.words.ensures.value in
+    let at : c.page_word_at-place.result ≡ page_index (device f) o.block c.args.page + (device f).words =
+    c.page_word_at-place.ensures ∙ ap (λ i. page_index (device f) o.block c.args.page + i) c.words.ensures.value in
     let low = page_within (device f) o.block c.args.page (device f).words asked.0 c.requires.page (omega arith) in
     let here = at ∙ ap (λ k. page_index (device f) o.block k + (device f).words) c.requires.cleared in
-    let size = f.size in
-    (c.requires.broom.table, omega arith, stamp_here (device f) (numbers_of f.table.shared.key) (ap numbers_of f.key) _ _ _ c.page_word_at-place.result (reclaimed_as Victim o) here (broom_player f s c.requires.broom) c.requires.broom.numbers can)
+    let size = f.size in (
+      c.requires.broom.table,
+      omega arith,
+      stamp_here (device f) (numbers_of f.table.shared.key) (ap numbers_of f.key) _ _ _ c.page_word_at-place.result (reclaimed_as Victim o) here
+          (broom_player f s c.requires.broom) c.requires.broom.numbers can,
+    )
 
 pub invariant_of-broom : goal.invariant_of-broom
 invariant_of-broom c =
     let f = c.args.self.now in
     let s = c.args.broom.now in
     let o = c.in-Draining.victim in
-    let asked = of_draining (λ (y : ReclaimedBlock). (y.block < blocks_of (geometry_of f)) × (c.args.page < y.written)) (own_blocks s).reclaiming o c.in-Draining.is c.requires.next in
+    let asked = of_draining (λ (y : ReclaimedBlock). (y.block < blocks_of (geometry_of f)) × (c.args.page < y.written))
+    (own_blocks s).reclaiming o c.in-Draining.is c.requires.next in
     let can = stamp_can f s c.requires.broom o c.args.page c.in-Draining.is asked.1 c.requires.cleared in
-    let at : c.page_word_at-place.result ≡ page_index (device f) o.block c.args.page + (device f).words = c.page_word_at-place.ensures ∙ ap (λ i. page_index (device f) o.block c.args.page + i) c.words.ensures.value in
-    let told = stamp_view f s c.requires.broom f.table.shared.table_id.slots c.load.result c.load.new.seat.me c.page_word_at-place.result c.args.page o can c.requires.cleared at c.load.ensures.2 in
+    let at : c.page_word_at-place.result ≡ page_index (device f) o.block c.args.page + (device f).words =
+    c.page_word_at-place.ensures ∙ ap (λ i. page_index (device f) o.block c.args.page + i) c.words.ensures.value in
+    let told = stamp_view f s c.requires.broom f.table.shared.table_id.slots c.load.result c.load.new.seat.me c.page_word_at-place.result c.args.page
+    o can c.requires.cleared at c.load.ensures.2 in
     let changed = stamp_changed _ _ _ _ told in
     record { bare = c.load.ensures.2.0 ∙ s.bare; owns = just_now _ _ _ (ap (λ (w : View). w.owns) changed) s.owns }
 
@@ -52,10 +62,13 @@ returns-clause-told c e is =
     let f = c.args.self.now in
     let s = c.args.broom.now in
     let o = c.in-Draining.victim in
-    let asked = of_draining (λ (y : ReclaimedBlock). (y.block < blocks_of (geometry_of f)) × (c.args.page < y.written)) (own_blocks s).reclaiming o c.in-Draining.is c.requires.next in
+    let asked = of_draining (λ (y : ReclaimedBlock). (y.block < blocks_of (geometry_of f)) × (c.args.page < y.written))
+    (own_blocks s).reclaiming o c.in-Draining.is c.requires.next in
     let can = stamp_can f s c.requires.broom o c.args.page c.in-Draining.is asked.1 c.requires.cleared in
-    let at : c.page_word_at-place.result ≡ page_index (device f) o.block c.args.page + (device f).words = c.page_word_at-place.ensures ∙ ap (λ i. page_index (device f) o.block c.args.page + i) c.words.ensures.value in
-    let told = stamp_view f s c.requires.broom f.table.shared.table_id.slots c.load.result c.load.new.seat.me c.page_word_at-place.result c.args.page o can c.requires.cleared at c.load.ensures.2 in
+    let at : c.page_word_at-place.result ≡ page_index (device f) o.block c.args.page + (device f).words =
+    c.page_word_at-place.ensures ∙ ap (λ i. page_index (device f) o.block c.args.page + i) c.words.ensures.value in
+    let told = stamp_view f s c.requires.broom f.table.shared.table_id.slots c.load.result c.load.new.seat.me c.page_word_at-place.result c.args.page
+    o can c.requires.cleared at c.load.ensures.2 in
     let same = draining_same o e (own_blocks s).reclaiming c.in-Draining.is is in
     subst (λ (y : ReclaimedBlock). GotStamp (broom_view s) (reclaimed_as Victim y) c.load.result c.load.new.seat.me.0) same told
 
@@ -64,9 +77,12 @@ returns-clause-broom c =
     let f = c.args.self.now in
     let s = c.args.broom.now in
     let o = c.in-Draining.victim in
-    let asked = of_draining (λ (y : ReclaimedBlock). (y.block < blocks_of (geometry_of f)) × (c.args.page < y.written)) (own_blocks s).reclaiming o c.in-Draining.is c.requires.next in
+    let asked = of_draining (λ (y : ReclaimedBlock). (y.block < blocks_of (geometry_of f)) × (c.args.page < y.written))
+    (own_blocks s).reclaiming o c.in-Draining.is c.requires.next in
     let can = stamp_can f s c.requires.broom o c.args.page c.in-Draining.is asked.1 c.requires.cleared in
-    let at : c.page_word_at-place.result ≡ page_index (device f) o.block c.args.page + (device f).words = c.page_word_at-place.ensures ∙ ap (λ i. page_index (device f) o.block c.args.page + i) c.words.ensures.value in
-    let told = stamp_view f s c.requires.broom f.table.shared.table_id.slots c.load.result c.load.new.seat.me c.page_word_at-place.result c.args.page o can c.requires.cleared at c.load.ensures.2 in
+    let at : c.page_word_at-place.result ≡ page_index (device f) o.block c.args.page + (device f).words =
+    c.page_word_at-place.ensures ∙ ap (λ i. page_index (device f) o.block c.args.page + i) c.words.ensures.value in
+    let told = stamp_view f s c.requires.broom f.table.shared.table_id.slots c.load.result c.load.new.seat.me c.page_word_at-place.result c.args.page
+    o can c.requires.cleared at c.load.ensures.2 in
     let changed = stamp_changed _ _ _ _ told in
     stays_broom f s _ c.requires.broom c.load.ensures.0 (ap (λ (w : View). w.role) changed) (ap (λ (w : View). w.numbers) changed)

@@ -9,5 +9,9 @@ pub split_seat-seat-requires : goal.split_seat-seat-requires
 split_seat-seat-requires c =
     let f = c.args.self.now in
     let size = f.size in
-    let some_sector = f.geometry.in_limits.sectors_low in
-    (c.requires.pass.table, omega arith, lend_here (device f) (numbers_of f.table.shared.key) (ap numbers_of f.key) c.args.pass.now.seat.id (view_of c.args.pass.now) (pass_player _ c.requires.pass.role) c.requires.whole c.requires.alone)
+    let some_sector = f.geometry.in_limits.sectors_low in (
+      c.requires.pass.table,
+      omega arith,
+      lend_here (device f) (numbers_of f.table.shared.key) (ap numbers_of f.key) c.args.pass.now.seat.id (view_of c.args.pass.now)
+          (pass_player _ c.requires.pass.role) c.requires.whole c.requires.alone,
+    )

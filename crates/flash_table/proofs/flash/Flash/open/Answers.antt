@@ -52,8 +52,12 @@ split_seat-seat-requires c =
     t.0 ∙ (ap (length {A = ℕ}) (c.deref.ensures.value ∙ c.in_ok-words.ensures) ∙ (opening_ruled z c.args.geometry.now.in_limits).1.size) in
     let same : numbers_of c.in_ok-table.table.shared.key ≡ numbers_of c.args.geometry.now = ap numbers_of t.5 in
     let count = h.count in
-    let theirs : c.loop.dealer.me.0.numbers.hosts ≡ (numbers_of c.args.geometry.now).hosts = ap (λ (y : Numbers). y.hosts) h.numbers in
-    (h.table, omega arith, deal_here (numbers_of c.args.geometry.now) (numbers_of c.in_ok-table.table.shared.key) same c.loop.dealer.id c.loop.dealer.me.0 h.role (omega arith))
+    let theirs : c.loop.dealer.me.0.numbers.hosts ≡ (numbers_of c.args.geometry.now).hosts = ap (λ (y : Numbers). y.hosts) h.numbers in (
+      h.table,
+      omega arith,
+      deal_here (numbers_of c.args.geometry.now)
+          (numbers_of c.in_ok-table.table.shared.key) same c.loop.dealer.id c.loop.dealer.me.0 h.role (omega arith),
+    )
 
 pub push_reserved-requires : goal.push_reserved-requires
 push_reserved-requires c =
@@ -65,7 +69,8 @@ push_reserved-requires c =
 pub loop-preserved : goal.loop-preserved
 loop-preserved c =
     let s = c.split_seat-seat.ensures in
-    let next = deals_next _ c.loop.dealer c.split_seat-seat.new.seat c.loop.passes.items _ c.loop.counter c.loop.invariant.0 s.0 (ap (λ x. x.0) s.2) s.3 (ap (λ x. x.0) s.4) refl in
+    let next = deals_next _ c.loop.dealer c.split_seat-seat.new.seat c.loop.passes.items _ c.loop.counter c.loop.invariant.0 s.0
+    (ap (λ x. x.0) s.2) s.3 (ap (λ x. x.0) s.4) refl in
     (rw c.push_reserved.ensures.items next, (let e = c.push_reserved.ensures.capacity in let r = c.loop.invariant.1 in omega arith))
 
 pub returns-clause-count : goal.returns-clause-count
@@ -86,8 +91,12 @@ split_seat-seat-requires-in-loop-i c =
     let same : numbers_of c.in_ok-table.table.shared.key ≡ z = ap numbers_of t.5 in
     let below = c.loop-i-test.true in
     let brooms = c.brooms-count.ensures.value in
-    let more : c.loop-i.i < z.brooms = omega arith in
-    (h.table, omega arith, deal_broom_here z (numbers_of c.in_ok-table.table.shared.key) same c.loop-i.dealer.id c.loop-i.dealer.me.0 h.role (next_owned z c.loop-i.dealer.me.0 c.loop-i.i h.numbers h.count h.owns more))
+    let more : c.loop-i.i < z.brooms = omega arith in (
+      h.table,
+      omega arith,
+      deal_broom_here z (numbers_of c.in_ok-table.table.shared.key) same c.loop-i.dealer.id c.loop-i.dealer.me.0 h.role
+          (next_owned z c.loop-i.dealer.me.0 c.loop-i.i h.numbers h.count h.owns more),
+    )
 
 pub loop-i-preserved : goal.loop-i-preserved
 loop-i-preserved c =
@@ -98,8 +107,10 @@ loop-i-preserved c =
     let blocks = c.blocks-2.ensures.value in
     let more : c.loop-i.i < z.brooms = omega arith in
     let place : (c.blocks-2.result - c.brooms-count.result) + c.loop-i.i ≡ spare_of z c.loop-i.i = λ i. (blocks i - brooms i) + c.loop-i.i in
-    let given = c.blocks_with_spare.ensures ∙ (λ i. record { destination = None; spare = Some (record { block = place i; generation = 0; written = 0 }); reclaiming = Nothing }) in
-    let next = deals_next_broom _ c.loop-i.dealer c.split_seat-seat-in-loop-i.new.seat c.loop-i.brooms.items _ c.loop-i.i c.loop-i.invariant.0 more s.0 (ap (λ x. x.0) s.2) s.3 (ap (λ x. x.0) s.4) given in
+    let given = c.blocks_with_spare.ensures
+    ∙ (λ i. record { destination = None; spare = Some (record { block = place i; generation = 0; written = 0 }); reclaiming = Nothing }) in
+    let next = deals_next_broom _ c.loop-i.dealer c.split_seat-seat-in-loop-i.new.seat c.loop-i.brooms.items _ c.loop-i.i c.loop-i.invariant.0 more
+    s.0 (ap (λ x. x.0) s.2) s.3 (ap (λ x. x.0) s.4) given in
     (rw c.push_reserved-in-loop-i.ensures.items next, (let e = c.push_reserved-in-loop-i.ensures.capacity in let r = c.loop-i.invariant.1 in omega arith))
 
 pub invariant_of-flash : goal.invariant_of-flash
@@ -133,4 +144,5 @@ pub returns-clause-brooms : goal.returns-clause-brooms
 returns-clause-brooms c = c.loop-i.invariant.0.each
 
 pub push_reserved-requires-in-loop-i : goal.push_reserved-requires-in-loop-i
-push_reserved-requires-in-loop-i c = let long = c.loop-i.invariant.0.long in let room = c.loop-i.invariant.1 in let below = c.loop-i-test.true in let is = c.loop-i.brooms.ok.0 in omega arith
+push_reserved-requires-in-loop-i c = let long = c.loop-i.invariant.0.long in let room = c.loop-i.invariant.1 in let below = c.loop-i-test.true in
+    let is = c.loop-i.brooms.ok.0 in omega arith

@@ -15,19 +15,27 @@ compare_exchange-found-requires c =
     let can = c.requires.counted in (
       c.requires.pass.table,
       omega arith,
-      new_here (device f) (numbers_of f.table.shared.key) (ap numbers_of f.key) _ _ _ c.args.sector c.pack-new.result c.args.page can.0 c.requires.pass.role below c.pack-new.ensures c.requires.page can.1,
+      new_here (device f) (numbers_of f.table.shared.key)
+          (ap numbers_of f.key) _ _ _ c.args.sector c.pack-new.result c.args.page can.0 c.requires.pass.role below c.pack-new.ensures c.requires.page can.1,
     )
 
 pub invariant_of-pass : goal.invariant_of-pass
 invariant_of-pass c =
-    let t = new_changed c.args.self.now c.args.pass.now c.requires.pass c.args.self.now.table.shared.table_id.slots c.compare_exchange-found.result c.compare_exchange-found.new.seat.me c.args.sector c.pack-new.result c.args.page c.pack-new.ensures c.requires.page c.requires.counted c.compare_exchange-found.ensures.2 in
+    let t = new_changed c.args.self.now c.args.pass.now c.requires.pass c.args.self.now.table.shared.table_id.slots c.compare_exchange-found.result
+    c.compare_exchange-found.new.seat.me c.args.sector c.pack-new.result c.args.page c.pack-new.ensures c.requires.page c.requires.counted
+    c.compare_exchange-found.ensures.2 in
     record { bare = c.compare_exchange-found.ensures.2.0 ∙ c.args.pass.now.bare; owns = ap (λ (w : View). w.owns) t.2.changed ∙ c.args.pass.now.owns }
 
 pub returns-clause-told : goal.returns-clause-told
 returns-clause-told c t value role can =
-    called (view_of c.args.pass.now) _ c.args.sector c.compare_exchange-found.result _ _ (c.compare_exchange-found.ensures.2.1 t c.args.page value role refl c.pack-new.ensures c.requires.page can) c.was_by.ensures.empty c.was_by.ensures.written
+    called (view_of c.args.pass.now) _ c.args.sector c.compare_exchange-found.result _ _
+    (c.compare_exchange-found.ensures.2.1 t c.args.page value role refl c.pack-new.ensures c.requires.page can) c.was_by.ensures.empty
+    c.was_by.ensures.written
 
 pub returns-clause-pass : goal.returns-clause-pass
 returns-clause-pass c =
-    let t = new_changed c.args.self.now c.args.pass.now c.requires.pass c.args.self.now.table.shared.table_id.slots c.compare_exchange-found.result c.compare_exchange-found.new.seat.me c.args.sector c.pack-new.result c.args.page c.pack-new.ensures c.requires.page c.requires.counted c.compare_exchange-found.ensures.2 in
-    stays_pass c.args.self.now c.args.pass.now _ c.requires.pass c.compare_exchange-found.ensures.0 (ap (λ (w : View). w.role) t.2.changed) (ap (λ (w : View). w.numbers) t.2.changed)
+    let t = new_changed c.args.self.now c.args.pass.now c.requires.pass c.args.self.now.table.shared.table_id.slots c.compare_exchange-found.result
+    c.compare_exchange-found.new.seat.me c.args.sector c.pack-new.result c.args.page c.pack-new.ensures c.requires.page c.requires.counted
+    c.compare_exchange-found.ensures.2 in
+    stays_pass c.args.self.now c.args.pass.now _ c.requires.pass c.compare_exchange-found.ensures.0 (ap (λ (w : View). w.role) t.2.changed)
+    (ap (λ (w : View). w.numbers) t.2.changed)

@@ -11,17 +11,25 @@ pub swap-found-requires : goal.swap-found-requires
 swap-found-requires c =
     let f = c.args.self.now in
     let size = f.size in
-    let below = c.requires.sector in (c.requires.pass.table, omega arith, trim_here (device f) (numbers_of f.table.shared.key) (ap numbers_of f.key) _ _ _ c.args.sector c.requires.pass.role below)
+    let below = c.requires.sector in (
+      c.requires.pass.table,
+      omega arith,
+      trim_here (device f) (numbers_of f.table.shared.key) (ap numbers_of f.key) _ _ _ c.args.sector c.requires.pass.role below,
+    )
 
 pub invariant_of-pass : goal.invariant_of-pass
 invariant_of-pass c =
-    let t = trim_changed c.args.self.now c.args.pass.now c.requires.pass c.args.self.now.table.shared.table_id.slots c.swap-found.result c.swap-found.new.seat.me c.args.sector c.swap-found.ensures.2 in
+    let t = trim_changed c.args.self.now c.args.pass.now c.requires.pass c.args.self.now.table.shared.table_id.slots c.swap-found.result
+    c.swap-found.new.seat.me c.args.sector c.swap-found.ensures.2 in
     record { bare = c.swap-found.ensures.2.0 ∙ c.args.pass.now.bare; owns = ap (λ (w : View). w.owns) t.1.changed ∙ c.args.pass.now.owns }
 
 pub returns-clause-told : goal.returns-clause-told
-returns-clause-told c t role = called (view_of c.args.pass.now) _ c.args.sector c.swap-found.result _ _ (c.swap-found.ensures.2.1 t role) c.was_by.ensures.empty c.was_by.ensures.written
+returns-clause-told c t role =
+    called (view_of c.args.pass.now) _ c.args.sector c.swap-found.result _ _ (c.swap-found.ensures.2.1 t role) c.was_by.ensures.empty c.was_by.ensures.written
 
 pub returns-clause-pass : goal.returns-clause-pass
 returns-clause-pass c =
-    let t = trim_changed c.args.self.now c.args.pass.now c.requires.pass c.args.self.now.table.shared.table_id.slots c.swap-found.result c.swap-found.new.seat.me c.args.sector c.swap-found.ensures.2 in
-    stays_pass c.args.self.now c.args.pass.now _ c.requires.pass c.swap-found.ensures.0 (ap (λ (w : View). w.role) t.1.changed) (ap (λ (w : View). w.numbers) t.1.changed)
+    let t = trim_changed c.args.self.now c.args.pass.now c.requires.pass c.args.self.now.table.shared.table_id.slots c.swap-found.result
+    c.swap-found.new.seat.me c.args.sector c.swap-found.ensures.2 in
+    stays_pass c.args.self.now c.args.pass.now _ c.requires.pass c.swap-found.ensures.0 (ap (λ (w : View). w.role) t.1.changed)
+    (ap (λ (w : View). w.numbers) t.1.changed)

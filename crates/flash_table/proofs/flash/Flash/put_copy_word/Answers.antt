@@ -29,7 +29,8 @@ store-requires c =
     let size = f.size in (
       c.requires.broom.table,
       omega arith,
-      put_here (device f) (numbers_of f.table.shared.key) (ap numbers_of f.key) _ _ _ (c.args.start + c.args.i) (owned_of o) c.args.word (at ∙ ap (λ k. page_index (device f) o.block o.written + k) t.3) (broom_player f s c.requires.broom) c.requires.broom.numbers t.2,
+      put_here (device f) (numbers_of f.table.shared.key) (ap numbers_of f.key) _ _ _ (c.args.start + c.args.i) (owned_of o) c.args.word
+          (at ∙ ap (λ k. page_index (device f) o.block o.written + k) t.3) (broom_player f s c.requires.broom) c.requires.broom.numbers t.2,
     )
 
 pub invariant_of-broom : goal.invariant_of-broom
@@ -38,7 +39,8 @@ invariant_of-broom c =
     let s = c.args.broom.now in
     let t = c.requires.next in
     let at : c.args.start + c.args.i ≡ page_index (device f) t.0.block t.0.written + c.args.i = ap (λ n. n + c.args.i) (c.requires.start t.0 t.1) in
-    let changed = put_view f s c.requires.broom f.table.shared.table_id.slots c.args.word c.store.new.seat.me (c.args.start + c.args.i) c.args.i c.args.word t.0 t.2 t.3 at c.store.ensures.2 in
+    let changed = put_view f s c.requires.broom f.table.shared.table_id.slots c.args.word c.store.new.seat.me
+    (c.args.start + c.args.i) c.args.i c.args.word t.0 t.2 t.3 at c.store.ensures.2 in
     record { bare = c.store.ensures.2.0 ∙ s.bare; owns = just_now _ _ _ (ap (λ (w : View). w.owns) changed) s.owns }
 
 pub returns-clause-told : goal.returns-clause-told
@@ -46,7 +48,8 @@ returns-clause-told c o is =
     let f = c.args.self.now in
     let s = c.args.broom.now in
     let t = put_can f s c.requires.broom o is c.args.i c.requires.next in
-    put_view f s c.requires.broom f.table.shared.table_id.slots c.args.word c.store.new.seat.me (c.args.start + c.args.i) c.args.i c.args.word o t.0 t.1 (ap (λ n. n + c.args.i) (c.requires.start o is)) c.store.ensures.2
+    put_view f s c.requires.broom f.table.shared.table_id.slots c.args.word c.store.new.seat.me
+    (c.args.start + c.args.i) c.args.i c.args.word o t.0 t.1 (ap (λ n. n + c.args.i) (c.requires.start o is)) c.store.ensures.2
 
 pub returns-clause-broom : goal.returns-clause-broom
 returns-clause-broom c =
@@ -54,5 +57,6 @@ returns-clause-broom c =
     let s = c.args.broom.now in
     let t = c.requires.next in
     let at : c.args.start + c.args.i ≡ page_index (device f) t.0.block t.0.written + c.args.i = ap (λ n. n + c.args.i) (c.requires.start t.0 t.1) in
-    let changed = put_view f s c.requires.broom f.table.shared.table_id.slots c.args.word c.store.new.seat.me (c.args.start + c.args.i) c.args.i c.args.word t.0 t.2 t.3 at c.store.ensures.2 in
+    let changed = put_view f s c.requires.broom f.table.shared.table_id.slots c.args.word c.store.new.seat.me
+    (c.args.start + c.args.i) c.args.i c.args.word t.0 t.2 t.3 at c.store.ensures.2 in
     stays_broom f s _ c.requires.broom c.store.ensures.0 (ap (λ (w : View). w.role) changed) (ap (λ (w : View). w.numbers) changed)

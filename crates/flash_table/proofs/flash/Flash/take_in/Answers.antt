@@ -15,5 +15,6 @@ join_seat-requires c =
       c.requires.note.table,
       c.args.note.bare,
       omega arith,
-      take_in_here (device f) (numbers_of f.table.shared.key) (ap numbers_of f.key) c.args.pass.now.seat.id (view_of c.args.pass.now) (pass_player _ c.requires.pass.role) c.args.note.seat.id (note_view c.args.note) t.0 c.requires.note.role t.2 t.1 c.requires.whole,
+      take_in_here (device f) (numbers_of f.table.shared.key) (ap numbers_of f.key) c.args.pass.now.seat.id (view_of c.args.pass.now)
+          (pass_player _ c.requires.pass.role) c.args.note.seat.id (note_view c.args.note) t.0 c.requires.note.role t.2 t.1 c.requires.whole,
     )

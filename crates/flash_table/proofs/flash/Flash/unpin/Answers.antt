@@ -15,18 +15,23 @@ fetch_sub-requires c =
     let size = f.size in (
       c.requires.pass.table,
       omega arith,
-      unpin_here (device f) (numbers_of f.table.shared.key) (ap numbers_of f.key) _ _ _ c.pin_at-word.result c.args.block at c.requires.pass.role c.requires.pinned c.requires.block c.requires.pass.numbers,
+      unpin_here (device f) (numbers_of f.table.shared.key) (ap numbers_of f.key) _ _ _ c.pin_at-word.result c.args.block at c.requires.pass.role
+          c.requires.pinned c.requires.block c.requires.pass.numbers,
     )
 
 pub invariant_of-pass : goal.invariant_of-pass
 invariant_of-pass c =
-    let changed = unpin_view c.args.self.now c.args.pass.now c.requires.pass c.args.self.now.table.shared.table_id.slots c.fetch_sub.result c.fetch_sub.new.seat.me c.pin_at-word.result c.args.block c.requires.pinned c.pin_at-word.ensures c.fetch_sub.ensures.2 in
+    let changed = unpin_view c.args.self.now c.args.pass.now c.requires.pass c.args.self.now.table.shared.table_id.slots c.fetch_sub.result
+    c.fetch_sub.new.seat.me c.pin_at-word.result c.args.block c.requires.pinned c.pin_at-word.ensures c.fetch_sub.ensures.2 in
     record { bare = c.fetch_sub.ensures.2.0 ∙ c.args.pass.now.bare; owns = ap (λ (w : View). w.owns) changed ∙ c.args.pass.now.owns }
 
 pub returns-clause-told : goal.returns-clause-told
-returns-clause-told c = unpin_view c.args.self.now c.args.pass.now c.requires.pass c.args.self.now.table.shared.table_id.slots c.fetch_sub.result c.fetch_sub.new.seat.me c.pin_at-word.result c.args.block c.requires.pinned c.pin_at-word.ensures c.fetch_sub.ensures.2
+returns-clause-told c = unpin_view c.args.self.now c.args.pass.now c.requires.pass c.args.self.now.table.shared.table_id.slots c.fetch_sub.result
+    c.fetch_sub.new.seat.me c.pin_at-word.result c.args.block c.requires.pinned c.pin_at-word.ensures c.fetch_sub.ensures.2
 
 pub returns-clause-pass : goal.returns-clause-pass
 returns-clause-pass c =
-    let changed = unpin_view c.args.self.now c.args.pass.now c.requires.pass c.args.self.now.table.shared.table_id.slots c.fetch_sub.result c.fetch_sub.new.seat.me c.pin_at-word.result c.args.block c.requires.pinned c.pin_at-word.ensures c.fetch_sub.ensures.2 in
-    stays_pass c.args.self.now c.args.pass.now _ c.requires.pass c.fetch_sub.ensures.0 (ap (λ (w : View). w.role) changed) (ap (λ (w : View). w.numbers) changed)
+    let changed = unpin_view c.args.self.now c.args.pass.now c.requires.pass c.args.self.now.table.shared.table_id.slots c.fetch_sub.result
+    c.fetch_sub.new.seat.me c.pin_at-word.result c.args.block c.requires.pinned c.pin_at-word.ensures c.fetch_sub.ensures.2 in
+    stays_pass c.args.self.now c.args.pass.now _ c.requires.pass c.fetch_sub.ensures.0 (ap (λ (w : View). w.role) changed)
+    (ap (λ (w : View). w.numbers) changed)

@@ -25,7 +25,8 @@ store-requires c =
     let size = f.size in (
       c.requires.broom.table,
       omega arith,
-      wipe_here (device f) (numbers_of f.table.shared.key) (ap numbers_of f.key) _ _ _ (c.page_word_at.result + c.args.i) _ here (broom_player f s c.requires.broom) c.requires.broom.numbers can,
+      wipe_here (device f) (numbers_of f.table.shared.key) (ap numbers_of f.key) _ _ _ (c.page_word_at.result + c.args.i) _ here
+          (broom_player f s c.requires.broom) c.requires.broom.numbers can,
     )
 
 pub invariant_of-broom : goal.invariant_of-broom
@@ -36,7 +37,8 @@ invariant_of-broom c =
     let can = can_wipe f s c.requires.broom o c.args.i c.in-Erasing.is c.requires.next c.requires.word in
     let at = c.page_word_at.ensures in
     let here : c.page_word_at.result + c.args.i ≡ page_index (device f) o.block 0 + c.args.i = omega arith in
-    let changed = wipe_view f s c.requires.broom f.table.shared.table_id.slots blank_word c.store.new.seat.me (c.page_word_at.result + c.args.i) c.args.i o can c.requires.next here c.store.ensures.2 in
+    let changed = wipe_view f s c.requires.broom f.table.shared.table_id.slots blank_word c.store.new.seat.me
+    (c.page_word_at.result + c.args.i) c.args.i o can c.requires.next here c.store.ensures.2 in
     record { bare = c.store.ensures.2.0 ∙ s.bare; owns = just_now _ _ _ (ap (λ (w : View). w.owns) changed) s.owns }
 
 pub returns-clause-told : goal.returns-clause-told
@@ -47,7 +49,8 @@ returns-clause-told c =
     let can = can_wipe f s c.requires.broom o c.args.i c.in-Erasing.is c.requires.next c.requires.word in
     let at = c.page_word_at.ensures in
     let here : c.page_word_at.result + c.args.i ≡ page_index (device f) o.block 0 + c.args.i = omega arith in
-    wipe_view f s c.requires.broom f.table.shared.table_id.slots blank_word c.store.new.seat.me (c.page_word_at.result + c.args.i) c.args.i o can c.requires.next here c.store.ensures.2
+    wipe_view f s c.requires.broom f.table.shared.table_id.slots blank_word c.store.new.seat.me
+    (c.page_word_at.result + c.args.i) c.args.i o can c.requires.next here c.store.ensures.2
 
 pub returns-clause-broom : goal.returns-clause-broom
 returns-clause-broom c =
@@ -57,7 +60,8 @@ returns-clause-broom c =
     let can = can_wipe f s c.requires.broom o c.args.i c.in-Erasing.is c.requires.next c.requires.word in
     let at = c.page_word_at.ensures in
     let here : c.page_word_at.result + c.args.i ≡ page_index (device f) o.block 0 + c.args.i = omega arith in
-    let changed = wipe_view f s c.requires.broom f.table.shared.table_id.slots blank_word c.store.new.seat.me (c.page_word_at.result + c.args.i) c.args.i o can c.requires.next here c.store.ensures.2 in
+    let changed = wipe_view f s c.requires.broom f.table.shared.table_id.slots blank_word c.store.new.seat.me
+    (c.page_word_at.result + c.args.i) c.args.i o can c.requires.next here c.store.ensures.2 in
     stays_broom f s _ c.requires.broom c.store.ensures.0 (ap (λ (w : View). w.role) changed) (ap (λ (w : View). w.numbers) changed)
 
 pub returns-clause-blocks : goal.returns-clause-blocks
