@@ -14,18 +14,18 @@ const EMPTY: ([u8; 8], u64) = ([255; 8], 0xffff_ffff_ffff_ffff);
 
 // A die of one LUN, three blocks of two pages of one word, and endurance 2.
 #[derive(Drop)]
-struct Bench {
+struct SmallDie {
     die: Die,
     ghost blocks: { blocks_of (geometry_of die) ≡ 3 },
     ghost pages: { pages_of (geometry_of die) ≡ 2 },
     ghost bytes: { page_bytes_of (geometry_of die) ≡ 8 },
 }
 
-impl Bench {
-    fn new(rt: &(impl Abort + AllocGlobal)) -> Result<Bench, Fail> {
+impl SmallDie {
+    fn new(rt: &(impl Abort + AllocGlobal)) -> Result<SmallDie, Fail> {
         let geometry = Geometry::new(1, 3, 2, 1, 3, 2, 0, 0)?;
         assert!(rt; (geometry.blocks(), geometry.pages(), geometry.page_bytes()) == (3, 2, 8));
-        Ok(Bench {
+        Ok(SmallDie {
             die: Die::new(rt.alloc(), &geometry)?,
         })
     }
@@ -73,32 +73,32 @@ impl Bench {
 
 #[test]
 fn a_die_keeps_and_copies_pages(rt: HostRuntime) -> Result<(), Fail> {
-    let mut bench = Bench::new(&rt)?;
+    let mut small = SmallDie::new(&rt)?;
     let next = PageAddr { block: 0, page: 1 };
     let copy = PageAddr { block: 1, page: 0 };
-    let programmed = bench.program(&rt, FIRST, 1, 2);
-    let copied = bench.copyback(&rt, FIRST, copy);
+    let programmed = small.program(&rt, FIRST, 1, 2);
+    let copied = small.copyback(&rt, FIRST, copy);
     let reads = [
-        bench.read(&rt, FIRST),
-        bench.read(&rt, next),
-        bench.read(&rt, copy),
+        small.read(&rt, FIRST),
+        small.read(&rt, next),
+        small.read(&rt, copy),
     ];
     let page = ([1, 0, 0, 0, 0, 0, 0, 0], 2);
     assert!(rt;
-        (programmed, copied, bench.die.copybacks()) == (0, 0, 1) && reads == [page, EMPTY, page]
+        (programmed, copied, small.die.copybacks()) == (0, 0, 1) && reads == [page, EMPTY, page]
     );
     Ok(())
 }
 
 #[test]
 fn the_last_erase_retires_a_block(rt: HostRuntime) -> Result<(), Fail> {
-    let mut bench = Bench::new(&rt)?;
-    bench.program(&rt, FIRST, 1, 2);
-    let first = bench.erase(&rt, 0);
-    let programmed = bench.die.next(0);
-    let read = bench.read(&rt, FIRST);
-    let second = bench.erase(&rt, 0);
-    let end = (bench.die.retired(0), bench.die.erases(0));
+    let mut small = SmallDie::new(&rt)?;
+    small.program(&rt, FIRST, 1, 2);
+    let first = small.erase(&rt, 0);
+    let programmed = small.die.next(0);
+    let read = small.read(&rt, FIRST);
+    let second = small.erase(&rt, 0);
+    let end = (small.die.retired(0), small.die.erases(0));
     assert!(rt; (first, programmed, read, second, end) == (0, 0, EMPTY, 1, (true, 2)));
     Ok(())
 }

@@ -1,4 +1,4 @@
-use crate::saying::{expect, is_shown};
+use crate::assertions::expect;
 use geometry::{Geometry, GeometryFault, put_word, word_at};
 use std::test::Fail;
 
@@ -73,19 +73,13 @@ const BEYOND: [([u32; 8], GeometryFault); 25] = [
 ];
 
 #[test]
-fn each_limit_is_where_it_is_said_to_be(rt: HostRuntime) -> Result<(), Fail> {
+fn each_number_has_its_limits(rt: HostRuntime) -> Result<(), Fail> {
     for numbers in ENDS {
         expect(&rt, geometry_of(numbers).is_ok(), &numbers);
     }
     for (numbers, fault) in BEYOND {
         expect(&rt, geometry_of(numbers) == Err(fault), &numbers);
     }
-    Ok(())
-}
-
-#[test]
-fn a_fault_is_printed_by_its_name(rt: HostRuntime) -> Result<(), Fail> {
-    assert!(rt; is_shown(rt.alloc(), &GeometryFault::TooFewBlocks, "TooFewBlocks")?);
     Ok(())
 }
 

@@ -2,7 +2,7 @@ ghost use Rattle.std.specs.Prelude.{◌≡◌};
 ghost use Rattle.geometry.specs.Geometry.{page_bytes_of};
 ghost use Rattle.ftl_one.specs.OneFtl.{geometry_of};
 
-use crate::saying::expect;
+use crate::assertions::expect;
 use ftl_one::{NewOneFault, OneFtl};
 use geometry::{Geometry, Got, Was};
 use std::alloc::Global;
@@ -11,12 +11,12 @@ use std::test::Fail;
 
 // A layer whose pages have one word. A page holds one byte, then zeros.
 #[derive(Drop)]
-struct Bench {
+struct SmallLayer {
     ftl: OneFtl,
     ghost bytes: { page_bytes_of (geometry_of ftl) ≡ 8 },
 }
 
-impl Bench {
+impl SmallLayer {
     fn new(
         rt: &(impl Abort + AllocGlobal),
         luns: u32,
@@ -24,10 +24,10 @@ impl Bench {
         pages: u32,
         sectors: u32,
         endurance: u32,
-    ) -> Result<Bench, Fail> {
+    ) -> Result<SmallLayer, Fail> {
         let geometry = Geometry::new(luns, blocks, pages, 1, sectors, endurance, 0, 0)?;
         assert!(rt; (geometry.page_bytes(), geometry.hosts()) == (8, 0));
-        Ok(Bench {
+        Ok(SmallLayer {
             ftl: OneFtl::new(rt.alloc(), &geometry)?,
         })
     }
@@ -102,18 +102,18 @@ fn check_row(rt: &(impl Abort + AllocGlobal), row: Row) -> Result<(), Fail> {
         totals,
         sectors,
     } = row;
-    let mut bench = Bench::new(rt, luns, blocks, 2, 3, endurance)?;
+    let mut layer = SmallLayer::new(rt, luns, blocks, 2, 3, endurance)?;
     let mut worn = 0u32;
     for (sector, byte) in writes {
-        if bench.write(rt, *sector, *byte).is_none() {
+        if layer.write(rt, *sector, *byte).is_none() {
             worn = worn.wrapping_add(1);
         }
     }
-    let counts = bench.ftl.counts();
+    let counts = layer.ftl.counts();
     let found = (
         worn,
         (counts.programs, counts.copies, counts.erases),
-        [bench.read(rt, 0), bench.read(rt, 1), bench.read(rt, 2)],
+        [layer.read(rt, 0), layer.read(rt, 1), layer.read(rt, 2)],
     );
     expect(rt, found == (refused, totals, sectors), &name);
     Ok(())
@@ -205,10 +205,10 @@ fn collection_and_wear_follow_the_worked_rows(rt: HostRuntime) -> Result<(), Fai
 
 #[test]
 fn a_trim_empties_a_sector_and_programs_nothing(rt: HostRuntime) -> Result<(), Fail> {
-    let mut bench = Bench::new(&rt, 1, 3, 2, 3, 10)?;
-    let written = bench.write(&rt, 0, 65);
-    let trimmed = (bench.trim(&rt, 0), bench.trim(&rt, 0));
-    let end = (bench.read(&rt, 0), bench.ftl.counts().programs);
+    let mut layer = SmallLayer::new(&rt, 1, 3, 2, 3, 10)?;
+    let written = layer.write(&rt, 0, 65);
+    let trimmed = (layer.trim(&rt, 0), layer.trim(&rt, 0));
+    let end = (layer.read(&rt, 0), layer.ftl.counts().programs);
     assert!(rt;
         (written, trimmed, end) == (Some(Was::Empty), (Was::Written, Was::Empty), (None, 1))
     );
@@ -217,22 +217,22 @@ fn a_trim_empties_a_sector_and_programs_nothing(rt: HostRuntime) -> Result<(), F
 
 #[test]
 fn a_written_sector_is_refused_before_a_page_is_programmed(rt: HostRuntime) -> Result<(), Fail> {
-    let mut bench = Bench::new(&rt, 1, 3, 2, 3, 10)?;
-    let written = (bench.write_new(&rt, 0, 0x41), bench.write_new(&rt, 0, 0x42));
-    let end = (bench.read(&rt, 0), bench.ftl.counts().programs);
+    let mut layer = SmallLayer::new(&rt, 1, 3, 2, 3, 10)?;
+    let written = (layer.write_new(&rt, 0, 0x41), layer.write_new(&rt, 0, 0x42));
+    let end = (layer.read(&rt, 0), layer.ftl.counts().programs);
     assert!(rt; (written, end) == ((Ok(()), Err(NewOneFault::Written)), (Some(0x41), 1)));
     Ok(())
 }
 
 // Two sectors are written in turns. The victims are blocks 0, 1, 2 and 0, whose second erase fails.
 #[test]
-fn the_blocks_tell_their_wear(rt: HostRuntime) -> Result<(), Fail> {
-    let mut bench = Bench::new(&rt, 1, 3, 2, 3, 2)?;
+fn each_block_has_its_wear(rt: HostRuntime) -> Result<(), Fail> {
+    let mut layer = SmallLayer::new(&rt, 1, 3, 2, 3, 2)?;
     for byte in 0..6u8 {
-        let is_written = bench.write(&rt, 0, byte).is_some() && bench.write(&rt, 1, byte).is_some();
+        let is_written = layer.write(&rt, 0, byte).is_some() && layer.write(&rt, 1, byte).is_some();
         assert!(rt; is_written);
     }
-    let wear = [bench.wear(&rt, 0), bench.wear(&rt, 1), bench.wear(&rt, 2)];
+    let wear = [layer.wear(&rt, 0), layer.wear(&rt, 1), layer.wear(&rt, 2)];
     assert!(rt; wear == [(2, 0, true), (1, 0, false), (1, 2, false)]);
     Ok(())
 }
@@ -286,8 +286,12 @@ fn following(seed: u32) -> u32 {
 }
 
 // Plays pseudo-random reads, writes and trims on the layer and on the plain store, and compares each answer.
-fn compare(rt: &(impl Abort + AllocGlobal), bench: &mut Bench, commands: u32) -> Result<(), Fail> {
-    let sectors = bench.ftl.geometry().sectors();
+fn compare(
+    rt: &(impl Abort + AllocGlobal),
+    layer: &mut SmallLayer,
+    commands: u32,
+) -> Result<(), Fail> {
+    let sectors = layer.ftl.geometry().sectors();
     let mut plain = Plain::new(rt.alloc(), sectors)?;
     let mut seed = 1;
     for _ in 0..commands {
@@ -295,30 +299,30 @@ fn compare(rt: &(impl Abort + AllocGlobal), bench: &mut Bench, commands: u32) ->
         let sector = (seed >> 8) % sectors;
         let byte = (seed >> 16 & 255) as u8;
         let is_same = match seed >> 28 {
-            0 | 1 => bench.trim(rt, sector) == plain.trim(sector),
-            2..=5 => bench.read(rt, sector) == plain.read(sector),
-            _ => bench.write(rt, sector, byte) == Some(plain.write(sector, byte)?),
+            0 | 1 => layer.trim(rt, sector) == plain.trim(sector),
+            2..=5 => layer.read(rt, sector) == plain.read(sector),
+            _ => layer.write(rt, sector, byte) == Some(plain.write(sector, byte)?),
         };
         assert!(rt; is_same);
     }
     for sector in 0..sectors {
-        assert!(rt; bench.read(rt, sector) == plain.read(sector));
+        assert!(rt; layer.read(rt, sector) == plain.read(sector));
     }
     Ok(())
 }
 
 #[test]
-fn it_answers_as_a_plain_store_while_nothing_is_collected(rt: HostRuntime) -> Result<(), Fail> {
-    let mut bench = Bench::new(&rt, 1, 64, 64, 100, 10)?;
-    compare(&rt, &mut bench, 5000)?;
-    assert!(rt; bench.ftl.counts().erases == 0);
+fn the_layer_agrees_with_a_plain_store_until_it_collects(rt: HostRuntime) -> Result<(), Fail> {
+    let mut layer = SmallLayer::new(&rt, 1, 64, 64, 100, 10)?;
+    compare(&rt, &mut layer, 5000)?;
+    assert!(rt; layer.ftl.counts().erases == 0);
     Ok(())
 }
 
 #[test]
 fn a_full_device_reads_what_was_last_written(rt: HostRuntime) -> Result<(), Fail> {
-    let mut bench = Bench::new(&rt, 2, 16, 8, 110, 1_000_000)?;
-    compare(&rt, &mut bench, 30_000)?;
-    assert!(rt; bench.ftl.counts().erases > 1000);
+    let mut layer = SmallLayer::new(&rt, 2, 16, 8, 110, 1_000_000)?;
+    compare(&rt, &mut layer, 30_000)?;
+    assert!(rt; layer.ftl.counts().erases > 1000);
     Ok(())
 }

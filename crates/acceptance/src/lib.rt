@@ -3,6 +3,8 @@
 #![tactic(auto)]
 
 #[cfg(test)]
+mod assertions;
+#[cfg(test)]
 mod caller;
 #[cfg(test)]
 mod dies;
@@ -10,8 +12,6 @@ mod dies;
 mod geometries;
 #[cfg(test)]
 mod layers;
-#[cfg(test)]
-mod saying;
 #[cfg(test)]
 mod traces;
 #[cfg(test)]

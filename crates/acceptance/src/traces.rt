@@ -1,4 +1,4 @@
-use crate::saying::{expect, is_shown};
+use crate::assertions::expect;
 use geometry::Geometry;
 use std::alloc::Global;
 use std::io;
@@ -197,7 +197,7 @@ const SECOND_WORKER: &str = "0,read,0,\n\u{feff}0,read,0,\n|0,\"read\",0,\n\u{fe
 const FIRST_OP: &str = "0,READ,9,4|0,\"re\"\"ad\",0,\n";
 
 #[test]
-fn the_first_faulty_record_is_answered_by_its_number(rt: HostRuntime) -> Result<(), Fail> {
+fn the_first_faulty_record_is_named_by_its_line(rt: HostRuntime) -> Result<(), Fail> {
     use TraceFaultKind as kind;
     let geometry = small()?;
     for (texts, line, fault) in [
@@ -228,7 +228,7 @@ fn each_beginning_of_a_line_has_its_answer(rt: HostRuntime) -> Result<(), Fail> 
 }
 
 #[test]
-fn bytes_that_are_no_text_fail_their_check(rt: HostRuntime) -> Result<(), Fail> {
+fn bytes_that_are_not_text_have_their_faults(rt: HostRuntime) -> Result<(), Fail> {
     use TraceFaultKind as kind;
     for (text, fault) in [
         (b"\xff,read,0,".as_slice(), kind::Worker),
@@ -300,13 +300,6 @@ fn commands_come_in_order(rt: HostRuntime) -> Result<(), Fail> {
         names.extend_from_slice(command.op.name().as_bytes())?;
     }
     assert!(rt; names.as_slice() == b"writemeetread".as_slice());
-    Ok(())
-}
-
-#[test]
-fn a_fault_prints_its_line_and_kind(rt: HostRuntime) -> Result<(), Fail> {
-    let fault = first_fault(rt.alloc(), b"0,read,0,\n0,read,3,\n")?.ok_or("no fault")?;
-    assert!(rt; is_shown(rt.alloc(), &fault, "line 2: Sector")?);
     Ok(())
 }
 
@@ -395,7 +388,7 @@ fn a_trace_of_100000_lines_is_loaded_and_parsed(rt: HostRuntime) -> Result<(), F
 }
 
 #[test]
-fn the_fault_of_line_100001_is_told(rt: HostRuntime) -> Result<(), Fail> {
+fn a_fault_in_line_100001_is_reported(rt: HostRuntime) -> Result<(), Fail> {
     let mut text = long_trace(rt.alloc(), b"0,read,0,\n", 99_999)?;
     text.extend_from_slice(b"\n0,read,3,")?;
     assert!(rt; first_fault(rt.alloc(), text.as_slice())? == at(100_001, TraceFaultKind::Sector));
@@ -403,7 +396,7 @@ fn the_fault_of_line_100001_is_told(rt: HostRuntime) -> Result<(), Fail> {
 }
 
 #[test]
-fn a_load_ends_where_its_reader_fails_or_has_no_end(rt: HostRuntime) {
+fn a_load_ends_if_its_reader_fails_or_never_ends(rt: HostRuntime) {
     let mut failing = Watched::new(Pieces {
         rest: b"0,write,0,41\n",
         size: 3,
@@ -483,7 +476,7 @@ fn takes_all(watched: &mut Watched<Steady>, bytes: &mut [u8]) -> bool {
 }
 
 #[test]
-fn what_never_fails_has_no_failure(rt: HostRuntime) -> Result<(), Fail> {
+fn a_stream_that_never_fails_has_no_failure(rt: HostRuntime) -> Result<(), Fail> {
     let mut watched = Watched::new(Steady { flushes: 0 });
     let mut bytes = Vec::new(rt.alloc());
     for size in [1, 2, 511, 4_096, 65_536, 80_000] {

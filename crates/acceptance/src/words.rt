@@ -1,4 +1,4 @@
-use crate::saying::{expect, is_shown};
+use crate::assertions::{expect, prints_as};
 use geometry::{MapWord, NEXT_PHASE, PAGE_WRITTEN, Phase, PinWord, TAKEN, freed, kept};
 use std::test::Fail;
 
@@ -130,13 +130,13 @@ fn owners_add_these_numbers(rt: HostRuntime) -> Result<(), Fail> {
 }
 
 #[test]
-fn words_are_shown_in_words(rt: HostRuntime) -> Result<(), Fail> {
+fn packed_words_print_their_parts(rt: HostRuntime) -> Result<(), Fail> {
     let page = MapWord {
         generation: 1,
         block: 2,
         page: 3,
     };
-    assert!(rt; is_shown(rt.alloc(), &page, "block 2 page 3 generation 1")?);
+    assert!(rt; prints_as(rt.alloc(), &page, "block 2 page 3 generation 1")?);
     let pin = PinWord {
         readers: 2,
         phase: Phase::Closed,
@@ -144,7 +144,7 @@ fn words_are_shown_in_words(rt: HostRuntime) -> Result<(), Fail> {
         generation: 5,
     };
     assert!(rt;
-        is_shown(
+        prints_as(
             rt.alloc(),
             &pin,
             "closed, 2 written, generation 5, 2 readers"

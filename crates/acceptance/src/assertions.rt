@@ -10,6 +10,6 @@ pub(crate) fn expect(rt: &impl Abort, holds: bool, row: &impl Debug) {
 }
 
 /// Whether a value is shown as this text.
-pub(crate) fn is_shown(alloc: Global, value: &impl Display, text: &str) -> Result<bool, Fail> {
+pub(crate) fn prints_as(alloc: Global, value: &impl Display, text: &str) -> Result<bool, Fail> {
     Ok(format!(in alloc; "{value}")?.as_str() == text)
 }
