@@ -29,7 +29,8 @@ sectors : (f : Flash) (p : Pass) → IsReady f p → (view_of p).numbers.sectors
 sectors f p ready = ap (λ (z : Numbers). z.sectors) ready.rested.pass.numbers
 
 pub written : (f : Flash) (p q : Pass) (t s : ℕ) (value : List ℕ) (answer : Was) → IsReady f p → IsReady f q → (view_of p).role ≡ Player (APass t)
-    → Wrote (view_of p) t s value answer (view_of q) → Correct (sectors_of (geometry_of f)) t (Write s value) (Replaced answer) (known_by (view_of p)) (known_by (view_of q))
+    → Wrote (view_of p) t s value answer (view_of q)
+    → Correct (sectors_of (geometry_of f)) t (Write s value) (Replaced answer) (known_by (view_of p)) (known_by (view_of q))
 written f p q t s value answer old new role w =
     record {
       place = w.before;
@@ -43,11 +44,13 @@ written f p q t s value answer old new role w =
 -- and so for either outcome
 pub writes : (f : Flash) (p q : Pass) (s : ℕ) (value : List ℕ) (r : Result Was NoBlock) → IsReady f p → IsReady f q
     → IfOk r (λ answer. (t : ℕ) → (view_of p).role ≡ Player (APass t) → Wrote (view_of p) t s value answer (view_of q))
-    → IfOk r (λ answer. (t : ℕ) → (view_of p).role ≡ Player (APass t) → Correct (sectors_of (geometry_of f)) t (Write s value) (Replaced answer) (known_by (view_of p)) (known_by (view_of q)))
+    → IfOk r (λ answer. (t : ℕ) → (view_of p).role ≡ Player (APass t)
+    → Correct (sectors_of (geometry_of f)) t (Write s value) (Replaced answer) (known_by (view_of p)) (known_by (view_of q)))
 writes f p q s value r old new wrote = IfOk-weaker r _ _ (λ answer told t role. written f p q t s value answer old new role (told t role)) wrote
 
 written_new : (f : Flash) (p q : Pass) (t s : ℕ) (value : List ℕ) (answer : Was) → IsReady f p → IsReady f q → (view_of p).role ≡ Player (APass t)
-    → WroteNew (view_of p) t s value answer (view_of q) → Correct (sectors_of (geometry_of f)) t (WriteNew s value) (Replaced answer) (known_by (view_of p)) (known_by (view_of q))
+    → WroteNew (view_of p) t s value answer (view_of q)
+    → Correct (sectors_of (geometry_of f)) t (WriteNew s value) (Replaced answer) (known_by (view_of p)) (known_by (view_of q))
 written_new f p q t s value answer old new role w =
     record {
       place = w.before;
@@ -61,12 +64,14 @@ written_new f p q t s value answer old new role w =
 -- and so for a write of an empty sector, whatever the sector was
 pub writes_new : (f : Flash) (p q : Pass) (s : ℕ) (value : List ℕ) (found : Option Was) → IsReady f p → IsReady f q
     → IfSome found (λ answer. (t : ℕ) → (view_of p).role ≡ Player (APass t) → WroteNew (view_of p) t s value answer (view_of q))
-    → IfSome found (λ answer. (t : ℕ) → (view_of p).role ≡ Player (APass t) → Correct (sectors_of (geometry_of f)) t (WriteNew s value) (Replaced answer) (known_by (view_of p)) (known_by (view_of q)))
+    → IfSome found (λ answer. (t : ℕ) → (view_of p).role ≡ Player (APass t)
+    → Correct (sectors_of (geometry_of f)) t (WriteNew s value) (Replaced answer) (known_by (view_of p)) (known_by (view_of q)))
 writes_new f p q s value None old new wrote = wrote
 writes_new f p q s value (Some answer) old new wrote = λ t role. written_new f p q t s value answer old new role (wrote t role)
 
 pub trimmed : (f : Flash) (p q : Pass) (t s : ℕ) (answer : Was) → IsReady f p → (view_of p).role ≡ Player (APass t)
-    → Called (view_of p) (call.Trim t s) s answer (view_of q) → Correct (sectors_of (geometry_of f)) t (Trim s) (Replaced answer) (known_by (view_of p)) (known_by (view_of q))
+    → Called (view_of p) (call.Trim t s) s answer (view_of q)
+    → Correct (sectors_of (geometry_of f)) t (Trim s) (Replaced answer) (known_by (view_of p)) (known_by (view_of q))
 trimmed f p q t s answer old role w =
     record {
       place = w.before;
@@ -98,7 +103,8 @@ fresh f p t pass first nothing =
     }
 
 -- the passes of a device on which nothing was done
-pub all_fresh : (f : Flash) (passes : List Pass) → ((t : ℕ) (p : Pass) → slice_get passes t ≡ Some p → IsPassOf f p × (view_of p ≡ first_view (device f) t) × (opened_of p ≡ None)) → All (IsReady f) passes
+pub all_fresh : (f : Flash) (passes : List Pass)
+    → ((t : ℕ) (p : Pass) → slice_get passes t ≡ Some p → IsPassOf f p × (view_of p ≡ first_view (device f) t) × (opened_of p ≡ None)) → All (IsReady f) passes
 all_fresh f passes each k d low =
     let p = get_or passes k d in
     let h = each k p (slice_get-get_or passes k d low) in fresh f p k h.0 h.1 h.2

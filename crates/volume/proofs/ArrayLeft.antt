@@ -48,14 +48,16 @@ still v w seen mine hosts = leaves v w (subst (λ (h : List Call). Begins v.seen
 same : (v w : View) → w ≡ v → AreOfHosts w.numbers w.seen → LeavesArray v w
 same v w is hosts = still v w (ap (λ (x : View). x.seen) is) (ap (λ (x : View). x.mine) is) hosts
 
-pub drained : (b a : Broom) (answer : Drain) → DrainTold b answer a → AreOfHosts (view_of_broom a).numbers (view_of_broom a).seen → LeavesArray (view_of_broom b) (view_of_broom a)
+pub drained : (b a : Broom) (answer : Drain) → DrainTold b answer a → AreOfHosts (view_of_broom a).numbers (view_of_broom a).seen
+    → LeavesArray (view_of_broom b) (view_of_broom a)
 drained b a (drain.Drained block copied) t hosts = leaves (view_of_broom b) (view_of_broom a) t.made.later hosts (ap (λ (x : View). x.mine) t.changed)
 drained b a drain.NothingToGain t hosts = leaves (view_of_broom b) (view_of_broom a) t.0.made.later hosts (ap (λ (x : View). x.mine) t.0.changed)
 drained b a drain.NoSpare t hosts = same (view_of_broom b) (view_of_broom a) t.view hosts
 drained b a drain.Lost t hosts = leaves (view_of_broom b) (view_of_broom a) t.0.made.later hosts (ap (λ (x : View). x.mine) t.0.changed)
 drained b a drain.QueueFull t hosts = absurd t
 
-pub next_drained : (b a : Broom) (answer : Drain) → NextTold b answer a → AreOfHosts (view_of_broom a).numbers (view_of_broom a).seen → LeavesArray (view_of_broom b) (view_of_broom a)
+pub next_drained : (b a : Broom) (answer : Drain) → NextTold b answer a → AreOfHosts (view_of_broom a).numbers (view_of_broom a).seen
+    → LeavesArray (view_of_broom b) (view_of_broom a)
 next_drained b a (drain.Drained block copied) t hosts = leaves (view_of_broom b) (view_of_broom a) t.1.later hosts (ap (λ (x : View). x.mine) t.1.changed)
 next_drained b a drain.NothingToGain t hosts = same (view_of_broom b) (view_of_broom a) t.1 hosts
 next_drained b a drain.NoSpare t hosts = same (view_of_broom b) (view_of_broom a) t.0.view hosts
@@ -66,7 +68,8 @@ next_drained b a drain.QueueFull t hosts = absurd t
 by_change : (v w x : View) → w ≡ x → x.seen ≡ v.seen → x.mine ≡ v.mine → AreOfHosts w.numbers w.seen → LeavesArray v w
 by_change v w x is seen mine hosts = still v w (ap (λ (y : View). y.seen) is ∙ seen) (ap (λ (y : View). y.mine) is ∙ mine) hosts
 
-pub erased : (b a : Broom) (block : ℕ) (answer : Erase) → EraseTold b block answer a → AreOfHosts (view_of_broom a).numbers (view_of_broom a).seen → LeavesArray (view_of_broom b) (view_of_broom a)
+pub erased : (b a : Broom) (block : ℕ) (answer : Erase) → EraseTold b block answer a → AreOfHosts (view_of_broom a).numbers (view_of_broom a).seen
+    → LeavesArray (view_of_broom b) (view_of_broom a)
 erased b a block (erase.Erased one true) t hosts = by_change (view_of_broom b) (view_of_broom a) _ t.1.erased.changed refl refl hosts
 erased b a block (erase.Erased one false) t hosts = by_change (view_of_broom b) (view_of_broom a) _ t.1.erased.changed refl refl hosts
 erased b a block (erase.Retired one) t hosts = by_change (view_of_broom b) (view_of_broom a) _ t.1.erased.changed refl refl hosts
@@ -74,7 +77,8 @@ erased b a block erase.Pinned t hosts = by_change (view_of_broom b) (view_of_bro
 erased b a block erase.Stale t hosts = by_change (view_of_broom b) (view_of_broom a) _ t.0.changed refl refl hosts
 erased b a block erase.QueueEmpty t hosts = absurd t
 
-pub restocked : (b a : Broom) (answer : Bool) → RestockTold b answer a → AreOfHosts (view_of_broom a).numbers (view_of_broom a).seen → LeavesArray (view_of_broom b) (view_of_broom a)
+pub restocked : (b a : Broom) (answer : Bool) → RestockTold b answer a → AreOfHosts (view_of_broom a).numbers (view_of_broom a).seen
+    → LeavesArray (view_of_broom b) (view_of_broom a)
 restocked b a true t hosts = elim t [
   | inl had ↦ same (view_of_broom b) (view_of_broom a) had.view hosts
   | inr took ↦ by_change (view_of_broom b) (view_of_broom a) _ took.changed refl refl hosts
@@ -92,13 +96,17 @@ moved v v' w w' first last told = subst (λ (x : View). LeavesArray v' x) (sym l
 
 -- a call of a broom that leaves the array
 abbrev Leaving : (Broom → Drain → Broom → Type 0) → Type 0
-Leaving Told = (b a : Broom) (answer : Drain) → Told b answer a → AreOfHosts (view_of_broom a).numbers (view_of_broom a).seen → LeavesArray (view_of_broom b) (view_of_broom a)
+Leaving Told = (b a : Broom) (answer : Drain) → Told b answer a → AreOfHosts (view_of_broom a).numbers (view_of_broom a).seen
+    → LeavesArray (view_of_broom b) (view_of_broom a)
 
-after_put : (Told : Broom → Drain → Broom → Type 0) → Leaving Told → (b a : Broom) (answer : Drain) → DrainedAfterPut Told b answer a → AreOfHosts (view_of_broom a).numbers (view_of_broom a).seen → LeavesArray (view_of_broom b) (view_of_broom a)
+after_put : (Told : Broom → Drain → Broom → Type 0) → Leaving Told → (b a : Broom) (answer : Drain) → DrainedAfterPut Told b answer a
+    → AreOfHosts (view_of_broom a).numbers (view_of_broom a).seen → LeavesArray (view_of_broom b) (view_of_broom a)
 after_put Told told b a answer t hosts =
-    moved (view_of_broom t.relieved) (view_of_broom b) (view_of_broom a) (view_of_broom a) (elsewhere b t.relieved t.first.rest) refl (told t.relieved a answer t.drain hosts)
+    moved (view_of_broom t.relieved) (view_of_broom b) (view_of_broom a) (view_of_broom a) (elsewhere b t.relieved t.first.rest) refl
+    (told t.relieved a answer t.drain hosts)
 
-pub turned : (Told : Broom → Drain → Broom → Type 0) → Leaving Told → (limit : ℕ) (b a : Broom) (answer : Drain) → TurnTold Told limit b answer a → AreOfHosts (view_of_broom a).numbers (view_of_broom a).seen → LeavesArray (view_of_broom b) (view_of_broom a)
+pub turned : (Told : Broom → Drain → Broom → Type 0) → Leaving Told → (limit : ℕ) (b a : Broom) (answer : Drain) → TurnTold Told limit b answer a
+    → AreOfHosts (view_of_broom a).numbers (view_of_broom a).seen → LeavesArray (view_of_broom b) (view_of_broom a)
 turned Told told limit b a (drain.Drained block copied) t hosts =
     let handed = elsewhere t.drained a t.handed.rest in
     moved (view_of_broom b) (view_of_broom b) (view_of_broom t.drained) (view_of_broom a) refl handed
@@ -108,19 +116,25 @@ turned Told told limit b a drain.NoSpare t hosts = after_put Told told b a drain
 turned Told told limit b a drain.Lost t hosts = after_put Told told b a drain.Lost t hosts
 turned Told told limit b a drain.QueueFull t hosts = same (view_of_broom b) (view_of_broom a) (elsewhere b a t.rest) hosts
 
-pub drained_one : (limit : ℕ) (b a : Broom) (answer : Drain) → DrainOneTold limit b answer a → AreOfHosts (view_of_broom a).numbers (view_of_broom a).seen → LeavesArray (view_of_broom b) (view_of_broom a)
-drained_one limit b a answer t hosts = turned (λ x given y. DrainTold x given y × SurveyLeft x given y) (λ x y given told. drained x y given told.0) limit b a answer t hosts
+pub drained_one : (limit : ℕ) (b a : Broom) (answer : Drain) → DrainOneTold limit b answer a
+    → AreOfHosts (view_of_broom a).numbers (view_of_broom a).seen → LeavesArray (view_of_broom b) (view_of_broom a)
+drained_one limit b a answer t hosts =
+    turned (λ x given y. DrainTold x given y × SurveyLeft x given y) (λ x y given told. drained x y given told.0) limit b a answer t hosts
 
-fetched_erased : (b a : Broom) (block : ℕ) (answer : Erase) → FetchedAndErased b block answer a → AreOfHosts (view_of_broom a).numbers (view_of_broom a).seen → LeavesArray (view_of_broom b) (view_of_broom a)
+fetched_erased : (b a : Broom) (block : ℕ) (answer : Erase) → FetchedAndErased b block answer a
+    → AreOfHosts (view_of_broom a).numbers (view_of_broom a).seen → LeavesArray (view_of_broom b) (view_of_broom a)
 fetched_erased b a block answer t hosts =
-    moved (view_of_broom t.fetched) (view_of_broom b) (view_of_broom a) (view_of_broom a) (elsewhere b t.fetched t.first.rest) refl (erased t.fetched a block answer t.erase hosts)
+    moved (view_of_broom t.fetched) (view_of_broom b) (view_of_broom a) (view_of_broom a) (elsewhere b t.fetched t.first.rest) refl
+    (erased t.fetched a block answer t.erase hosts)
 
-pub erased_one : (limit : ℕ) (b a : Broom) (answer : Erase) → EraseOneTold limit b answer a → AreOfHosts (view_of_broom a).numbers (view_of_broom a).seen → LeavesArray (view_of_broom b) (view_of_broom a)
+pub erased_one : (limit : ℕ) (b a : Broom) (answer : Erase) → EraseOneTold limit b answer a
+    → AreOfHosts (view_of_broom a).numbers (view_of_broom a).seen → LeavesArray (view_of_broom b) (view_of_broom a)
 erased_one limit b a (erase.Erased block kept) t hosts = fetched_erased b a t.0 (erase.Erased block kept) t.1 hosts
 erased_one limit b a (erase.Retired block) t hosts = fetched_erased b a t.0 (erase.Retired block) t.1 hosts
 erased_one limit b a erase.Pinned t hosts =
     let handed = elsewhere t.found a t.handed.rest in
-    moved (view_of_broom b) (view_of_broom b) (view_of_broom t.found) (view_of_broom a) refl handed (fetched_erased b t.found t.block erase.Pinned t.erase (subst (λ (x : View). AreOfHosts x.numbers x.seen) handed hosts))
+    moved (view_of_broom b) (view_of_broom b) (view_of_broom t.found) (view_of_broom a) refl handed
+    (fetched_erased b t.found t.block erase.Pinned t.erase (subst (λ (x : View). AreOfHosts x.numbers x.seen) handed hosts))
 erased_one limit b a erase.Stale t hosts = fetched_erased b a t.0 erase.Stale t.1 hosts
 erased_one limit b a erase.QueueEmpty t hosts = same (view_of_broom b) (view_of_broom a) (elsewhere b a t.rest) hosts
 

@@ -29,7 +29,8 @@ there : (ps : List Pass) (j : ℕ) (p d : Pass) → slice_get ps j ≡ Some p �
 there ps j p d is = get_or_from_slice_get ps j p d is
 
 -- a pass has looked, and the others have met it
-pub have_looked : (ps qs : List Pass) (first now : Pass) (v : View) → HasLooked (view_of first) (view_of now) → MetEach v ps (view_of now) qs → HaveLooked (first ∷ ps) (now ∷ qs)
+pub have_looked : (ps qs : List Pass) (first now : Pass) (v : View) → HasLooked (view_of first) (view_of now) → MetEach v ps (view_of now) qs
+    → HaveLooked (first ∷ ps) (now ∷ qs)
 have_looked ps qs first now v looked m = record {
   long = ap (λ k. suc k) m.long;
   each = λ k. each k;
@@ -41,11 +42,17 @@ have_looked ps qs first now v looked m = record {
       subst (λ (x : Pass × Pass). HasLooked (view_of x.0) (view_of x.1)) (λ i. (there ps j p p is i, there qs j q q was i)) tied.looked
 
 -- the others of one row, with the first pass before and after it reads
-module _ (f : Flash) (first now read : Pass) (ps qs : List Pass) (met : MetEach (view_of first) ps (view_of now) qs) (looked : HasLooked (view_of now) (view_of read)) where
+module _ (f : Flash) (first now read : Pass) (ps qs : List Pass) (met : MetEach (view_of first) ps (view_of now) qs)
+    (looked : HasLooked (view_of now) (view_of read)) where
   -- the reader may look on
   pub looked_between : HaveLooked (first ∷ ps) (read ∷ qs)
   looked_between = have_looked ps qs first read (view_of first) (looked-trans (view_of first) (view_of now) (view_of read) met.first looked)
-      (record { first = looked-trans (view_of first) (view_of now) (view_of read) met.first looked; long = met.long; each = λ k p q low. let t = met.each k p q low in record { looked = t.looked; brought = Begins-trans _ (view_of now).seen (view_of read).seen t.brought looked.later; given = t.given } })
+      (record {
+        first = looked-trans (view_of first) (view_of now) (view_of read) met.first looked;
+        long = met.long;
+        each = λ k p q low. let t = met.each k p q low in
+            record { looked = t.looked; brought = Begins-trans _ (view_of now).seen (view_of read).seen t.brought looked.later; given = t.given };
+      })
 
   module _ (n : ℕ) (sectors : List Sector) (h : HasRead n (view_of now) sectors (view_of read)) where
     same_role : (view_of now).role ≡ (view_of first).role
@@ -55,18 +62,22 @@ module _ (f : Flash) (first now read : Pass) (ps qs : List Pass) (met : MetEach 
     same_mine = ap (λ (v : View). v.mine) met.first.changed
 
     later : (s k : ℕ) (p : Pass) → slice_get (first ∷ ps) k ≡ Some p → Begins (view_of p).seen (h.history s)
-    later s zero p is = subst (λ (x : Pass). Begins (view_of x).seen (h.history s)) (some_same first p is) (Begins-trans (view_of first).seen (view_of now).seen (h.history s) met.first.later (h.later s))
+    later s zero p is = subst (λ (x : Pass). Begins (view_of x).seen (h.history s)) (some_same first p is)
+        (Begins-trans (view_of first).seen (view_of now).seen (h.history s) met.first.later (h.later s))
     later s (suc j) p is =
         let tied = met.each j p p (slice_get_within ps j p is) in
-        Begins-trans (view_of p).seen (view_of now).seen (h.history s) (subst (λ (x : Pass). Begins (view_of x).seen (view_of now).seen) (there ps j p p is) tied.brought) (h.later s)
+        Begins-trans (view_of p).seen (view_of now).seen (h.history s)
+        (subst (λ (x : Pass). Begins (view_of x).seen (view_of now).seen) (there ps j p p is) tied.brought) (h.later s)
 
     own_first : (s t : ℕ) → (view_of first).role ≡ Player (APass t) → calls_of t (h.history s) ≡ (view_of first).mine
     own_first s t role = h.own s t (same_role ∙ role) ∙ same_mine
 
     -- and after it
-    module _ (last : Pass) (rs : List Pass) (again : MetEach (view_of read) qs (view_of last) rs) (ready_first : IsReady f last) (ready_before : All (IsReady f) ps) (ready_after : All (IsReady f) rs) where
+    module _ (last : Pass) (rs : List Pass) (again : MetEach (view_of read) qs (view_of last) rs) (ready_first : IsReady f last)
+        (ready_before : All (IsReady f) ps) (ready_after : All (IsReady f) rs) where
       own : (s t k : ℕ) (p : Pass) → slice_get (first ∷ ps) k ≡ Some p → (view_of p).role ≡ Player (APass t) → calls_of t (h.history s) ≡ (view_of p).mine
-      own s t zero p is role = let same = some_same first p is in subst (λ (x : Pass). calls_of t (h.history s) ≡ (view_of x).mine) same (own_first s t (ap (λ (x : Pass). (view_of x).role) same ∙ role))
+      own s t zero p is role = let same = some_same first p is in
+          subst (λ (x : Pass). calls_of t (h.history s) ≡ (view_of x).mine) same (own_first s t (ap (λ (x : Pass). (view_of x).role) same ∙ role))
       own s t (suc j) p is role =
           let low : j < length ps = slice_get_within ps j p is in
           let here = there ps j p p is in
@@ -85,8 +96,10 @@ module _ (f : Flash) (first now read : Pass) (ps qs : List Pass) (met : MetEach 
 
       callers : (s : ℕ) → AreOfHosts (device f) (h.history s)
       callers s =
-          let whole : AreOfHosts (device f) (view_of last).seen = subst (λ (z : Numbers). AreOfHosts z (view_of last).seen) ready_first.rested.pass.numbers ready_first.rested.callers in
-          callers_before (device f).hosts (h.history s) (view_of last).seen (Begins-trans (h.history s) (view_of read).seen (view_of last).seen (h.last s) again.first.later) whole
+          let whole : AreOfHosts (device f) (view_of last).seen =
+          subst (λ (z : Numbers). AreOfHosts z (view_of last).seen) ready_first.rested.pass.numbers ready_first.rested.callers in
+          callers_before (device f).hosts (h.history s) (view_of last).seen
+          (Begins-trans (h.history s) (view_of read).seen (view_of last).seen (h.last s) again.first.later) whole
 
       seen : (s : ℕ) → Begins (h.history s) (view_of last).seen
       seen s = Begins-trans (h.history s) (view_of read).seen (view_of last).seen (h.last s) again.first.later
@@ -104,7 +117,8 @@ module _ (f : Flash) (first now read : Pass) (ps qs : List Pass) (met : MetEach 
             each = λ s low. subst (λ k. sector_at sectors s ≡ held k (h.history s) s) size (h.each s (omega (arith, long, size)));
           }
 
-      pub are_final : n ≡ sectors_of (geometry_of f) → length sectors ≡ n → AreAll (hosts_of (geometry_of f)) (first ∷ ps) → AreFinal (device f) (first ∷ ps) (view_of last).seen sectors
+      pub are_final : n ≡ sectors_of (geometry_of f) → length sectors ≡ n → AreAll (hosts_of (geometry_of f)) (first ∷ ps)
+          → AreFinal (device f) (first ∷ ps) (view_of last).seen sectors
       are_final size long given =
           record {
             history = h.history 0;
@@ -131,12 +145,23 @@ has_left v w u opened owns looked left =
     let closed : closed_list opened ≡ closed_blocks v.owns = closed_owned opened ∙ ap closed_blocks (sym owns ∙ before) in
     record {
       changed = left
-          ∙ (λ i. record (looked.changed i) { seen = (sym left i).seen; looks = (sym left i).looks; pin = (sym left i).pin; known = (sym left i).known; copy = (sym left i).copy; older = (sym left i).older; owns = []; work = None; ceded = ceded i ++ closed i });
+          ∙ (λ i. record (looked.changed i) {
+            seen = (sym left i).seen;
+            looks = (sym left i).looks;
+            pin = (sym left i).pin;
+            known = (sym left i).known;
+            copy = (sym left i).copy;
+            older = (sym left i).older;
+            owns = [];
+            work = None;
+            ceded = ceded i ++ closed i;
+          });
       later = subst (λ (l : List Call). Begins v.seen l) (sym (ap (λ (x : View). x.seen) left)) looked.later;
     }
 
 -- the pass that has met all others, has read and has met them again, and these
-pub looked_after : (first now read last : Pass) (ps qs rs : List Pass) → MetEach (view_of first) ps (view_of now) qs → HasLooked (view_of now) (view_of read) → MetEach (view_of read) qs (view_of last) rs → HaveLooked (first ∷ ps) (last ∷ rs)
+pub looked_after : (first now read last : Pass) (ps qs rs : List Pass) → MetEach (view_of first) ps (view_of now) qs
+    → HasLooked (view_of now) (view_of read) → MetEach (view_of read) qs (view_of last) rs → HaveLooked (first ∷ ps) (last ∷ rs)
 looked_after first now read last ps qs rs met looked again =
     let v = view_of first in
     let up = looked-trans v (view_of now) (view_of read) met.first looked in
@@ -149,7 +174,8 @@ looked_after first now read last ps qs rs met looked again =
           let b = again.each k q q (omega (arith, met.long)) in
           record {
             looked = looked-trans (view_of (get_or ps k p)) (view_of (get_or qs k q)) (view_of (get_or rs k q)) a.looked b.looked;
-            brought = Begins-trans _ (view_of now).seen (view_of last).seen a.brought (Begins-trans (view_of now).seen (view_of read).seen (view_of last).seen looked.later again.first.later);
+            brought = Begins-trans _ (view_of now).seen (view_of last).seen a.brought
+                (Begins-trans (view_of now).seen (view_of read).seen (view_of last).seen looked.later again.first.later);
             given = Begins-trans v.seen (view_of read).seen _ up.later b.given;
           };
     } in

@@ -1,5 +1,6 @@
 -- The brooms of a new device are ready.
-use Rattle.std.proofs.Common.{◌≡◌, ℕ, ◌<◌, All, List, [], ◌∷◌, ◌++◌, Option, None, Some, IfSome, length, map, slice_get, get_or, sym, refl, ap, ◌∙◌, subst, arith, append_assoc}
+use Rattle.std.proofs.Common.{◌≡◌, ℕ, ◌<◌, All, List, [], ◌∷◌, ◌++◌, Option, None, Some, IfSome, length, map}
+use Rattle.std.proofs.Common.{slice_get, get_or, sym, refl, ap, ◌∙◌, subst, arith, append_assoc}
 use Rattle.std.specs.Option.{option_map}
 use Rattle.std.proofs.lemmas.List.{map_push, length-map, length_push}
 use Rattle.std.proofs.lemmas.Option.{slice_get-get_or, slice_get-map}
@@ -22,7 +23,8 @@ use Rattle.volume.specs.Brooms.{IsFresh}
 use Rattle.volume.specs.Opening.{known_by_seat, known_by_broom}
 
 -- a seat that has done nothing and has its spare alone
-pub rested : (f : Flash) (s : BroomSeat) (i : ℕ) → 0 < hosts_of (geometry_of f) → i < brooms_of (geometry_of f) → IsBroomOf f s → broom_view s ≡ first_broom (device f) i → own_blocks s ≡ first_blocks (device f) i → IsRested f s
+pub rested : (f : Flash) (s : BroomSeat) (i : ℕ) → 0 < hosts_of (geometry_of f) → i < brooms_of (geometry_of f) → IsBroomOf f s
+    → broom_view s ≡ first_broom (device f) i → own_blocks s ≡ first_blocks (device f) i → IsRested f s
 rested f s i hosts low seat first blocks =
     let seen : (broom_view s).seen ≡ [] = ap (λ (v : View). v.seen) first in
     let work = ap (λ (v : View). v.work) first in
@@ -46,7 +48,8 @@ rested f s i hosts low seat first blocks =
 
 -- the seats of a device on which nothing was done
 pub all_rested : (f : Flash) (seats : List BroomSeat) → 0 < hosts_of (geometry_of f) → length seats ≡ brooms_of (geometry_of f)
-    → ((i : ℕ) (s : BroomSeat) → slice_get seats i ≡ Some s → IsBroomOf f s × (broom_view s ≡ first_broom (device f) i) × (own_blocks s ≡ first_blocks (device f) i)) → All (IsRested f) seats
+    → ((i : ℕ) (s : BroomSeat) → slice_get seats i ≡ Some s
+    → IsBroomOf f s × (broom_view s ≡ first_broom (device f) i) × (own_blocks s ≡ first_blocks (device f) i)) → All (IsRested f) seats
 all_rested f seats hosts count each k d low =
     let s = get_or seats k d in
     let h = each k s (slice_get-get_or seats k d low) in rested f s k hosts (omega arith) h.0 h.1 h.2
@@ -57,11 +60,13 @@ behind_at g None y is = absurd (none_some y is)
 behind_at g (Some x) y is = (x, refl, some_same (g x) y is)
 
 -- a broom knows what its seat did
-pub of_seats : (seats : List BroomSeat) (brooms : List Broom) → map known_by_broom brooms ≡ map known_by_seat seats → (i : ℕ) (b : Broom) → slice_get brooms i ≡ Some b
+pub of_seats : (seats : List BroomSeat) (brooms : List Broom) → map known_by_broom brooms ≡ map known_by_seat seats → (i : ℕ) (b : Broom)
+    → slice_get brooms i ≡ Some b
     → (s : BroomSeat) × (slice_get seats i ≡ Some s) × (known_by_seat s ≡ known_by_broom b)
 of_seats seats brooms same i b is =
     behind_at known_by_seat (slice_get seats i) (known_by_broom b)
-    (sym (slice_get-map known_by_seat seats i) ∙ (ap (λ l. slice_get l i) (sym same) ∙ (slice_get-map known_by_broom brooms i ∙ ap (option_map known_by_broom) is)))
+    (sym (slice_get-map known_by_seat seats i)
+    ∙ (ap (λ l. slice_get l i) (sym same) ∙ (slice_get-map known_by_broom brooms i ∙ ap (option_map known_by_broom) is)))
 
 -- and there are as many
 pub as_many : (seats : List BroomSeat) (brooms : List Broom) → map known_by_broom brooms ≡ map known_by_seat seats → length brooms ≡ length seats
@@ -69,7 +74,9 @@ as_many seats brooms same = sym (length-map brooms known_by_broom) ∙ (ap (λ l
 
 -- so each broom of a new device begins as its seat
 pub begins : (f : Flash) (seats : List BroomSeat) (brooms : List Broom) → map known_by_broom brooms ≡ map known_by_seat seats
-    → ((i : ℕ) (s : BroomSeat) → slice_get seats i ≡ Some s → IsBroomOf f s × (broom_view s ≡ first_broom (device f) i) × (own_blocks s ≡ first_blocks (device f) i)) → (i : ℕ) (b : Broom) → slice_get brooms i ≡ Some b
+    → ((i : ℕ) (s : BroomSeat) → slice_get seats i ≡ Some s
+    → IsBroomOf f s × (broom_view s ≡ first_broom (device f) i) × (own_blocks s ≡ first_blocks (device f) i)) → (i : ℕ) (b : Broom)
+    → slice_get brooms i ≡ Some b
     → (view_of_broom b ≡ first_broom (device f) i) × (blocks_of_broom b ≡ first_blocks (device f) i)
 begins f seats brooms same each i b is =
     let o = of_seats seats brooms same i b is in
@@ -92,8 +99,10 @@ pub record Making (f : Flash) (q : EraseQueue) (all : List BroomSeat) (brooms : 
   pub count : length places ≡ length rest
 
 -- one seat more has become a broom
-pub one_made : (f : Flash) (q : EraseQueue) (all rest rest' : List BroomSeat) (places places' : List QueuePass) (brooms brooms' : List Broom) (s : BroomSeat) (p : QueuePass) (b : Broom) → Making f q all brooms rest places → rest ≡ s ∷ rest'
-    → places ≡ places' ++ p ∷ [] → brooms' ≡ brooms ++ b ∷ [] → view_of_broom b ≡ broom_view s → blocks_of_broom b ≡ own_blocks s → (place_of b ≡ p) × (aside_of b ≡ None) → (IsRested f s → IsReady f b) → HasNoMarks b → Making f q all brooms' rest' places'
+pub one_made : (f : Flash) (q : EraseQueue) (all rest rest' : List BroomSeat) (places places' : List QueuePass) (brooms brooms' : List Broom)
+    (s : BroomSeat) (p : QueuePass) (b : Broom) → Making f q all brooms rest places → rest ≡ s ∷ rest'
+    → places ≡ places' ++ p ∷ [] → brooms' ≡ brooms ++ b ∷ [] → view_of_broom b ≡ broom_view s → blocks_of_broom b ≡ own_blocks s
+    → (place_of b ≡ p) × (aside_of b ≡ None) → (IsRested f s → IsReady f b) → HasNoMarks b → Making f q all brooms' rest' places'
 one_made f q all rest rest' places places' brooms brooms' s p b was next left pushed view blocks place ready unmarked =
     let known : known_by_broom b ≡ known_by_seat s = λ i. (view i, blocks i) in
     let others = taken (IsRested f) s rest' rest next was.rested in
@@ -107,7 +116,10 @@ one_made f q all rest rest' places places' brooms brooms' s p b was next left pu
       known = ap (λ l. map known_by_broom l ++ map known_by_seat rest') pushed
           ∙ (ap (λ l. l ++ map known_by_seat rest') (map_push known_by_broom brooms b)
           ∙ (append_assoc (map known_by_broom brooms) (known_by_broom b ∷ []) (map known_by_seat rest')
-          ∙ (ap (λ x. map known_by_broom brooms ++ x ∷ map known_by_seat rest') known ∙ (ap (λ l. map known_by_broom brooms ++ map known_by_seat l) (sym next) ∙ was.known))));
-      fresh = subst (All (IsFresh f q)) (sym pushed) (All-push (IsFresh f q) brooms b was.fresh (record { ready = ready others.0; place = subst (IsNewPass q) (sym place.0) popped.1; aside = place.1; unmarked = unmarked }));
+          ∙ (ap (λ x. map known_by_broom brooms ++ x ∷ map known_by_seat rest') known
+          ∙ (ap (λ l. map known_by_broom brooms ++ map known_by_seat l) (sym next) ∙ was.known))));
+      fresh = subst (All (IsFresh f q)) (sym pushed)
+          (All-push (IsFresh f q) brooms b was.fresh
+          (record { ready = ready others.0; place = subst (IsNewPass q) (sym place.0) popped.1; aside = place.1; unmarked = unmarked }));
       rested = others.1;
     }

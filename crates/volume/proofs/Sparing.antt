@@ -14,7 +14,8 @@ if_some : (heard : Option Carried) (P : Carried → Type 0) → ((c : Carried) �
 if_some None P each = tt
 if_some (Some c) P each = each c refl
 
-pub undisturbed : (f : Flash) (old new : Held) → IsSpared old → view_of (pass_of new) ≡ view_of (pass_of old) → page_of new ≡ page_of old → ((value : List ℕ) → Holds f old value → Holds f new value)
+pub undisturbed : (f : Flash) (old new : Held) → IsSpared old → view_of (pass_of new) ≡ view_of (pass_of old) → page_of new ≡ page_of old
+    → ((value : List ℕ) → Holds f old value → Holds f new value)
     → IsUndisturbed f old (view_of (pass_of old)).copy new
 undisturbed f old new spared same page kept value holds =
     let heard : Option Carried = (view_of (pass_of old)).copy in
@@ -22,6 +23,8 @@ undisturbed f old new spared same page kept value holds =
       page = page;
       holds = kept value holds;
       unerased = if_some heard (λ c. AreEarlier c.erases (page_of new)) (λ c is. subst (AreEarlier c.erases) (sym page) (spared c is).erases);
-      once = if_some heard (λ c. Disjoint (view_of (pass_of new)).programs c.programs) (λ c is. subst (λ (v : View). Disjoint v.programs c.programs) (sym same) (spared c is).programs);
-      each_once = if_some heard (λ c. Once (view_of (pass_of new)).programs × Once c.programs) (λ c is. subst (λ (v : View). Once v.programs × Once c.programs) (sym same) (spared c is).programmed_once);
+      once = if_some heard (λ c. Disjoint (view_of (pass_of new)).programs c.programs)
+          (λ c is. subst (λ (v : View). Disjoint v.programs c.programs) (sym same) (spared c is).programs);
+      each_once = if_some heard (λ c. Once (view_of (pass_of new)).programs × Once c.programs)
+          (λ c is. subst (λ (v : View). Once v.programs × Once c.programs) (sym same) (spared c is).programmed_once);
     }

@@ -18,6 +18,7 @@ module _ (hosts n : ℕ) (sectors : List Sector) (history : ℕ → List Call) (
   pub at_one : length sectors ≡ n → ((s : ℕ) → s < n → sector_at sectors s ≡ held n (history s) s) → ((s : ℕ) → All (λ c. caller c < hosts) (history s))
       → ((t : ℕ) → t < hosts → (mine : List Call) × ((s : ℕ) → calls_of t (history s) ≡ mine)) → sectors ≡ after n (history 0)
   at_one long each callers own =
-      let same : (s : ℕ) → history s ≡ history 0 = λ s. still hosts (history 0) (history s) (grown s) (callers s) (λ t low. let o = own t low in o.1 s ∙ sym (o.1 0)) in
+      let same : (s : ℕ) → history s ≡ history 0 =
+      λ s. still hosts (history 0) (history s) (grown s) (callers s) (λ t low. let o = own t low in o.1 s ∙ sym (o.1 0)) in
       ext_get_or None sectors (after n (history 0)) (long ∙ sym (length-after n (history 0)))
       (λ s low. each s (omega (arith, long)) ∙ ap (λ h. held n h s) (same s))

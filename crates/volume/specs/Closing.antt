@@ -70,7 +70,17 @@ closed_blocks owns = map (λ (o : Owned). record o { phase = ClosedPhase }) owns
 -- The pass has looked and was then given up: it has closed the block that it owned, if there was one, and fills no page, and nothing else
 -- has changed
 pub record HasLeft (v w : View) : Type 0 where
-  pub changed : w ≡ record v { seen = w.seen; looks = w.looks; pin = w.pin; known = w.known; copy = w.copy; older = w.older; owns = []; work = None; ceded = v.ceded ++ closed_blocks v.owns }
+  pub changed : w ≡ record v {
+    seen = w.seen;
+    looks = w.looks;
+    pin = w.pin;
+    known = w.known;
+    copy = w.copy;
+    older = w.older;
+    owns = [];
+    work = None;
+    ceded = v.ceded ++ closed_blocks v.owns;
+  }
   pub later : Begins v.seen w.seen
 
 -- The pass has looked, and nothing else has changed: its calls, its programs, its counts of takes and its block are as they were

@@ -81,4 +81,5 @@ pub record Correct (n t : ℕ) (asked : Asked) (answer : Answer) (old new : Know
 
 -- what a pass of a volume asked was answered so, as one step of the array of its sectors
 abbrev pub Does : Volume → Pass → Asked → Answer → Pass → Type 0
-Does volume old asked answer new = (t : ℕ) → HasNumber t old → Correct (sectors_of (geometry_of (flash_of volume))) t asked answer (known_by (view_of old)) (known_by (view_of new))
+Does volume old asked answer new =
+    (t : ℕ) → HasNumber t old → Correct (sectors_of (geometry_of (flash_of volume))) t asked answer (known_by (view_of old)) (known_by (view_of new))

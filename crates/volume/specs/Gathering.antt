@@ -41,4 +41,5 @@ IsReadBy f old new values = (q : Pass) → slice_get new 0 ≡ Some q → AreRea
 
 -- and if the passes are all those of the device, they are those after one history
 abbrev pub IsFinalBy : Flash → List Pass → List Pass → List (Option (Vec ℕ Global)) → Type 0
-IsFinalBy f old new values = (q : Pass) → slice_get new 0 ≡ Some q → AreAll (hosts_of (geometry_of f)) old → AreFinal (device f) old (view_of q).seen (array_of values)
+IsFinalBy f old new values = (q : Pass) → slice_get new 0 ≡ Some q → AreAll (hosts_of (geometry_of f)) old
+    → AreFinal (device f) old (view_of q).seen (array_of values)

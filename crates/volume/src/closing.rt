@@ -122,7 +122,8 @@ impl Volume {
         requires passes { All (IsReady (flash_of self)) passes.items }
 
         // Where all passes are given, the sectors are those after one history; else each is what it is after a history that grows.
-        ensures one_history { IfOk result (λ closed. AreAll (hosts_of (geometry_of (flash_of self))) passes.items → IsFinal (flash_of self) passes.items closed) }
+        ensures one_history { IfOk result
+            (λ closed. AreAll (hosts_of (geometry_of (flash_of self))) passes.items → IsFinal (flash_of self) passes.items closed) }
         ensures read { IfOk result (λ closed. AreRead (device (flash_of self)) passes.items (last_view closed).seen (sectors_left closed)) }
         ensures first { IfOk result (λ closed. (p : Pass) → slice_get passes.items 0 ≡ Some p → HasLeft (view_of p) (last_view closed)) }
 

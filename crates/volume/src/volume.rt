@@ -196,7 +196,8 @@ impl Volume {
         requires sector { sector < sectors_of (geometry_of (flash_of self.now)) }
         requires page { length bytes.now ≡ page_bytes_of (geometry_of (flash_of self.now)) }
         ensures correct { IfSome (was_found result) (λ was. Does self.now pass.old (WriteNew sector bytes.now) (Replaced was) pass.new) }
-        ensures wrote { IfSome (was_found result) (λ was. (t : ℕ) → HasNumber t pass.old → WroteNew (view_of pass.old) t sector bytes.now was (view_of pass.new)) }
+        ensures wrote { IfSome (was_found result)
+            (λ was. (t : ℕ) → HasNumber t pass.old → WroteNew (view_of pass.old) t sector bytes.now was (view_of pass.new)) }
         ensures refused { result ≡ Err fault.NoBlock → Refused (view_of pass.old) (view_of pass.new) }
         ensures pass { IsReady (flash_of self.now) pass.new }
     {
@@ -215,7 +216,8 @@ impl Volume {
         requires sector { sector < sectors_of (geometry_of (flash_of self.now)) }
         requires page { length bytes.now ≡ page_bytes_of (geometry_of (flash_of self.now)) }
         ensures correct { IfSome (was_found result) (λ was. Does self.now pass.old (WriteNew sector bytes.now) (Replaced was) pass.new) }
-        ensures wrote { IfSome (was_found result) (λ was. (t : ℕ) → HasNumber t pass.old → WroteNew (view_of pass.old) t sector bytes.now was (view_of pass.new)) }
+        ensures wrote { IfSome (was_found result)
+            (λ was. (t : ℕ) → HasNumber t pass.old → WroteNew (view_of pass.old) t sector bytes.now was (view_of pass.new)) }
         ensures refused { result ≡ Err fault.NoBlock → Refused (view_of pass.old) (view_of pass.new) }
         ensures pass { IsReady (flash_of self.now) pass.new }
     {

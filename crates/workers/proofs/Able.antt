@@ -34,14 +34,17 @@ module _ (end : ℕ) (worker : Worker) where
   rest = lines_at (arc_value worker.commands) (drop (answered worker + round_size) worker.places.items)
 
   -- the round's places, by where the row of places stops to be before the end
-  pub range_is : (row part : List ℕ) (next to : ℕ) → row ≡ worker.places.items → part ≡ worker.places.items → next ≡ answered worker → next ≤ to → to ≤ length row → ((k : ℕ) → next ≤ k → k < to → get_or row k 0 < end)
+  pub range_is : (row part : List ℕ) (next to : ℕ) → row ≡ worker.places.items → part ≡ worker.places.items → next ≡ answered worker → next ≤ to
+      → to ≤ length row → ((k : ℕ) → next ≤ k → k < to → get_or row k 0 < end)
       → (to < length row → end ≤ get_or row to 0) → slice_range part next to ≡ round_places end worker
   range_is row part next to is also count later within before behind =
-      (λ i. take (sym (count_before row next to end later within before behind) i) (drop next ((also ∙ sym is) i))) ∙ (λ i. take_while (is_before end) (drop (count i) (is i)))
+      (λ i. take (sym (count_before row next to end later within before behind) i) (drop next ((also ∙ sym is) i)))
+      ∙ (λ i. take_while (is_before end) (drop (count i) (is i)))
 
   -- what holds of all its lines holds of the round's
   pub round_all : (P : Command → Type 0) → All P (lines_at (arc_value worker.commands) worker.places.items) → All P lines
-  round_all P all = subst (All P) (sym (lines_part (arc_value worker.commands) worker.places.items (answered worker) round_size)) (All-part P (lines_at (arc_value worker.commands) worker.places.items) (answered worker) round_size all)
+  round_all P all = subst (All P) (sym (lines_part (arc_value worker.commands) worker.places.items (answered worker) round_size))
+      (All-part P (lines_at (arc_value worker.commands) worker.places.items) (answered worker) round_size all)
 
   -- as many answers more as the round has lines
   round_count : length lines ≡ round_size
@@ -53,7 +56,8 @@ module _ (end : ℕ) (worker : Worker) where
   -- the lines that are not answered yet, in two parts
   lines_left : lines_at (arc_value worker.commands) left ≡ lines ++ rest
   lines_left =
-      ap (lines_at (arc_value worker.commands)) (sym (take-append-drop round_size left) ∙ ap (λ l. take round_size left ++ l) (drop-drop round_size (answered worker) worker.places.items))
+      ap (lines_at (arc_value worker.commands))
+      (sym (take-append-drop round_size left) ∙ ap (λ l. take round_size left ++ l) (drop-drop round_size (answered worker) worker.places.items))
       ∙ map-append _ (round_places end worker) (drop (answered worker + round_size) worker.places.items)
 
   -- there is room for the round's lines
@@ -66,7 +70,8 @@ module _ (end : ℕ) (worker : Worker) where
       let pages = round_space.pages in
       record { kinds = omega (arith, length-append lines rest); pages = omega (arith, space_of-append (page_size_of worker.answers) lines rest) }
 
-  pub able_again : (pass : Pass) (answers : Answers) (buffer : List ℕ) → IsReady (flash_of (arc_value worker.volume)) pass → HasAnswered lines worker.answers answers → length buffer ≡ length worker.buffer.items
+  pub able_again : (pass : Pass) (answers : Answers) (buffer : List ℕ) → IsReady (flash_of (arc_value worker.volume)) pass
+      → HasAnswered lines worker.answers answers → length buffer ≡ length worker.buffer.items
       → IsAble (arc_value worker.volume) (arc_value worker.commands) pass worker.places.items answers buffer
   able_again pass answers buffer ready told same =
       let count = answered_all answers told in

@@ -1,5 +1,6 @@
 -- One answer more, behind others.
-use Rattle.std.proofs.Common.{◌≡◌, ℕ, ◌+◌, ◌<◌, ◌≤◌, List, [], ◌∷◌, ◌++◌, length, take, drop, get_or, sym, refl, ap, ◌∙◌, subst, arith, append_assoc, append-nil, length-append}
+use Rattle.std.proofs.Common.{◌≡◌, ℕ, ◌+◌, ◌<◌, ◌≤◌, List, [], ◌∷◌, ◌++◌, length, take, drop, get_or, sym, refl, ap}
+use Rattle.std.proofs.Common.{◌∙◌, subst, arith, append_assoc, append-nil, length-append}
 use Rattle.std.proofs.lemmas.List.{drop_all, drop_more, length_push, take_all}
 use Rattle.std.proofs.Math.Seq.{drop-append_seam}
 use Rattle.flash_rule.specs.declared.facts.Name.TheVariants.{Pass as APass}
@@ -40,7 +41,8 @@ pub record Adding (volume : Volume) (patience : ℕ) (first : Pass) (lines : Lis
   pub space : (rest : List Command) → HasSpaceFor old (lines ++ rest) → HasSpaceFor answers (drop i lines ++ rest)
   pub playing : Playing volume patience first lines i now more
 
-pub adding_none : (volume : Volume) (patience : ℕ) (first : Pass) (lines : List Command) (old : Answers) → IsReady (flash_of volume) first → Adding volume patience first lines old 0 first old
+pub adding_none : (volume : Volume) (patience : ℕ) (first : Pass) (lines : List Command) (old : Answers) → IsReady (flash_of volume) first
+    → Adding volume patience first lines old 0 first old
 adding_none volume patience first lines old ready = record {
   more = [];
   grown = sym (append-nil (said_in old));
@@ -51,10 +53,12 @@ adding_none volume patience first lines old ready = record {
 }
 
 -- the line that is next has room
-pub room_next : (volume : Volume) (patience : ℕ) (first now : Pass) (lines : List Command) (old answers : Answers) (i : ℕ) (c : Command) (k : Kind) → Adding volume patience first lines old i now answers → i < length lines → c ≡ get_or lines i c
+pub room_next : (volume : Volume) (patience : ℕ) (first now : Pass) (lines : List Command) (old answers : Answers) (i : ℕ) (c : Command) (k : Kind)
+    → Adding volume patience first lines old i now answers → i < length lines → c ≡ get_or lines i c
     → HasSpaceFor old lines → (k ≡ kind.Page → c.op ≡ op.Read) → HasSpace answers 1 (bytes_of (page_size_of answers) k)
 room_next volume patience first now lines old answers i c k all low at space found =
-    let left : drop i lines ++ [] ≡ c ∷ drop (i + 1) lines = append-nil (drop i lines) ∙ (drop_more lines i c low ∙ ap (λ d. d ∷ drop (i + 1) lines) (sym at)) in
+    let left : drop i lines ++ [] ≡ c ∷ drop (i + 1) lines =
+    append-nil (drop i lines) ∙ (drop_more lines i c low ∙ ap (λ d. d ∷ drop (i + 1) lines) (sym at)) in
     let room = subst (HasSpaceFor answers) left (all.space [] (subst (HasSpaceFor old) (sym (append-nil lines)) space)) in
     let kinds = room.kinds in
     let pages = room.pages in
@@ -62,18 +66,21 @@ room_next volume patience first now lines old answers i c k all low at space fou
     record { kinds = omega arith; pages = omega arith }
 
 -- one step of the loop
-module _ (volume : Volume) (patience : ℕ) (first now next : Pass) (lines : List Command) (old answers newer : Answers) (i : ℕ) (c : Command) (k : Kind) (page : List ℕ)
+module _ (volume : Volume) (patience : ℕ) (first now next : Pass) (lines : List Command) (old answers newer : Answers) (i : ℕ) (c : Command)
+    (k : Kind) (page : List ℕ)
     (all : Adding volume patience first lines old i now answers) (low : i < length lines) (at : c ≡ get_or lines i c) (ready : IsReady (flash_of volume) next)
     (found : k ≡ kind.Page → c.op ≡ op.Read) (long : length page ≡ page_size_of answers)
     (line : HasPlayedLine patience now c.op c.sector c.page k page next)
-    (pushed : said_in newer ≡ said_in answers ++ record { kind = k; page = take (bytes_of (page_size_of answers) k) page } ∷ []) (same : page_size_of newer ≡ page_size_of answers)
+    (pushed : said_in newer ≡ said_in answers ++ record { kind = k; page = take (bytes_of (page_size_of answers) k) page } ∷ [])
+    (same : page_size_of newer ≡ page_size_of answers)
     (room : (n m : ℕ) → HasSpace answers (1 + n) (bytes_of (page_size_of answers) k + m) → HasSpace newer n m) where
   whole : k ≡ kind.Page → page ≡ take (bytes_of (page_size_of answers) k) page
   whole is = sym (ap (λ j. take (bytes_of (page_size_of answers) j) page) is ∙ take_all (page_size_of answers) page (omega (arith, long)))
 
   space_more : (rest : List Command) → HasSpaceFor answers (drop i lines ++ rest) → HasSpaceFor newer (drop (i + 1) lines ++ rest)
   space_more rest space =
-      let left : drop i lines ++ rest ≡ c ∷ (drop (i + 1) lines ++ rest) = ap (λ l. l ++ rest) (drop_more lines i c low ∙ ap (λ d. d ∷ drop (i + 1) lines) (sym at)) in
+      let left : drop i lines ++ rest ≡ c ∷ (drop (i + 1) lines ++ rest) =
+      ap (λ l. l ++ rest) (drop_more lines i c low ∙ ap (λ d. d ∷ drop (i + 1) lines) (sym at)) in
       let first_room = subst (HasSpaceFor answers) left space in
       let kinds = first_room.kinds in
       let pages = first_room.pages in
@@ -109,7 +116,8 @@ module _ (volume : Volume) (patience : ℕ) (first now : Pass) (commands : List 
 
   pub adding_end : (t : ℕ) → (view_of first).role ≡ Player (APass t) → Played t patience (view_of first) lines (added old answers) (view_of now)
   adding_end t role =
-      subst (λ l. Played t patience (view_of first) lines l (view_of now)) (sym added_is) (playing_end volume patience first now lines i all.more all.playing none_left t role)
+      subst (λ l. Played t patience (view_of first) lines l (view_of now)) (sym added_is)
+      (playing_end volume patience first now lines i all.more all.playing none_left t role)
 
   pub all_answered : HasAnswered lines old answers
   all_answered = record {

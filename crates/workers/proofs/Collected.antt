@@ -17,12 +17,14 @@ pub calls_one : (limit : ℕ) (a b : Broom) (x : BroomAnswer) → CallTold limit
 calls_one limit a b x told = (b, told, refl)
 
 -- some calls, and then others
-pub calls_then : (limit : ℕ) (a b c : Broom) (xs ys : List BroomAnswer) → HasMadeCalls limit a xs b → HasMadeCalls limit b ys c → HasMadeCalls limit a (xs ++ ys) c
+pub calls_then : (limit : ℕ) (a b c : Broom) (xs ys : List BroomAnswer) → HasMadeCalls limit a xs b → HasMadeCalls limit b ys c
+    → HasMadeCalls limit a (xs ++ ys) c
 calls_then limit a b c [] ys one two = subst (λ (x : Broom). HasMadeCalls limit x ys c) one two
 calls_then limit a b c (x ∷ xs) ys one two = (one.0, one.1, calls_then limit one.0 b c xs ys one.2 two)
 
 -- one call, counted
-pub collected_one : (s t : Collector) (x : BroomAnswer) → arc_value t.volume ≡ arc_value s.volume → t.drains ≡ s.drains → CallTold (limit_at s) s.broom x t.broom
+pub collected_one : (s t : Collector) (x : BroomAnswer) → arc_value t.volume ≡ arc_value s.volume → t.drains ≡ s.drains
+    → CallTold (limit_at s) s.broom x t.broom
     → t.tally ≡ wrapped (added s.tally (answer_adds x)) → HasCollectedBy s (x ∷ []) t
 collected_one s t x volume drains told tally =
     let calls = calls_one (limit_at s) s.broom t.broom x told in
@@ -38,7 +40,14 @@ collected_one s t x volume drains told tally =
 pub collected_none : (s : Collector) → HasCollected s s
 collected_none s = (
   [],
-  record { volume = refl; drains = refl; calls = refl; counted = counted_none s.tally; exact = exact_none s.tally; grown = calls_grown (limit_at s) s.broom s.broom [] refl },
+  record {
+    volume = refl;
+    drains = refl;
+    calls = refl;
+    counted = counted_none s.tally;
+    exact = exact_none s.tally;
+    grown = calls_grown (limit_at s) s.broom s.broom [] refl;
+  },
 )
 
 pub collected_then : (s t u : Collector) → HasCollected s t → HasCollected t u → HasCollected s u

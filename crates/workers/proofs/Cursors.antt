@@ -1,5 +1,6 @@
 -- The front part of a row, before an end.
-use Rattle.std.proofs.Common.{◌≡◌, ℕ, ◌+◌, ◌-◌, ◌<◌, ◌≤◌, All, false, true, List, ◌++◌, get_or, length, take, drop, map, refl, sym, ap, ◌∙◌, arith, add-zero, length-append}
+use Rattle.std.proofs.Common.{◌≡◌, ℕ, ◌+◌, ◌-◌, ◌<◌, ◌≤◌, All, false, true, List, ◌++◌, get_or, length, take}
+use Rattle.std.proofs.Common.{drop, map, refl, sym, ap, ◌∙◌, arith, add-zero, length-append}
 use Rattle.std.specs.List.{prefix_len, slice_range, take_while, drop-map}
 use Rattle.std.proofs.Math.Seq.{take-append_seam}
 use Rattle.std.proofs.lemmas.Bool.{lt-ltb, le-ltb}
@@ -21,7 +22,8 @@ pub All-part : {X : Type 0} (P : X → Type 0) (xs : List X) (a n : ℕ) → All
 All-part P xs a n all = All-take P n (drop a xs) (All-drop P a xs all)
 
 -- how far the places of a row behind one are before an end, by the place at which they stop
-pub count_before : (row : List ℕ) (from to end : ℕ) → from ≤ to → to ≤ length row → ((k : ℕ) → from ≤ k → k < to → get_or row k 0 < end) → (to < length row → end ≤ get_or row to 0)
+pub count_before : (row : List ℕ) (from to end : ℕ) → from ≤ to → to ≤ length row → ((k : ℕ) → from ≤ k → k < to → get_or row k 0 < end)
+    → (to < length row → end ≤ get_or row to 0)
     → prefix_len (is_before end) (drop from row) ≡ to - from
 count_before row from to end later within before behind =
     let long = length-drop from row in

@@ -20,7 +20,8 @@ use Rattle.workers.specs.Commands.{ArePlayed}
 use Rattle.workers.specs.Runs.{AreManned, HasEnded, rows_of}
 
 -- what is said of a run is said of the rows that are handed out
-pub all_played : (volume : Volume) (geo : Geometry) (patience : ℕ) (cs : List Command) (begun back : List Worker) (rows : List Answers) → geometry_of (flash_of volume) ≡ geo → AreManned volume back → HasEnded volume patience cs begun back
+pub all_played : (volume : Volume) (geo : Geometry) (patience : ℕ) (cs : List Command) (begun back : List Worker) (rows : List Answers)
+    → geometry_of (flash_of volume) ≡ geo → AreManned volume back → HasEnded volume patience cs begun back
     → rows ≡ map answers_kept back → ArePlayed geo cs (answers_by rows)
 all_played volume geo patience cs begun back rows geometry manned ended are =
     let by : List (List Said) → ℕ → List Said = λ l t. get_or l t [] in
@@ -33,7 +34,8 @@ all_played volume geo patience cs begun back rows geometry manned ended are =
     }
 
 -- the rows have pages of the device's size
-pub all_paged : (volume : Volume) (geo : Geometry) (back : List Worker) (rows : List Answers) → geometry_of (flash_of volume) ≡ geo → AreManned volume back → rows ≡ map answers_kept back
+pub all_paged : (volume : Volume) (geo : Geometry) (back : List Worker) (rows : List Answers) → geometry_of (flash_of volume) ≡ geo
+    → AreManned volume back → rows ≡ map answers_kept back
     → All (λ row. page_size_of row ≡ page_bytes_of geo) rows
 all_paged volume geo back rows geometry manned are =
     subst (All (λ row. page_size_of row ≡ page_bytes_of geo)) (sym are)

@@ -1,5 +1,6 @@
 -- A round of a run: what each worker did in it, and what stands answered behind it.
-use Rattle.std.proofs.Common.{◌≡◌, ℕ, ◌+◌, ◌-◌, ◌<◌, ◌≤◌, All, Bool, true, false, List, [], ◌∷◌, ◌++◌, length, take, refl, sym, ap, ◌∙◌, subst, arith, append_assoc, append-nil, length-append, ne_eqb}
+use Rattle.std.proofs.Common.{◌≡◌, ℕ, ◌+◌, ◌-◌, ◌<◌, ◌≤◌, All, Bool, true, false, List, [], ◌∷◌, ◌++◌, length, take, refl, sym}
+use Rattle.std.proofs.Common.{ap, ◌∙◌, subst, arith, append_assoc, append-nil, length-append, ne_eqb}
 use Rattle.std.specs.Prelude.{if◌then◌else◌, not, ◌&&◌, ◌==◌}
 use Rattle.std.specs.List.{slice_range}
 use Rattle.std.proofs.lemmas.List.{length-drop}
@@ -32,7 +33,8 @@ pub record WorkerRound (t patience : ℕ) (done cs : List Command) (old new : Li
   pub enough : line_count t done + line_count t cs ≤ length new
   pub played : Played t patience v (lines_for t cs) (slice_range new (line_count t done) (line_count t done + line_count t cs)) w
 
-plays_earlier : (n t : ℕ) (s m e : List Call) (lines : List Command) (answers : List Said) → Begins s m → Plays n t m lines answers e → Plays n t s lines answers e
+plays_earlier : (n t : ℕ) (s m e : List Call) (lines : List Command) (answers : List Said) → Begins s m → Plays n t m lines answers e
+    → Plays n t s lines answers e
 plays_earlier n t s m e [] [] from p = Begins-trans s m e from p
 plays_earlier n t s m e [] (a ∷ answers) from p = absurd p
 plays_earlier n t s m e (c ∷ lines) [] from p = absurd p
@@ -45,34 +47,40 @@ plays_on n t s m e (c ∷ lines) [] p on = absurd p
 plays_on n t s m e (c ∷ lines) (a ∷ answers) p on = (p.0, p.1, p.2, plays_on n t (p.0 ++ calls_made t c a) m e lines answers p.3 on)
 
 module _ (n t : ℕ) (more : List Command) (others : List Said) where
-  plays-append : (s m e : List Call) (lines : List Command) (answers : List Said) → Plays n t s lines answers m → Plays n t m more others e → Plays n t s (lines ++ more) (answers ++ others) e
+  plays-append : (s m e : List Call) (lines : List Command) (answers : List Said) → Plays n t s lines answers m → Plays n t m more others e
+      → Plays n t s (lines ++ more) (answers ++ others) e
   plays-append s m e [] [] p q = plays_earlier n t s m e more others p q
   plays-append s m e [] (a ∷ answers) p q = absurd p
   plays-append s m e (c ∷ lines) [] p q = absurd p
   plays-append s m e (c ∷ lines) (a ∷ answers) p q = (p.0, p.1, p.2, plays-append (p.0 ++ calls_made t c a) m e lines answers p.3 q)
 
-  calls-append : (s m : List Call) (lines : List Command) (answers : List Said) → Plays n t s lines answers m → calls_done t (lines ++ more) (answers ++ others) ≡ calls_done t lines answers ++ calls_done t more others
+  calls-append : (s m : List Call) (lines : List Command) (answers : List Said) → Plays n t s lines answers m
+      → calls_done t (lines ++ more) (answers ++ others) ≡ calls_done t lines answers ++ calls_done t more others
   calls-append s m [] [] p = refl
   calls-append s m [] (a ∷ answers) p = absurd p
   calls-append s m (c ∷ lines) [] p = absurd p
   calls-append s m (c ∷ lines) (a ∷ answers) p =
-      ap (λ rest. calls_made t c a ++ rest) (calls-append (p.0 ++ calls_made t c a) m lines answers p.3) ∙ sym (append_assoc (calls_made t c a) (calls_done t lines answers) (calls_done t more others))
+      ap (λ rest. calls_made t c a ++ rest) (calls-append (p.0 ++ calls_made t c a) m lines answers p.3)
+      ∙ sym (append_assoc (calls_made t c a) (calls_done t lines answers) (calls_done t more others))
 
-  writes-append : (s m : List Call) (lines : List Command) (answers : List Said) → Plays n t s lines answers m → writes_done (lines ++ more) (answers ++ others) ≡ writes_done lines answers + writes_done more others
+  writes-append : (s m : List Call) (lines : List Command) (answers : List Said) → Plays n t s lines answers m
+      → writes_done (lines ++ more) (answers ++ others) ≡ writes_done lines answers + writes_done more others
   writes-append s m [] [] p = omega arith
   writes-append s m [] (a ∷ answers) p = absurd p
   writes-append s m (c ∷ lines) [] p = absurd p
   writes-append s m (c ∷ lines) (a ∷ answers) p = let rest = writes-append (p.0 ++ calls_made t c a) m lines answers p.3 in omega (arith, rest)
 
 -- a worker that plays more lines: they are played up to each history that begins with what it has seen
-pub plays_to : (t patience : ℕ) (earlier : List ℕ) (lines more : List Command) (answers others : List Said) (v u : View) (h : List Call) → HasRun t patience earlier lines answers v → Played t patience v more others u → Begins u.seen h
+pub plays_to : (t patience : ℕ) (earlier : List ℕ) (lines more : List Command) (answers others : List Said) (v u : View) (h : List Call)
+    → HasRun t patience earlier lines answers v → Played t patience v more others u → Begins u.seen h
     → Plays v.numbers.sectors t [] (lines ++ more) (answers ++ others) h
 plays_to t patience earlier lines more answers others v u h run played on =
     let n = v.numbers.sectors in
     plays_on n t [] u.seen h (lines ++ more) (answers ++ others) (plays-append n t more others [] v.seen u.seen lines answers run.plays played.plays) on
 
 -- a worker that plays more lines, and then looks
-pub run_more : (t patience : ℕ) (earlier : List ℕ) (lines more : List Command) (answers others : List Said) (v u w : View) → HasRun t patience earlier lines answers v → Played t patience v more others u → HasLooked u w
+pub run_more : (t patience : ℕ) (earlier : List ℕ) (lines more : List Command) (answers others : List Said) (v u w : View)
+    → HasRun t patience earlier lines answers v → Played t patience v more others u → HasLooked u w
     → HasRun t patience earlier (lines ++ more) (answers ++ others) w
 run_more t patience earlier lines more answers others v u w run played looked =
     let n = v.numbers.sectors in
@@ -91,7 +99,8 @@ run_more t patience earlier lines more answers others v u w run played looked =
           let four = played.programmed in
           let five = run.programmed in omega (arith, one, two, three, four, five, writes));
       found = run.found ++ played.found;
-      denied = ap (λ (x : View). x.denied) looked.changed ∙ (played.denied ∙ (ap (λ l. l ++ played.found) run.denied ∙ append_assoc earlier run.found played.found));
+      denied = ap (λ (x : View). x.denied) looked.changed
+          ∙ (played.denied ∙ (ap (λ l. l ++ played.found) run.denied ∙ append_assoc earlier run.found played.found));
       tried =
           subst (λ k. LinesFound patience k (lines ++ more) (answers ++ others) (run.found ++ played.found)) blocks
           (found-append patience v.numbers.blocks more others played.found played.tried lines answers run.found run.tried);
@@ -124,7 +133,8 @@ own_lines t (c ∷ cs) =
     let rest = own_lines t cs in
     dite (ℕ_discrete c.worker t)
     (λ same. go (is_line_of t c) same rest)
-    (λ other. subst (λ b. All (λ d. d.worker ≡ t) (if b then c ∷ lines_for t cs else lines_for t cs)) (sym (and_false (not (is_meet c.op)) (c.worker == t) (ne_eqb c.worker t other))) rest)
+    (λ other. subst (λ b. All (λ d. d.worker ≡ t) (if b then c ∷ lines_for t cs else lines_for t cs))
+    (sym (and_false (not (is_meet c.op)) (c.worker == t) (ne_eqb c.worker t other))) rest)
   where
     go : (b : Bool) → c.worker ≡ t → All (λ d. d.worker ≡ t) (lines_for t cs) → All (λ d. d.worker ≡ t) (if b then c ∷ lines_for t cs else lines_for t cs)
     go true same rest = All-cons (λ d. d.worker ≡ t) c (lines_for t cs) same rest
@@ -132,7 +142,8 @@ own_lines t (c ∷ cs) =
 
 -- the workers have played the merged lines of the round
 module _ (hosts n patience : ℕ) (done cs : List Command) (rows others : ℕ → List Said) (before played : ℕ → View) (plain : HaveNoMeeting cs)
-    (sectors : (t : ℕ) → t < hosts → (before t).numbers.sectors ≡ n) (each : (t : ℕ) → t < hosts → WorkerRound t patience done cs (rows t) (others t) (before t) (played t)) where
+    (sectors : (t : ℕ) → t < hosts → (before t).numbers.sectors ≡ n)
+    (each : (t : ℕ) → t < hosts → WorkerRound t patience done cs (rows t) (others t) (before t) (played t)) where
   abbrev part : ℕ → List Said
   part t = slice_range (others t) (line_count t done) (line_count t done + line_count t cs)
 
@@ -149,7 +160,8 @@ module _ (hosts n patience : ℕ) (done cs : List Command) (rows others : ℕ �
     plays = λ t low.
         let p = (each t low).played in
         subst (λ l. worked.Plays sector_of calls_in is_right n (before t).seen l (played t).seen) (sym (lines_are t low))
-        (plays_told n t (before t).seen (lines_for t cs) (part t) (played t).seen (own_lines t cs) (subst (λ k. Plays k t (before t).seen (lines_for t cs) (part t) (played t).seen) (sectors t low) p.plays));
+        (plays_told n t (before t).seen (lines_for t cs) (part t) (played t).seen (own_lines t cs)
+        (subst (λ k. Plays k t (before t).seen (lines_for t cs) (part t) (played t).seen) (sectors t low) p.plays));
     mine = λ t low.
         let p = (each t low).played in
         p.mine ∙ ap (λ k. (before t).mine ++ k) (calls_told t (lines_for t cs) (part t) (own_lines t cs) ∙ ap (made calls_in) (sym (lines_are t low)));
@@ -176,7 +188,8 @@ abbrev pub Closed : List Command → List (List Command) → List Command → Li
 Closed trace closed rest [] = rounds_of trace ≡ closed
 Closed trace closed rest (e ∷ ends) = rounds_of trace ≡ closed ++ rounds_of rest
 
-pub closed_is : (trace : List Command) (closed : List (List Command)) (rest : List Command) (at : ℕ) (ends : List ℕ) → ends ≡ ends_from at rest → rounds_of trace ≡ closed ++ rounds_of rest → Closed trace closed rest ends
+pub closed_is : (trace : List Command) (closed : List (List Command)) (rest : List Command) (at : ℕ) (ends : List ℕ) → ends ≡ ends_from at rest
+    → rounds_of trace ≡ closed ++ rounds_of rest → Closed trace closed rest ends
 closed_is trace closed rest at [] is whole = absurd (some_end at rest [] is refl)
 closed_is trace closed rest at (e ∷ ends) is whole = whole
 
@@ -187,9 +200,11 @@ pub record Next (done cs tail : List Command) (ends : List ℕ) : Type 0 where
   pub whole : tail ≡ meeting ++ rest
   pub nobody : (t : ℕ) → lines_for t meeting ≡ []
   pub left : Left (length (done ++ (cs ++ meeting))) rest ends
-  pub closed : (trace : List Command) (closed : List (List Command)) → rounds_of trace ≡ closed ++ rounds_of (cs ++ tail) → Closed trace (closed ++ cs ∷ []) rest ends
+  pub closed : (trace : List Command) (closed : List (List Command)) → rounds_of trace ≡ closed ++ rounds_of (cs ++ tail)
+      → Closed trace (closed ++ cs ∷ []) rest ends
 
-pub next_part : (done cs tail : List Command) (end : ℕ) (ends : List ℕ) → HaveNoMeeting cs → end ≡ length done + length cs → StandsBehind end tail ends → Next done cs tail ends
+pub next_part : (done cs tail : List Command) (end : ℕ) (ends : List ℕ) → HaveNoMeeting cs → end ≡ length done + length cs
+    → StandsBehind end tail ends → Next done cs tail ends
 next_part done cs [] end ends plain last behind = record {
   meeting = [];
   rest = [];

@@ -1,5 +1,6 @@
 -- What a broom's view grows by with each call.
-use Rattle.std.proofs.Common.{◌≡◌, ℕ, ◌+◌, List, [], ◌∷◌, ◌++◌, length, ◌⊎◌, inl, inr, Bool, true, false, refl, sym, ap, ◌∙◌, subst, append-nil, append_assoc, add-zero, arith}
+use Rattle.std.proofs.Common.{◌≡◌, ℕ, ◌+◌, List, [], ◌∷◌, ◌++◌, length, ◌⊎◌, inl, inr, Bool, true, false, refl, sym}
+use Rattle.std.proofs.Common.{ap, ◌∙◌, subst, append-nil, append_assoc, add-zero, arith}
 use Rattle.std.proofs.lemmas.List.{length-append}
 use Rattle.flash_rule.specs.declared.facts.Cycle.{Cycle}
 use Rattle.flash_rule.specs.declared.view.View.{View}
@@ -53,7 +54,8 @@ grown_then v w x s t one two = record {
 }
 
 -- a call by which none of these has changed
-grown_none : (v w : View) (t : Tally) → t.drained ≡ 0 → t.moved ≡ 0 → t.erased ≡ 0 → t.lost ≡ 0 → w.role ≡ v.role → w.drains ≡ v.drains → w.moves ≡ v.moves → w.erases ≡ v.erases → w.lost ≡ v.lost
+grown_none : (v w : View) (t : Tally) → t.drained ≡ 0 → t.moved ≡ 0 → t.erased ≡ 0 → t.lost ≡ 0 → w.role ≡ v.role → w.drains ≡ v.drains
+    → w.moves ≡ v.moves → w.erases ≡ v.erases → w.lost ≡ v.lost
     → Grew v t w
 grown_none v w t drained moved erased failed role drains moves erases lost = record {
   role = role;
@@ -66,10 +68,12 @@ grown_none v w t drained moved erased failed role drains moves erases lost = rec
 -- the same, where the whole view has stayed
 grown_same : (v w : View) (t : Tally) → t.drained ≡ 0 → t.moved ≡ 0 → t.erased ≡ 0 → t.lost ≡ 0 → w ≡ v → Grew v t w
 grown_same v w t drained moved erased failed is =
-    grown_none v w t drained moved erased failed (ap (λ (x : View). x.role) is) (ap (λ (x : View). x.drains) is) (ap (λ (x : View). x.moves) is) (ap (λ (x : View). x.erases) is)
+    grown_none v w t drained moved erased failed (ap (λ (x : View). x.role) is) (ap (λ (x : View). x.drains) is) (ap (λ (x : View). x.moves) is)
+    (ap (λ (x : View). x.erases) is)
     (ap (λ (x : View). x.lost) is)
 
-grown_drain : (v w : View) (copied : ℕ) (c : Cycle) → w.role ≡ v.role → w.drains ≡ v.drains ++ c ∷ [] → w.moves ≡ v.moves + copied → w.erases ≡ v.erases → w.lost ≡ v.lost
+grown_drain : (v w : View) (copied : ℕ) (c : Cycle) → w.role ≡ v.role → w.drains ≡ v.drains ++ c ∷ [] → w.moves ≡ v.moves + copied
+    → w.erases ≡ v.erases → w.lost ≡ v.lost
     → Grew v (record nothing_done { drained = 1; moved = copied }) w
 grown_drain v w copied c role drains moves erases lost = record {
   role = role;
@@ -79,7 +83,8 @@ grown_drain v w copied c role drains moves erases lost = record {
   lost = stays v.lost w.lost lost;
 }
 
-grown_lost : (v w : View) (block : ℕ) → w.role ≡ v.role → w.drains ≡ v.drains → w.moves ≡ v.moves → w.erases ≡ v.erases → w.lost ≡ v.lost ++ block ∷ [] → Grew v (record nothing_done { lost = 1 }) w
+grown_lost : (v w : View) (block : ℕ) → w.role ≡ v.role → w.drains ≡ v.drains → w.moves ≡ v.moves → w.erases ≡ v.erases
+    → w.lost ≡ v.lost ++ block ∷ [] → Grew v (record nothing_done { lost = 1 }) w
 grown_lost v w block role drains moves erases lost = record {
   role = role;
   drains = stays v.drains w.drains drains;
@@ -88,7 +93,8 @@ grown_lost v w block role drains moves erases lost = record {
   lost = one_more v.lost w.lost block lost;
 }
 
-grown_erase : (v w : View) (kept retired : ℕ) (c : Cycle) → w.role ≡ v.role → w.drains ≡ v.drains → w.moves ≡ v.moves → w.erases ≡ v.erases ++ c ∷ [] → w.lost ≡ v.lost
+grown_erase : (v w : View) (kept retired : ℕ) (c : Cycle) → w.role ≡ v.role → w.drains ≡ v.drains → w.moves ≡ v.moves → w.erases ≡ v.erases ++ c ∷ []
+    → w.lost ≡ v.lost
     → Grew v (record nothing_done { erased = 1; kept = kept; retired = retired }) w
 grown_erase v w kept retired c role drains moves erases lost = record {
   role = role;
@@ -112,20 +118,24 @@ survey_grows limit a b (drain.Drained block copied) told =
     let from = told.drain.relieved in
     let to = told.drained in
     around a from to b (drain_adds (drain.Drained block copied)) told.drain.first.rest told.handed.rest
-    (grown_drain (view_of_broom from) (view_of_broom to) copied _ (ap (λ (x : View). x.role) did.changed) (ap (λ (x : View). x.drains) did.changed) (ap (λ (x : View). x.moves) did.changed)
+    (grown_drain (view_of_broom from) (view_of_broom to) copied _
+    (ap (λ (x : View). x.role) did.changed) (ap (λ (x : View). x.drains) did.changed) (ap (λ (x : View). x.moves) did.changed)
     (ap (λ (x : View). x.erases) did.changed) (ap (λ (x : View). x.lost) did.changed))
 survey_grows limit a b drain.NothingToGain told =
     let is = told.drain.0.0.changed in
     before_it a told.relieved b (survey_adds drain.NothingToGain) told.first.rest
-    (grown_none (view_of_broom told.relieved) (view_of_broom b) (survey_adds drain.NothingToGain) refl refl refl refl (ap (λ (x : View). x.role) is) (ap (λ (x : View). x.drains) is)
+    (grown_none (view_of_broom told.relieved) (view_of_broom b) (survey_adds drain.NothingToGain) refl refl refl refl
+    (ap (λ (x : View). x.role) is) (ap (λ (x : View). x.drains) is)
     (ap (λ (x : View). x.moves) is) (ap (λ (x : View). x.erases) is) (ap (λ (x : View). x.lost) is))
 survey_grows limit a b drain.NoSpare told =
-    before_it a told.relieved b nothing_done told.first.rest (grown_same (view_of_broom told.relieved) (view_of_broom b) nothing_done refl refl refl refl told.drain.0.view)
+    before_it a told.relieved b nothing_done told.first.rest
+    (grown_same (view_of_broom told.relieved) (view_of_broom b) nothing_done refl refl refl refl told.drain.0.view)
 survey_grows limit a b drain.Lost told =
     let lost = told.drain.0.0 in
     let is = lost.changed in
     before_it a told.relieved b (drain_adds drain.Lost) told.first.rest
-    (grown_lost (view_of_broom told.relieved) (view_of_broom b) lost.block (ap (λ (x : View). x.role) is) (ap (λ (x : View). x.drains) is) (ap (λ (x : View). x.moves) is)
+    (grown_lost (view_of_broom told.relieved) (view_of_broom b) lost.block
+    (ap (λ (x : View). x.role) is) (ap (λ (x : View). x.drains) is) (ap (λ (x : View). x.moves) is)
     (ap (λ (x : View). x.erases) is) (ap (λ (x : View). x.lost) is))
 survey_grows limit a b drain.QueueFull told = grown_same (view_of_broom a) (view_of_broom b) nothing_done refl refl refl refl (ap view_of_broom told.rest)
 
@@ -135,16 +145,20 @@ next_grows limit a b (drain.Drained block copied) told =
     let from = told.drain.relieved in
     let to = told.drained in
     around a from to b (drain_adds (drain.Drained block copied)) told.drain.first.rest told.handed.rest
-    (grown_drain (view_of_broom from) (view_of_broom to) copied _ (ap (λ (x : View). x.role) did.changed) (ap (λ (x : View). x.drains) did.changed) (ap (λ (x : View). x.moves) did.changed)
+    (grown_drain (view_of_broom from) (view_of_broom to) copied _
+    (ap (λ (x : View). x.role) did.changed) (ap (λ (x : View). x.drains) did.changed) (ap (λ (x : View). x.moves) did.changed)
     (ap (λ (x : View). x.erases) did.changed) (ap (λ (x : View). x.lost) did.changed))
 next_grows limit a b drain.NothingToGain told =
-    before_it a told.relieved b nothing_done told.first.rest (grown_same (view_of_broom told.relieved) (view_of_broom b) nothing_done refl refl refl refl told.drain.1)
+    before_it a told.relieved b nothing_done told.first.rest
+    (grown_same (view_of_broom told.relieved) (view_of_broom b) nothing_done refl refl refl refl told.drain.1)
 next_grows limit a b drain.NoSpare told =
-    before_it a told.relieved b nothing_done told.first.rest (grown_same (view_of_broom told.relieved) (view_of_broom b) nothing_done refl refl refl refl told.drain.0.view)
+    before_it a told.relieved b nothing_done told.first.rest
+    (grown_same (view_of_broom told.relieved) (view_of_broom b) nothing_done refl refl refl refl told.drain.0.view)
 next_grows limit a b drain.Lost told =
     let is = told.drain.2 in
     before_it a told.relieved b (drain_adds drain.Lost) told.first.rest
-    (grown_lost (view_of_broom told.relieved) (view_of_broom b) told.drain.0 (ap (λ (x : View). x.role) is) (ap (λ (x : View). x.drains) is) (ap (λ (x : View). x.moves) is)
+    (grown_lost (view_of_broom told.relieved) (view_of_broom b) told.drain.0
+    (ap (λ (x : View). x.role) is) (ap (λ (x : View). x.drains) is) (ap (λ (x : View). x.moves) is)
     (ap (λ (x : View). x.erases) is) (ap (λ (x : View). x.lost) is))
 next_grows limit a b drain.QueueFull told = grown_same (view_of_broom a) (view_of_broom b) nothing_done refl refl refl refl (ap view_of_broom told.rest)
 
@@ -152,27 +166,32 @@ erase_grows : (limit : ℕ) (a b : Broom) (e : Erase) → EraseOneTold limit a e
 erase_grows limit a b (erase.Erased block true) told =
     let is = told.1.erase.1.erased.changed in
     before_it a told.1.fetched b (erase_adds (erase.Erased block true)) told.1.first.rest
-    (grown_erase (view_of_broom told.1.fetched) (view_of_broom b) 1 0 _ (ap (λ (x : View). x.role) is) (ap (λ (x : View). x.drains) is) (ap (λ (x : View). x.moves) is)
+    (grown_erase (view_of_broom told.1.fetched) (view_of_broom b) 1 0 _
+    (ap (λ (x : View). x.role) is) (ap (λ (x : View). x.drains) is) (ap (λ (x : View). x.moves) is)
     (ap (λ (x : View). x.erases) is) (ap (λ (x : View). x.lost) is))
 erase_grows limit a b (erase.Erased block false) told =
     let is = told.1.erase.1.erased.changed in
     before_it a told.1.fetched b (erase_adds (erase.Erased block false)) told.1.first.rest
-    (grown_erase (view_of_broom told.1.fetched) (view_of_broom b) 0 0 _ (ap (λ (x : View). x.role) is) (ap (λ (x : View). x.drains) is) (ap (λ (x : View). x.moves) is)
+    (grown_erase (view_of_broom told.1.fetched) (view_of_broom b) 0 0 _
+    (ap (λ (x : View). x.role) is) (ap (λ (x : View). x.drains) is) (ap (λ (x : View). x.moves) is)
     (ap (λ (x : View). x.erases) is) (ap (λ (x : View). x.lost) is))
 erase_grows limit a b (erase.Retired block) told =
     let is = told.1.erase.1.erased.changed in
     before_it a told.1.fetched b (erase_adds (erase.Retired block)) told.1.first.rest
-    (grown_erase (view_of_broom told.1.fetched) (view_of_broom b) 0 1 _ (ap (λ (x : View). x.role) is) (ap (λ (x : View). x.drains) is) (ap (λ (x : View). x.moves) is)
+    (grown_erase (view_of_broom told.1.fetched) (view_of_broom b) 0 1 _
+    (ap (λ (x : View). x.role) is) (ap (λ (x : View). x.drains) is) (ap (λ (x : View). x.moves) is)
     (ap (λ (x : View). x.erases) is) (ap (λ (x : View). x.lost) is))
 erase_grows limit a b erase.Pinned told =
     let is = told.erase.erase.0.changed in
     around a told.erase.fetched told.found b (erase_adds erase.Pinned) told.erase.first.rest told.handed.rest
-    (grown_none (view_of_broom told.erase.fetched) (view_of_broom told.found) (erase_adds erase.Pinned) refl refl refl refl (ap (λ (x : View). x.role) is) (ap (λ (x : View). x.drains) is)
+    (grown_none (view_of_broom told.erase.fetched) (view_of_broom told.found) (erase_adds erase.Pinned) refl refl refl refl
+    (ap (λ (x : View). x.role) is) (ap (λ (x : View). x.drains) is)
     (ap (λ (x : View). x.moves) is) (ap (λ (x : View). x.erases) is) (ap (λ (x : View). x.lost) is))
 erase_grows limit a b erase.Stale told =
     let is = told.1.erase.0.changed in
     before_it a told.1.fetched b (erase_adds erase.Stale) told.1.first.rest
-    (grown_none (view_of_broom told.1.fetched) (view_of_broom b) (erase_adds erase.Stale) refl refl refl refl (ap (λ (x : View). x.role) is) (ap (λ (x : View). x.drains) is)
+    (grown_none (view_of_broom told.1.fetched) (view_of_broom b) (erase_adds erase.Stale) refl refl refl refl
+    (ap (λ (x : View). x.role) is) (ap (λ (x : View). x.drains) is)
     (ap (λ (x : View). x.moves) is) (ap (λ (x : View). x.erases) is) (ap (λ (x : View). x.lost) is))
 erase_grows limit a b erase.QueueEmpty told = grown_same (view_of_broom a) (view_of_broom b) nothing_done refl refl refl refl (ap view_of_broom told.rest)
 
@@ -181,14 +200,16 @@ spare_grows : (v : View) (x : BroomBlocks) (w : View) (y : BroomBlocks) → HadS
 spare_grows v x w y (inl had) = grown_same v w nothing_done refl refl refl refl had.view
 spare_grows v x w y (inr did) =
     let is = did.changed in
-    grown_none v w nothing_done refl refl refl refl (ap (λ (z : View). z.role) is) (ap (λ (z : View). z.drains) is) (ap (λ (z : View). z.moves) is) (ap (λ (z : View). z.erases) is)
+    grown_none v w nothing_done refl refl refl refl (ap (λ (z : View). z.role) is) (ap (λ (z : View). z.drains) is) (ap (λ (z : View). z.moves) is)
+    (ap (λ (z : View). z.erases) is)
     (ap (λ (z : View). z.lost) is)
 
 restock_grows : (a b : Broom) (given : Bool) → RestockTold a given b → Grew (view_of_broom a) nothing_done (view_of_broom b)
 restock_grows a b true told = spare_grows (view_of_broom a) (blocks_of_broom a) (view_of_broom b) (blocks_of_broom b) told
 restock_grows a b false told =
     let is = told.changed in
-    grown_none (view_of_broom a) (view_of_broom b) nothing_done refl refl refl refl (ap (λ (x : View). x.role) is) (ap (λ (x : View). x.drains) is) (ap (λ (x : View). x.moves) is)
+    grown_none (view_of_broom a) (view_of_broom b) nothing_done refl refl refl refl (ap (λ (x : View). x.role) is) (ap (λ (x : View). x.drains) is)
+    (ap (λ (x : View). x.moves) is)
     (ap (λ (x : View). x.erases) is) (ap (λ (x : View). x.lost) is)
 
 -- with the pages that were programmed
@@ -206,16 +227,20 @@ with_none v w t none grew same = record {
 }
 
 -- an erase programs no page
-kept_around : (a b c d : Broom) → IsElse a b → IsElse c d → (view_of_broom c).programs ≡ (view_of_broom b).programs → (view_of_broom d).programs ≡ (view_of_broom a).programs
+kept_around : (a b c d : Broom) → IsElse a b → IsElse c d → (view_of_broom c).programs ≡ (view_of_broom b).programs
+    → (view_of_broom d).programs ≡ (view_of_broom a).programs
 kept_around a b c d first last same = ap (λ (x : Broom). (view_of_broom x).programs) last ∙ (same ∙ ap (λ (x : Broom). (view_of_broom x).programs) first)
 
 kept_before : (a b c : Broom) → IsElse a b → (view_of_broom c).programs ≡ (view_of_broom b).programs → (view_of_broom c).programs ≡ (view_of_broom a).programs
 kept_before a b c first same = same ∙ ap (λ (x : Broom). (view_of_broom x).programs) first
 
 erase_keeps : (limit : ℕ) (a b : Broom) (e : Erase) → EraseOneTold limit a e b → (view_of_broom b).programs ≡ (view_of_broom a).programs
-erase_keeps limit a b (erase.Erased block true) told = kept_before a told.1.fetched b told.1.first.rest (ap (λ (x : View). x.programs) told.1.erase.1.erased.changed)
-erase_keeps limit a b (erase.Erased block false) told = kept_before a told.1.fetched b told.1.first.rest (ap (λ (x : View). x.programs) told.1.erase.1.erased.changed)
-erase_keeps limit a b (erase.Retired block) told = kept_before a told.1.fetched b told.1.first.rest (ap (λ (x : View). x.programs) told.1.erase.1.erased.changed)
+erase_keeps limit a b (erase.Erased block true) told =
+    kept_before a told.1.fetched b told.1.first.rest (ap (λ (x : View). x.programs) told.1.erase.1.erased.changed)
+erase_keeps limit a b (erase.Erased block false) told =
+    kept_before a told.1.fetched b told.1.first.rest (ap (λ (x : View). x.programs) told.1.erase.1.erased.changed)
+erase_keeps limit a b (erase.Retired block) told =
+    kept_before a told.1.fetched b told.1.first.rest (ap (λ (x : View). x.programs) told.1.erase.1.erased.changed)
 erase_keeps limit a b erase.Pinned told =
     kept_around a told.erase.fetched told.found b told.erase.first.rest told.handed.rest (ap (λ (x : View). x.programs) told.erase.erase.0.changed)
 erase_keeps limit a b erase.Stale told = kept_before a told.1.fetched b told.1.first.rest (ap (λ (x : View). x.programs) told.1.erase.0.changed)
@@ -238,15 +263,21 @@ restock_keeps a b true told = spare_keeps (view_of_broom a) (blocks_of_broom a) 
 restock_keeps a b false told = ap (λ (z : View). z.programs) told.changed
 
 call_grows : (limit : ℕ) (a b : Broom) (x : BroomAnswer) → CallTold limit a x b → HasGrown (view_of_broom a) (answer_adds x) (view_of_broom b)
-call_grows limit a b (by.Drain given programmed) told = with_programs (view_of_broom a) (view_of_broom b) (survey_adds given) programmed (survey_grows limit a b given told.0) told.1
-call_grows limit a b (by.DrainNext given programmed) told = with_programs (view_of_broom a) (view_of_broom b) (drain_adds given) programmed (next_grows limit a b given told.0) told.1
+call_grows limit a b (by.Drain given programmed) told =
+    with_programs (view_of_broom a) (view_of_broom b) (survey_adds given) programmed (survey_grows limit a b given told.0) told.1
+call_grows limit a b (by.DrainNext given programmed) told =
+    with_programs (view_of_broom a) (view_of_broom b) (drain_adds given) programmed (next_grows limit a b given told.0) told.1
 call_grows limit a b (by.Erase given) told =
-    with_none (view_of_broom a) (view_of_broom b) (erase_adds given) (erase_adds_none given) (erase_grows limit a b given told) (erase_keeps limit a b given told)
-call_grows limit a b (by.Restock given) told = with_none (view_of_broom a) (view_of_broom b) nothing_done refl (restock_grows a b given told.told) (restock_keeps a b given told.told)
+    with_none (view_of_broom a) (view_of_broom b) (erase_adds given) (erase_adds_none given) (erase_grows limit a b given told)
+    (erase_keeps limit a b given told)
+call_grows limit a b (by.Restock given) told =
+    with_none (view_of_broom a) (view_of_broom b) nothing_done refl (restock_grows a b given told.told) (restock_keeps a b given told.told)
 
 pub calls_grown : (limit : ℕ) (a b : Broom) (xs : List BroomAnswer) → HasMadeCalls limit a xs b → HasGrown (view_of_broom a) (total_of xs) (view_of_broom b)
 calls_grown limit a b [] is =
     let same = ap view_of_broom is in
-    with_none (view_of_broom a) (view_of_broom b) nothing_done refl (grown_same (view_of_broom a) (view_of_broom b) nothing_done refl refl refl refl same) (ap (λ (x : View). x.programs) same)
+    with_none (view_of_broom a) (view_of_broom b) nothing_done refl
+    (grown_same (view_of_broom a) (view_of_broom b) nothing_done refl refl refl refl same) (ap (λ (x : View). x.programs) same)
 calls_grown limit a b (x ∷ xs) told =
-    grown_then (view_of_broom a) (view_of_broom told.0) (view_of_broom b) (answer_adds x) (total_of xs) (call_grows limit a told.0 x told.1) (calls_grown limit told.0 b xs told.2)
+    grown_then (view_of_broom a) (view_of_broom told.0) (view_of_broom b) (answer_adds x) (total_of xs) (call_grows limit a told.0 x told.1)
+    (calls_grown limit told.0 b xs told.2)

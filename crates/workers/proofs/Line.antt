@@ -1,5 +1,6 @@
 -- One line: what a read, a trim, a write that was done and one that was turned away tell, as one record.
-use Rattle.std.proofs.Common.{◌≡◌, ℕ, suc, ◌+◌, ◌<◌, ◌≤◌, ◌⊎◌, Bool, true, false, List, [], ◌∷◌, ◌++◌, Option, None, Some, sym, refl, ap, ◌∙◌, subst, arith, append_assoc, append-nil}
+use Rattle.std.proofs.Common.{◌≡◌, ℕ, suc, ◌+◌, ◌<◌, ◌≤◌, ◌⊎◌, Bool, true, false, List, [], ◌∷◌, ◌++◌, Option, None}
+use Rattle.std.proofs.Common.{Some, sym, refl, ap, ◌∙◌, subst, arith, append_assoc, append-nil}
 use Rattle.std.specs.Prelude.{if◌then◌else◌}
 use Rattle.std.specs.List.{range_with_len}
 use mathlib.Core.Logic.{inl, inr}
@@ -49,10 +50,12 @@ taken_more blocks tries =
     subst (λ k. all_taken blocks k ≡ all_taken blocks tries ++ range_with_len 0 blocks) next refl
 
 -- a look that is done is one line
-pub read_line : (t patience : ℕ) (v : View) (s tries : ℕ) (value old page : List ℕ) (g : Got) (k : Kind) (w : View) → Searched v tries w → Answers (held v.numbers.sectors w.seen s) g old page → k ≡ kind_found g
+pub read_line : (t patience : ℕ) (v : View) (s tries : ℕ) (value old page : List ℕ) (g : Got) (k : Kind) (w : View) → Searched v tries w
+    → Answers (held v.numbers.sectors w.seen s) g old page → k ≡ kind_found g
     → PlayedLine t patience v op.Read s value k page (is_full k) w
 read_line t patience v s tries value old page g k w told answer is =
-    subst (λ (x : Kind × Bool). PlayedLine t patience v op.Read s value x.0 page x.1 w) (λ i. (sym is i, (sym (found_not_full g) ∙ ap is_full (sym is)) i)) line where
+    subst (λ (x : Kind × Bool). PlayedLine t patience v op.Read s value x.0 page x.1 w)
+    (λ i. (sym is i, (sym (found_not_full g) ∙ ap is_full (sym is)) i)) line where
       line : PlayedLine t patience v op.Read s value (kind_found g) page false w
       line = record {
         changed = merged v w _ refl told.changed;
@@ -72,9 +75,11 @@ read_line t patience v s tries value old page g k w told answer is =
       }
 
 -- and so is a trim
-pub trim_line : (t patience : ℕ) (v : View) (s : ℕ) (value page : List ℕ) (a : Was) (k : Kind) (w : View) → Called v (Trim t s) s a w → k ≡ kind_of a → PlayedLine t patience v op.Trim s value k page (is_full k) w
+pub trim_line : (t patience : ℕ) (v : View) (s : ℕ) (value page : List ℕ) (a : Was) (k : Kind) (w : View) → Called v (Trim t s) s a w → k ≡ kind_of a
+    → PlayedLine t patience v op.Trim s value k page (is_full k) w
 trim_line t patience v s value page a k w told is =
-    subst (λ (x : Kind × Bool). PlayedLine t patience v op.Trim s value x.0 page x.1 w) (λ i. (sym is i, (sym (was_not_full a) ∙ ap is_full (sym is)) i)) line where
+    subst (λ (x : Kind × Bool). PlayedLine t patience v op.Trim s value x.0 page x.1 w)
+    (λ i. (sym is i, (sym (was_not_full a) ∙ ap is_full (sym is)) i)) line where
       line : PlayedLine t patience v op.Trim s value (kind_of a) page false w
       line = record {
         changed = merged v w _ refl told.changed;
@@ -110,7 +115,8 @@ waited_more tries v u w waited refused =
           let row : range_with_len 0 u.numbers.blocks ≡ range_with_len 0 n = ap (λ (x : View). range_with_len 0 x.numbers.blocks) waited.changed in
           refused.grown
           ∙ (ap (λ l. u.denied ++ l) row
-          ∙ (ap (λ l. l ++ range_with_len 0 n) waited.denied ∙ (append_assoc v.denied (all_taken n tries) (range_with_len 0 n) ∙ ap (λ l. v.denied ++ l) (sym (taken_more n tries)))));
+          ∙ (ap (λ l. l ++ range_with_len 0 n) waited.denied
+          ∙ (append_assoc v.denied (all_taken n tries) (range_with_len 0 n) ∙ ap (λ l. v.denied ++ l) (sym (taken_more n tries)))));
     }
 
 -- An op that makes this kind of call, by a page that it programs, and may be turned away
@@ -127,7 +133,8 @@ pub a_new_write : IsWrite op.New WriteNew
 a_new_write = record { right = λ x k page r. r; calls = λ t s value. refl; done = λ full. refl; found = λ patience blocks full l found. found }
 
 -- turned away to the end
-pub full_line : (o : Op) (call : ℕ → ℕ → List ℕ → Call) → IsWrite o call → (t patience tries : ℕ) (v : View) (s : ℕ) (value page : List ℕ) (w : View) → tries ≡ patience → Waited tries v w → PlayedLine t patience v o s value kind.Full page true w
+pub full_line : (o : Op) (call : ℕ → ℕ → List ℕ → Call) → IsWrite o call → (t patience tries : ℕ) (v : View) (s : ℕ) (value page : List ℕ) (w : View)
+    → tries ≡ patience → Waited tries v w → PlayedLine t patience v o s value kind.Full page true w
 full_line o call is t patience tries v s value page w all waited =
     let none = is.done true in
     let seen = ap (λ (x : View). x.seen) waited.changed in
@@ -146,7 +153,8 @@ full_line o call is t patience tries v s value page w all waited =
       taken = omega arith;
       found = all_taken v.numbers.blocks tries;
       denied = waited.denied;
-      tried = is.found patience v.numbers.blocks true (all_taken v.numbers.blocks tries) (record { refused = tries; below = 0; tried = (all, refl); whole = sym (append-nil (all_taken v.numbers.blocks tries)) });
+      tried = is.found patience v.numbers.blocks true (all_taken v.numbers.blocks tries)
+          (record { refused = tries; below = 0; tried = (all, refl); whole = sym (append-nil (all_taken v.numbers.blocks tries)) });
     }
 
 -- what a write takes, and the blocks that it finds taken below that
@@ -159,7 +167,8 @@ record Took (v w : View) : Type 0 where
 
 wrote_taken : (v w : View) (c : Call) (s : ℕ) (a : Was) (o : Option OpenBlock) → v.owns ≡ owned_list o → Programmed v c s a w → Took v w
 wrote_taken v w c s a None owns told =
-    let begun = told.begun owns in record { kept = omega (arith, begun.1); taken = omega (arith, begun.1); below = told.page.block; within = told.within.0; denied = begun.2 }
+    let begun = told.begun owns in
+    record { kept = omega (arith, begun.1); taken = omega (arith, begun.1); below = told.page.block; within = told.within.0; denied = begun.2 }
 wrote_taken v w c s a (Some o) owns told =
     let continued = told.continued (owned_of o) owns in record {
       kept = omega (arith, continued.1);
@@ -171,10 +180,12 @@ wrote_taken v w c s a (Some o) owns told =
 
 -- a write that was done, after so many that were turned away
 module _ (which : Op) (call : ℕ → ℕ → List ℕ → Call) (its : IsWrite which call) where
-  pub write_line : (t patience tries : ℕ) (v u w : View) (s : ℕ) (value page : List ℕ) (a : Was) (k : Kind) (o : Option OpenBlock) → u.owns ≡ owned_list o → tries < patience → Waited tries v u → Programmed u (call t s value) s a w → k ≡ kind_of a
+  pub write_line : (t patience tries : ℕ) (v u w : View) (s : ℕ) (value page : List ℕ) (a : Was) (k : Kind) (o : Option OpenBlock)
+      → u.owns ≡ owned_list o → tries < patience → Waited tries v u → Programmed u (call t s value) s a w → k ≡ kind_of a
       → PlayedLine t patience v which s value k page (is_full k) w
   write_line t patience tries v u w s value page a k o owns few waited told is =
-      subst (λ (x : Kind × Bool). PlayedLine t patience v which s value x.0 page x.1 w) (λ i. (sym is i, (sym (was_not_full a) ∙ ap is_full (sym is)) i)) line where
+      subst (λ (x : Kind × Bool). PlayedLine t patience v which s value x.0 page x.1 w)
+      (λ i. (sym is i, (sym (was_not_full a) ∙ ap is_full (sym is)) i)) line where
         n : ℕ
         n = v.numbers.blocks
 
@@ -211,5 +222,6 @@ module _ (which : Op) (call : ℕ → ℕ → List ℕ → Call) (its : IsWrite 
           taken = (let e = ap (λ (x : View). x.taken) waited.changed in let t = takes.taken in omega (arith, one));
           found = all_taken n tries ++ range_with_len 0 below;
           denied = takes.denied ∙ (ap (λ l. l ++ range_with_len 0 below) waited.denied ∙ append_assoc v.denied (all_taken n tries) (range_with_len 0 below));
-          tried = its.found patience n false (all_taken n tries ++ range_with_len 0 below) (record { refused = tries; below = below; tried = (few, within); whole = refl });
+          tried = its.found patience n false (all_taken n tries ++ range_with_len 0 below)
+              (record { refused = tries; below = below; tried = (few, within); whole = refl });
         }

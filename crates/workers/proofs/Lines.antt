@@ -1,5 +1,6 @@
 -- One line more: the histories, the calls, the programs and the counts grow by its own part.
-use Rattle.std.proofs.Common.{◌≡◌, ℕ, ◌⊎◌, ◌+◌, ◌<◌, ◌≤◌, Bool, List, [], ◌∷◌, ◌++◌, true, length, map, take, get_or, set, sym, refl, ap, ◌∙◌, subst, arith, append_assoc, append-nil, length-append}
+use Rattle.std.proofs.Common.{◌≡◌, ℕ, ◌⊎◌, ◌+◌, ◌<◌, ◌≤◌, Bool, List, [], ◌∷◌, ◌++◌, true, length, map, take, get_or, set, sym}
+use Rattle.std.proofs.Common.{refl, ap, ◌∙◌, subst, arith, append_assoc, append-nil, length-append}
 use Rattle.std.proofs.lemmas.List.{take_all, take_more, take_more_set, map_push, length-map, get_or-map, with_items_is}
 use Rattle.std.proofs.lemmas.Option.{get_or_from_slice_get}
 use Rattle.std.specs.Prelude.{None, Some, slice_get}
@@ -33,21 +34,26 @@ use Rattle.workers.proofs.Line.{merged-trans}
 
 -- the lines have as many answers, and one more of each
 module _ (n t : ℕ) (c : Command) (a : Said) where
-  plays_more : (seen last final h : List Call) (lines : List Command) (answers : List Said) → Plays n t seen lines answers last → Begins last h → IsRight c.op (held n h c.sector) a.kind a.page
+  plays_more : (seen last final h : List Call) (lines : List Command) (answers : List Said) → Plays n t seen lines answers last → Begins last h
+      → IsRight c.op (held n h c.sector) a.kind a.page
       → Begins (h ++ calls_made t c a) final → Plays n t seen (lines ++ c ∷ []) (answers ++ a ∷ []) final
   plays_more seen last final h [] [] plays later right ends = (h, Begins-trans seen last h plays later, right, ends)
   plays_more seen last final h [] (b ∷ answers) plays later right ends = absurd plays
   plays_more seen last final h (d ∷ lines) [] plays later right ends = absurd plays
-  plays_more seen last final h (d ∷ lines) (b ∷ answers) plays later right ends = (plays.0, plays.1, plays.2, plays_more (plays.0 ++ calls_made t d b) last final h lines answers plays.3 later right ends)
+  plays_more seen last final h (d ∷ lines) (b ∷ answers) plays later right ends =
+      (plays.0, plays.1, plays.2, plays_more (plays.0 ++ calls_made t d b) last final h lines answers plays.3 later right ends)
 
-  done_more : (seen last : List Call) (lines : List Command) (answers : List Said) → Plays n t seen lines answers last → calls_done t (lines ++ c ∷ []) (answers ++ a ∷ []) ≡ calls_done t lines answers ++ calls_made t c a
+  done_more : (seen last : List Call) (lines : List Command) (answers : List Said) → Plays n t seen lines answers last
+      → calls_done t (lines ++ c ∷ []) (answers ++ a ∷ []) ≡ calls_done t lines answers ++ calls_made t c a
   done_more seen last [] [] plays = append-nil (calls_made t c a)
   done_more seen last [] (b ∷ answers) plays = absurd plays
   done_more seen last (d ∷ lines) [] plays = absurd plays
   done_more seen last (d ∷ lines) (b ∷ answers) plays =
-      ap (λ rest. calls_made t d b ++ rest) (done_more (plays.0 ++ calls_made t d b) last lines answers plays.3) ∙ sym (append_assoc (calls_made t d b) (calls_done t lines answers) (calls_made t c a))
+      ap (λ rest. calls_made t d b ++ rest) (done_more (plays.0 ++ calls_made t d b) last lines answers plays.3)
+      ∙ sym (append_assoc (calls_made t d b) (calls_done t lines answers) (calls_made t c a))
 
-  writes_more : (seen last : List Call) (lines : List Command) (answers : List Said) → Plays n t seen lines answers last → writes_done (lines ++ c ∷ []) (answers ++ a ∷ []) ≡ writes_done lines answers + one_done c.op (is_full a.kind)
+  writes_more : (seen last : List Call) (lines : List Command) (answers : List Said) → Plays n t seen lines answers last
+      → writes_done (lines ++ c ∷ []) (answers ++ a ∷ []) ≡ writes_done lines answers + one_done c.op (is_full a.kind)
   writes_more seen last [] [] plays = omega arith
   writes_more seen last [] (b ∷ answers) plays = absurd plays
   writes_more seen last (d ∷ lines) [] plays = absurd plays
@@ -55,7 +61,8 @@ module _ (n t : ℕ) (c : Command) (a : Said) where
 
 -- the blocks that more lines have found taken
 module _ (patience n : ℕ) (more : List Command) (others : List Said) (last : List ℕ) (found : LinesFound patience n more others last) where
-  pub found-append : (lines : List Command) (answers : List Said) (first : List ℕ) → LinesFound patience n lines answers first → LinesFound patience n (lines ++ more) (answers ++ others) (first ++ last)
+  pub found-append : (lines : List Command) (answers : List Said) (first : List ℕ) → LinesFound patience n lines answers first
+      → LinesFound patience n (lines ++ more) (answers ++ others) (first ++ last)
   found-append [] [] first none = subst (λ l. LinesFound patience n more others (l ++ last)) (sym none) found
   found-append [] (b ∷ answers) first before = absurd before
   found-append (d ∷ lines) [] first before = absurd before
@@ -75,16 +82,20 @@ played_more t patience v u w lines answers c a all line =
     let tried : LineFound patience v.numbers.blocks c.op full line.found = subst (λ k. LineFound patience k c.op full line.found) blocks line.tried in
     record {
       changed = merged-trans v u w all.changed line.changed;
-      plays = plays_more n t c a v.seen u.seen w.seen line.history lines answers all.plays line.later (subst (λ k. IsRight c.op (held k line.history c.sector) a.kind a.page) same line.right) line.last;
-      mine = line.mine ∙ (ap (λ k. k ++ calls_made t c a) all.mine ∙ (append_assoc v.mine (calls_done t lines answers) (calls_made t c a) ∙ ap (λ k. v.mine ++ k) (sym done)));
+      plays = plays_more n t c a v.seen u.seen w.seen line.history lines answers all.plays line.later
+          (subst (λ k. IsRight c.op (held k line.history c.sector) a.kind a.page) same line.right) line.last;
+      mine = line.mine ∙ (ap (λ k. k ++ calls_made t c a) all.mine
+          ∙ (append_assoc v.mine (calls_done t lines answers) (calls_made t c a) ∙ ap (λ k. v.mine ++ k) (sym done)));
       more = all.more ++ line.more;
       programs = line.programs ∙ (ap (λ k. k ++ line.more) all.programs ∙ append_assoc v.programs all.more line.more);
-      programmed = length-append all.more line.more ∙ (ap (λ k. k + length line.more) all.programmed ∙ (ap (λ k. writes_done lines answers + k) line.programmed ∙ sym writes));
+      programmed = length-append all.more line.more
+          ∙ (ap (λ k. k + length line.more) all.programmed ∙ (ap (λ k. writes_done lines answers + k) line.programmed ∙ sym writes));
       kept = (let x = all.kept in let y = line.kept in omega arith);
       taken = (let x = all.taken in let y = line.taken in omega (arith, writes));
       found = all.found ++ line.found;
       denied = line.denied ∙ (ap (λ k. k ++ line.found) all.denied ∙ append_assoc v.denied all.found line.found);
-      tried = found-append patience v.numbers.blocks (c ∷ []) (a ∷ []) line.found (line.found, [], sym (append-nil line.found), tried, refl) lines answers all.found all.tried;
+      tried = found-append patience v.numbers.blocks (c ∷ []) (a ∷ []) line.found
+          (line.found, [], sym (append-nil line.found), tried, refl) lines answers all.found all.tried;
     }
 
 -- the first so many lines are played, with these answers
@@ -108,7 +119,8 @@ played_none t patience v =
       tried = refl;
     }
 
-pub playing_none : (volume : Volume) (patience : ℕ) (first : Pass) (lines : List Command) → IsReady (flash_of volume) first → Playing volume patience first lines 0 first []
+pub playing_none : (volume : Volume) (patience : ℕ) (first : Pass) (lines : List Command) → IsReady (flash_of volume) first
+    → Playing volume patience first lines 0 first []
 playing_none volume patience first lines ready = record { ready = ready; told = λ t role. played_none t patience (view_of first) }
 
 -- one step of the loop
@@ -128,14 +140,17 @@ playing_more volume patience first now next lines i answers a c all low at ready
     }
 
 -- all lines are played
-pub playing_end : (volume : Volume) (patience : ℕ) (first now : Pass) (lines : List Command) (i : ℕ) (answers : List Said) → Playing volume patience first lines i now answers → length lines ≤ i
+pub playing_end : (volume : Volume) (patience : ℕ) (first now : Pass) (lines : List Command) (i : ℕ) (answers : List Said)
+    → Playing volume patience first lines i now answers → length lines ≤ i
     → (t : ℕ) → (view_of first).role ≡ Player (APass t) → Played t patience (view_of first) lines answers (view_of now)
 playing_end volume patience first now lines i answers all past t role =
     subst (λ (x : List Command). Played t patience (view_of first) x answers (view_of now)) (take_all i lines past) (all.told t role)
 
 -- a turn whose answer's page was lent
-pub playing_lent : (volume : Volume) (patience : ℕ) (first now next : Pass) (lines : List Command) (i : ℕ) (answers : List Answer) (a : Answer) (k : Kind) (lent page : List ℕ) (c : Command)
-    → Playing volume patience first lines i now (map said (take i answers)) → length answers ≡ length lines → i < length lines → c ≡ get_or lines i c → IsReady (flash_of volume) next
+pub playing_lent : (volume : Volume) (patience : ℕ) (first now next : Pass) (lines : List Command) (i : ℕ) (answers : List Answer) (a : Answer)
+    (k : Kind) (lent page : List ℕ) (c : Command)
+    → Playing volume patience first lines i now (map said (take i answers)) → length answers ≡ length lines → i < length lines → c ≡ get_or lines i c
+    → IsReady (flash_of volume) next
     → lent ≡ a.page.items → length page ≡ length lent
     → ((t : ℕ) → (view_of now).role ≡ Player (APass t) → PlayedLine t patience (view_of now) c.op c.sector c.page k page (is_full k) (view_of next))
     → Playing volume patience first lines (i + 1) next (map said (take (i + 1) (set answers i (record { kind = k; page = with_items a.page page }))))
@@ -145,16 +160,19 @@ playing_lent volume patience first now next lines i answers a k lent page c all 
     let b : Answer = record { kind = k; page = with_items a.page page } in
     let more = playing_more volume patience first now next lines i (map said (take i answers)) (said b) c all low at ready
     (λ t role. subst (λ (xs : List ℕ). PlayedLine t patience (view_of now) c.op c.sector c.page k xs (is_full k) (view_of next)) (sym same) (line t role)) in
-    subst (Playing volume patience first lines (i + 1) next) (sym (ap (map said) (take_more_set answers i b (omega (arith, count))) ∙ map_push said (take i answers) b)) more
+    subst (Playing volume patience first lines (i + 1) next)
+    (sym (ap (map said) (take_more_set answers i b (omega (arith, count))) ∙ map_push said (take i answers) b)) more
 
 -- a page that was lent and came back is still a page
-pub lent_page : (volume : Volume) (a : Answer) (lent page : List ℕ) → lent ≡ a.page.items → length page ≡ length lent → HasPage (geometry_of (flash_of volume)) a → length (with_items a.page page).items ≡ page_bytes_of (geometry_of (flash_of volume))
+pub lent_page : (volume : Volume) (a : Answer) (lent page : List ℕ) → lent ≡ a.page.items → length page ≡ length lent
+    → HasPage (geometry_of (flash_of volume)) a → length (with_items a.page page).items ≡ page_bytes_of (geometry_of (flash_of volume))
 lent_page volume a lent page value long has =
     let len : length page ≡ a.page.len = long ∙ (ap (λ (xs : List ℕ). length xs) value ∙ sym a.page.ok.0) in
     ap (λ (xs : List ℕ). length xs) (with_items_is a.page page len) ∙ (len ∙ (a.page.ok.0 ∙ has))
 
 -- the page of an answer that tells none is of no account
-pub other_page : (t patience : ℕ) (v : View) (o : Op) (s : ℕ) (value : List ℕ) (k : Kind) (page other : List ℕ) (full : Bool) (w : View) → (k ≡ kind.Page → page ≡ other) → PlayedLine t patience v o s value k page full w → PlayedLine t patience v o s value k other full w
+pub other_page : (t patience : ℕ) (v : View) (o : Op) (s : ℕ) (value : List ℕ) (k : Kind) (page other : List ℕ) (full : Bool) (w : View)
+    → (k ≡ kind.Page → page ≡ other) → PlayedLine t patience v o s value k page full w → PlayedLine t patience v o s value k other full w
 other_page t patience v o s value k page other full w same p =
     record {
       changed = p.changed;
@@ -192,15 +210,18 @@ page_of_read op.New x k page right is = absurd (⊎_elim (λ (e : k ≡ kind.Ful
 page_of_read op.Trim x k page right is = absurd (no_page x (sym right ∙ is))
 page_of_read op.Meet x k page right is = absurd (cc)
 
-pub told_of_read : (patience : ℕ) (p q : Pass) (o : Op) (s : ℕ) (value : List ℕ) (k : Kind) (page : List ℕ) → is_pass (view_of p).role ≡ true → HasPlayedLine patience p o s value k page q → k ≡ kind.Page → o ≡ op.Read
+pub told_of_read : (patience : ℕ) (p q : Pass) (o : Op) (s : ℕ) (value : List ℕ) (k : Kind) (page : List ℕ) → is_pass (view_of p).role ≡ true
+    → HasPlayedLine patience p o s value k page q → k ≡ kind.Page → o ≡ op.Read
 told_of_read patience p q o s value k page pass played is =
     let t = pass_of (view_of p).role pass in
     let line = played t.0 t.1 in
     page_of_read o (held (view_of p).numbers.sectors line.history s) k page line.right is
 
 -- the line at a place
-pub line_there : (lines : List Command) (places : List ℕ) (i : ℕ) (c : Command) → i < length places → slice_get lines (get_or places i 0) ≡ Some c → c ≡ get_or (lines_at lines places) i c
-line_there lines places i c low is = sym (get_or-map (λ p. get_or lines p no_line) places i 0 c low ∙ get_or_from_slice_get lines (get_or places i 0) c no_line is)
+pub line_there : (lines : List Command) (places : List ℕ) (i : ℕ) (c : Command) → i < length places → slice_get lines (get_or places i 0) ≡ Some c
+    → c ≡ get_or (lines_at lines places) i c
+line_there lines places i c low is =
+    sym (get_or-map (λ p. get_or lines p no_line) places i 0 c low ∙ get_or_from_slice_get lines (get_or places i 0) c no_line is)
 
 pub count_lines : (lines : List Command) (places : List ℕ) → length (lines_at lines places) ≡ length places
 count_lines lines places = length-map places (λ p. get_or lines p no_line)

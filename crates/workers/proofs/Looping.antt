@@ -1,5 +1,6 @@
 -- The state of a run between two rounds: where it begins, one round more, and its end.
-use Rattle.std.proofs.Common.{◌≡◌, ℕ, ◌+◌, ◌-◌, ◌<◌, ◌≤◌, All, List, [], ◌∷◌, ◌++◌, map, length, get_or, take, drop, refl, sym, ap, ◌∙◌, subst, arith, append_assoc, append-nil, length-append, zero-add, ne_eqb}
+use Rattle.std.proofs.Common.{◌≡◌, ℕ, ◌+◌, ◌-◌, ◌<◌, ◌≤◌, All, List, [], ◌∷◌, ◌++◌, map, length, get_or, take, drop, refl, sym, ap}
+use Rattle.std.proofs.Common.{◌∙◌, subst, arith, append_assoc, append-nil, length-append, zero-add, ne_eqb}
 use Rattle.std.specs.Prelude.{if◌then◌else◌, not, ◌==◌}
 use Rattle.std.specs.List.{slice_range, take_while}
 use Rattle.std.proofs.Math.Seq.{drop-append_seam, take-append_seam, take-length}
@@ -53,7 +54,8 @@ seam_range xs ys zs =
 
 all_part : {X : Type 0} (P : X → Type 0) (xs ys zs : List X) → All P (xs ++ (ys ++ zs)) → All P ys
 all_part P xs ys zs all k d low =
-    subst P (get_or-append-add xs (ys ++ zs) k d ∙ get_or_append_left ys zs d k low) (all (length xs + k) d (omega (arith, length-append xs (ys ++ zs), length-append ys zs)))
+    subst P (get_or-append-add xs (ys ++ zs) k d ∙ get_or_append_left ys zs d k low)
+    (all (length xs + k) d (omega (arith, length-append xs (ys ++ zs), length-append ys zs)))
 
 take_split : {X : Type 0} (a b : ℕ) (xs : List X) → a ≤ b → take b xs ≡ take a xs ++ slice_range xs a b
 take_split a b xs order =
@@ -63,7 +65,8 @@ take_split a b xs order =
     sym (take-append-drop a (take b xs)) ∙ (λ i. front i ++ behind i)
 
 -- one worker's round, by the worker before it, after it was played, and after the meetings
-module _ (trace done cs tail : List Command) (t patience end : ℕ) (p b r : Worker) (whole : trace ≡ done ++ (cs ++ tail)) (last : end ≡ length done + length cs) (dealt : IsDealt trace t p) (cursor : answered p ≡ line_count t done)
+module _ (trace done cs tail : List Command) (t patience end : ℕ) (p b r : Worker) (whole : trace ≡ done ++ (cs ++ tail))
+    (last : end ≡ length done + length cs) (dealt : IsDealt trace t p) (cursor : answered p ≡ line_count t done)
     (played : HasPlayed (record { end = end; patience = patience }) p b) (same : rest_of r ≡ rest_of b) where
   abbrev here : List ℕ
   here = places_from (length done) t cs
@@ -76,7 +79,8 @@ module _ (trace done cs tail : List Command) (t patience end : ℕ) (p b r : Wor
       dealt.places
       ∙ (ap (places_for t) whole
       ∙ (places_from-append 0 t done (cs ++ tail)
-      ∙ (ap (λ k. places_for t done ++ places_from k t (cs ++ tail)) (zero-add (length done)) ∙ ap (λ l. places_for t done ++ l) (places_from-append (length done) t cs tail))))
+      ∙ (ap (λ k. places_for t done ++ places_from k t (cs ++ tail)) (zero-add (length done))
+      ∙ ap (λ l. places_for t done ++ l) (places_from-append (length done) t cs tail))))
 
   left : drop (answered p) p.places.items ≡ here ++ behind
   left = (λ i. drop ((cursor ∙ sym (count_places 0 t done)) i) (row i)) ∙ drop-append_seam (places_for t done) (here ++ behind)
@@ -84,7 +88,9 @@ module _ (trace done cs tail : List Command) (t patience end : ℕ) (p b r : Wor
   lines_are : round_lines end p ≡ lines_for t cs
   lines_are =
       (λ i. lines_at ((dealt.commands ∙ whole) i) (take_while (is_before end) (left i)))
-      ∙ (ap (lines_at (done ++ (cs ++ tail))) (front_is here behind end (places_low (length done) t cs end last) (places_high (length done + length cs) t tail end (omega (arith, last)))) ∙ lines_there t done cs tail)
+      ∙ (ap (lines_at (done ++ (cs ++ tail)))
+      (front_is here behind end (places_low (length done) t cs end last) (places_high (length done + length cs) t tail end (omega (arith, last))))
+      ∙ lines_there t done cs tail)
 
   answers_are : r.answers ≡ b.answers
   answers_are = ap (λ (x : Rest). x.3) same
@@ -122,20 +128,24 @@ module _ (trace done cs tail : List Command) (t patience end : ℕ) (p b r : Wor
       let whole : said_in r.answers ≡ old ++ (more ++ []) = grown ∙ ap (λ l. old ++ l) (sym (append-nil more)) in
       ap (λ (x : List Said × ℕ × ℕ). slice_range x.0 x.1 x.2) (λ i. (whole i, sym cursor i, sym ends i)) ∙ seam_range old more []
 
-  pub worker_round : (view_of p.pass).role ≡ Player (APass t) → WorkerRound t patience done cs (said_in p.answers) (said_in r.answers) (view_of p.pass) (view_of b.pass)
+  pub worker_round : (view_of p.pass).role ≡ Player (APass t)
+      → WorkerRound t patience done cs (said_in p.answers) (said_in r.answers) (view_of p.pass) (view_of b.pass)
   worker_round role =
       record {
         kept = kept;
         enough = (let all = cursor_on in omega arith);
-        played = subst (λ (x : List Command × List Said). Played t patience (view_of p.pass) x.0 x.1 (view_of b.pass)) (λ i. (lines_are i, sym part i)) (played.played t role);
+        played = subst (λ (x : List Command × List Said). Played t patience (view_of p.pass) x.0 x.1 (view_of b.pass))
+            (λ i. (lines_are i, sym part i)) (played.played t role);
       }
 
 -- what the worker at a number knows and has answered
-pub view_at : (volume : Volume) (workers : List Worker) (t : ℕ) (p : Worker) → t < length workers → views_of volume (passes_of workers) t ≡ view_of (get_or workers t p).pass
+pub view_at : (volume : Volume) (workers : List Worker) (t : ℕ) (p : Worker) → t < length workers
+    → views_of volume (passes_of workers) t ≡ view_of (get_or workers t p).pass
 view_at volume workers t p low =
     let pass : Worker → Pass = λ (z : Worker). z.pass in
     let count = length-map workers pass in
-    get_or-map view_of (passes_of workers) t p.pass (first_view (device (flash_of volume)) t) (omega (arith, count)) ∙ ap view_of (get_or-map pass workers t p p.pass low)
+    get_or-map view_of (passes_of workers) t p.pass (first_view (device (flash_of volume)) t) (omega (arith, count))
+    ∙ ap view_of (get_or-map pass workers t p p.pass low)
 
 pub row_at : (workers : List Worker) (t : ℕ) (p : Worker) → t < length workers → rows_of workers t ≡ said_in (get_or workers t p).answers
 row_at workers t p low = get_or-map answers_of workers t p [] low
@@ -157,17 +167,20 @@ pub record RunState (volume : Volume) (patience : ℕ) (trace : List Command) (b
   pub sectors : All (λ c. c.sector < sectors_of (geometry_of (flash_of volume))) trace
   pub dealt : (t : ℕ) (p : Worker) → t < length workers → IsDealt trace t (get_or workers t p)
   pub cursor : (t : ℕ) (p : Worker) → t < length workers → answered (get_or workers t p) ≡ line_count t done
-  pub each : (t : ℕ) → t < length workers → HasRun t patience (denied_by volume before t) (lines_for t done) (take (line_count t done) (rows_of workers t)) (views_of volume (passes_of workers) t)
+  pub each : (t : ℕ) → t < length workers
+      → HasRun t patience (denied_by volume before t) (lines_for t done) (take (line_count t done) (rows_of workers t)) (views_of volume (passes_of workers) t)
   pub history : List Call
   pub tied : AreTied (length workers) history (views_of volume (passes_of workers))
-  pub plays : (t : ℕ) → t < length workers → Plays (sectors_of (geometry_of (flash_of volume))) t [] (lines_for t done) (take (line_count t done) (rows_of workers t)) history
+  pub plays : (t : ℕ) → t < length workers
+      → Plays (sectors_of (geometry_of (flash_of volume))) t [] (lines_for t done) (take (line_count t done) (rows_of workers t)) history
   pub closed : List (List Command)
   pub rounds : Closed trace closed rest ends
   pub counts : (t : ℕ) → line_count t (flat closed) ≡ line_count t done
   pub order : AreRounds (sectors_of (geometry_of (flash_of volume))) (length workers) [] closed (rows_of workers) history
 
 -- the run begins
-pub state_begins : (volume : Volume) (patience : ℕ) (trace : List Command) (ends : List ℕ) (workers : List Worker) → HasBegun volume trace ends workers → RunState volume patience trace workers ends workers
+pub state_begins : (volume : Volume) (patience : ℕ) (trace : List Command) (ends : List ℕ) (workers : List Worker)
+    → HasBegun volume trace ends workers → RunState volume patience trace workers ends workers
 state_begins volume patience trace ends workers b = record {
   done = [];
   rest = trace;
@@ -191,11 +204,13 @@ state_begins volume patience trace ends workers b = record {
   order = refl;
 }
   where
-    ends_begin : (trace : List Command) (ends : List ℕ) → ends ≡ meetings_from 0 trace ++ length trace ∷ [] → ends ≡ meetings_from 0 trace ++ (0 + length trace) ∷ []
+    ends_begin : (trace : List Command) (ends : List ℕ) → ends ≡ meetings_from 0 trace ++ length trace ∷ []
+        → ends ≡ meetings_from 0 trace ++ (0 + length trace) ∷ []
     ends_begin trace ends are = are ∙ ap (λ k. meetings_from 0 trace ++ k ∷ []) (sym (zero-add (length trace)))
 
 -- one round more
-module _ (volume : Volume) (patience : ℕ) (trace : List Command) (begun : List Worker) (end : ℕ) (ends : List ℕ) (workers back : List Worker) (manned : AreManned volume workers) (round : RoundPlayed volume patience end workers back)
+module _ (volume : Volume) (patience : ℕ) (trace : List Command) (begun : List Worker) (end : ℕ) (ends : List ℕ) (workers back : List Worker)
+    (manned : AreManned volume workers) (round : RoundPlayed volume patience end workers back)
     (state : RunState volume patience trace begun (end ∷ ends) workers) where
   abbrev n : ℕ
   n = sectors_of (geometry_of (flash_of volume))
@@ -248,21 +263,29 @@ module _ (volume : Volume) (patience : ℕ) (trace : List Command) (begun : List
 
     dealt_here : IsDealt trace t (get_or back t p)
     dealt_here =
-        dealt_on trace state.done cs first.tail t patience end (get_or workers t p) (get_or round.between t p) (get_or back t p) whole_now first.last (state.dealt t p low) (state.cursor t p low)
+        dealt_on trace state.done cs first.tail t patience end (get_or workers t p) (get_or round.between t p) (get_or back t p) whole_now first.last
+        (state.dealt t p low) (state.cursor t p low)
         played_here rest_here
 
     cursor_here : answered (get_or back t p) ≡ line_count t state.done + line_count t cs
     cursor_here =
-        cursor_on trace state.done cs first.tail t patience end (get_or workers t p) (get_or round.between t p) (get_or back t p) whole_now first.last (state.dealt t p low) (state.cursor t p low)
+        cursor_on trace state.done cs first.tail t patience end (get_or workers t p) (get_or round.between t p) (get_or back t p) whole_now first.last
+        (state.dealt t p low) (state.cursor t p low)
         played_here rest_here
 
     worker_here : WorkerRound t patience state.done cs (rows_of workers t) (rows_of back t) (before t) (played t)
     worker_here =
         let w =
-        worker_round trace state.done cs first.tail t patience end (get_or workers t p) (get_or round.between t p) (get_or back t p) whole_now first.last (state.dealt t p low) (state.cursor t p low)
+        worker_round trace state.done cs first.tail t patience end (get_or workers t p) (get_or round.between t p)
+        (get_or back t p) whole_now first.last (state.dealt t p low) (state.cursor t p low)
         played_here rest_here (role_at t p low) in
         subst (λ (y : List Said × List Said × View × View). WorkerRound t patience state.done cs y.0 y.1 y.2 y.3)
-        (λ i. (sym (row_at workers t p low) i, sym (row_at back t p (omega (arith, long_back))) i, sym (view_at volume workers t p low) i, sym (view_at volume round.between t p (omega (arith, long_between))) i)) w
+        (λ i. (
+          sym (row_at workers t p low) i,
+          sym (row_at back t p (omega (arith, long_back))) i,
+          sym (view_at volume workers t p low) i,
+          sym (view_at volume round.between t p (omega (arith, long_between))) i,
+        )) w
 
     sectors_here : (before t).numbers.sectors ≡ n
     sectors_here =
@@ -278,7 +301,8 @@ module _ (volume : Volume) (patience : ℕ) (trace : List Command) (begun : List
   lines_more : (t : ℕ) → lines_for t (state.done ++ (cs ++ next.meeting)) ≡ lines_for t state.done ++ lines_for t cs
   lines_more t =
       lines_for-append t state.done (cs ++ next.meeting)
-      ∙ ap (λ l. lines_for t state.done ++ l) (lines_for-append t cs next.meeting ∙ (ap (λ l. lines_for t cs ++ l) (next.nobody t) ∙ append-nil (lines_for t cs)))
+      ∙ ap (λ l. lines_for t state.done ++ l)
+      (lines_for-append t cs next.meeting ∙ (ap (λ l. lines_for t cs ++ l) (next.nobody t) ∙ append-nil (lines_for t cs)))
 
   count_more : (t : ℕ) → line_count t (state.done ++ (cs ++ next.meeting)) ≡ line_count t state.done + line_count t cs
   count_more t = ap (λ (l : List Command). length l) (lines_more t) ∙ length-append (lines_for t state.done) (lines_for t cs)
@@ -289,26 +313,34 @@ module _ (volume : Volume) (patience : ℕ) (trace : List Command) (begun : List
   answers_more t low =
       let a = line_count t state.done in
       let b = line_count t state.done + line_count t cs in
-      ap (λ l. l ++ slice_range (rows_of back t) a b) (worker_here t x low).kept ∙ (sym (take_split a b (rows_of back t) (omega arith)) ∙ ap (λ k. take k (rows_of back t)) (sym (count_more t)))
+      ap (λ l. l ++ slice_range (rows_of back t) a b) (worker_here t x low).kept
+      ∙ (sym (take_split a b (rows_of back t) (omega arith)) ∙ ap (λ k. take k (rows_of back t)) (sym (count_more t)))
 
   run_here : (t : ℕ) → t < length workers
-      → HasRun t patience (denied_by volume begun t) (lines_for t (state.done ++ (cs ++ next.meeting))) (take (line_count t (state.done ++ (cs ++ next.meeting))) (rows_of back t)) (after t)
+      → HasRun t patience (denied_by volume begun t) (lines_for t (state.done ++ (cs ++ next.meeting)))
+      (take (line_count t (state.done ++ (cs ++ next.meeting))) (rows_of back t)) (after t)
   run_here t low =
       let w = worker_here t x low in
       let a = line_count t state.done in
       let b = line_count t state.done + line_count t cs in
       let looked : HasLooked (played t) (after t) = round.met.looked t (omega (arith, count_met)) in
-      let more = run_more t patience (denied_by volume begun t) (lines_for t state.done) (lines_for t cs) (take a (rows_of workers t)) (slice_range (rows_of back t) a b) (before t) (played t) (after t) (state.each t low) w.played looked in
-      subst (λ (y : List Command × List Said). HasRun t patience (denied_by volume begun t) y.0 y.1 (after t)) (λ i. (sym (lines_more t) i, answers_more t low i)) more
+      let more = run_more t patience (denied_by volume begun t) (lines_for t state.done) (lines_for t cs) (take a (rows_of workers t))
+      (slice_range (rows_of back t) a b) (before t) (played t) (after t) (state.each t low) w.played looked in
+      subst (λ (y : List Command × List Said). HasRun t patience (denied_by volume begun t) y.0 y.1 (after t))
+      (λ i. (sym (lines_more t) i, answers_more t low i)) more
 
   plays_here : (t : ℕ) → t < length workers
-      → Plays n t [] (lines_for t (state.done ++ (cs ++ next.meeting))) (take (line_count t (state.done ++ (cs ++ next.meeting))) (rows_of back t)) round.met.history
+      → Plays n t [] (lines_for t (state.done ++ (cs ++ next.meeting)))
+      (take (line_count t (state.done ++ (cs ++ next.meeting))) (rows_of back t)) round.met.history
   plays_here t low =
       let a = line_count t state.done in
       let b = line_count t state.done + line_count t cs in
       let plays =
-      plays_to t patience (denied_by volume begun t) (lines_for t state.done) (lines_for t cs) (take a (rows_of workers t)) (slice_range (rows_of back t) a b) (before t) (played t) round.met.history (state.each t low) (worker_here t x low).played (collected.brought t low) in
-      subst (λ (y : ℕ × List Command × List Said). Plays y.0 t [] y.1 y.2 round.met.history) (λ i. (sectors_here t x low i, sym (lines_more t) i, answers_more t low i)) plays
+      plays_to t patience (denied_by volume begun t) (lines_for t state.done) (lines_for t cs) (take a (rows_of workers t))
+      (slice_range (rows_of back t) a b) (before t) (played t) round.met.history (state.each t low) (worker_here t x low).played
+      (collected.brought t low) in
+      subst (λ (y : ℕ × List Command × List Said). Plays y.0 t [] y.1 y.2 round.met.history)
+      (λ i. (sectors_here t x low i, sym (lines_more t) i, answers_more t low i)) plays
 
   kept_here : (t : ℕ) → take (line_count t state.done) (rows_of workers t) ≡ take (line_count t state.done) (rows_of back t)
   kept_here t =
@@ -323,24 +355,28 @@ module _ (volume : Volume) (patience : ℕ) (trace : List Command) (begun : List
       round_answered (length workers) n state.history round.met.history before played after cs (rows_after state.done (rows_of back)) manned.some
       (all_part (λ c. c.worker < length workers) state.done cs first.tail (subst (λ l. All (λ c. c.worker < length workers) l) whole_now state.known))
       (all_part (λ c. c.sector < n) state.done cs first.tail (subst (λ l. All (λ c. c.sector < n) l) whole_now state.sectors)) state.tied
-      (round_played (length workers) n patience state.done cs (rows_of workers) (rows_of back) before played first.plain (λ t low. sectors_here t x low) (λ t low. worker_here t x low)) collected
+      (round_played (length workers) n patience state.done cs (rows_of workers) (rows_of back) before played first.plain
+      (λ t low. sectors_here t x low) (λ t low. worker_here t x low)) collected
 
   order_here : AreRounds n (length workers) [] (state.closed ++ cs ∷ []) (rows_of back) round.met.history
   order_here =
       rounds_push n (length workers) [] state.closed (rows_of back) state.history cs round.met.history
       (rounds_same n (length workers) [] state.closed (rows_of workers) (rows_of back) state.history
       (λ t. subst (λ k. take k (rows_of workers t) ≡ take k (rows_of back t)) (sym (state.counts t)) (kept_here t)) state.order)
-      (subst (λ r. RoundAnswered n (length workers) state.history cs r round.met.history) (sym (rows_count (flat state.closed) state.done (rows_of back) state.counts)) round_here)
+      (subst (λ r. RoundAnswered n (length workers) state.history cs r round.met.history)
+      (sym (rows_count (flat state.closed) state.done (rows_of back) state.counts)) round_here)
 
   counts_here : (t : ℕ) → line_count t (flat (state.closed ++ cs ∷ [])) ≡ line_count t (state.done ++ (cs ++ next.meeting))
   counts_here t =
-      ap (line_count t) (flat-append state.closed cs) ∙ (line_count-append t (flat state.closed) cs ∙ (ap (λ k. k + line_count t cs) (state.counts t) ∙ sym (count_more t)))
+      ap (line_count t) (flat-append state.closed cs)
+      ∙ (line_count-append t (flat state.closed) cs ∙ (ap (λ k. k + line_count t cs) (state.counts t) ∙ sym (count_more t)))
 
   pub state_next : RunState volume patience trace begun ends back
   state_next = record {
     done = state.done ++ (cs ++ next.meeting);
     rest = next.rest;
-    whole = whole_now ∙ (ap (λ l. state.done ++ (cs ++ l)) next.whole ∙ (ap (λ l. state.done ++ l) (sym (append_assoc cs next.meeting next.rest)) ∙ sym (append_assoc state.done (cs ++ next.meeting) next.rest)));
+    whole = whole_now ∙ (ap (λ l. state.done ++ (cs ++ l)) next.whole
+        ∙ (ap (λ l. state.done ++ l) (sym (append_assoc cs next.meeting next.rest)) ∙ sym (append_assoc state.done (cs ++ next.meeting) next.rest)));
     left = next.left;
     known = subst (λ k. All (λ c. c.worker < k) trace) (sym long_back) state.known;
     sectors = state.sectors;
@@ -363,10 +399,12 @@ none_past hosts t (c ∷ cs) all past =
     let low = All-head (λ c. c.worker < hosts) c cs all in
     let rest = none_past hosts t cs (All-tail (λ c. c.worker < hosts) c cs all) past in
     let other : ¬ (c.worker ≡ t) = λ same. omega arith in
-    subst (λ b. length (if b then c ∷ lines_for t cs else lines_for t cs) ≡ 0) (sym (going.and_false (not (is_meet c.op)) (c.worker == t) (ne_eqb c.worker t other))) rest
+    subst (λ b. length (if b then c ∷ lines_for t cs else lines_for t cs) ≡ 0)
+    (sym (going.and_false (not (is_meet c.op)) (c.worker == t) (ne_eqb c.worker t other))) rest
 
 -- the run's end, once no end of a round is left
-pub state_ends : (volume : Volume) (patience : ℕ) (trace : List Command) (begun workers : List Worker) → AreManned volume workers → RunState volume patience trace begun [] workers → HasEnded volume patience trace begun workers
+pub state_ends : (volume : Volume) (patience : ℕ) (trace : List Command) (begun workers : List Worker) → AreManned volume workers
+    → RunState volume patience trace begun [] workers → HasEnded volume patience trace begun workers
 state_ends volume patience trace begun workers manned state =
     let n = sectors_of (geometry_of (flash_of volume)) in
     let h = state.history in
@@ -378,9 +416,13 @@ state_ends volume patience trace begun workers manned state =
     take_all (line_count t trace) (rows_of workers t) (omega (arith, long t low)) in
     let row_now : (t : ℕ) → t < length workers → take (line_count t state.done) (rows_of workers t) ≡ rows_of workers t = λ t low.
     ap (λ l. take (line_count t l) (rows_of workers t)) all ∙ row_end t low in
-    let run : (t : ℕ) → t < length workers → HasRun t patience (denied_by volume begun t) (lines_for t trace) (rows_of workers t) (views_of volume (passes_of workers) t) = λ t low.
-    subst (λ (x : List Command × List Said). HasRun t patience (denied_by volume begun t) (lines_for t x.0) x.1 (views_of volume (passes_of workers) t)) (λ i. (all i, row_now t low i)) (state.each t low) in
-    let rounds : AreRounds n (length workers) [] (rounds_of trace) (rows_of workers) h = subst (λ rs. AreRounds n (length workers) [] rs (rows_of workers) h) (sym state.rounds) state.order in
+    let run : (t : ℕ) → t < length workers
+    → HasRun t patience (denied_by volume begun t) (lines_for t trace) (rows_of workers t) (views_of volume (passes_of workers) t) = λ t low.
+    subst (λ (x : List Command × List Said).
+    HasRun t patience (denied_by volume begun t) (lines_for t x.0) x.1 (views_of volume (passes_of workers) t)) (λ i. (all i, row_now t low i))
+    (state.each t low) in
+    let rounds : AreRounds n (length workers) [] (rounds_of trace) (rows_of workers) h =
+    subst (λ rs. AreRounds n (length workers) [] rs (rows_of workers) h) (sym state.rounds) state.order in
     record {
       count = λ t.
           dite (dec_lt t (length workers))

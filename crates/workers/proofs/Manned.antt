@@ -34,7 +34,8 @@ played_long n [] (r ∷ back) h = absurd h
 played_long n (p ∷ workers) [] h = absurd h
 played_long n (p ∷ workers) (r ∷ back) h = ap suc (played_long n workers back h.1)
 
-pub played_at : (n : RoundLimits) (workers back : List Worker) → HavePlayed n workers back → (k : ℕ) (p r : Worker) → k < length workers → HasPlayed n (get_or workers k p) (get_or back k r)
+pub played_at : (n : RoundLimits) (workers back : List Worker) → HavePlayed n workers back → (k : ℕ) (p r : Worker) → k < length workers
+    → HasPlayed n (get_or workers k p) (get_or back k r)
 played_at n [] [] h k p r low = absurd (omega arith)
 played_at n [] (y ∷ back) h k p r low = absurd h
 played_at n (x ∷ workers) [] h k p r low = absurd h
@@ -57,7 +58,8 @@ seated_by (x ∷ ps) (y ∷ qs) long each seated t p low =
     let old = ap (λ (z : Pass). (view_of z).role) (sym (get_or-map pass (x ∷ ps) t x p inside)) ∙ seated t p (omega (arith, one)) in
     ap (λ (z : Pass). (view_of z).role) (get_or-map pass (y ∷ qs) t y p there) ∙ each t x y inside old
 
-pub role_played : (n : RoundLimits) (k : ℕ) (p r : Worker) → HasPlayed n p r → (view_of p.pass).role ≡ Player (APass k) → (view_of r.pass).role ≡ Player (APass k)
+pub role_played : (n : RoundLimits) (k : ℕ) (p r : Worker) → HasPlayed n p r → (view_of p.pass).role ≡ Player (APass k)
+    → (view_of r.pass).role ≡ Player (APass k)
 role_played n k p r h role = ap (λ (v : View). v.role) (h.played k role).changed ∙ role
 
 module _ (volume : Volume) where
@@ -80,7 +82,8 @@ module _ (volume : Volume) where
       let long = rests_long ps qs same in
       record { some = (let some = m.some in omega (arith, long)); all = long ∙ m.all; at = all_same_at volume ps qs same m.at; seated = seated }
 
-  pub rest_at : (ps qs : List Worker) → map rest_of qs ≡ map rest_of ps → (k : ℕ) (p : Worker) → k < length ps → rest_of (get_or qs k p) ≡ rest_of (get_or ps k p)
+  pub rest_at : (ps qs : List Worker) → map rest_of qs ≡ map rest_of ps → (k : ℕ) (p : Worker) → k < length ps
+      → rest_of (get_or qs k p) ≡ rest_of (get_or ps k p)
   rest_at ps qs same k p low =
       let there : k < length qs = omega (arith, rests_long ps qs same) in
       sym (get_or-map rest_of qs k p (rest_of p) there) ∙ (ap (λ l. get_or l k (rest_of p)) same ∙ get_or-map rest_of ps k p (rest_of p) low)
@@ -101,7 +104,8 @@ idle_played n p idle =
         space = λ rest space. space;
       });
       played = λ t role.
-          subst (λ (x : List Command × List Said). Played t n.patience (view_of p.pass) x.0 x.1 (view_of p.pass)) (λ i. (lines i, sym nothing i)) (played_none t n.patience (view_of p.pass));
+          subst (λ (x : List Command × List Said). Played t n.patience (view_of p.pass) x.0 x.1 (view_of p.pass)) (λ i. (lines i, sym nothing i))
+          (played_none t n.patience (view_of p.pass));
     }
 
 pub idles_played : (n : RoundLimits) (workers : List Worker) → All (IsIdle n.end) workers → HavePlayed n workers workers
@@ -109,7 +113,8 @@ idles_played n [] idle = tt
 idles_played n (p ∷ workers) idle = (idle_played n p (All-head (IsIdle n.end) p workers idle), idles_played n workers (All-tail (IsIdle n.end) p workers idle))
 
 -- one idle worker more
-pub idle_more : (end : ℕ) (workers : List Worker) (i : ℕ) (p : Worker) → p ≡ get_or workers i p → IsIdle end p → ((k : ℕ) (d : Worker) → k < i → k < length workers → IsIdle end (get_or workers k d))
+pub idle_more : (end : ℕ) (workers : List Worker) (i : ℕ) (p : Worker) → p ≡ get_or workers i p → IsIdle end p
+    → ((k : ℕ) (d : Worker) → k < i → k < length workers → IsIdle end (get_or workers k d))
     → (k : ℕ) (d : Worker) → k < i + 1 → k < length workers → IsIdle end (get_or workers k d)
 idle_more end workers i p there idle all k d low below =
     dite (ℕ_discrete k i)

@@ -65,12 +65,14 @@ places_doable geo t cs playable = record {
 }
 
 -- and so can those of each row
-pub rows_doable : (geo : Geometry) (hosts : ℕ) (cs : List Command) (rows : List (Vec ℕ Global)) → All (IsPlayable geo) cs → map items_of rows ≡ rows_for hosts cs → All (λ row. AreDoable geo cs (items_of row)) rows
+pub rows_doable : (geo : Geometry) (hosts : ℕ) (cs : List Command) (rows : List (Vec ℕ Global)) → All (IsPlayable geo) cs
+    → map items_of rows ≡ rows_for hosts cs → All (λ row. AreDoable geo cs (items_of row)) rows
 rows_doable geo hosts cs rows playable are k d low =
     let size = ap (length {A = List ℕ}) are in
     let within : k < hosts = omega (arith, size, length-map rows items_of, length-map-range_with_len (λ t. places_for t cs) 0 hosts) in
     let row : items_of (get_or rows k d) ≡ places_for k cs =
-    sym (get_or-map items_of rows k d (items_of d) low) ∙ (ap (λ l. get_or l k (items_of d)) are ∙ get_or-map-range_with_len (λ t. places_for t cs) 0 hosts k k (items_of d) within (zero-add k)) in
+    sym (get_or-map items_of rows k d (items_of d) low)
+    ∙ (ap (λ l. get_or l k (items_of d)) are ∙ get_or-map-range_with_len (λ t. places_for t cs) 0 hosts k k (items_of d) within (zero-add k)) in
     subst (AreDoable geo cs) (sym row) (places_doable geo k cs playable)
 
 pub row_count : (hosts : ℕ) (cs : List Command) (rows : List (Vec ℕ Global)) → map items_of rows ≡ rows_for hosts cs → length rows ≡ hosts
@@ -78,7 +80,8 @@ row_count hosts cs rows are =
     let size = ap (length {A = List ℕ}) are in omega (arith, size, length-map rows items_of, length-map-range_with_len (λ t. places_for t cs) 0 hosts)
 
 -- a new device with workers that have their own lines
-module _ (volume : Volume) (geo : Geometry) (cs : List Command) (rows : List (Vec ℕ Global)) (passes : List Pass) (workers : List Worker) (geometry : geometry_of (flash_of volume) ≡ geo) (some : 0 < hosts_of geo)
+module _ (volume : Volume) (geo : Geometry) (cs : List Command) (rows : List (Vec ℕ Global)) (passes : List Pass) (workers : List Worker)
+    (geometry : geometry_of (flash_of volume) ≡ geo) (some : 0 < hosts_of geo)
     (playable : All (IsPlayable geo) cs) (rows_are : map items_of rows ≡ rows_for (hosts_of geo) cs) (count : length passes ≡ hosts_of geo)
     (first : (t : ℕ) (p : Pass) → slice_get passes t ≡ Some p → view_of p ≡ first_view (device (flash_of volume)) t) (passes_are : passes_of workers ≡ passes)
     (work : map work_of workers ≡ map (with_commands cs) rows) (at : All (IsAt volume) workers) (none : All HasPlayedNone workers) where
@@ -87,7 +90,8 @@ module _ (volume : Volume) (geo : Geometry) (cs : List Command) (rows : List (Ve
 
   view_here : (t : ℕ) (p : Pass) → t < length (passes_of workers) → view_of (get_or (passes_of workers) t p) ≡ first_view (device (flash_of volume)) t
   view_here t p low =
-      first t (get_or (passes_of workers) t p) (subst (λ l. slice_get l t ≡ Some (get_or (passes_of workers) t p)) passes_are (slice_get-get_or (passes_of workers) t p low))
+      first t (get_or (passes_of workers) t p)
+      (subst (λ l. slice_get l t ≡ Some (get_or (passes_of workers) t p)) passes_are (slice_get-get_or (passes_of workers) t p low))
 
   views_here : (t : ℕ) → t < length workers → views_of volume (passes_of workers) t ≡ first_view (device (flash_of volume)) t
   views_here t low =
@@ -101,13 +105,15 @@ module _ (volume : Volume) (geo : Geometry) (cs : List Command) (rows : List (Ve
       let row : map (with_commands cs) rows ≡ map (λ k. each (places_for k cs)) (range_with_len 0 (hosts_of geo)) =
       sym (map-map each items_of rows) ∙ (ap (map each) rows_are ∙ map-map each (λ k. places_for k cs) (range_with_len 0 (hosts_of geo))) in
       sym (get_or-map work_of workers t p (cs, []) low)
-      ∙ (ap (λ l. get_or l t (cs, [])) (work ∙ row) ∙ get_or-map-range_with_len (λ k. each (places_for k cs)) 0 (hosts_of geo) t t (cs, []) (omega (arith, long)) (zero-add t))
+      ∙ (ap (λ l. get_or l t (cs, [])) (work ∙ row)
+      ∙ get_or-map-range_with_len (λ k. each (places_for k cs)) 0 (hosts_of geo) t t (cs, []) (omega (arith, long)) (zero-add t))
 
   pub begun : HasBegun volume cs (ends_of cs) workers
   begun = record {
     rounds = refl;
     known = subst (λ n. All (λ c. c.worker < n) cs) (sym long) (workers_low geo cs some playable);
-    sectors = subst (λ (g : Geometry). All (λ c. c.sector < sectors_of g) cs) (sym geometry) (All-weaker (IsPlayable geo) (λ c. c.sector < sectors_of geo) (λ c p. p.sector) cs playable);
+    sectors = subst (λ (g : Geometry). All (λ c. c.sector < sectors_of g) cs) (sym geometry)
+        (All-weaker (IsPlayable geo) (λ c. c.sector < sectors_of geo) (λ c p. p.sector) cs playable);
     dealt = λ t p low. record { commands = ap (λ w. w.0) (work_here t p low); places = ap (λ w. w.1) (work_here t p low) };
     none = none;
     new = λ t low.

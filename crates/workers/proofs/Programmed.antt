@@ -15,9 +15,11 @@ use Rattle.workers.specs.Growing.{GrowsBy}
 -- the pages that are programmed between two brooms are those that there is no more room for
 abbrev pub FillsRoom : ℕ → Broom → Broom → Type 0
 FillsRoom pages a b =
-    GrowsBy (length (pages_to_fill pages (blocks_of_broom a)) - length (pages_to_fill pages (blocks_of_broom b))) (view_of_broom a).programs (view_of_broom b).programs
+    GrowsBy (length (pages_to_fill pages (blocks_of_broom a)) - length (pages_to_fill pages (blocks_of_broom b))) (view_of_broom a).programs
+    (view_of_broom b).programs
 
-fills : (pages its : ℕ) (v : View) (a b : Broom) (copies : List MapWord) → its ≡ pages → v.programs ≡ (view_of_broom a).programs → Programmed its v (blocks_of_broom a) copies (view_of_broom b) (blocks_of_broom b)
+fills : (pages its : ℕ) (v : View) (a b : Broom) (copies : List MapWord) → its ≡ pages → v.programs ≡ (view_of_broom a).programs
+    → Programmed its v (blocks_of_broom a) copies (view_of_broom b) (blocks_of_broom b)
     → FillsRoom pages a b
 fills pages its v a b copies same from it = (
   copies,

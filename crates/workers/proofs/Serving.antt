@@ -24,7 +24,8 @@ use Rattle.workers.specs.Tallies.{added, total_of, wrapped}
 use Rattle.workers.proofs.Counting.{nothing_added}
 
 -- the collectors of unused brooms
-pub all_first : (volume : Volume) (k : ℕ) (ss : List Collector) → ((i : ℕ) (b : Broom) → slice_get (map broom_of ss) i ≡ Some b → IsUnused (flash_of volume) (k + i) b) → All (HasCountedNone volume) ss
+pub all_first : (volume : Volume) (k : ℕ) (ss : List Collector)
+    → ((i : ℕ) (b : Broom) → slice_get (map broom_of ss) i ≡ Some b → IsUnused (flash_of volume) (k + i) b) → All (HasCountedNone volume) ss
     → AreAtRunStart volume k ss
 all_first volume k [] unused idle = tt
 all_first volume k (s ∷ ss) unused idle =
@@ -41,28 +42,35 @@ from_none : {X : Type 0} (n : ℕ) (ys : List X) → GrowsBy n [] ys → n ≡ l
 from_none {X} n ys grows = sym (ap (length {A = X}) grows.1 ∙ grows.2)
 
 -- what a broom's view lists at its end
-done : (volume : Volume) (k : ℕ) (first last : Collector) (end : CollectorEnd) → IsAtRunStart volume k first → HasCollected first last → HasFolded last end → HasDone k end.tally (folded_view end.folded)
+done : (volume : Volume) (k : ℕ) (first last : Collector) (end : CollectorEnd) → IsAtRunStart volume k first → HasCollected first last
+    → HasFolded last end → HasDone k end.tally (folded_view end.folded)
 done volume k first last end begun collected folded =
     let v = first_broom (device (flash_of volume)) k in
     let w = view_of_broom last.broom in
     let t = total_of collected.0 in
     let grown : HasGrown v t w = subst (λ (x : View). HasGrown x t w) begun.unused.0 collected.1.grown in
     let exact : last.tally ≡ wrapped t =
-    collected.1.exact (subst (λ (x : Tally). x ≡ wrapped x) (sym begun.tally) refl) ∙ ap wrapped (ap (λ (x : Tally). added x t) begun.tally ∙ sym (nothing_added t)) in
+    collected.1.exact (subst (λ (x : Tally). x ≡ wrapped x) (sym begun.tally) refl)
+    ∙ ap wrapped (ap (λ (x : Tally). added x t) begun.tally ∙ sym (nothing_added t)) in
     let tally : end.tally ≡ wrapped t = folded.tally ∙ exact in
     let m : ℕ = 2 ^ 64 in
     record {
       role = ap (λ (x : View). x.role) folded.view ∙ grown.role;
-      drained = ap (λ (x : Tally). x.drained) tally ∙ ap (λ (n : ℕ). n % m) (from_none t.drained w.drains grown.drains ∙ sym (ap (λ (x : View). length x.drains) folded.view));
+      drained = ap (λ (x : Tally). x.drained) tally
+          ∙ ap (λ (n : ℕ). n % m) (from_none t.drained w.drains grown.drains ∙ sym (ap (λ (x : View). length x.drains) folded.view));
       moved =
           ap (λ (x : Tally). x.moved) tally
-          ∙ ap (λ (n : ℕ). n % m) ((let is = grown.moves in let plain : t.moved ≡ w.moves = omega arith in plain) ∙ sym (ap (λ (x : View). x.moves) folded.view));
-      programmed = ap (λ (x : Tally). x.programmed) tally ∙ ap (λ (n : ℕ). n % m) (from_none t.programmed w.programs grown.programs ∙ sym (ap (λ (x : View). length x.programs) folded.view));
-      erased = ap (λ (x : Tally). x.erased) tally ∙ ap (λ (n : ℕ). n % m) (from_none t.erased w.erases grown.erases ∙ sym (ap (λ (x : View). length x.erases) folded.view));
+          ∙ ap (λ (n : ℕ). n % m) ((let is = grown.moves in
+          let plain : t.moved ≡ w.moves = omega arith in plain) ∙ sym (ap (λ (x : View). x.moves) folded.view));
+      programmed = ap (λ (x : Tally). x.programmed) tally
+          ∙ ap (λ (n : ℕ). n % m) (from_none t.programmed w.programs grown.programs ∙ sym (ap (λ (x : View). length x.programs) folded.view));
+      erased = ap (λ (x : Tally). x.erased) tally
+          ∙ ap (λ (n : ℕ). n % m) (from_none t.erased w.erases grown.erases ∙ sym (ap (λ (x : View). length x.erases) folded.view));
       lost = ap (λ (x : Tally). x.lost) tally ∙ ap (λ (n : ℕ). n % m) (from_none t.lost w.lost grown.lost ∙ sym (ap (λ (x : View). length x.lost) folded.view));
     }
 
-served : (volume : Volume) (geo : Geometry) (k : ℕ) (before after : List Collector) (ends : List CollectorEnd) → geometry_of (flash_of volume) ≡ geo → AreAtRunStart volume k before → HaveCollected before after
+served : (volume : Volume) (geo : Geometry) (k : ℕ) (before after : List Collector) (ends : List CollectorEnd) → geometry_of (flash_of volume) ≡ geo
+    → AreAtRunStart volume k before → HaveCollected before after
     → HaveFolded after ends → HaveServed geo k ends
 served volume geo k [] [] [] same begun collected folded = tt
 served volume geo k [] [] (end ∷ ends) same begun collected folded = absurd folded
@@ -89,7 +97,8 @@ folded_long [] (end ∷ ends) folded = absurd folded
 folded_long (s ∷ after) [] folded = absurd folded
 folded_long (s ∷ after) (end ∷ ends) folded = ap suc (folded_long after ends folded.1)
 
-pub all_served : (volume : Volume) (geo : Geometry) (before after : List Collector) (ends : List CollectorEnd) → geometry_of (flash_of volume) ≡ geo → length after ≡ brooms_of geo → AreAtRunStart volume 0 before
+pub all_served : (volume : Volume) (geo : Geometry) (before after : List Collector) (ends : List CollectorEnd) → geometry_of (flash_of volume) ≡ geo
+    → length after ≡ brooms_of geo → AreAtRunStart volume 0 before
     → HaveCollected before after → HaveFolded after ends → AllHaveServed geo ends
 all_served volume geo before after ends same count begun collected folded =
     record { count = folded_long after ends folded ∙ count; each = served volume geo 0 before after ends same begun collected folded }

@@ -1,5 +1,6 @@
 -- A round's lines: where they stand in their workers' rows, and which commands stand before and behind them.
-use Rattle.std.proofs.Common.{◌≡◌, ℕ, suc, ◌+◌, ◌-◌, ◌<◌, ◌≤◌, All, Bool, true, false, List, [], ◌∷◌, ◌++◌, get_or, length, drop, refl, sym, ap, ◌∙◌, subst, arith, append_assoc, add-zero}
+use Rattle.std.proofs.Common.{◌≡◌, ℕ, suc, ◌+◌, ◌-◌, ◌<◌, ◌≤◌, All, Bool, true, false, List, [], ◌∷◌, ◌++◌, get_or}
+use Rattle.std.proofs.Common.{length, drop, refl, sym, ap, ◌∙◌, subst, arith, append_assoc, add-zero}
 use Rattle.std.specs.Prelude.{if◌then◌else◌}
 use Rattle.std.proofs.Math.Seq.{get_or-append_seam, get_or-append_right}
 use Rattle.std.proofs.lemmas.List.{length-append, get_or_append_left, get_or-append-add}
@@ -16,7 +17,8 @@ pub count_places : (k t : ℕ) (cs : List Command) → length (places_from k t c
 count_places k t [] = refl
 count_places k t (c ∷ cs) = go (is_line_of t c) (count_places (k + 1) t cs)
   where
-    go : (b : Bool) → length (places_from (k + 1) t cs) ≡ line_count t cs → length (if b then k ∷ places_from (k + 1) t cs else places_from (k + 1) t cs) ≡ length (if b then c ∷ lines_for t cs else lines_for t cs)
+    go : (b : Bool) → length (places_from (k + 1) t cs) ≡ line_count t cs
+        → length (if b then k ∷ places_from (k + 1) t cs else places_from (k + 1) t cs) ≡ length (if b then c ∷ lines_for t cs else lines_for t cs)
     go true rest = ap suc rest
     go false rest = rest
 
@@ -52,7 +54,9 @@ lines_there t done (c ∷ cs) tail =
     here : get_or (done ++ (c ∷ (cs ++ tail))) (length done) no_line ≡ c
     here = get_or-append_seam done c (cs ++ tail) no_line
 
-    go : (b : Bool) → lines_at (done ++ (c ∷ (cs ++ tail))) (places_from (length done + 1) t cs) ≡ lines_for t cs → lines_at (done ++ (c ∷ (cs ++ tail))) (if b then length done ∷ places_from (length done + 1) t cs else places_from (length done + 1) t cs) ≡ (if b then c ∷ lines_for t cs else lines_for t cs)
+    go : (b : Bool) → lines_at (done ++ (c ∷ (cs ++ tail))) (places_from (length done + 1) t cs) ≡ lines_for t cs
+        → lines_at (done ++ (c ∷ (cs ++ tail))) (if b then length done ∷ places_from (length done + 1) t cs else places_from (length done + 1) t cs)
+        ≡ (if b then c ∷ lines_for t cs else lines_for t cs)
     go true rest = λ i. here i ∷ rest i
     go false rest = rest
 
@@ -75,7 +79,8 @@ pub record FirstRound (at : ℕ) (commands : List Command) (end : ℕ) (ends : L
   pub behind : StandsBehind end tail ends
 
 -- a line in front of a round
-line_first : (at : ℕ) (c : Command) (commands : List Command) (end : ℕ) (ends : List ℕ) → is_meet c.op ≡ false → FirstRound (at + 1) commands end ends → FirstRound at (c ∷ commands) end ends
+line_first : (at : ℕ) (c : Command) (commands : List Command) (end : ℕ) (ends : List ℕ) → is_meet c.op ≡ false → FirstRound (at + 1) commands end ends
+    → FirstRound at (c ∷ commands) end ends
 line_first at c commands end ends plain r = record {
   round = c ∷ r.round;
   tail = r.tail;
@@ -104,11 +109,14 @@ first_round at [] end ends is =
     }
 first_round at (c ∷ cs) end ends is = go (first_round (at + 1) cs end ends) (is_meet c.op) refl is
   where
-    go : (ends_from (at + 1) cs ≡ end ∷ ends → FirstRound (at + 1) cs end ends) → (b : Bool) → is_meet c.op ≡ b → (if b then at ∷ meetings_from (at + 1) cs else meetings_from (at + 1) cs) ++ (at + suc (length cs)) ∷ [] ≡ end ∷ ends → FirstRound at (c ∷ cs) end ends
+    go : (ends_from (at + 1) cs ≡ end ∷ ends → FirstRound (at + 1) cs end ends) → (b : Bool) → is_meet c.op ≡ b
+        → (if b then at ∷ meetings_from (at + 1) cs else meetings_from (at + 1) cs) ++ (at + suc (length cs)) ∷ [] ≡ end ∷ ends
+        → FirstRound at (c ∷ cs) end ends
     go next true meet e =
         let same = head_of at end (meetings_from (at + 1) cs ++ (at + suc (length cs)) ∷ []) ends e in
         let on : at + suc (length cs) ≡ (at + 1) + length cs = omega arith in
-        let rest : ends ≡ ends_from (at + 1) cs = sym (tail_of at end (meetings_from (at + 1) cs ++ (at + suc (length cs)) ∷ []) ends e) ∙ ap (λ k. meetings_from (at + 1) cs ++ k ∷ []) on in
+        let rest : ends ≡ ends_from (at + 1) cs =
+        sym (tail_of at end (meetings_from (at + 1) cs ++ (at + suc (length cs)) ∷ []) ends e) ∙ ap (λ k. meetings_from (at + 1) cs ++ k ∷ []) on in
         record {
           round = [];
           tail = c ∷ cs;

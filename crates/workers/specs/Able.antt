@@ -24,5 +24,6 @@ pub record IsAble (volume : Volume) (lines : List Command) (pass : Pass) (places
   pub paged : length buffer ≡ page_bytes_of (geometry_of (flash_of volume))
 
 -- That a worker is able is a fact with at most one proof, so that a struct can keep it
-pub IsAble-prop : (volume : Volume) (lines : List Command) (pass : Pass) (places : List ℕ) (answers : Answers) (buffer : List ℕ) → IsProp (IsAble volume lines pass places answers buffer)
+pub IsAble-prop : (volume : Volume) (lines : List Command) (pass : Pass) (places : List ℕ) (answers : Answers) (buffer : List ℕ)
+    → IsProp (IsAble volume lines pass places answers buffer)
 IsAble-prop volume lines pass places answers buffer = hlevel props

@@ -54,7 +54,8 @@ pub record HasBegun (volume : Volume) (trace : List Command) (ends : List ℕ) (
   pub sectors : All (λ c. c.sector < sectors_of (geometry_of (flash_of volume))) trace
   pub dealt : (t : ℕ) (p : Worker) → t < length workers → IsDealt trace t (slice_index_or workers t p)
   pub none : (t : ℕ) (p : Worker) → t < length workers → HasPlayedNone (slice_index_or workers t p)
-  pub new : (t : ℕ) → t < length workers → ((views_of volume (passes_of workers) t).seen ≡ []) × ((views_of volume (passes_of workers) t).mine ≡ []) × ((views_of volume (passes_of workers) t).programs ≡ [])
+  pub new : (t : ℕ) → t < length workers → ((views_of volume (passes_of workers) t).seen ≡ []) × ((views_of volume (passes_of workers) t).mine ≡ [])
+      × ((views_of volume (passes_of workers) t).programs ≡ [])
 
 -- the blocks that a worker's pass has found taken
 abbrev pub denied_by : Volume → List Worker → ℕ → List ℕ
@@ -77,7 +78,8 @@ pub record HasEnded (volume : Volume) (patience : ℕ) (trace : List Command) (b
   pub count : HaveAnswers (rows_of workers) trace
   pub dealt : (t : ℕ) (p : Worker) → t < length workers → IsDealt trace t (slice_index_or workers t p)
   pub told : AreAtOneHistory (sectors_of (geometry_of (flash_of volume))) (length workers) trace (rows_of workers)
-  pub each : (t : ℕ) → t < length workers → HasRun t patience (denied_by volume before t) (lines_for t trace) (rows_of workers t) (views_of volume (passes_of workers) t)
+  pub each : (t : ℕ) → t < length workers
+      → HasRun t patience (denied_by volume before t) (lines_for t trace) (rows_of workers t) (views_of volume (passes_of workers) t)
   pub text : IsDisjointTrace trace → IsTextOfSome (sectors_of (geometry_of (flash_of volume))) trace (lines_text 0 (merge trace (rows_of workers)))
 
 -- a run of any trace that these workers were about to play has ended with those

@@ -44,4 +44,5 @@ pub record HasPlayed (limits : RoundLimits) (p r : Worker) : Type 0 where
   pub commands : arc_value r.commands ≡ arc_value p.commands
   pub places : r.places.items ≡ p.places.items
   pub answers : HasAnswered (round_lines limits.end p) p.answers r.answers
-  pub played : (t : ℕ) → (view_of p.pass).role ≡ Player (APass t) → Played t limits.patience (view_of p.pass) (round_lines limits.end p) (added p.answers r.answers) (view_of r.pass)
+  pub played : (t : ℕ) → (view_of p.pass).role ≡ Player (APass t)
+      → Played t limits.patience (view_of p.pass) (round_lines limits.end p) (added p.answers r.answers) (view_of r.pass)

@@ -19,7 +19,8 @@ pub struct Worker {
     pub places: Vec<usize>,
     pub answers: Answers,
     pub buffer: Vec<u8>,
-    pub ghost able: { IsAble (arc_value volume) (arc_value commands) pass places.items answers buffer.items } by { IsAble-prop (arc_value volume) (arc_value commands) pass places.items answers buffer.items },
+    pub ghost able: { IsAble (arc_value volume) (arc_value commands)
+        pass places.items answers buffer.items } by { IsAble-prop (arc_value volume) (arc_value commands) pass places.items answers buffer.items },
 }
 
 impl Drop for Worker {

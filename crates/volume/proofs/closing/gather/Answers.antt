@@ -12,7 +12,8 @@ use Rattle.volume.proofs.closing.gather.Goals.{After-meet_each-2}
 
 pub returns-in_err-sectors-clause-looked : goal.returns-in_err-sectors-clause-looked
 returns-in_err-sectors-clause-looked c =
-    let h = looked_between c.args.flash.now c.in-Some.first.now c.meet_each.new.first c.read_all.new.pass c.in-Some.others.now c.meet_each.new.others c.meet_each.ensures.told c.read_all.ensures.looked in
+    let h = looked_between c.args.flash.now c.in-Some.first.now c.meet_each.new.first c.read_all.new.pass c.in-Some.others.now c.meet_each.new.others
+    c.meet_each.ensures.told c.read_all.ensures.looked in
     subst (λ (l : List Pass). HaveLooked l (c.read_all.new.pass ∷ c.meet_each.new.others)) (sym c.in-Some.ensures.cases.0) h
 
 -- the other passes, ready before and after
@@ -25,8 +26,11 @@ returns-clause-read c q is =
     let told = c.in_ok-sectors.ensures in
     let values = array_of c.in_ok-sectors.sectors.items in
     let others = others_ready (goal.at.returns-clause-read c).After-meet_each-2 in
-    let h = are_read f c.in-Some.first.now c.meet_each.new.first c.read_all.new.pass c.in-Some.others.now c.meet_each.new.others c.meet_each.ensures.told told.looked (sectors_of (geometry_of f)) values told.read c.meet_each-2.new.first c.meet_each-2.new.others c.meet_each-2.ensures.told c.meet_each-2.ensures.first others c.meet_each-2.ensures.others refl told.long in
-    subst (λ (x : List Pass × Pass). AreRead (device f) x.0 (view_of x.1).seen values) (λ i. (sym c.in-Some.ensures.cases.0 i, some_same c.meet_each-2.new.first q is i)) h
+    let h = are_read f c.in-Some.first.now c.meet_each.new.first c.read_all.new.pass c.in-Some.others.now c.meet_each.new.others
+    c.meet_each.ensures.told told.looked (sectors_of (geometry_of f)) values told.read c.meet_each-2.new.first c.meet_each-2.new.others
+    c.meet_each-2.ensures.told c.meet_each-2.ensures.first others c.meet_each-2.ensures.others refl told.long in
+    subst (λ (x : List Pass × Pass). AreRead (device f) x.0 (view_of x.1).seen values)
+    (λ i. (sym c.in-Some.ensures.cases.0 i, some_same c.meet_each-2.new.first q is i)) h
 
 pub returns-clause-one_history : goal.returns-clause-one_history
 returns-clause-one_history c q is =
@@ -34,12 +38,16 @@ returns-clause-one_history c q is =
     let told = c.in_ok-sectors.ensures in
     let values = array_of c.in_ok-sectors.sectors.items in
     let others = others_ready (goal.at.returns-clause-one_history c).After-meet_each-2 in
-    let h = are_final f c.in-Some.first.now c.meet_each.new.first c.read_all.new.pass c.in-Some.others.now c.meet_each.new.others c.meet_each.ensures.told told.looked (sectors_of (geometry_of f)) values told.read c.meet_each-2.new.first c.meet_each-2.new.others c.meet_each-2.ensures.told c.meet_each-2.ensures.first others c.meet_each-2.ensures.others refl told.long in
-    subst (λ (x : List Pass × Pass). AreAll (hosts_of (geometry_of f)) x.0 → AreFinal (device f) x.0 (view_of x.1).seen values) (λ i. (sym c.in-Some.ensures.cases.0 i, some_same c.meet_each-2.new.first q is i)) h
+    let h = are_final f c.in-Some.first.now c.meet_each.new.first c.read_all.new.pass c.in-Some.others.now c.meet_each.new.others
+    c.meet_each.ensures.told told.looked (sectors_of (geometry_of f)) values told.read c.meet_each-2.new.first c.meet_each-2.new.others
+    c.meet_each-2.ensures.told c.meet_each-2.ensures.first others c.meet_each-2.ensures.others refl told.long in
+    subst (λ (x : List Pass × Pass). AreAll (hosts_of (geometry_of f)) x.0 → AreFinal (device f) x.0 (view_of x.1).seen values)
+    (λ i. (sym c.in-Some.ensures.cases.0 i, some_same c.meet_each-2.new.first q is i)) h
 
 pub returns-clause-looked : goal.returns-clause-looked
 returns-clause-looked c =
-    let h = looked_after c.in-Some.first.now c.meet_each.new.first c.read_all.new.pass c.meet_each-2.new.first c.in-Some.others.now c.meet_each.new.others c.meet_each-2.new.others c.meet_each.ensures.told c.in_ok-sectors.ensures.looked c.meet_each-2.ensures.told in
+    let h = looked_after c.in-Some.first.now c.meet_each.new.first c.read_all.new.pass c.meet_each-2.new.first c.in-Some.others.now
+    c.meet_each.new.others c.meet_each-2.new.others c.meet_each.ensures.told c.in_ok-sectors.ensures.looked c.meet_each-2.ensures.told in
     subst (λ (l : List Pass). HaveLooked l (c.meet_each-2.new.first ∷ c.meet_each-2.new.others)) (sym c.in-Some.ensures.cases.0) h
 
 pub meet_each-requires-clause-first : goal.meet_each-requires-clause-first
@@ -48,7 +56,8 @@ meet_each-requires-clause-first c =
     All-head IsGood c.in-Some.first.now c.in-Some.others.now (subst (All IsGood) c.in-Some.ensures.cases.0 c.requires.passes)
 
 pub meet_each-requires-clause-others : goal.meet_each-requires-clause-others
-meet_each-requires-clause-others c = All-rest (IsReady c.args.flash.now) c.in-Some.first.now c.in-Some.others.now c.args.passes.now c.in-Some.ensures.cases.0 c.requires.passes
+meet_each-requires-clause-others c =
+    All-rest (IsReady c.args.flash.now) c.in-Some.first.now c.in-Some.others.now c.args.passes.now c.in-Some.ensures.cases.0 c.requires.passes
 
 pub meet_each-requires-2-clause-first : goal.meet_each-requires-2-clause-first
 meet_each-requires-2-clause-first c = c.read_all.ensures.pass
@@ -57,7 +66,9 @@ pub meet_each-requires-2-clause-others : goal.meet_each-requires-2-clause-others
 meet_each-requires-2-clause-others c = c.meet_each.ensures.others
 
 pub returns-in_err-sectors-clause-passes : goal.returns-in_err-sectors-clause-passes
-returns-in_err-sectors-clause-passes c = All-cons (IsReady c.args.flash.now) c.read_all.new.pass c.meet_each.new.others c.read_all.ensures.pass c.meet_each.ensures.others
+returns-in_err-sectors-clause-passes c =
+    All-cons (IsReady c.args.flash.now) c.read_all.new.pass c.meet_each.new.others c.read_all.ensures.pass c.meet_each.ensures.others
 
 pub returns-clause-passes : goal.returns-clause-passes
-returns-clause-passes c = All-cons (IsReady c.args.flash.now) c.meet_each-2.new.first c.meet_each-2.new.others c.meet_each-2.ensures.first c.meet_each-2.ensures.others
+returns-clause-passes c =
+    All-cons (IsReady c.args.flash.now) c.meet_each-2.new.first c.meet_each-2.new.others c.meet_each-2.ensures.first c.meet_each-2.ensures.others

@@ -14,8 +14,11 @@ returns-in_err-sectors-clause-looked c = looked-refl (view_of c.args.pass.now)
 
 pub loop-sector-init : goal.loop-sector-init
 loop-sector-init c =
-    let room = c.in_ok-sectors.ensures.capacity in
-    (sweep_begins c.args.flash.now (sectors_of (geometry_of c.args.flash.now)) c.args.pass.now c.in_ok-sectors.sectors.items c.in_ok-sectors.ensures.items c.requires, omega arith)
+    let room = c.in_ok-sectors.ensures.capacity in (
+      sweep_begins c.args.flash.now (sectors_of (geometry_of c.args.flash.now)) c.args.pass.now c.in_ok-sectors.sectors.items
+          c.in_ok-sectors.ensures.items c.requires,
+      omega arith,
+    )
 
 pub returns-in_err-value-clause-looked : goal.returns-in_err-value-clause-looked
 returns-in_err-value-clause-looked c = grind (arith, common_steps)
@@ -31,7 +34,8 @@ loop-sector-preserved c =
     let items = c.loop-sector.sectors.items in
     let told = c.in_ok-value.ensures in
     let same = one_more items c.push_reserved.new.self.items c.in_ok-value.value c.push_reserved.ensures.items in
-    let h = sweeps_next f n c.args.pass.now c.loop-sector.pass next (array_of items) c.loop-sector.sector (option_map (λ v. v.items) c.in_ok-value.value) c.loop-sector.invariant.0 told.looked told.pass told.value in
+    let h = sweeps_next f n c.args.pass.now c.loop-sector.pass next (array_of items) c.loop-sector.sector
+    (option_map (λ v. v.items) c.in_ok-value.value) c.loop-sector.invariant.0 told.looked told.pass told.value in
     let room = c.loop-sector.invariant.1 in
     let kept = c.push_reserved.ensures.capacity in
     (subst (λ (l : List Sector). Sweeps f n c.args.pass.now next l (c.loop-sector.sector + 1)) (sym same) h, omega arith)

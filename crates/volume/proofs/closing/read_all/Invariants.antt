@@ -6,4 +6,5 @@ use Rattle.volume.proofs.Sweeps.{Sweeps}
 use Rattle.volume.proofs.closing.read_all.Given as goal
 
 abbrev pub invariant-loop-sector : goal.invariant-loop-sector
-invariant-loop-sector l = Sweeps l.flash (sectors_of (geometry_of l.flash)) l.fn.pass l.pass (array_of l.sectors.items) l.sector × (l.count ≤ vec_capacity l.sectors)
+invariant-loop-sector l = Sweeps l.flash (sectors_of (geometry_of l.flash)) l.fn.pass l.pass (array_of l.sectors.items) l.sector
+    × (l.count ≤ vec_capacity l.sectors)

@@ -4,7 +4,9 @@ use Rattle.volume.proofs.FreshBrooms.{taken}
 use Rattle.volume.proofs.closing.retire_all.Goals as goal
 
 pub retire-requires : goal.retire-requires
-retire-requires c = (taken (IsReady c.args.flash.now) c.in-Some.pass (into_iter_items c.next.new.self) (into_iter_items c.loop-pass.passes) c.in-Some.ensures.cases.0 c.loop-pass.invariant).0
+retire-requires c = (taken (IsReady c.args.flash.now) c.in-Some.pass (into_iter_items c.next.new.self)
+    (into_iter_items c.loop-pass.passes) c.in-Some.ensures.cases.0 c.loop-pass.invariant).0
 
 pub loop-pass-preserved : goal.loop-pass-preserved
-loop-pass-preserved c = (taken (IsReady c.args.flash.now) c.in-Some.pass (into_iter_items c.next.new.self) (into_iter_items c.loop-pass.passes) c.in-Some.ensures.cases.0 c.loop-pass.invariant).1
+loop-pass-preserved c = (taken (IsReady c.args.flash.now) c.in-Some.pass (into_iter_items c.next.new.self)
+    (into_iter_items c.loop-pass.passes) c.in-Some.ensures.cases.0 c.loop-pass.invariant).1

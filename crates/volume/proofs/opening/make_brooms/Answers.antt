@@ -21,17 +21,25 @@ loop-seat-preserved c =
     let more = ap (length {A = Broom}) pushed in
     let room = c.loop-seat.invariant.1 in
     let kept = c.push_reserved.ensures.capacity in (
-      one_made f c.args.queue.now c.args.seats.items (into_iter_items c.loop-seat.seats) (into_iter_items c.next.new.self) c.loop-seat.places.items c.pop.new.self.items c.loop-seat.brooms.items c.push_reserved.new.self.items c.in-Some.seat c.in-Some-pop.place
-          c.in-Ok-new.broom c.loop-seat.invariant.0 next c.in-Some-pop.ensures.items pushed made.view made.blocks made.queue (made.ready f (sym c.geometry.ensures)) made.unmarked,
+      one_made f c.args.queue.now c.args.seats.items (into_iter_items c.loop-seat.seats)
+          (into_iter_items c.next.new.self) c.loop-seat.places.items c.pop.new.self.items c.loop-seat.brooms.items c.push_reserved.new.self.items
+          c.in-Some.seat c.in-Some-pop.place
+          c.in-Ok-new.broom c.loop-seat.invariant.0 next c.in-Some-pop.ensures.items pushed made.view made.blocks made.queue
+          (made.ready f (sym c.geometry.ensures)) made.unmarked,
       omega (arith, length_push c.loop-seat.brooms.items c.in-Ok-new.broom),
     )
 
 pub fold_seat-requires : goal.fold_seat-requires
 fold_seat-requires c =
-    let f = c.args.flash.now in c.in-Err.ensures.refused.2 f (taken (IsRested f) c.in-Some.seat (into_iter_items c.next.new.self) (into_iter_items c.loop-seat.seats) c.in-Some.ensures.cases.0 c.loop-seat.invariant.0.rested).0
+    let f = c.args.flash.now in
+    c.in-Err.ensures.refused.2 f
+    (taken (IsRested f) c.in-Some.seat (into_iter_items c.next.new.self)
+    (into_iter_items c.loop-seat.seats) c.in-Some.ensures.cases.0 c.loop-seat.invariant.0.rested).0
 
 pub fold_seats-requires-in-Err : goal.fold_seats-requires-in-Err
-fold_seats-requires-in-Err c = (taken (IsRested c.args.flash.now) c.in-Some.seat (into_iter_items c.next.new.self) (into_iter_items c.loop-seat.seats) c.in-Some.ensures.cases.0 c.loop-seat.invariant.0.rested).1
+fold_seats-requires-in-Err c =
+    (taken (IsRested c.args.flash.now) c.in-Some.seat (into_iter_items c.next.new.self)
+    (into_iter_items c.loop-seat.seats) c.in-Some.ensures.cases.0 c.loop-seat.invariant.0.rested).1
 
 -- brooms that were just made are ready, and have nothing set aside
 pub fold_all-requires : goal.fold_all-requires

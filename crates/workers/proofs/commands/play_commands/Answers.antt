@@ -25,7 +25,8 @@ fold_collectors-requires-clause-room g c =
 
 pub returns-clause-rows : goal.returns-clause-rows
 returns-clause-rows g c =
-    let geometry : geometry_of (flash_of c.deref-2.result.now) ≡ c.args.geometry.now = ap (λ (v : Volume). geometry_of (flash_of v)) c.deref-2.ensures ∙ c.in_ok-volume.ensures.geometry in
+    let geometry : geometry_of (flash_of c.deref-2.result.now) ≡ c.args.geometry.now =
+    ap (λ (v : Volume). geometry_of (flash_of v)) c.deref-2.ensures ∙ c.in_ok-volume.ensures.geometry in
     let all = c.in_ok-team.ensures.manned.all ∙ ap hosts_of geometry in
     let are = ap (length {A = Answers}) c.hand_out.ensures in
     omega (arith, length-map c.in_ok-team.team.workers.items answers_kept)
@@ -37,9 +38,11 @@ returns-clause-played g c =
     let ends : ends_of cs ≡ c.deref-3.result.now =
     ap ends_of (sym c.deref.ensures) ∙ (sym c.in_ok-places.ensures.ends ∙ sym c.deref-3.ensures.value) in
     let begun : HasBegun volume cs c.deref-3.result.now c.in_ok-volume.team.workers.items =
-    subst (λ (x : Volume × List ℕ). HasBegun x.0 cs x.1 c.in_ok-volume.team.workers.items) (λ i. (sym c.deref-2.ensures i, ends i)) c.in_ok-volume.ensures.begun in
+    subst (λ (x : Volume × List ℕ). HasBegun x.0 cs x.1 c.in_ok-volume.team.workers.items)
+    (λ i. (sym c.deref-2.ensures i, ends i)) c.in_ok-volume.ensures.begun in
     all_played volume c.args.geometry.now c.args.patience cs c.in_ok-volume.team.workers.items c.in_ok-team.team.workers.items c.hand_out.new.rows.items
-    (ap (λ (v : Volume). geometry_of (flash_of v)) c.deref-2.ensures ∙ c.in_ok-volume.ensures.geometry) c.in_ok-team.ensures.manned (c.in_ok-team.ensures.run cs begun) c.hand_out.ensures
+    (ap (λ (v : Volume). geometry_of (flash_of v)) c.deref-2.ensures ∙ c.in_ok-volume.ensures.geometry) c.in_ok-team.ensures.manned
+    (c.in_ok-team.ensures.run cs begun) c.hand_out.ensures
 
 pub returns-clause-pages : goal.returns-clause-pages
 returns-clause-pages g c =
@@ -51,6 +54,8 @@ returns-clause-brooms g c =
     let volume = c.deref-2.result.now in
     let before = c.in_ok-volume.team.collectors.items in
     let after = c.in_ok-team.team.collectors.items in
-    all_served volume c.args.geometry.now before after c.fold_collectors.new.ends.items (ap (λ (v : Volume). geometry_of (flash_of v)) c.deref-2.ensures ∙ c.in_ok-volume.ensures.geometry)
+    all_served volume c.args.geometry.now before after c.fold_collectors.new.ends.items
+    (ap (λ (v : Volume). geometry_of (flash_of v)) c.deref-2.ensures ∙ c.in_ok-volume.ensures.geometry)
     (collected_long before after c.in_ok-team.ensures.collected ∙ c.in_ok-volume.ensures.collectors)
-    (subst (λ (v : Volume). AreAtRunStart v 0 before) (sym c.deref-2.ensures) c.in_ok-volume.ensures.first) c.in_ok-team.ensures.collected c.fold_collectors.ensures
+    (subst (λ (v : Volume). AreAtRunStart v 0 before) (sym c.deref-2.ensures) c.in_ok-volume.ensures.first) c.in_ok-team.ensures.collected
+    c.fold_collectors.ensures

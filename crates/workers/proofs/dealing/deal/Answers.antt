@@ -26,7 +26,8 @@ use Rattle.workers.proofs.Openings.{begun, manned, row_count, rows_doable}
 use Rattle.workers.proofs.dealing.deal.Goals as goal
 
 pub make_shares-requires : goal.make_shares-requires
-make_shares-requires c = rows_doable c.args.geometry.now (hosts_of c.args.geometry.now) (arc_value c.args.commands.now) c.args.rows.items c.requires.playable c.requires.rows
+make_shares-requires c = rows_doable c.args.geometry.now (hosts_of c.args.geometry.now)
+    (arc_value c.args.commands.now) c.args.rows.items c.requires.playable c.requires.rows
 
 pub seat_workers-requires-clause-ready : goal.seat_workers-requires-clause-ready
 seat_workers-requires-clause-ready c =
@@ -40,7 +41,8 @@ seat_workers-requires-clause-fit c =
 
 pub seat_workers-requires-clause-owners : goal.seat_workers-requires-clause-owners
 seat_workers-requires-clause-owners c =
-    subst (λ (v : Volume). All (IsOwner v) c.in_ok-worker_owners.worker_owners.items) (sym (c.deref.ensures ∙ c.into_parts-volume.ensures.volume)) c.in_ok-worker_owners.ensures.same
+    subst (λ (v : Volume). All (IsOwner v) c.in_ok-worker_owners.worker_owners.items)
+    (sym (c.deref.ensures ∙ c.into_parts-volume.ensures.volume)) c.in_ok-worker_owners.ensures.same
 
 pub seat_workers-requires-clause-shares_count : goal.seat_workers-requires-clause-shares_count
 seat_workers-requires-clause-shares_count c =
@@ -75,7 +77,8 @@ seat_collectors-requires-clause-ready c =
 
 pub seat_collectors-requires-clause-owners : goal.seat_collectors-requires-clause-owners
 seat_collectors-requires-clause-owners c =
-    subst (λ (v : Volume). All (IsOwner v) c.in_ok-collector_owners.collector_owners.items) (sym (c.deref-2.ensures ∙ c.into_parts-volume.ensures.volume)) c.in_ok-collector_owners.ensures.same
+    subst (λ (v : Volume). All (IsOwner v) c.in_ok-collector_owners.collector_owners.items)
+    (sym (c.deref-2.ensures ∙ c.into_parts-volume.ensures.volume)) c.in_ok-collector_owners.ensures.same
 
 pub seat_collectors-requires-clause-count : goal.seat_collectors-requires-clause-count
 seat_collectors-requires-clause-count c =
@@ -111,10 +114,12 @@ returns-clause-begun c =
     let parts = c.into_parts-volume.ensures in
     let cs = arc_value c.args.commands.now in
     subst (HasBegun (arc_value c.into_parts-volume.result.0) cs (ends_of cs)) (sym c.in_ok-new.ensures.workers)
-    (begun (arc_value c.into_parts-volume.result.0) c.args.geometry.now (arc_value c.args.commands.now) c.args.rows.items c.into_parts-volume.result.1.items c.seat_workers.new.workers.items
+    (begun (arc_value c.into_parts-volume.result.0) c.args.geometry.now
+    (arc_value c.args.commands.now) c.args.rows.items c.into_parts-volume.result.1.items c.seat_workers.new.workers.items
     (ap (λ (v : Volume). geometry_of (flash_of v)) parts.volume ∙ new.geometry) c.requires.hosts c.requires.playable c.requires.rows
     (ap (length {A = Pass}) parts.passes ∙ new.playing)
-    (subst (λ (x : Volume × List Pass). (t : ℕ) (p : Pass) → slice_get x.1 t ≡ Some p → view_of p ≡ first_view (device (flash_of x.0)) t) (λ i. (sym parts.volume i, sym parts.passes i)) new.first)
+    (subst (λ (x : Volume × List Pass). (t : ℕ) (p : Pass) → slice_get x.1 t ≡ Some p
+    → view_of p ≡ first_view (device (flash_of x.0)) t) (λ i. (sym parts.volume i, sym parts.passes i)) new.first)
     c.seat_workers.ensures.passes (c.seat_workers.ensures.work ∙ c.in_ok-shares.ensures.work)
     (subst (λ (v : Volume). All (IsAt v) c.seat_workers.new.workers.items) c.deref.ensures c.seat_workers.ensures.at) c.seat_workers.ensures.none)
 
@@ -123,10 +128,12 @@ returns-clause-manned c =
     let new = c.in_ok-unseated.ensures in
     let parts = c.into_parts-volume.ensures in
     subst (AreManned (arc_value c.into_parts-volume.result.0)) (sym c.in_ok-new.ensures.workers)
-    (manned (arc_value c.into_parts-volume.result.0) c.args.geometry.now (arc_value c.args.commands.now) c.args.rows.items c.into_parts-volume.result.1.items c.seat_workers.new.workers.items
+    (manned (arc_value c.into_parts-volume.result.0) c.args.geometry.now
+    (arc_value c.args.commands.now) c.args.rows.items c.into_parts-volume.result.1.items c.seat_workers.new.workers.items
     (ap (λ (v : Volume). geometry_of (flash_of v)) parts.volume ∙ new.geometry) c.requires.hosts c.requires.playable c.requires.rows
     (ap (length {A = Pass}) parts.passes ∙ new.playing)
-    (subst (λ (x : Volume × List Pass). (t : ℕ) (p : Pass) → slice_get x.1 t ≡ Some p → view_of p ≡ first_view (device (flash_of x.0)) t) (λ i. (sym parts.volume i, sym parts.passes i)) new.first)
+    (subst (λ (x : Volume × List Pass). (t : ℕ) (p : Pass) → slice_get x.1 t ≡ Some p
+    → view_of p ≡ first_view (device (flash_of x.0)) t) (λ i. (sym parts.volume i, sym parts.passes i)) new.first)
     c.seat_workers.ensures.passes (c.seat_workers.ensures.work ∙ c.in_ok-shares.ensures.work)
     (subst (λ (v : Volume). All (IsAt v) c.seat_workers.new.workers.items) c.deref.ensures c.seat_workers.ensures.at) c.seat_workers.ensures.none)
 
@@ -136,8 +143,10 @@ returns-clause-first c =
     let parts = c.into_parts-volume.ensures in
     let collectors = c.seat_collectors.new.collectors.items in
     let unused : (i : ℕ) (b : Broom) → slice_get c.into_parts-volume.result.2.items i ≡ Some b → IsUnused (flash_of volume) i b =
-    subst (λ (x : Volume × List Broom). (i : ℕ) (b : Broom) → slice_get x.1 i ≡ Some b → IsUnused (flash_of x.0) i b) (λ i. (sym parts.volume i, sym parts.brooms i)) c.in_ok-unseated.ensures.unused in
+    subst (λ (x : Volume × List Broom). (i : ℕ) (b : Broom) → slice_get x.1 i ≡ Some b → IsUnused (flash_of x.0) i b)
+    (λ i. (sym parts.volume i, sym parts.brooms i)) c.in_ok-unseated.ensures.unused in
     subst (AreAtRunStart volume 0) (sym c.in_ok-new.ensures.collectors)
     (all_first volume 0 collectors
-    (λ i b at. subst (λ (n : ℕ). IsUnused (flash_of volume) n b) (zero_plus i) (unused i b (subst (λ l. slice_get l i ≡ Some b) c.seat_collectors.ensures.brooms at)))
+    (λ i b at. subst (λ (n : ℕ). IsUnused (flash_of volume) n b) (zero_plus i)
+    (unused i b (subst (λ l. slice_get l i ≡ Some b) c.seat_collectors.ensures.brooms at)))
     (subst (λ (v : Volume). All (HasCountedNone v) collectors) c.deref-2.ensures c.seat_collectors.ensures.none))

@@ -18,16 +18,20 @@ use Rattle.workers.proofs.dealing.seat_workers.Goals as goal
 pub seat-requires-clause-ready : goal.seat-requires-clause-ready
 seat-requires-clause-ready c =
     let volume = c.args.volume.now in
-    let pass = taken (IsReady (flash_of volume)) c.in-Some.pass c.pop_front.new.self.items c.loop-pass.passes.items c.in-Some.ensures.items c.loop-pass.invariant.ready in
-    let owner = taken (IsOwner volume) c.in-Some-pop_front.owner c.pop_front-in-Some.new.self.items c.loop-pass.owners.items c.in-Some-pop_front.ensures.items c.loop-pass.invariant.owners in
+    let pass = taken (IsReady (flash_of volume)) c.in-Some.pass c.pop_front.new.self.items c.loop-pass.passes.items c.in-Some.ensures.items
+    c.loop-pass.invariant.ready in
+    let owner = taken (IsOwner volume) c.in-Some-pop_front.owner c.pop_front-in-Some.new.self.items c.loop-pass.owners.items
+    c.in-Some-pop_front.ensures.items c.loop-pass.invariant.owners in
     subst (λ (v : Volume). IsReady (flash_of v) c.in-Some.pass) (sym owner.0) pass.0
 
 pub seat-requires-clause-fit : goal.seat-requires-clause-fit
 seat-requires-clause-fit c =
     let volume = c.args.volume.now in
-    let owner = taken (IsOwner volume) c.in-Some-pop_front.owner c.pop_front-in-Some.new.self.items c.loop-pass.owners.items c.in-Some-pop_front.ensures.items c.loop-pass.invariant.owners in
+    let owner = taken (IsOwner volume) c.in-Some-pop_front.owner c.pop_front-in-Some.new.self.items c.loop-pass.owners.items
+    c.in-Some-pop_front.ensures.items c.loop-pass.invariant.owners in
     let share =
-    taken (HasFitShare (geometry_of (flash_of volume))) c.in-Some-pop_front-2.share c.pop_front-in-Some-2.new.self.items c.loop-pass.shares.items c.in-Some-pop_front-2.ensures.items c.loop-pass.invariant.fit in
+    taken (HasFitShare (geometry_of (flash_of volume))) c.in-Some-pop_front-2.share c.pop_front-in-Some-2.new.self.items c.loop-pass.shares.items
+    c.in-Some-pop_front-2.ensures.items c.loop-pass.invariant.fit in
     subst (λ (v : Volume). HasFitShare (geometry_of (flash_of v)) c.in-Some-pop_front-2.share) (sym owner.0) share.0
 
 pub loop-pass-preserved : goal.loop-pass-preserved
@@ -39,9 +43,11 @@ loop-pass-preserved c =
     let worker = c.seat.result in
     let pushed = c.push_reserved.ensures.items in
     let pass = taken (IsReady (flash_of volume)) c.in-Some.pass c.pop_front.new.self.items c.loop-pass.passes.items c.in-Some.ensures.items was.ready in
-    let owner = taken (IsOwner volume) c.in-Some-pop_front.owner c.pop_front-in-Some.new.self.items c.loop-pass.owners.items c.in-Some-pop_front.ensures.items was.owners in
+    let owner = taken (IsOwner volume) c.in-Some-pop_front.owner c.pop_front-in-Some.new.self.items c.loop-pass.owners.items
+    c.in-Some-pop_front.ensures.items was.owners in
     let share =
-    taken (HasFitShare (geometry_of (flash_of volume))) c.in-Some-pop_front-2.share c.pop_front-in-Some-2.new.self.items c.loop-pass.shares.items c.in-Some-pop_front-2.ensures.items was.fit in
+    taken (HasFitShare (geometry_of (flash_of volume))) c.in-Some-pop_front-2.share c.pop_front-in-Some-2.new.self.items c.loop-pass.shares.items
+    c.in-Some-pop_front-2.ensures.items was.fit in
     let fewer = ap (length {A = Pass}) c.in-Some.ensures.items in
     let less = ap (length {A = Share}) c.in-Some-pop_front-2.ensures.items in
     let owned = ap (λ l. length l) c.in-Some-pop_front.ensures.items in
@@ -51,9 +57,11 @@ loop-pass-preserved c =
     let long = c.push_reserved.ensures.len in
     let kept = c.push_reserved.ensures.capacity in
     record {
-      passes = moved_in (λ (p : Worker). p.pass) workers more c.loop-pass.passes.items c.pop_front.new.self.items c.args.passes.items worker c.in-Some.pass pushed c.in-Some.ensures.items c.seat.ensures.pass was.passes;
+      passes = moved_in (λ (p : Worker). p.pass) workers more c.loop-pass.passes.items c.pop_front.new.self.items c.args.passes.items worker
+          c.in-Some.pass pushed c.in-Some.ensures.items c.seat.ensures.pass was.passes;
       work =
-          moved work_of work_in workers more c.loop-pass.shares.items c.pop_front-in-Some-2.new.self.items _ worker c.in-Some-pop_front-2.share pushed c.in-Some-pop_front-2.ensures.items c.seat.ensures.work was.work;
+          moved work_of work_in workers more c.loop-pass.shares.items c.pop_front-in-Some-2.new.self.items _ worker c.in-Some-pop_front-2.share pushed
+          c.in-Some-pop_front-2.ensures.items c.seat.ensures.work was.work;
       at = pushed_all (IsAt volume) workers more worker pushed was.at (c.seat.ensures.at ∙ owner.0);
       none = pushed_all HasPlayedNone workers more worker pushed was.none c.seat.ensures.none;
       ready = pass.1;

@@ -9,8 +9,10 @@ pub loop-collector-preserved : goal.loop-collector-preserved
 loop-collector-preserved g c = record {
   folded = λ rest folded.
       let back : List CollectorEnd = c.fold.result ∷ rest in
-      let one : HasFolded c.in-Some.collector c.fold.result = record { tally = c.fold.ensures.tally; view = c.fold.ensures.view; place = c.fold.ensures.place } in
-      let more : HaveFolded c.loop-collector.collectors.items back = subst (λ (xs : List Collector). HaveFolded xs back) (sym c.in-Some.ensures.items) (one, folded) in
+      let one : HasFolded c.in-Some.collector c.fold.result =
+      record { tally = c.fold.ensures.tally; view = c.fold.ensures.view; place = c.fold.ensures.place } in
+      let more : HaveFolded c.loop-collector.collectors.items back =
+      subst (λ (xs : List Collector). HaveFolded xs back) (sym c.in-Some.ensures.items) (one, folded) in
       rw (c.push_reserved.ensures.items, append_assoc) (c.loop-collector.invariant.folded back more);
   room =
       (let fewer = ap (length {A = Collector}) c.in-Some.ensures.items in
@@ -21,6 +23,7 @@ loop-collector-preserved g c = record {
 
 pub returns : goal.returns
 returns g c =
-    let none : c.loop-collector.collectors.items ≡ [] = nil_from_length c.loop-collector.collectors.items (sym c.loop-collector.collectors.ok.0 ∙ c.in_default.ensures.cases.0) in
+    let none : c.loop-collector.collectors.items ≡ [] =
+    nil_from_length c.loop-collector.collectors.items (sym c.loop-collector.collectors.ok.0 ∙ c.in_default.ensures.cases.0) in
     let rest : HaveFolded c.loop-collector.collectors.items [] = subst (λ (xs : List Collector). HaveFolded xs []) (sym none) tt in
     subst (HaveFolded c.args.collectors.items) (append-nil c.loop-collector.ends.items) (c.loop-collector.invariant.folded [] rest)

@@ -4,7 +4,10 @@ use Rattle.volume.proofs.FreshBrooms.{taken}
 use Rattle.workers.proofs.leaving.retire_brooms.Goals as goal
 
 pub retire_broom-requires : goal.retire_broom-requires
-retire_broom-requires c = (taken (IsBroomReady c.args.volume.now) c.in-Some.broom (into_iter_items c.next.new.self) (into_iter_items c.loop-broom.brooms) c.in-Some.ensures.cases.0 c.loop-broom.invariant).0
+retire_broom-requires c =
+    (taken (IsBroomReady c.args.volume.now) c.in-Some.broom (into_iter_items c.next.new.self)
+    (into_iter_items c.loop-broom.brooms) c.in-Some.ensures.cases.0 c.loop-broom.invariant).0
 
 pub loop-broom-preserved : goal.loop-broom-preserved
-loop-broom-preserved c = (taken (IsBroomReady c.args.volume.now) c.in-Some.broom (into_iter_items c.next.new.self) (into_iter_items c.loop-broom.brooms) c.in-Some.ensures.cases.0 c.loop-broom.invariant).1
+loop-broom-preserved c = (taken (IsBroomReady c.args.volume.now) c.in-Some.broom (into_iter_items c.next.new.self)
+    (into_iter_items c.loop-broom.brooms) c.in-Some.ensures.cases.0 c.loop-broom.invariant).1

@@ -12,18 +12,21 @@ meet_others-requires-2-clause-others c =
 
 pub returns-clause-all_met : goal.returns-clause-all_met
 returns-clause-all_met c =
-    workers_met c.args.volume.now c.args.workers.now c.in-Some.first.now c.meet_others.new.first c.meet_others-2.new.first c.in-Some.others.now c.meet_others.new.others c.meet_others-2.new.others
+    workers_met c.args.volume.now c.args.workers.now c.in-Some.first.now c.meet_others.new.first c.meet_others-2.new.first c.in-Some.others.now
+    c.meet_others.new.others c.meet_others-2.new.others
     c.in-Some.ensures.cases.0 c.requires.at c.requires.seated c.meet_others.ensures.told c.meet_others-2.ensures.told c.requires.all
     c.meet_others.ensures.first c.meet_others-2.ensures.first c.meet_others.ensures.others c.meet_others-2.ensures.others
 
 pub returns-clause-seated : goal.returns-clause-seated
 returns-clause-seated c =
-    workers_seated c.args.volume.now c.args.workers.now c.in-Some.first.now c.meet_others.new.first c.meet_others-2.new.first c.in-Some.others.now c.meet_others.new.others c.meet_others-2.new.others
+    workers_seated c.args.volume.now c.args.workers.now c.in-Some.first.now c.meet_others.new.first c.meet_others-2.new.first c.in-Some.others.now
+    c.meet_others.new.others c.meet_others-2.new.others
     c.in-Some.ensures.cases.0 c.requires.at c.requires.seated c.meet_others.ensures.told c.meet_others-2.ensures.told
 
 pub returns-clause-rest : goal.returns-clause-rest
 returns-clause-rest c =
-    rests_met c.args.volume.now c.args.workers.now c.in-Some.first.now c.meet_others.new.first c.meet_others-2.new.first c.in-Some.others.now c.meet_others.new.others c.meet_others-2.new.others
+    rests_met c.args.volume.now c.args.workers.now c.in-Some.first.now c.meet_others.new.first c.meet_others-2.new.first c.in-Some.others.now
+    c.meet_others.new.others c.meet_others-2.new.others
     c.in-Some.ensures.cases.0 c.requires.at c.requires.seated c.meet_others.ensures.told c.meet_others-2.ensures.told
     c.meet_others.ensures.first c.meet_others-2.ensures.first c.meet_others.ensures.others c.meet_others-2.ensures.others
 

@@ -22,10 +22,13 @@ loop-i-preserved g c =
     let page = c.play_line-answer.new.page in
     let next : Answer = record { kind = c.play_line-answer.result; page = with_items a.page page } in
     let has = c.loop-i.invariant.2 c.loop-i.i c.index-answers-i.result there in (
-      playing_lent c.args.volume.now c.args.patience c.args.pass.now c.loop-i.pass c.play_line-answer.new.pass c.args.lines.now c.loop-i.i answers a c.play_line-answer.result c.deref_mut.result.now page c.index-lines-i.result
-          c.loop-i.invariant.0 c.loop-i.invariant.1 c.loop-i-test.true c.index-lines-i.is c.play_line-answer.ensures.pass c.deref_mut.ensures.value c.play_line-answer.auto.page c.play_line-answer.ensures.told,
+      playing_lent c.args.volume.now c.args.patience c.args.pass.now c.loop-i.pass c.play_line-answer.new.pass c.args.lines.now c.loop-i.i answers a
+          c.play_line-answer.result c.deref_mut.result.now page c.index-lines-i.result
+          c.loop-i.invariant.0 c.loop-i.invariant.1 c.loop-i-test.true c.index-lines-i.is c.play_line-answer.ensures.pass c.deref_mut.ensures.value
+          c.play_line-answer.auto.page c.play_line-answer.ensures.told,
       length-set answers c.loop-i.i next ∙ c.loop-i.invariant.1,
-      All-set (HasPage (geometry_of (flash_of c.args.volume.now))) answers c.loop-i.i next (lent_page c.args.volume.now a c.deref_mut.result.now page c.deref_mut.ensures.value c.play_line-answer.auto.page has) c.loop-i.invariant.2,
+      All-set (HasPage (geometry_of (flash_of c.args.volume.now))) answers c.loop-i.i next
+          (lent_page c.args.volume.now a c.deref_mut.result.now page c.deref_mut.ensures.value c.play_line-answer.auto.page has) c.loop-i.invariant.2,
     )
 
 pub returns-clause-told : goal.returns-clause-told
@@ -35,4 +38,5 @@ returns-clause-told g c =
     let all : map said (take c.loop-i.i answers) ≡ map said answers = ap (map said) (take_all c.loop-i.i answers (omega (arith, c.loop-i.invariant.1))) in
     λ t role.
     subst (λ l. Played t c.args.patience (view_of c.args.pass.now) c.args.lines.now l (view_of c.loop-i.pass)) all
-    (playing_end c.args.volume.now c.args.patience c.args.pass.now c.loop-i.pass c.args.lines.now c.loop-i.i (map said (take c.loop-i.i answers)) c.loop-i.invariant.0 (omega arith) t role)
+    (playing_end c.args.volume.now c.args.patience c.args.pass.now c.loop-i.pass c.args.lines.now c.loop-i.i
+    (map said (take c.loop-i.i answers)) c.loop-i.invariant.0 (omega arith) t role)

@@ -9,4 +9,5 @@ use Rattle.workers.proofs.plays.play.Given as goal
 
 abbrev pub invariant-loop-i : goal.invariant-loop-i
 invariant-loop-i g l =
-    Playing l.volume l.patience l.fn.pass l.lines l.i l.pass (map said (take l.i l.answers)) × (length l.answers ≡ length l.lines) × All (HasPage (geometry_of (flash_of l.volume))) l.answers
+    Playing l.volume l.patience l.fn.pass l.lines l.i l.pass (map said (take l.i l.answers)) × (length l.answers ≡ length l.lines)
+    × All (HasPage (geometry_of (flash_of l.volume))) l.answers

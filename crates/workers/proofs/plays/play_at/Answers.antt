@@ -13,7 +13,11 @@ use Rattle.workers.proofs.Adding.{adding_none, adding_more, adding_end, all_answ
 use Rattle.workers.proofs.plays.play_at.Goals as goal
 
 pub loop-i-init : goal.loop-i-init
-loop-i-init g c = (adding_none c.args.volume.now c.args.patience c.args.pass.now (lines_at c.args.commands.now c.args.places.now) c.args.answers.now c.requires.pass, omega arith)
+loop-i-init g c = (
+  adding_none c.args.volume.now c.args.patience c.args.pass.now
+      (lines_at c.args.commands.now c.args.places.now) c.args.answers.now c.requires.pass,
+  omega arith,
+)
 
 pub play_line-kind-requires-clause-pass : goal.play_line-kind-requires-clause-pass
 play_line-kind-requires-clause-pass g c = c.loop-i.invariant.0.playing.ready
@@ -36,8 +40,10 @@ push-requires-clause-space g c =
     let told = c.play_line-kind in
     let at = line_there commands places c.loop-i.i line c.loop-i-test.true c.command-line.ensures.at in
     let low : c.loop-i.i < length (lines_at commands places) = (let low = c.loop-i-test.true in omega (arith, count_lines commands places)) in
-    let found = told_of_read c.args.patience c.loop-i.pass told.new.pass line.op line.sector line.page told.result told.new.page all.playing.ready.rested.pass.role told.ensures.told in
-    room_next c.args.volume.now c.args.patience c.args.pass.now c.loop-i.pass (lines_at commands places) c.args.answers.now c.loop-i.answers c.loop-i.i line told.result all low at c.requires.space found
+    let found = told_of_read c.args.patience c.loop-i.pass told.new.pass line.op line.sector line.page told.result told.new.page
+    all.playing.ready.rested.pass.role told.ensures.told in
+    room_next c.args.volume.now c.args.patience c.args.pass.now c.loop-i.pass
+    (lines_at commands places) c.args.answers.now c.loop-i.answers c.loop-i.i line told.result all low at c.requires.space found
 
 pub loop-i-preserved : goal.loop-i-preserved
 loop-i-preserved g c =
@@ -48,19 +54,24 @@ loop-i-preserved g c =
     let told = c.play_line-kind in
     let at = line_there commands places c.loop-i.i line c.loop-i-test.true c.command-line.ensures.at in
     let low : c.loop-i.i < length (lines_at commands places) = (let low = c.loop-i-test.true in omega (arith, count_lines commands places)) in
-    let found = told_of_read c.args.patience c.loop-i.pass told.new.pass line.op line.sector line.page told.result told.new.page all.playing.ready.rested.pass.role told.ensures.told in
-    let long : length told.new.page ≡ page_size_of c.loop-i.answers = told.auto.page ∙ (c.loop-i.auto.buffer ∙ (c.requires.buffer ∙ (sym c.requires.page ∙ sym all.page))) in (
-      adding_more c.args.volume.now c.args.patience c.args.pass.now c.loop-i.pass told.new.pass (lines_at commands places) c.args.answers.now c.loop-i.answers c.push.new.self c.loop-i.i line told.result told.new.page
+    let found = told_of_read c.args.patience c.loop-i.pass told.new.pass line.op line.sector line.page told.result told.new.page
+    all.playing.ready.rested.pass.role told.ensures.told in
+    let long : length told.new.page ≡ page_size_of c.loop-i.answers =
+    told.auto.page ∙ (c.loop-i.auto.buffer ∙ (c.requires.buffer ∙ (sym c.requires.page ∙ sym all.page))) in (
+      adding_more c.args.volume.now c.args.patience c.args.pass.now c.loop-i.pass told.new.pass
+          (lines_at commands places) c.args.answers.now c.loop-i.answers c.push.new.self c.loop-i.i line told.result told.new.page
           all low at told.ensures.pass found long told.ensures.told c.push.ensures.more c.push.ensures.page c.push.ensures.space,
       (let low = c.loop-i-test.true in omega arith),
     )
 
 pub returns-clause-told : goal.returns-clause-told
 returns-clause-told g c =
-    adding_end c.args.volume.now c.args.patience c.args.pass.now c.loop-i.pass c.args.commands.now c.args.places.now c.args.answers.now c.loop-i.answers c.loop-i.i c.loop-i.invariant.0
+    adding_end c.args.volume.now c.args.patience c.args.pass.now c.loop-i.pass c.args.commands.now c.args.places.now c.args.answers.now
+    c.loop-i.answers c.loop-i.i c.loop-i.invariant.0
     (let past = c.loop-i-test.false in omega arith) c.loop-i.invariant.1
 
 pub returns-clause-answered : goal.returns-clause-answered
 returns-clause-answered g c =
-    all_answered c.args.volume.now c.args.patience c.args.pass.now c.loop-i.pass c.args.commands.now c.args.places.now c.args.answers.now c.loop-i.answers c.loop-i.i c.loop-i.invariant.0
+    all_answered c.args.volume.now c.args.patience c.args.pass.now c.loop-i.pass c.args.commands.now c.args.places.now c.args.answers.now
+    c.loop-i.answers c.loop-i.i c.loop-i.invariant.0
     (let past = c.loop-i-test.false in omega arith) c.loop-i.invariant.1

@@ -17,16 +17,20 @@ returns-in-Read-clause-told g c t role =
     let w = view_of c.read_gated.new.pass in
     let line = c.args.line.now in
     let n : v.numbers.sectors ≡ sectors_of (geometry_of (flash_of c.args.volume.now)) = ap (λ (z : Numbers). z.sectors) c.requires.pass.rested.pass.numbers in
-    let answer = subst (λ k. Answers (held k w.seen line.sector) c.read_gated.result.got c.args.page.now c.read_gated.new.out) (sym n) c.read_gated.ensures.answer in
-    let played = read_line t c.args.patience v line.sector c.read_gated.result.tries line.page c.args.page.now c.read_gated.new.out c.read_gated.result.got c.found.result w c.read_gated.ensures.told answer c.found.ensures in
-    subst (λ (o : Op). PlayedLine t c.args.patience v o line.sector line.page c.found.result c.read_gated.new.out (is_full c.found.result) w) (sym c.in-Read.is) played
+    let answer = subst (λ k. Answers (held k w.seen line.sector) c.read_gated.result.got c.args.page.now c.read_gated.new.out)
+    (sym n) c.read_gated.ensures.answer in
+    let played = read_line t c.args.patience v line.sector c.read_gated.result.tries line.page c.args.page.now c.read_gated.new.out
+    c.read_gated.result.got c.found.result w c.read_gated.ensures.told answer c.found.ensures in
+    subst (λ (o : Op). PlayedLine t c.args.patience v o line.sector line.page c.found.result c.read_gated.new.out (is_full c.found.result) w)
+    (sym c.in-Read.is) played
 
 pub returns-in-Write-clause-told : goal.returns-in-Write-clause-told
 returns-in-Write-clause-told g c t role =
     let line = c.args.line.now in
     let kind = c.write_patiently.result in
     let bytes = c.copy_into.new.out in
-    let P : Op × List ℕ → Type 0 = λ x. PlayedLine t c.args.patience (view_of c.args.pass.now) x.0 line.sector x.1 kind bytes (is_full kind) (view_of c.write_patiently.new.pass) in
+    let P : Op × List ℕ → Type 0 =
+    λ x. PlayedLine t c.args.patience (view_of c.args.pass.now) x.0 line.sector x.1 kind bytes (is_full kind) (view_of c.write_patiently.new.pass) in
     subst P (λ i. (sym c.in-Write.is i, c.copy_into.ensures i)) (c.write_patiently.ensures.told t role)
 
 pub returns-in-New-clause-told : goal.returns-in-New-clause-told
@@ -34,12 +38,15 @@ returns-in-New-clause-told g c t role =
     let line = c.args.line.now in
     let kind = c.write_new_patiently.result in
     let bytes = c.copy_into-in-New.new.out in
-    let P : Op × List ℕ → Type 0 = λ x. PlayedLine t c.args.patience (view_of c.args.pass.now) x.0 line.sector x.1 kind bytes (is_full kind) (view_of c.write_new_patiently.new.pass) in
+    let P : Op × List ℕ → Type 0 =
+    λ x. PlayedLine t c.args.patience (view_of c.args.pass.now) x.0 line.sector x.1 kind bytes (is_full kind) (view_of c.write_new_patiently.new.pass) in
     subst P (λ i. (sym c.in-New.is i, c.copy_into-in-New.ensures i)) (c.write_new_patiently.ensures.told t role)
 
 pub returns-in-Trim-clause-told : goal.returns-in-Trim-clause-told
 returns-in-Trim-clause-told g c t role =
     let line = c.args.line.now in
     let kind = c.of_was.result in
-    let played = trim_line t c.args.patience (view_of c.args.pass.now) line.sector line.page c.args.page.now c.trim.result kind (view_of c.trim.new.pass) (c.trim.ensures.told t role) c.of_was.ensures in
-    subst (λ (o : Op). PlayedLine t c.args.patience (view_of c.args.pass.now) o line.sector line.page kind c.args.page.now (is_full kind) (view_of c.trim.new.pass)) (sym c.in-Trim.is) played
+    let played = trim_line t c.args.patience (view_of c.args.pass.now) line.sector line.page c.args.page.now c.trim.result kind
+    (view_of c.trim.new.pass) (c.trim.ensures.told t role) c.of_was.ensures in
+    subst (λ (o : Op). PlayedLine t c.args.patience (view_of c.args.pass.now) o line.sector line.page kind c.args.page.now (is_full kind)
+    (view_of c.trim.new.pass)) (sym c.in-Trim.is) played

@@ -10,16 +10,22 @@ pub returns-in-Ok-clause-told : goal.returns-in-Ok-clause-told
 returns-in-Ok-clause-told g c t role =
     let waited = c.loop-tried.invariant.1 in
     let now = ap (λ (v : View). v.role) waited.changed ∙ role in
-    write_line op.Write Write a_write t c.args.patience c.loop-tried.tried (view_of c.args.pass.now) (view_of c.loop-tried.pass) (view_of c.write_gated.new.pass) c.args.sector c.args.bytes.now c.args.bytes.now c.in-Ok.was c.of_was.result
+    write_line op.Write Write a_write t c.args.patience c.loop-tried.tried (view_of c.args.pass.now) (view_of c.loop-tried.pass)
+    (view_of c.write_gated.new.pass) c.args.sector c.args.bytes.now c.args.bytes.now c.in-Ok.was c.of_was.result
     c.loop-tried.pass.opened c.loop-tried.pass.owns c.loop-tried-test.true waited (c.in-Ok.ensures.wrote t now) c.of_was.ensures
 
 pub loop-tried-init : goal.loop-tried-init
 loop-tried-init g c = (c.requires.pass, waited_none (view_of c.args.pass.now), omega arith)
 
 pub loop-tried-preserved : goal.loop-tried-preserved
-loop-tried-preserved g c =
-    (c.write_gated.ensures.pass, waited_more c.loop-tried.tried (view_of c.args.pass.now) (view_of c.loop-tried.pass) (view_of c.write_gated.new.pass) c.loop-tried.invariant.1 c.in_default.ensures.refused, (let low = c.loop-tried-test.true in omega arith))
+loop-tried-preserved g c = (
+  c.write_gated.ensures.pass,
+  waited_more c.loop-tried.tried (view_of c.args.pass.now) (view_of c.loop-tried.pass)
+      (view_of c.write_gated.new.pass) c.loop-tried.invariant.1 c.in_default.ensures.refused,
+  (let low = c.loop-tried-test.true in omega arith),
+)
 
 pub returns-clause-told : goal.returns-clause-told
 returns-clause-told g c t role =
-    full_line op.Write Write a_write t c.args.patience c.loop-tried.tried (view_of c.args.pass.now) c.args.sector c.args.bytes.now c.args.bytes.now (view_of c.loop-tried.pass) (let past = c.loop-tried-test.false in let few = c.loop-tried.invariant.2 in omega arith) c.loop-tried.invariant.1
+    full_line op.Write Write a_write t c.args.patience c.loop-tried.tried (view_of c.args.pass.now) c.args.sector c.args.bytes.now c.args.bytes.now
+    (view_of c.loop-tried.pass) (let past = c.loop-tried-test.false in let few = c.loop-tried.invariant.2 in omega arith) c.loop-tried.invariant.1

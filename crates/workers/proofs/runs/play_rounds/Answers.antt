@@ -21,7 +21,8 @@ loop-i-preserved g c =
     let here = c.loop-i.team.workers.items in
     let back = c.in_ok-team.team.workers.items in
     let on : suc i ≡ i + 1 = omega arith in
-    let split : drop i ends ≡ get_or ends i 0 ∷ drop (i + 1) ends = subst (λ k. drop i ends ≡ get_or ends i 0 ∷ drop k ends) on (drop-cons ends i 0 c.loop-i-test.true) in
+    let split : drop i ends ≡ get_or ends i 0 ∷ drop (i + 1) ends =
+    subst (λ k. drop i ends ≡ get_or ends i 0 ∷ drop k ends) on (drop-cons ends i 0 c.loop-i-test.true) in
     record {
       manned = c.in_ok-team.ensures.manned;
       gates =
@@ -29,9 +30,11 @@ loop-i-preserved g c =
           let collectors = collected_long c.loop-i.team.collectors.items c.in_ok-team.team.collectors.items c.in_ok-team.ensures.collected in
           let gates = c.loop-i.invariant.gates in omega arith);
       run = λ trace begun.
-          state_next volume c.args.patience trace c.args.team.workers.items (get_or ends i 0) (drop (i + 1) ends) here back c.loop-i.invariant.manned c.in_ok-team.ensures.played
+          state_next volume c.args.patience trace c.args.team.workers.items (get_or ends i 0)
+          (drop (i + 1) ends) here back c.loop-i.invariant.manned c.in_ok-team.ensures.played
           (subst (λ l. RunState volume c.args.patience trace c.args.team.workers.items l here) split (c.loop-i.invariant.run trace begun));
-      collected = all_collected_then c.args.team.collectors.items c.loop-i.team.collectors.items c.in_ok-team.team.collectors.items c.loop-i.invariant.collected c.in_ok-team.ensures.collected;
+      collected = all_collected_then c.args.team.collectors.items c.loop-i.team.collectors.items c.in_ok-team.team.collectors.items
+          c.loop-i.invariant.collected c.in_ok-team.ensures.collected;
     }
 
 pub returns-clause-run : goal.returns-clause-run
@@ -39,4 +42,5 @@ returns-clause-run g c trace begun =
     let ends = c.args.ends.now in
     let past = c.loop-i-test.false in
     state_ends c.args.volume.now c.args.patience trace c.args.team.workers.items c.loop-i.team.workers.items c.loop-i.invariant.manned
-    (subst (λ l. RunState c.args.volume.now c.args.patience trace c.args.team.workers.items l c.loop-i.team.workers.items) (drop_all c.loop-i.i ends past) (c.loop-i.invariant.run trace begun))
+    (subst (λ l. RunState c.args.volume.now c.args.patience trace c.args.team.workers.items l c.loop-i.team.workers.items)
+    (drop_all c.loop-i.i ends past) (c.loop-i.invariant.run trace begun))

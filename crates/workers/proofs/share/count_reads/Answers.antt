@@ -1,4 +1,5 @@
-use Rattle.std.proofs.Common.{◌≡◌, ℕ, suc, ◌+◌, ◌*◌, ◌<◌, ◌≤◌, ◌++◌, [], ◌∷◌, Bool, true, false, List, get_or, length, map, take, sym, refl, ap, ◌∙◌, subst, arith, add-zero, mul-suc}
+use Rattle.std.proofs.Common.{◌≡◌, ℕ, suc, ◌+◌, ◌*◌, ◌<◌, ◌≤◌, ◌++◌, [], ◌∷◌, Bool, true, false, List, get_or, length}
+use Rattle.std.proofs.Common.{map, take, sym, refl, ap, ◌∙◌, subst, arith, add-zero, mul-suc}
 use Rattle.std.proofs.lemmas.List.{map_push, take_more}
 use Rattle.std.proofs.lemmas.Option.{get_or_from_slice_get}
 use Rattle.trace.specs.declared.commands.Command.{Command}
@@ -11,7 +12,8 @@ use Rattle.workers.proofs.share.count_reads.Goals as goal
 use Rattle.workers.proofs.share.count_reads.Goals.{in-Read, in_default}
 
 -- the lines at one place more
-lines_more : (cs : List Command) (places : List ℕ) (i : ℕ) → i < length places → lines_at cs (take (i + 1) places) ≡ lines_at cs (take i places) ++ get_or cs (get_or places i 0) no_line ∷ []
+lines_more : (cs : List Command) (places : List ℕ) (i : ℕ) → i < length places
+    → lines_at cs (take (i + 1) places) ≡ lines_at cs (take i places) ++ get_or cs (get_or places i 0) no_line ∷ []
 lines_more cs places i low =
     let line : ℕ → Command = λ p. get_or cs p no_line in
     ap (lines_at cs) (take_more places i 0 low) ∙ map_push line (take i places) (get_or places i 0)
@@ -41,6 +43,16 @@ loop-place-preserved c =
     let few = c.loop-place.invariant.1 in
     let next : suc c.loop-place.reads ≡ c.loop-place.reads + 1 = omega arith in
     elim c.match-command.branch [
-      | in-Read w ↦ (λ n. all n ∙ (ap (λ o. n * c.loop-place.reads + space_for n o) w.in-Read.is ∙ (sym (mul-suc n c.loop-place.reads) ∙ ap (λ k. n * k) (next ∙ sym w.reads-is))), (let is = w.reads-is in omega arith))
-      | in_default w ↦ (λ n. all n ∙ (ap (λ k. n * c.loop-place.reads + k) (not_read n command.op w.in_default.not-Read) ∙ (add-zero (n * c.loop-place.reads) ∙ ap (λ k. n * k) (sym w.reads-is))), (let is = w.reads-is in omega arith))
+      | in-Read w ↦ (
+        λ n. all n
+            ∙ (ap (λ o. n * c.loop-place.reads + space_for n o) w.in-Read.is
+            ∙ (sym (mul-suc n c.loop-place.reads) ∙ ap (λ k. n * k) (next ∙ sym w.reads-is))),
+        (let is = w.reads-is in omega arith),
+      )
+      | in_default w ↦ (
+        λ n. all n
+            ∙ (ap (λ k. n * c.loop-place.reads + k) (not_read n command.op w.in_default.not-Read)
+            ∙ (add-zero (n * c.loop-place.reads) ∙ ap (λ k. n * k) (sym w.reads-is))),
+        (let is = w.reads-is in omega arith),
+      )
     ]

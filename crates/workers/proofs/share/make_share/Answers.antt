@@ -21,7 +21,8 @@ returns-clause-fit c =
     let long : c.len.result ≡ length (lines_at cs places) =
     (let len = c.len.ensures in let ok = c.args.places.ok.0 in let count = count_lines cs places in omega arith) in
     let space : space_of (page_size_of answers) (lines_at cs places) ≡ page_size_of answers * reads =
-    subst (λ (x : List Command × List ℕ). space_of (page_size_of answers) (lines_at x.0 x.1) ≡ page_size_of answers * reads) (λ i. (c.deref.ensures i, c.deref-2.ensures.value i))
+    subst (λ (x : List Command × List ℕ). space_of (page_size_of answers) (lines_at x.0 x.1) ≡ page_size_of answers * reads)
+    (λ i. (c.deref.ensures i, c.deref-2.ensures.value i))
     (c.count_reads-reads.ensures (page_size_of answers)) in
     let bytes = ap (λ (n : ℕ). n * reads) (sym new.page) ∙ sym space in
     subst (λ (lines : List Command). IsFit c.args.geometry.now lines places answers c.in_ok-vec.field-0.items) (sym c.in_ok-try_clone.ensures)

@@ -21,13 +21,15 @@ loop-row-init c =
       work = (λ i. map work_in (none i) ++ map (with_commands cs) (rows i));
       fit = subst (All (HasFitShare geo)) (sym none) (All-nil (HasFitShare geo));
       doable = subst (All (λ row. AreDoable geo cs (items_of row))) (sym rows) c.requires;
-      room = (let long = c.in_ok-shares.ensures.len in let cap = c.in_ok-shares.ensures.capacity in let n = ap (length {A = Vec ℕ Global}) rows in let m = c.len.ensures in let r = c.args.rows.ok.0 in omega arith);
+      room = (let long = c.in_ok-shares.ensures.len in let cap = c.in_ok-shares.ensures.capacity in let n = ap (length {A = Vec ℕ Global}) rows in
+          let m = c.len.ensures in let r = c.args.rows.ok.0 in omega arith);
     }
 
 pub make_share-requires : goal.make_share-requires
 make_share-requires c =
     let cs = arc_value c.args.commands.now in
-    (taken (λ row. AreDoable c.args.geometry.now cs (items_of row)) c.in-Some.row c.pop_front.new.self.items c.loop-row.rows.items c.in-Some.ensures.items c.loop-row.invariant.doable).0
+    (taken (λ row. AreDoable c.args.geometry.now cs (items_of row)) c.in-Some.row c.pop_front.new.self.items c.loop-row.rows.items
+    c.in-Some.ensures.items c.loop-row.invariant.doable).0
 
 pub loop-row-preserved : goal.loop-row-preserved
 loop-row-preserved c =
@@ -44,7 +46,8 @@ loop-row-preserved c =
     let long = c.push_reserved.ensures.len in
     let kept = c.push_reserved.ensures.capacity in
     record {
-      work = moved work_in (with_commands cs) shares more c.loop-row.rows.items c.pop_front.new.self.items _ share c.in-Some.row pushed popped c.in_ok-make_share.ensures.work was.work;
+      work = moved work_in (with_commands cs) shares more c.loop-row.rows.items c.pop_front.new.self.items _ share c.in-Some.row pushed popped
+          c.in_ok-make_share.ensures.work was.work;
       fit = pushed_all (HasFitShare geo) shares more share pushed was.fit c.in_ok-make_share.ensures.fit;
       doable = (taken (λ row. AreDoable geo cs (items_of row)) c.in-Some.row c.pop_front.new.self.items c.loop-row.rows.items popped was.doable).1;
       room = omega arith;

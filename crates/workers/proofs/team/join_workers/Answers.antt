@@ -10,7 +10,8 @@ returns-clause-played g c = λ first.
     let n = c.args.limits in
     let none : c.loop-task.tasks.items ≡ [] = nil_from_length c.loop-task.tasks.items (sym c.loop-task.tasks.ok.0 ∙ c.in_default.ensures.cases.0) in
     let rest : WerePlayed (map (asked n) c.loop-task.tasks.items) [] = subst (λ (xs : List Task). WerePlayed (map (asked n) xs) []) (sym none) tt in
-    subst (λ (xs : List Worker). WerePlayed (map (asked n) c.args.tasks.now.items) xs) (append-nil c.loop-task.workers.items) (c.loop-task.invariant.played first [] rest)
+    subst (λ (xs : List Worker). WerePlayed (map (asked n) c.args.tasks.now.items) xs) (append-nil c.loop-task.workers.items)
+    (c.loop-task.invariant.played first [] rest)
 
 pub loop-task-init : goal.loop-task-init
 loop-task-init g c = record {
@@ -27,7 +28,8 @@ loop-task-preserved g c = record {
   played = λ first rest played.
       let asks = map (asked c.args.limits) in
       let back : List Worker = c.join_worker.result ∷ rest in
-      let more : WerePlayed (asks c.loop-task.tasks.items) back = subst (λ (xs : List Task). WerePlayed (asks xs) back) (sym c.in-Some.ensures.items) (c.join_worker.ensures, played) in
+      let more : WerePlayed (asks c.loop-task.tasks.items) back =
+      subst (λ (xs : List Task). WerePlayed (asks xs) back) (sym c.in-Some.ensures.items) (c.join_worker.ensures, played) in
       rw (c.push_back_reserved.ensures.items, append_assoc) (c.loop-task.invariant.played first back more);
   joined = omega (arith, c.in-Some.ensures.len);
   from_room = c.pop_front.ensures.capacity ∙ c.loop-task.invariant.from_room;

@@ -22,7 +22,8 @@ row c =
     let same : length c.deref_mut.result.now ≡ length c.args.passes.items = ap (length {A = Pass}) c.deref_mut.ensures.value in
     let kept = c.in-Ok.ensures.looked.long in
     let whole : c.args.passes.len ≡ length c.gather.new.passes = omega arith in
-    sym (ap (λ n. take n (c.gather.new.passes ++ drop (length c.gather.new.passes) c.args.passes.items)) whole ∙ take-append_seam c.gather.new.passes (drop (length c.gather.new.passes) c.args.passes.items))
+    sym (ap (λ n. take n (c.gather.new.passes ++ drop (length c.gather.new.passes) c.args.passes.items)) whole
+    ∙ take-append_seam c.gather.new.passes (drop (length c.gather.new.passes) c.args.passes.items))
     ∙ (sym c.into_iter-passes.ensures.rest ∙ c.in-Some.ensures.cases.0)
 
 pub gather-requires-clause-some : goal.gather-requires-clause-some
@@ -52,10 +53,13 @@ returns-in_default-clause-ready c =
     subst (All (IsReady (flash_of c.args.self))) (sym back) c.gather.ensures.passes
 
 pub retire-first-requires : goal.retire-first-requires
-retire-first-requires c = (taken (IsReady (flash_of c.args.self)) c.in-Some.first (into_iter_items c.next.new.self) c.gather.new.passes (row (goal.at.retire-first-requires c).In-Some) c.gather.ensures.passes).0
+retire-first-requires c =
+    (taken (IsReady (flash_of c.args.self)) c.in-Some.first (into_iter_items c.next.new.self) c.gather.new.passes
+    (row (goal.at.retire-first-requires c).In-Some) c.gather.ensures.passes).0
 
 pub retire_all-requires : goal.retire_all-requires
-retire_all-requires c = (taken (IsReady (flash_of c.args.self)) c.in-Some.first (into_iter_items c.next.new.self) c.gather.new.passes (row (goal.at.retire_all-requires c).In-Some) c.gather.ensures.passes).1
+retire_all-requires c = (taken (IsReady (flash_of c.args.self)) c.in-Some.first (into_iter_items c.next.new.self) c.gather.new.passes
+    (row (goal.at.retire_all-requires c).In-Some) c.gather.ensures.passes).1
 
 -- what it has seen stays as it is given up
 seen_is : (c : After-retire-first) → (view_of c.in-Some.first).seen ≡ (retired_view c.retire-first.result).seen
@@ -76,11 +80,13 @@ returns-clause-one_history c =
     let f = flash_of c.args.self in
     let at = (goal.at.returns-clause-one_history c).After-retire-first in
     let told = c.in-Ok.ensures.one_history c.in-Some.first (first_is (goal.at.After-retire-first at).In-Some) in
-    subst (λ (x : List Pass × List Call). AreAll (hosts_of (geometry_of f)) x.0 → AreFinal (device f) x.0 x.1 (array_of c.in-Ok.sectors.items)) (λ i. (c.deref_mut.ensures.value i, seen_is at i)) told
+    subst (λ (x : List Pass × List Call). AreAll (hosts_of (geometry_of f)) x.0 → AreFinal (device f) x.0 x.1 (array_of c.in-Ok.sectors.items))
+    (λ i. (c.deref_mut.ensures.value i, seen_is at i)) told
 
 pub returns-clause-first : goal.returns-clause-first
 returns-clause-first c p is =
     let at = (goal.at.returns-clause-first c).After-retire-first in
     let now = first_is (goal.at.After-retire-first at).In-Some in
     let old = ap (λ (l : List Pass). slice_get l 0) c.deref_mut.ensures.value ∙ is in
-    has_left (view_of p) (view_of c.in-Some.first) (retired_view c.retire-first.result) c.in-Some.first.opened c.in-Some.first.owns (c.in-Ok.ensures.looked.each 0 p c.in-Some.first old now) c.retire-first.ensures
+    has_left (view_of p) (view_of c.in-Some.first) (retired_view c.retire-first.result) c.in-Some.first.opened c.in-Some.first.owns
+    (c.in-Ok.ensures.looked.each 0 p c.in-Some.first old now) c.retire-first.ensures

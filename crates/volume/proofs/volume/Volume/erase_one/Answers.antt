@@ -6,4 +6,5 @@ pub returns-clause-told : goal.returns-clause-told
 returns-clause-told g c = search rules
 
 pub returns-clause-array : goal.returns-clause-array
-returns-clause-array g c = erased_one _ c.args.broom.now c.erase_one.new.broom c.erase_one.result c.erase_one.ensures.told c.erase_one.ensures.ready.rested.callers
+returns-clause-array g c =
+    erased_one _ c.args.broom.now c.erase_one.new.broom c.erase_one.result c.erase_one.ensures.told c.erase_one.ensures.ready.rested.callers

@@ -8,4 +8,5 @@ use Rattle.volume.proofs.volume.Volume.fold.Goals as goal
 pub returns-clause-array : goal.returns-clause-array
 returns-clause-array g c =
     let is = c.fold.ensures.view in
-    given_up (view_of_broom c.args.broom) (folded_view c.fold.result) (ap (λ (x : View). x.seen) is) (ap (λ (x : View). x.mine) is) (ap (λ (x : View). x.numbers) is) c.requires.ready.rested.callers
+    given_up (view_of_broom c.args.broom) (folded_view c.fold.result) (ap (λ (x : View). x.seen) is) (ap (λ (x : View). x.mine) is)
+    (ap (λ (x : View). x.numbers) is) c.requires.ready.rested.callers

@@ -3,4 +3,6 @@ use Rattle.volume.proofs.Answered.{writes_new}
 use Rattle.volume.proofs.volume.Volume.write_new_gated.Goals as goal
 
 pub returns-clause-correct : goal.returns-clause-correct
-returns-clause-correct g c = writes_new c.args.self.now.flash c.args.pass.now c.write_new_gated.new.pass c.args.sector c.args.bytes.now (was_found c.write_new_gated.result) c.requires.pass c.write_new_gated.ensures.pass c.write_new_gated.ensures.wrote
+returns-clause-correct g c =
+    writes_new c.args.self.now.flash c.args.pass.now c.write_new_gated.new.pass c.args.sector c.args.bytes.now
+    (was_found c.write_new_gated.result) c.requires.pass c.write_new_gated.ensures.pass c.write_new_gated.ensures.wrote

@@ -27,5 +27,6 @@ returns g c =
     c.pages-pages.ensures.value ∙ (ap pages_of c.geometry.ensures ∙ ap (λ (v : Volume). pages_of (geometry_of (flash_of v))) c.deref.ensures) in
     let same : (view_of_broom self.broom).numbers.pages ≡ pages = ap (λ (z : Numbers). z.pages) self.ready.ready.rested.seat.numbers ∙ sym device in
     let count : programmed ≡ _ = c.saturating_sub-programmed.ensures ∙ (λ i. c.room-room.ensures i - c.room.ensures i) in
-    let grows = subst (λ (n : ℕ). GrowsBy n (view_of_broom self.broom).programs (view_of_broom broom).programs) (sym count) (next_fills (limit_at self) pages self.broom broom given same told) in
+    let grows = subst (λ (n : ℕ). GrowsBy n (view_of_broom self.broom).programs (view_of_broom broom).programs) (sym count)
+    (next_fills (limit_at self) pages self.broom broom given same told) in
     (programmed, collected_one self _ (by.DrainNext given programmed) refl refl (told, grows) c.with_answer-self.ensures)

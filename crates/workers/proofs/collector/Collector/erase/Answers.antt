@@ -13,4 +13,6 @@ returns g c =
     let self = c.args.self.now in
     let answer = by.Erase c.erase_one-erase.result in
     let broom = c.erase_one-erase.new.broom in
-    collected_one self _ answer refl refl (subst (λ (v : Volume). CallTold (limit_of (queue_of v)) self.broom answer broom) c.deref.ensures c.erase_one-erase.ensures.told) c.with_answer-self.ensures
+    collected_one self _ answer refl refl
+    (subst (λ (v : Volume). CallTold (limit_of (queue_of v)) self.broom answer broom) c.deref.ensures c.erase_one-erase.ensures.told)
+    c.with_answer-self.ensures

@@ -26,10 +26,12 @@ past-to-requires g c =
     subst P (λ i. (sym c.deref.ensures.value i, sym c.len-answered.ensures i)) c.args.self.able.within
 
 -- the places that are played are those of the round
-places_are : (g : Over) (c : After-deref-4 g) → slice_range c.deref-4.result.now c.len-answered.result c.past-to.result ≡ round_places c.args.limits.end c.args.self
+places_are : (g : Over) (c : After-deref-4 g)
+    → slice_range c.deref-4.result.now c.len-answered.result c.past-to.result ≡ round_places c.args.limits.end c.args.self
 places_are g c =
     let past = c.past-to.ensures in
-    range_is c.args.limits.end c.args.self c.deref.result.now c.deref-4.result.now c.len-answered.result c.past-to.result c.deref.ensures.value c.deref-4.ensures.value c.len-answered.ensures past.later past.within past.before past.behind
+    range_is c.args.limits.end c.args.self c.deref.result.now c.deref-4.result.now c.len-answered.result c.past-to.result c.deref.ensures.value
+    c.deref-4.ensures.value c.len-answered.ensures past.later past.within past.before past.behind
 
 pub play_at-requires-clause-pass : goal.play_at-requires-clause-pass
 play_at-requires-clause-pass g c =
@@ -57,7 +59,8 @@ play_at-requires-clause-lines g c =
     let worker = c.args.self in
     let same = places_are g (goal.at.play_at-requires-clause-lines g c).After-deref-4 in
     let P : Volume × List Command × List ℕ → Type 0 = λ x. All (IsLine (geometry_of (flash_of x.0))) (lines_at x.1 x.2) in
-    subst P (λ i. (sym c.deref-2.ensures i, sym c.deref-3.ensures i, sym same i)) (round_all c.args.limits.end worker (IsLine (geometry_of (flash_of (arc_value worker.volume)))) worker.able.doable)
+    subst P (λ i. (sym c.deref-2.ensures i, sym c.deref-3.ensures i, sym same i))
+    (round_all c.args.limits.end worker (IsLine (geometry_of (flash_of (arc_value worker.volume)))) worker.able.doable)
 
 pub play_at-requires-clause-space : goal.play_at-requires-clause-space
 play_at-requires-clause-space g c =
@@ -72,8 +75,10 @@ invariant_of-p g c =
     let new = c.play_at.new in
     let same = places_are g (goal.at.invariant_of-p g c).After-deref-4 in
     let P : List Command × List ℕ → Type 0 = λ x. HasAnswered (lines_at x.0 x.1) worker.answers new.answers in
-    let told : HasAnswered (round_lines c.args.limits.end worker) worker.answers new.answers = subst P (λ i. (c.deref-3.ensures i, same i)) c.play_at.ensures.answered in
-    let ready : IsReady (flash_of (arc_value worker.volume)) new.pass = subst (λ (v : Volume). IsReady (flash_of v) new.pass) c.deref-2.ensures c.play_at.ensures.pass in
+    let told : HasAnswered (round_lines c.args.limits.end worker) worker.answers new.answers =
+    subst P (λ i. (c.deref-3.ensures i, same i)) c.play_at.ensures.answered in
+    let ready : IsReady (flash_of (arc_value worker.volume)) new.pass =
+    subst (λ (v : Volume). IsReady (flash_of v) new.pass) c.deref-2.ensures c.play_at.ensures.pass in
     let lent = c.play_at.auto.buffer ∙ ap (λ (l : List ℕ). length l) c.deref_mut.ensures.value in
     let long = ap (λ (l : List ℕ). length l) (with_items_is worker.buffer new.buffer (lent ∙ sym worker.buffer.ok.0)) ∙ lent in
     record { able = able_again c.args.limits.end worker new.pass new.answers (with_items worker.buffer new.buffer).items ready told long }
@@ -84,7 +89,8 @@ returns g c =
     let new = c.play_at.new in
     let same = places_are g (goal.at.returns g c).After-deref-4 in
     let P : List Command × List ℕ → Type 0 = λ x. HasAnswered (lines_at x.0 x.1) worker.answers new.answers in
-    let Q : ℕ → List Command × List ℕ → Type 0 = λ t x. Played t c.args.limits.patience (view_of worker.pass) (lines_at x.0 x.1) (added worker.answers new.answers) (view_of new.pass) in
+    let Q : ℕ → List Command × List ℕ → Type 0 =
+    λ t x. Played t c.args.limits.patience (view_of worker.pass) (lines_at x.0 x.1) (added worker.answers new.answers) (view_of new.pass) in
     record {
       volume = refl {A = Volume};
       commands = refl {A = List Command};
