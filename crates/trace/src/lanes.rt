@@ -9,7 +9,7 @@ use std::simd::prelude::*;
 /// How many bytes are compared at once.
 pub(crate) const LANES: usize = 16;
 
-/// How many bytes of a long row of digits are looked at before it is asked whether one of them is no digit.
+/// How many bytes of a long row of digits are compared in one step of a loop.
 pub(crate) const WIDE: usize = 4 * LANES;
 
 // The place of the lowest bit that is set.

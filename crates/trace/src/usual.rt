@@ -65,8 +65,8 @@ fn line_start(text: &[u8], at: usize) -> usize
     if has(text, at, b'\n') { at + 1 } else { at }
 }
 
-// The number that begins here, if it is below the bound and a comma ends it. A number near the end of the text is not
-// usual, so that the loop has always the same steps, which the compiler writes out.
+// The number that begins here, if it is below the bound and a comma ends it. A number near the end of the text isn't
+// usual: so the loop has a constant length, and the compiler unrolls it.
 #[inline(always)]
 fn usual_number(text: &[u8], start: usize, bound: u32) -> Option<Number>
     requires { start ≤ length text.now }
