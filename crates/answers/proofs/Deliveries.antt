@@ -27,7 +27,8 @@ pub IsUnderWay-start : (known : Option (List ℕ)) (text : List ℕ) → IsUnder
 IsUnderWay-start known text = record { sent = []; out = Appends-nothing known; whole = refl }
 
 -- the next bytes of what waits went out
-pub IsUnderWay-take : (old new newer : Option (List ℕ)) (waiting text : List ℕ) (n : ℕ) → IsUnderWay old new waiting text → Appends new newer (take n waiting) → IsUnderWay old newer (drop n waiting) text
+pub IsUnderWay-take : (old new newer : Option (List ℕ)) (waiting text : List ℕ) (n : ℕ) → IsUnderWay old new waiting text
+    → Appends new newer (take n waiting) → IsUnderWay old newer (drop n waiting) text
 IsUnderWay-take old new newer waiting text n u next =
     record {
       sent = u.sent ++ take n waiting;
@@ -36,7 +37,8 @@ IsUnderWay-take old new newer waiting text n u next =
     }
 
 -- all that waited went out
-pub IsUnderWay-sent : (old new newer : Option (List ℕ)) (waiting text : List ℕ) → IsUnderWay old new waiting text → Appends new newer waiting → IsUnderWay old newer [] text
+pub IsUnderWay-sent : (old new newer : Option (List ℕ)) (waiting text : List ℕ) → IsUnderWay old new waiting text → Appends new newer waiting
+    → IsUnderWay old newer [] text
 IsUnderWay-sent old new newer waiting text u next =
     record {
       sent = u.sent ++ waiting;
@@ -45,7 +47,8 @@ IsUnderWay-sent old new newer waiting text u next =
     }
 
 -- the text grew by what waits last
-pub IsUnderWay-more : (old new : Option (List ℕ)) (waiting text more : List ℕ) → IsUnderWay old new waiting text → IsUnderWay old new (waiting ++ more) (text ++ more)
+pub IsUnderWay-more : (old new : Option (List ℕ)) (waiting text more : List ℕ) → IsUnderWay old new waiting text
+    → IsUnderWay old new (waiting ++ more) (text ++ more)
 IsUnderWay-more old new waiting text more u =
     record {
       sent = u.sent;
@@ -60,12 +63,14 @@ Appends-whole old new text u =
     subst (Appends old new) e u.out
 
 -- what is out is a beginning
-pub AppendsBeginning-so_far : (old new newer : Option (List ℕ)) (waiting text : List ℕ) → IsUnderWay old new waiting text → Keeps new newer → AppendsBeginning old newer text
+pub AppendsBeginning-so_far : (old new newer : Option (List ℕ)) (waiting text : List ℕ) → IsUnderWay old new waiting text → Keeps new newer
+    → AppendsBeginning old newer text
 AppendsBeginning-so_far old new newer waiting text u kept =
     record { sent = u.sent; out = Appends-kept old new newer u.sent u.out kept; beginning = (waiting, u.whole) }
 
 -- and so is what is out when a piece of what waits went out
-pub AppendsBeginning-part : (old new newer : Option (List ℕ)) (waiting text whole : List ℕ) → IsUnderWay old new waiting text → AppendsBeginning new newer waiting → Begins text whole → AppendsBeginning old newer whole
+pub AppendsBeginning-part : (old new newer : Option (List ℕ)) (waiting text whole : List ℕ) → IsUnderWay old new waiting text
+    → AppendsBeginning new newer waiting → Begins text whole → AppendsBeginning old newer whole
 AppendsBeginning-part old new newer waiting text whole u part begins =
     record {
       sent = u.sent ++ part.sent;
@@ -79,7 +84,8 @@ AppendsBeginning-part old new newer waiting text whole u part begins =
     }
 
 -- one stretch after another
-pub IsUnderWay-trans : (a b c : Option (List ℕ)) (later waiting text : List ℕ) → IsUnderWay a b waiting text → IsUnderWay b c later waiting → IsUnderWay a c later text
+pub IsUnderWay-trans : (a b c : Option (List ℕ)) (later waiting text : List ℕ) → IsUnderWay a b waiting text → IsUnderWay b c later waiting
+    → IsUnderWay a c later text
 IsUnderWay-trans a b c later waiting text u v =
     record {
       sent = u.sent ++ v.sent;

@@ -1,8 +1,10 @@
 -- Digits of sixteen values at once.
-use Rattle.std.proofs.Common.{◌≡◌, ℕ, suc, ◌+◌, ◌-◌, ◌*◌, ◌/◌, ◌%◌, ◌^◌, ◌<◌, ◌≤◌, List, [], ◌∷◌, ◌++◌, map, length, slice_index, take, drop, replicate, bit_and, refl, sym, ap, ap₂, ◌∙◌, subst, arith, take-add, w8, Fits}
+use Rattle.std.proofs.Common.{◌≡◌, ℕ, suc, ◌+◌, ◌-◌, ◌*◌, ◌/◌, ◌%◌, ◌^◌, ◌<◌, ◌≤◌, List, [], ◌∷◌, ◌++◌, map, length, slice_index, take}
+use Rattle.std.proofs.Common.{drop, replicate, bit_and, refl, sym, ap, ap₂, ◌∙◌, subst, arith, take-add, w8, Fits}
 use Rattle.std.proofs.lemmas.List.{append_assoc, append-nil, drop_all, length-drop, take-append-drop}
 use Rattle.std.proofs.lemmas.Nat.{and_mask, and_le_r}
-use Rattle.std.proofs.lemmas.Simd.{Each1-all, Each1-weaker, Each1-zip2, Each2-splat, below_from_Fits, get_or-swz_l_below, pick_l_whole, swz_l, take_more_put_chunk, length-put_chunk}
+use Rattle.std.proofs.lemmas.Simd.{Each1-all, Each1-weaker, Each1-zip2, Each2-splat, below_from_Fits, get_or-swz_l_below}
+use Rattle.std.proofs.lemmas.Simd.{pick_l_whole, swz_l, take_more_put_chunk, length-put_chunk}
 use Rattle.std.specs.List.{range_with_len}
 use borrow.Rule.Slice.PartMut.{put_mid}
 use lib.Lanes.{zip2, pick_l, put_chunk, chunk, Each1}
@@ -48,7 +50,8 @@ low_is (x ∷ xs) = ap₂ (λ (d : ℕ) (ds : List ℕ). d ∷ ds) (ap digit_of 
 -- the lanes of two vectors in turns
 abbrev pub woven : List ℕ → List ℕ
 woven xs =
-    pick_l 0 xs (0 ∷ 16 ∷ 1 ∷ 17 ∷ 2 ∷ 18 ∷ 3 ∷ 19 ∷ 4 ∷ 20 ∷ 5 ∷ 21 ∷ 6 ∷ 22 ∷ 7 ∷ 23 ∷ 8 ∷ 24 ∷ 9 ∷ 25 ∷ 10 ∷ 26 ∷ 11 ∷ 27 ∷ 12 ∷ 28 ∷ 13 ∷ 29 ∷ 14 ∷ 30 ∷ 15 ∷ 31 ∷ [])
+    pick_l 0 xs
+    (0 ∷ 16 ∷ 1 ∷ 17 ∷ 2 ∷ 18 ∷ 3 ∷ 19 ∷ 4 ∷ 20 ∷ 5 ∷ 21 ∷ 6 ∷ 22 ∷ 7 ∷ 23 ∷ 8 ∷ 24 ∷ 9 ∷ 25 ∷ 10 ∷ 26 ∷ 11 ∷ 27 ∷ 12 ∷ 28 ∷ 13 ∷ 29 ∷ 14 ∷ 30 ∷ 15 ∷ 31 ∷ [])
 
 abbrev sixteen : List ℕ → List ℕ
 sixteen v = pick_l 0 v (range_with_len 0 16)
@@ -58,7 +61,8 @@ unfolding encode_with
 woven_sixteen v = refl
 
 -- the digits of sixteen bytes, the high ones and the low ones in turns
-pub woven_is : (v high low : List ℕ) → length v ≡ 16 → high ≡ map digit_of (zip2 down v (replicate 16 4)) → low ≡ map digit_of (zip2 bit_and v (replicate 16 15))
+pub woven_is : (v high low : List ℕ) → length v ≡ 16 → high ≡ map digit_of (zip2 down v (replicate 16 4))
+    → low ≡ map digit_of (zip2 bit_and v (replicate 16 15))
     → woven (high ++ low) ≡ encode_lower v
 woven_is v high low long eh el =
     let h = eh ∙ subst (λ n. map digit_of (zip2 down v (replicate n 4)) ≡ map high_digit v) long (high_is v) in
@@ -72,12 +76,14 @@ encode-append [] ys = refl
 encode-append (x ∷ xs) ys = ap (λ (ds : List ℕ). slice_index lower_digits (x / 16) ∷ slice_index lower_digits (x % 16) ∷ ds) (encode-append xs ys)
 
 -- sixteen bytes more are written
-pub block_written : (bytes digits front back : List ℕ) (at : ℕ) → length front ≡ 16 → length back ≡ 16 → at + 16 ≤ length bytes → length digits ≡ 2 * length bytes
+pub block_written : (bytes digits front back : List ℕ) (at : ℕ) → length front ≡ 16 → length back ≡ 16 → at + 16 ≤ length bytes
+    → length digits ≡ 2 * length bytes
     → front ++ back ≡ encode_lower (chunk at 16 bytes) → take (2 * at) digits ≡ encode_lower (take at bytes)
     → take (2 * (at + 16)) (put_chunk (2 * at + 16) (put_chunk (2 * at) digits front) back) ≡ encode_lower (take (at + 16) bytes)
 block_written bytes digits front back at f b room len block before =
     let first = take_more_put_chunk (2 * at) digits front (2 * at + 16) (omega arith) (omega arith) in
-    let second = take_more_put_chunk (2 * at + 16) (put_chunk (2 * at) digits front) back (2 * (at + 16)) (omega arith) (omega (arith, length-put_chunk (2 * at) digits front)) in
+    let second = take_more_put_chunk (2 * at + 16) (put_chunk (2 * at) digits front) back (2 * (at + 16)) (omega arith)
+    (omega (arith, length-put_chunk (2 * at) digits front)) in
     second ∙ ap (λ l. l ++ back) first ∙ append_assoc (take (2 * at) digits) front back
     ∙ ap₂ (λ (x y : List ℕ). x ++ y) before block
     ∙ sym (encode-append (take at bytes) (chunk at 16 bytes)) ∙ ap encode_lower (sym (take-add at 16 bytes))

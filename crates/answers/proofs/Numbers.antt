@@ -1,5 +1,6 @@
 -- Numbers two and four digits at a time.
-use Rattle.std.proofs.Common.{◌≡◌, ℕ, ◌+◌, ◌*◌, ◌/◌, ◌%◌, ◌^◌, ◌<◌, ◌≤◌, true, List, [], ◌∷◌, ◌++◌, length, get_or, set, take, refl, ap, sym, ◌∙◌, arith, eqb, eqb-true, subst, length-set}
+use Rattle.std.proofs.Common.{◌≡◌, ℕ, ◌+◌, ◌*◌, ◌/◌, ◌%◌, ◌^◌, ◌<◌, ◌≤◌, true, List, [], ◌∷◌, ◌++◌, length, get_or, set}
+use Rattle.std.proofs.Common.{take, refl, ap, sym, ◌∙◌, arith, eqb, eqb-true, subst, length-set}
 use Rattle.std.proofs.lemmas.Bool.{agree_below_at}
 use Rattle.std.proofs.lemmas.Fmt.{decimal_digit}
 use Rattle.std.specs.Fmt.{decimal}
@@ -36,15 +37,19 @@ filled_three n lo hi =
 pub filled_four : (n : ℕ) → 1000 ≤ n → n < 10000 → take 4 (four_digits (1 * n)) ≡ decimal n
 filled_four n lo hi =
     let a : 1 * n ≡ n = omega arith in
-    ap (λ (k : ℕ). take 4 (four_digits k)) a ∙ sym (decimal_pair n (omega arith) (omega arith) ∙ ap (λ (l : List ℕ). l ++ two_digits (n % 100)) (decimal_two (n / 100) (omega arith) (omega arith)))
+    ap (λ (k : ℕ). take 4 (four_digits k)) a
+    ∙ sym (decimal_pair n (omega arith) (omega arith) ∙ ap (λ (l : List ℕ). l ++ two_digits (n % 100)) (decimal_two (n / 100) (omega arith) (omega arith)))
 
 -- a number of five to eight digits: those of its first part, and four more
 pub decimal_parts : (n : ℕ) → 10000 ≤ n → n < 2 ^ 64 → decimal (n / 10000) ++ four_digits (n % 10000) ≡ decimal n
 decimal_parts n lo hi = sym (decimal_four n lo hi)
 
 -- two digits of the table
-pub Placed-two : (a : List ℕ) (i n : ℕ) → n < 100 → i + 2 ≤ length a → Placed a (set (set a i (get_or PAIRS (2 * n) 0)) (i + 1) (get_or PAIRS (2 * n + 1) 0)) i (two_digits n) (i + 2)
+pub Placed-two : (a : List ℕ) (i n : ℕ) → n < 100 → i + 2 ≤ length a
+    → Placed a (set (set a i (get_or PAIRS (2 * n) 0)) (i + 1) (get_or PAIRS (2 * n + 1) 0)) i (two_digits n) (i + 2)
 Placed-two a i n h room =
     let same = length-set a i (48 + n / 10) in
     let end : i + 1 + 1 ≡ i + 2 = omega arith in
-    rw (tens_are n h, ones_are n h) (subst (Placed a (set (set a i (48 + n / 10)) (i + 1) (48 + n % 10)) i (two_digits n)) end (Placed-then (Placed-byte a i (48 + n / 10) (omega arith)) (Placed-byte (set a i (48 + n / 10)) (i + 1) (48 + n % 10) (omega arith))))
+    rw (tens_are n h, ones_are n h)
+    (subst (Placed a (set (set a i (48 + n / 10)) (i + 1) (48 + n % 10)) i (two_digits n)) end
+    (Placed-then (Placed-byte a i (48 + n / 10) (omega arith)) (Placed-byte (set a i (48 + n / 10)) (i + 1) (48 + n % 10) (omega arith))))

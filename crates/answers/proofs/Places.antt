@@ -1,5 +1,6 @@
 -- Texts put at places of one buffer, one after another.
-use Rattle.std.proofs.Common.{◌≡◌, ℕ, Bool, true, false, refl, ◌+◌, ◌<◌, ◌≤◌, List, [], ◌∷◌, ◌++◌, length, set, take, drop, ap, sym, ◌∙◌, arith, append_assoc, length-set, length-take-le, length-drop, take-add, take-take, take_at, drop_at, subst}
+use Rattle.std.proofs.Common.{◌≡◌, ℕ, Bool, true, false, refl, ◌+◌, ◌<◌, ◌≤◌, List, [], ◌∷◌, ◌++◌, length, set, take, drop, ap, sym, ◌∙◌, arith}
+use Rattle.std.proofs.Common.{append_assoc, length-set, length-take-le, length-drop, take-add, take-take, take_at, drop_at, subst}
 use Rattle.std.proofs.lemmas.List.{take_more_set}
 use Rattle.std.proofs.lemmas.Simd.{take_more_put_chunk, length-put_chunk}
 use Rattle.std.proofs.lemmas.Slice.{take-put_mid}
@@ -58,7 +59,8 @@ pub Placed-on : {a b c xs : List ℕ} {i j k : ℕ} (ys zs : List ℕ) → Place
 Placed-on {a} {b} {c} {xs} ys zs p q = Placed-as (sym (append_assoc xs ys zs)) (Placed-then p q)
 
 -- a number and the byte behind it
-pub Placed-number : {a b c xs : List ℕ} {i j k n m : ℕ} (end : ℕ) → n ≡ m → Placed a b i xs j → Placed b c j (decimal n ++ end ∷ []) k → Placed a c i (xs ++ decimal m ++ end ∷ []) k
+pub Placed-number : {a b c xs : List ℕ} {i j k n m : ℕ} (end : ℕ) → n ≡ m → Placed a b i xs j → Placed b c j (decimal n ++ end ∷ []) k
+    → Placed a c i (xs ++ decimal m ++ end ∷ []) k
 Placed-number {a} {b} {c} {xs} {i} {j} {k} {n} {m} end same p q = Placed-on (decimal m) (end ∷ []) p (Placed-as (ap (λ (r : ℕ). decimal r ++ end ∷ []) same) q)
 
 pub first_number : {a b : List ℕ} {i j n m : ℕ} (end : ℕ) → n ≡ m → Placed a b i (decimal n ++ end ∷ []) j → Placed a b i (decimal m ++ end ∷ []) j

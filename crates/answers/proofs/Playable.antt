@@ -30,10 +30,12 @@ number_is_below bound otherwise text n e = grind (arith, nat_tests, e)
 page_is_whole_from : (size : ℕ) (r : Result (List ℕ) FromHexError) (page : List ℕ) → page_of_bytes size r ≡ Ok page → length page ≡ size
 page_is_whole_from size (Err x) page e = cc
 page_is_whole_from size (Ok bytes) page e =
-    let sizes : length (page_with size bytes) ≡ length bytes + (size - length bytes) = length-append bytes (replicate (size - length bytes) 0) ∙ ap (λ n. length bytes + n) (length-replicate (size - length bytes) 0) in
+    let sizes : length (page_with size bytes) ≡ length bytes + (size - length bytes) =
+    length-append bytes (replicate (size - length bytes) 0) ∙ ap (λ n. length bytes + n) (length-replicate (size - length bytes) 0) in
     grind (arith, nat_tests, e, sizes)
 
-page_is_whole : (size worker sector : ℕ) (which : Op) (digits page : List ℕ) → page_of size which worker sector digits ≡ Ok page → (which ≡ op.Write) ⊎ (which ≡ op.New) → length page ≡ size
+page_is_whole : (size worker sector : ℕ) (which : Op) (digits page : List ℕ) → page_of size which worker sector digits ≡ Ok page
+    → (which ≡ op.Write) ⊎ (which ≡ op.New) → length page ≡ size
 unfolding page_of
 page_is_whole size worker sector op.Write digits page e w = page_is_whole_from size (decode_of digits) page e
 page_is_whole size worker sector op.New digits page e w = page_is_whole_from size (decode_of digits) page e
@@ -42,10 +44,12 @@ page_is_whole size worker sector op.Trim digits page e w = ⊎_elim (λ (no : op
 page_is_whole size worker sector op.Meet digits page e w = ⊎_elim (λ (no : op.Meet ≡ op.Write). absurd (cc)) (λ (no : op.Meet ≡ op.New). absurd (cc)) w
 
 abbrev from_page : Geometry → List ℕ → ℕ → Op → ℕ → Result Command TraceFaultKind
-from_page geo digits worker which sector = page_of (page_bytes_of geo) which worker sector digits >>= (λ page. Ok (record { worker = worker; op = which; sector = sector; page = page }))
+from_page geo digits worker which sector =
+    page_of (page_bytes_of geo) which worker sector digits >>= (λ page. Ok (record { worker = worker; op = which; sector = sector; page = page }))
 
 abbrev from_sector : Geometry → List ℕ → List ℕ → ℕ → Op → Result Command TraceFaultKind
-from_sector geo sector_text digits worker which = number_below (sectors_of geo) fault.Sector sector_text >>= (λ sector. from_page geo digits worker which sector)
+from_sector geo sector_text digits worker which =
+    number_below (sectors_of geo) fault.Sector sector_text >>= (λ sector. from_page geo digits worker which sector)
 
 abbrev from_op : Geometry → List ℕ → List ℕ → List ℕ → ℕ → Result Command TraceFaultKind
 from_op geo op_text sector_text digits worker = op_of op_text >>= (λ which. from_sector geo sector_text digits worker which)
@@ -60,7 +64,8 @@ command_is_playable geo (worker_text ∷ op_text ∷ sector_text ∷ digits ∷ 
     let worker = passed (number_below (workers_of geo) fault.Worker worker_text) (from_op geo op_text sector_text digits) c e in
     let which = passed (op_of op_text) (from_sector geo sector_text digits worker.0) c worker.2 in
     let sector = passed (number_below (sectors_of geo) fault.Sector sector_text) (from_page geo digits worker.0 which.0) c which.2 in
-    let page = passed (page_of (page_bytes_of geo) which.0 worker.0 sector.0 digits) (λ page. Ok (record { worker = worker.0; op = which.0; sector = sector.0; page = page })) c sector.2 in
+    let page = passed (page_of (page_bytes_of geo) which.0 worker.0 sector.0 digits)
+    (λ page. Ok (record { worker = worker.0; op = which.0; sector = sector.0; page = page })) c sector.2 in
     let made : record { worker = worker.0; op = which.0; sector = sector.0; page = page.0 } ≡ c = cc (page.2) in
     subst (IsPlayable geo) made (record {
       worker = number_is_below (workers_of geo) fault.Worker worker_text worker.0 worker.1;
@@ -76,5 +81,6 @@ commands_are_playable geo text commands are k d within =
     let as_ok : Command → Result Command TraceFaultKind = λ command. Ok command in
     let in_records : k < length (records_of text) = omega (arith, ap length are, length-map (records_of text) (command_of geo), length-map commands as_ok) in
     let e : command_of geo (get_or (records_of text) k []) ≡ Ok (get_or commands k d) =
-    sym (get_or-map (command_of geo) (records_of text) k [] (Ok d) in_records) ∙ (ap (λ rs. get_or rs k (Ok d)) are ∙ get_or-map as_ok commands k d (Ok d) within) in
+    sym (get_or-map (command_of geo) (records_of text) k [] (Ok d) in_records)
+    ∙ (ap (λ rs. get_or rs k (Ok d)) are ∙ get_or-map as_ok commands k d (Ok d) within) in
     command_is_playable geo (get_or (records_of text) k []) (get_or commands k d) e

@@ -33,17 +33,25 @@ flat_map_begins f n (suc m) =
     )
 
 -- what is made of the command at a place
-pub at_place_is : {X : Type 0} (commands : List Command) (k : ℕ) (c : Command) (f : Command → List X) → slice_get commands k ≡ Some c → at_place commands k f ≡ f c
+pub at_place_is : {X : Type 0} (commands : List Command) (k : ℕ) (c : Command) (f : Command → List X) → slice_get commands k ≡ Some c
+    → at_place commands k f ≡ f c
 at_place_is commands k c f is = ap (λ o. option_map_or f o []) is
 
 -- the array after one command more
-pub array_more : (n : ℕ) (refused : ℕ → Bool) (commands : List Command) (k : ℕ) (c : Command) → slice_get commands k ≡ Some c → after n (history_before refused commands (k + 1)) ≡ fold step (after n (history_before refused commands k)) (calls_of (refused k) c)
+pub array_more : (n : ℕ) (refused : ℕ → Bool) (commands : List Command) (k : ℕ) (c : Command) → slice_get commands k ≡ Some c
+    → after n (history_before refused commands (k + 1)) ≡ fold step (after n (history_before refused commands k)) (calls_of (refused k) c)
 array_more n refused commands k c is =
-    ap (after n) (flat_map_more (λ j. at_place commands j (calls_of (refused j))) k ∙ ap (λ calls. history_before refused commands k ++ calls) (at_place_is commands k c (calls_of (refused k)) is))
+    ap (after n) (flat_map_more (λ j. at_place commands j (calls_of (refused j))) k
+    ∙ ap (λ calls. history_before refused commands k ++ calls) (at_place_is commands k c (calls_of (refused k)) is))
     ∙ fold-append step (after n []) (history_before refused commands k) (calls_of (refused k) c)
 
 -- the text of one line more
-pub lines_more : (refusal : List ℕ) (n : ℕ) (refused : ℕ → Bool) (commands : List Command) (k : ℕ) (c : Command) → slice_get commands k ≡ Some c → lines_before refusal n refused commands (k + 1) ≡ lines_before refusal n refused commands k ++ line_text (k + 1) c.op c.sector (answer_of refusal (refused k) c.op (held n (history_before refused commands k) c.sector))
+pub lines_more : (refusal : List ℕ) (n : ℕ) (refused : ℕ → Bool) (commands : List Command) (k : ℕ) (c : Command) → slice_get commands k ≡ Some c
+    → lines_before refusal n refused commands (k + 1) ≡ lines_before refusal n refused commands k
+    ++ line_text (k + 1) c.op c.sector (answer_of refusal (refused k) c.op (held n (history_before refused commands k) c.sector))
 lines_more refusal n refused commands k c is =
     flat_map_more (line_at refusal n refused commands) k
-    ∙ ap (λ line. lines_before refusal n refused commands k ++ line) (at_place_is commands k c (λ command. line_text (k + 1) command.op command.sector (answer_of refusal (refused k) command.op (held n (history_before refused commands k) command.sector))) is)
+    ∙ ap (λ line. lines_before refusal n refused commands k ++ line)
+    (at_place_is commands k c
+    (λ command. line_text (k + 1) command.op command.sector
+    (answer_of refusal (refused k) command.op (held n (history_before refused commands k) command.sector))) is)

@@ -63,7 +63,9 @@ line_text line op sector answer =
 -- the line of the command at an index: it is answered at the history before it. Lines count from 1
 abbrev pub line_at : List ℕ → ℕ → (ℕ → Bool) → List Command → ℕ → List ℕ
 line_at refusal sectors refused commands k =
-    at_place commands k (λ command. line_text (k + 1) command.op command.sector (answer_of refusal (refused k) command.op (held sectors (history_before refused commands k) command.sector)))
+    at_place commands k (λ command.
+    line_text (k + 1) command.op command.sector
+    (answer_of refusal (refused k) command.op (held sectors (history_before refused commands k) command.sector)))
 
 -- the text of the first lines
 abbrev pub lines_before : List ℕ → ℕ → (ℕ → Bool) → List Command → ℕ → List ℕ

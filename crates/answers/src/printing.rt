@@ -165,7 +165,8 @@ impl Lines {
 
     /// Writes the lines that wait if there are many, so that there is room for another line.
     pub fn make_room<W: Write>(&mut self, writer: &mut Watched<W>) -> Result<(), OutputFailed>
-        ensures moved { OnOk result (IsUnderWay (W.contents (inner_of writer.old)) (W.contents (inner_of writer.new)) (waiting_of self.new) (waiting_of self.old)) }
+        ensures moved { OnOk result
+            (IsUnderWay (W.contents (inner_of writer.old)) (W.contents (inner_of writer.new)) (waiting_of self.new) (waiting_of self.old)) }
         ensures room { OnOk result (length (waiting_of self.new) ≤ PIECE_BYTES) }
         ensures page { page_digits_of self.new ≡ page_digits_of self.old }
         ensures unfailed { OnOk result (failures_of writer.new ≡ failures_of writer.old) }

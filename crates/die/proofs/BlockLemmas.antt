@@ -1,5 +1,6 @@
 -- The blocks of the storage after a page is added or a block's state changes.
-use Rattle.std.proofs.Common.{◌≡◌, ◌≢◌, ℕ, ◌+◌, ◌*◌, ◌<◌, ◌≤◌, List, [], ◌∷◌, ◌++◌, length, get_or, map, set, sym, ap, ◌∙◌, arith, get_or-set_same, get_or-set_other}
+use Rattle.std.proofs.Common.{◌≡◌, ◌≢◌, ℕ, ◌+◌, ◌*◌, ◌<◌, ◌≤◌, List, [], ◌∷◌, ◌++◌, length, get_or, map, set}
+use Rattle.std.proofs.Common.{sym, ap, ◌∙◌, arith, get_or-set_same, get_or-set_other}
 use Rattle.std.specs.List.{range_with_len}
 use Rattle.std.proofs.lemmas.List.{same_lists}
 use Rattle.std.proofs.lemmas.List.FromFn.{length-map-range_with_len, get_or-map-range_with_len, map-range_with_len_more}
@@ -19,19 +20,24 @@ map_range_same f g n same =
     get_or-map-range_with_len f 0 n k k d low (omega arith) ∙ (same k low ∙ sym (get_or-map-range_with_len g 0 n k k d low (omega arith))))
 
 -- a block has as many pages as its state says
-pub length-pages : (n pages : ℕ) (bytes stamps : List ℕ) (states : List BlockState) (b : ℕ) → length (block_in n pages bytes stamps states b).pages ≡ (get_or states b unused).next
+pub length-pages : (n pages : ℕ) (bytes stamps : List ℕ) (states : List BlockState) (b : ℕ)
+    → length (block_in n pages bytes stamps states b).pages ≡ (get_or states b unused).next
 unfolding block_in
 length-pages n pages bytes stamps states b =
     length-map-range_with_len (λ p. stored n bytes stamps (b * pages + p)) 0 (get_or states b unused).next
 
 -- a programmed page of a block is what stands at its place
-pub page_at-stored : (n pages : ℕ) (bytes stamps : List ℕ) (states : List BlockState) (b p : ℕ) → p < (get_or states b unused).next → page_at n (block_in n pages bytes stamps states b) p ≡ stored n bytes stamps (b * pages + p)
+pub page_at-stored : (n pages : ℕ) (bytes stamps : List ℕ) (states : List BlockState) (b p : ℕ) → p < (get_or states b unused).next
+    → page_at n (block_in n pages bytes stamps states b) p ≡ stored n bytes stamps (b * pages + p)
 unfolding block_in
 page_at-stored n pages bytes stamps states b p low =
     get_or-map-range_with_len (λ p. stored n bytes stamps (b * pages + p)) 0 (get_or states b unused).next p p (erased_page n) low (omega arith)
 
 -- a block shows what it showed where its state and its places are as before
-pub block_in-same : (n pages : ℕ) (bytes bytes' stamps stamps' : List ℕ) (states states' : List BlockState) (b : ℕ) → get_or states' b unused ≡ get_or states b unused → ((p : ℕ) → p < (get_or states b unused).next → stored n bytes' stamps' (b * pages + p) ≡ stored n bytes stamps (b * pages + p)) → block_in n pages bytes' stamps' states' b ≡ block_in n pages bytes stamps states b
+pub block_in-same : (n pages : ℕ) (bytes bytes' stamps stamps' : List ℕ) (states states' : List BlockState) (b : ℕ)
+    → get_or states' b unused ≡ get_or states b unused
+    → ((p : ℕ) → p < (get_or states b unused).next → stored n bytes' stamps' (b * pages + p) ≡ stored n bytes stamps (b * pages + p))
+    → block_in n pages bytes' stamps' states' b ≡ block_in n pages bytes stamps states b
 unfolding block_in
 block_in-same n pages bytes bytes' stamps stamps' states states' b same places =
     rw same
@@ -53,18 +59,22 @@ pub record Adds (n pages blocks : ℕ) (bytes bytes' stamps stamps' : List ℕ) 
   pub states_after : (c : ℕ) → c ≢ b → get_or states' c unused ≡ get_or states c unused
 
 -- the place that is written holds the page
-stored-added : (n : ℕ) (bytes bytes' stamps : List ℕ) (place : ℕ) (page : Page) → place < length stamps → PutsSlot n bytes bytes' place page.value → stored n bytes' (set stamps place page.stamp) place ≡ page
+stored-added : (n : ℕ) (bytes bytes' stamps : List ℕ) (place : ℕ) (page : Page) → place < length stamps → PutsSlot n bytes bytes' place page.value
+    → stored n bytes' (set stamps place page.stamp) place ≡ page
 unfolding stored
 stored-added n bytes bytes' stamps place page within puts =
     rw puts.changed (ap (λ (s : ℕ). let r : Page = record { value = page.value; stamp = s } in r) (get_or-set_same stamps place page.stamp 0 within))
 
 -- each other place holds what it held
-stored-other : (n : ℕ) (bytes bytes' stamps : List ℕ) (place k : ℕ) (page : Page) → k ≢ place → (k + 1) * n ≤ length bytes → PutsSlot n bytes bytes' place page.value → stored n bytes' (set stamps place page.stamp) k ≡ stored n bytes stamps k
+stored-other : (n : ℕ) (bytes bytes' stamps : List ℕ) (place k : ℕ) (page : Page) → k ≢ place → (k + 1) * n ≤ length bytes
+    → PutsSlot n bytes bytes' place page.value → stored n bytes' (set stamps place page.stamp) k ≡ stored n bytes stamps k
 unfolding stored
 stored-other n bytes bytes' stamps place k page apart within puts =
-    rw (puts.others k apart within) (ap (λ (s : ℕ). let r : Page = record { value = slot n bytes k; stamp = s } in r) (get_or-set_other stamps place k page.stamp 0 apart))
+    rw (puts.others k apart within)
+    (ap (λ (s : ℕ). let r : Page = record { value = slot n bytes k; stamp = s } in r) (get_or-set_other stamps place k page.stamp 0 apart))
 
-module _ (n pages blocks : ℕ) (bytes bytes' stamps stamps' : List ℕ) (states states' : List BlockState) (b p : ℕ) (page : Page) (adds : Adds n pages blocks bytes bytes' stamps stamps' states states' b p page) where
+module _ (n pages blocks : ℕ) (bytes bytes' stamps stamps' : List ℕ) (states states' : List BlockState) (b p : ℕ) (page : Page)
+    (adds : Adds n pages blocks bytes bytes' stamps stamps' states states' b p page) where
   -- another programmed page keeps its place
   kept : (c q : ℕ) → c < blocks → q < pages → (c ≡ b → q ≡ p → ⊥) → stored n bytes' stamps' (c * pages + q) ≡ stored n bytes stamps (c * pages + q)
   kept c q low short apart =
@@ -90,10 +100,12 @@ module _ (n pages blocks : ℕ) (bytes bytes' stamps stamps' : List ℕ) (states
       let g : ℕ → Page = λ q. stored n bytes stamps (b * pages + q) in
       let place : b * pages + p < blocks * pages = omega (arith, mul-add-lt b pages p blocks adds.block adds.within) in
       let last : f s.next ≡ page =
-      ap f (sym adds.next) ∙ rw adds.stamps_after (stored-added n bytes bytes' stamps (b * pages + p) page (omega (arith, adds.stamps_size)) adds.bytes_after) in
+      ap f (sym adds.next) ∙ rw adds.stamps_after
+      (stored-added n bytes bytes' stamps (b * pages + p) page (omega (arith, adds.stamps_size)) adds.bytes_after) in
       let front : map f (range_with_len 0 s.next) ≡ map g (range_with_len 0 s.next) =
       map_range_same f g s.next (λ q low. kept b q adds.block (omega (arith, adds.counts b adds.block)) (λ _ e. omega (arith, adds.next))) in
       let pushed : map f (range_with_len 0 (s.next + 1)) ≡ map g (range_with_len 0 s.next) ++ page ∷ [] =
-      map-range_with_len_more f 0 s.next s.next (omega arith) ∙ (ap (λ (ps : List Page). ps ++ f s.next ∷ []) front ∙ ap (λ (x : Page). map g (range_with_len 0 s.next) ++ x ∷ []) last) in
+      map-range_with_len_more f 0 s.next s.next (omega arith)
+      ∙ (ap (λ (ps : List Page). ps ++ f s.next ∷ []) front ∙ ap (λ (x : Page). map g (range_with_len 0 s.next) ++ x ∷ []) last) in
       rw adds.state_after
       (ap (λ (ps : List Page). let r : Block = record { pages = ps; erases = s.erases; retired = s.retired } in r) pushed)

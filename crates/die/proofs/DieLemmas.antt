@@ -1,5 +1,6 @@
 -- What a die keeps true, and its blocks after a command, in the terms of its fields.
-use Rattle.std.proofs.Common.{◌≡◌, ◌≢◌, inl, inr, map, eqb, ℕ, ◌+◌, ◌*◌, ◌<◌, ◌≤◌, List, length, get_or, set, false, sym, ap, ◌∙◌, refl, arith, subst, get_or-set_same, get_or-set_other}
+use Rattle.std.proofs.Common.{◌≡◌, ◌≢◌, inl, inr, map, eqb, ℕ, ◌+◌, ◌*◌, ◌<◌, ◌≤◌, List, length, get_or, set, false, sym}
+use Rattle.std.proofs.Common.{ap, ◌∙◌, refl, arith, subst, get_or-set_same, get_or-set_other}
 use Rattle.std.proofs.lemmas.List.{get_or_read}
 use Rattle.std.specs.List.{range_with_len}
 use Rattle.std.proofs.lemmas.Bool.{cases_eq, eqb-false}
@@ -44,18 +45,21 @@ pub erases_below : (d : Die) (b : ℕ) → b < blocks_of d.geometry → (block_o
 erases_below d b low usable = omega (arith, erases-block d b, (d.sound b low).usable (sym (retired-block d b) ∙ usable))
 
 -- the value of a programmed page has the bytes of a page, and is what stands at its place
-pub page-stored : (d : Die) (b p : ℕ) → p < length (block_of d b).pages → page_at (page_bytes_of d.geometry) (block_of d b) p ≡ stored (page_bytes_of d.geometry) d.bytes.items d.stamps.items (b * pages_of d.geometry + p)
+pub page-stored : (d : Die) (b p : ℕ) → p < length (block_of d b).pages
+    → page_at (page_bytes_of d.geometry) (block_of d b) p ≡ stored (page_bytes_of d.geometry) d.bytes.items d.stamps.items (b * pages_of d.geometry + p)
 unfolding block_of
 page-stored d b p low =
     page_at-stored (page_bytes_of d.geometry) (pages_of d.geometry) d.bytes.items d.stamps.items d.states.items b p
     (omega (arith, length-pages (page_bytes_of d.geometry) (pages_of d.geometry) d.bytes.items d.stamps.items d.states.items b))
 
 -- every block is sound once one block has a sound state
-pub sound-set : (d : Die) (b : ℕ) (s : BlockState) → b < blocks_of d.geometry → IsSound (pages_of d.geometry) (endurance_of d.geometry) s → (c : ℕ) → c < blocks_of d.geometry → IsSound (pages_of d.geometry) (endurance_of d.geometry) (get_or (set d.states.items b s) c unused)
+pub sound-set : (d : Die) (b : ℕ) (s : BlockState) → b < blocks_of d.geometry → IsSound (pages_of d.geometry) (endurance_of d.geometry) s → (c : ℕ)
+    → c < blocks_of d.geometry → IsSound (pages_of d.geometry) (endurance_of d.geometry) (get_or (set d.states.items b s) c unused)
 sound-set d b s within sound c low =
     let P : BlockState → Type 0 = λ t. IsSound (pages_of d.geometry) (endurance_of d.geometry) t in
     elim (cases_eq c b) [
-      | inl e ↦ subst P (sym (ap (λ (k : ℕ). get_or (set d.states.items b s) k unused) e ∙ get_or-set_same d.states.items b s unused (omega (arith, d.states_sized)))) sound
+      | inl e ↦ subst P (sym (ap (λ (k : ℕ). get_or (set d.states.items b s) k unused) e
+          ∙ get_or-set_same d.states.items b s unused (omega (arith, d.states_sized)))) sound
       | inr apart ↦ subst P (sym (get_or-set_other d.states.items b c s unused apart)) (d.sound c low)
     ]
 
@@ -68,7 +72,8 @@ pub next-state : (d : Die) (at : PageAddr) → IsNext d at → at.page ≡ (stat
 next-state d at is = is.next ∙ length-block d at.block
 
 -- one more page may be counted
-pub sound-counted : (d : Die) (at : PageAddr) (s : BlockState) → IsNext d at → s ≡ state_of d at.block → IsSound (pages_of d.geometry) (endurance_of d.geometry) (counted s)
+pub sound-counted : (d : Die) (at : PageAddr) (s : BlockState) → IsNext d at → s ≡ state_of d at.block
+    → IsSound (pages_of d.geometry) (endurance_of d.geometry) (counted s)
 sound-counted d at s is e =
     let old = d.sound at.block is.usable.within in
     let place = next-state d at is in
@@ -76,7 +81,11 @@ sound-counted d at s is e =
     rw e (record { within = omega (arith, place, size); erased = old.erased; usable = old.usable })
 
 -- a page that is put at its place and counted is added to its block
-pub adds_page : (d : Die) (at : PageAddr) (place : ℕ) (page : Page) (bytes' : List ℕ) (s : BlockState) → IsNext d at → place ≡ at.block * pages_of d.geometry + at.page → PutsSlot (page_bytes_of d.geometry) d.bytes.items bytes' place page.value → s ≡ state_of d at.block → Adds (page_bytes_of d.geometry) (pages_of d.geometry) (blocks_of d.geometry) d.bytes.items bytes' d.stamps.items (set d.stamps.items place page.stamp) d.states.items (set d.states.items at.block (counted s)) at.block at.page page
+pub adds_page : (d : Die) (at : PageAddr) (place : ℕ) (page : Page) (bytes' : List ℕ) (s : BlockState)
+    → IsNext d at → place ≡ at.block * pages_of d.geometry + at.page → PutsSlot (page_bytes_of d.geometry) d.bytes.items bytes' place page.value
+    → s ≡ state_of d at.block
+    → Adds (page_bytes_of d.geometry) (pages_of d.geometry) (blocks_of d.geometry) d.bytes.items bytes' d.stamps.items
+    (set d.stamps.items place page.stamp) d.states.items (set d.states.items at.block (counted s)) at.block at.page page
 adds_page d at place page bytes' s is e puts same =
     record {
       block = is.usable.within;
@@ -93,15 +102,22 @@ adds_page d at place page bytes' s is e puts same =
     }
 
 -- the blocks of the die after a page was added, where its geometry is as before
-pub changes_by_adding : (old new : Die) (b p : ℕ) (page : Page) → new.geometry ≡ old.geometry → Adds (page_bytes_of old.geometry) (pages_of old.geometry) (blocks_of old.geometry) old.bytes.items new.bytes.items old.stamps.items new.stamps.items old.states.items new.states.items b p page → ChangesBlock old new b (programmed (block_of old b) page)
+pub changes_by_adding : (old new : Die) (b p : ℕ) (page : Page) → new.geometry ≡ old.geometry
+    → Adds (page_bytes_of old.geometry) (pages_of old.geometry)
+    (blocks_of old.geometry) old.bytes.items new.bytes.items old.stamps.items new.stamps.items old.states.items new.states.items b p page
+    → ChangesBlock old new b (programmed (block_of old b) page)
 unfolding block_of
 changes_by_adding old new b p page same adds =
     let g = old.geometry in
-    let added = block-added (page_bytes_of g) (pages_of g) (blocks_of g) old.bytes.items new.bytes.items old.stamps.items new.stamps.items old.states.items new.states.items b p page adds in
-    let others = others-added (page_bytes_of g) (pages_of g) (blocks_of g) old.bytes.items new.bytes.items old.stamps.items new.stamps.items old.states.items new.states.items b p page adds in
+    let added = block-added (page_bytes_of g) (pages_of g) (blocks_of g) old.bytes.items new.bytes.items old.stamps.items new.stamps.items
+    old.states.items new.states.items b p page adds in
+    let others = others-added (page_bytes_of g) (pages_of g) (blocks_of g) old.bytes.items new.bytes.items old.stamps.items new.stamps.items
+    old.states.items new.states.items b p page adds in
     record {
-      changed = subst (λ (h : Geometry). block_in (page_bytes_of h) (pages_of h) new.bytes.items new.stamps.items new.states.items b ≡ programmed (block_in (page_bytes_of g) (pages_of g) old.bytes.items old.stamps.items old.states.items b) page) (sym same) added;
-      others = λ c apart low. subst (λ (h : Geometry). block_in (page_bytes_of h) (pages_of h) new.bytes.items new.stamps.items new.states.items c ≡ block_in (page_bytes_of g) (pages_of g) old.bytes.items old.stamps.items old.states.items c) (sym same) (others c apart low);
+      changed = subst (λ (h : Geometry). block_in (page_bytes_of h) (pages_of h) new.bytes.items new.stamps.items new.states.items b
+          ≡ programmed (block_in (page_bytes_of g) (pages_of g) old.bytes.items old.stamps.items old.states.items b) page) (sym same) added;
+      others = λ c apart low. subst (λ (h : Geometry). block_in (page_bytes_of h) (pages_of h) new.bytes.items new.stamps.items new.states.items c
+          ≡ block_in (page_bytes_of g) (pages_of g) old.bytes.items old.stamps.items old.states.items c) (sym same) (others c apart low);
       geometry = same;
     }
 
@@ -109,7 +125,8 @@ changes_by_adding old new b p page same adds =
 abbrev pub wiped : ℕ → BlockState → BlockState
 wiped endurance s = record { next = 0; erases = s.erases + 1; retired = eqb (s.erases + 1) endurance }
 
-pub sound-wiped : (d : Die) (b : ℕ) (s : BlockState) → IsUsable d b → s ≡ state_of d b → IsSound (pages_of d.geometry) (endurance_of d.geometry) (wiped (endurance_of d.geometry) s)
+pub sound-wiped : (d : Die) (b : ℕ) (s : BlockState) → IsUsable d b → s ≡ state_of d b
+    → IsSound (pages_of d.geometry) (endurance_of d.geometry) (wiped (endurance_of d.geometry) s)
 sound-wiped d b s is e =
     let e' : s.erases ≡ (state_of d b).erases = ap (λ (t : BlockState). t.erases) e in
     let left = (d.sound b is.within).usable (sym (retired-block d b) ∙ is.not_retired) in
@@ -120,7 +137,11 @@ sound-wiped d b s is e =
     }
 
 -- the blocks of the die after one block's state was wiped
-pub changes_by_wiping : (d : Die) (b : ℕ) (s : BlockState) → IsUsable d b → s ≡ state_of d b → (block_in (page_bytes_of d.geometry) (pages_of d.geometry) d.bytes.items d.stamps.items (set d.states.items b (wiped (endurance_of d.geometry) s)) b ≡ erased (endurance_of d.geometry) (block_of d b)) × ((c : ℕ) → c ≢ b → block_in (page_bytes_of d.geometry) (pages_of d.geometry) d.bytes.items d.stamps.items (set d.states.items b (wiped (endurance_of d.geometry) s)) c ≡ block_of d c)
+pub changes_by_wiping : (d : Die) (b : ℕ) (s : BlockState) → IsUsable d b → s ≡ state_of d b
+    → (block_in (page_bytes_of d.geometry) (pages_of d.geometry) d.bytes.items d.stamps.items
+    (set d.states.items b (wiped (endurance_of d.geometry) s)) b ≡ erased (endurance_of d.geometry) (block_of d b))
+    × ((c : ℕ) → c ≢ b → block_in (page_bytes_of d.geometry) (pages_of d.geometry) d.bytes.items d.stamps.items
+    (set d.states.items b (wiped (endurance_of d.geometry) s)) c ≡ block_of d c)
 unfolding block_of block_in
 changes_by_wiping d b s is e =
     let E = endurance_of d.geometry in
@@ -130,5 +151,6 @@ changes_by_wiping d b s is e =
       retired = t.retired;
     } in (
       ap f (get_or-set_same d.states.items b (wiped E s) unused (omega (arith, is.within, d.states_sized))) ∙ ap (λ (t : BlockState). f (wiped E t)) e,
-      λ c apart. block_in-same (page_bytes_of d.geometry) (pages_of d.geometry) d.bytes.items d.bytes.items d.stamps.items d.stamps.items d.states.items (set d.states.items b (wiped E s)) c (get_or-set_other d.states.items b c (wiped E s) unused apart) (λ p low. refl),
+      λ c apart. block_in-same (page_bytes_of d.geometry) (pages_of d.geometry) d.bytes.items d.bytes.items d.stamps.items d.stamps.items
+          d.states.items (set d.states.items b (wiped E s)) c (get_or-set_other d.states.items b c (wiped E s) unused apart) (λ p low. refl),
     )

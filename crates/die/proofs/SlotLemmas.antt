@@ -1,6 +1,8 @@
 -- Writing one place of the storage: what it holds then, and that the other places keep what they hold.
-use Rattle.std.proofs.Common.{◌≡◌, ℕ, ◌+◌, ◌-◌, ◌*◌, ◌<◌, ◌≤◌, inl, inr, List, ◌++◌, length, take, drop, get_or, sym, ap, ◌∙◌, arith, length-append, length-take, length-drop, get_or-take, get_or-drop}
-use Rattle.std.proofs.lemmas.List.{same_lists, take_at, drop_at, append_assoc, length-take-le, get_or-append_right, take_all, take-append-le, drop-append-le, drop-drop}
+use Rattle.std.proofs.Common.{◌≡◌, ℕ, ◌+◌, ◌-◌, ◌*◌, ◌<◌, ◌≤◌, inl, inr, List, ◌++◌, length, take, drop, get_or, sym, ap, ◌∙◌}
+use Rattle.std.proofs.Common.{arith, length-append, length-take, length-drop, get_or-take, get_or-drop}
+use Rattle.std.proofs.lemmas.List.{same_lists, take_at, drop_at, append_assoc, length-take-le, get_or-append_right}
+use Rattle.std.proofs.lemmas.List.{take_all, take-append-le, drop-append-le, drop-drop}
 use Rattle.std.proofs.Math.Seq.{paste}
 use Rattle.std.proofs.lemmas.List.{get_or_append_left}
 use Rattle.std.proofs.Math.Nat.{mul-le-mul_right}
@@ -21,7 +23,8 @@ below-paste d at s n j z fits long low =
 -- above the part nothing changes
 above-paste : (d : List ℕ) (at : ℕ) (s : List ℕ) (n j z : ℕ) → at + n ≤ length d → n ≤ length s → at + n ≤ j → get_or (paste d at s n) j z ≡ get_or d j z
 above-paste d at s n j z fits long high =
-    let e : length (take at d ++ take n s) ≡ at + n = length-append (take at d) (take n s) ∙ omega (arith, length-take-le at d (omega arith), length-take-le n s long) in
+    let e : length (take at d ++ take n s) ≡ at + n =
+    length-append (take at d) (take n s) ∙ omega (arith, length-take-le at d (omega arith), length-take-le n s long) in
     let k : at + n + (j - (at + n)) ≡ j = omega arith in
     get_or-append_right (take at d ++ take n s) (drop (at + n) d) (at + n) j z e high
     ∙ (get_or-drop (at + n) d (j - (at + n)) z ∙ ap (λ i. get_or d i z) k)
@@ -34,14 +37,16 @@ part-paste d at s n fits long =
     ∙ take_at (take n s) (drop (at + n) d) n (length-take-le n s long))
 
 -- two lists that agree at n places from `at` on have one part there
-same_part : (n at : ℕ) (xs ys : List ℕ) → length xs ≡ length ys → ((i z : ℕ) → i < n → get_or xs (at + i) z ≡ get_or ys (at + i) z) → take n (drop at xs) ≡ take n (drop at ys)
+same_part : (n at : ℕ) (xs ys : List ℕ) → length xs ≡ length ys → ((i z : ℕ) → i < n → get_or xs (at + i) z ≡ get_or ys (at + i) z)
+    → take n (drop at xs) ≡ take n (drop at ys)
 same_part n at xs ys e h =
     same_lists (take n (drop at xs)) (take n (drop at ys)) (simp (length-take, length-drop) (omega arith))
     (λ k z short. let low : k < n = omega (arith, length-take n (drop at xs)) in
     get_or-take n (drop at xs) k z low ∙ (get_or-drop at xs k z ∙ (h k z low ∙ (sym (get_or-drop at ys k z) ∙ sym (get_or-take n (drop at ys) k z low)))))
 
 -- one place is written
-pub PutsSlot-paste : (n : ℕ) (d : List ℕ) (place : ℕ) (s : List ℕ) → (place + 1) * n ≤ length d → n ≤ length s → PutsSlot n d (paste d (place * n) s n) place (take n s)
+pub PutsSlot-paste : (n : ℕ) (d : List ℕ) (place : ℕ) (s : List ℕ) → (place + 1) * n ≤ length d → n ≤ length s
+    → PutsSlot n d (paste d (place * n) s n) place (take n s)
 unfolding slot
 PutsSlot-paste n d place s fits long =
     let room : place * n + n ≤ length d = omega arith in
@@ -53,8 +58,10 @@ PutsSlot-paste n d place s fits long =
           (λ i z low. elim (cases_order k place) [
             | inl e ↦ absurd (apart e)
             | inr o ↦ elim o [
-              | inl lower ↦ below-paste d (place * n) s n (k * n + i) z room long (let g : (k + 1) * n ≤ place * n = mul-le-mul_right n (omega arith) in omega arith)
-              | inr higher ↦ above-paste d (place * n) s n (k * n + i) z room long (let g : (place + 1) * n ≤ k * n = mul-le-mul_right n (omega arith) in omega arith)
+              | inl lower ↦ below-paste d (place * n) s n (k * n + i) z room long
+                  (let g : (k + 1) * n ≤ place * n = mul-le-mul_right n (omega arith) in omega arith)
+              | inr higher ↦ above-paste d (place * n) s n (k * n + i) z room long
+                  (let g : (place + 1) * n ≤ k * n = mul-le-mul_right n (omega arith) in omega arith)
             ]
           ]);
     }
@@ -76,7 +83,8 @@ slot-back n xs ys cut k size past =
     ∙ ap (λ (zs : List ℕ). take n (drop (k * n - cut * n) zs)) (drop_at xs ys (cut * n) size))
 
 -- a place below a cut is written
-pub PutsSlot-below : (n : ℕ) (xs xs' ys : List ℕ) (cut place : ℕ) (page : List ℕ) → length xs ≡ cut * n → place < cut → PutsSlot n xs xs' place page → PutsSlot n (xs ++ ys) (xs' ++ ys) place page
+pub PutsSlot-below : (n : ℕ) (xs xs' ys : List ℕ) (cut place : ℕ) (page : List ℕ) → length xs ≡ cut * n → place < cut → PutsSlot n xs xs' place page
+    → PutsSlot n (xs ++ ys) (xs' ++ ys) place page
 PutsSlot-below n xs xs' ys cut place page size low puts =
     let room : (place + 1) * n ≤ cut * n = mul-le-mul_right n (omega arith) in
     record {
@@ -85,7 +93,8 @@ PutsSlot-below n xs xs' ys cut place page size low puts =
       others = λ k apart within. elim (cases_lt k cut) [
         | inl inside ↦
             let fits : (k + 1) * n ≤ cut * n = mul-le-mul_right n (omega arith) in
-            slot-front n xs' ys k (omega (arith, puts.size, size)) ∙ (puts.others k apart (omega (arith, size)) ∙ sym (slot-front n xs ys k (omega (arith, size))))
+            slot-front n xs' ys k (omega (arith, puts.size, size))
+            ∙ (puts.others k apart (omega (arith, size)) ∙ sym (slot-front n xs ys k (omega (arith, size))))
         | inr past ↦ slot-back n xs' ys cut k (puts.size ∙ size) past ∙ sym (slot-back n xs ys cut k size past)
       ];
     }

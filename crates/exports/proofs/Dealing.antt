@@ -1,5 +1,6 @@
 -- Handles that get their seats one after another, from the last one down, and a row of passes or brooms that is taken apart so.
-use Rattle.std.proofs.Common.{◌≡◌, ℕ, Bool, true, false, if◌then◌else◌, nat_le, ◌+◌, ◌<◌, ◌≤◌, ◌++◌, ◌∙◌, All, Some, List, [], ◌∷◌, length, slice_set, slice_get, get_or, sym, subst, ap, refl, arith}
+use Rattle.std.proofs.Common.{◌≡◌, ℕ, Bool, true, false, if◌then◌else◌, nat_le, ◌+◌, ◌<◌, ◌≤◌, ◌++◌, ◌∙◌, All, Some, List, []}
+use Rattle.std.proofs.Common.{◌∷◌, length, slice_set, slice_get, get_or, sym, subst, ap, refl, arith}
 use Rattle.std.proofs.lemmas.List.{get_or-set_same, get_or-set_other, length-set, get_or_append_left}
 use Rattle.std.proofs.Math.Seq.{get_or-append_seam}
 use Rattle.std.proofs.lemmas.Grind.{common_steps}
@@ -36,7 +37,8 @@ module _ {X : Type 0} (Begun : X → Type 0) (Ended : ℕ → X → Type 0) wher
         below = λ k d low inside.
             subst Begun (sym (get_or-set_other xs m k x d (λ same. absurd (omega arith)))) (dealt.below k d (omega arith) (omega (arith, length-set xs m x)));
         above = λ k d high inside.
-            dite (ℕ_discrete k m) (λ same. subst (λ (i : ℕ). Ended i (get_or (slice_set xs m x) i d)) (sym same) (subst (Ended m) (sym (get_or-set_same xs m x d within)) ended))
+            dite (ℕ_discrete k m) (λ same.
+            subst (λ (i : ℕ). Ended i (get_or (slice_set xs m x) i d)) (sym same) (subst (Ended m) (sym (get_or-set_same xs m x d within)) ended))
             (λ other. subst (Ended k) (sym (get_or-set_other xs m k x d other)) (dealt.above k d (omega (arith, other)) (omega (arith, length-set xs m x))));
       }
 
@@ -50,7 +52,8 @@ each_but_last {X} P xs ys x is each =
     )
 
 -- a row of passes or brooms, and the handles that the last ones of it have gone to
-pub record DealsOn {X : Type 0} (Ready : X → Type 0) (First : ℕ → X → Type 0) (Fresh : ℕ → Handle → Type 0) (items : List X) (handles : List Handle) (count : ℕ) : Type 0 where
+pub record DealsOn {X : Type 0} (Ready : X → Type 0) (First : ℕ → X → Type 0) (Fresh : ℕ → Handle → Type 0) (items : List X) (handles : List Handle)
+    (count : ℕ) : Type 0 where
   pub ready : All Ready items
   pub first : EachAt First items
   pub dealt : Dealt IsClosed Fresh (length items) handles
@@ -58,11 +61,13 @@ pub record DealsOn {X : Type 0} (Ready : X → Type 0) (First : ℕ → X → Ty
   pub long : length handles ≡ count
 
 module _ {X : Type 0} (Ready : X → Type 0) (First : ℕ → X → Type 0) (Fresh : ℕ → Handle → Type 0) where
-  pub deal_begins : (items : List X) (handles : List Handle) → All Ready items → EachAt First items → length items ≡ length handles → All IsClosed handles → DealsOn Ready First Fresh items handles (length handles)
+  pub deal_begins : (items : List X) (handles : List Handle) → All Ready items → EachAt First items → length items ≡ length handles
+      → All IsClosed handles → DealsOn Ready First Fresh items handles (length handles)
   deal_begins items handles ready first same closed =
       record { ready = ready; first = first; dealt = none_dealt IsClosed Fresh handles (length items) (omega arith) closed; room = omega arith; long = refl }
 
-  module _ (items rest : List X) (x : X) (handles : List Handle) (count : ℕ) (is : items ≡ rest ++ x ∷ []) (on : DealsOn Ready First Fresh items handles count) where
+  module _ (items rest : List X) (x : X) (handles : List Handle) (count : ℕ) (is : items ≡ rest ++ x ∷ [])
+      (on : DealsOn Ready First Fresh items handles count) where
     one_fewer : length items ≡ length rest + 1
     one_fewer = grind (arith, common_steps)
 
@@ -99,9 +104,11 @@ module _ {X : Type 0} (Ready : X → Type 0) (First : ℕ → X → Type 0) (Fre
 abbrev pub AreClosedTo : ℕ → List Handle → Type 0
 AreClosedTo n handles = (k : ℕ) (d : Handle) → k < n → k < length handles → IsClosed (get_or handles k d)
 
-pub closes_next : (handles : List Handle) (n : ℕ) (h : Handle) → n < length handles → IsClosed h → AreClosedTo n handles → AreClosedTo (n + 1) (slice_set handles n h)
+pub closes_next : (handles : List Handle) (n : ℕ) (h : Handle) → n < length handles → IsClosed h → AreClosedTo n handles
+    → AreClosedTo (n + 1) (slice_set handles n h)
 closes_next handles n h there closed before k d low within =
-    dite (ℕ_discrete k n) (λ same. subst (λ (i : ℕ). IsClosed (get_or (slice_set handles n h) i d)) (sym same) (subst IsClosed (sym (get_or-set_same handles n h d there)) closed))
+    dite (ℕ_discrete k n) (λ same.
+    subst (λ (i : ℕ). IsClosed (get_or (slice_set handles n h) i d)) (sym same) (subst IsClosed (sym (get_or-set_same handles n h d there)) closed))
     (λ other. subst IsClosed (sym (get_or-set_other handles n k h d other)) (before k d (omega (arith, other)) (omega (arith, length-set handles n h))))
 
 -- what holds of each element that a list has at a place holds of each, by its place
@@ -109,7 +116,8 @@ pub each_from : {X : Type 0} (P : ℕ → X → Type 0) (xs : List X) → ((k : 
 each_from P xs each k d low = each k (get_or xs k d) (slice_get-get_or xs k d low)
 
 -- the handles have what is dealt of a device of these numbers
-pub now_fresh : (v : Volume) (g : Geometry) (hosts brooms : List Handle) → numbers_of v ≡ g → EachAt (IsFreshHost v) hosts → EachAt (IsFreshBroom v) brooms → AreFresh (numbers_in g) hosts brooms
+pub now_fresh : (v : Volume) (g : Geometry) (hosts brooms : List Handle) → numbers_of v ≡ g → EachAt (IsFreshHost v) hosts
+    → EachAt (IsFreshBroom v) brooms → AreFresh (numbers_in g) hosts brooms
 now_fresh v g hosts brooms same h b = record { volume = v; numbers = ap numbers_in same; host = h; broom = b }
 
 within_cap : (b : Bool) (most n m : ℕ) → m ≡ (if b then n else most + 1) → m ≤ most → m ≡ n

@@ -78,7 +78,8 @@ module _ {M : Type 1} {𝓤 : Ura M} {𝓛 : Logic 𝓤} {K : Type 0} {Γ : List
   pub makes : K → (p : Ptr) (l : Option Seat) → Step K 𝓛 (‵ (Slot.own_val (record { at = p; seat = l }) (word p ∷ [])) ∷ Γ) G (‵ (kept p l) ∷ Γ) G
   makes t p l = step (λ s.
       let fields = Struct (shape slots.the_type) in
-      owned t fields (Is fields) (Struct-Makes 𝓛 (shape slots.the_type) (rawptr_pure, tt)) (p, tt) (word p ∷ []) ((ptr_val p ∷ [], tt), (refl, (refl, tt))) $ fjoin t $ s)
+      owned t fields (Is fields) (Struct-Makes 𝓛 (shape slots.the_type) (rawptr_pure, tt)) (p, tt) (word p ∷ [])
+      ((ptr_val p ∷ [], tt), (refl, (refl, tt))) $ fjoin t $ s)
 
 -- the heap's handle is let go by doing nothing
 abbrev pub heap_drop : Dict

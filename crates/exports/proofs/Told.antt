@@ -36,9 +36,12 @@ pub on_open : (says : Seat → Seat → Type 0) (before after : Option Seat) (x 
 on_open says before after x y had has holds = subst (λ (b : Option Seat). OnHandle b says after) had (subst (OnHandle (Some x) says) (sym has) holds)
 
 -- what holds of a host before and after a call holds of the seat that it is
-pub host_did : (says : Volume → Pass → Pass → Type 0) (x : Seat) (h g : Host) → x ≡ seat.Host h → g.volume ≡ h.volume → says (host_volume h) h.pass g.pass → HostCalled x says (seat.Host g)
+pub host_did : (says : Volume → Pass → Pass → Type 0) (x : Seat) (h g : Host) → x ≡ seat.Host h → g.volume ≡ h.volume
+    → says (host_volume h) h.pass g.pass → HostCalled x says (seat.Host g)
 host_did says x h g is device holds = subst (λ (y : Seat). HostCalled y says (seat.Host g)) (sym is) (device, holds)
 
 -- the same where a call had the seats by a reference
-pub on_lent : (says : Seat → Seat → Type 0) (before after : Option Seat) (x y x' y' : Seat) → Some x ≡ before → after ≡ Some y → x' ≡ x → y ≡ y' → says x' y' → OnHandle before says after
-on_lent says before after x y x' y' had has lent back holds = on_open says before after x y had has (subst (λ (s : Seat). says s y) lent (subst (says x') (sym back) holds))
+pub on_lent : (says : Seat → Seat → Type 0) (before after : Option Seat) (x y x' y' : Seat) → Some x ≡ before → after ≡ Some y → x' ≡ x → y ≡ y'
+    → says x' y' → OnHandle before says after
+on_lent says before after x y x' y' had has lent back holds =
+    on_open says before after x y had has (subst (λ (s : Seat). says s y) lent (subst (says x') (sym back) holds))

@@ -100,7 +100,8 @@ taken m call code None = refused 5 m
 -- a write returns what the sector was
 abbrev pub write_on : ℕ → List ℕ → Machine → Outcome
 write_on s bytes m =
-    by_place m.numbers s (length bytes) (refused 3 m) (refused 4 m) (taken m (Write 0 s bytes) (was_code (was_at m s)) (next m.numbers m.stock (Write 0 s bytes)))
+    by_place m.numbers s (length bytes) (refused 3 m) (refused 4 m)
+    (taken m (Write 0 s bytes) (was_code (was_at m s)) (next m.numbers m.stock (Write 0 s bytes)))
 
 -- a write of an empty sector: a written sector is refused, and an empty one is written
 abbrev pub write_new_by : ℕ → List ℕ → Machine → Was → Outcome
@@ -136,7 +137,16 @@ totals_on m = record { programs = m.stock.programs; copies = m.stock.copies; era
 -- the eight numbers of a geometry, as they are reported
 abbrev pub reported : Geometry → NumbersReport
 reported g = let n = numbers_of g in
-    record { luns = n.luns; blocks = n.blocks; pages = n.pages; words = n.words; sectors = n.sectors; endurance = n.endurance; hosts = n.hosts; brooms = n.brooms }
+    record {
+      luns = n.luns;
+      blocks = n.blocks;
+      pages = n.pages;
+      words = n.words;
+      sectors = n.sectors;
+      endurance = n.endurance;
+      hosts = n.hosts;
+      brooms = n.brooms;
+    }
 
 -- the code of a report on a block
 abbrev pub block_on : ℕ → Machine → ℕ

@@ -120,7 +120,8 @@ was_by n = if n == 0 then was.Empty else was.Written
 
 -- what a drain returned, by its code and what it wrote
 abbrev pub drain_by : ℕ → ℕ → ℕ → Drain
-drain_by n block moved = if n == 0 then drain.Drained block moved else (if n == 20 then drain.NothingToGain else (if n == 21 then drain.NoSpare else drain.Lost))
+drain_by n block moved = if n == 0 then drain.Drained block moved
+    else (if n == 20 then drain.NothingToGain else (if n == 21 then drain.NoSpare else drain.Lost))
 
 -- the code of a drain: 0, 20, 21 and 22 for its four results
 abbrev pub drain_code : ℕ → Seat → ℕ
@@ -129,7 +130,8 @@ drain_code result x = if_sweeper x 9 (λ s. if result == 0 then 0 else (if resul
 -- what an erase returned, by its code
 abbrev pub erase_by : ℕ → ℕ → Erase
 erase_by n block =
-    if n == 0 then erase.Erased block false else (if n == 26 then erase.Erased block true else (if n == 23 then erase.Retired block else (if n == 24 then erase.Pinned else erase.Stale)))
+    if n == 0 then erase.Erased block false
+    else (if n == 26 then erase.Erased block true else (if n == 23 then erase.Retired block else (if n == 24 then erase.Pinned else erase.Stale)))
 
 -- the code of an erase: 10 for a block that does not exist, and 0, 26, 23, 24 and 25 for its five results
 abbrev pub erase_code : ℕ → ℕ → Seat → ℕ

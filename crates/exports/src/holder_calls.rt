@@ -20,7 +20,8 @@ impl Holder {
         ensures buffer { out.new ≡ if length out.old == page_bytes_of (numbers_of (holder_volume self.old)) then held_value self.old.held else out.old }
         ensures page { page_of self.new.held ≡ page_of self.old.held }
         ensures view { view_of (pass_of self.new.held) ≡ view_of (pass_of self.old.held) }
-        ensures undisturbed { result ≡ 1 → IsUndisturbed (flash_of (holder_volume self.old)) self.old.held (view_of (pass_of self.old.held)).copy self.new.held }
+        ensures undisturbed { result ≡ 1
+            → IsUndisturbed (flash_of (holder_volume self.old)) self.old.held (view_of (pass_of self.old.held)).copy self.new.held }
     {
         if out.len() != self.volume.geometry().page_bytes() {
             return NOT_A_PAGE;
@@ -36,7 +37,8 @@ impl Holder {
         ensures word { out.new ≡ if nat_le (words_of (numbers_of (holder_volume self.old))) i then out.old else data_word (held_value self.old.held) i }
         ensures page { page_of self.new.held ≡ page_of self.old.held }
         ensures view { view_of (pass_of self.new.held) ≡ view_of (pass_of self.old.held) }
-        ensures undisturbed { result ≡ 0 → IsUndisturbed (flash_of (holder_volume self.old)) self.old.held (view_of (pass_of self.old.held)).copy self.new.held }
+        ensures undisturbed { result ≡ 0
+            → IsUndisturbed (flash_of (holder_volume self.old)) self.old.held (view_of (pass_of self.old.held)).copy self.new.held }
     {
         if i >= self.volume.geometry().words() {
             return NO_SUCH_BLOCK;

@@ -19,8 +19,10 @@ impl Host {
     // Reads a sector into a buffer.
     pub(crate) fn read(&mut self, sector: u32, out: &mut [u8]) -> u32
         ensures device { self.new.volume ≡ self.old.volume }
-        ensures code { result ≡ by_place (numbers_of (host_volume self.old)) sector (length out.old) 3 4 (was_code (was_of (sector_after self.old (view_of self.new.pass).seen sector))) }
-        ensures buffer { out.new ≡ by_place (numbers_of (host_volume self.old)) sector (length out.old) out.old out.old (page_over (sector_after self.old (view_of self.new.pass).seen sector) out.old) }
+        ensures code { result ≡ by_place (numbers_of (host_volume self.old)) sector (length out.old) 3 4
+            (was_code (was_of (sector_after self.old (view_of self.new.pass).seen sector))) }
+        ensures buffer { out.new ≡ by_place (numbers_of (host_volume self.old)) sector (length out.old) out.old out.old
+            (page_over (sector_after self.old (view_of self.new.pass).seen sector) out.old) }
         ensures correct { result ≤ 1 → Does (host_volume self.old) self.old.pass (Read sector) (Found (got_by result) out.old out.new) self.new.pass }
         ensures told { result ≤ 1 → (tries : ℕ) × Searched (view_of self.old.pass) tries (view_of self.new.pass) }
         ensures same { 1 < result → self.new.pass ≡ self.old.pass }
@@ -41,7 +43,8 @@ impl Host {
     // Whether a sector is written, by one look.
     pub(crate) fn look(&mut self, sector: u32) -> u32
         ensures device { self.new.volume ≡ self.old.volume }
-        ensures code { result ≡ if nat_le (sectors_of (numbers_of (host_volume self.old))) sector then 3 else as_number (is_some (sector_after self.old (view_of self.new.pass).seen sector)) }
+        ensures code { result ≡ if nat_le (sectors_of (numbers_of (host_volume self.old))) sector then 3
+            else as_number (is_some (sector_after self.old (view_of self.new.pass).seen sector)) }
         ensures correct { result ≤ 1 → Does (host_volume self.old) self.old.pass (Look sector) (IsWritten (written_by result)) self.new.pass }
         ensures told { result ≤ 1 → Searched (view_of self.old.pass) 1 (view_of self.new.pass) }
         ensures opened { opened_of self.new.pass ≡ opened_of self.old.pass }
@@ -62,7 +65,8 @@ impl Host {
         ensures device { self.new.volume ≡ self.old.volume }
         ensures code { result ≡ by_place (numbers_of (host_volume self.old)) sector (length bytes.now) 3 4 (block_found result) }
         ensures correct { result ≤ 1 → Does (host_volume self.old) self.old.pass (Write sector bytes.now) (Replaced (was_by result)) self.new.pass }
-        ensures wrote { result ≤ 1 → (t : ℕ) → HasNumber t self.old.pass → Wrote (view_of self.old.pass) t sector bytes.now (was_by result) (view_of self.new.pass) }
+        ensures wrote { result ≤ 1 → (t : ℕ) → HasNumber t self.old.pass
+            → Wrote (view_of self.old.pass) t sector bytes.now (was_by result) (view_of self.new.pass) }
         ensures refused { result ≡ 7 → Refused (view_of self.old.pass) (view_of self.new.pass) }
         ensures same { result ≡ 3 → self.new.pass ≡ self.old.pass }
         ensures same_page { result ≡ 4 → self.new.pass ≡ self.old.pass }
@@ -85,7 +89,8 @@ impl Host {
         ensures device { self.new.volume ≡ self.old.volume }
         ensures code { result ≡ by_place (numbers_of (host_volume self.old)) sector (length bytes.now) 3 4 (block_found result) }
         ensures correct { result ≤ 1 → Does (host_volume self.old) self.old.pass (WriteNew sector bytes.now) (Replaced (was_by result)) self.new.pass }
-        ensures wrote { result ≤ 1 → (t : ℕ) → HasNumber t self.old.pass → WroteNew (view_of self.old.pass) t sector bytes.now (was_by result) (view_of self.new.pass) }
+        ensures wrote { result ≤ 1 → (t : ℕ) → HasNumber t self.old.pass
+            → WroteNew (view_of self.old.pass) t sector bytes.now (was_by result) (view_of self.new.pass) }
         ensures refused { result ≡ 7 → Refused (view_of self.old.pass) (view_of self.new.pass) }
         ensures same { result ≡ 3 → self.new.pass ≡ self.old.pass }
         ensures same_page { result ≡ 4 → self.new.pass ≡ self.old.pass }

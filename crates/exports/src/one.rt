@@ -2,7 +2,8 @@
 ghost use Rattle.std.specs.Prelude.{◌≡◌, ◌≢◌, None, nat_eq, not, length};
 ghost use Rattle.geometry.specs.Limits.{numbers};
 ghost use Rattle.exports.specs.Handles.{seat_of};
-ghost use Rattle.exports.specs.One.{state_in, state_of, on_state, code_on, filled_on, write_on, write_new_on, trim_on, read_on, buffer_on, totals_on, reported, block_on, report_on, open_code, IsFreshIn};
+ghost use Rattle.exports.specs.One.{state_in, state_of, on_state, code_on, filled_on, write_on, write_new_on, trim_on, read_on};
+ghost use Rattle.exports.specs.One.{buffer_on, totals_on, reported, block_on, report_on, open_code, IsFreshIn};
 
 use crate::codes::{
     ALREADY_OPEN, CLOSED, DONE, NO_MEMORY, NO_SUCH_BLOCK, WRONG_KIND, code_of_fault,

@@ -8,7 +8,8 @@ ghost use Rattle.volume.specs.Brooms.{IsBroomReady};
 ghost use Rattle.volume.specs.Volume.{flash_of};
 ghost use Rattle.exports.specs.Codes.{fault_code};
 ghost use Rattle.exports.specs.Handles.{seat_of};
-ghost use Rattle.exports.specs.Opening.{IsClosed, EachAt, IsFirstPass, IsFirstBroom, IsPassIn, IsBroomIn, IsFreshHost, IsFreshBroom, AreFresh, capped, shared_open_code, shared_fault_code};
+ghost use Rattle.exports.specs.Opening.{IsClosed, EachAt, IsFirstPass, IsFirstBroom, IsPassIn, IsBroomIn, IsFreshHost};
+ghost use Rattle.exports.specs.Opening.{IsFreshBroom, AreFresh, capped, shared_open_code, shared_fault_code};
 
 use crate::codes::{ALREADY_OPEN, BAD_SEATS, DONE, NO_MEMORY, code_of_fault};
 use crate::handle::Handle;
@@ -211,7 +212,8 @@ pub extern "C" fn mintlintel_shared_open(
     sectors: u32,
     endurance: u32,
 ) -> u32
-    ensures code { result ≡ shared_open_code (not (nat_eq result 8)) (numbers luns blocks pages words sectors endurance (capped 501 (length hosts.old)) (capped 33 (length brooms.old))) (not (nat_eq result 6)) }
+    ensures code { result ≡ shared_open_code (not (nat_eq result 8))
+        (numbers luns blocks pages words sectors endurance (capped 501 (length hosts.old)) (capped 33 (length brooms.old))) (not (nat_eq result 6)) }
     ensures closed { result ≢ 8 → All IsClosed hosts.old × All IsClosed brooms.old }
     ensures open { result ≡ 8 → ¬ (All IsClosed hosts.old × All IsClosed brooms.old) }
     ensures fresh { result ≡ 0 → AreFresh (numbers luns blocks pages words sectors endurance (length hosts.old) (length brooms.old)) hosts.new brooms.new }

@@ -14,7 +14,9 @@ ghost use Rattle.volume.specs.Volume.{flash_of};
 ghost use Rattle.volume.specs.Undisturbed.{IsUndisturbed};
 ghost use Rattle.exports.specs.Holding.{hold_code, HoldCalled, HolderCalled, ReleaseCalled, copy_code, copied, word_code, word_read, page_report, if_holder};
 ghost use Rattle.volume.specs.Correct.{Does, Read, Look, Write, WriteNew, Trim, Found, IsWritten, Replaced};
-ghost use Rattle.exports.specs.Shared.{numbers_of, seen_in, HostCalled, BroomCalled, read_code, read_buffer, look_code, write_code, trim_code, got_by, written_by, was_by, drain_code, drain_by, erase_code, erase_by, restock_code, stocked_by, numbers_code, numbers_report};
+ghost use Rattle.exports.specs.Shared.{numbers_of, seen_in, HostCalled, BroomCalled, read_code, read_buffer, look_code, write_code, trim_code};
+ghost use Rattle.exports.specs.Shared.{got_by, written_by, was_by, drain_code, drain_by, erase_code, erase_by, restock_code, stocked_by};
+ghost use Rattle.exports.specs.Shared.{numbers_code, numbers_report};
 
 use crate::codes::{DONE, WRONG_KIND};
 use crate::layer;
@@ -64,7 +66,8 @@ pub(crate) fn look(seat: &mut Seat, sector: u32) -> u32
 pub(crate) fn write(seat: &mut Seat, sector: u32, bytes: &[u8]) -> u32
     ensures code { result ≡ write_code sector (length bytes.now) result seat.old }
     ensures correct { HostCalled seat.old (λ v p q. result ≤ 1 → Does v p (Write sector bytes.now) (Replaced (was_by result)) q) seat.new }
-    ensures wrote { HostCalled seat.old (λ v p q. result ≤ 1 → (t : ℕ) → HasNumber t p → Wrote (view_of p) t sector bytes.now (was_by result) (view_of q)) seat.new }
+    ensures wrote { HostCalled seat.old
+        (λ v p q. result ≤ 1 → (t : ℕ) → HasNumber t p → Wrote (view_of p) t sector bytes.now (was_by result) (view_of q)) seat.new }
     ensures refused { HostCalled seat.old (λ v p q. result ≡ 7 → Refused (view_of p) (view_of q)) seat.new }
     ensures same { HostCalled seat.old (λ v p q. (result ≡ 3 → q ≡ p) × (result ≡ 4 → q ≡ p)) seat.new }
 {
@@ -77,7 +80,8 @@ pub(crate) fn write(seat: &mut Seat, sector: u32, bytes: &[u8]) -> u32
 pub(crate) fn write_new(seat: &mut Seat, sector: u32, bytes: &[u8]) -> u32
     ensures code { result ≡ write_code sector (length bytes.now) result seat.old }
     ensures correct { HostCalled seat.old (λ v p q. result ≤ 1 → Does v p (WriteNew sector bytes.now) (Replaced (was_by result)) q) seat.new }
-    ensures wrote { HostCalled seat.old (λ v p q. result ≤ 1 → (t : ℕ) → HasNumber t p → WroteNew (view_of p) t sector bytes.now (was_by result) (view_of q)) seat.new }
+    ensures wrote { HostCalled seat.old
+        (λ v p q. result ≤ 1 → (t : ℕ) → HasNumber t p → WroteNew (view_of p) t sector bytes.now (was_by result) (view_of q)) seat.new }
     ensures refused { HostCalled seat.old (λ v p q. result ≡ 7 → Refused (view_of p) (view_of q)) seat.new }
     ensures same { HostCalled seat.old (λ v p q. (result ≡ 3 → q ≡ p) × (result ≡ 4 → q ≡ p)) seat.new }
 {

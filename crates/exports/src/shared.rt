@@ -15,7 +15,9 @@ ghost use Rattle.volume.specs.Undisturbed.{IsUndisturbed};
 ghost use Rattle.exports.specs.Holding.{hold_code, HoldCalled, HolderCalled, ReleaseCalled, copy_code, copied, word_code, word_read, page_report, if_holder};
 ghost use Rattle.volume.specs.Correct.{Does, Read, Look, Write, WriteNew, Trim, Found, IsWritten, Replaced};
 ghost use Rattle.exports.specs.Handles.{seat_of};
-ghost use Rattle.exports.specs.Shared.{numbers_of, on_handle, seen_of, OnHandle, HostCalled, BroomCalled, read_code, read_buffer, look_code, write_code, trim_code, got_by, written_by, was_by, drain_code, drain_by, erase_code, erase_by, restock_code, stocked_by, numbers_code, numbers_report};
+ghost use Rattle.exports.specs.Shared.{numbers_of, on_handle, seen_of, OnHandle, HostCalled, BroomCalled, read_code, read_buffer, look_code};
+ghost use Rattle.exports.specs.Shared.{write_code, trim_code, got_by, written_by, was_by, drain_code, drain_by, erase_code, erase_by, restock_code};
+ghost use Rattle.exports.specs.Shared.{stocked_by, numbers_code, numbers_report};
 
 use crate::codes::CLOSED;
 use crate::handle::Handle;
@@ -61,8 +63,10 @@ pub extern "C" fn mintlintel_host_read(
 ) -> u32
     ensures code { result ≡ on_handle (seat_of handle.old) 2 (read_code sector (length out.old) (seen_of (seat_of handle.new))) }
     ensures buffer { out.new ≡ on_handle (seat_of handle.old) out.old (read_buffer sector out.old (seen_of (seat_of handle.new))) }
-    ensures correct { OnHandle (seat_of handle.old) (λ x y. HostCalled x (λ v p q. result ≤ 1 → Does v p (Read sector) (Found (got_by result) out.old out.new) q) y) (seat_of handle.new) }
-    ensures told { OnHandle (seat_of handle.old) (λ x y. HostCalled x (λ v p q. result ≤ 1 → (tries : ℕ) × Searched (view_of p) tries (view_of q)) y) (seat_of handle.new) }
+    ensures correct { OnHandle (seat_of handle.old)
+        (λ x y. HostCalled x (λ v p q. result ≤ 1 → Does v p (Read sector) (Found (got_by result) out.old out.new) q) y) (seat_of handle.new) }
+    ensures told { OnHandle (seat_of handle.old) (λ x y. HostCalled x (λ v p q. result ≤ 1 → (tries : ℕ) × Searched (view_of p) tries (view_of q)) y)
+        (seat_of handle.new) }
     ensures same { OnHandle (seat_of handle.old) (λ x y. HostCalled x (λ v p q. 1 < result → q ≡ p) y) (seat_of handle.new) }
 {
     let Some(mut seat) = handle.take(alloc) else {
@@ -78,7 +82,8 @@ pub extern "C" fn mintlintel_host_read(
 #[tactic(auto, using(crate::proofs::Told::on_open))]
 pub extern "C" fn mintlintel_host_look(alloc: Global, handle: &mut Handle, sector: u32) -> u32
     ensures code { result ≡ on_handle (seat_of handle.old) 2 (look_code sector (seen_of (seat_of handle.new))) }
-    ensures correct { OnHandle (seat_of handle.old) (λ x y. HostCalled x (λ v p q. result ≤ 1 → Does v p (Look sector) (IsWritten (written_by result)) q) y) (seat_of handle.new) }
+    ensures correct { OnHandle (seat_of handle.old)
+        (λ x y. HostCalled x (λ v p q. result ≤ 1 → Does v p (Look sector) (IsWritten (written_by result)) q) y) (seat_of handle.new) }
     ensures told { OnHandle (seat_of handle.old) (λ x y. HostCalled x (λ v p q. result ≤ 1 → Searched (view_of p) 1 (view_of q)) y) (seat_of handle.new) }
     ensures opened { OnHandle (seat_of handle.old) (λ x y. HostCalled x (λ v p q. opened_of q ≡ opened_of p) y) (seat_of handle.new) }
     ensures same { OnHandle (seat_of handle.old) (λ x y. HostCalled x (λ v p q. 1 < result → q ≡ p) y) (seat_of handle.new) }
@@ -100,8 +105,11 @@ pub extern "C" fn mintlintel_host_write(
     bytes: &[u8],
 ) -> u32
     ensures code { result ≡ on_handle (seat_of handle.old) 2 (write_code sector (length bytes.now) result) }
-    ensures correct { OnHandle (seat_of handle.old) (λ x y. HostCalled x (λ v p q. result ≤ 1 → Does v p (Write sector bytes.now) (Replaced (was_by result)) q) y) (seat_of handle.new) }
-    ensures wrote { OnHandle (seat_of handle.old) (λ x y. HostCalled x (λ v p q. result ≤ 1 → (t : ℕ) → HasNumber t p → Wrote (view_of p) t sector bytes.now (was_by result) (view_of q)) y) (seat_of handle.new) }
+    ensures correct { OnHandle (seat_of handle.old)
+        (λ x y. HostCalled x (λ v p q. result ≤ 1 → Does v p (Write sector bytes.now) (Replaced (was_by result)) q) y) (seat_of handle.new) }
+    ensures wrote { OnHandle (seat_of handle.old)
+        (λ x y. HostCalled x (λ v p q. result ≤ 1 → (t : ℕ) → HasNumber t p → Wrote (view_of p) t sector bytes.now (was_by result) (view_of q)) y)
+        (seat_of handle.new) }
     ensures refused { OnHandle (seat_of handle.old) (λ x y. HostCalled x (λ v p q. result ≡ 7 → Refused (view_of p) (view_of q)) y) (seat_of handle.new) }
     ensures same { OnHandle (seat_of handle.old) (λ x y. HostCalled x (λ v p q. (result ≡ 3 → q ≡ p) × (result ≡ 4 → q ≡ p)) y) (seat_of handle.new) }
 {
@@ -122,8 +130,11 @@ pub extern "C" fn mintlintel_host_write_new(
     bytes: &[u8],
 ) -> u32
     ensures code { result ≡ on_handle (seat_of handle.old) 2 (write_code sector (length bytes.now) result) }
-    ensures correct { OnHandle (seat_of handle.old) (λ x y. HostCalled x (λ v p q. result ≤ 1 → Does v p (WriteNew sector bytes.now) (Replaced (was_by result)) q) y) (seat_of handle.new) }
-    ensures wrote { OnHandle (seat_of handle.old) (λ x y. HostCalled x (λ v p q. result ≤ 1 → (t : ℕ) → HasNumber t p → WroteNew (view_of p) t sector bytes.now (was_by result) (view_of q)) y) (seat_of handle.new) }
+    ensures correct { OnHandle (seat_of handle.old)
+        (λ x y. HostCalled x (λ v p q. result ≤ 1 → Does v p (WriteNew sector bytes.now) (Replaced (was_by result)) q) y) (seat_of handle.new) }
+    ensures wrote { OnHandle (seat_of handle.old)
+        (λ x y. HostCalled x (λ v p q. result ≤ 1 → (t : ℕ) → HasNumber t p → WroteNew (view_of p) t sector bytes.now (was_by result) (view_of q)) y)
+        (seat_of handle.new) }
     ensures refused { OnHandle (seat_of handle.old) (λ x y. HostCalled x (λ v p q. result ≡ 7 → Refused (view_of p) (view_of q)) y) (seat_of handle.new) }
     ensures same { OnHandle (seat_of handle.old) (λ x y. HostCalled x (λ v p q. (result ≡ 3 → q ≡ p) × (result ≡ 4 → q ≡ p)) y) (seat_of handle.new) }
 {
@@ -139,8 +150,11 @@ pub extern "C" fn mintlintel_host_write_new(
 #[unsafe(no_mangle)]
 pub extern "C" fn mintlintel_host_trim(alloc: Global, handle: &mut Handle, sector: u32) -> u32
     ensures code { result ≡ on_handle (seat_of handle.old) 2 (trim_code sector result) }
-    ensures correct { OnHandle (seat_of handle.old) (λ x y. HostCalled x (λ v p q. result ≤ 1 → Does v p (Trim sector) (Replaced (was_by result)) q) y) (seat_of handle.new) }
-    ensures told { OnHandle (seat_of handle.old) (λ x y. HostCalled x (λ v p q. result ≤ 1 → (t : ℕ) → HasNumber t p → HasCalled p (call.Trim t sector) sector (was_by result) q) y) (seat_of handle.new) }
+    ensures correct { OnHandle (seat_of handle.old)
+        (λ x y. HostCalled x (λ v p q. result ≤ 1 → Does v p (Trim sector) (Replaced (was_by result)) q) y) (seat_of handle.new) }
+    ensures told { OnHandle (seat_of handle.old)
+        (λ x y. HostCalled x (λ v p q. result ≤ 1 → (t : ℕ) → HasNumber t p → HasCalled p (call.Trim t sector) sector (was_by result) q) y)
+        (seat_of handle.new) }
     ensures same { OnHandle (seat_of handle.old) (λ x y. HostCalled x (λ v p q. 1 < result → q ≡ p) y) (seat_of handle.new) }
 {
     let Some(mut seat) = handle.take(alloc) else {
@@ -174,7 +188,8 @@ pub extern "C" fn mintlintel_host_copy(alloc: Global, handle: &mut Handle, out: 
     ensures buffer { out.new ≡ on_handle (seat_of handle.old) out.old (copied out.old) }
     ensures page { OnHandle (seat_of handle.old) (λ x y. HolderCalled x (λ v k j. page_of j ≡ page_of k) y) (seat_of handle.new) }
     ensures view { OnHandle (seat_of handle.old) (λ x y. HolderCalled x (λ v k j. view_of (pass_of j) ≡ view_of (pass_of k)) y) (seat_of handle.new) }
-    ensures undisturbed { OnHandle (seat_of handle.old) (λ x y. HolderCalled x (λ v k j. result ≡ 1 → IsUndisturbed (flash_of v) k (view_of (pass_of k)).copy j) y) (seat_of handle.new) }
+    ensures undisturbed { OnHandle (seat_of handle.old)
+        (λ x y. HolderCalled x (λ v k j. result ≡ 1 → IsUndisturbed (flash_of v) k (view_of (pass_of k)).copy j) y) (seat_of handle.new) }
 {
     let Some(mut seat) = handle.take(alloc) else {
         return CLOSED;
@@ -197,7 +212,8 @@ pub extern "C" fn mintlintel_host_word(
     ensures word { out.new ≡ on_handle (seat_of handle.old) out.old (word_read i out.old) }
     ensures page { OnHandle (seat_of handle.old) (λ x y. HolderCalled x (λ v k j. page_of j ≡ page_of k) y) (seat_of handle.new) }
     ensures view { OnHandle (seat_of handle.old) (λ x y. HolderCalled x (λ v k j. view_of (pass_of j) ≡ view_of (pass_of k)) y) (seat_of handle.new) }
-    ensures undisturbed { OnHandle (seat_of handle.old) (λ x y. HolderCalled x (λ v k j. result ≡ 0 → IsUndisturbed (flash_of v) k (view_of (pass_of k)).copy j) y) (seat_of handle.new) }
+    ensures undisturbed { OnHandle (seat_of handle.old)
+        (λ x y. HolderCalled x (λ v k j. result ≡ 0 → IsUndisturbed (flash_of v) k (view_of (pass_of k)).copy j) y) (seat_of handle.new) }
 {
     let Some(mut seat) = handle.take(alloc) else {
         return CLOSED;
@@ -253,7 +269,8 @@ pub extern "C" fn mintlintel_broom_drain(
     ensures told { OnHandle (seat_of handle.old) (λ x y. BroomCalled x (λ v b c. DrainTold b (drain_by result block.new moved.new) c) y) (seat_of handle.new) }
     ensures left { OnHandle (seat_of handle.old) (λ x y. BroomCalled x (λ v b c. SurveyLeft b (drain_by result block.new moved.new) c) y) (seat_of handle.new) }
     ensures queue { OnHandle (seat_of handle.old) (λ x y. BroomCalled x (λ v b c. HandsNothing b c) y) (seat_of handle.new) }
-    ensures below { OnHandle (seat_of handle.old) (λ x y. BroomCalled x (λ v b c. IsBelow (blocks_of (numbers_of v)) (drain_by result block.new moved.new)) y) (seat_of handle.new) }
+    ensures below { OnHandle (seat_of handle.old)
+        (λ x y. BroomCalled x (λ v b c. IsBelow (blocks_of (numbers_of v)) (drain_by result block.new moved.new)) y) (seat_of handle.new) }
     ensures block { result ≢ 0 → block.new ≡ block.old }
     ensures moved { result ≢ 0 → moved.new ≡ moved.old }
 {
@@ -276,7 +293,8 @@ pub extern "C" fn mintlintel_broom_drain_next(
     ensures code { result ≡ on_handle (seat_of handle.old) 2 (drain_code result) }
     ensures told { OnHandle (seat_of handle.old) (λ x y. BroomCalled x (λ v b c. NextTold b (drain_by result block.new moved.new) c) y) (seat_of handle.new) }
     ensures queue { OnHandle (seat_of handle.old) (λ x y. BroomCalled x (λ v b c. HandsNothing b c) y) (seat_of handle.new) }
-    ensures below { OnHandle (seat_of handle.old) (λ x y. BroomCalled x (λ v b c. IsBelow (blocks_of (numbers_of v)) (drain_by result block.new moved.new)) y) (seat_of handle.new) }
+    ensures below { OnHandle (seat_of handle.old)
+        (λ x y. BroomCalled x (λ v b c. IsBelow (blocks_of (numbers_of v)) (drain_by result block.new moved.new)) y) (seat_of handle.new) }
     ensures block { result ≢ 0 → block.new ≡ block.old }
     ensures moved { result ≢ 0 → moved.new ≡ moved.old }
 {
@@ -292,7 +310,8 @@ pub extern "C" fn mintlintel_broom_drain_next(
 #[unsafe(no_mangle)]
 pub extern "C" fn mintlintel_broom_erase(alloc: Global, handle: &mut Handle, block: u32) -> u32
     ensures code { result ≡ on_handle (seat_of handle.old) 2 (erase_code block result) }
-    ensures told { OnHandle (seat_of handle.old) (λ x y. BroomCalled x (λ v b c. result ≢ 10 → EraseTold b block (erase_by result block) c) y) (seat_of handle.new) }
+    ensures told { OnHandle (seat_of handle.old) (λ x y. BroomCalled x (λ v b c. result ≢ 10 → EraseTold b block (erase_by result block) c) y)
+        (seat_of handle.new) }
     ensures marks { OnHandle (seat_of handle.old) (λ x y. BroomCalled x (λ v b c. result ≢ 10 → Unmarks b block c) y) (seat_of handle.new) }
     ensures queue { OnHandle (seat_of handle.old) (λ x y. BroomCalled x (λ v b c. result ≢ 10 → HandsNothing b c) y) (seat_of handle.new) }
     ensures same { OnHandle (seat_of handle.old) (λ x y. BroomCalled x (λ v b c. result ≡ 10 → c ≡ b) y) (seat_of handle.new) }

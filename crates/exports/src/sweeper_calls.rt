@@ -47,7 +47,8 @@ impl Sweeper {
     // Erases a drained block.
     pub(crate) fn erase(&mut self, block: u32) -> u32
         ensures device { self.new.volume ≡ self.old.volume }
-        ensures code { result ≡ if nat_le (blocks_of (numbers_of (sweeper_volume self.old))) block then 10 else (if result == 0 then 0 else (if result == 26 then 26 else (if result == 23 then 23 else (if result == 24 then 24 else 25)))) }
+        ensures code { result ≡ if nat_le (blocks_of (numbers_of (sweeper_volume self.old))) block then 10
+            else (if result == 0 then 0 else (if result == 26 then 26 else (if result == 23 then 23 else (if result == 24 then 24 else 25)))) }
         ensures told { result ≢ 10 → EraseTold self.old.broom block (erase_by result block) self.new.broom }
         ensures marks { result ≢ 10 → Unmarks self.old.broom block self.new.broom }
         ensures queue { result ≢ 10 → HandsNothing self.old.broom self.new.broom }

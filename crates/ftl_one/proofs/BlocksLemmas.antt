@@ -1,5 +1,6 @@
 -- The blocks of the stock, as a store and the roles give them.
-use Rattle.std.proofs.Common.{◌≡◌, ◌≢◌, inl, inr, ℕ, ◌+◌, ◌<◌, Bool, true, not, cond, ltb, List, [], ◌∷◌, length, get_or, set, map, Option, None, Some, sym, ap, ◌∙◌, refl, arith, length-set, get_or-set_same, get_or-set_other}
+use Rattle.std.proofs.Common.{◌≡◌, ◌≢◌, inl, inr, ℕ, ◌+◌, ◌<◌, Bool, true, not, cond, ltb, List, [], ◌∷◌, length, get_or, set, map, Option}
+use Rattle.std.proofs.Common.{None, Some, sym, ap, ◌∙◌, refl, arith, length-set, get_or-set_same, get_or-set_other}
 use Rattle.std.specs.List.{range_with_len, position, position_or_len, prefix_len}
 use Rattle.std.proofs.lemmas.List.{length-map, get_or-map}
 use Rattle.std.proofs.lemmas.List.FromFn.{length-map-range_with_len, get_or-map-range_with_len, fill_by_all}
@@ -32,7 +33,8 @@ pub table_is : {X : Type 0} (f : ℕ → X) (n : ℕ) (xs : List X) (d : X) → 
 table_is f n xs d size same = sym (fill_by_all f xs n d size (λ k low. sym (same k low)))
 
 -- one block is changed
-pub table-change : (f f' : ℕ → Block) (n b : ℕ) (change : Block → Block) → b < n → f' b ≡ change (f b) → ((c : ℕ) → c < n → c ≢ b → f' c ≡ f c) → table f' n ≡ change_at (table f n) b change
+pub table-change : (f f' : ℕ → Block) (n b : ℕ) (change : Block → Block) → b < n → f' b ≡ change (f b) → ((c : ℕ) → c < n → c ≢ b → f' c ≡ f c)
+    → table f' n ≡ change_at (table f n) b change
 table-change f f' n b change low here there =
     let xs = table f n in
     let d : Block = unused Retired in
@@ -65,7 +67,9 @@ position-map p g xs =
     ap (λ (k : ℕ). f k (length xs)) e ∙ ap (f (position_or_len p (map g xs))) (sym (length-map xs g))
 
 -- the place at which a test holds alone, or none
-pub position_alone : {X : Type 0} (p : X → Bool) (xs : List X) (d : X) (o : Option ℕ) → ((k : ℕ) → k < length xs → p (get_or xs k d) ≡ true → o ≡ Some k) → ((k : ℕ) → o ≡ Some k → (k < length xs) × (p (get_or xs k d) ≡ true)) → position p xs ≡ o
+pub position_alone : {X : Type 0} (p : X → Bool) (xs : List X) (d : X) (o : Option ℕ)
+    → ((k : ℕ) → k < length xs → p (get_or xs k d) ≡ true → o ≡ Some k) → ((k : ℕ) → o ≡ Some k → (k < length xs) × (p (get_or xs k d) ≡ true))
+    → position p xs ≡ o
 position_alone p xs d None one at =
     let found : position_or_len p xs ≡ length xs =
     position_or_len_is p xs (length xs) d (omega arith)
@@ -129,7 +133,8 @@ closed-blocks s roles = map-part (blocks_in s roles) ∙ ap (map is_closed) (rol
     map-part (x ∷ xs) = ap (λ (ys : List Bool). is_closed x.role ∷ ys) (map-part xs)
 
 -- the victim is the greedy choice by the counts and the marks
-pub victim_of-blocks : (s : Store) (roles : List Role) → length roles ≡ blocks_of (geometry_of s) → victim_of (blocks_in s roles) ≡ greedy_of (counts_of s) (map is_closed roles)
+pub victim_of-blocks : (s : Store) (roles : List Role) → length roles ≡ blocks_of (geometry_of s)
+    → victim_of (blocks_in s roles) ≡ greedy_of (counts_of s) (map is_closed roles)
 victim_of-blocks s roles size =
     ap (λ (xs : List ℕ). greedy_of xs (map (λ block. is_closed block.role) (blocks_in s roles))) (counts-blocks s roles size)
     ∙ ap (greedy_of (counts_of s)) (closed-blocks s roles)

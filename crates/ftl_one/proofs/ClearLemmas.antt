@@ -1,5 +1,6 @@
 -- A block's live pages are copied one after the other, from its first page on.
-use Rattle.std.proofs.Common.{◌≡◌, ◌≢◌, ℕ, ◌+◌, ◌<◌, ◌≤◌, Bool, true, false, cond, List, [], ◌∷◌, ◌++◌, length, get_or, take, sym, ap, ◌∙◌, refl, arith, length-append, length-set, length-take, get_or-set_other}
+use Rattle.std.proofs.Common.{◌≡◌, ◌≢◌, ℕ, ◌+◌, ◌<◌, ◌≤◌, Bool, true, false, cond, List, [], ◌∷◌, ◌++◌, length, get_or, take, sym}
+use Rattle.std.proofs.Common.{ap, ◌∙◌, refl, arith, length-append, length-set, length-take, get_or-set_other}
 use Rattle.std.proofs.lemmas.List.{append_assoc, take_more, take_more_set, take_all, append-nil}
 use Rattle.std.proofs.lemmas.List.Elements.{filter-append}
 use Rattle.std.proofs.lemmas.List.Sums.{sum_by_push, sum_by-take-le, sum_by_more, length-filter, count_by-le-length}
@@ -51,7 +52,8 @@ ClearedTo-none s victim spare =
     }
 
 -- the live entries of one more page
-live-one : (xs : List Entry) (p : ℕ) (e d : Entry) → p < length xs → get_or xs p d ≡ e → live_entries (take (p + 1) xs) ≡ live_entries (take p xs) ++ cond e.live (e ∷ []) []
+live-one : (xs : List Entry) (p : ℕ) (e d : Entry) → p < length xs → get_or xs p d ≡ e
+    → live_entries (take (p + 1) xs) ≡ live_entries (take p xs) ++ cond e.live (e ∷ []) []
 live-one xs p e d low is =
     ap live_entries (take_more xs p d low)
     ∙ (filter-append (λ (x : Entry). x.live) (take p xs) (get_or xs p d ∷ [])
@@ -61,7 +63,8 @@ count-one : (xs : List Entry) (p : ℕ) (d : Entry) → p < length xs → live_c
 count-one xs p d low = sum_by_more (λ (x : Entry). cond x.live 1 0) xs p d low
 
 -- a dead page is passed over
-pub ClearedTo-dead : (old now : Store) (victim spare p copies : ℕ) → ClearedTo old now victim spare p copies → p < length (entries_of old victim) → (get_or (entries_of now victim) p nothing).live ≡ false → ClearedTo old now victim spare (p + 1) copies
+pub ClearedTo-dead : (old now : Store) (victim spare p copies : ℕ) → ClearedTo old now victim spare p copies → p < length (entries_of old victim)
+    → (get_or (entries_of now victim) p nothing).live ≡ false → ClearedTo old now victim spare (p + 1) copies
 ClearedTo-dead old now victim spare p copies h low off =
     let was : get_or (entries_of old victim) p nothing ≡ get_or (entries_of now victim) p nothing = sym (h.rest p nothing (omega arith)) in
     let off_old : (get_or (entries_of old victim) p nothing).live ≡ false = ap (λ (e : Entry). e.live) was ∙ off in
@@ -80,7 +83,10 @@ ClearedTo-dead old now victim spare p copies h low off =
     }
 
 -- a live page is copied
-pub ClearedTo-live : (old now next : Store) (victim spare p copies : ℕ) → ClearedTo old now victim spare p copies → p < length (entries_of old victim) → victim < blocks_of (geometry_of old) → live_at now (record { block = victim; page = p }) ≡ true → Relocates now next (record { block = victim; page = p }) spare (sector_of now (record { block = victim; page = p })) → ClearedTo old next victim spare (p + 1) (copies + 1)
+pub ClearedTo-live : (old now next : Store) (victim spare p copies : ℕ) → ClearedTo old now victim spare p copies → p < length (entries_of old victim)
+    → victim < blocks_of (geometry_of old) → live_at now (record { block = victim; page = p }) ≡ true
+    → Relocates now next (record { block = victim; page = p }) spare (sector_of now (record { block = victim; page = p }))
+    → ClearedTo old next victim spare (p + 1) (copies + 1)
 ClearedTo-live old now next victim spare p copies h low inside on moved =
     let at : PageAddr = record { block = victim; page = p } in
     let e : Entry = get_or (entries_of now victim) p nothing in
@@ -98,19 +104,27 @@ ClearedTo-live old now next victim spare p copies h low inside on moved =
           ∙ sym (live-one (entries_of old victim) p e nothing low was
           ∙ ap (λ (t : Bool). live_entries (take p (entries_of old victim)) ++ cond t (e ∷ []) []) on))));
       size = ap (λ (xs : List Entry). length xs) moved.dead ∙ (length-set (entries_of now victim) p dead ∙ h.size);
-      rest = λ q d past. ap (λ (xs : List Entry). get_or xs q d) moved.dead ∙ (get_or-set_other (entries_of now victim) p q dead d (λ k. omega (arith, k)) ∙ h.rest q d (omega arith));
+      rest = λ q d past. ap (λ (xs : List Entry). get_or xs q d) moved.dead
+          ∙ (get_or-set_other (entries_of now victim) p q dead d (λ k. omega (arith, k)) ∙ h.rest q d (omega arith));
       dead =
           let front : take (p + 1) (entries_of next victim) ≡ take p (entries_of now victim) ++ dead ∷ [] =
           ap (take (p + 1)) moved.dead ∙ take_more_set (entries_of now victim) p dead (omega (arith, low, h.size)) in
           ap live_count front ∙ omega (arith, sum_by_push (λ (x : Entry). cond x.live 1 0) (take p (entries_of now victim)) dead, h.dead);
-      count = omega (arith, h.count, count-one (entries_of old victim) p nothing low, ap {B = ℕ} (λ (t : Entry). cond t.live 1 0) was, ap {B = ℕ} (λ (t : Bool). cond t 1 0) on);
+      count = omega (
+        arith,
+        h.count,
+        count-one (entries_of old victim) p nothing low,
+        ap {B = ℕ} (λ (t : Entry). cond t.live 1 0) was,
+        ap {B = ℕ} (λ (t : Bool). cond t 1 0) on,
+      );
       others = λ c first second within. moved.others c first second (omega (arith, within, same)) ∙ h.others c first second within;
       sectors = moved.sectors ∙ h.sectors;
       keeps = keeps_both old now next h.keeps moved.keeps;
     }
 
 -- the block that is copied into has room for the next live page
-pub ClearedTo-room : (old now : Store) (victim spare p copies : ℕ) → ClearedTo old now victim spare p copies → p < length (entries_of old victim) → (get_or (entries_of now victim) p nothing).live ≡ true → HasRoomFor old spare (live_count (entries_of old victim)) → HasRoom now spare
+pub ClearedTo-room : (old now : Store) (victim spare p copies : ℕ) → ClearedTo old now victim spare p copies → p < length (entries_of old victim)
+    → (get_or (entries_of now victim) p nothing).live ≡ true → HasRoomFor old spare (live_count (entries_of old victim)) → HasRoom now spare
 ClearedTo-room old now victim spare p copies h low on room =
     let was : get_or (entries_of old victim) p nothing ≡ get_or (entries_of now victim) p nothing = sym (h.rest p nothing (omega arith)) in
     let one = count-one (entries_of old victim) p nothing low in
@@ -128,7 +142,8 @@ ClearedTo-room old now victim spare p copies h low on room =
     }
 
 -- all pages are passed
-pub ClearedTo-all : (old now : Store) (victim spare p copies : ℕ) → ClearedTo old now victim spare p copies → p ≡ length (entries_of old victim) → (copies ≡ live_count (entries_of old victim)) × Clears old now victim spare
+pub ClearedTo-all : (old now : Store) (victim spare p copies : ℕ) → ClearedTo old now victim spare p copies → p ≡ length (entries_of old victim)
+    → (copies ≡ live_count (entries_of old victim)) × Clears old now victim spare
 ClearedTo-all old now victim spare p copies h all =
     let whole : take p (entries_of old victim) ≡ entries_of old victim = take_all p (entries_of old victim) (omega (arith, all)) in
     let whole_now : take p (entries_of now victim) ≡ entries_of now victim = take_all p (entries_of now victim) (omega (arith, all, h.size)) in (
@@ -145,5 +160,6 @@ ClearedTo-all old now victim spare p copies h all =
 -- no more pages are copied than were passed
 pub copies_below : (old now : Store) (victim spare p copies : ℕ) → ClearedTo old now victim spare p copies → copies ≤ p
 copies_below old now victim spare p copies h =
-    let most : live_count (take p (entries_of old victim)) ≤ length (take p (entries_of old victim)) = count_by-le-length (λ (x : Entry). x.live) (take p (entries_of old victim)) in
+    let most : live_count (take p (entries_of old victim)) ≤ length (take p (entries_of old victim)) =
+    count_by-le-length (λ (x : Entry). x.live) (take p (entries_of old victim)) in
     omega (arith, h.count, most, length-take p (entries_of old victim))

@@ -1,5 +1,6 @@
 -- A collection: all blocks but the spare are closed, the victim has a dead page, and what stands after it.
-use Rattle.std.proofs.Common.{◌≡◌, ◌≢◌, inl, inr, ℕ, zero, suc, ◌-◌, ◌*◌, ◌<◌, ◌≤◌, Bool, false, cond, List, [], ◌∷◌, length, get_or, map, sum, None, Some, is_some, sym, ap, ◌∙◌, subst, arith, length-append}
+use Rattle.std.proofs.Common.{◌≡◌, ◌≢◌, inl, inr, ℕ, zero, suc, ◌-◌, ◌*◌, ◌<◌, ◌≤◌, Bool, false, cond, List, [], ◌∷◌, length}
+use Rattle.std.proofs.Common.{get_or, map, sum, None, Some, is_some, sym, ap, ◌∙◌, subst, arith, length-append}
 use Rattle.std.proofs.lemmas.List.{length-map, get_or-map, get_or_past}
 use Rattle.std.proofs.lemmas.List.Sums.{sum_by-cons, count_by-le-length, length-filter}
 use Rattle.std.proofs.lemmas.Bool.{false≢true, cases_lt}
@@ -45,7 +46,8 @@ sum_all_but (x ∷ (y ∷ ys)) (suc a) m most =
     subst (λ (n : ℕ). n * m ≤ sum (x ∷ (y ∷ ys))) (sym size) more
 
 -- where a block is collected
-module _ (f : OneFtl) (spare : ℕ) (none : open_of (stock_of f).blocks ≡ None) (no_free : free_of (stock_of f).blocks ≡ None) (is_spare : spare_of (stock_of f).blocks ≡ Some spare) where
+module _ (f : OneFtl) (spare : ℕ) (none : open_of (stock_of f).blocks ≡ None) (no_free : free_of (stock_of f).blocks ≡ None)
+    (is_spare : spare_of (stock_of f).blocks ≡ Some spare) where
   no_open : f.open_block ≡ None
   no_open = sym (open_of-stock f) ∙ none
 
@@ -59,7 +61,8 @@ module _ (f : OneFtl) (spare : ℕ) (none : open_of (stock_of f).blocks ≡ None
   pub all_closed : (b : ℕ) → b < blocks_of (geometry_of f.store) → b ≢ spare → role_in f.roles.items b ≡ Closed
   all_closed b low apart =
       closed_else (role_in f.roles.items b)
-      (λ e. absurd (false≢true (sym (none_found is_free f.roles.items Retired (sym (free_of-stock f) ∙ no_free) b (omega (arith, low, f.roles_sized))) ∙ ap is_free e)))
+      (λ e. absurd (false≢true (sym (none_found is_free f.roles.items Retired (sym (free_of-stock f) ∙ no_free) b (omega (arith, low, f.roles_sized)))
+      ∙ ap is_free e)))
       (λ e. clash b no_open (f.lawful.open_is b e))
       (λ e. apart (f.lawful.one_spare b spare e spare_role))
       (λ e. f.lawful.spare_last spare b low spare_role e)
@@ -77,7 +80,8 @@ module _ (f : OneFtl) (spare : ℕ) (none : open_of (stock_of f).blocks ≡ None
   pub victim_within : (b : ℕ) → IsClosed (map is_closed f.roles.items) b → b < blocks_of (geometry_of f.store)
   victim_within b is = elim (cases_lt b (blocks_of (geometry_of f.store))) [
     | inl low ↦ low
-    | inr past ↦ absurd (false≢true (sym (get_or_past (map is_closed f.roles.items) b false (omega (arith, past, f.roles_sized, length-map f.roles.items is_closed))) ∙ is))
+    | inr past ↦ absurd (false≢true
+        (sym (get_or_past (map is_closed f.roles.items) b false (omega (arith, past, f.roles_sized, length-map f.roles.items is_closed))) ∙ is))
   ]
 
   pub victim_role : (b : ℕ) → IsClosed (map is_closed f.roles.items) b → role_in f.roles.items b ≡ Closed
@@ -101,7 +105,8 @@ module _ (f : OneFtl) (spare : ℕ) (none : open_of (stock_of f).blocks ≡ None
   unfolding counts_of
   victim_by v fewest =
       victim_of-stock f
-      ∙ greedy_of-best (counts_of f.store) (map is_closed f.roles.items) (omega (arith, f.store.mapped.live_size, f.roles_sized, length-map f.roles.items is_closed)) v (greedy_by v fewest)
+      ∙ greedy_of-best (counts_of f.store) (map is_closed f.roles.items)
+      (omega (arith, f.store.mapped.live_size, f.roles_sized, length-map f.roles.items is_closed)) v (greedy_by v fewest)
 
   spare_empty : length (entries_of f.store spare) ≡ 0
   spare_empty = f.lawful.unused spare spare_within (ap has_pages spare_role)
@@ -133,14 +138,22 @@ module _ (f : OneFtl) (spare : ℕ) (none : open_of (stock_of f).blocks ≡ None
   ]
 
   -- what the layer keeps true after it
-  pub law_after : (mid new : Store) (v : ℕ) (failed : Bool) (role' : ℕ → Role) → IsGreedy (counts_of f.store) (map is_closed f.roles.items) v → Clears f.store mid v spare → Erases mid new v → retired_of new v ≡ failed → role' spare ≡ Open → role' v ≡ cond failed Retired Spare → ((c : ℕ) → c ≢ spare → c ≢ v → role' c ≡ role_in f.roles.items c) → IsLawful (blocks_of (geometry_of f.store)) (pages_of (geometry_of f.store)) (λ b. length (entries_of new b)) (retired_of new) role' (Some spare)
+  pub law_after : (mid new : Store) (v : ℕ) (failed : Bool) (role' : ℕ → Role) → IsGreedy (counts_of f.store) (map is_closed f.roles.items) v
+      → Clears f.store mid v spare → Erases mid new v → retired_of new v ≡ failed → role' spare ≡ Open → role' v ≡ cond failed Retired Spare
+      → ((c : ℕ) → c ≢ spare → c ≢ v → role' c ≡ role_in f.roles.items c)
+      → IsLawful (blocks_of (geometry_of f.store)) (pages_of (geometry_of f.store)) (λ b. length (entries_of new b)) (retired_of new) role' (Some spare)
   law_after mid new v failed role' best clears erases is_failed opened done others =
       let g = geometry_of f.store in
       let apart = victim_apart v best.is_closed in
       let count = ap blocks_of clears.keeps.geometry in
       let moved : length (entries_of new spare) ≡ live_count (entries_of f.store v) =
       ap (λ (xs : List Entry). length xs) (erases.entries spare (λ e. apart (sym e)) (omega (arith, spare_within, count)) ∙ clears.copied)
-      ∙ omega (arith, length-append (entries_of f.store spare) (live_entries (entries_of f.store v)), spare_empty, length-filter (λ (e : Entry). e.live) (entries_of f.store v)) in
+      ∙ omega (
+        arith,
+        length-append (entries_of f.store spare) (live_entries (entries_of f.store v)),
+        spare_empty,
+        length-filter (λ (e : Entry). e.live) (entries_of f.store v),
+      ) in
       lawful-collect (blocks_of g) (pages_of g) (λ b. length (entries_of f.store b)) (retired_of f.store) (role_in f.roles.items) f.open_block f.lawful
       (λ b. length (entries_of new b)) (retired_of new) role' spare v failed no_open spare_role (victim_role v best.is_closed)
       (omega (arith, moved, few_live v best))

@@ -1,5 +1,6 @@
 -- The collection that a write makes is the one that was due.
-use Rattle.std.proofs.Common.{◌≡◌, ◌≢◌, ℕ, ◌+◌, ◌<◌, ◌≤◌, Bool, true, false, cond, eqb, ltb, List, length, get_or, map, Option, None, Some, sym, ap, ◌∙◌, refl, inl, inr, subst, arith, length-set, zero-add}
+use Rattle.std.proofs.Common.{◌≡◌, ◌≢◌, ℕ, ◌+◌, ◌<◌, ◌≤◌, Bool, true, false, cond, eqb, ltb, List, length, get_or, map, Option}
+use Rattle.std.proofs.Common.{None, Some, sym, ap, ◌∙◌, refl, inl, inr, subst, arith, length-set, zero-add}
 use Rattle.std.specs.Prelude.{is_some, nat_lt, option_map}
 use Rattle.std.specs.Option.{option_and_then}
 use Rattle.std.specs.List.{position, position_or_len, range_with_len}
@@ -16,8 +17,10 @@ use Rattle.ftl_one.specs.declared.role.Role.{Role}
 use Rattle.ftl_one.specs.declared.role.Role.TheVariants.{Closed, Open, Retired, Spare}
 use Rattle.ftl_one.specs.Collections.{collection_between, collection_due, collection_into, collection_of, copybacks_into, due_by, erased_between, was_erased}
 use Rattle.ftl_one.specs.Laws.{block_at, Collects, ErasesNothing}
-use Rattle.ftl_one.specs.Stock.{Block, Stock, change_at, closed_if_full, collect, collected, emptied, filled, forget, free_of, is_open, is_retired, live_of, open_of, opened, ready, ready_by, spare_of, unused, victim_of, with_page, write_into, write_of}
-use Rattle.ftl_one.proofs.LawLemmas.{Collects-then, ErasesNothing-then, change-here, change-there, collects, nothing_opened, same_some, none_some, victim_apart, victim_low, written}
+use Rattle.ftl_one.specs.Stock.{Block, Stock, change_at, closed_if_full, collect, collected, emptied, filled, forget, free_of, is_open, is_retired}
+use Rattle.ftl_one.specs.Stock.{live_of, open_of, opened, ready, ready_by, spare_of, unused, victim_of, with_page, write_into, write_of}
+use Rattle.ftl_one.proofs.LawLemmas.{Collects-then, ErasesNothing-then, change-here, change-there, collects}
+use Rattle.ftl_one.proofs.LawLemmas.{nothing_opened, same_some, none_some, victim_apart, victim_low, written}
 
 -- the first place of a range that passes a test
 first_place : (p : ℕ → Bool) (n v : ℕ) → v ≤ n → ((k : ℕ) → k < v → p k ≡ false) → (v < n → p v ≡ true) → position_or_len p (range_with_len 0 n) ≡ v
@@ -32,7 +35,8 @@ place_some i n low = grind (arith, nat_tests)
 place_none : (n : ℕ) → cond (ltb n n) (Some n) None ≡ None
 place_none n = grind (arith, nat_tests)
 
-erased_here : (old new : Stock) (v : ℕ) → v < length old.blocks → was_erased old new v ≡ true → ((k : ℕ) → k < v → was_erased old new k ≡ false) → erased_between old new ≡ Some v
+erased_here : (old new : Stock) (v : ℕ) → v < length old.blocks → was_erased old new v ≡ true → ((k : ℕ) → k < v → was_erased old new k ≡ false)
+    → erased_between old new ≡ Some v
 erased_here old new v low here below =
     let n = length old.blocks in
     let xs = range_with_len 0 n in
@@ -59,7 +63,8 @@ between_nothing geo old new nothing =
     ap (option_map (collection_of geo old new)) (erased_nowhere old new (λ k. not_less (block_at old k).erases (block_at new k).erases (nothing.blocks k)))
 
 -- and where one block is erased it is that block's
-between_one : (geo : Geometry) (old new : Stock) (v : ℕ) → v < length old.blocks → Collects old new v → collection_between geo old new ≡ Some (collection_of geo old new v)
+between_one : (geo : Geometry) (old new : Stock) (v : ℕ) → v < length old.blocks → Collects old new v
+    → collection_between geo old new ≡ Some (collection_of geo old new v)
 unfolding collection_between
 between_one geo old new v low h =
     ap (option_map (collection_of geo old new)) (erased_here old new v low (one_more (block_at old v).erases (block_at new v).erases h.erased)
@@ -74,7 +79,8 @@ map-role xs s c = elim (cases_lt c (length xs)) [
 ]
 
 -- a page that is put leaves the role of each block that isn't open
-role_kept : (pages s v : ℕ) (k new : Stock) (o : Option ℕ) → open_of k.blocks ≡ o → is_open (block_at k v).role ≡ false → write_into pages s k o ≡ Some new → (block_at new v).role ≡ (block_at k v).role
+role_kept : (pages s v : ℕ) (k new : Stock) (o : Option ℕ) → open_of k.blocks ≡ o → is_open (block_at k v).role ≡ false
+    → write_into pages s k o ≡ Some new → (block_at new v).role ≡ (block_at k v).role
 role_kept pages s v k new None is shut h = absurd (none_some new h)
 role_kept pages s v k new (Some b) is shut h =
     let change : Block → Block = λ block. closed_if_full pages (with_page s block) in
@@ -112,50 +118,67 @@ module _ (geo : Geometry) (pages s : ℕ) (k new : Stock) (spare v : ℕ) (is_sp
   role_after =
       let taken = block_at k v in
       let ys : List Block = change_at k.blocks spare (filled taken) in
-      ap (λ (x : Block). x.role) (change-here ys v (emptied (endurance_of geo)) (omega (arith, victim_low (endurance_of geo) k spare v is_spare_of chosen, length-set k.blocks spare (filled taken (get_or k.blocks spare (unused Retired))))))
-      ∙ ap (λ (x : Block). cond (eqb (x.erases + 1) (endurance_of geo)) Retired Spare) (change-there k.blocks spare v (filled taken) (victim_apart (endurance_of geo) k spare v is_spare_of chosen))
+      ap (λ (x : Block). x.role)
+      (change-here ys v (emptied (endurance_of geo))
+      (omega (
+        arith,
+        victim_low (endurance_of geo) k spare v is_spare_of chosen,
+        length-set k.blocks spare (filled taken (get_or k.blocks spare (unused Retired))),
+      )))
+      ∙ ap (λ (x : Block). cond (eqb (x.erases + 1) (endurance_of geo)) Retired Spare)
+      (change-there k.blocks spare v (filled taken) (victim_apart (endurance_of geo) k spare v is_spare_of chosen))
 
   retired_after : is_retired (block_at new v).role ≡ eqb ((block_at k v).erases + 1) (endurance_of geo)
   retired_after =
-      let shut : is_open (block_at (collected (endurance_of geo) k spare v) v).role ≡ false = ap is_open role_after ∙ role_shut (eqb ((block_at k v).erases + 1) (endurance_of geo)) in
-      ap is_retired (role_kept pages s v (collected (endurance_of geo) k spare v) new (open_of (collected (endurance_of geo) k spare v).blocks) refl shut puts ∙ role_after)
+      let shut : is_open (block_at (collected (endurance_of geo) k spare v) v).role ≡ false =
+      ap is_open role_after ∙ role_shut (eqb ((block_at k v).erases + 1) (endurance_of geo)) in
+      ap is_retired (role_kept pages s v (collected (endurance_of geo) k spare v) new
+      (open_of (collected (endurance_of geo) k spare v).blocks) refl shut puts ∙ role_after)
       ∙ role_retired (eqb ((block_at k v).erases + 1) (endurance_of geo))
 
   pub collects_due : collection_between geo k new ≡ option_map (collection_into geo k spare) (victim_of k.blocks)
   collects_due =
       between_one geo k new v (victim_low (endurance_of geo) k spare v is_spare_of chosen) whole
-      ∙ (ap Some (same_collection v (live_of (block_at k v)) (live_of (block_at k v)) (copybacks_into geo k v (spare_of k.blocks)) (copybacks_into geo k v (Some spare)) (block_at new v).erases ((block_at k v).erases + 1)
+      ∙ (ap Some (same_collection v (live_of (block_at k v)) (live_of (block_at k v)) (copybacks_into geo k v (spare_of k.blocks))
+      (copybacks_into geo k v (Some spare)) (block_at new v).erases ((block_at k v).erases + 1)
       (is_retired (block_at new v).role) (eqb ((block_at k v).erases + 1) (endurance_of geo))
       refl (ap (copybacks_into geo k v) is_spare_of) whole.erased retired_after)
       ∙ ap (option_map (collection_into geo k spare)) (sym chosen))
 
-due_into : (geo : Geometry) (pages s : ℕ) (k mid new : Stock) (spare : ℕ) (o : Option ℕ) → spare_of k.blocks ≡ Some spare → victim_of k.blocks ≡ o → collect (endurance_of geo) k spare o ≡ Some mid → write_of pages s mid ≡ Some new
+due_into : (geo : Geometry) (pages s : ℕ) (k mid new : Stock) (spare : ℕ) (o : Option ℕ) → spare_of k.blocks ≡ Some spare → victim_of k.blocks ≡ o
+    → collect (endurance_of geo) k spare o ≡ Some mid → write_of pages s mid ≡ Some new
     → collection_between geo k new ≡ option_map (collection_into geo k spare) (victim_of k.blocks)
 due_into geo pages s k mid new spare None is chosen h puts = absurd (none_some mid h)
 due_into geo pages s k mid new spare (Some v) is chosen h puts =
     collects_due geo pages s k new spare v is chosen
     (subst (λ (x : Stock). write_of pages s x ≡ Some new) (sym (same_some (collected (endurance_of geo) k spare v) mid h)) puts)
 
-due-by : (geo : Geometry) (pages s : ℕ) (k mid new : Stock) (o f sp : Option ℕ) → spare_of k.blocks ≡ sp → ready_by (endurance_of geo) k o f sp ≡ Some mid → write_of pages s mid ≡ Some new
+due-by : (geo : Geometry) (pages s : ℕ) (k mid new : Stock) (o f sp : Option ℕ) → spare_of k.blocks ≡ sp
+    → ready_by (endurance_of geo) k o f sp ≡ Some mid → write_of pages s mid ≡ Some new
     → collection_between geo k new ≡ due_by geo k o f sp
 due-by geo pages s k mid new (Some b) f sp is h puts =
     between_nothing geo k new (subst (λ (x : Stock). ErasesNothing x new) (sym (same_some k mid h)) (written pages s mid new (open_of mid.blocks) puts))
 due-by geo pages s k mid new None (Some b) sp is h puts =
-    between_nothing geo k new (ErasesNothing-then k mid new (subst (ErasesNothing k) (same_some (opened k b) mid h) (nothing_opened k b)) (written pages s mid new (open_of mid.blocks) puts))
+    between_nothing geo k new
+    (ErasesNothing-then k mid new (subst (ErasesNothing k) (same_some (opened k b) mid h) (nothing_opened k b))
+    (written pages s mid new (open_of mid.blocks) puts))
 due-by geo pages s k mid new None None (Some spare) is h puts = due_into geo pages s k mid new spare (victim_of k.blocks) is refl h puts
 due-by geo pages s k mid new None None None is h puts = absurd (none_some mid h)
 
 -- the collection that a write makes is the one that was due
-pub write-makes : (geo : Geometry) (s : ℕ) (k new : Stock) → option_and_then (write_of (pages_of geo) s) (ready (endurance_of geo) k) ≡ Some new → collection_between geo k new ≡ collection_due geo k
+pub write-makes : (geo : Geometry) (s : ℕ) (k new : Stock) → option_and_then (write_of (pages_of geo) s) (ready (endurance_of geo) k) ≡ Some new
+    → collection_between geo k new ≡ collection_due geo k
 unfolding collection_due
 write-makes geo s k new h = by (ready (endurance_of geo) k) refl h
   where
-    by : (r : Option Stock) → ready (endurance_of geo) k ≡ r → option_and_then (write_of (pages_of geo) s) r ≡ Some new → collection_between geo k new ≡ collection_due geo k
+    by : (r : Option Stock) → ready (endurance_of geo) k ≡ r → option_and_then (write_of (pages_of geo) s) r ≡ Some new
+        → collection_between geo k new ≡ collection_due geo k
     by None e g = absurd (none_some new g)
     by (Some mid) e g = due-by geo (pages_of geo) s k mid new (open_of k.blocks) (free_of k.blocks) (spare_of k.blocks) refl e g
 
 -- what is due, by what is open, free and spare
-pub due_is : (geo : Geometry) (k : Stock) (o f s : Option ℕ) → open_of k.blocks ≡ o → free_of k.blocks ≡ f → spare_of k.blocks ≡ s → collection_due geo k ≡ due_by geo k o f s
+pub due_is : (geo : Geometry) (k : Stock) (o f s : Option ℕ) → open_of k.blocks ≡ o → free_of k.blocks ≡ f → spare_of k.blocks ≡ s
+    → collection_due geo k ≡ due_by geo k o f s
 unfolding collection_due
 due_is geo k o f s p q r =
     ap (λ (x : Option ℕ). due_by geo k x (free_of k.blocks) (spare_of k.blocks)) p

@@ -1,5 +1,6 @@
 -- Whether a sector is written, by the marks on the entries of pages: a live one of the sector is the page that the map names.
-use Rattle.std.proofs.Common.{◌≡◌, ℕ, ◌<◌, Bool, true, false, ◌&&◌, eq-eqb, ne_eqb, List, length, get_or, Option, None, Some, is_some, option_map, sym, ap, ◌∙◌, refl, arith}
+use Rattle.std.proofs.Common.{◌≡◌, ℕ, ◌<◌, Bool, true, false, ◌&&◌, eq-eqb, ne_eqb, List, length, get_or, Option}
+use Rattle.std.proofs.Common.{None, Some, is_some, option_map, sym, ap, ◌∙◌, refl, arith}
 use Rattle.std.specs.List.{list_any}
 use Rattle.std.proofs.lemmas.List.Folds.{list_any_none, list_any_at}
 use mathlib.Core.Logic.{dite}
@@ -47,7 +48,8 @@ module _ (n : ℕ) (current : List (Option PageAddr)) (s b : ℕ) (block : Block
           (λ other. ap (λ t. names current stamp b p && t) (ne_eqb stamp s other) ∙ and_false (names current stamp b p))
 
   -- and one is where it names one of this block
-  pub one_current : (at : PageAddr) → get_or current s None ≡ Some at → at.block ≡ b → at.page < length block.pages → (page_at n block at.page).stamp ≡ s → list_any (is_current s) (entries_in n current b block) ≡ true
+  pub one_current : (at : PageAddr) → get_or current s None ≡ Some at → at.block ≡ b → at.page < length block.pages
+      → (page_at n block at.page).stamp ≡ s → list_any (is_current s) (entries_in n current b block) ≡ true
   one_current at named here low stamp =
       list_any_at (is_current s) (entries_in n current b block) at.page dead_entry (omega (arith, length-entries n current b block))
       (ap (is_current s) (get_or-entries n current b block at.page dead_entry low)
@@ -80,7 +82,8 @@ module _ (f : OneFtl) (s : ℕ) where
   has_page-stock low =
       let o = get_or f.store.current.items s None in
       by_map o refl
-      ∙ sym (ap is_some (sector-at (size_of f.store) (block_of f.store.die) f.store.current.items s o (omega (arith, low, f.store.mapped.current_size)) refl) ∙ named o)
+      ∙ sym (ap is_some (sector-at (size_of f.store) (block_of f.store.die) f.store.current.items s o
+      (omega (arith, low, f.store.mapped.current_size)) refl) ∙ named o)
     where
       named : (o : Option PageAddr) → is_some (option_map (value_in (size_of f.store) (block_of f.store.die)) o) ≡ is_some o
       named None = refl

@@ -1,5 +1,6 @@
 -- The entries of a block as the map and the die's pages change.
-use Rattle.std.proofs.Common.{◌≡◌, ◌≢◌, inl, inr, ℕ, ◌<◌, Bool, true, false, eqb, List, [], ◌∷◌, ◌++◌, length, get_or, set, map, Option, None, Some, sym, ap, ◌∙◌, refl, arith, length-set, get_or-set_same, get_or-set_other}
+use Rattle.std.proofs.Common.{◌≡◌, ◌≢◌, inl, inr, ℕ, ◌<◌, Bool, true, false, eqb, List, [], ◌∷◌, ◌++◌, length, get_or, set, map, Option}
+use Rattle.std.proofs.Common.{None, Some, sym, ap, ◌∙◌, refl, arith, length-set, get_or-set_same, get_or-set_other}
 use Rattle.std.specs.List.{range_with_len}
 use Rattle.std.proofs.lemmas.List.{length-map, same_lists, get_or-map, get_or_push, get_or_append_left, length_push}
 use Rattle.std.proofs.lemmas.List.FromFn.{length-map-range_with_len, get_or-map-range_with_len, map-range_with_len_more}
@@ -14,12 +15,15 @@ pub length-entries : (n : ℕ) (current : List (Option PageAddr)) (b : ℕ) (blo
 unfolding entries_in
 length-entries n current b block = length-map-range_with_len (λ p. entry_of current b p (page_at n block p)) 0 (length block.pages)
 
-pub get_or-entries : (n : ℕ) (current : List (Option PageAddr)) (b : ℕ) (block : Block) (p : ℕ) (d : Entry) → p < length block.pages → get_or (entries_in n current b block) p d ≡ entry_of current b p (page_at n block p)
+pub get_or-entries : (n : ℕ) (current : List (Option PageAddr)) (b : ℕ) (block : Block) (p : ℕ) (d : Entry) → p < length block.pages
+    → get_or (entries_in n current b block) p d ≡ entry_of current b p (page_at n block p)
 unfolding entries_in
-get_or-entries n current b block p d low = get_or-map-range_with_len (λ q. entry_of current b q (page_at n block q)) 0 (length block.pages) p p d low (omega arith)
+get_or-entries n current b block p d low =
+    get_or-map-range_with_len (λ q. entry_of current b q (page_at n block q)) 0 (length block.pages) p p d low (omega arith)
 
 -- entries that agree page by page are one list
-pub same_entries : (n : ℕ) (current : List (Option PageAddr)) (b : ℕ) (block : Block) (xs : List Entry) → length xs ≡ length block.pages → ((p : ℕ) (d : Entry) → p < length block.pages → entry_of current b p (page_at n block p) ≡ get_or xs p d) → entries_in n current b block ≡ xs
+pub same_entries : (n : ℕ) (current : List (Option PageAddr)) (b : ℕ) (block : Block) (xs : List Entry) → length xs ≡ length block.pages
+    → ((p : ℕ) (d : Entry) → p < length block.pages → entry_of current b p (page_at n block p) ≡ get_or xs p d) → entries_in n current b block ≡ xs
 same_entries n current b block xs size same =
     same_lists (entries_in n current b block) xs (length-entries n current b block ∙ sym size)
     (λ p d low. let short : p < length block.pages = omega (arith, length-entries n current b block) in
@@ -42,14 +46,16 @@ pub is_page-page : (at : PageAddr) (b p : ℕ) → at.page ≢ p → is_page (So
 is_page-page at b p apart = and_right (eqb at.block b) (eqb at.page p) (ne_eqb at.page p apart)
 
 -- the map's new entry of a sector, and the other entries as they were
-pub names-set_same : (current : List (Option PageAddr)) (s : ℕ) (o : Option PageAddr) (b p : ℕ) → s < length current → names (set current s o) s b p ≡ is_page o b p
+pub names-set_same : (current : List (Option PageAddr)) (s : ℕ) (o : Option PageAddr) (b p : ℕ) → s < length current
+    → names (set current s o) s b p ≡ is_page o b p
 names-set_same current s o b p low = ap (λ (x : Option PageAddr). is_page x b p) (get_or-set_same current s o None low)
 
 pub names-set_other : (current : List (Option PageAddr)) (s : ℕ) (o : Option PageAddr) (t b p : ℕ) → t ≢ s → names (set current s o) t b p ≡ names current t b p
 names-set_other current s o t b p apart = ap (λ (x : Option PageAddr). is_page x b p) (get_or-set_other current s t o None apart)
 
 -- a page's entry once the map has another page, or none, for a sector
-pub entry-remapped : (current : List (Option PageAddr)) (s : ℕ) (o : Option PageAddr) (b p : ℕ) (page : Page) → s < length current → is_page o b p ≡ false → entry_of (set current s o) b p page ≡ forgotten s (entry_of current b p page)
+pub entry-remapped : (current : List (Option PageAddr)) (s : ℕ) (o : Option PageAddr) (b p : ℕ) (page : Page) → s < length current
+    → is_page o b p ≡ false → entry_of (set current s o) b p page ≡ forgotten s (entry_of current b p page)
 entry-remapped current s o b p page low off =
     let with : Bool → Entry = λ t. record { sector = page.stamp; live = t } in
     elim (cases_eq page.stamp s) [
@@ -61,7 +67,8 @@ entry-remapped current s o b p page low off =
     ]
 
 -- a block's entries where no page of it is the sector's new one
-pub entries-remapped : (n : ℕ) (current : List (Option PageAddr)) (s : ℕ) (o : Option PageAddr) (b : ℕ) (block : Block) → s < length current → ((p : ℕ) → p < length block.pages → is_page o b p ≡ false) → entries_in n (set current s o) b block ≡ map (forgotten s) (entries_in n current b block)
+pub entries-remapped : (n : ℕ) (current : List (Option PageAddr)) (s : ℕ) (o : Option PageAddr) (b : ℕ) (block : Block) → s < length current
+    → ((p : ℕ) → p < length block.pages → is_page o b p ≡ false) → entries_in n (set current s o) b block ≡ map (forgotten s) (entries_in n current b block)
 entries-remapped n current s o b block low off =
     same_entries n (set current s o) b block (map (forgotten s) (entries_in n current b block))
     (length-map (entries_in n current b block) (forgotten s) ∙ length-entries n current b block)
@@ -78,7 +85,8 @@ pub page_at-last : (n : ℕ) (block : Block) (page : Page) → page_at n (progra
 page_at-last n block page = get_or_push block.pages page (erased_page n) (length block.pages) refl
 
 -- the entries of a block with one more page
-pub entries-programmed : (n : ℕ) (current : List (Option PageAddr)) (b : ℕ) (block : Block) (page : Page) → entries_in n current b (programmed block page) ≡ entries_in n current b block ++ (entry_of current b (length block.pages) page) ∷ []
+pub entries-programmed : (n : ℕ) (current : List (Option PageAddr)) (b : ℕ) (block : Block) (page : Page)
+    → entries_in n current b (programmed block page) ≡ entries_in n current b block ++ (entry_of current b (length block.pages) page) ∷ []
 unfolding entries_in
 entries-programmed n current b block page =
     let f : ℕ → Entry = λ p. entry_of current b p (page_at n (programmed block page) p) in
@@ -90,7 +98,8 @@ entries-programmed n current b block page =
     ∙ ap (λ (x : Page). map g (range_with_len 0 m) ++ (entry_of current b m x) ∷ []) (page_at-last n block page)))
 
 -- nothing is forgotten in a block that doesn't have the sector's page
-pub forgotten_elsewhere : (n : ℕ) (current : List (Option PageAddr)) (s b : ℕ) (block : Block) → ((p : ℕ) → p < length block.pages → names current s b p ≡ false) → map (forgotten s) (entries_in n current b block) ≡ entries_in n current b block
+pub forgotten_elsewhere : (n : ℕ) (current : List (Option PageAddr)) (s b : ℕ) (block : Block)
+    → ((p : ℕ) → p < length block.pages → names current s b p ≡ false) → map (forgotten s) (entries_in n current b block) ≡ entries_in n current b block
 forgotten_elsewhere n current s b block off =
     sym (same_entries n current b block (map (forgotten s) (entries_in n current b block))
     (length-map (entries_in n current b block) (forgotten s) ∙ length-entries n current b block)
@@ -101,12 +110,15 @@ forgotten_elsewhere n current s b block off =
   where
     dead_already : (page : Page) (p : ℕ) → names current s b p ≡ false → entry_of current b p page ≡ forgotten s (entry_of current b p page)
     dead_already page p dead = elim (cases_eq page.stamp s) [
-      | inl e ↦ rw (eq-eqb page.stamp s e) (ap (λ (t : Bool). let r : Entry = record { sector = page.stamp; live = t } in r) (ap (λ (t : ℕ). names current t b p) e ∙ dead))
+      | inl e ↦ rw (eq-eqb page.stamp s e)
+          (ap (λ (t : Bool). let r : Entry = record { sector = page.stamp; live = t } in r) (ap (λ (t : ℕ). names current t b p) e ∙ dead))
       | inr apart ↦ rw (ne_eqb page.stamp s apart) refl
     ]
 
 -- the block that has it loses that one page
-pub forgotten_here : (n : ℕ) (current : List (Option PageAddr)) (s : ℕ) (at : PageAddr) (block : Block) → get_or current s None ≡ Some at → at.page < length block.pages → (page_at n block at.page).stamp ≡ s → map (forgotten s) (entries_in n current at.block block) ≡ set (entries_in n current at.block block) at.page (record { sector = s; live = false })
+pub forgotten_here : (n : ℕ) (current : List (Option PageAddr)) (s : ℕ) (at : PageAddr) (block : Block)
+    → get_or current s None ≡ Some at → at.page < length block.pages → (page_at n block at.page).stamp ≡ s
+    → map (forgotten s) (entries_in n current at.block block) ≡ set (entries_in n current at.block block) at.page (record { sector = s; live = false })
 forgotten_here n current s at block named low stamped =
     let old = entries_in n current at.block block in
     let dead : Entry = record { sector = s; live = false } in
@@ -118,7 +130,8 @@ forgotten_here n current s at block named low stamped =
     ∙ (ap (forgotten s) (get_or-entries n current at.block block p d within)
     ∙ elim (cases_eq p at.page) [
       | inl e ↦ gone p e ∙ sym (ap (λ (k : ℕ). get_or (set old at.page dead) k d) e ∙ get_or-set_same old at.page dead d (omega (arith, size)))
-      | inr apart ↦ kept (page_at n block p) p apart ∙ (sym (get_or-entries n current at.block block p d within) ∙ sym (get_or-set_other old at.page p dead d apart))
+      | inr apart ↦ kept (page_at n block p) p apart
+          ∙ (sym (get_or-entries n current at.block block p d within) ∙ sym (get_or-set_other old at.page p dead d apart))
     ]))
   where
     gone : (p : ℕ) → p ≡ at.page → forgotten s (entry_of current at.block p (page_at n block p)) ≡ (record { sector = s; live = false })
@@ -129,6 +142,7 @@ forgotten_here n current s at block named low stamped =
     kept : (page : Page) (p : ℕ) → p ≢ at.page → forgotten s (entry_of current at.block p page) ≡ entry_of current at.block p page
     kept page p apart = elim (cases_eq page.stamp s) [
       | inl e ↦ rw (eq-eqb page.stamp s e) (ap (λ (t : Bool). let r : Entry = record { sector = page.stamp; live = t } in r)
-          (sym (ap (λ (t : ℕ). names current t at.block p) e ∙ (ap (λ (o : Option PageAddr). is_page o at.block p) named ∙ is_page-page at at.block p (λ h. apart (sym h))))))
+          (sym (ap (λ (t : ℕ). names current t at.block p) e
+          ∙ (ap (λ (o : Option PageAddr). is_page o at.block p) named ∙ is_page-page at at.block p (λ h. apart (sym h))))))
       | inr other ↦ rw (ne_eqb page.stamp s other) refl
     ]

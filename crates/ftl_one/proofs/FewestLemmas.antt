@@ -1,6 +1,7 @@
 -- The smallest of the blocks' counts, by those below the place that is left out and those above it.
 use Rattle.std.specs.Prelude.{min}
-use Rattle.std.proofs.Common.{◌≡◌, ◌≢◌, ◌⊎◌, inl, inr, ℕ, ◌+◌, ◌-◌, ◌<◌, ◌≤◌, List, length, get_or, take, drop, sym, ap, ◌∙◌, refl, subst, arith, get_or-take, get_or-drop, length-take, length-drop}
+use Rattle.std.proofs.Common.{◌≡◌, ◌≢◌, ◌⊎◌, inl, inr, ℕ, ◌+◌, ◌-◌, ◌<◌, ◌≤◌, List, length, get_or, take, drop, sym, ap, ◌∙◌}
+use Rattle.std.proofs.Common.{refl, subst, arith, get_or-take, get_or-drop, length-take, length-drop}
 use Rattle.std.proofs.lemmas.Bool.{cases_eq, cases_lt, cases_order}
 use Rattle.ftl_one.specs.Fewest.{IsFewest, IsLeast, IsFirst}
 
@@ -15,7 +16,8 @@ IsLeast-keeps counts many least h no_less =
       found = elim h.found [ inl top ↦ inl top | inr one ↦ inr (one.0, omega (arith, one.1), one.2) ];
     }
 
-pub IsLeast-takes : (counts : List ℕ) (many least : ℕ) → IsLeast counts many least → get_or counts many 0 ≤ least → IsLeast counts (many + 1) (get_or counts many 0)
+pub IsLeast-takes : (counts : List ℕ) (many least : ℕ) → IsLeast counts many least → get_or counts many 0 ≤ least
+    → IsLeast counts (many + 1) (get_or counts many 0)
 IsLeast-takes counts many least h less =
     record {
       low = λ k below. elim (cases_eq k many) [
@@ -25,7 +27,8 @@ IsLeast-takes counts many least h less =
       found = inr (many, omega arith, refl);
     }
 
-pub IsLeast-more : (counts : List ℕ) (many least x smaller : ℕ) → IsLeast counts many least → x ≡ get_or counts many 0 → smaller ≡ min least x → IsLeast counts (many + 1) smaller
+pub IsLeast-more : (counts : List ℕ) (many least x smaller : ℕ) → IsLeast counts many least → x ≡ get_or counts many 0 → smaller ≡ min least x
+    → IsLeast counts (many + 1) smaller
 IsLeast-more counts many least x smaller h is e = elim (cases_lt x least) [
   | inl less ↦
       let same : smaller ≡ get_or counts many 0 = omega (arith, less, e, is) in
@@ -42,7 +45,10 @@ min_either a b smaller e = elim (cases_lt a b) [
   | inr more ↦ inr (omega (arith, more, e))
 ]
 
-module _ (counts : List ℕ) (left_out first second least : ℕ) (inside : left_out < length counts) (others : 2 ≤ length counts) (fits : (k : ℕ) → get_or counts k 0 ≤ 65535) (below : IsLeast (take left_out counts) (length (take left_out counts)) first) (above : IsLeast (drop (left_out + 1) counts) (length (drop (left_out + 1) counts)) second) (no_more : (least ≤ first) × (least ≤ second)) (one_of : (least ≡ first) ⊎ (least ≡ second)) where
+module _ (counts : List ℕ) (left_out first second least : ℕ) (inside : left_out < length counts) (others : 2 ≤ length counts)
+    (fits : (k : ℕ) → get_or counts k 0 ≤ 65535) (below : IsLeast (take left_out counts) (length (take left_out counts)) first)
+    (above : IsLeast (drop (left_out + 1) counts) (length (drop (left_out + 1) counts)) second) (no_more : (least ≤ first) × (least ≤ second))
+    (one_of : (least ≡ first) ⊎ (least ≡ second)) where
   -- a count above the place that is left out
   at_above : (k : ℕ) → left_out < k → get_or (drop (left_out + 1) counts) (k - (left_out + 1)) 0 ≡ get_or counts k 0
   at_above k high =
@@ -87,7 +93,8 @@ module _ (counts : List ℕ) (left_out first second least : ℕ) (inside : left_
     | inr e ↦ let p = place_above e in never p.0 p.1 p.2 p.3
   ]
 
-  fewest_at : (p : ℕ) → p < length counts → p ≢ left_out → get_or counts p 0 ≡ least → ((k : ℕ) → k < p → k ≢ left_out → get_or counts k 0 ≢ least) → IsFewest counts left_out p
+  fewest_at : (p : ℕ) → p < length counts → p ≢ left_out → get_or counts p 0 ≡ least → ((k : ℕ) → k < p → k ≢ left_out → get_or counts k 0 ≢ least)
+      → IsFewest counts left_out p
   fewest_at p within apart is before =
       record {
         within = within;
@@ -104,7 +111,8 @@ module _ (counts : List ℕ) (left_out first second least : ℕ) (inside : left_
       (λ k less other h. is.before k less (get_or-take left_out counts k 0 (omega arith) ∙ h))
 
   -- and where there is none, the first place above
-  pub fewest_above : (p q : ℕ) → length (take left_out counts) ≤ p → IsFirst (take left_out counts) least p → IsFirst (drop (left_out + 1) counts) least q → IsFewest counts left_out (left_out + 1 + q)
+  pub fewest_above : (p q : ℕ) → length (take left_out counts) ≤ p → IsFirst (take left_out counts) least p
+      → IsFirst (drop (left_out + 1) counts) least q → IsFewest counts left_out (left_out + 1 + q)
   fewest_above p q none is_p is_q =
       let before : (k : ℕ) → k < left_out + 1 + q → k ≢ left_out → get_or counts k 0 ≢ least = λ k less other h. elim (cases_order k left_out) [
         | inl e ↦ other e
@@ -115,6 +123,7 @@ module _ (counts : List ℕ) (left_out first second least : ℕ) (inside : left_
       ] in
       elim (cases_lt q (length (drop (left_out + 1) counts))) [
         | inl short ↦
-            fewest_at (left_out + 1 + q) (omega (arith, short, length-drop (left_out + 1) counts)) (λ h. omega (arith, h)) (sym (get_or-drop (left_out + 1) counts q 0) ∙ is_q.stands short) before
+            fewest_at (left_out + 1 + q) (omega (arith, short, length-drop (left_out + 1) counts)) (λ h. omega (arith, h))
+            (sym (get_or-drop (left_out + 1) counts q 0) ∙ is_q.stands short) before
         | inr past ↦ absurd (stands_somewhere (λ k within other. before k (omega (arith, past, within, length-drop (left_out + 1) counts)) other))
       ]

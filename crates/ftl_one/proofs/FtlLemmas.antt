@@ -1,5 +1,7 @@
 -- The layer's blocks after each of its moves, and what the totals weigh.
-use Rattle.std.proofs.Common.{◌≡◌, ◌≢◌, inl, inr, ℕ, zero, suc, ◌+◌, ◌-◌, ◌*◌, ◌<◌, ◌≤◌, ◌^◌, Bool, true, false, not, cond, eqb, List, [], ◌∷◌, ◌++◌, length, get_or, set, map, sum_by, None, Some, sym, ap, ◌∙◌, refl, subst, arith, length-append, length-set, length-drop, drop, get_or-drop, get_or-set_same, get_or-set_other}
+use Rattle.std.proofs.Common.{◌≡◌, ◌≢◌, inl, inr, ℕ, zero, suc, ◌+◌, ◌-◌, ◌*◌, ◌<◌, ◌≤◌, ◌^◌, Bool, true, false, not, cond, eqb, List, []}
+use Rattle.std.proofs.Common.{◌∷◌, ◌++◌, length, get_or, set, map, sum_by, None, Some, sym, ap, ◌∙◌, refl, subst, arith, length-append}
+use Rattle.std.proofs.Common.{length-set, length-drop, drop, get_or-drop, get_or-set_same, get_or-set_other}
 use Rattle.std.specs.List.{position, position_or_len}
 use Rattle.std.specs.Vec.{with_items}
 use Rattle.std.proofs.lemmas.List.{with_items_is, length-map, get_or-map, length_push}
@@ -16,13 +18,15 @@ use Rattle.ftl_one.specs.declared.role.Role.{Role}
 use Rattle.ftl_one.specs.declared.role.Role.TheVariants.{Free, Open, Closed, Spare, Retired}
 use Rattle.ftl_one.specs.declared.store.Store.{Store}
 use Rattle.ftl_one.specs.declared.one_ftl.OneFtl.{OneFtl}
-use Rattle.ftl_one.specs.Stock.{Block, Entry, is_open, is_free, is_spare, is_closed, open_of, free_of, spare_of, live_of, victim_of, change_at, unused, forget, forgotten, with_page, closed_if_full, filled, emptied, live_entries, is_retired}
+use Rattle.ftl_one.specs.Stock.{Block, Entry, is_open, is_free, is_spare, is_closed, open_of, free_of, spare_of, live_of, victim_of, change_at}
+use Rattle.ftl_one.specs.Stock.{unused, forget, forgotten, with_page, closed_if_full, filled, emptied, live_entries, is_retired}
 use Rattle.ftl_one.specs.Store.{geometry_of, entries_of, erases_of, retired_of, counts_of, KeepsBlocks, Puts, Clears, Erases, HasRoom}
 use Rattle.ftl_one.specs.Lawful.{role_in}
 use Rattle.ftl_one.specs.Blocks.{block_in, blocks_in, weight}
 use Rattle.ftl_one.specs.Laws.{HasRetired, block_at}
 use Rattle.ftl_one.specs.OneFtl.{stock_of}
-use Rattle.ftl_one.proofs.BlocksLemmas.{table, length-table, get_or-table, table_is, table-change, table-map, position_alone, open_of-blocks, free_of-blocks, spare_of-blocks, victim_of-blocks}
+use Rattle.ftl_one.proofs.BlocksLemmas.{table, length-table, get_or-table, table_is, table-change, table-map, position_alone}
+use Rattle.ftl_one.proofs.BlocksLemmas.{open_of-blocks, free_of-blocks, spare_of-blocks, victim_of-blocks}
 use Rattle.ftl_one.proofs.LawfulLemmas.{inside, open≢retired, spare≢retired}
 use Rattle.ftl_one.proofs.StoreLemmas.{entries_within}
 
@@ -58,7 +62,8 @@ spare_by Retired h = absurd (false≢true h)
 -- where a search finds nothing, no element passes
 pub none_found : {X : Type 0} (p : X → Bool) (xs : List X) (d : X) → position p xs ≡ None → (k : ℕ) → k < length xs → p (get_or xs k d) ≡ false
 none_found p xs d e k low = elim (cases_lt (position_or_len p xs) (length xs)) [
-  | inl short ↦ absurd (some_none (position_or_len p xs) (sym (ap (λ (t : Bool). cond t (Some (position_or_len p xs)) None) (lt-ltb (position_or_len p xs) (length xs) short)) ∙ e))
+  | inl short ↦ absurd (some_none (position_or_len p xs)
+      (sym (ap (λ (t : Bool). cond t (Some (position_or_len p xs)) None) (lt-ltb (position_or_len p xs) (length xs) short)) ∙ e))
   | inr past ↦ not-true (p (get_or xs k d)) (prefix_len_passes (λ x. not (p x)) xs k d (omega arith))
 ]
   where
@@ -92,7 +97,8 @@ module _ (roles : List Role) (from : ℕ) (within : from ≤ length roles) (belo
       position_or_len_is is_free roles (length roles) Retired (omega arith)
       (λ k short. elim (cases_lt k from) [
         | inl under ↦ below k under
-        | inr over ↦ ap is_free (sym (later k over)) ∙ none_found is_free (drop from roles) Retired e (k - from) (omega (arith, short, over, length-drop from roles))
+        | inr over ↦ ap is_free (sym (later k over))
+            ∙ none_found is_free (drop from roles) Retired e (k - from) (omega (arith, short, over, length-drop from roles))
       ])
       (λ h. absurd (omega (arith, h))) in
       rw at (rw (le-ltb (length roles) (length roles) (omega arith)) refl)
@@ -111,7 +117,8 @@ open_of-stock f =
     clash r h k = cc
 
     inside_open : (g : OneFtl) (k : ℕ) → role_in g.roles.items k ≡ Open → k < blocks_of (geometry_of g.store)
-    inside_open g k is = elim (cases_lt k (blocks_of (geometry_of g.store))) [ inl low ↦ low | inr past ↦ absurd (clash (role_in g.roles.items k) is (g.lawful.outside k past)) ]
+    inside_open g k is = elim (cases_lt k
+        (blocks_of (geometry_of g.store))) [ inl low ↦ low | inr past ↦ absurd (clash (role_in g.roles.items k) is (g.lawful.outside k past)) ]
 
 pub free_of-stock : (f : OneFtl) → free_of (stock_of f).blocks ≡ position is_free f.roles.items
 unfolding stock_of
@@ -121,7 +128,12 @@ free_of-stock f = free_of-blocks f.store f.roles.items
 spare_inside : (f : OneFtl) (b : ℕ) → role_in f.roles.items b ≡ Spare → b < length f.roles.items
 spare_inside f b is =
     let g = geometry_of f.store in
-    omega (arith, f.roles_sized, inside (blocks_of g) (pages_of g) (λ k. length (entries_of f.store k)) (retired_of f.store) (role_in f.roles.items) f.open_block f.lawful b (spare≢retired (role_in f.roles.items b) is))
+    omega (
+      arith,
+      f.roles_sized,
+      inside (blocks_of g) (pages_of g) (λ k. length (entries_of f.store k)) (retired_of f.store) (role_in f.roles.items) f.open_block f.lawful b
+          (spare≢retired (role_in f.roles.items b) is),
+    )
 
 pub spare_of-stock : (f : OneFtl) → spare_of (stock_of f).blocks ≡ f.spare
 unfolding stock_of
@@ -154,7 +166,9 @@ closed-parts pages r e xs = by (eqb (length xs) pages)
     by false = refl
 
 -- the blocks after a trim
-pub blocks-forget : (old new : Store) (roles : List Role) (s : ℕ) → length roles ≡ blocks_of (geometry_of old) → ((b : ℕ) → b < blocks_of (geometry_of old) → entries_of new b ≡ map (forgotten s) (entries_of old b)) → KeepsBlocks old new → blocks_in new roles ≡ map (forget s) (blocks_in old roles)
+pub blocks-forget : (old new : Store) (roles : List Role) (s : ℕ) → length roles ≡ blocks_of (geometry_of old)
+    → ((b : ℕ) → b < blocks_of (geometry_of old) → entries_of new b ≡ map (forgotten s) (entries_of old b)) → KeepsBlocks old new
+    → blocks_in new roles ≡ map (forget s) (blocks_in old roles)
 unfolding blocks_in
 blocks-forget old new roles s size gone kept =
     let d : Block = unused Retired in
@@ -163,12 +177,17 @@ blocks-forget old new roles s size gone kept =
     (length-map (table f (length roles)) (forget s) ∙ length-table f (length roles))
     (λ k low.
     let within : k < blocks_of (geometry_of old) = omega (arith, low, size) in
-    same_block (role_in roles k) (role_in roles k) (erases_of new k) (erases_of old k) (entries_of new k) (map (forgotten s) (entries_of old k)) refl (kept.erases k within) (gone k within)
+    same_block (role_in roles k) (role_in roles k) (erases_of new k) (erases_of old k) (entries_of new k) (map (forgotten s) (entries_of old k)) refl
+    (kept.erases k within) (gone k within)
     ∙ (ap (forget s) (sym (get_or-table f (length roles) k d low))
     ∙ sym (get_or-map (forget s) (table f (length roles)) k d d (omega (arith, low, length-table f (length roles))))))
 
 -- the blocks after a page is put, and its block closed if it is full
-pub blocks-put : (old new : Store) (roles roles' : List Role) (b s pages : ℕ) → length roles ≡ blocks_of (geometry_of old) → length roles' ≡ length roles → b < length roles → Puts old new b s → role_in roles' b ≡ cond (eqb (length (entries_of new b)) pages) Closed (role_in roles b) → ((c : ℕ) → c ≢ b → role_in roles' c ≡ role_in roles c) → blocks_in new roles' ≡ change_at (map (forget s) (blocks_in old roles)) b (λ block. closed_if_full pages (with_page s block))
+pub blocks-put : (old new : Store) (roles roles' : List Role) (b s pages : ℕ) → length roles ≡ blocks_of (geometry_of old)
+    → length roles' ≡ length roles → b < length roles → Puts old new b s
+    → role_in roles' b ≡ cond (eqb (length (entries_of new b)) pages) Closed (role_in roles b)
+    → ((c : ℕ) → c ≢ b → role_in roles' c ≡ role_in roles c)
+    → blocks_in new roles' ≡ change_at (map (forget s) (blocks_in old roles)) b (λ block. closed_if_full pages (with_page s block))
 unfolding blocks_in
 blocks-put old new roles roles' b s pages size same low puts here there =
     let f = block_in old roles in
@@ -177,7 +196,8 @@ blocks-put old new roles roles' b s pages size same low puts here there =
     ap (λ (n : ℕ). table (block_in new roles') n) same
     ∙ (table-change (λ c. forget s (f c)) (block_in new roles') (length roles) b h low
     (same_block (role_in roles' b) (cond (eqb (length more) pages) Closed (role_in roles b)) (erases_of new b) (erases_of old b) (entries_of new b) more
-    (here ∙ ap (λ (xs : List Entry). cond (eqb (length xs) pages) Closed (role_in roles b)) puts.changed) (puts.keeps.erases b (omega (arith, low, size))) puts.changed
+    (here ∙ ap (λ (xs : List Entry). cond (eqb (length xs) pages) Closed (role_in roles b)) puts.changed)
+    (puts.keeps.erases b (omega (arith, low, size))) puts.changed
     ∙ sym (closed-parts pages (role_in roles b) (erases_of old b) more))
     (λ c within apart.
     same_block (role_in roles' c) (role_in roles c) (erases_of new c) (erases_of old c) (entries_of new c) (map (forgotten s) (entries_of old c))
@@ -185,7 +205,8 @@ blocks-put old new roles roles' b s pages size same low puts here there =
     ∙ ap (λ (xs : List Block). change_at xs b h) (table-map f (length roles) (forget s)))
 
 -- the blocks after one of them gets another role
-pub blocks-role : (s : Store) (roles roles' : List Role) (b : ℕ) (r : Role) → length roles' ≡ length roles → b < length roles → role_in roles' b ≡ r → ((c : ℕ) → c ≢ b → role_in roles' c ≡ role_in roles c) → blocks_in s roles' ≡ change_at (blocks_in s roles) b (λ block. record block { role = r })
+pub blocks-role : (s : Store) (roles roles' : List Role) (b : ℕ) (r : Role) → length roles' ≡ length roles → b < length roles → role_in roles' b ≡ r
+    → ((c : ℕ) → c ≢ b → role_in roles' c ≡ role_in roles c) → blocks_in s roles' ≡ change_at (blocks_in s roles) b (λ block. record block { role = r })
 unfolding blocks_in
 blocks-role s roles roles' b r same low here there =
     ap (λ (n : ℕ). table (block_in s roles') n) same
@@ -194,7 +215,12 @@ blocks-role s roles roles' b r same low here there =
     (λ c within apart. ap (λ (k : Role). let x : Block = record { role = k; erases = erases_of s c; entries = entries_of s c } in x) (there c apart))
 
 -- the blocks after a collection
-pub blocks-collect : (old mid new : Store) (roles roles' : List Role) (spare victim endurance : ℕ) → length roles ≡ blocks_of (geometry_of old) → length roles' ≡ length roles → spare < length roles → victim < length roles → victim ≢ spare → Clears old mid victim spare → Erases mid new victim → role_in roles' spare ≡ Open → role_in roles' victim ≡ cond (eqb (erases_of old victim + 1) endurance) Retired Spare → ((c : ℕ) → c ≢ spare → c ≢ victim → role_in roles' c ≡ role_in roles c) → blocks_in new roles' ≡ change_at (change_at (blocks_in old roles) spare (filled (get_or (blocks_in old roles) victim (unused Retired)))) victim (emptied endurance)
+pub blocks-collect : (old mid new : Store) (roles roles' : List Role) (spare victim endurance : ℕ) → length roles ≡ blocks_of (geometry_of old)
+    → length roles' ≡ length roles → spare < length roles → victim < length roles → victim ≢ spare → Clears old mid victim spare
+    → Erases mid new victim → role_in roles' spare ≡ Open → role_in roles' victim ≡ cond (eqb (erases_of old victim + 1) endurance) Retired Spare
+    → ((c : ℕ) → c ≢ spare → c ≢ victim → role_in roles' c ≡ role_in roles c)
+    → blocks_in new roles' ≡ change_at
+    (change_at (blocks_in old roles) spare (filled (get_or (blocks_in old roles) victim (unused Retired)))) victim (emptied endurance)
 unfolding blocks_in
 blocks-collect old mid new roles roles' spare victim endurance size same spare_in victim_in apart clears erases opened done others =
     let n = length roles in
@@ -209,12 +235,14 @@ blocks-collect old mid new roles roles' spare victim endurance size same spare_i
     (λ c low other. ap (λ (t : Bool). cond t (fill (f c)) (f c)) (ne_eqb c spare other)) in
     ap (λ (k : ℕ). table (block_in new roles') k) same
     ∙ (table-change g (block_in new roles') n victim (emptied endurance) victim_in
-    (same_block (role_in roles' victim) (cond (eqb (erases_of old victim + 1) endurance) Retired Spare) (erases_of new victim) (erases_of old victim + 1) (entries_of new victim) []
+    (same_block (role_in roles' victim) (cond (eqb (erases_of old victim + 1) endurance) Retired Spare) (erases_of new victim)
+    (erases_of old victim + 1) (entries_of new victim) []
     done (erases.counted ∙ ap (λ (k : ℕ). k + 1) (clears.keeps.erases victim (is victim victim_in))) erases.emptied
     ∙ sym (ap (emptied endurance) (ap (λ (t : Bool). cond t (fill (f victim)) (f victim)) (ne_eqb victim spare apart))))
     (λ c low other. elim (cases_eq c spare) [
       | inl e ↦ subst (λ (k : ℕ). block_in new roles' k ≡ g k) (sym e)
-          (same_block (role_in roles' spare) Open (erases_of new spare) (erases_of old spare) (entries_of new spare) (entries_of old spare ++ live_entries (entries_of old victim))
+          (same_block (role_in roles' spare) Open (erases_of new spare) (erases_of old spare) (entries_of new spare)
+          (entries_of old spare ++ live_entries (entries_of old victim))
           opened
           (erases.erases spare (λ h. apart (sym h)) (at spare spare_in) ∙ clears.keeps.erases spare (is spare spare_in))
           (erases.entries spare (λ h. apart (sym h)) (at spare spare_in) ∙ clears.copied)
@@ -240,23 +268,29 @@ weight-closed pages x = ap (weight pages) (closed-parts pages x.role x.erases x.
 pub weight-forget : (pages s : ℕ) (xs : List Block) → sum_by (weight pages) (map (forget s) xs) ≡ sum_by (weight pages) xs
 weight-forget pages s xs = sum_by-map-same (weight pages) (forget s) xs (λ x. ap (λ (n : ℕ). (pages + 1) * x.erases + n) (length-map x.entries (forgotten s)))
 
-pub weight-put : (pages s b : ℕ) (xs : List Block) → b < length xs → sum_by (weight pages) (change_at (map (forget s) xs) b (λ block. closed_if_full pages (with_page s block))) ≡ sum_by (weight pages) xs + 1
+pub weight-put : (pages s b : ℕ) (xs : List Block) → b < length xs
+    → sum_by (weight pages) (change_at (map (forget s) xs) b (λ block. closed_if_full pages (with_page s block))) ≡ sum_by (weight pages) xs + 1
 weight-put pages s b xs low =
     let d : Block = unused Retired in
     let ys = map (forget s) xs in
     let x = get_or ys b d in
     let y : Block = closed_if_full pages (with_page s x) in
     let changed = sum_by-set (weight pages) ys b y d (omega (arith, low, length-map xs (forget s))) in
-    let heavier : weight pages y ≡ weight pages x + 1 = weight-closed pages (with_page s x) ∙ omega (arith, length_push x.entries (record { sector = s; live = true })) in
+    let heavier : weight pages y ≡ weight pages x + 1 =
+    weight-closed pages (with_page s x) ∙ omega (arith, length_push x.entries (record { sector = s; live = true })) in
     omega (arith, changed, heavier, weight-forget pages s xs)
 
-pub weight-role : (pages b : ℕ) (r : Role) (xs : List Block) → b < length xs → sum_by (weight pages) (change_at xs b (λ block. record block { role = r })) ≡ sum_by (weight pages) xs
+pub weight-role : (pages b : ℕ) (r : Role) (xs : List Block) → b < length xs
+    → sum_by (weight pages) (change_at xs b (λ block. record block { role = r })) ≡ sum_by (weight pages) xs
 weight-role pages b r xs low =
     let d : Block = unused Retired in
     let changed = sum_by-set (weight pages) xs b (record (get_or xs b d) { role = r }) d low in
     omega (arith, changed)
 
-pub weight-collect : (pages endurance spare victim : ℕ) (xs : List Block) → spare < length xs → victim < length xs → victim ≢ spare → length (get_or xs victim (unused Retired)).entries ≡ pages → sum_by (weight pages) (change_at (change_at xs spare (filled (get_or xs victim (unused Retired)))) victim (emptied endurance)) ≡ sum_by (weight pages) xs + live_of (get_or xs victim (unused Retired)) + 1
+pub weight-collect : (pages endurance spare victim : ℕ) (xs : List Block) → spare < length xs → victim < length xs → victim ≢ spare
+    → length (get_or xs victim (unused Retired)).entries ≡ pages
+    → sum_by (weight pages) (change_at (change_at xs spare (filled (get_or xs victim (unused Retired)))) victim (emptied endurance))
+    ≡ sum_by (weight pages) xs + live_of (get_or xs victim (unused Retired)) + 1
 weight-collect pages endurance spare victim xs spare_in victim_in apart full =
     let d : Block = unused Retired in
     let v = get_or xs victim d in
@@ -267,7 +301,8 @@ weight-collect pages endurance spare victim xs spare_in victim_in apart full =
     let first = sum_by-set (weight pages) xs spare y d spare_in in
     let second = sum_by-set (weight pages) ys victim z d (omega (arith, victim_in, length-set xs spare y)) in
     let was : get_or ys victim d ≡ v = get_or-set_other xs spare victim y d apart in
-    let heavier : weight pages y ≡ weight pages s + live_of v = omega (arith, length-append s.entries (live_entries v.entries), length-filter (λ (e : Entry). e.live) v.entries) in
+    let heavier : weight pages y ≡ weight pages s + live_of v =
+    omega (arith, length-append s.entries (live_entries v.entries), length-filter (λ (e : Entry). e.live) v.entries) in
     let e = ap (λ (k : Block). weight pages k) was in
     let e2 = ap (λ (k : Block). k.erases) was in
     let worn : weight pages z ≡ (pages + 1) * (v.erases + 1) = ap (λ (k : ℕ). (pages + 1) * (k + 1) + 0) e2 ∙ omega arith in
@@ -292,7 +327,8 @@ pub none_below : (f : OneFtl) (b : ℕ) → free_of (stock_of f).blocks ≡ Some
 none_below f b e = (position-Some is_free f.roles.items b Retired (sym (free_of-stock f) ∙ e)).2
 
 -- one block gets a role that isn't a free one's
-pub free-kept : (roles : List Role) (from b : ℕ) (r : Role) → ((k : ℕ) → k < from → is_free (role_in roles k) ≡ false) → b < length roles → is_free r ≡ false → (k : ℕ) → k < from → is_free (role_in (set roles b r) k) ≡ false
+pub free-kept : (roles : List Role) (from b : ℕ) (r : Role) → ((k : ℕ) → k < from → is_free (role_in roles k) ≡ false) → b < length roles
+    → is_free r ≡ false → (k : ℕ) → k < from → is_free (role_in (set roles b r) k) ≡ false
 free-kept roles from b r none low off k below = elim (cases_eq k b) [
   | inl e ↦ ap is_free (ap (role_in (set roles b r)) e ∙ get_or-set_same roles b r Retired low) ∙ off
   | inr apart ↦ ap is_free (get_or-set_other roles b k r Retired apart) ∙ none k below
@@ -313,8 +349,11 @@ spare_found f b e =
 pub open_found : (f : OneFtl) (b : ℕ) → open_of (stock_of f).blocks ≡ Some b → (b < blocks_of (geometry_of f.store)) × (role_in f.roles.items b ≡ Open)
 open_found f b e =
     let g = geometry_of f.store in
-    let is = f.lawful.open_at b (sym (open_of-stock f) ∙ e) in
-    (inside (blocks_of g) (pages_of g) (λ k. length (entries_of f.store k)) (retired_of f.store) (role_in f.roles.items) f.open_block f.lawful b (open≢retired (role_in f.roles.items b) is), is)
+    let is = f.lawful.open_at b (sym (open_of-stock f) ∙ e) in (
+      inside (blocks_of g) (pages_of g) (λ k. length (entries_of f.store k)) (retired_of f.store) (role_in f.roles.items) f.open_block f.lawful b
+          (open≢retired (role_in f.roles.items b) is),
+      is,
+    )
 
 pub open_room : (f : OneFtl) (b : ℕ) → open_of (stock_of f).blocks ≡ Some b → HasRoom f.store b
 open_room f b e =
@@ -354,12 +393,15 @@ total_small f =
     let within : k < blocks_of g = omega (arith, low, f.roles_sized) in
     let worn = mul-le (pages_of g + 1) (erases_of s k) (pages_of g + 1) (endurance_of g) (omega arith) (erases_within s k within) in
     omega (arith, worn, entries_within s k within)) in
-    let one = mul-le (pages_of g + 1) (endurance_of g) (MAX_PAGES + 1) MAX_ENDURANCE (omega (arith, s.die.geometry.in_limits.pages_high)) (omega (arith, s.die.geometry.in_limits.endurance_high)) in
-    let all = mul-le (length f.roles.items) m MAX_BLOCKS ((MAX_PAGES + 1) * MAX_ENDURANCE + MAX_PAGES) (omega (arith, f.roles_sized, s.die.geometry.in_limits.blocks_high)) (omega (arith, one, s.die.geometry.in_limits.pages_high)) in
+    let one = mul-le (pages_of g + 1) (endurance_of g) (MAX_PAGES + 1) MAX_ENDURANCE (omega (arith, s.die.geometry.in_limits.pages_high))
+    (omega (arith, s.die.geometry.in_limits.endurance_high)) in
+    let all = mul-le (length f.roles.items) m MAX_BLOCKS ((MAX_PAGES + 1) * MAX_ENDURANCE + MAX_PAGES)
+    (omega (arith, f.roles_sized, s.die.geometry.in_limits.blocks_high)) (omega (arith, one, s.die.geometry.in_limits.pages_high)) in
     omega (arith, f.bounded, most, all)
 
 -- the roles of the layer once one was rewritten
-pub roles_now : (f : OneFtl) (was new : List Role) (b : ℕ) (r : Role) → new ≡ set was b r → was ≡ f.roles.items → (with_items f.roles new).items ≡ set f.roles.items b r
+pub roles_now : (f : OneFtl) (was new : List Role) (b : ℕ) (r : Role) → new ≡ set was b r → was ≡ f.roles.items
+    → (with_items f.roles new).items ≡ set f.roles.items b r
 roles_now f was new b r e same =
     let now : new ≡ set f.roles.items b r = e ∙ ap (λ (xs : List Role). set xs b r) same in
     with_items_is f.roles new (omega (arith, ap (λ (xs : List Role). length xs) now, length-set f.roles.items b r, f.roles.ok.0)) ∙ now

@@ -1,6 +1,7 @@
 -- What the stock's definition gives of a write: at most one block is collected, and it is a closed one with the
 -- fewest live pages.
-use Rattle.std.proofs.Common.{◌≡◌, ◌≢◌, ◌⊎◌, inl, inr, ℕ, ◌+◌, ◌<◌, Bool, true, false, cond, eqb, List, length, get_or, map, Option, None, Some, sym, ap, ◌∙◌, refl, subst, arith, length-set, get_or-set_same, get_or-set_other}
+use Rattle.std.proofs.Common.{◌≡◌, ◌≢◌, ◌⊎◌, inl, inr, ℕ, ◌+◌, ◌<◌, Bool, true, false, cond, eqb, List, length, get_or, map, Option, None}
+use Rattle.std.proofs.Common.{Some, sym, ap, ◌∙◌, refl, subst, arith, length-set, get_or-set_same, get_or-set_other}
 use Rattle.std.specs.Option.{option_and_then}
 use Rattle.std.proofs.lemmas.List.{length-map, get_or-map, get_or_past}
 use Rattle.std.proofs.lemmas.Bool.{false≢true, cases_eq, cases_lt}
@@ -8,25 +9,31 @@ use Rattle.std.proofs.lemmas.List.Quantifiers.{position-Some}
 use Rattle.geometry.proofs.GreedyLemmas.{greedy_of-closed, greedy_of-least}
 use Rattle.ftl_one.specs.declared.role.Role.{Role}
 use Rattle.ftl_one.specs.declared.role.Role.TheVariants.{Open, Closed, Spare, Retired}
-use Rattle.ftl_one.specs.Stock.{Stock, Block, unused, live_of, is_closed, is_spare, open_of, free_of, spare_of, victim_of, forget, with_page, closed_if_full, change_at, filled, emptied, opened, collected, collect, ready_by, ready, write_into, write_of}
+use Rattle.ftl_one.specs.Stock.{Stock, Block, unused, live_of, is_closed, is_spare, open_of, free_of, spare_of, victim_of, forget, with_page}
+use Rattle.ftl_one.specs.Stock.{closed_if_full, change_at, filled, emptied, opened, collected, collect, ready_by, ready, write_into, write_of}
 use Rattle.ftl_one.specs.Laws.{block_at, ErasesNothing, Collects}
 use Rattle.ftl_one.proofs.FtlLemmas.{closed_by, spare_by}
 
 -- a change of one block, place by place
-pub change-here : (xs : List Block) (b : ℕ) (h : Block → Block) → b < length xs → get_or (change_at xs b h) b (unused Retired) ≡ h (get_or xs b (unused Retired))
+pub change-here : (xs : List Block) (b : ℕ) (h : Block → Block) → b < length xs
+    → get_or (change_at xs b h) b (unused Retired) ≡ h (get_or xs b (unused Retired))
 change-here xs b h low = get_or-set_same xs b (h (get_or xs b (unused Retired))) (unused Retired) low
 
 pub change-there : (xs : List Block) (b c : ℕ) (h : Block → Block) → c ≢ b → get_or (change_at xs b h) c (unused Retired) ≡ get_or xs c (unused Retired)
 change-there xs b c h apart = get_or-set_other xs b c (h (get_or xs b (unused Retired))) (unused Retired) apart
 
 -- a change that keeps each block's erases keeps them in the list
-change-erases : (xs : List Block) (b c : ℕ) (h : Block → Block) → ((x : Block) → (h x).erases ≡ x.erases) → (get_or (change_at xs b h) c (unused Retired)).erases ≡ (get_or xs c (unused Retired)).erases
+change-erases : (xs : List Block) (b c : ℕ) (h : Block → Block) → ((x : Block) → (h x).erases ≡ x.erases)
+    → (get_or (change_at xs b h) c (unused Retired)).erases ≡ (get_or xs c (unused Retired)).erases
 change-erases xs b c h same = elim (cases_eq c b) [
   | inr apart ↦ ap (λ (x : Block). x.erases) (change-there xs b c h apart)
   | inl e ↦ elim (cases_lt b (length xs)) [
-    | inl low ↦ ap (λ (k : ℕ). (get_or (change_at xs b h) k (unused Retired)).erases) e ∙ (ap (λ (x : Block). x.erases) (change-here xs b h low) ∙ (same (get_or xs b (unused Retired)) ∙ ap (λ (k : ℕ). (get_or xs k (unused Retired)).erases) (sym e)))
+    | inl low ↦ ap (λ (k : ℕ). (get_or (change_at xs b h) k (unused Retired)).erases) e
+        ∙ (ap (λ (x : Block). x.erases) (change-here xs b h low)
+        ∙ (same (get_or xs b (unused Retired)) ∙ ap (λ (k : ℕ). (get_or xs k (unused Retired)).erases) (sym e)))
     | inr past ↦
-        ap (λ (x : Block). x.erases) (get_or_past (change_at xs b h) c (unused Retired) (omega (arith, past, e, length-set xs b (h (get_or xs b (unused Retired))))))
+        ap (λ (x : Block). x.erases)
+        (get_or_past (change_at xs b h) c (unused Retired) (omega (arith, past, e, length-set xs b (h (get_or xs b (unused Retired))))))
         ∙ ap (λ (x : Block). x.erases) (sym (get_or_past xs c (unused Retired) (omega (arith, past, e))))
   ]
 ]
@@ -53,10 +60,14 @@ written pages s k k' None h = absurd (none_some h)
     none_some : None ≡ Some k' → ⊥
     none_some e = cc
 written pages s k k' (Some b) h =
-    let new : Stock = record k { blocks = change_at (map (forget s) k.blocks) b (λ block. closed_if_full pages (with_page s block)); programs = k.programs + 1 } in
+    let new : Stock = record k {
+      blocks = change_at (map (forget s) k.blocks) b (λ block. closed_if_full pages (with_page s block));
+      programs = k.programs + 1;
+    } in
     let is : new ≡ k' = same_some new h in
     subst (λ (x : Stock). ErasesNothing k x) is (record {
-      blocks = λ c. change-erases (map (forget s) k.blocks) b c (λ block. closed_if_full pages (with_page s block)) (λ x. closed-erases pages (with_page s x)) ∙ map-erases k.blocks s c;
+      blocks = λ c. change-erases (map (forget s) k.blocks) b c (λ block. closed_if_full pages (with_page s block))
+          (λ x. closed-erases pages (with_page s x)) ∙ map-erases k.blocks s c;
       erases = refl;
       copies = refl;
     })
@@ -97,7 +108,10 @@ module _ (endurance : ℕ) (k : Stock) (spare v : ℕ) (is_spare_of : spare_of k
   pub victim_low : v < length k.blocks
   victim_low = elim (cases_lt v (length k.blocks)) [
     | inl low ↦ low
-    | inr past ↦ absurd (false≢true (sym (get_or_past (map (λ block. is_closed block.role) k.blocks) v false (omega (arith, past, length-map k.blocks (λ (block : Block). is_closed block.role)))) ∙ greedy_of-closed (map live_of k.blocks) (map (λ block. is_closed block.role) k.blocks) sizes v chosen))
+    | inr past ↦ absurd (false≢true
+        (sym (get_or_past (map (λ block. is_closed block.role) k.blocks) v false
+        (omega (arith, past, length-map k.blocks (λ (block : Block). is_closed block.role))))
+        ∙ greedy_of-closed (map live_of k.blocks) (map (λ block. is_closed block.role) k.blocks) sizes v chosen))
   ]
 
   victim_closed : (block_at k v).role ≡ Closed
@@ -130,11 +144,13 @@ module _ (endurance : ℕ) (k : Stock) (spare v : ℕ) (is_spare_of : spare_of k
         closed = victim_closed;
         fewest = λ b is.
             let low = closed_low b is in
-            let shut : get_or (map (λ block. is_closed block.role) xs) b false ≡ true = get_or-map (λ (block : Block). is_closed block.role) xs b (unused Retired) false low ∙ ap is_closed is in
+            let shut : get_or (map (λ block. is_closed block.role) xs) b false ≡ true =
+            get_or-map (λ (block : Block). is_closed block.role) xs b (unused Retired) false low ∙ ap is_closed is in
             let least = greedy_of-least (map live_of xs) (map (λ block. is_closed block.role) xs) sizes v chosen b shut in
             omega (arith, least, get_or-map live_of xs v (unused Retired) 0 victim_low, get_or-map live_of xs b (unused Retired) 0 low);
         erased =
-            ap (λ (x : Block). x.erases) (change-here ys v (emptied endurance) (omega (arith, victim_low, length-set xs spare (filled taken (get_or xs spare (unused Retired))))))
+            ap (λ (x : Block). x.erases)
+            (change-here ys v (emptied endurance) (omega (arith, victim_low, length-set xs spare (filled taken (get_or xs spare (unused Retired))))))
             ∙ ap (λ (x : Block). x.erases + 1) (change-there xs spare v (filled taken) victim_apart);
         others = λ b apart.
             ap (λ (x : Block). x.erases) (change-there ys v b (emptied endurance) apart) ∙ change-erases xs spare b (filled taken) (λ x. refl);
@@ -152,7 +168,8 @@ same_some x y h = cc
 pub none_some : (x : Stock) → None ≡ Some x → ⊥
 none_some x h = cc
 
-collect-does : (endurance : ℕ) (k k' : Stock) (spare : ℕ) (o : Option ℕ) → spare_of k.blocks ≡ Some spare → victim_of k.blocks ≡ o → collect endurance k spare o ≡ Some k' → Does k k'
+collect-does : (endurance : ℕ) (k k' : Stock) (spare : ℕ) (o : Option ℕ) → spare_of k.blocks ≡ Some spare → victim_of k.blocks ≡ o
+    → collect endurance k spare o ≡ Some k' → Does k k'
 collect-does endurance k k' spare None s e h = absurd (none_some k' h)
 collect-does endurance k k' spare (Some v) s e h =
     inr (v, spare, s, subst (λ (x : Stock). Collects k x v) (same_some (collected endurance k spare v) k' h) (collects endurance k spare v s e))
@@ -195,7 +212,10 @@ ready-programs endurance k k' None None None h = absurd (none_some k' h)
 into-programs : (pages s : ℕ) (k k' : Stock) (o : Option ℕ) → write_into pages s k o ≡ Some k' → k'.programs ≡ k.programs + 1
 into-programs pages s k k' None h = absurd (none_some k' h)
 into-programs pages s k k' (Some b) h =
-    let new : Stock = record k { blocks = change_at (map (forget s) k.blocks) b (λ block. closed_if_full pages (with_page s block)); programs = k.programs + 1 } in
+    let new : Stock = record k {
+      blocks = change_at (map (forget s) k.blocks) b (λ block. closed_if_full pages (with_page s block));
+      programs = k.programs + 1;
+    } in
     ap (λ (x : Stock). x.programs) (sym (same_some new k' h))
 
 pub write-programs : (pages endurance s : ℕ) (k new : Stock) → option_and_then (write_of pages s) (ready endurance k) ≡ Some new → new.programs ≡ k.programs + 1
@@ -203,4 +223,5 @@ write-programs pages endurance s k new h = by (ready endurance k) refl h
   where
     by : (r : Option Stock) → ready endurance k ≡ r → option_and_then (write_of pages s) r ≡ Some new → new.programs ≡ k.programs + 1
     by None e g = absurd (none_some new g)
-    by (Some mid) e g = into-programs pages s mid new (open_of mid.blocks) g ∙ ap (λ (n : ℕ). n + 1) (ready-programs endurance k mid (open_of k.blocks) (free_of k.blocks) (spare_of k.blocks) e)
+    by (Some mid) e g = into-programs pages s mid new (open_of mid.blocks) g
+        ∙ ap (λ (n : ℕ). n + 1) (ready-programs endurance k mid (open_of k.blocks) (free_of k.blocks) (spare_of k.blocks) e)

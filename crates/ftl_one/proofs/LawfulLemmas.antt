@@ -42,7 +42,8 @@ pub spare≢retired : (r : Role) → r ≡ Spare → r ≡ Retired → ⊥
 spare≢retired r h k = cc
 
 -- the spare is the one that it was, where another block gets a role that isn't the spare's
-pub spare-kept : (role role' : ℕ → Role) (spare : Option ℕ) (b : ℕ) → KnowsSpare role spare → role b ≢ Spare → role' b ≢ Spare → ((c : ℕ) → c ≢ b → role' c ≡ role c) → KnowsSpare role' spare
+pub spare-kept : (role role' : ℕ → Role) (spare : Option ℕ) (b : ℕ) → KnowsSpare role spare → role b ≢ Spare → role' b ≢ Spare
+    → ((c : ℕ) → c ≢ b → role' c ≡ role c) → KnowsSpare role' spare
 spare-kept role role' spare b knows old new there =
     record {
       spare_is = λ c is. elim (cases_eq c b) [
@@ -55,13 +56,15 @@ spare-kept role role' spare b knows old new there =
       ];
     }
 
-module _ (count pages : ℕ) (size : ℕ → ℕ) (retired : ℕ → Bool) (role : ℕ → Role) (open_block : Option ℕ) (law : IsLawful count pages size retired role open_block) where
+module _ (count pages : ℕ) (size : ℕ → ℕ) (retired : ℕ → Bool) (role : ℕ → Role) (open_block : Option ℕ)
+    (law : IsLawful count pages size retired role open_block) where
   -- a block that isn't retired is one of the device's
   pub inside : (b : ℕ) → role b ≢ Retired → b < count
   inside b used = elim (cases_lt b count) [ inl low ↦ low | inr past ↦ absurd (used (law.outside b past)) ]
 
   -- nothing that counts has changed
-  pub lawful-same : (size' : ℕ → ℕ) (retired' : ℕ → Bool) → ((b : ℕ) → b < count → size' b ≡ size b) → ((b : ℕ) → b < count → retired' b ≡ retired b) → IsLawful count pages size' retired' role open_block
+  pub lawful-same : (size' : ℕ → ℕ) (retired' : ℕ → Bool) → ((b : ℕ) → b < count → size' b ≡ size b) → ((b : ℕ) → b < count → retired' b ≡ retired b)
+      → IsLawful count pages size' retired' role open_block
   lawful-same size' retired' same kept =
       record {
         open_is = law.open_is;
@@ -76,10 +79,15 @@ module _ (count pages : ℕ) (size : ℕ → ℕ) (retired : ℕ → Bool) (role
       }
 
   -- a free block is opened
-  pub lawful-open : (role' : ℕ → Role) (b : ℕ) → 1 ≤ pages → b < count → open_block ≡ None → role b ≡ Free → role' b ≡ Open → ((c : ℕ) → c ≢ b → role' c ≡ role c) → IsLawful count pages size retired role' (Some b)
+  pub lawful-open : (role' : ℕ → Role) (b : ℕ) → 1 ≤ pages → b < count → open_block ≡ None → role b ≡ Free → role' b ≡ Open
+      → ((c : ℕ) → c ≢ b → role' c ≡ role c) → IsLawful count pages size retired role' (Some b)
   lawful-open role' b some low none free here there =
       record {
-        open_is = λ c is. elim (cases_eq c b) [ inl e ↦ ap Some (sym e) | inr apart ↦ absurd (none_some open_block c none (law.open_is c (sym (there c apart) ∙ is))) ];
+        open_is = λ c is. elim (cases_eq c b) [
+          | inl e ↦ ap Some (sym e)
+          | inr apart ↦
+              absurd (none_some open_block c none (law.open_is c (sym (there c apart) ∙ is)))
+        ];
         open_at = λ c e. ap role' (sym (some_same b c e)) ∙ here;
         room = λ c is. elim (cases_eq c b) [
           | inl e ↦ omega (arith, ap size e, law.unused b low (ap has_pages free), some)
@@ -94,7 +102,8 @@ module _ (count pages : ℕ) (size : ℕ → ℕ) (retired : ℕ → Bool) (role
           | inr apart ↦ law.unused c within (ap has_pages (sym (there c apart)) ∙ off)
         ];
         usable = λ c within. elim (cases_eq c b) [
-          | inl e ↦ law.usable c within ∙ (ap (λ (k : ℕ). is_retired (role k)) e ∙ (ap is_retired free ∙ (ap is_retired (sym here) ∙ ap (λ (k : ℕ). is_retired (role' k)) (sym e))))
+          | inl e ↦ law.usable c within
+              ∙ (ap (λ (k : ℕ). is_retired (role k)) e ∙ (ap is_retired free ∙ (ap is_retired (sym here) ∙ ap (λ (k : ℕ). is_retired (role' k)) (sym e))))
           | inr apart ↦ law.usable c within ∙ ap is_retired (sym (there c apart))
         ];
         one_spare = λ c d first second. law.one_spare c d (spare_before c first) (spare_before d second);
@@ -109,7 +118,8 @@ module _ (count pages : ℕ) (size : ℕ → ℕ) (retired : ℕ → Bool) (role
       retired_before c is = elim (cases_eq c b) [ inl e ↦ absurd (open≢retired (role' c) (ap role' e ∙ here) is) | inr apart ↦ sym (there c apart) ∙ is ]
 
   -- the open block has one more page, and still room
-  pub lawful-put : (size' : ℕ → ℕ) (retired' : ℕ → Bool) (b : ℕ) → role b ≡ Open → size' b ≡ size b + 1 → size b + 1 < pages → ((c : ℕ) → c < count → c ≢ b → size' c ≡ size c) → ((c : ℕ) → c < count → retired' c ≡ retired c) → IsLawful count pages size' retired' role open_block
+  pub lawful-put : (size' : ℕ → ℕ) (retired' : ℕ → Bool) (b : ℕ) → role b ≡ Open → size' b ≡ size b + 1 → size b + 1 < pages
+      → ((c : ℕ) → c < count → c ≢ b → size' c ≡ size c) → ((c : ℕ) → c < count → retired' c ≡ retired c) → IsLawful count pages size' retired' role open_block
   lawful-put size' retired' b is_open one room there kept =
       record {
         open_is = law.open_is;
@@ -136,7 +146,9 @@ module _ (count pages : ℕ) (size : ℕ → ℕ) (retired : ℕ → Bool) (role
       on_off t h k = cc
 
   -- the open block has its last page, and is closed
-  pub lawful-close : (size' : ℕ → ℕ) (retired' : ℕ → Bool) (role' : ℕ → Role) (b : ℕ) → role b ≡ Open → size' b ≡ pages → ((c : ℕ) → c < count → c ≢ b → size' c ≡ size c) → ((c : ℕ) → c < count → retired' c ≡ retired c) → role' b ≡ Closed → ((c : ℕ) → c ≢ b → role' c ≡ role c) → IsLawful count pages size' retired' role' None
+  pub lawful-close : (size' : ℕ → ℕ) (retired' : ℕ → Bool) (role' : ℕ → Role) (b : ℕ) → role b ≡ Open → size' b ≡ pages
+      → ((c : ℕ) → c < count → c ≢ b → size' c ≡ size c) → ((c : ℕ) → c < count → retired' c ≡ retired c) → role' b ≡ Closed
+      → ((c : ℕ) → c ≢ b → role' c ≡ role c) → IsLawful count pages size' retired' role' None
   lawful-close size' retired' role' b is_open last there kept here others =
       let b_in = inside b (open≢retired (role b) is_open) in
       let was = law.open_is b is_open in
@@ -177,7 +189,11 @@ module _ (count pages : ℕ) (size : ℕ → ℕ) (retired : ℕ → Bool) (role
       retired_before c is = elim (cases_eq c b) [ inl e ↦ absurd (closed≢retired (role' c) (ap role' e ∙ here) is) | inr apart ↦ sym (others c apart) ∙ is ]
 
   -- a block is collected: the spare is open, and the victim is the spare, or retired where its erase failed
-  pub lawful-collect : (size' : ℕ → ℕ) (retired' : ℕ → Bool) (role' : ℕ → Role) (spare victim : ℕ) (failed : Bool) → open_block ≡ None → role spare ≡ Spare → role victim ≡ Closed → size' spare < pages → size' victim ≡ 0 → ((c : ℕ) → c < count → c ≢ spare → c ≢ victim → size' c ≡ size c) → retired' victim ≡ failed → ((c : ℕ) → c < count → c ≢ victim → retired' c ≡ retired c) → role' spare ≡ Open → role' victim ≡ cond failed Retired Spare → ((c : ℕ) → c ≢ spare → c ≢ victim → role' c ≡ role c) → IsLawful count pages size' retired' role' (Some spare)
+  pub lawful-collect : (size' : ℕ → ℕ) (retired' : ℕ → Bool) (role' : ℕ → Role) (spare victim : ℕ) (failed : Bool) → open_block ≡ None
+      → role spare ≡ Spare → role victim ≡ Closed → size' spare < pages → size' victim ≡ 0
+      → ((c : ℕ) → c < count → c ≢ spare → c ≢ victim → size' c ≡ size c) → retired' victim ≡ failed
+      → ((c : ℕ) → c < count → c ≢ victim → retired' c ≡ retired c) → role' spare ≡ Open → role' victim ≡ cond failed Retired Spare
+      → ((c : ℕ) → c ≢ spare → c ≢ victim → role' c ≡ role c) → IsLawful count pages size' retired' role' (Some spare)
   lawful-collect size' retired' role' spare victim failed none is_spare is_closed room empty there marked kept opened done others =
       record {
         open_is = λ c is. elim (cases_eq c spare) [
@@ -212,7 +228,8 @@ module _ (count pages : ℕ) (size : ℕ → ℕ) (retired : ℕ → Bool) (role
         usable = λ c within. elim (cases_eq c victim) [
           | inl e ↦ ap retired' e ∙ (marked ∙ (mark failed ∙ (ap is_retired (sym done) ∙ ap (λ (k : ℕ). is_retired (role' k)) (sym e))))
           | inr other ↦ kept c within other ∙ (law.usable c within ∙ elim (cases_eq c spare) [
-            | inl e ↦ ap (λ (k : ℕ). is_retired (role k)) e ∙ (ap is_retired is_spare ∙ (ap is_retired (sym opened) ∙ ap (λ (k : ℕ). is_retired (role' k)) (sym e)))
+            | inl e ↦ ap (λ (k : ℕ). is_retired (role k)) e
+                ∙ (ap is_retired is_spare ∙ (ap is_retired (sym opened) ∙ ap (λ (k : ℕ). is_retired (role' k)) (sym e)))
             | inr apart ↦ ap is_retired (sym (others c apart other))
           ])
         ];
@@ -260,7 +277,9 @@ module _ (count pages : ℕ) (size : ℕ → ℕ) (retired : ℕ → Bool) (role
       ]
 
 -- after a collection the victim is the spare, or there is none where its erase failed
-pub spare-collected : (count pages : ℕ) (size : ℕ → ℕ) (retired : ℕ → Bool) (role : ℕ → Role) (open_block : Option ℕ) (victim : ℕ) (failed : Bool) → IsLawful count pages size retired role open_block → victim < count → role victim ≡ cond failed Retired Spare → KnowsSpare role (cond failed None (Some victim))
+pub spare-collected : (count pages : ℕ) (size : ℕ → ℕ) (retired : ℕ → Bool) (role : ℕ → Role) (open_block : Option ℕ) (victim : ℕ) (failed : Bool)
+    → IsLawful count pages size retired role open_block → victim < count → role victim ≡ cond failed Retired Spare
+    → KnowsSpare role (cond failed None (Some victim))
 spare-collected count pages size retired role open_block victim true law low done =
     record {
       spare_is = λ b is. absurd (law.spare_last b victim low is done);

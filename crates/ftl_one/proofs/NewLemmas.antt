@@ -1,5 +1,6 @@
 -- A new layer: the last block is the spare, the others are free, and none has a page.
-use Rattle.std.proofs.Common.{◌≡◌, inl, inr, ℕ, ◌+◌, ◌<◌, Bool, false, List, [], ◌∷◌, ◌++◌, length, get_or, set, replicate, None, Some, sym, ap, ◌∙◌, subst, arith}
+use Rattle.std.proofs.Common.{◌≡◌, inl, inr, ℕ, ◌+◌, ◌<◌, Bool, false, List, [], ◌∷◌, ◌++◌, length, get_or}
+use Rattle.std.proofs.Common.{set, replicate, None, Some, sym, ap, ◌∙◌, subst, arith}
 use Rattle.std.proofs.lemmas.List.{length-replicate, get_or-replicate, get_or_append_left, get_or_push, get_or_past, set_at, replicate_more, length_push}
 use Rattle.std.proofs.lemmas.Bool.{cases_order}
 use Rattle.geometry.specs.declared.geometry.Geometry.{Geometry}
@@ -24,7 +25,8 @@ pub length-roles_new : (n : ℕ) → length (roles_new n) ≡ n + 1
 length-roles_new n = length_push (replicate n Free) Spare ∙ ap (λ (k : ℕ). k + 1) (length-replicate n Free)
 
 free-below : (n k : ℕ) → k < n → role_in (roles_new n) k ≡ Free
-free-below n k low = get_or_append_left (replicate n Free) (Spare ∷ []) Retired k (omega (arith, low, length-replicate n Free)) ∙ get_or-replicate n k Free Retired low
+free-below n k low = get_or_append_left (replicate n Free) (Spare ∷ []) Retired k (omega (arith, low, length-replicate n Free))
+    ∙ get_or-replicate n k Free Retired low
 
 spare-last : (n : ℕ) → role_in (roles_new n) n ≡ Spare
 spare-last n = get_or_push (replicate n Free) Spare Retired n (length-replicate n Free)
@@ -57,7 +59,8 @@ only_spare n k is = elim (cases_order k n) [
   ]
 ]
 
-pub lawful-new : (n pages : ℕ) (size : ℕ → ℕ) (retired : ℕ → Bool) → ((b : ℕ) → b < n + 1 → size b ≡ 0) → ((b : ℕ) → b < n + 1 → retired b ≡ false) → IsLawful (n + 1) pages size retired (role_in (roles_new n)) None
+pub lawful-new : (n pages : ℕ) (size : ℕ → ℕ) (retired : ℕ → Bool) → ((b : ℕ) → b < n + 1 → size b ≡ 0) → ((b : ℕ) → b < n + 1 → retired b ≡ false)
+    → IsLawful (n + 1) pages size retired (role_in (roles_new n)) None
 lawful-new n pages size retired empty usable =
     record {
       open_is = λ b is. absurd (each n (λ r. r ≡ Open → ⊥) (λ h. a h) (λ h. c h) (λ h. d h) b is);
@@ -119,7 +122,8 @@ spare_new n =
     some_same b h = cc
 
 -- the blocks of a new layer
-pub blocks_new : (s : Store) (g : Geometry) (n : ℕ) → blocks_of g ≡ n + 1 → IsNew s g → blocks_in s (roles_new n) ≡ replicate n (unused Free) ++ unused Spare ∷ []
+pub blocks_new : (s : Store) (g : Geometry) (n : ℕ) → blocks_of g ≡ n + 1 → IsNew s g
+    → blocks_in s (roles_new n) ≡ replicate n (unused Free) ++ unused Spare ∷ []
 unfolding blocks_in
 blocks_new s g n size new =
     let xs : List Block = replicate n (unused Free) ++ unused Spare ∷ [] in
@@ -132,9 +136,12 @@ blocks_new s g n size new =
     let parts : block_in s (roles_new n) k ≡ unused (role_in (roles_new n) k) =
     ap (λ (e : ℕ). by (role_in (roles_new n) k) e (entries_of s k)) (new.erases k within) ∙ ap (by (role_in (roles_new n) k) 0) (new.entries k within) in
     elim (cases_order k n) [
-      | inl e ↦ parts ∙ (ap unused (ap (role_in (roles_new n)) e ∙ spare-last n) ∙ sym (ap (λ (i : ℕ). get_or xs i d) e ∙ get_or_push (replicate n (unused Free)) (unused Spare) d n (length-replicate n (unused Free))))
+      | inl e ↦ parts ∙ (ap unused (ap (role_in (roles_new n)) e ∙ spare-last n)
+          ∙ sym (ap (λ (i : ℕ). get_or xs i d) e ∙ get_or_push (replicate n (unused Free)) (unused Spare) d n (length-replicate n (unused Free))))
       | inr o ↦ elim o [
-        | inl below ↦ parts ∙ (ap unused (free-below n k below) ∙ sym (get_or_append_left (replicate n (unused Free)) (unused Spare ∷ []) d k (omega (arith, below, length-replicate n (unused Free))) ∙ get_or-replicate n k (unused Free) d below))
+        | inl below ↦ parts ∙ (ap unused (free-below n k below)
+            ∙ sym (get_or_append_left (replicate n (unused Free)) (unused Spare ∷ []) d k (omega (arith, below, length-replicate n (unused Free)))
+            ∙ get_or-replicate n k (unused Free) d below))
         | inr high ↦ absurd (omega (arith, high, low, length-roles_new n))
       ]
     ])

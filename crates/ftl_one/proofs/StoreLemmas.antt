@@ -1,5 +1,6 @@
 -- A store in the terms of its die and its map.
-use Rattle.std.proofs.Common.{◌≡◌, ◌≢◌, inl, inr, ℕ, ◌+◌, ◌<◌, ◌≤◌, ◌^◌, true, false, List, [], ◌∷◌, ◌++◌, length, get_or, set, map, Option, None, Some, sym, ap, ◌∙◌, refl, subst, arith}
+use Rattle.std.proofs.Common.{◌≡◌, ◌≢◌, inl, inr, ℕ, ◌+◌, ◌<◌, ◌≤◌, ◌^◌, true, false, List, [], ◌∷◌, ◌++◌, length}
+use Rattle.std.proofs.Common.{get_or, set, map, Option, None, Some, sym, ap, ◌∙◌, refl, subst, arith}
 use Rattle.std.specs.Option.{IfSome, option_map}
 use Rattle.std.specs.Vec.{with_items}
 use Rattle.std.proofs.lemmas.List.{with_items_is}
@@ -33,9 +34,11 @@ pub length-entries_of : (s : Store) (b : ℕ) → length (entries_of s b) ≡ le
 unfolding entries_of
 length-entries_of s b = length-entries (size_of s) s.current.items b (block_of s.die b)
 
-pub get_or-entries_of : (s : Store) (b p : ℕ) (d : Entry) → p < length (entries_of s b) → get_or (entries_of s b) p d ≡ entry_of s.current.items b p (page_at (size_of s) (block_of s.die b) p)
+pub get_or-entries_of : (s : Store) (b p : ℕ) (d : Entry) → p < length (entries_of s b)
+    → get_or (entries_of s b) p d ≡ entry_of s.current.items b p (page_at (size_of s) (block_of s.die b) p)
 unfolding entries_of
-get_or-entries_of s b p d low = get_or-entries (size_of s) s.current.items b (block_of s.die b) p d (omega (arith, low, length-entries (size_of s) s.current.items b (block_of s.die b)))
+get_or-entries_of s b p d low =
+    get_or-entries (size_of s) s.current.items b (block_of s.die b) p d (omega (arith, low, length-entries (size_of s) s.current.items b (block_of s.die b)))
 
 pub entries_within : (s : Store) (b : ℕ) → b < blocks_of (geometry_of s) → length (entries_of s b) ≤ pages_of (geometry_of s)
 entries_within s b low = omega (arith, length-entries_of s b, pages_within s.die b low)
@@ -44,7 +47,8 @@ pub usable_block : (s : Store) (b : ℕ) → b < blocks_of (geometry_of s) → r
 unfolding retired_of
 usable_block s b low off = record { within = low; not_retired = off }
 
-pub programmed_page : (s : Store) (at : PageAddr) → at.block < blocks_of (geometry_of s) → retired_of s at.block ≡ false → at.page < length (entries_of s at.block) → IsProgrammed s.die at
+pub programmed_page : (s : Store) (at : PageAddr) → at.block < blocks_of (geometry_of s) → retired_of s at.block ≡ false
+    → at.page < length (entries_of s at.block) → IsProgrammed s.die at
 programmed_page s at low off short = record { usable = usable_block s at.block low off; programmed = omega (arith, short, length-entries_of s at.block) }
 
 pub next_of_block : (s : Store) (at : PageAddr) (b : ℕ) → HasRoom s b → at.block ≡ b → at.page ≡ length (entries_of s b) → IsNext s.die at
@@ -74,7 +78,8 @@ pub named_within : (s : Store) (sector : ℕ) (o : Option PageAddr) → get_or s
 named_within s sector None e = tt
 named_within s sector (Some at) e = omega (arith, (s.mapped.named sector at e).block, s.mapped.live_size)
 
-pub named_counted : (s : Store) (sector : ℕ) (o : Option PageAddr) → get_or s.current.items sector None ≡ o → IfSome o (λ at. 0 < get_or s.live.items at.block 0)
+pub named_counted : (s : Store) (sector : ℕ) (o : Option PageAddr) → get_or s.current.items sector None ≡ o
+    → IfSome o (λ at. 0 < get_or s.live.items at.block 0)
 named_counted s sector None e = tt
 named_counted s sector (Some at) e =
     let g = die_geometry_of s.die in
@@ -82,7 +87,8 @@ named_counted s sector (Some at) e =
     omega (arith, here, s.mapped.counts at.block (s.mapped.named sector at e).block)
 
 -- what the sector was, by the page that the map names
-pub was-named : (s : Store) (sector : ℕ) (o : Option PageAddr) → sector < sectors_of (geometry_of s) → o ≡ get_or s.current.items sector None → was_by o ≡ was_of (sector_at (array_of s) sector)
+pub was-named : (s : Store) (sector : ℕ) (o : Option PageAddr) → sector < sectors_of (geometry_of s) → o ≡ get_or s.current.items sector None
+    → was_by o ≡ was_of (sector_at (array_of s) sector)
 unfolding array_of
 was-named s sector o low e =
     by o ∙ sym (ap was_of (sector-at (size_of s) (block_of s.die) s.current.items sector o (omega (arith, low, s.mapped.current_size)) (sym e)))
@@ -96,36 +102,49 @@ pub recounted : (s : Store) (counts : List ℕ) (was is : Option PageAddr) → R
 recounted s counts was is h = with_items_is s.live counts (omega (arith, h.size, s.live.ok.0))
 
 -- a page is put: the die has programmed it, and the map names it
-module _ (old : Store) (die : Die) (at : PageAddr) (page : Page) (live : List ℕ) (low : page.stamp < sectors_of (geometry_of old)) (next : IsNext old.die at) (changes : ChangesBlock old.die die at.block (programmed (block_of old.die at.block) page)) (counts : Recounts old.live.items live (get_or old.current.items page.stamp None) (Some at)) where
+module _ (old : Store) (die : Die) (at : PageAddr) (page : Page) (live : List ℕ) (low : page.stamp < sectors_of (geometry_of old))
+    (next : IsNext old.die at) (changes : ChangesBlock old.die die at.block (programmed (block_of old.die at.block) page))
+    (counts : Recounts old.live.items live (get_or old.current.items page.stamp None) (Some at)) where
   becomes : Becomes (blocks_of (die_geometry_of old.die)) (block_of old.die) (block_of die) at.block (programmed (block_of old.die at.block) page)
   becomes = record { changed = changes.changed; others = changes.others }
 
-  pub put-mapped : IsMapped (page_bytes_of (die_geometry_of die)) (blocks_of (die_geometry_of die)) (sectors_of (die_geometry_of die)) (block_of die) (set old.current.items page.stamp (Some at)) live
+  pub put-mapped : IsMapped (page_bytes_of (die_geometry_of die)) (blocks_of (die_geometry_of die)) (sectors_of (die_geometry_of die)) (block_of die)
+      (set old.current.items page.stamp (Some at)) live
   put-mapped =
       let g = die_geometry_of old.die in
-      subst (λ (h : Geometry). IsMapped (page_bytes_of h) (blocks_of h) (sectors_of h) (block_of die) (set old.current.items page.stamp (Some at)) live) (sym changes.geometry)
-      (mapped-put (page_bytes_of g) (blocks_of g) (sectors_of g) (block_of old.die) (block_of die) old.current.items old.live.items live old.mapped at page low next.usable.within next.next next.usable.not_retired becomes counts)
+      subst (λ (h : Geometry). IsMapped (page_bytes_of h) (blocks_of h) (sectors_of h) (block_of die)
+      (set old.current.items page.stamp (Some at)) live) (sym changes.geometry)
+      (mapped-put (page_bytes_of g) (blocks_of g) (sectors_of g) (block_of old.die)
+      (block_of die) old.current.items old.live.items live old.mapped at page low next.usable.within next.next next.usable.not_retired becomes counts)
 
-  pub put-sectors : sectors_in (page_bytes_of (die_geometry_of die)) (block_of die) (set old.current.items page.stamp (Some at)) ≡ set (array_of old) page.stamp (Some page.value)
+  pub put-sectors : sectors_in (page_bytes_of (die_geometry_of die)) (block_of die) (set old.current.items page.stamp (Some at))
+      ≡ set (array_of old) page.stamp (Some page.value)
   unfolding array_of
   put-sectors =
       let g = die_geometry_of old.die in
       ap (λ (h : Geometry). sectors_in (page_bytes_of h) (block_of die) (set old.current.items page.stamp (Some at))) changes.geometry
-      ∙ sectors-put (page_bytes_of g) (blocks_of g) (sectors_of g) (block_of old.die) (block_of die) old.current.items old.live.items live old.mapped at page low next.usable.within next.next next.usable.not_retired becomes counts
+      ∙ sectors-put (page_bytes_of g) (blocks_of g) (sectors_of g) (block_of old.die)
+      (block_of die) old.current.items old.live.items live old.mapped at page low next.usable.within next.next next.usable.not_retired becomes counts
 
-  pub put-changed : entries_in (page_bytes_of (die_geometry_of die)) (set old.current.items page.stamp (Some at)) at.block (block_of die at.block) ≡ map (forgotten page.stamp) (entries_of old at.block) ++ (record { sector = page.stamp; live = true }) ∷ []
+  pub put-changed : entries_in (page_bytes_of (die_geometry_of die)) (set old.current.items page.stamp (Some at)) at.block (block_of die at.block)
+      ≡ map (forgotten page.stamp) (entries_of old at.block) ++ (record { sector = page.stamp; live = true }) ∷ []
   unfolding entries_of
   put-changed =
       let g = die_geometry_of old.die in
       ap (λ (h : Geometry). entries_in (page_bytes_of h) (set old.current.items page.stamp (Some at)) at.block (block_of die at.block)) changes.geometry
-      ∙ entries-put (page_bytes_of g) (blocks_of g) (sectors_of g) (block_of old.die) (block_of die) old.current.items old.live.items live old.mapped at page low next.usable.within next.next next.usable.not_retired becomes counts
+      ∙ entries-put (page_bytes_of g) (blocks_of g) (sectors_of g) (block_of old.die)
+      (block_of die) old.current.items old.live.items live old.mapped at page low next.usable.within next.next next.usable.not_retired becomes counts
 
-  pub put-others : (c : ℕ) → c ≢ at.block → c < blocks_of (geometry_of old) → entries_in (page_bytes_of (die_geometry_of die)) (set old.current.items page.stamp (Some at)) c (block_of die c) ≡ map (forgotten page.stamp) (entries_of old c)
+  pub put-others : (c : ℕ) → c ≢ at.block → c < blocks_of (geometry_of old)
+      → entries_in (page_bytes_of (die_geometry_of die)) (set old.current.items page.stamp (Some at)) c (block_of die c)
+      ≡ map (forgotten page.stamp) (entries_of old c)
   unfolding entries_of
   put-others c apart inside =
       let g = die_geometry_of old.die in
       ap (λ (h : Geometry). entries_in (page_bytes_of h) (set old.current.items page.stamp (Some at)) c (block_of die c)) changes.geometry
-      ∙ entries-put_other (page_bytes_of g) (blocks_of g) (sectors_of g) (block_of old.die) (block_of die) old.current.items old.live.items live old.mapped at page low next.usable.within next.next next.usable.not_retired becomes counts c apart inside
+      ∙ entries-put_other (page_bytes_of g) (blocks_of g) (sectors_of g) (block_of old.die)
+      (block_of die) old.current.items old.live.items live old.mapped at page low next.usable.within next.next next.usable.not_retired becomes
+      counts c apart inside
 
   pub put-erases : (c : ℕ) → c < blocks_of (geometry_of old) → (block_of die c).erases ≡ erases_of old c
   unfolding erases_of

@@ -1,6 +1,7 @@
 -- What the layer has used up, and what a call does to it. There is no map here: the current page of a sector is marked in the page's entry,
 -- and is found by search.
-use Rattle.std.specs.Prelude.{ℕ, ◌+◌, ◌-◌, ◌==◌, ◌&&◌, Bool, true, false, if◌then◌else◌, List, [], ◌∷◌, ◌++◌, length, map, filter, count_by, replicate, slice_set, slice_index_or, Option, None, Some, option_and_then}
+use Rattle.std.specs.Prelude.{ℕ, ◌+◌, ◌-◌, ◌==◌, ◌&&◌, Bool, true, false, if◌then◌else◌, List, [], ◌∷◌, ◌++◌, length, map, filter}
+use Rattle.std.specs.Prelude.{count_by, replicate, slice_set, slice_index_or, Option, None, Some, option_and_then}
 use Rattle.std.specs.List.{list_any, position}
 use Rattle.geometry.specs.declared.geometry.Geometry.{Geometry}
 use Rattle.geometry.specs.Geometry.{blocks_of, pages_of, endurance_of}
@@ -170,7 +171,8 @@ has_page sector stock = list_any (λ block. list_any (is_current sector) block.e
 -- unchanged if the sector is written
 abbrev pub next_of : ℕ → ℕ → Stock → Call → Option Stock
 next_of pages endurance stock (Write pass sector value) = option_and_then (write_of pages sector) (ready endurance stock)
-next_of pages endurance stock (WriteNew pass sector value) = if has_page sector stock then Some stock else option_and_then (write_of pages sector) (ready endurance stock)
+next_of pages endurance stock (WriteNew pass sector value) =
+    if has_page sector stock then Some stock else option_and_then (write_of pages sector) (ready endurance stock)
 next_of pages endurance stock (Trim pass sector) = Some (record stock { blocks = map (forget sector) stock.blocks })
 
 -- the stock of a new layer

@@ -53,7 +53,8 @@ pub struct OneFtl {
     ghost free_within: { free_from ≤ length roles.items },
     ghost free_above: { (b : ℕ) → b < free_from → is_free (role_in roles.items b) ≡ false },
     ghost knows_spare: { KnowsSpare (role_in roles.items) spare },
-    ghost lawful: { IsLawful (blocks_of (store_geometry_of store)) (pages_of (store_geometry_of store)) (λ b. length (entries_of store b)) (retired_of store) (role_in roles.items) open_block },
+    ghost lawful: { IsLawful (blocks_of (store_geometry_of store)) (pages_of (store_geometry_of store)) (λ b. length (entries_of store b))
+        (retired_of store) (role_in roles.items) open_block },
     ghost bounded: { counts.programs + counts.copies + counts.erases ≤ sum_by (weight (pages_of (store_geometry_of store))) (blocks_in store roles.items) },
 }
 
@@ -144,7 +145,8 @@ impl OneFtl {
         ensures after_failure { HasRetired (stock_of self.old) → ErasesNothing (stock_of self.old) (stock_of self.new) }
 
         // The collection that it makes is the one that was due.
-        ensures due { OnOk result (collection_between (geometry_of self.old) (stock_of self.old) (stock_of self.new) ≡ collection_due (geometry_of self.old) (stock_of self.old)) }
+        ensures due { OnOk result
+            (collection_between (geometry_of self.old) (stock_of self.old) (stock_of self.new) ≡ collection_due (geometry_of self.old) (stock_of self.old)) }
     {
         let Some(block) = self.make_ready() else {
             return Err(WornOut);
@@ -162,7 +164,8 @@ impl OneFtl {
         ensures stock { OnOk result (next (geometry_of self.old) (stock_of self.old) (WriteNew 0 sector bytes.now) ≡ Some (stock_of self.new)) }
 
         // A write that is refused has changed nothing. A written sector leaves the stock as it was, and one that is empty finds no page.
-        ensures written { result ≡ Err fault.Written → next (geometry_of self.old) (stock_of self.old) (WriteNew 0 sector bytes.now) ≡ Some (stock_of self.old) }
+        ensures written { result ≡ Err fault.Written
+            → next (geometry_of self.old) (stock_of self.old) (WriteNew 0 sector bytes.now) ≡ Some (stock_of self.old) }
         ensures unchanged { result ≡ Err fault.Written → step (array_of self.old) (WriteNew 0 sector bytes.now) ≡ array_of self.old }
         ensures worn { result ≡ Err fault.WornOut → next (geometry_of self.old) (stock_of self.old) (WriteNew 0 sector bytes.now) ≡ None }
         ensures same_array { OnErr result (array_of self.new ≡ array_of self.old) }
@@ -316,7 +319,8 @@ impl OneFtl {
         requires spare { spare_of (stock_of self.old).blocks ≡ Some spare }
         ensures geometry { geometry_of self.new ≡ geometry_of self.old }
         ensures sectors { array_of self.new ≡ array_of self.old }
-        ensures stock { collect (endurance_of (geometry_of self.old)) (stock_of self.old) spare (victim_of (stock_of self.old).blocks) ≡ Some (stock_of self.new) }
+        ensures stock { collect (endurance_of (geometry_of self.old)) (stock_of self.old) spare (victim_of (stock_of self.old).blocks)
+            ≡ Some (stock_of self.new) }
         ensures opened { open_of (stock_of self.new).blocks ≡ Some spare }
     {
         let victim = fewest_beside(self.store.live(), spare as usize) as u32;

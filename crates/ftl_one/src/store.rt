@@ -24,11 +24,13 @@ pub struct Store {
     // Room for a page on its way to another LUN.
     page: Vec<u8>,
     ghost page_sized: { length page.items ≡ page_bytes_of (die_geometry_of die) },
-    ghost mapped: { IsMapped (page_bytes_of (die_geometry_of die)) (blocks_of (die_geometry_of die)) (sectors_of (die_geometry_of die)) (block_of die) current.items live.items },
+    ghost mapped: { IsMapped (page_bytes_of (die_geometry_of die)) (blocks_of (die_geometry_of die)) (sectors_of (die_geometry_of die))
+        (block_of die) current.items live.items },
 }
 
 impl Store {
-    ghost use Rattle.ftl_one.specs.Store.{geometry_of, array_of, entries_of, erases_of, retired_of, counts_of, IsNew, KeepsBlocks, HasRoom, HasRoomFor, live_at, sector_of, Forgets, Puts, Relocates, Clears, Erases};
+    ghost use Rattle.ftl_one.specs.Store.{geometry_of, array_of, entries_of, erases_of, retired_of, counts_of, IsNew, KeepsBlocks, HasRoom};
+    ghost use Rattle.ftl_one.specs.Store.{HasRoomFor, live_at, sector_of, Forgets, Puts, Relocates, Clears, Erases};
     ghost use Rattle.ftl_one.specs.Entries.{live_count};
 
     /// A store with every sector empty and no page programmed.

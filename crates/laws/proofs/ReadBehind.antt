@@ -31,7 +31,8 @@ pub reads_behind : (x : List ℕ) → AreAtOneHistory 1 2 (write_and_reads x) no
 reads_behind x h =
     let first = h.rounds.1 in
     let second = h.rounds.2.1 in
-    let one : h.rounds.0 ≡ Write 0 0 x ∷ [] = sym (all_of_first h.rounds.0 first.played.callers (first.played.own 1 (omega arith))) ∙ first.played.own 0 (omega arith) in
+    let one : h.rounds.0 ≡ Write 0 0 x ∷ [] =
+    sym (all_of_first h.rounds.0 first.played.callers (first.played.own 1 (omega arith))) ∙ first.played.own 0 (omega arith) in
     let found : (kind.Empty ≡ kind.Page) × ([] ≡ x) = subst (λ k. IsFound (held 1 k 0) kind.Empty []) one (second.exact (one_read 1 0)).0.0 in
     let same : kind.Empty ≡ kind.Page = found.0 in
     absurd (cc)

@@ -84,8 +84,10 @@ pub record DidNothing (before after : Broom) : Type 0 where
 -- calls of a broom
 abbrev pub some_calls : List BroomAnswer
 some_calls =
-    by.Drain (drain.Drained 3 2) 2 ∷ by.DrainNext (drain.Drained 4 0) 1 ∷ by.Drain drain.NothingToGain 0 ∷ by.DrainNext drain.NothingToGain 0 ∷ by.Drain drain.Lost 0
-    ∷ by.Erase (erase.Erased 3 true) ∷ by.Erase (erase.Erased 4 false) ∷ by.Erase (erase.Retired 5) ∷ by.Erase erase.Pinned ∷ by.Erase erase.Stale ∷ by.Erase erase.Stale
+    by.Drain (drain.Drained 3 2) 2 ∷ by.DrainNext (drain.Drained 4 0) 1 ∷ by.Drain drain.NothingToGain 0 ∷ by.DrainNext drain.NothingToGain
+    0 ∷ by.Drain drain.Lost 0
+    ∷ by.Erase (erase.Erased 3 true) ∷ by.Erase (erase.Erased 4 false) ∷ by.Erase
+    (erase.Retired 5) ∷ by.Erase erase.Pinned ∷ by.Erase erase.Stale ∷ by.Erase erase.Stale
     ∷ by.Restock true ∷ []
 
 -- what they add

@@ -10,7 +10,8 @@ ghost use Rattle.rounds.specs.declared.answer.Kind.TheVariants as kind;
 ghost use Rattle.trace.specs.declared.commands.Command.{Command};
 ghost use Rattle.trace.specs.declared.commands.Op.{Op};
 ghost use Rattle.trace.specs.declared.commands.Op.TheVariants as op;
-ghost use Rattle.laws.specs.Rounds.{all_done, meeting, nothing_read, plain_line, rows_with, says, says_page, three_answers, three_lines, three_reads, write_and_reads, write_turned_away};
+ghost use Rattle.laws.specs.Rounds.{all_done, meeting, nothing_read, plain_line, rows_with, says, says_page, three_answers};
+ghost use Rattle.laws.specs.Rounds.{three_lines, three_reads, write_and_reads, write_turned_away};
 
 /// Where the rounds of a trace end, whose answer each line gets, and which sectors the lines of a round may share.
 pub fn rounds_of_a_trace()

@@ -33,7 +33,8 @@ pub fn steps_of_an_array()
     // A write is the last call that its pass has seen, and is its own, once.
     ensures wrote { (t : ℕ) (x : List ℕ) (a : Was) (v w : Known) → Correct 1 t (Write 0 x) (Replaced a) v w → held 1 w.seen 0 ≡ Some x }
     ensures mine { (n t s : ℕ) (x : List ℕ) (a : Was) (v w : Known) → Correct n t (Write s x) (Replaced a) v w → w.mine ≡ v.mine ++ call.Write t s x ∷ [] }
-    ensures twice { (n t s : ℕ) (x : List ℕ) (a : Was) (w : Known) → w.seen ≡ two_times (call.Write t s x) → ¬ Correct n t (Write s x) (Replaced a) (knows []) w }
+    ensures twice { (n t s : ℕ) (x : List ℕ) (a : Was) (w : Known) → w.seen ≡ two_times (call.Write t s x)
+        → ¬ Correct n t (Write s x) (Replaced a) (knows []) w }
 
     // No read is answered as a write is.
     ensures kinds { (n t s : ℕ) (a : Was) (v w : Known) → ¬ Correct n t (Read s) (Replaced a) v w }

@@ -22,7 +22,9 @@ use Rattle.player.specs.declared.run_files.FileStop.TheVariants as file_stop
 use Rattle.player.specs.declared.run_files.RunFile.TheVariants as run_file
 use Rattle.player.specs.declared.stop.Stop.{Stop}
 use Rattle.player.specs.declared.stop.Stop.TheVariants as stop
-use Rattle.player.specs.Session.{Answered, AnswersClap, AreUntouched, AsksClap, EndsOn, Explains, Filing, Filings, IsDescribed, IsIdle, IsLogFor, IsOpened, IsUntouched, LeavesFiles, LeavesLogBy, LosesFile, LosesOn, OpensFiles, PlaysOn, TellsFile, TellsFiles, name_given, outcome_of, stop_of_open}
+use Rattle.player.specs.Session.{Answered, AnswersClap, AreUntouched, AsksClap, EndsOn, Explains, Filing, Filings, IsDescribed, IsIdle, IsLogFor}
+use Rattle.player.specs.Session.{IsOpened, IsUntouched, LeavesFiles, LeavesLogBy, LosesFile, LosesOn, OpensFiles, PlaysOn, TellsFile, TellsFiles}
+use Rattle.player.specs.Session.{name_given, outcome_of, stop_of_open}
 
 -- what two claims come to, by how a file was written
 abbrev pub ByEnd : Result (Unit {0}) OutputFailed → Type 0 → Type 0 → Type 0
@@ -33,7 +35,8 @@ is_some_map : {X Y : Type 0} (f : X → Y) (o : Option X) → is_some o ≡ is_s
 is_some_map f None = refl
 is_some_map f (Some x) = refl
 
-by_end : (asked : Option Text) (IsTextOf : List ℕ → List ℕ → Type 0) (input : Stream) (is_opened_as : Text → Type 0) (old new : Stream) (r : Result (Unit {0}) OutputFailed)
+by_end : (asked : Option Text) (IsTextOf : List ℕ → List ℕ → Type 0) (input : Stream) (is_opened_as : Text → Type 0) (old new : Stream)
+    (r : Result (Unit {0}) OutputFailed)
     → MatchOption asked ⊤ (λ name. is_opened_as name) → EndsFile (is_some asked) IsTextOf input (record { before = old; after = new }) r
     → ByEnd r (TellsFile asked IsTextOf input (record { is_opened_as = is_opened_as; stream = record { before = old; after = new } }))
     (LosesFile asked IsTextOf input (record { is_opened_as = is_opened_as; stream = record { before = old; after = new } }))
@@ -43,11 +46,13 @@ by_end (Some name) IsTextOf input is_opened_as old new (Ok _) opened (unfailed, 
 by_end (Some name) IsTextOf input is_opened_as old new (Err _) opened (failed, part) = (opened, failed, part)
 
 -- a file that was opened by its name
-pub opened_some : {X : Type 0} (f : X → Text) (o : Option X) (x : X) (file : Filing) → o ≡ Some x → file.is_opened_as (f x) → IsUntouched file → IsOpened (option_map f o) file
+pub opened_some : {X : Type 0} (f : X → Text) (o : Option X) (x : X) (file : Filing) → o ≡ Some x → file.is_opened_as (f x) → IsUntouched file
+    → IsOpened (option_map f o) file
 opened_some {X} f o x file is opened same = (subst (λ (q : Option X). MatchOption (option_map f q) ⊤ (λ name. file.is_opened_as name)) (sym is) opened, same)
 
 -- a file that was opened, and then written where it is named
-pub file_ended : {X : Type 0} (f : X → Text) (o : Option X) (wanted : Bool) (IsTextOf : List ℕ → List ℕ → Type 0) (input : Stream) (is_opened_as : Text → Type 0) (old mid new : Stream) (r : Result (Unit {0}) OutputFailed)
+pub file_ended : {X : Type 0} (f : X → Text) (o : Option X) (wanted : Bool) (IsTextOf : List ℕ → List ℕ → Type 0) (input : Stream)
+    (is_opened_as : Text → Type 0) (old mid new : Stream) (r : Result (Unit {0}) OutputFailed)
     → IsOpened (option_map f o) (record { is_opened_as = is_opened_as; stream = record { before = old; after = mid } }) → wanted ≡ is_some o
     → EndsFile wanted IsTextOf input (record { before = mid; after = new }) r
     → ByEnd r (TellsFile (option_map f o) IsTextOf input (record { is_opened_as = is_opened_as; stream = record { before = old; after = new } }))
@@ -58,9 +63,12 @@ file_ended f o wanted IsTextOf input is_opened_as old mid new r (opened, same) a
     (subst (λ w. EndsFile w IsTextOf input (record { before = mid; after = new }) r) (asked ∙ is_some_map f o) ends))
 
 -- a run ends by how its log and its wear were written
-pub run_ended : (c w : Result (Unit {0}) OutputFailed) (geo : Geometry) (given : Options) (input output : Passage) (files : Filings) → PlaysOn geo given input output
-    → ByEnd c (TellsFile (name_given run_file.Collections given) (IsLogFor geo) input.before files.collections) (LosesFile (name_given run_file.Collections given) (IsLogFor geo) input.before files.collections)
-    → ByEnd w (TellsFile (name_given run_file.Wear given) (IsWearOf geo) input.before files.wear) (LosesFile (name_given run_file.Wear given) (IsWearOf geo) input.before files.wear)
+pub run_ended : (c w : Result (Unit {0}) OutputFailed) (geo : Geometry) (given : Options) (input output : Passage) (files : Filings)
+    → PlaysOn geo given input output
+    → ByEnd c (TellsFile (name_given run_file.Collections given) (IsLogFor geo) input.before files.collections)
+    (LosesFile (name_given run_file.Collections given) (IsLogFor geo) input.before files.collections)
+    → ByEnd w (TellsFile (name_given run_file.Wear given) (IsWearOf geo) input.before files.wear)
+    (LosesFile (name_given run_file.Wear given) (IsWearOf geo) input.before files.wear)
     → EndsOn (outcome_of c w) geo given input output files
 run_ended (Err _) (Ok _) geo given input output files plays lost told = (plays, (lost, inl told))
 run_ended (Err _) (Err _) geo given input output files plays lost also = (plays, (lost, inr also))
@@ -70,7 +78,8 @@ run_ended (Ok _) (Ok _) geo given input output files plays collections wear = (p
 -- a run that stopped leaves its files, which were opened
 pub files_left : (found : RunFault) (wanted : Bool) (geo : Geometry) (given : Options) (input : Stream) (files : Filings) (mid_wear mid_log : Stream)
     → mid_wear ≡ files.wear.stream.before → mid_log ≡ files.collections.stream.before → wanted ≡ is_some given.collections → files.wear.stream.after ≡ mid_wear
-    → LeavesLogBy (hosts_of geo) found wanted geo input (record { before = mid_log; after = files.collections.stream.after }) → LeavesFiles found geo given input files
+    → LeavesLogBy (hosts_of geo) found wanted geo input (record { before = mid_log; after = files.collections.stream.after })
+    → LeavesFiles found geo given input files
 files_left found wanted geo given input files mid_wear mid_log same_wear same_log asked no_wear left = (
   no_wear ∙ same_wear,
   subst (λ w. LeavesLogBy (hosts_of geo) found w geo input files.collections.stream) asked
@@ -78,7 +87,8 @@ files_left found wanted geo given input files mid_wear mid_log same_wear same_lo
 )
 
 -- a file that is not named
-pub unnamed : {X : Type 0} (f : X → Text) (o : Option X) (IsTextOf : List ℕ → List ℕ → Type 0) (input : Stream) (file : Filing) → is_some o ≡ false → IsUntouched file → TellsFile (option_map f o) IsTextOf input file
+pub unnamed : {X : Type 0} (f : X → Text) (o : Option X) (IsTextOf : List ℕ → List ℕ → Type 0) (input : Stream) (file : Filing) → is_some o ≡ false
+    → IsUntouched file → TellsFile (option_map f o) IsTextOf input file
 unnamed f None IsTextOf input file none same = same
 unnamed f (Some x) IsTextOf input file none same = cc
 
@@ -86,7 +96,8 @@ pub is_named : {X : Type 0} (f : X → Text) (o : Option X) → is_some o ≡ tr
 is_named f o some = sym (is_some_map f o) ∙ some
 
 -- a run whose files were not opened
-pub not_opened : (s : Stop) (geo : Geometry) (given : Options) (input output : Passage) (files : Filings) → OpensFiles (Err s) given files → IsIdle input output → EndsOn (Err s) geo given input output files
+pub not_opened : (s : Stop) (geo : Geometry) (given : Options) (input output : Passage) (files : Filings) → OpensFiles (Err s) given files
+    → IsIdle input output → EndsOn (Err s) geo given input output files
 not_opened (stop.Arguments text) geo given input output files never idle = absurd never
 not_opened (stop.Encoding place) geo given input output files never idle = absurd never
 not_opened (stop.Geometry found) geo given input output files never idle = absurd never
@@ -101,7 +112,8 @@ not_opened (stop.File file why) geo given input output files (fault, is, asked, 
     by open_fault.InUse = (asked, idle, fails)
 
 -- what was played on the described device is the answer of the session
-abbrev answered_on : (words : List Text) (geo : Geometry) (device : IsDescribed words geo) (input output : Passage) → PlaysOn geo device.given input output → Answered words input output
+abbrev answered_on : (words : List Text) (geo : Geometry) (device : IsDescribed words geo) (input output : Passage)
+    → PlaysOn geo device.given input output → Answered words input output
 answered_on words geo device input output plays = record {
   geo = geo;
   device = device;
@@ -152,7 +164,8 @@ among_of kinds error (inl memory) other = absurd (other memory)
 among_of kinds error (inr among) other = among
 
 -- a session whose words clap refused
-pub from_refusal : (words : List Text) (error : Error) (input output : Passage) (files : Filings) → HasKind (faults_given words) error → input.after ≡ input.before → AreUntouched files
+pub from_refusal : (words : List Text) (error : Error) (input output : Passage) (files : Filings) → HasKind (faults_given words) error
+    → input.after ≡ input.before → AreUntouched files
     → (r : Result (Unit {0}) Stop) → AnswersClap error r output → Explains r words input output files
 from_refusal words error input output files has unread same (Ok x) (asks, unfailed, text, out) = inr (
   record {

@@ -17,11 +17,13 @@ use Rattle.player.specs.declared.command_line.Options.{Options}
 use Rattle.player.specs.Session.{IsLogBy, IsLogFor, IsTextBy, IsTextFor, LeavesLogBy}
 
 -- without hosts the text is that of one thread
-pub one_text : (given : Options) (geo : Geometry) (input old new : Option (List ℕ)) → hosts_of geo ≡ 0 → IfSome input (λ bytes. AppendsText (IsOutputOf (not given.quiet) geo) bytes old new)
+pub one_text : (given : Options) (geo : Geometry) (input old new : Option (List ℕ)) → hosts_of geo ≡ 0
+    → IfSome input (λ bytes. AppendsText (IsOutputOf (not given.quiet) geo) bytes old new)
     → IfSome input (λ bytes. AppendsText (IsTextFor given geo) bytes old new)
 one_text given geo input old new none text = subst (λ h. IfSome input (λ bytes. AppendsText (IsTextBy h (not given.quiet) geo) bytes old new)) (sym none) text
 
-pub one_why : (given : Options) (geo : Geometry) (fault : RunFault) (input output : Passage) → hosts_of geo ≡ 0 → ExplainsRun (IsOutputOf (not given.quiet)) geo input output fault → ExplainsRun (IsTextFor given) geo input output fault
+pub one_why : (given : Options) (geo : Geometry) (fault : RunFault) (input output : Passage) → hosts_of geo ≡ 0
+    → ExplainsRun (IsOutputOf (not given.quiet)) geo input output fault → ExplainsRun (IsTextFor given) geo input output fault
 one_why given geo (run.Trace found) input output none why = why
 one_why given geo run.Memory input output none why = why
 one_why given geo run.Threads input output none why = why
@@ -29,15 +31,18 @@ one_why given geo run.Output input output none (reads, failed, part) =
     (reads, failed, subst (λ h. TellsPart (IsTextBy h (not given.quiet) geo) input.before output) (sym none) part)
 
 -- with hosts it is that of their workers
-pub shared_text : (hosts : ℕ) (answers : Bool) (geo : Geometry) (input : Stream) (output : Passage) → hosts ≢ 0 → Tells (IsOutputByWorkers answers geo) input output → Tells (IsTextBy hosts answers geo) input output
+pub shared_text : (hosts : ℕ) (answers : Bool) (geo : Geometry) (input : Stream) (output : Passage) → hosts ≢ 0
+    → Tells (IsOutputByWorkers answers geo) input output → Tells (IsTextBy hosts answers geo) input output
 shared_text zero answers geo input output some text = absurd (some refl)
 shared_text (suc others) answers geo input output some text = text
 
-shared_part : (hosts : ℕ) (answers : Bool) (geo : Geometry) (input : Stream) (output : Passage) → hosts ≢ 0 → TellsPart (IsOutputByWorkers answers geo) input output → TellsPart (IsTextBy hosts answers geo) input output
+shared_part : (hosts : ℕ) (answers : Bool) (geo : Geometry) (input : Stream) (output : Passage) → hosts ≢ 0
+    → TellsPart (IsOutputByWorkers answers geo) input output → TellsPart (IsTextBy hosts answers geo) input output
 shared_part zero answers geo input output some part = absurd (some refl)
 shared_part (suc others) answers geo input output some part = part
 
-pub shared_why : (given : Options) (geo : Geometry) (fault : RunFault) (input output : Passage) → hosts_of geo ≢ 0 → ExplainsRun (IsOutputByWorkers (not given.quiet)) geo input output fault → ExplainsRun (IsTextFor given) geo input output fault
+pub shared_why : (given : Options) (geo : Geometry) (fault : RunFault) (input output : Passage) → hosts_of geo ≢ 0
+    → ExplainsRun (IsOutputByWorkers (not given.quiet)) geo input output fault → ExplainsRun (IsTextFor given) geo input output fault
 shared_why given geo (run.Trace found) input output some why = why
 shared_why given geo run.Memory input output some why = why
 shared_why given geo run.Threads input output some why = why
@@ -45,19 +50,24 @@ shared_why given geo run.Output input output some (reads, failed, part) =
     (reads, failed, shared_part (hosts_of geo) (not given.quiet) geo input.before output some part)
 
 -- and so is the log
-pub one_log : (geo : Geometry) (wanted : Bool) (input : Stream) (file : Passage) (r : Result (Unit {0}) OutputFailed) → hosts_of geo ≡ 0 → EndsFile wanted (IsLogOf geo) input file r → EndsFile wanted (IsLogFor geo) input file r
+pub one_log : (geo : Geometry) (wanted : Bool) (input : Stream) (file : Passage) (r : Result (Unit {0}) OutputFailed) → hosts_of geo ≡ 0
+    → EndsFile wanted (IsLogOf geo) input file r → EndsFile wanted (IsLogFor geo) input file r
 one_log geo wanted input file r none ends = subst (λ h. EndsFile wanted (IsLogBy h geo) input file r) (sym none) ends
 
-pub one_left : (geo : Geometry) (fault : RunFault) (wanted : Bool) (input : Stream) (file : Passage) → hosts_of geo ≡ 0 → LeavesLog fault wanted geo input file → LeavesLogBy (hosts_of geo) fault wanted geo input file
+pub one_left : (geo : Geometry) (fault : RunFault) (wanted : Bool) (input : Stream) (file : Passage) → hosts_of geo ≡ 0
+    → LeavesLog fault wanted geo input file → LeavesLogBy (hosts_of geo) fault wanted geo input file
 one_left geo fault wanted input file none left = subst (λ h. LeavesLogBy h fault wanted geo input file) (sym none) left
 
-shared_end : (hosts : ℕ) (geo : Geometry) (wanted : Bool) (input : Stream) (file : Passage) (r : Result (Unit {0}) OutputFailed) → hosts ≢ 0 → EndsFile wanted (IsBroomLogOf geo) input file r → EndsFile wanted (IsLogBy hosts geo) input file r
+shared_end : (hosts : ℕ) (geo : Geometry) (wanted : Bool) (input : Stream) (file : Passage) (r : Result (Unit {0}) OutputFailed) → hosts ≢ 0
+    → EndsFile wanted (IsBroomLogOf geo) input file r → EndsFile wanted (IsLogBy hosts geo) input file r
 shared_end zero geo wanted input file r some ends = absurd (some refl)
 shared_end (suc others) geo wanted input file r some ends = ends
 
-pub shared_log : (geo : Geometry) (wanted : Bool) (input : Stream) (file : Passage) (r : Result (Unit {0}) OutputFailed) → hosts_of geo ≢ 0 → EndsFile wanted (IsBroomLogOf geo) input file r → EndsFile wanted (IsLogFor geo) input file r
+pub shared_log : (geo : Geometry) (wanted : Bool) (input : Stream) (file : Passage) (r : Result (Unit {0}) OutputFailed) → hosts_of geo ≢ 0
+    → EndsFile wanted (IsBroomLogOf geo) input file r → EndsFile wanted (IsLogFor geo) input file r
 shared_log geo wanted input file r some ends = shared_end (hosts_of geo) geo wanted input file r some ends
 
-pub shared_left : (hosts : ℕ) (geo : Geometry) (fault : RunFault) (wanted : Bool) (input : Stream) (file : Passage) → hosts ≢ 0 → file.after ≡ file.before → LeavesLogBy hosts fault wanted geo input file
+pub shared_left : (hosts : ℕ) (geo : Geometry) (fault : RunFault) (wanted : Bool) (input : Stream) (file : Passage) → hosts ≢ 0
+    → file.after ≡ file.before → LeavesLogBy hosts fault wanted geo input file
 shared_left zero geo fault wanted input file some same = absurd (some refl)
 shared_left (suc others) geo fault wanted input file some same = same

@@ -9,12 +9,14 @@ use Rattle.std.proofs.lemmas.Option.{get_or_from_slice_get, slice_get-get_or, sl
 use Rattle.clap.specs.Words.{Text}
 
 -- the first word is the name
-pub words_start : {X : Type 0} (f : X → Text) (all : Option (List Text)) (words : List X) (name : X) (text : Text) → f name ≡ text → words ≡ [] ++ name ∷ [] → IfSome all (λ ws. map f words ≡ text ∷ take 0 ws)
+pub words_start : {X : Type 0} (f : X → Text) (all : Option (List Text)) (words : List X) (name : X) (text : Text) → f name ≡ text
+    → words ≡ [] ++ name ∷ [] → IfSome all (λ ws. map f words ≡ text ∷ take 0 ws)
 words_start f None words name text named only = tt
 words_start f (Some ws) words name text named only = ap (map f) only ∙ ap (λ (t : Text). t ∷ []) named
 
 -- an argument more
-pub words_more : {X : Type 0} (f : X → Text) (all : Option (List Text)) (place : ℕ) (old new : List X) (word : X) (text : Text) → new ≡ old ++ word ∷ [] → IfSome all (λ ws. map f old ≡ text ∷ take place ws)
+pub words_more : {X : Type 0} (f : X → Text) (all : Option (List Text)) (place : ℕ) (old new : List X) (word : X) (text : Text)
+    → new ≡ old ++ word ∷ [] → IfSome all (λ ws. map f old ≡ text ∷ take place ws)
     → IfSome all (λ ws. option_map f (Some word) ≡ slice_get ws place) → IfSome all (λ ws. map f new ≡ text ∷ take (place + 1) ws)
 words_more f None place old new word text grown before next = tt
 words_more f (Some ws) place old new word text grown before next =
@@ -26,7 +28,8 @@ words_more f (Some ws) place old new word text grown before next =
     ∙ ap (λ (ts : List Text). text ∷ ts) (sym (take_more ws place (f word) inside)))))
 
 -- behind the last argument all words are there
-pub words_all : {X : Type 0} (f : X → Text) (all : Option (List Text)) (place : ℕ) (words : List X) (text : Text) → IfSome all (λ ws. map f words ≡ text ∷ take place ws)
+pub words_all : {X : Type 0} (f : X → Text) (all : Option (List Text)) (place : ℕ) (words : List X) (text : Text)
+    → IfSome all (λ ws. map f words ≡ text ∷ take place ws)
     → IfSome all (λ ws. option_map f None ≡ slice_get ws place) → IfSome all (λ ws. map f words ≡ text ∷ ws)
 words_all f None place words text before none = tt
 words_all f (Some ws) place words text before none = elim (cases_lt place (length ws)) [
@@ -60,7 +63,8 @@ pub no_text : {A : Type 0} (items : A → Text) (all : Option (List Text)) (plac
     → IfSome all (λ ws. option_map items (Some bytes) ≡ slice_get ws place) → IsNoText all (place + 1)
 no_text items all place bytes other found = record { before = place; place_is = refl; bytes = by all found }
   where
-    by : (all : Option (List Text)) → IfSome all (λ ws. option_map items (Some bytes) ≡ slice_get ws place) → IfSome all (λ ws. (text : Text) × (slice_get ws place ≡ Some text) × ¬ IsUtf8 text)
+    by : (all : Option (List Text)) → IfSome all (λ ws. option_map items (Some bytes) ≡ slice_get ws place)
+        → IfSome all (λ ws. (text : Text) × (slice_get ws place ≡ Some text) × ¬ IsUtf8 text)
     by None it = tt
     by (Some ws) it = (items bytes, sym it, other)
 

@@ -19,12 +19,22 @@ option_rule name default =
 -- the option for the tries of a write, which are at least one
 abbrev pub patience_rule : Rule
 patience_rule =
-    record (new_rule (codes "patience")) { long = Some (codes "patience"); value_names = 1; defaults = codes "1000000" ∷ []; parser = Some (parser.Signed (pos 1) (pos 1000000000)) }
+    record (new_rule (codes "patience")) {
+      long = Some (codes "patience");
+      value_names = 1;
+      defaults = codes "1000000" ∷ [];
+      parser = Some (parser.Signed (pos 1) (pos 1000000000));
+    }
 
 -- the option for the drains by one survey, which are at least one
 abbrev pub drains_rule : Rule
 drains_rule =
-    record (new_rule (codes "drains")) { long = Some (codes "drains"); value_names = 1; defaults = codes "1" ∷ []; parser = Some (parser.Signed (pos 1) (pos 4096)) }
+    record (new_rule (codes "drains")) {
+      long = Some (codes "drains");
+      value_names = 1;
+      defaults = codes "1" ∷ [];
+      parser = Some (parser.Signed (pos 1) (pos 4096));
+    }
 
 -- an option with one value, of any text
 abbrev pub named_rule : Text → Rule
@@ -64,11 +74,13 @@ with_numbers =
 
 -- a command line that also has the threads of a run: workers, brooms, the tries of a write, and the drains by one survey
 abbrev pub with_threads : App → App
-with_threads app = with_rule (with_rule (with_rule (with_rule app (option_rule (codes "workers") (codes "0"))) (option_rule (codes "brooms") (codes "0"))) patience_rule) drains_rule
+with_threads app = with_rule
+    (with_rule (with_rule (with_rule app (option_rule (codes "workers") (codes "0"))) (option_rule (codes "brooms") (codes "0"))) patience_rule) drains_rule
 
 -- the program's command line: the numbers of a device, the threads of a run, the files of a run, and whether its answers are left out
 abbrev pub flashplay : App
-flashplay = with_rule (with_rule (with_rule (with_threads with_numbers) (file_rule (codes "wear"))) (file_rule (codes "collections"))) (flag_rule (codes "quiet"))
+flashplay = with_rule (with_rule (with_rule (with_threads with_numbers) (file_rule (codes "wear"))) (file_rule (codes "collections")))
+    (flag_rule (codes "quiet"))
 
 -- what clap finds for each option in the words of a command line, the defaults included
 unfoldable pub rows_given : List Text → List Row

@@ -1,5 +1,6 @@
 -- How a session of the program ends.
-use Rattle.std.specs.Prelude.{◌≡◌, ◌≢◌, ◌⊎◌, ⊤, ℕ, zero, suc, Bool, not, List, [], true, MatchOption, IfSome, Option, Some, is_some, option_map, Result, Ok, Err}
+use Rattle.std.specs.Prelude.{◌≡◌, ◌≢◌, ◌⊎◌, ⊤, ℕ, zero, suc, Bool, not, List, [], true, MatchOption, IfSome}
+use Rattle.std.specs.Prelude.{Option, Some, is_some, option_map, Result, Ok, Err}
 use Rattle.std.specs.Io.KnownBytes.{IsAtEnd}
 use Rattle.clap.specs.Words.{IsAmong, Text, kind_of}
 use Rattle.clap.specs.declared.error.Error.{Error}

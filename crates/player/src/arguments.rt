@@ -1,6 +1,7 @@
 ghost use Rattle.std.specs.Prelude.{◌≡◌, codes, map, false, Some, IfOk};
 ghost use Rattle.clap.specs.Words.{FailsBy, app_of, found_of, rows_of, rule_of};
-ghost use Rattle.player.specs.CommandLine.{AreOptionsOf, IsNumberOf, faults_given, file_rule, flag_rule, flashplay, named_rule, number_rule, rows_given, versioned, with_numbers, with_threads};
+ghost use Rattle.player.specs.CommandLine.{AreOptionsOf, IsNumberOf, faults_given, file_rule, flag_rule, flashplay, named_rule};
+ghost use Rattle.player.specs.CommandLine.{number_rule, rows_given, versioned, with_numbers, with_threads};
 
 use crate::command_line::{
     BLOCKS, BROOMS, DRAINS, ENDURANCE, LUNS, Options, PAGES, PATIENCE, SECTORS, WORDS, WORKERS,

@@ -4,7 +4,8 @@ ghost use Rattle.geometry.specs.Limits.{first_fault};
 ghost use Rattle.trace.specs.declared.named_file.OpenFault.{OpenFault};
 ghost use Rattle.answers.specs.Streams.{over, stream_of};
 ghost use Rattle.player.specs.CommandLine.{numbers_given};
-ghost use Rattle.player.specs.Session.{AnswersClap, EndsOn, EndsSession, Explains, HasFailedToOpen, IsOpened, OpensFiles, filing, filings, outcome_of, stop_of_open};
+ghost use Rattle.player.specs.Session.{AnswersClap, EndsOn, EndsSession, Explains, HasFailedToOpen, IsOpened};
+ghost use Rattle.player.specs.Session.{OpensFiles, filing, filings, outcome_of, stop_of_open};
 
 use crate::arguments::options;
 use crate::command_line::Options;

@@ -1,5 +1,6 @@
 -- The log of one broom more.
-use Rattle.std.proofs.Common.{◌≡◌, ℕ, ◌+◌, ◌-◌, ◌<◌, ◌≤◌, List, [], ◌++◌, Option, None, Some, get_or, length, refl, subst, sym, ap, ◌∙◌, append-nil, append_assoc, arith}
+use Rattle.std.proofs.Common.{◌≡◌, ℕ, ◌+◌, ◌-◌, ◌<◌, ◌≤◌, List, [], ◌++◌, Option, None, Some, get_or, length}
+use Rattle.std.proofs.Common.{refl, subst, sym, ap, ◌∙◌, append-nil, append_assoc, arith}
 use Rattle.std.specs.Prelude.{IfSome, Ok}
 use Rattle.std.specs.Option.{option_map_or}
 use Rattle.std.specs.List.{flat_map, range_with_len}
@@ -38,8 +39,10 @@ brooms_begins ends n m low =
     )
 
 -- a turn of the loop: there is room for a line, then the line of a broom waits
-pub brooms_turn : (ends : List CollectorEnd) (n : ℕ) (end : CollectorEnd) (old new newer : Option (List ℕ)) (waiting later last : List ℕ) → n < length ends → end ≡ get_or ends n end
-    → IsUnderWay old new waiting (brooms_before ends n) → IsUnderWay new newer later waiting → last ≡ later ++ end_line n end → IsUnderWay old newer last (brooms_before ends (n + 1))
+pub brooms_turn : (ends : List CollectorEnd) (n : ℕ) (end : CollectorEnd) (old new newer : Option (List ℕ)) (waiting later last : List ℕ)
+    → n < length ends → end ≡ get_or ends n end
+    → IsUnderWay old new waiting (brooms_before ends n) → IsUnderWay new newer later waiting → last ≡ later ++ end_line n end
+    → IsUnderWay old newer last (brooms_before ends (n + 1))
 brooms_turn ends n end old new newer waiting later last low is under moved adds =
     subst (λ l. IsUnderWay old newer l (brooms_before ends (n + 1))) (sym (adds ∙ ap (λ line. later ++ line) (sym (line_is ends n end low is))))
     (subst (IsUnderWay old newer (later ++ line_of_broom ends n)) (brooms_more ends n)
@@ -47,7 +50,8 @@ brooms_turn ends n end old new newer waiting later last low is under moved adds 
     (IsUnderWay-trans old new newer later waiting (brooms_before ends n) under moved)))
 
 -- the log of the commands that the bytes mean
-pub brooms_right : (geo : Geometry) (input : Option (List ℕ)) (commands : List Command) (ends : List CollectorEnd) → IfSome input (λ bytes. commands_of bytes geo ≡ Ok commands) → AllHaveServed geo ends
+pub brooms_right : (geo : Geometry) (input : Option (List ℕ)) (commands : List Command) (ends : List CollectorEnd)
+    → IfSome input (λ bytes. commands_of bytes geo ≡ Ok commands) → AllHaveServed geo ends
     → IfSome input (λ bytes. IsBroomLogOf geo bytes (brooms_text ends))
 brooms_right geo None commands ends means served = tt
 brooms_right geo (Some bytes) commands ends means served = record { commands = commands; meaning = means; ends = ends; served = served; log = refl }

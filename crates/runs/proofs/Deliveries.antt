@@ -1,5 +1,6 @@
 -- The text grows line by line.
-use Rattle.std.proofs.Common.{◌≡◌, ℕ, ◌+◌, ◌≤◌, List, [], ◌∷◌, ◌++◌, Option, None, Some, suc, length, take, drop, sym, ap, ◌∙◌, subst, append_assoc, append-nil, add-zero, zero-add, arith}
+use Rattle.std.proofs.Common.{◌≡◌, ℕ, ◌+◌, ◌≤◌, List, [], ◌∷◌, ◌++◌, Option, None, Some, suc, length, take, drop, sym, ap}
+use Rattle.std.proofs.Common.{◌∙◌, subst, append_assoc, append-nil, add-zero, zero-add, arith}
 use Rattle.std.specs.Prelude.{slice_get}
 use Rattle.std.proofs.lemmas.List.{length-map, take_all, take-append-drop}
 use Rattle.geometry.specs.History.{Begins}
@@ -32,7 +33,8 @@ abbrev pub text_before : ℕ → List Command → (ℕ → List Said) → List �
 text_before i cs rows = lines_text 0 (merge (take i cs) rows)
 
 -- one line more
-pub text_more : (i : ℕ) (cs : List Command) (c : Command) (rows : ℕ → List Said) (o : Option Said) → slice_get cs i ≡ Some c → o ≡ next_of c (rows_after (take i cs) rows)
+pub text_more : (i : ℕ) (cs : List Command) (c : Command) (rows : ℕ → List Said) (o : Option Said) → slice_get cs i ≡ Some c
+    → o ≡ next_of c (rows_after (take i cs) rows)
     → text_before (i + 1) cs rows ≡ text_before i cs rows ++ line_text (i + 1) c.op c.sector (answer_text (answer_for c o).kind (answer_for c o).page)
 text_more i cs c rows o at is =
     let more = commands_more cs i c at in
@@ -55,14 +57,18 @@ text_begins i cs rows =
     let done = merge (take i cs) rows in
     let rest = merge (drop i cs) (rows_after (take i cs) rows) in
     let whole : lines_text 0 (merge cs rows) ≡ lines_text 0 done ++ lines_text (0 + length done) rest =
-    ap (λ l. lines_text 0 (merge l rows)) (sym (take-append-drop i cs)) ∙ (ap (lines_text 0) (merge-append (take i cs) (drop i cs) rows) ∙ lines_text-append 0 done rest) in (
+    ap (λ l. lines_text 0 (merge l rows)) (sym (take-append-drop i cs))
+    ∙ (ap (lines_text 0) (merge-append (take i cs) (drop i cs) rows) ∙ lines_text-append 0 done rest) in (
       lines_text (0 + length done) rest ++ end_text,
       sym (append_assoc (lines_text 0 done) (lines_text (0 + length done) rest) end_text) ∙ ap (λ l. l ++ end_text) (sym whole),
     )
 
 -- a turn of the loop: there is room for a line, and then it waits
-pub delivery_turn : (i : ℕ) (cs : List Command) (c : Command) (rows : ℕ → List Said) (o : Option Said) (old new newer : Option (List ℕ)) (waiting later last : List ℕ) → IsUnderWay old new waiting (text_before i cs rows) → IsUnderWay new newer later waiting
-    → slice_get cs i ≡ Some c → o ≡ next_of c (rows_after (take i cs) rows) → last ≡ later ++ line_text (i + 1) c.op c.sector (answer_text (answer_for c o).kind (answer_for c o).page) → IsUnderWay old newer last (text_before (i + 1) cs rows)
+pub delivery_turn : (i : ℕ) (cs : List Command) (c : Command) (rows : ℕ → List Said) (o : Option Said) (old new newer : Option (List ℕ))
+    (waiting later last : List ℕ) → IsUnderWay old new waiting (text_before i cs rows) → IsUnderWay new newer later waiting
+    → slice_get cs i ≡ Some c → o ≡ next_of c (rows_after (take i cs) rows)
+    → last ≡ later ++ line_text (i + 1) c.op c.sector (answer_text (answer_for c o).kind (answer_for c o).page)
+    → IsUnderWay old newer last (text_before (i + 1) cs rows)
 delivery_turn i cs c rows o old new newer waiting later last under moved at is adds =
     let line = line_text (i + 1) c.op c.sector (answer_text (answer_for c o).kind (answer_for c o).page) in
     subst (λ l. IsUnderWay old newer l (text_before (i + 1) cs rows)) (sym adds)
@@ -70,7 +76,8 @@ delivery_turn i cs c rows o old new newer waiting later last under moved at is a
     (IsUnderWay-more old newer later (text_before i cs rows) line (IsUnderWay-trans old new newer later waiting (text_before i cs rows) under moved)))
 
 -- the whole text, behind the last line
-pub delivery_whole : (i : ℕ) (cs : List Command) (rows : ℕ → List Said) (old new newer : Option (List ℕ)) (waiting later last : List ℕ) → length cs ≤ i → IsUnderWay old new waiting (text_before i cs rows) → IsUnderWay new newer later waiting → last ≡ later ++ end_text
+pub delivery_whole : (i : ℕ) (cs : List Command) (rows : ℕ → List Said) (old new newer : Option (List ℕ)) (waiting later last : List ℕ)
+    → length cs ≤ i → IsUnderWay old new waiting (text_before i cs rows) → IsUnderWay new newer later waiting → last ≡ later ++ end_text
     → IsUnderWay old newer last (text_of cs rows)
 delivery_whole i cs rows old new newer waiting later last all under moved ends =
     subst (λ l. IsUnderWay old newer l (text_of cs rows)) (sym ends)

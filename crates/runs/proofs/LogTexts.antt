@@ -1,5 +1,6 @@
 -- The log of one command more, and how a log ends.
-use Rattle.std.proofs.Common.{◌≡◌, ◌≢◌, ℕ, ◌+◌, ◌-◌, ◌≤◌, Bool, true, false, List, ◌++◌, Option, None, Some, length, refl, subst, sym, ap, ◌∙◌, append_assoc, append-nil, arith}
+use Rattle.std.proofs.Common.{◌≡◌, ◌≢◌, ℕ, ◌+◌, ◌-◌, ◌≤◌, Bool, true, false, List, ◌++◌, Option, None, Some, length}
+use Rattle.std.proofs.Common.{refl, subst, sym, ap, ◌∙◌, append_assoc, append-nil, arith}
 use Rattle.std.specs.Prelude.{IfSome, OnErr, OnOk, Result, Ok, Err}
 use Rattle.std.specs.List.{flat_map, range_with_len}
 use Rattle.std.specs.Io.KnownBytes.{Appends}
@@ -31,7 +32,8 @@ pub log_none : (geo : Geometry) (commands : List Command) → log_before geo com
 log_none geo commands = append-nil collection_names
 
 -- one command more
-pub log_more : (geo : Geometry) (commands : List Command) (k : ℕ) (stock next_stock : Stock) → stock ≡ stock_before geo commands k → next_stock ≡ stock_before geo commands (k + 1)
+pub log_more : (geo : Geometry) (commands : List Command) (k : ℕ) (stock next_stock : Stock) → stock ≡ stock_before geo commands k
+    → next_stock ≡ stock_before geo commands (k + 1)
     → log_before geo commands k ++ log_part (k + 1) (collection_between geo stock next_stock) ≡ log_before geo commands (k + 1)
 log_more geo commands k stock next_stock is next_is =
     ap (λ (x : Stock). log_before geo commands k ++ log_part (k + 1) (collection_between geo x next_stock)) is
@@ -64,12 +66,14 @@ longer old new text whole part begins = record {
 under_begins : (old new : Option (List ℕ)) (waiting text : List ℕ) → IsUnderWay old new waiting text → AppendsBeginning old new text
 under_begins old new waiting text under = record { sent = under.sent; out = under.out; beginning = (waiting, under.whole) }
 
-whole_of : (input : Option (List ℕ)) (IsTextOf : List ℕ → List ℕ → Type 0) (old new : Option (List ℕ)) (text : List ℕ) → IfSome input (λ bytes. IsTextOf bytes text) → Appends old new text
+whole_of : (input : Option (List ℕ)) (IsTextOf : List ℕ → List ℕ → Type 0) (old new : Option (List ℕ)) (text : List ℕ)
+    → IfSome input (λ bytes. IsTextOf bytes text) → Appends old new text
     → IfSome input (λ bytes. AppendsText IsTextOf bytes old new)
 whole_of None IsTextOf old new text right sent = tt
 whole_of (Some bytes) IsTextOf old new text right sent = record { text = text; is_text = right; out = sent }
 
-part_of : (input : Option (List ℕ)) (IsTextOf : List ℕ → List ℕ → Type 0) (old new : Option (List ℕ)) (text : List ℕ) → IfSome input (λ bytes. IsTextOf bytes text) → AppendsBeginning old new text
+part_of : (input : Option (List ℕ)) (IsTextOf : List ℕ → List ℕ → Type 0) (old new : Option (List ℕ)) (text : List ℕ)
+    → IfSome input (λ bytes. IsTextOf bytes text) → AppendsBeginning old new text
     → IfSome input (λ bytes. AppendsPart IsTextOf bytes old new)
 part_of None IsTextOf old new text right part = tt
 part_of (Some bytes) IsTextOf old new text right part = record { text = text; is_text = right; out = part }
@@ -82,7 +86,8 @@ leaves (log.Open lines) file text whole (unfailed, moves) begins =
 leaves log.Failed file text whole (failed, part) begins = longer file.before.bytes file.after.bytes text whole part begins
 
 -- a line more waits, or the file fails
-pub tells_open : (lines : Lines) (before old new : Stream) (line : ℕ) (it : Collection) (text more later last : List ℕ) → IsLogged (log.Open lines) (record { before = before; after = old }) text
+pub tells_open : (lines : Lines) (before old new : Stream) (line : ℕ) (it : Collection) (text more later last : List ℕ)
+    → IsLogged (log.Open lines) (record { before = before; after = old }) text
     → new.failures ≡ old.failures → IsUnderWay old.bytes new.bytes later (waiting_of lines) → last ≡ later ++ log_line line it → more ≡ log_line line it
     → (new.failures ≡ before.failures) × IsUnderWay before.bytes new.bytes last (text ++ more)
 tells_open lines before old new line it text more later last (unfailed, moves) same moved adds is = (
@@ -92,21 +97,25 @@ tells_open lines before old new line it text more later last (unfailed, moves) s
 )
 
 pub fails_open : (lines : Lines) (before old new : Stream) (text more : List ℕ) → IsLogged (log.Open lines) (record { before = before; after = old }) text
-    → new.failures ≢ old.failures → AppendsBeginning old.bytes new.bytes (waiting_of lines) → (new.failures ≢ before.failures) × AppendsBeginning before.bytes new.bytes (text ++ more)
+    → new.failures ≢ old.failures → AppendsBeginning old.bytes new.bytes (waiting_of lines)
+    → (new.failures ≢ before.failures) × AppendsBeginning before.bytes new.bytes (text ++ more)
 fails_open lines before old new text more (unfailed, moves) failed part = (
   (λ e. failed (e ∙ sym unfailed)),
   AppendsBeginning-part before.bytes old.bytes new.bytes (waiting_of lines) text (text ++ more) moves part (more, refl),
 )
 
 -- a log that takes no lines
-pub shut_more : (state : Log) (file : Passage) (text more : List ℕ) → ((lines : Lines) → state ≡ log.Open lines → ⊥) → IsLogged state file text → IsLogged state file (text ++ more)
+pub shut_more : (state : Log) (file : Passage) (text more : List ℕ) → ((lines : Lines) → state ≡ log.Open lines → ⊥) → IsLogged state file text
+    → IsLogged state file (text ++ more)
 shut_more log.Unwanted file text more shut same = same
 shut_more (log.Open lines) file text more shut logged = absurd (shut lines refl)
 shut_more log.Failed file text more shut (failed, part) = (failed, longer file.before.bytes file.after.bytes text (text ++ more) part (more, refl))
 
 -- what waits is handed on at the end
-pub ends_open : (lines : Lines) (before old new : Stream) (text : List ℕ) (r : Result (Unit {0}) OutputFailed) → IsLogged (log.Open lines) (record { before = before; after = old }) text
-    → OnOk r (Appends old.bytes new.bytes (waiting_of lines)) → OnOk r (new.failures ≡ old.failures) → OnErr r (AppendsBeginning old.bytes new.bytes (waiting_of lines)) → OnErr r (new.failures ≢ old.failures)
+pub ends_open : (lines : Lines) (before old new : Stream) (text : List ℕ) (r : Result (Unit {0}) OutputFailed)
+    → IsLogged (log.Open lines) (record { before = before; after = old }) text
+    → OnOk r (Appends old.bytes new.bytes (waiting_of lines)) → OnOk r (new.failures ≡ old.failures)
+    → OnErr r (AppendsBeginning old.bytes new.bytes (waiting_of lines)) → OnErr r (new.failures ≢ old.failures)
     → EndsText true text (record { before = before; after = new }) r
 ends_open lines before old new text (Ok _) (unfailed, moves) sent same part failed = (
   same ∙ unfailed,
@@ -120,7 +129,8 @@ ends_open lines before old new text (Err _) (unfailed, moves) sent same part fai
 -- the end of a text is that of the text that is right for the bytes
 pub ends_file : (wanted : Bool) (IsTextOf : List ℕ → List ℕ → Type 0) (input : Stream) (file : Passage) (text : List ℕ) (r : Result (Unit {0}) OutputFailed)
     → IfSome input.bytes (λ bytes. IsTextOf bytes text) → EndsText wanted text file r → EndsFile wanted IsTextOf input file r
-ends_file true IsTextOf input file text (Ok _) right (unfailed, sent) = (unfailed, whole_of input.bytes IsTextOf file.before.bytes file.after.bytes text right sent)
+ends_file true IsTextOf input file text (Ok _) right (unfailed, sent) =
+    (unfailed, whole_of input.bytes IsTextOf file.before.bytes file.after.bytes text right sent)
 ends_file true IsTextOf input file text (Err _) right (failed, part) = (failed, part_of input.bytes IsTextOf file.before.bytes file.after.bytes text right part)
 ends_file false IsTextOf input file text (Ok _) right same = same
 ends_file false IsTextOf input file text (Err _) right never = absurd never
@@ -132,24 +142,30 @@ leaves_file true IsTextOf input file text right part = part_of input.bytes IsTex
 leaves_file false IsTextOf input file text right same = same
 
 -- the log of the commands that the bytes mean
-pub log_right : (geo : Geometry) (input : Option (List ℕ)) (commands : List Command) → IfSome input (λ bytes. commands_of bytes geo ≡ Ok commands) → IfSome input (λ bytes. IsLogOf geo bytes (log_text geo commands))
+pub log_right : (geo : Geometry) (input : Option (List ℕ)) (commands : List Command) → IfSome input (λ bytes. commands_of bytes geo ≡ Ok commands)
+    → IfSome input (λ bytes. IsLogOf geo bytes (log_text geo commands))
 log_right geo None commands means = tt
 log_right geo (Some bytes) commands means = record { commands = commands; meaning = means; log = refl }
 
 -- the wear of the stock of the device
-pub wear_right : (geo : Geometry) (input : Option (List ℕ)) (stock : Stock) → IfSome input (λ bytes. IsStockOf geo bytes stock) → IfSome input (λ bytes. IsWearOf geo bytes (wear_text geo stock))
+pub wear_right : (geo : Geometry) (input : Option (List ℕ)) (stock : Stock) → IfSome input (λ bytes. IsStockOf geo bytes stock)
+    → IfSome input (λ bytes. IsWearOf geo bytes (wear_text geo stock))
 wear_right geo None stock is = tt
 wear_right geo (Some bytes) stock is = record { commands = is.commands; meaning = is.meaning; wear = ap (wear_text geo) is.stock_is }
 
 -- a turn of the loop
-pub log_turn : (geo its_geo : Geometry) (commands : List Command) (k : ℕ) (stock next_stock : Stock) (state : Log) (file : Passage) → its_geo ≡ geo → stock ≡ stock_before geo commands k → next_stock ≡ stock_before geo commands (k + 1)
-    → IsLogged state file (log_before geo commands k ++ log_part (k + 1) (collection_between its_geo stock next_stock)) → IsLogged state file (log_before geo commands (k + 1))
+pub log_turn : (geo its_geo : Geometry) (commands : List Command) (k : ℕ) (stock next_stock : Stock) (state : Log) (file : Passage) → its_geo ≡ geo
+    → stock ≡ stock_before geo commands k → next_stock ≡ stock_before geo commands (k + 1)
+    → IsLogged state file (log_before geo commands k ++ log_part (k + 1) (collection_between its_geo stock next_stock))
+    → IsLogged state file (log_before geo commands (k + 1))
 log_turn geo its_geo commands k stock next_stock state file same is next_is logged =
     subst (IsLogged state file)
-    (ap (λ (x : Geometry). log_before geo commands k ++ log_part (k + 1) (collection_between x stock next_stock)) same ∙ log_more geo commands k stock next_stock is next_is) logged
+    (ap (λ (x : Geometry). log_before geo commands k ++ log_part (k + 1) (collection_between x stock next_stock)) same
+    ∙ log_more geo commands k stock next_stock is next_is) logged
 
 -- what the log leaves after some commands
-pub log_left_of : (geo : Geometry) (commands : List Command) (n : ℕ) (first state : Log) (file : Passage) → n ≤ length commands → is_wanted state ≡ is_wanted first
+pub log_left_of : (geo : Geometry) (commands : List Command) (n : ℕ) (first state : Log) (file : Passage) → n ≤ length commands
+    → is_wanted state ≡ is_wanted first
     → IsLogged state file (log_before geo commands n) → LeavesText (is_wanted first) (log_text geo commands) file
 log_left_of geo commands n first state file low same logged =
     subst (λ w. LeavesText w (log_text geo commands) file) same

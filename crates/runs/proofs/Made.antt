@@ -43,12 +43,14 @@ by_write geo k s (Some new) is =
     write-makes geo s k new is ∙ sym (is_made (collection_due geo k) k.programs new.programs (write-programs (pages_of geo) (endurance_of geo) s k new is))
 
 of_write : (geo : Geometry) (k : Stock) (s : ℕ) (value : List ℕ)
-    → collection_between geo k (after_call geo k (Write 0 s value)) ≡ cond (ltb k.programs (after_call geo k (Write 0 s value)).programs) (collection_due geo k) None
+    → collection_between geo k (after_call geo k (Write 0 s value)) ≡ cond (ltb k.programs (after_call geo k (Write 0 s value)).programs)
+    (collection_due geo k) None
 unfolding next
 of_write geo k s value = by_write geo k s (next geo k (Write 0 s value)) refl
 
 of_new : (geo : Geometry) (k : Stock) (s : ℕ) (value : List ℕ) (written : Bool) → has_page s k ≡ written
-    → collection_between geo k (after_call geo k (WriteNew 0 s value)) ≡ cond (ltb k.programs (after_call geo k (WriteNew 0 s value)).programs) (collection_due geo k) None
+    → collection_between geo k (after_call geo k (WriteNew 0 s value)) ≡ cond (ltb k.programs (after_call geo k (WriteNew 0 s value)).programs)
+    (collection_due geo k) None
 of_new geo k s value true is =
     subst (λ (r : Option Stock). collection_between geo k (unwrap_or r k) ≡ cond (ltb k.programs (unwrap_or r k).programs) (collection_due geo k) None)
     (sym (next_written geo k s value is)) (same_stock geo k (collection_due geo k))
@@ -56,7 +58,8 @@ of_new geo k s value false is =
     subst (λ (r : Option Stock). collection_between geo k (unwrap_or r k) ≡ cond (ltb k.programs (unwrap_or r k).programs) (collection_due geo k) None)
     (sym (next_empty geo k s value is)) (of_write geo k s value)
 
-of_trim : (geo : Geometry) (k : Stock) (s : ℕ) → collection_between geo k (after_call geo k (Trim 0 s)) ≡ cond (ltb k.programs (after_call geo k (Trim 0 s)).programs) None None
+of_trim : (geo : Geometry) (k : Stock) (s : ℕ)
+    → collection_between geo k (after_call geo k (Trim 0 s)) ≡ cond (ltb k.programs (after_call geo k (Trim 0 s)).programs) None None
 unfolding next
 of_trim geo k s =
     between_nothing geo k (after_call geo k (Trim 0 s)) (record { blocks = λ c. map-erases k.blocks s c; erases = refl; copies = refl })
@@ -76,5 +79,6 @@ pub made_is : (geo : Geometry) (k new : Stock) (c : Command) (due : Option Colle
     → collection_between geo k new ≡ cond (ltb k.programs new.programs) due None
 made_is geo k new c due is due_is =
     subst (λ (x : Stock). collection_between geo k x ≡ cond (ltb k.programs x.programs) due None) (sym is)
-    (subst (λ (d : Option Collection). collection_between geo k (stock_after geo k c) ≡ cond (ltb k.programs (stock_after geo k c).programs) d None) (sym due_is)
+    (subst (λ (d : Option Collection). collection_between geo k (stock_after geo k c) ≡ cond (ltb k.programs (stock_after geo k c).programs) d None)
+    (sym due_is)
     (by_op geo k c.op c.sector c.page))

@@ -1,7 +1,9 @@
 -- The next answer of each worker, where so many commands have theirs.
-use Rattle.std.proofs.Common.{◌≡◌, ℕ, ◌+◌, ◌*◌, ◌<◌, All, List, [], ◌∷◌, ◌++◌, Bool, true, false, Option, None, Some, zero, suc, length, replicate, get_or, take, drop, refl, sym, ap, ◌∙◌, subst, arith, eq-eqb, ne_eqb}
+use Rattle.std.proofs.Common.{◌≡◌, ℕ, ◌+◌, ◌*◌, ◌<◌, All, List, [], ◌∷◌, ◌++◌, Bool, true, false, Option, None, Some, zero, suc, length}
+use Rattle.std.proofs.Common.{replicate, get_or, take, drop, refl, sym, ap, ◌∙◌, subst, arith, eq-eqb, ne_eqb}
 use Rattle.std.specs.Prelude.{slice_get, slice_set, if◌then◌else◌, not, ◌&&◌, ◌==◌}
-use Rattle.std.proofs.lemmas.List.{get_or-map, get_or-replicate, get_or_default, get_or-set_same, get_or-set_other, length-append, length-map, length-replicate, length-set, take-append-drop}
+use Rattle.std.proofs.lemmas.List.{get_or-map, get_or-replicate, get_or_default, get_or-set_same, get_or-set_other}
+use Rattle.std.proofs.lemmas.List.{length-append, length-map, length-replicate, length-set, take-append-drop}
 use Rattle.std.proofs.Math.Seq.{take-append_seam}
 use Rattle.std.proofs.lemmas.List.Elements.{filter-append}
 use Rattle.std.proofs.lemmas.Option.{slice_get_within}
@@ -36,7 +38,8 @@ row_there (r ∷ rows) (suc w) p below =
     omega arith
 
 -- what holds of all answers of all rows holds of one
-pub answer_holds : (P : Said → Type 0) (rows : List Answers) (w p : ℕ) (a : Said) → All (λ row. All P (said_in row)) rows → slice_get (answers_by rows w) p ≡ Some a → P a
+pub answer_holds : (P : Said → Type 0) (rows : List Answers) (w p : ℕ) (a : Said) → All (λ row. All P (said_in row)) rows
+    → slice_get (answers_by rows w) p ≡ Some a → P a
 answer_holds P rows w p a all is =
     let low = row_there rows w p (slice_get_within (answers_by rows w) p a is) in
     go rows low all is
@@ -48,7 +51,8 @@ answer_holds P rows w p a all is =
         at_place P (answers_by (r ∷ rs) w) p a own is
 
 -- and so of the answer of a command
-pub answer_found : (P : Said → Type 0) (rows : List Answers) (c : Command) (p : ℕ) (a : Said) → All (λ row. All P (said_in row)) rows → (if is_meet c.op then None else slice_get (answers_by rows c.worker) p) ≡ Some a → P a
+pub answer_found : (P : Said → Type 0) (rows : List Answers) (c : Command) (p : ℕ) (a : Said) → All (λ row. All P (said_in row)) rows
+    → (if is_meet c.op then None else slice_get (answers_by rows c.worker) p) ≡ Some a → P a
 answer_found P rows c p a all is = go (is_meet c.op) is
   where
     go : (b : Bool) → (if b then None else slice_get (answers_by rows c.worker) p) ≡ Some a → P a
@@ -57,14 +61,16 @@ answer_found P rows c p a all is = go (is_meet c.op) is
 
 -- one command more of a worker, or none
 pub counted : (t : ℕ) (cs more : List Command) (c : Command) → more ≡ cs ++ c ∷ [] → line_count t more ≡ line_count t cs + (if is_line_of t c then 1 else 0)
-counted t cs more c is = ap (line_count t) is ∙ (ap (length {A = Command}) (filter-append (is_line_of t) cs (c ∷ [])) ∙ (length-append _ _ ∙ ap (λ n. line_count t cs + n) (one (is_line_of t c))))
+counted t cs more c is = ap (line_count t) is
+    ∙ (ap (length {A = Command}) (filter-append (is_line_of t) cs (c ∷ [])) ∙ (length-append _ _ ∙ ap (λ n. line_count t cs + n) (one (is_line_of t c))))
   where
     one : (b : Bool) → length (if b then c ∷ [] else []) ≡ (if b then 1 else 0)
     one true = refl
     one false = refl
 
 -- a line of a worker is one of its lines
-pub line_before : (t i : ℕ) (cs : List Command) (c : Command) → drop i cs ≡ c ∷ drop (i + 1) cs → is_line_of t c ≡ true → line_count t (take i cs) < line_count t cs
+pub line_before : (t i : ℕ) (cs : List Command) (c : Command) → drop i cs ≡ c ∷ drop (i + 1) cs → is_line_of t c ≡ true
+    → line_count t (take i cs) < line_count t cs
 line_before t i cs c at mine =
     let parts : line_count t cs ≡ line_count t (take i cs) + line_count t (drop i cs) =
     ap (line_count t) (sym (take-append-drop i cs)) ∙ (ap (length {A = Command}) (filter-append (is_line_of t) (take i cs) (drop i cs)) ∙ length-append _ _) in
@@ -83,7 +89,8 @@ AreNext next i cs = (t : ℕ) → t < length next → get_or next t 0 ≡ line_c
 
 module _ (rows : List Answers) (next : List ℕ) (i : ℕ) (cs : List Command) (c : Command) (so_far : AreNext next i cs) (same : length next ≡ length rows) where
   -- a line's worker has an answer for it
-  pub next_there : HaveAnswers (answers_by rows) cs → drop i cs ≡ c ∷ drop (i + 1) cs → is_meet c.op ≡ false → get_or next c.worker 0 < length (answers_by rows c.worker)
+  pub next_there : HaveAnswers (answers_by rows) cs → drop i cs ≡ c ∷ drop (i + 1) cs → is_meet c.op ≡ false
+      → get_or next c.worker 0 < length (answers_by rows c.worker)
   next_there enough at plain =
       let w = c.worker in
       let fewer = line_before w i cs c at (own_line c plain) in
@@ -94,10 +101,14 @@ module _ (rows : List Answers) (next : List ℕ) (i : ℕ) (cs : List Command) (
       omega arith
 
   -- and that answer is the command's next one
-  pub next_is : (o : Option Said) → (is_meet c.op ≡ false → get_or next c.worker 0 < length (answers_by rows c.worker)) → o ≡ (if is_meet c.op then None else slice_get (answers_by rows c.worker) (get_or next c.worker 0)) → o ≡ next_of c (rows_after (take i cs) (answers_by rows))
+  pub next_is : (o : Option Said) → (is_meet c.op ≡ false → get_or next c.worker 0 < length (answers_by rows c.worker))
+      → o ≡ (if is_meet c.op then None else slice_get (answers_by rows c.worker) (get_or next c.worker 0))
+      → o ≡ next_of c (rows_after (take i cs) (answers_by rows))
   next_is o there is = is ∙ go (is_meet c.op) refl
     where
-      go : (b : Bool) → is_meet c.op ≡ b → (if b then None else slice_get (answers_by rows c.worker) (get_or next c.worker 0)) ≡ (if b then None else slice_get (drop (line_count c.worker (take i cs)) (answers_by rows c.worker)) 0)
+      go : (b : Bool) → is_meet c.op ≡ b
+          → (if b then None else slice_get (answers_by rows c.worker) (get_or next c.worker 0))
+          ≡ (if b then None else slice_get (drop (line_count c.worker (take i cs)) (answers_by rows c.worker)) 0)
       go true e = refl
       go false e =
           let w = c.worker in
@@ -105,7 +116,8 @@ module _ (rows : List Answers) (next : List ℕ) (i : ℕ) (cs : List Command) (
           ap (slice_get (answers_by rows w)) (so_far w (omega arith)) ∙ sym (first_left (line_count w (take i cs)) (answers_by rows w))
 
   -- the places behind it
-  pub next_more : (more : List ℕ) → slice_get cs i ≡ Some c → (is_meet c.op ≡ false → get_or next c.worker 0 < length (answers_by rows c.worker)) → more ≡ (if is_meet c.op then next else slice_set next c.worker (get_or next c.worker 0 + 1)) → AreNext more (i + 1) cs
+  pub next_more : (more : List ℕ) → slice_get cs i ≡ Some c → (is_meet c.op ≡ false → get_or next c.worker 0 < length (answers_by rows c.worker))
+      → more ≡ (if is_meet c.op then next else slice_set next c.worker (get_or next c.worker 0 + 1)) → AreNext more (i + 1) cs
   next_more more at there is = go (is_meet c.op) refl is
     where
       grown : (t : ℕ) → line_count t (take (i + 1) cs) ≡ line_count t (take i cs) + (if is_line_of t c then 1 else 0)
@@ -123,9 +135,11 @@ module _ (rows : List Answers) (next : List ℕ) (i : ℕ) (cs : List Command) (
           let before = so_far t (omega arith) in
           dite (ℕ_discrete w t)
           (λ same_worker.
-          let one : ◌≡◌ {A = ℕ} (if is_line_of t c then 1 else 0) 1 = ap (λ b. if b then 1 else 0) (ap (λ b. not b && (c.worker == t)) e ∙ eq-eqb w t same_worker) in
+          let one : ◌≡◌ {A = ℕ} (if is_line_of t c then 1 else 0) 1 =
+          ap (λ b. if b then 1 else 0) (ap (λ b. not b && (c.worker == t)) e ∙ eq-eqb w t same_worker) in
           let at_own : get_or (slice_set next w (get_or next w 0 + 1)) t 0 ≡ get_or next t 0 + 1 =
-          subst (λ u. get_or (slice_set next w (get_or next w 0 + 1)) u 0 ≡ get_or next u 0 + 1) same_worker (get_or-set_same next w (get_or next w 0 + 1) 0 (subst (λ u. u < length next) (sym same_worker) (omega arith))) in
+          subst (λ u. get_or (slice_set next w (get_or next w 0 + 1)) u 0 ≡ get_or next u 0 + 1) same_worker
+          (get_or-set_same next w (get_or next w 0 + 1) 0 (subst (λ u. u < length next) (sym same_worker) (omega arith))) in
           ap (λ l. get_or l t 0) is ∙ (at_own ∙ omega (arith, grown t, one)))
           (λ other.
           let none : ◌≡◌ {A = ℕ} (if is_line_of t c then 1 else 0) 0 = ap (λ b. if b then 1 else 0) (ap (λ b. not b && (c.worker == t)) e ∙ ne_eqb w t other) in
@@ -133,7 +147,8 @@ module _ (rows : List Answers) (next : List ℕ) (i : ℕ) (cs : List Command) (
           ap (λ l. get_or l t 0) is ∙ (kept ∙ omega (arith, grown t, none)))
 
 -- a row that goes on by one place is still at it
-pub at_more : (rows : List Answers) (next : List Cursor) (w : ℕ) (row : Answers) (cursor : Cursor) → row ≡ get_or rows w row → w < length rows → AreAt rows next → IsCursorOf row cursor → AreAt rows (slice_set next w cursor)
+pub at_more : (rows : List Answers) (next : List Cursor) (w : ℕ) (row : Answers) (cursor : Cursor) → row ≡ get_or rows w row → w < length rows
+    → AreAt rows next → IsCursorOf row cursor → AreAt rows (slice_set next w cursor)
 at_more rows next w row cursor is low all here t other d below =
     let long = length-set next w cursor in
     dite (ℕ_discrete t w)
@@ -156,8 +171,13 @@ all_digits n rows all k d low =
 pub none_passed : (next : List Cursor) (n : ℕ) (cs : List Command) → next ≡ replicate n first_place → AreNext (passed_in next) 0 cs
 none_passed next n cs is t low =
     let inside : t < length next = omega (arith, length-map next place_of) in
-    get_or-map place_of next t first_place 0 inside ∙ ap place_of (ap (λ (l : List Cursor). get_or l t first_place) is ∙ get_or-replicate n t first_place first_place (subst (λ k. t < k) (ap (length {A = Cursor}) is ∙ length-replicate n first_place) inside))
+    get_or-map place_of next t first_place 0 inside
+    ∙ ap place_of (ap (λ (l : List Cursor). get_or l t first_place) is
+    ∙ get_or-replicate n t first_place first_place (subst (λ k. t < k) (ap (length {A = Cursor}) is ∙ length-replicate n first_place) inside))
 
 pub all_at : (rows : List Answers) (next : List Cursor) (n : ℕ) → next ≡ replicate n first_place → AreAt rows next
 all_at rows next n is t row cursor low =
-    subst (IsCursorOf (get_or rows t row)) (sym (get_or_default next t cursor first_place low ∙ (ap (λ (l : List Cursor). get_or l t first_place) is ∙ get_or-replicate n t first_place first_place (subst (λ k. t < k) (ap (length {A = Cursor}) is ∙ length-replicate n first_place) low)))) refl
+    subst (IsCursorOf (get_or rows t row))
+    (sym (get_or_default next t cursor first_place low
+    ∙ (ap (λ (l : List Cursor). get_or l t first_place) is
+    ∙ get_or-replicate n t first_place first_place (subst (λ k. t < k) (ap (length {A = Cursor}) is ∙ length-replicate n first_place) low)))) refl

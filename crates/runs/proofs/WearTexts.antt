@@ -25,7 +25,9 @@ wear_begins stock n m low =
     )
 
 -- a turn of the loop: there is room for a line, then the line of a block waits
-pub wear_turn : (stock : Stock) (n : ℕ) (old new newer : Option (List ℕ)) (waiting later last : List ℕ) → IsUnderWay old new waiting (wear_before stock n) → IsUnderWay new newer later waiting → last ≡ later ++ block_line stock n → IsUnderWay old newer last (wear_before stock (n + 1))
+pub wear_turn : (stock : Stock) (n : ℕ) (old new newer : Option (List ℕ)) (waiting later last : List ℕ)
+    → IsUnderWay old new waiting (wear_before stock n) → IsUnderWay new newer later waiting → last ≡ later ++ block_line stock n
+    → IsUnderWay old newer last (wear_before stock (n + 1))
 wear_turn stock n old new newer waiting later last under moved adds =
     subst (λ l. IsUnderWay old newer l (wear_before stock (n + 1))) (sym adds)
     (subst (IsUnderWay old newer (later ++ block_line stock n)) (wear_more stock n)

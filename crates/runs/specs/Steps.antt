@@ -16,7 +16,8 @@ answers_written true geo commands n = lines_before (codes "worn") (sectors_of ge
 answers_written false geo commands n = []
 
 -- the first n commands were played: this is the array, the stock, and the text so far
-pub record ArePlayed (wanted : Bool) (geo : Geometry) (commands : List Command) (n : ℕ) (array : List Sector) (stock : Stock) (old new : Option (List ℕ)) (waiting : List ℕ) : Type 0 where
+pub record ArePlayed (wanted : Bool) (geo : Geometry) (commands : List Command) (n : ℕ) (array : List Sector) (stock : Stock)
+    (old new : Option (List ℕ)) (waiting : List ℕ) : Type 0 where
   pub array_is : array ≡ after (sectors_of geo) (history_before (refused_at geo commands) commands n)
   pub stock_is : stock ≡ stock_before geo commands n
   pub text : IsUnderWay old new waiting (answers_written wanted geo commands n)

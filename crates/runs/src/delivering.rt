@@ -1,4 +1,5 @@
-ghost use Rattle.std.specs.Prelude.{◌≡◌, ◌≢◌, ℕ, List, Some, ◌+◌, ◌*◌, ◌<◌, ◌≤◌, false, All, None, [], ◌++◌, length, option_map, slice_index_or, IfOk, OnOk, OnErr};
+ghost use Rattle.std.specs.Prelude.{◌≡◌, ◌≢◌, ℕ, List, Some, ◌+◌, ◌*◌, ◌<◌, ◌≤◌, false, All, None, [], ◌++◌};
+ghost use Rattle.std.specs.Prelude.{length, option_map, slice_index_or, IfOk, OnOk, OnErr};
 ghost use Rattle.geometry.specs.Geometry.{hosts_of, page_bytes_of};
 ghost use Rattle.hex.specs.Hex.{encode_lower};
 ghost use Rattle.trace.specs.Watched.{failures_of};
@@ -110,7 +111,8 @@ fn next_answer<'a>(
     next: &mut [Cursor],
 ) -> Option<(Kind, &'a [u8])>
     requires workers { length next.old ≡ length rows.now }
-    requires there { is_meet command.now.op ≡ false → slice_index_or (passed_in next.old) command.now.worker 0 < length (answers_by rows.now command.now.worker) }
+    requires there { is_meet command.now.op ≡ false
+        → slice_index_or (passed_in next.old) command.now.worker 0 < length (answers_by rows.now command.now.worker) }
     requires at { AreAt rows.now next.old }
     ensures answer { option_map said_as result ≡ next_of (answers_by rows.now) (passed_in next.old) command.now }
     ensures next { passed_in next.new ≡ passed (passed_in next.old) command.now }

@@ -50,7 +50,8 @@ impl Desk {
         ensures page { vec_len self.new.page ≡ vec_len self.old.page }
         ensures lines { waiting_of self.new.lines ≡ waiting_of self.old.lines ++ (if wanted then line_by ftl.old line command.now else []) }
         ensures geometry { geometry_of ftl.new ≡ geometry_of ftl.old }
-        ensures array { array_of ftl.new ≡ fold step (array_of ftl.old) (calls_of (is_refused (geometry_of ftl.old) (stock_of ftl.old) command.now) command.now) }
+        ensures array { array_of ftl.new
+            ≡ fold step (array_of ftl.old) (calls_of (is_refused (geometry_of ftl.old) (stock_of ftl.old) command.now) command.now) }
         ensures stock { stock_of ftl.new ≡ stock_after (geometry_of ftl.old) (stock_of ftl.old) command.now }
     {
         if !wanted {
@@ -73,7 +74,8 @@ impl Desk {
         ensures page { vec_len self.new.page ≡ vec_len self.old.page }
         ensures lines { waiting_of self.new.lines ≡ waiting_of self.old.lines }
         ensures geometry { geometry_of ftl.new ≡ geometry_of ftl.old }
-        ensures array { array_of ftl.new ≡ fold step (array_of ftl.old) (calls_of (is_refused (geometry_of ftl.old) (stock_of ftl.old) command.now) command.now) }
+        ensures array { array_of ftl.new
+            ≡ fold step (array_of ftl.old) (calls_of (is_refused (geometry_of ftl.old) (stock_of ftl.old) command.now) command.now) }
         ensures stock { stock_of ftl.new ≡ stock_after (geometry_of ftl.old) (stock_of ftl.old) command.now }
     {
         match command.op {
@@ -90,7 +92,8 @@ impl Desk {
         requires page { vec_len self.old.page ≡ page_bytes_of (geometry_of ftl.now) }
         requires room { length (waiting_of self.old.lines) ≤ PIECE_BYTES }
         ensures page { vec_len self.new.page ≡ vec_len self.old.page }
-        ensures lines { waiting_of self.new.lines ≡ waiting_of self.old.lines ++ line_text line ops.Read sector (found_text (sector_at (array_of ftl.now) sector)) }
+        ensures lines { waiting_of self.new.lines ≡ waiting_of self.old.lines
+            ++ line_text line ops.Read sector (found_text (sector_at (array_of ftl.now) sector)) }
     {
         match ftl.page(sector) {
             Some(page) => self.lines.answer(line, Op::Read, sector, Reply::Page, page),

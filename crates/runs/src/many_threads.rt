@@ -93,7 +93,8 @@ fn run_logged<T: Threads + Wait + Clock + Sync, R: Read, W: Write, V: Write, G: 
     ensures reader_unfailed { OnOk result (failures_of reader.new ≡ failures_of reader.old) }
     ensures writer_unfailed { OnOk result (failures_of writer.new ≡ failures_of writer.old) }
     ensures log { IfOk result (EndsFile wanted (IsBroomLogOf geometry.now) (stream_of R.remaining reader.old) (over V.contents file.old file.new)) }
-    ensures why { IfErr result (ExplainsRun (IsOutputByWorkers answers) geometry.now (over R.remaining reader.old reader.new) (over W.contents writer.old writer.new)) }
+    ensures why { IfErr result
+        (ExplainsRun (IsOutputByWorkers answers) geometry.now (over R.remaining reader.old reader.new) (over W.contents writer.old writer.new)) }
     ensures no_log { OnErr result (stream_of V.contents file.new ≡ stream_of V.contents file.old) }
 {
     let commands = match read_commands(alloc, reader, geometry) {
@@ -145,7 +146,8 @@ pub fn run_by_workers<T: Threads + Wait + Clock + Sync, R: Read, W: Write, V: Wr
     ensures log { IfOk result (EndsFile wanted (IsBroomLogOf geometry.now) (stream_of R.remaining reader.old) (over V.contents file.old file.new)) }
 
     // After a fault of the run no log was written.
-    ensures why { IfErr result (ExplainsRun (IsOutputByWorkers answers) geometry.now (over R.remaining reader.old reader.new) (over W.contents writer.old writer.new)) }
+    ensures why { IfErr result
+        (ExplainsRun (IsOutputByWorkers answers) geometry.now (over R.remaining reader.old reader.new) (over W.contents writer.old writer.new)) }
     ensures no_log { OnErr result (stream_of V.contents file.new ≡ stream_of V.contents file.old) }
 {
     let mut gates = [NoGate; MAX_THREADS];

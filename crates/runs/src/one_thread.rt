@@ -80,12 +80,19 @@ pub fn run_with_files<R: Read, W: Write, V: Write>(
     ensures writer_unfailed { OnOk result (failures_of writer.new ≡ failures_of writer.old) }
 
     // The log is that of the trace, and the wear that of the device after it. Where a writer failed, a beginning was written.
-    ensures collections { IfOk result (λ written. EndsFile wanted.collections (IsLogOf geometry.now) (stream_of R.remaining reader.old) (over V.contents files.old.collections files.new.collections) written.collections) }
-    ensures wear { IfOk result (λ written. EndsFile wanted.wear (IsWearOf geometry.now) (stream_of R.remaining reader.old) (over V.contents files.old.wear files.new.wear) written.wear) }
+    ensures collections { IfOk result
+        (λ written. EndsFile wanted.collections (IsLogOf geometry.now) (stream_of R.remaining reader.old)
+        (over V.contents files.old.collections files.new.collections) written.collections) }
+    ensures wear { IfOk result
+        (λ written. EndsFile wanted.wear (IsWearOf geometry.now) (stream_of R.remaining reader.old)
+        (over V.contents files.old.wear files.new.wear) written.wear) }
 
     // After a fault of the run no wear was written, and a part of the log only if the answers could not be written.
-    ensures why { IfErr result (ExplainsRun (IsOutputOf wanted.answers) geometry.now (over R.remaining reader.old reader.new) (over W.contents writer.old writer.new)) }
-    ensures log_left { IfErr result (λ fault. LeavesLog fault wanted.collections geometry.now (stream_of R.remaining reader.old) (over V.contents files.old.collections files.new.collections)) }
+    ensures why { IfErr result
+        (ExplainsRun (IsOutputOf wanted.answers) geometry.now (over R.remaining reader.old reader.new) (over W.contents writer.old writer.new)) }
+    ensures log_left { IfErr result
+        (λ fault. LeavesLog fault wanted.collections geometry.now (stream_of R.remaining reader.old)
+        (over V.contents files.old.collections files.new.collections)) }
     ensures no_wear { OnErr result (stream_of V.contents files.new.wear ≡ stream_of V.contents files.old.wear) }
 {
     match run_out(
@@ -124,8 +131,10 @@ fn run_out<R: Read, W: Write, V: Write>(
     ensures stock { IfOk result (λ played. IfSome (R.remaining (inner_of reader.old)) (λ bytes. IsStockOf geometry.now bytes (stock_of played.ftl))) }
     ensures wanted { IfOk result (λ played. is_wanted played.log ≡ wanted.collections) }
     ensures logged { IfOk result (λ played. IsLogUnderWay geometry.now (stream_of R.remaining reader.old) played.log (over V.contents file.old file.new)) }
-    ensures why { IfErr result (ExplainsRun (IsOutputOf wanted.answers) geometry.now (over R.remaining reader.old reader.new) (over W.contents writer.old writer.new)) }
-    ensures log_left { IfErr result (λ fault. LeavesLog fault wanted.collections geometry.now (stream_of R.remaining reader.old) (over V.contents file.old file.new)) }
+    ensures why { IfErr result
+        (ExplainsRun (IsOutputOf wanted.answers) geometry.now (over R.remaining reader.old reader.new) (over W.contents writer.old writer.new)) }
+    ensures log_left { IfErr result
+        (λ fault. LeavesLog fault wanted.collections geometry.now (stream_of R.remaining reader.old) (over V.contents file.old file.new)) }
 {
     let commands = match read_commands(alloc, reader, geometry) {
         Ok(commands) => commands,

@@ -9,7 +9,8 @@ use Rattle.std.specs.Prelude.{Bool, false, MatchBool, if◌then◌else◌, slice
 use Rattle.std.specs.Bool.{OnTrue}
 use Rattle.std.specs.Str.{bytes_eq}
 use Rattle.trace.specs.Parsing.{Adds, RefusesBy, fault_at}
-use Rattle.trace.specs.Trace.{IsFirstFault, all_or_first, checked, command_of, commands_of, is_of_record, name_of, number_below, op_of, page_of, page_of_bytes, whole_fault, workers_of, ◌>>=◌}
+use Rattle.trace.specs.Trace.{IsFirstFault, all_or_first, checked, command_of, commands_of, is_of_record, name_of}
+use Rattle.trace.specs.Trace.{number_below, op_of, page_of, page_of_bytes, whole_fault, workers_of, ◌>>=◌}
 use Rattle.trace.specs.declared.commands.Command.{Command}
 use Rattle.trace.specs.declared.commands.Op.{Op}
 use Rattle.trace.specs.declared.commands.Op.TheVariants as op
@@ -64,7 +65,8 @@ module _ (geo : Geometry) (a b c d : List ℕ) where
         accepts page s = rw (p, q, r, s) refl
 
 -- a check that gave this command, which is added
-pub adds_accepted : (check : Result Command TraceFaultKind) (command : Command) (old new : List Command) → check ≡ Ok command → new ≡ old ++ command ∷ [] → Adds check old new
+pub adds_accepted : (check : Result Command TraceFaultKind) (command : Command) (old new : List Command) → check ≡ Ok command
+    → new ≡ old ++ command ∷ [] → Adds check old new
 adds_accepted check command old new is grown = rw is grown
 
 -- ---- the faults of a check are those of a record
@@ -132,7 +134,8 @@ command_of_record geo (a ∷ b ∷ c ∷ d ∷ []) =
 command_of_record geo (a ∷ b ∷ c ∷ d ∷ e ∷ fs) = fault_of_record fault.Fields refl
 
 -- a check that gave a command
-pub adds_some : (check : Result Command TraceFaultKind) (old new : List Command) → Adds check old new → (command : Command) × (check ≡ Ok command) × (new ≡ old ++ command ∷ [])
+pub adds_some : (check : Result Command TraceFaultKind) (old new : List Command) → Adds check old new → (command : Command) × (check ≡ Ok command)
+    × (new ≡ old ++ command ∷ [])
 adds_some (Ok command) old new h = (command, refl, h)
 adds_some (Err k) old new h = absurd h
 
@@ -173,7 +176,8 @@ commands_of-fault text geo commands fields left k e h =
     rw (e, h) (all_or_first-fault commands 1 k (map (command_of geo) left) ∙ ap at line)
 
 -- a fault of a record has its line
-stated : (text : List ℕ) (geo : Geometry) (line : ℕ) (k : TraceFaultKind) → is_of_record k ≡ true → commands_of text geo ≡ Err (record { line = line; kind = k })
+stated : (text : List ℕ) (geo : Geometry) (line : ℕ) (k : TraceFaultKind) → is_of_record k ≡ true
+    → commands_of text geo ≡ Err (record { line = line; kind = k })
     → MatchBool (is_of_record (fault_at line k).kind) (commands_of text geo ≡ Err (fault_at line k)) (fault_at line k ≡ whole_fault fault.Memory)
 stated text geo line fault.Fields h e = e
 stated text geo line fault.Worker h e = e
@@ -188,7 +192,8 @@ stated text geo line fault.Big h e = cc h
 
 pub states_fault : (text : List ℕ) (geo : Geometry) (commands : List Command) (fields : List (List ℕ)) (rows left : List (List (List ℕ))) (k : TraceFaultKind)
     → checked geo text ≡ map Ok commands ++ map (command_of geo) rows → rows ≡ fields ∷ left → RefusesBy (command_of geo fields) k
-    → MatchBool (is_of_record (fault_at (length commands + 1) k).kind) (commands_of text geo ≡ Err (fault_at (length commands + 1) k)) (fault_at (length commands + 1) k ≡ whole_fault fault.Memory)
+    → MatchBool (is_of_record (fault_at (length commands + 1) k).kind) (commands_of text geo ≡ Err (fault_at (length commands + 1) k))
+    (fault_at (length commands + 1) k ≡ whole_fault fault.Memory)
 states_fault text geo commands fields rows left k e first (inl memory) = rw memory refl
 states_fault text geo commands fields rows left k e first (inr h) =
     stated text geo (length commands + 1) k (command_of_record geo fields k h) (commands_of-fault text geo commands fields left k (rw first at e) h)
@@ -245,7 +250,12 @@ more : (text : List ℕ) (geo : Geometry) (old new : List Command) (fields : Lis
     → checked geo text ≡ map Ok old ++ map (command_of geo) (fields ∷ left) → command_of geo fields ≡ Ok command → new ≡ old ++ command ∷ []
     → checked geo text ≡ map Ok new ++ map (command_of geo) left
 more text geo old new fields left command e is grown =
-    e ∙ rw (grown, map-append {B = Result Command TraceFaultKind} Ok old (command ∷ []), append_assoc (map Ok old) (Ok command ∷ []) (map (command_of geo) left), is) refl
+    e ∙ rw (
+      grown,
+      map-append {B = Result Command TraceFaultKind} Ok old (command ∷ []),
+      append_assoc (map Ok old) (Ok command ∷ []) (map (command_of geo) left),
+      is,
+    ) refl
 
 pub one_more_command : (text : List ℕ) (geo : Geometry) (old new : List Command) (fields : List (List ℕ)) (rows left : List (List (List ℕ)))
     → checked geo text ≡ map Ok old ++ map (command_of geo) rows → rows ≡ fields ∷ left → Adds (command_of geo fields) old new

@@ -1,5 +1,6 @@
 -- The commands that are kept, by the places of their digits.
-use Rattle.std.proofs.Common.{◌≡◌, ℕ, zero, suc, ◌+◌, ◌-◌, ◌<◌, ◌≤◌, inl, inr, List, [], ◌∷◌, ◌++◌, length, map, take, drop, refl, sym, subst, ap, ap₂, ◌∙◌, append_assoc, arith, length-append}
+use Rattle.std.proofs.Common.{◌≡◌, ℕ, zero, suc, ◌+◌, ◌-◌, ◌<◌, ◌≤◌, inl, inr, List, [], ◌∷◌, ◌++◌, length, map, take, drop}
+use Rattle.std.proofs.Common.{refl, sym, subst, ap, ap₂, ◌∙◌, append_assoc, arith, length-append}
 use Rattle.std.proofs.lemmas.List.{length-map, map-append, take-append-le, take_all}
 use Rattle.std.proofs.lemmas.List.Elements.{All-append, All-cons, All-nil}
 use Rattle.std.proofs.Math.Seq.{drop-append-add, drop-append_seam}
@@ -13,12 +14,14 @@ use Rattle.trace.specs.declared.draft.Head.{Head}
 use Rattle.trace.specs.declared.draft.Stored.{Stored}
 
 -- what a list holds at a place and after it, seen through a function
-pub drop-map_at : {A B : Type 0} (f : A → B) (xs : List A) (i : ℕ) (x : A) → i < length xs → x ≡ slice_index_or xs i x → drop i (map f xs) ≡ f x ∷ drop (suc i) (map f xs)
+pub drop-map_at : {A B : Type 0} (f : A → B) (xs : List A) (i : ℕ) (x : A) → i < length xs → x ≡ slice_index_or xs i x
+    → drop i (map f xs) ≡ f x ∷ drop (suc i) (map f xs)
 drop-map_at f [] i x h e = absurd (omega arith)
 drop-map_at f (y ∷ xs) zero x h e = ap (λ v. f v ∷ map f xs) (sym e)
 drop-map_at f (y ∷ xs) (suc i) x h e = drop-map_at f xs i x (omega arith) e
 
-pub slice_get-map_at : {A B : Type 0} (f : A → B) (xs : List A) (i : ℕ) (x : A) → i < length xs → x ≡ slice_index_or xs i x → slice_get (map f xs) i ≡ Some (f x)
+pub slice_get-map_at : {A B : Type 0} (f : A → B) (xs : List A) (i : ℕ) (x : A) → i < length xs → x ≡ slice_index_or xs i x
+    → slice_get (map f xs) i ≡ Some (f x)
 slice_get-map_at f [] i x h e = absurd (omega arith)
 slice_get-map_at f (y ∷ xs) zero x h e = ap (λ v. Some (f v)) (sym e)
 slice_get-map_at f (y ∷ xs) (suc i) x h e = slice_get-map_at f xs i x (omega arith) e
@@ -66,12 +69,14 @@ all_kept-append : (text odd more : List ℕ) (size : ℕ) (xs : List Stored) →
 all_kept-append text odd more size xs h k d lt = kept-append text odd more size _ (h k d lt)
 
 -- and so do all
-commands-append : (text odd more : List ℕ) (size : ℕ) (xs : List Stored) → All (IsKept text odd size) xs → map (command_at text (odd ++ more) size) xs ≡ map (command_at text odd size) xs
+commands-append : (text odd more : List ℕ) (size : ℕ) (xs : List Stored) → All (IsKept text odd size) xs
+    → map (command_at text (odd ++ more) size) xs ≡ map (command_at text odd size) xs
 commands-append text odd more size [] h = refl
 commands-append text odd more size (x ∷ xs) h =
     let kept : IsKept text odd size x = h 0 x (omega arith) in
     let others : All (IsKept text odd size) xs = λ k d lt. h (suc k) d (omega arith) in
-    ap₂ (λ (c : Command) (cs : List Command). c ∷ cs) (ap (with_digits (head_of x) size) (digits-append text odd more x kept.within)) (commands-append text odd more size xs others)
+    ap₂ (λ (c : Command) (cs : List Command). c ∷ cs) (ap (with_digits (head_of x) size) (digits-append text odd more x kept.within))
+    (commands-append text odd more size xs others)
 
 -- ---- one command more
 
@@ -80,7 +85,8 @@ module _ (text odd : List ℕ) (size : ℕ) (xs : List Stored) (s : Stored) (hea
   op_is = ap (λ (h : Head). h.op) is
 
   -- a command is added behind the others
-  pushed : (digits : List ℕ) → digits_at text odd s ≡ digits → map (command_at text odd size) (xs ++ s ∷ []) ≡ map (command_at text odd size) xs ++ with_digits head size digits ∷ []
+  pushed : (digits : List ℕ) → digits_at text odd s ≡ digits
+      → map (command_at text odd size) (xs ++ s ∷ []) ≡ map (command_at text odd size) xs ++ with_digits head size digits ∷ []
   pushed digits e =
       map-append (command_at text odd size) xs (s ∷ [])
       ∙ ap₂ (λ (h : Head) (d : List ℕ). map (command_at text odd size) xs ++ with_digits h size d ∷ []) is e
@@ -94,7 +100,8 @@ module _ (text odd : List ℕ) (size : ℕ) (xs : List Stored) (s : Stored) (hea
 
 -- one whose digits stand in the text
 module _ (text odd : List ℕ) (size : ℕ) (xs : List Stored) (s : Stored) (head : Head) (is : head_of s ≡ head) (within : s.start + s.digits ≤ length text) where
-  pub push-commands : map (command_at text odd size) (xs ++ s ∷ []) ≡ map (command_at text odd size) xs ++ with_digits head size (take s.digits (drop s.start text)) ∷ []
+  pub push-commands : map (command_at text odd size) (xs ++ s ∷ []) ≡ map (command_at text odd size) xs
+      ++ with_digits head size (take s.digits (drop s.start text)) ∷ []
   push-commands = pushed text odd size xs s head is _ (digits-text text odd s within)
 
   pub push-kept : All (IsKept text odd size) xs → IsData (page_len head.op size) (take s.digits (drop s.start text)) → All (IsKept text odd size) (xs ++ s ∷ [])
@@ -105,7 +112,8 @@ module _ (text odd : List ℕ) (size : ℕ) (xs : List Stored) (s : Stored) (hea
   }
 
 -- one whose digits are put behind the odd ones
-module _ (text odd digits : List ℕ) (size : ℕ) (xs : List Stored) (s : Stored) (head : Head) (is : head_of s ≡ head) (start : s.start ≡ length text + length odd) (count : s.digits ≡ length digits) where
+module _ (text odd digits : List ℕ) (size : ℕ) (xs : List Stored) (s : Stored) (head : Head) (is : head_of s ≡ head)
+    (start : s.start ≡ length text + length odd) (count : s.digits ≡ length digits) where
   pub push_odd-commands : All (IsKept text odd size) xs
       → map (command_at text (odd ++ digits) size) (xs ++ s ∷ []) ≡ map (command_at text odd size) xs ++ with_digits head size digits ∷ []
   push_odd-commands before =

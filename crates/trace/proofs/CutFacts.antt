@@ -1,5 +1,6 @@
 -- How the fields and the records of a text are cut, by the steps of csv's machine.
-use Rattle.std.proofs.Common.{◌≡◌, ◌≢◌, ℕ, zero, suc, subst, ◌+◌, ◌-◌, ◌<◌, ◌≤◌, Bool, true, false, List, [], ◌∷◌, ◌++◌, length, take, drop, get_or, refl, ap, sym, ◌∙◌, arith, length-drop, get_or-drop}
+use Rattle.std.proofs.Common.{◌≡◌, ◌≢◌, ℕ, zero, suc, subst, ◌+◌, ◌-◌, ◌<◌, ◌≤◌, Bool, true, false, List, [], ◌∷◌, ◌++◌, length}
+use Rattle.std.proofs.Common.{take, drop, get_or, refl, ap, sym, ◌∙◌, arith, length-drop, get_or-drop}
 use Rattle.std.specs.Prelude.{◌==◌, ◌||◌}
 use Rattle.std.proofs.lemmas.List.{drop-drop, drop_all, drop_more, length-take-le, take_more}
 use Rattle.std.proofs.lemmas.Bool.{eqb-true}
@@ -45,7 +46,8 @@ joins-quoted : (c : ℕ) → (c == 34) ≡ false → step default_config st.InQu
 joins-quoted c h = rw h refl
 
 -- a part of a text, one byte longer
-pub part-more : (text : List ℕ) (start at : ℕ) → start ≤ at → at < length text → take (at + 1 - start) (drop start text) ≡ take (at - start) (drop start text) ++ get_or text at 0 ∷ []
+pub part-more : (text : List ℕ) (start at : ℕ) → start ≤ at → at < length text
+    → take (at + 1 - start) (drop start text) ≡ take (at - start) (drop start text) ++ get_or text at 0 ∷ []
 part-more text start at low high =
     let one : at + 1 - start ≡ (at - start) + 1 = omega arith in
     let there : start + (at - start) ≡ at = omega arith in
@@ -59,7 +61,8 @@ joins-none s text start h =
     let none : start - start ≡ 0 = omega arith in
     record { low = omega arith; high = h; runs = rw none tt }
 
-joins-more : (s : State) (text : List ℕ) (start at : ℕ) → Joins s text start at → at < length text → step default_config s (get_or text at 0) ≡ (s, act.Copy) → Joins s text start (at + 1)
+joins-more : (s : State) (text : List ℕ) (start at : ℕ) → Joins s text start at → at < length text
+    → step default_config s (get_or text at 0) ≡ (s, act.Copy) → Joins s text start (at + 1)
 joins-more s text start at h below joins = record {
   low = omega (arith, h.low);
   high = omega arith;
@@ -67,10 +70,12 @@ joins-more s text start at h below joins = record {
 }
 
 -- one byte more of a field
-pub plain-more : (text : List ℕ) (start at : ℕ) → Joins st.InField text start at → at < length text → is_field_end (get_or text at 0) ≡ false → Joins st.InField text start (at + 1)
+pub plain-more : (text : List ℕ) (start at : ℕ) → Joins st.InField text start at → at < length text → is_field_end (get_or text at 0) ≡ false
+    → Joins st.InField text start (at + 1)
 plain-more text start at h below n = joins-more st.InField text start at h below (joins-field (get_or text at 0) n)
 
-pub quoted-more : (text : List ℕ) (start at : ℕ) → Joins st.InQuoted text start at → at < length text → (get_or text at 0 == 34) ≡ false → Joins st.InQuoted text start (at + 1)
+pub quoted-more : (text : List ℕ) (start at : ℕ) → Joins st.InQuoted text start at → at < length text → (get_or text at 0 == 34) ≡ false
+    → Joins st.InQuoted text start (at + 1)
 quoted-more text start at h below n = joins-more st.InQuoted text start at h below (joins-quoted (get_or text at 0) n)
 
 -- so many bytes more
@@ -119,7 +124,8 @@ plain-field text start end h e = record {
 -- its value stands right before its end
 pub stands-before : (text : List ℕ) (start end : ℕ) → start ≤ end → end ≤ length text → StandsBefore text end (take (end - start) (drop start text))
 stands-before text start end low high =
-    let long : length (take (end - start) (drop start text)) ≡ end - start = length-take-le (end - start) (drop start text) (omega (arith, length-drop start text)) in
+    let long : length (take (end - start) (drop start text)) ≡ end - start =
+    length-take-le (end - start) (drop start text) (omega (arith, length-drop start text)) in
     let there : end - (end - start) ≡ start = omega arith in
     record { low = omega (arith, long); is = rw (long, there) refl }
 
@@ -147,7 +153,8 @@ unfolding next_record
 quote-again fields field xs = refl
 
 -- without one the field goes on as one without quotes
-after-quotes : (fields : List (List ℕ)) (field xs : List ℕ) → begins_with 34 xs ≡ false → read_on st.AfterQuote fields field xs ≡ read_on st.InField fields field xs
+after-quotes : (fields : List (List ℕ)) (field xs : List ℕ) → begins_with 34 xs ≡ false
+    → read_on st.AfterQuote fields field xs ≡ read_on st.InField fields field xs
 unfolding next_record
 after-quotes fields field [] h = refl
 after-quotes fields field (x ∷ xs) h = after-quote-same fields field x xs h
@@ -185,7 +192,8 @@ reads-quoted : (text : List ℕ) (start at quote : ℕ) (o : IsOpen text start a
 reads-quoted text start at quote o h fields = o.reads fields ∙ reads-joined st.InQuoted text at quote fields o.value h
 
 -- no further quote
-pub open-end : (text : List ℕ) (start at quote : ℕ) → IsOpen text start at → EndsQuoted text at quote → quote ≡ length text → (value : List ℕ) × IsField text start quote value
+pub open-end : (text : List ℕ) (start at quote : ℕ) → IsOpen text start at → EndsQuoted text at quote → quote ≡ length text
+    → (value : List ℕ) × IsField text start quote value
 open-end text start at quote o h e =
     let over : drop quote text ≡ [] = drop_all quote text (omega (arith, e)) in
     let value = grown text start at quote o in (
@@ -199,7 +207,8 @@ open-end text start at quote o h e =
       },
     )
 
-reads-closed : (text : List ℕ) (start at quote : ℕ) (o : IsOpen text start at) → Joins st.InQuoted text at quote → begins_with 34 (drop quote text) ≡ true → (fields : List (List ℕ))
+reads-closed : (text : List ℕ) (start at quote : ℕ) (o : IsOpen text start at) → Joins st.InQuoted text at quote
+    → begins_with 34 (drop quote text) ≡ true → (fields : List (List ℕ))
     → read_on st.StartField fields [] (drop start text) ≡ read_on st.AfterQuote fields (grown text start at quote o) (drop (quote + 1) text)
 reads-closed text start at quote o h q fields =
     let value = grown text start at quote o in
@@ -209,7 +218,8 @@ reads-closed text start at quote o h q fields =
     ∙ ap (read_on st.AfterQuote fields value) (behind quote text)
 
 -- two quotes
-pub open-more : (text : List ℕ) (start at quote : ℕ) → IsOpen text start at → EndsQuoted text at quote → quote ≢ length text → begins_with 34 (drop (quote + 1) text) ≡ true
+pub open-more : (text : List ℕ) (start at quote : ℕ) → IsOpen text start at → EndsQuoted text at quote → quote ≢ length text
+    → begins_with 34 (drop (quote + 1) text) ≡ true
     → IsOpen text start (quote + 2)
 open-more text start at quote o h n q =
     let value = grown text start at quote o in
@@ -226,7 +236,8 @@ open-more text start at quote o h n q =
     }
 
 -- one quote, and then bytes without quotes
-pub open-closed : (text : List ℕ) (start at quote end : ℕ) → IsOpen text start at → EndsQuoted text at quote → quote ≢ length text → begins_with 34 (drop (quote + 1) text) ≡ false
+pub open-closed : (text : List ℕ) (start at quote end : ℕ) → IsOpen text start at → EndsQuoted text at quote → quote ≢ length text
+    → begins_with 34 (drop (quote + 1) text) ≡ false
     → EndsPlain text (quote + 1) end → (value : List ℕ) × IsField text start end value
 open-closed text start at quote end o h n q e =
     let value = grown text start at quote o in (

@@ -1,5 +1,6 @@
 -- Digits, from their values.
-use Rattle.std.proofs.Common.{◌≡◌, ℕ, ◌+◌, ◌*◌, ◌/◌, ◌%◌, ◌<◌, ◌≤◌, true, false, List, [], ◌∷◌, length, get_or, Option, Some, None, unwrap_or, Result, Ok, Err, is_some, refl, sym, ap, ◌∙◌, arith, eqb-true}
+use Rattle.std.proofs.Common.{◌≡◌, ℕ, ◌+◌, ◌*◌, ◌/◌, ◌%◌, ◌<◌, ◌≤◌, true, false, List, [], ◌∷◌, length, get_or, Option, Some, None}
+use Rattle.std.proofs.Common.{unwrap_or, Result, Ok, Err, is_some, refl, sym, ap, ◌∙◌, arith, eqb-true}
 use Rattle.std.proofs.lemmas.Bool.{eqb-false}
 use Rattle.std.proofs.lemmas.List.Elements.{All-from_get_or, All-get_or}
 use Rattle.std.specs.Prelude.{◌==◌, Bool, IsErr, MatchBool}
@@ -53,7 +54,8 @@ unfolding bytes_of
 bytes_are digits bytes h = h ∙ ap Ok (sym (ap (λ (r : Result (List ℕ) FromHexError). result_unwrap_or r []) h))
 
 -- nothing but digits, and an even number
-pub pairs_are : (digits : List ℕ) → length digits % 2 ≡ 0 → ((k : ℕ) → k < length digits → is_hex_digit (get_or digits k 0) ≡ true) → decode_of digits ≡ Ok (bytes_of digits)
+pub pairs_are : (digits : List ℕ) → length digits % 2 ≡ 0 → ((k : ℕ) → k < length digits → is_hex_digit (get_or digits k 0) ≡ true)
+    → decode_of digits ≡ Ok (bytes_of digits)
 pairs_are digits even all =
     let (bytes, is) = decode_of-digits digits even (All-from_get_or (λ c. is_hex_digit c ≡ true) digits 0 all) in
     bytes_are digits bytes is
@@ -74,7 +76,8 @@ pub refused_odd : (digits : List ℕ) → length digits % 2 ≡ 1 → IsErr (dec
 refused_odd digits odd = rw (decode_of-odd digits odd) refl
 
 -- an even number of bytes is digits just where digits go to their end
-pub pairs_told : (digits : List ℕ) (end : ℕ) → length digits % 2 ≡ 0 → EndsDigits digits 0 end → MatchBool (end == length digits) (decode_of digits ≡ Ok (bytes_of digits)) (IsErr (decode_of digits))
+pub pairs_told : (digits : List ℕ) (end : ℕ) → length digits % 2 ≡ 0 → EndsDigits digits 0 end
+    → MatchBool (end == length digits) (decode_of digits ≡ Ok (bytes_of digits)) (IsErr (decode_of digits))
 pairs_told digits end even h = by (end == length digits) refl
   where
     by : (b : Bool) → (end == length digits) ≡ b → MatchBool b (decode_of digits ≡ Ok (bytes_of digits)) (IsErr (decode_of digits))

@@ -1,8 +1,12 @@
 -- Sixteen bytes of a text at once.
-use Rattle.std.proofs.Common.{◌≡◌, ℕ, zero, suc, ◌+◌, ◌*◌, ◌%◌, ◌^◌, ◌<◌, ◌≤◌, Bool, true, false, not, ◌&&◌, ◌||◌, cond, eqb, ltb, List, [], ◌∷◌, ◌++◌, map, length, get_or, take, drop, replicate, bit_and, unwrap_or, Ok, inl, inr, refl, sym, ap, ap₂, ◌∙◌, subst, arith, eqb-true, ltb-true, take-add, w8, Fits}
+use Rattle.std.proofs.Common.{◌≡◌, ℕ, zero, suc, ◌+◌, ◌*◌, ◌%◌, ◌^◌, ◌<◌, ◌≤◌, Bool, true, false, not, ◌&&◌, ◌||◌, cond, eqb, ltb, List}
+use Rattle.std.proofs.Common.{[], ◌∷◌, ◌++◌, map, length, get_or, take, drop, replicate, bit_and, unwrap_or, Ok, inl, inr, refl, sym}
+use Rattle.std.proofs.Common.{ap, ap₂, ◌∙◌, subst, arith, eqb-true, ltb-true, take-add, w8, Fits}
 use Rattle.std.proofs.lemmas.Bool.{agree_below, agree_below_at, and_parts, cases_lt, not-false, not-true}
 use Rattle.std.proofs.lemmas.List.{drop-drop, get_or-map, length-map, map-append, set-get_or, take-append-le, take-take, length-take-le}
-use Rattle.std.proofs.lemmas.Simd.{map-map, mask_l-mod, length-chunk, get_or-chunk, get_or-zip2, first_set_mask_l, run_in_chunk_le, run_in_chunk_fails, run_in_chunk_stops, length-put_chunk, take_more_put_chunk, get_or-put_chunk_at, get_or-replicate}
+use Rattle.std.proofs.lemmas.Simd.{map-map, mask_l-mod, length-chunk, get_or-chunk, get_or-zip2, first_set_mask_l, run_in_chunk_le}
+use Rattle.std.proofs.lemmas.Simd.{run_in_chunk_fails, run_in_chunk_stops, length-put_chunk, take_more_put_chunk, get_or-put_chunk_at}
+use Rattle.std.proofs.lemmas.Simd.{get_or-replicate}
 use Rattle.std.specs.List.{prefix_len}
 use lib.Lanes.{chunk, put_chunk, zip2, sel_l, mask_l, pick_l, top}
 use Rattle.hex.specs.Hex.{decode_pairs, hex_digit_value, is_hex_digit, pair_value}
@@ -22,23 +26,30 @@ module _ (text : List ℕ) (at r : ℕ) (z : List ℕ) (room : at + 16 ≤ lengt
   counted =
       let v = chunk at 16 text in
       let long = length-chunk at 16 text room in
-      let mask = ap (λ l. mask_l l % 2 ^ 64) (ap (map (top 7)) lanes ∙ map-map (top 7) f v) ∙ mask_l-mod (map stops v) 64 (omega (arith, length-map v stops, long)) in
+      let mask = ap (λ l. mask_l l % 2 ^ 64) (ap (map (top 7)) lanes ∙ map-map (top 7) f v)
+      ∙ mask_l-mod (map stops v) 64 (omega (arith, length-map v stops, long)) in
       found ∙ ap first_set mask ∙ first_set_mask_l stops v 16 long (omega arith)
 
   -- a lane stops just where a field ends
   pub run_is : agree_below stops is_field_end 256 ≡ true → IsRun text at r
   run_is all = record {
     within = run_in_chunk_le stops text at 16 r 0 room counted;
-    joins = λ k from to. sym (agree_below_at stops is_field_end 256 (get_or text k 0) all (fits k).fits) ∙ run_in_chunk_fails stops text at 16 r 0 room counted k from to;
-    stops = λ short. sym (agree_below_at stops is_field_end 256 (get_or text (at + r) 0) all (fits (at + r)).fits) ∙ run_in_chunk_stops stops text at 16 r 0 room counted short;
+    joins = λ k from to. sym (agree_below_at stops is_field_end 256 (get_or text k 0) all (fits k).fits)
+        ∙ run_in_chunk_fails stops text at 16 r 0 room counted k from to;
+    stops = λ short. sym (agree_below_at stops is_field_end 256 (get_or text (at + r) 0) all (fits (at + r)).fits)
+        ∙ run_in_chunk_stops stops text at 16 r 0 room counted short;
   }
 
   -- and just where no digit stands
   pub digit_run_is : agree_below stops (λ x. not (is_hex_digit x)) 256 ≡ true → IsDigitRun text at r
   digit_run_is all = record {
     within = run_in_chunk_le stops text at 16 r 0 room counted;
-    digits = λ k from to. not-false _ (sym (agree_below_at stops (λ x. not (is_hex_digit x)) 256 (get_or text k 0) all (fits k).fits) ∙ run_in_chunk_fails stops text at 16 r 0 room counted k from to);
-    stops = λ short. not-true _ (sym (agree_below_at stops (λ x. not (is_hex_digit x)) 256 (get_or text (at + r) 0) all (fits (at + r)).fits) ∙ run_in_chunk_stops stops text at 16 r 0 room counted short);
+    digits = λ k from to. not-false _
+        (sym (agree_below_at stops (λ x. not (is_hex_digit x)) 256 (get_or text k 0) all (fits k).fits)
+        ∙ run_in_chunk_fails stops text at 16 r 0 room counted k from to);
+    stops = λ short. not-true _
+        (sym (agree_below_at stops (λ x. not (is_hex_digit x)) 256 (get_or text (at + r) 0) all (fits (at + r)).fits)
+        ∙ run_in_chunk_stops stops text at 16 r 0 room counted short);
   }
 
 -- ---- digits
@@ -157,17 +168,20 @@ decoded_block digits out bytes at d room sized before = steps 16 (omega arith)
     front =
         let wider = take_more_put_chunk at out bytes (at + 16) (omega (arith, d.count)) room in
         let long : at ≤ length (take at out) = omega (arith, length-take-le at out (omega arith)) in
-        sym (take-take at (at + 16) (put_chunk at out bytes) (omega arith)) ∙ ap (take at) wider ∙ take-append-le at (take at out) bytes long ∙ take-take at at out (omega arith)
+        sym (take-take at (at + 16) (put_chunk at out bytes) (omega arith)) ∙ ap (take at) wider ∙ take-append-le at (take at out) bytes long
+        ∙ take-take at at out (omega arith)
 
     steps : (n : ℕ) → n ≤ 16 → AreDecoded digits (put_chunk at out bytes) (at + n)
     steps zero h =
         let same : at + 0 ≡ at = omega arith in
-        subst (λ k. AreDecoded digits (put_chunk at out bytes) k) (sym same) (subst (λ l. decode_pairs 0 digits ≡ prepend l (decode_pairs (2 * at) (drop (2 * at) digits))) (sym front) before)
+        subst (λ k. AreDecoded digits (put_chunk at out bytes) k) (sym same)
+        (subst (λ l. decode_pairs 0 digits ≡ prepend l (decode_pairs (2 * at) (drop (2 * at) digits))) (sym front) before)
     steps (suc n) h =
         let next : at + n + 1 ≡ at + suc n = omega arith in
         let place : 2 * at + 2 * n ≡ 2 * (at + n) = omega arith in
         let long = length-put_chunk at out bytes in
         let byte = get_or-put_chunk_at at out bytes n 0 (omega (arith, d.count)) (omega (arith, d.count)) in
-        let ok = subst (λ p. pair_value (get_or digits p 0) (get_or digits (p + 1) 0) p ≡ Ok (get_or bytes n 0)) place (d.pairs n (omega arith)) ∙ ap Ok (sym byte) in
+        let ok = subst (λ p. pair_value (get_or digits p 0) (get_or digits (p + 1) 0) p ≡ Ok (get_or bytes n 0)) place (d.pairs n (omega arith))
+        ∙ ap Ok (sym byte) in
         subst (λ k. AreDecoded digits (put_chunk at out bytes) k) next
         (decoded_next digits (put_chunk at out bytes) (at + n) (omega arith) (omega (arith, long)) ok (steps n (omega arith)))

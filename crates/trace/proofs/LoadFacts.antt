@@ -9,7 +9,8 @@ use Rattle.trace.specs.Loading.{TookOneTooMany, most_bytes}
 use Rattle.trace.specs.Watched.{one_more}
 
 -- at the end, what was taken is all that was held
-pub all_taken : (old mid new : Option (List ℕ)) (text piece : List ℕ) → Consumes old mid text → Consumes mid new piece → piece ≡ [] → IsAtEnd new → IfSome old (λ held. text ≡ held)
+pub all_taken : (old mid new : Option (List ℕ)) (text piece : List ℕ) → Consumes old mid text → Consumes mid new piece → piece ≡ [] → IsAtEnd new
+    → IfSome old (λ held. text ≡ held)
 all_taken None mid new text piece taken given none end = tt
 all_taken (Some xs) None new text piece taken given none end = absurd taken
 all_taken (Some xs) (Some ys) None text piece taken given none end = absurd given
@@ -27,13 +28,16 @@ too_many old new text taken count = record { held = held_more old new text taken
 
 -- one piece more was taken, the beginning of a buffer
 pub piece_taken : {T E : Type 0} (r : Result T E) (old mid new : Option (List ℕ)) (text piece rest grown : List ℕ) (n : ℕ)
-    → n ≤ length piece → false ≡ is_err r → grown ≡ (if is_ok r then text ++ take n (piece ++ rest) else text) → Consumes old mid text → Consumes mid new (take n piece) → Consumes old new grown
-piece_taken (Ok x) old mid new text piece rest grown n few put is taken given = rw (is, take-append-le n piece rest few) (Consumes-trans old mid new text (take n piece) taken given)
+    → n ≤ length piece → false ≡ is_err r → grown ≡ (if is_ok r then text ++ take n (piece ++ rest) else text) → Consumes old mid text
+    → Consumes mid new (take n piece) → Consumes old new grown
+piece_taken (Ok x) old mid new text piece rest grown n few put is taken given =
+    rw (is, take-append-le n piece rest few) (Consumes-trans old mid new text (take n piece) taken given)
 piece_taken (Err e) old mid new text piece rest grown n few put is taken given = cc put
 
 pub piece_counted : {T E : Type 0} (r : Result T E) (piece rest : List ℕ) (count grown n : ℕ)
     → n ≤ length piece → false ≡ is_err r → grown ≡ (if is_ok r then count + length (take n (piece ++ rest)) else count) → grown ≡ count + n
-piece_counted (Ok x) piece rest count grown n few put is = is ∙ ap (λ more. count + more) (length-take-le n (piece ++ rest) (omega (arith, length-append piece rest)))
+piece_counted (Ok x) piece rest count grown n few put is =
+    is ∙ ap (λ more. count + more) (length-take-le n (piece ++ rest) (omega (arith, length-append piece rest)))
 piece_counted (Err e) piece rest count grown n few put is = cc put
 
 -- so less room is left

@@ -12,24 +12,28 @@ use Rattle.trace.specs.Page.{page_with}
 use Rattle.trace.proofs.DigitFacts.{data_is, data_none, none_written, written}
 
 -- digits of more bytes than a page has
-long_bytes : (size : ℕ) (digits : List ℕ) → decode_of digits ≡ Ok (bytes_of digits) → IsData (length digits) digits → size < length digits / 2 → page_of_bytes size (decode_of digits) ≡ Err fault.TooLong
+long_bytes : (size : ℕ) (digits : List ℕ) → decode_of digits ≡ Ok (bytes_of digits) → IsData (length digits) digits → size < length digits / 2
+    → page_of_bytes size (decode_of digits) ≡ Err fault.TooLong
 long_bytes size digits h d long =
     let more : size < length (bytes_of digits) = omega (arith, d.count) in
     rw h (grind (arith, more))
 
 -- and of as many at most
-fitting_bytes : (size : ℕ) (digits : List ℕ) → decode_of digits ≡ Ok (bytes_of digits) → IsData size digits → page_of_bytes size (decode_of digits) ≡ Ok (page_with size (bytes_of digits))
+fitting_bytes : (size : ℕ) (digits : List ℕ) → decode_of digits ≡ Ok (bytes_of digits) → IsData size digits
+    → page_of_bytes size (decode_of digits) ≡ Ok (page_with size (bytes_of digits))
 fitting_bytes size digits h d =
     let few = d.fits in
     rw h (grind (arith, few))
 
 module _ (size : ℕ) (o : Op) (worker sector : ℕ) (digits : List ℕ) where
-  pub refuses_long : (o ≡ op.Write) ⊎ (o ≡ op.New) → decode_of digits ≡ Ok (bytes_of digits) → size < length digits / 2 → page_of size o worker sector digits ≡ Err fault.TooLong
+  pub refuses_long : (o ≡ op.Write) ⊎ (o ≡ op.New) → decode_of digits ≡ Ok (bytes_of digits) → size < length digits / 2
+      → page_of size o worker sector digits ≡ Err fault.TooLong
   unfolding page_of
   refuses_long (inl e) h long = rw e (long_bytes size digits h (data_is (length digits) digits h (omega arith)) long)
   refuses_long (inr e) h long = rw e (long_bytes size digits h (data_is (length digits) digits h (omega arith)) long)
 
-  pub makes_write : (o ≡ op.Write) ⊎ (o ≡ op.New) → decode_of digits ≡ Ok (bytes_of digits) → length digits / 2 ≤ size → MakePage size o digits (page_of size o worker sector digits)
+  pub makes_write : (o ≡ op.Write) ⊎ (o ≡ op.New) → decode_of digits ≡ Ok (bytes_of digits) → length digits / 2 ≤ size
+      → MakePage size o digits (page_of size o worker sector digits)
   unfolding page_of
   makes_write (inl e) h few =
       let kept : IsData size digits = written size digits h few in

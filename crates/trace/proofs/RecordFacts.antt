@@ -1,5 +1,6 @@
 -- How the records of a text are cut, from the fields that are cut.
-use Rattle.std.proofs.Common.{◌≡◌, ◌≢◌, ℕ, ◌+◌, ◌<◌, ◌≤◌, Bool, true, false, List, [], ◌∷◌, ◌++◌, length, take, drop, get_or, Option, Some, None, refl, ap, sym, ◌∙◌, arith, length-drop}
+use Rattle.std.proofs.Common.{◌≡◌, ◌≢◌, ℕ, ◌+◌, ◌<◌, ◌≤◌, Bool, true, false, List, [], ◌∷◌, ◌++◌, length, take, drop}
+use Rattle.std.proofs.Common.{get_or, Option, Some, None, refl, ap, sym, ◌∙◌, arith, length-drop}
 use Rattle.std.specs.Prelude.{◌==◌, ◌||◌, ◌&&◌, not, nat_eq, IfSome}
 use Rattle.std.specs.Cmp.Lexicographic.{pointwise}
 use Rattle.std.proofs.lemmas.List.{drop-drop, drop_all, drop_more, length_push}
@@ -13,7 +14,8 @@ use Rattle.csv.specs.declared.parser.Action.TheVariants as act
 use Rattle.csv.specs.declared.parser.State.{State}
 use Rattle.csv.specs.declared.parser.State.TheVariants as st
 use Rattle.csv.proofs.RoundTrip.{record-same}
-use Rattle.trace.specs.Cutting.{AreValues, CutsField, HasOtherFields, IsField, IsMarkEnd, IsRecord, StandsBefore, StartsRecord, begins_with, ends_field, ends_no_line, fields_of_row, is_line_end, lines_of, read_on}
+use Rattle.trace.specs.Cutting.{AreValues, CutsField, HasOtherFields, IsField, IsMarkEnd, IsRecord, StandsBefore, StartsRecord}
+use Rattle.trace.specs.Cutting.{begins_with, ends_field, ends_no_line, fields_of_row, is_line_end, lines_of, read_on}
 use Rattle.trace.specs.Rows.{records_after}
 use Rattle.trace.specs.Trace.{records_of}
 use Rattle.trace.specs.declared.cutting.Field.{Field}
@@ -100,7 +102,8 @@ unfolding strip_bom
 marked xs rest e = rw e refl
 
 -- whether the mark stands at a place
-pub mark-there : (text : List ℕ) (at : ℕ) (r : Bool) → at ≤ length text → r ≡ pointwise nat_eq mark (take 3 (drop at text)) → r ≡ true → IsMarkEnd text at (at + 3)
+pub mark-there : (text : List ℕ) (at : ℕ) (r : Bool) → at ≤ length text → r ≡ pointwise nat_eq mark (take 3 (drop at text)) → r ≡ true
+    → IsMarkEnd text at (at + 3)
 mark-there text at r h e there =
     let is = (starts_is Decides-eqb (drop at text) mark r e).0 there in
     let count : 3 ≤ length (drop at text) = omega (arith, ap length is) in
@@ -110,7 +113,8 @@ mark-there text at r h e there =
       strips = marked (drop at text) _ is ∙ drop-drop 3 at text;
     }
 
-pub mark-not_there : (text : List ℕ) (at : ℕ) (r : Bool) → at ≤ length text → r ≡ pointwise nat_eq mark (take 3 (drop at text)) → r ≡ false → IsMarkEnd text at at
+pub mark-not_there : (text : List ℕ) (at : ℕ) (r : Bool) → at ≤ length text → r ≡ pointwise nat_eq mark (take 3 (drop at text)) → r ≡ false
+    → IsMarkEnd text at at
 mark-not_there text at r h e absent = record {
   low = omega arith;
   high = h;
@@ -246,18 +250,23 @@ fields-ended act.EndField fields field h = cc h
 fields-ended act.EndRecord fields field h = omega (arith, length_push fields field)
 
 -- a record that is read on has more than these fields
-more_fields : (s : State) (fields : List (List ℕ)) (field xs : List ℕ) → is_inside s ≡ true → (p : Read) × (read_on s fields field xs ≡ Some p) × (length fields < length p.0)
+more_fields : (s : State) (fields : List (List ℕ)) (field xs : List ℕ) → is_inside s ≡ true → (p : Read) × (read_on s fields field xs ≡ Some p)
+    × (length fields < length p.0)
 unfolding next_record
 more_fields s fields field [] h = ((fields ++ field ∷ [], st.StartRecord, []), rw (inside-ends s h) refl, omega (arith, length_push fields field))
 more_fields s fields field (c ∷ xs) h = by (is_end (step default_config s c).1) refl (more_fields (step default_config s c).0 _ _ xs)
   where
     by : (b : Bool) → is_end (step default_config s c).1 ≡ b
         → (is_inside (step default_config s c).0 ≡ true → (p : Read)
-        × (next_record default_config (step default_config s c).0 (fields_after (step default_config s c).1 fields field) (field_after (step default_config s c).1 c field) xs ≡ Some p)
+        × (next_record default_config (step default_config s c).0 (fields_after (step default_config s c).1 fields field)
+        (field_after (step default_config s c).1 c field) xs ≡ Some p)
         × (length (fields_after (step default_config s c).1 fields field) < length p.0))
         → (p : Read) × (read_on s fields field (c ∷ xs) ≡ Some p) × (length fields < length p.0)
-    by true e more =
-        ((fields_after (step default_config s c).1 fields field, (step default_config s c).0, xs), rw e refl, fields-ended (step default_config s c).1 fields field e)
+    by true e more = (
+      (fields_after (step default_config s c).1 fields field, (step default_config s c).0, xs),
+      rw e refl,
+      fields-ended (step default_config s c).1 fields field e,
+    )
     by false e more =
         let (p, is, count) = more (inside-step s c h e) in
         (p, rw e is, omega (arith, fields-kept (step default_config s c).1 fields field, count))
@@ -322,7 +331,8 @@ module _ (text : List ℕ) (at mark start : ℕ) (m : IsMarkEnd text at mark) (s
               let fifth = reads-next text start (w.value ∷ o.value ∷ t.value ∷ []) (sector.end + 1) digits.end d.value fourth d.is (sym d.comma ∙ c) in
               other-more (w.value ∷ o.value ∷ t.value ∷ d.value ∷ []) (digits.end + 1) refl fifth
 
-          values-told : (row : Option Row) → AreValues row worker op sector digits → IfSome row (λ r. w.value ∷ o.value ∷ t.value ∷ d.value ∷ [] ≡ fields_of_row r)
+          values-told : (row : Option Row) → AreValues row worker op sector digits
+              → IfSome row (λ r. w.value ∷ o.value ∷ t.value ∷ d.value ∷ [] ≡ fields_of_row r)
           values-told None h = tt
           values-told (Some r) h =
               let a = rw h.worker at w.told in

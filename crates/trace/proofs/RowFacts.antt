@@ -1,5 +1,6 @@
 -- How the records of a text are read one by one.
-use Rattle.std.proofs.Common.{Bor, ◌≡◌, ℕ, zero, suc, ◌+◌, ◌<◌, Bool, true, false, List, [], ◌∷◌, ◌++◌, length, Option, Some, None, Result, Ok, Err, refl, ap, subst, ◌∙◌, add-one, arith, inl}
+use Rattle.std.proofs.Common.{Bor, ◌≡◌, ℕ, zero, suc, ◌+◌, ◌<◌, Bool, true, false, List, [], ◌∷◌, ◌++◌, length, Option}
+use Rattle.std.proofs.Common.{Some, None, Result, Ok, Err, refl, ap, subst, ◌∙◌, add-one, arith, inl}
 use Rattle.std.specs.Prelude.{◌==◌, ◌||◌, IfOk, OnOk, IsSome, MatchBool, option_map, slice_index_or, if◌then◌else◌}
 use Rattle.csv.specs.Machine.{Read, ends_at_end, field_after, fields_after, in_field, is_end, next_record, start_field, start_record, step}
 use Rattle.csv.specs.Reading.{NextIs, pending_of, ReadRecord, ReadsNext, Ready, default_config, reader_trim, records_from, records_next, took_first}
@@ -73,7 +74,8 @@ same_read q p count e h =
     let same : q ≡ p = cc in
     subst (λ r. Leaves r count) same h
 
-leaves : (s : State) (fields : List (List ℕ)) (field bytes : List ℕ) (p : Read) → next_record default_config s fields field bytes ≡ Some p → Leaves p (length bytes + 1)
+leaves : (s : State) (fields : List (List ℕ)) (field bytes : List ℕ) (p : Read) → next_record default_config s fields field bytes ≡ Some p
+    → Leaves p (length bytes + 1)
 unfolding next_record
 leaves s fields field [] p h = by (ends_at_end s) h
   where
@@ -84,8 +86,10 @@ leaves s fields field (c ∷ rest) p h = by (is_end (step default_config s c).1)
   where
     by : (b : Bool) → is_end (step default_config s c).1 ≡ b
         → (if b then Some (fields_after (step default_config s c).1 fields field, (step default_config s c).0, rest)
-        else next_record default_config (step default_config s c).0 (fields_after (step default_config s c).1 fields field) (field_after (step default_config s c).1 c field) rest) ≡ Some p
-        → (next_record default_config (step default_config s c).0 (fields_after (step default_config s c).1 fields field) (field_after (step default_config s c).1 c field) rest ≡ Some p → Leaves p (length rest + 1))
+        else next_record default_config (step default_config s c).0 (fields_after (step default_config s c).1 fields field)
+        (field_after (step default_config s c).1 c field) rest) ≡ Some p
+        → (next_record default_config (step default_config s c).0 (fields_after (step default_config s c).1 fields field)
+        (field_after (step default_config s c).1 c field) rest ≡ Some p → Leaves p (length rest + 1))
         → Leaves p (length (c ∷ rest) + 1)
     by true e q more = same_read _ p _ q (record { between = ends-between s c e; bytes = omega arith })
     by false e q more = let m = more q in record { between = m.between; bytes = omega arith }
@@ -98,8 +102,10 @@ leaves_less s (c ∷ rest) p e h = by (is_end (step default_config s c).1) refl 
   where
     by : (b : Bool) → is_end (step default_config s c).1 ≡ b
         → (if b then Some (fields_after (step default_config s c).1 [] [], (step default_config s c).0, rest)
-        else next_record default_config (step default_config s c).0 (fields_after (step default_config s c).1 [] []) (field_after (step default_config s c).1 c []) rest) ≡ Some p
-        → (next_record default_config (step default_config s c).0 (fields_after (step default_config s c).1 [] []) (field_after (step default_config s c).1 c []) rest ≡ Some p → Leaves p (length rest + 1))
+        else next_record default_config (step default_config s c).0 (fields_after (step default_config s c).1 [] [])
+        (field_after (step default_config s c).1 c []) rest) ≡ Some p
+        → (next_record default_config (step default_config s c).0 (fields_after (step default_config s c).1 [] [])
+        (field_after (step default_config s c).1 c []) rest ≡ Some p → Leaves p (length rest + 1))
         → Leaves p (length (c ∷ rest))
     by true d q more = same_read _ p _ q (record { between = ends-between s c d; bytes = omega arith })
     by false d q more = let m = more q in record { between = m.between; bytes = omega arith }
@@ -107,15 +113,18 @@ leaves_less s (c ∷ rest) p e h = by (is_end (step default_config s c).1) refl 
 -- ---- the records of a text, one after the other
 
 -- more rounds than bytes find the same records
-pub rounds : (n m : ℕ) (s : State) (bytes : List ℕ) → ends_at_end s ≡ false → length bytes < n → length bytes < m → records_from default_config n s bytes ≡ records_from default_config m s bytes
+pub rounds : (n m : ℕ) (s : State) (bytes : List ℕ) → ends_at_end s ≡ false → length bytes < n → length bytes < m
+    → records_from default_config n s bytes ≡ records_from default_config m s bytes
 unfolding records_from
 rounds zero m s bytes e h k = absurd (omega arith)
 rounds (suc n) zero s bytes e h k = absurd (omega arith)
 rounds (suc n) (suc m) s bytes e h k = by (next_record default_config s [] [] bytes) refl (rounds n m)
   where
     by : (o : Option Read) → next_record default_config s [] [] bytes ≡ o
-        → ((t : State) (rest : List ℕ) → ends_at_end t ≡ false → length rest < n → length rest < m → records_from default_config n t rest ≡ records_from default_config m t rest)
-        → records_next (records_from default_config n) (next_record default_config s [] [] bytes) ≡ records_next (records_from default_config m) (next_record default_config s [] [] bytes)
+        → ((t : State) (rest : List ℕ) → ends_at_end t ≡ false → length rest < n → length rest < m
+        → records_from default_config n t rest ≡ records_from default_config m t rest)
+        → records_next (records_from default_config n) (next_record default_config s [] [] bytes) ≡ records_next (records_from default_config m)
+        (next_record default_config s [] [] bytes)
     by None q more = rw q refl
     by (Some p) q more = let l = leaves_less s bytes p e q in rw q (ap (λ v. p.0 ∷ v) (more p.1 p.2 l.between (omega arith) (omega arith)))
 
@@ -125,7 +134,8 @@ unfolding records_from
 after-none s bytes q = rw (add-one, q) refl
 
 -- the first of those that are left
-pub after-some : (s : State) (bytes : List ℕ) (p : Read) → ends_at_end s ≡ false → next_record default_config s [] [] bytes ≡ Some p → records_after s bytes ≡ p.0 ∷ records_after p.1 p.2
+pub after-some : (s : State) (bytes : List ℕ) (p : Read) → ends_at_end s ≡ false → next_record default_config s [] [] bytes ≡ Some p
+    → records_after s bytes ≡ p.0 ∷ records_after p.1 p.2
 unfolding records_from
 after-some s bytes p e q =
     let l = leaves_less s bytes p e q in
@@ -145,13 +155,16 @@ abbrev held : Bor (List ℕ) → Option (List ℕ)
 held s = Some s.now
 
 -- what a read of a record does, by the record that is next
-takes : (s : State) (bytes : List ℕ) (rest : Option (List ℕ)) (found : Bool) (fields : List (List ℕ)) (t : State) → ends_at_end s ≡ false → ReadsNext default_config s (Some bytes) rest found fields t
-    → (left : List ℕ) × (rest ≡ Some left) × (found ≡ true → ends_at_end t ≡ false) × MatchBool found (records_after s bytes ≡ fields ∷ records_after t left) (records_after s bytes ≡ [])
+takes : (s : State) (bytes : List ℕ) (rest : Option (List ℕ)) (found : Bool) (fields : List (List ℕ)) (t : State) → ends_at_end s ≡ false
+    → ReadsNext default_config s (Some bytes) rest found fields t
+    → (left : List ℕ) × (rest ≡ Some left) × (found ≡ true → ends_at_end t ≡ false)
+    × MatchBool found (records_after s bytes ≡ fields ∷ records_after t left) (records_after s bytes ≡ [])
 takes s bytes None found fields t e h = absurd h
 takes s bytes (Some left) found fields t e h = by (next_record default_config s [] [] bytes) refl h
   where
     by : (o : Option Read) → next_record default_config s [] [] bytes ≡ o → NextIs o found fields t left
-        → (some : List ℕ) × (Some left ≡ Some some) × (found ≡ true → ends_at_end t ≡ false) × MatchBool found (records_after s bytes ≡ fields ∷ records_after t some) (records_after s bytes ≡ [])
+        → (some : List ℕ) × (Some left ≡ Some some) × (found ≡ true → ends_at_end t ≡ false)
+        × MatchBool found (records_after s bytes ≡ fields ∷ records_after t some) (records_after s bytes ≡ [])
     by None q n = (left, refl, (λ f. cc), rw n (after-none s bytes q))
     by (Some p) q n =
         let between : ends_at_end t ≡ false = rw n.2 (leaves_less s bytes p e q).between in
@@ -163,7 +176,8 @@ known_bytes (Some bytes) h = (bytes, refl)
 known_bytes None h = cc h
 
 -- a read of a record takes the first that is left
-takes_one : (old new : Rows) (fields : List (List ℕ)) (found : Bool) → IsReading old → took_first new ≡ true → ReadRecord held old new found fields → TakesNext old new fields found
+takes_one : (old new : Rows) (fields : List (List ℕ)) (found : Bool) → IsReading old → took_first new ≡ true → ReadRecord held old new found fields
+    → TakesNext old new fields found
 takes_one old new fields found h first r =
     let (bytes, here) = known_bytes (unread old) h.known in
     let (left, rest, between, taken) = takes old.state bytes (pending_of (held new.rdr) new) found fields new.state h.between (rw (h.config, here) at r.0) in

@@ -1,5 +1,6 @@
 -- Lines of the usual form, field by field.
-use Rattle.std.proofs.Common.{◌≡◌, ℕ, zero, suc, ◌+◌, ◌-◌, ◌*◌, ◌/◌, ◌%◌, ◌<◌, ◌≤◌, ◌^◌, ◌⊎◌, inl, inr, Bool, true, false, List, [], ◌∷◌, ◌++◌, length, take, drop, get_or, Ok, refl, ap, sym, ◌∙◌, subst, arith, length-drop, get_or-drop}
+use Rattle.std.proofs.Common.{◌≡◌, ℕ, zero, suc, ◌+◌, ◌-◌, ◌*◌, ◌/◌, ◌%◌, ◌<◌, ◌≤◌, ◌^◌, ◌⊎◌, inl, inr, Bool, true, false, List, [], ◌∷◌, ◌++◌}
+use Rattle.std.proofs.Common.{length, take, drop, get_or, Ok, refl, ap, sym, ◌∙◌, subst, arith, length-drop, get_or-drop}
 use Rattle.std.specs.Prelude.{◌==◌, MatchBool, codes}
 use Rattle.std.specs.Char.{digit_value, is_ascii_digit}
 use Rattle.std.specs.Str.{all_ascii_digits}
@@ -89,12 +90,14 @@ more_so_far text start at value next h below digit e =
       small = rw exponent (omega (arith, e, h.small, v.0, v.1));
     }
 
-number_is : (bound n : ℕ) (otherwise : TraceFaultKind) (value : List ℕ) → 0 < length value → length value ≤ 7 → all_ascii_digits value ≡ true → n ≡ digits_value 10 value → n < bound
+number_is : (bound n : ℕ) (otherwise : TraceFaultKind) (value : List ℕ) → 0 < length value → length value ≤ 7 → all_ascii_digits value ≡ true
+    → n ≡ digits_value 10 value → n < bound
     → number_below bound otherwise value ≡ Ok n
 unfolding number_below
 number_is bound n otherwise value some few digits is below = rw (digits, ← is) (grind (arith, some, few, below))
 
-first_digit : (text : List ℕ) (start n : ℕ) → start < length text → 0 < n → all_ascii_digits (take n (drop start text)) ≡ true → is_ascii_digit (get_or text start 0) ≡ true
+first_digit : (text : List ℕ) (start n : ℕ) → start < length text → 0 < n → all_ascii_digits (take n (drop start text)) ≡ true
+    → is_ascii_digit (get_or text start 0) ≡ true
 first_digit text start zero below n h = absurd (omega arith)
 first_digit text start (suc n) below m h =
     (and_parts (is_ascii_digit (get_or text start 0)) _ (rw (drop_more text start 0 below) at h)).0
@@ -117,7 +120,8 @@ number_ends text start at value bound h below some few comma small =
 -- ---- names of ops
 
 -- bytes that are no field's end and a comma behind them
-pub op_there : (text : List ℕ) (start : ℕ) (name : List ℕ) (o : Op) (rest : List ℕ) → start ≤ length text → drop start text ≡ name ++ 44 ∷ rest → begins_with 34 (name ++ 44 ∷ rest) ≡ false
+pub op_there : (text : List ℕ) (start : ℕ) (name : List ℕ) (o : Op) (rest : List ℕ) → start ≤ length text → drop start text ≡ name ++ 44 ∷ rest
+    → begins_with 34 (name ++ 44 ∷ rest) ≡ false
     → Runs default_config st.InField name → op_of name ≡ Ok o → IsOpName text start (record { op = o; end = start + length name })
 op_there text start name o rest h is no_quote runs named =
     let n = length name in
@@ -169,26 +173,31 @@ no_quote_there text start end d feed = elim (cases_lt start end) [
 -- ---- data
 
 -- digits join a field, and an even number of them that a page has room for makes it
-pub data_there : (text : List ℕ) (start end size : ℕ) (o : Op) → (o ≡ op.Write) ⊎ (o ≡ op.New) → EndsDigits text start end → begins_with 10 (drop end text) ≡ true
+pub data_there : (text : List ℕ) (start end size : ℕ) (o : Op) → (o ≡ op.Write) ⊎ (o ≡ op.New) → EndsDigits text start end
+    → begins_with 10 (drop end text) ≡ true
     → (end - start) % 2 ≡ 0 → (end - start) / 2 ≤ size → IsUsualData text start o size end
 data_there text start end size o writes d feed even few =
     let there : start + (end - start) ≡ end = omega (arith, d.low) in
     let joins : Joins st.InField text start end = subst (λ k. Joins st.InField text start k) there
-    (plain-run text start start (end - start) (joins-none st.InField text start (omega (arith, d.low, d.high))) (omega (arith, d.low, d.high)) (λ k from to. hex_joins (get_or text k 0) (d.digits k from (omega (arith, d.low))))) in
+    (plain-run text start start (end - start) (joins-none st.InField text start (omega (arith, d.low, d.high))) (omega (arith, d.low, d.high))
+    (λ k from to. hex_joins (get_or text k 0) (d.digits k from (omega (arith, d.low))))) in
     let ends : EndsPlain text start end = record { joins = joins; stops = ap ends_field (begins 10 (drop end text) feed) } in
     let long : length (part text start end) ≡ end - start = length-take-le (end - start) (drop start text) (omega (arith, length-drop start text, d.high)) in
-    let pairs = pairs_are (part text start end) (ap (λ n. n % 2) long ∙ even) (λ k below. ap is_hex_digit (get_or-part text start end k (omega (arith, long))) ∙ d.digits (start + k) (omega arith) (omega (arith, long, d.low))) in
+    let pairs = pairs_are (part text start end) (ap (λ n. n % 2) long ∙ even)
+    (λ k below. ap is_hex_digit (get_or-part text start end k (omega (arith, long))) ∙ d.digits (start + k) (omega arith) (omega (arith, long, d.low))) in
     record {
       field = plain-field text start end (no_quote_there text start end d feed) ends;
       feed = feed;
       made = λ worker sector. makes_write size o worker sector (part text start end) writes pairs (omega (arith, long, few));
     }
 
-pub data_none_there : (text : List ℕ) (start size : ℕ) (o : Op) → (o ≡ op.Read) ⊎ (o ≡ op.Trim) → start ≤ length text → begins_with 10 (drop start text) ≡ true → IsUsualData text start o size start
+pub data_none_there : (text : List ℕ) (start size : ℕ) (o : Op) → (o ≡ op.Read) ⊎ (o ≡ op.Trim) → start ≤ length text
+    → begins_with 10 (drop start text) ≡ true → IsUsualData text start o size start
 data_none_there text start size o kinds h feed =
     let none : start - start ≡ 0 = omega arith in
     record {
-      field = plain-field text start start (ap (begins_with 34) (begins 10 (drop start text) feed)) (record { joins = joins-none st.InField text start h; stops = ap ends_field (begins 10 (drop start text) feed) });
+      field = plain-field text start start (ap (begins_with 34) (begins 10 (drop start text) feed))
+          (record { joins = joins-none st.InField text start h; stops = ap ends_field (begins 10 (drop start text) feed) });
       feed = feed;
       made = λ worker sector. makes_none size o worker sector (part text start start) kinds (rw none refl);
     }
@@ -200,7 +209,8 @@ line_lines : (text : List ℕ) (at start : ℕ) → at ≤ length text → start
 line_lines text at start h below digit s = by (begins_with 10 (drop at text)) refl s.is
   where
     by : (b : Bool) → begins_with 10 (drop at text) ≡ b → MatchBool b (start ≡ at + 1) (start ≡ at) → records_of (drop at text) ≡ lines_of (drop start text)
-    by true e is = ap records_of (begins 10 (drop at text) e) ∙ sym (lf_records (drop 1 (drop at text))) ∙ ap lines_of (behind at text) ∙ ap (λ k. lines_of (drop k text)) (sym is)
+    by true e is = ap records_of (begins 10 (drop at text) e) ∙ sym (lf_records (drop 1 (drop at text))) ∙ ap lines_of (behind at text)
+        ∙ ap (λ k. lines_of (drop k text)) (sym is)
     by false e is =
         let first = drop_more text start 0 below in
         let strips : strip_bom (drop start text) ≡ drop start text =
@@ -215,7 +225,8 @@ digit_starts text start below digit =
     record {
       low = omega arith;
       high = omega arith;
-      same = record-begins (drop start text) (omega (arith, length-drop start text)) (ap ends_no_line first ∙ rw (digit_is_none c 13 digit refl, digit_is_none c 10 digit refl) refl);
+      same = record-begins (drop start text) (omega (arith, length-drop start text))
+          (ap ends_no_line first ∙ rw (digit_is_none c 13 digit refl, digit_is_none c 10 digit refl) refl);
     }
 
 feed_no_comma : (xs : List ℕ) → begins_with 10 xs ≡ true → begins_with 44 xs ≡ false
@@ -223,7 +234,8 @@ feed_no_comma xs h = ap (begins_with 44) (begins 10 xs h)
 
 module _ (geo : Geometry) (text : List ℕ) (at start : ℕ) (h : at ≤ length text) (s : IsLineStart text at start)
     (worker : Number) (w : IsNumber text start (workers_of geo) worker) (name : OpName) (o : IsOpName text (worker.end + 1) name)
-    (sector : Number) (t : IsNumber text (name.end + 1) (sectors_of geo) sector) (end : ℕ) (d : IsUsualData text (sector.end + 1) name.op (page_bytes_of geo) end) where
+    (sector : Number) (t : IsNumber text (name.end + 1) (sectors_of geo) sector) (end : ℕ)
+    (d : IsUsualData text (sector.end + 1) name.op (page_bytes_of geo) end) where
   abbrev worker_text : List ℕ
   worker_text = part text start worker.end
 
@@ -262,7 +274,8 @@ module _ (geo : Geometry) (text : List ℕ) (at start : ℕ) (h : at ≤ length 
   usual_is small fits size =
       let made = d.made worker.value sector.value in
       let few = few_digits (page_bytes_of geo) name.op digits made.fits in
-      let long : length digits ≡ end - (sector.end + 1) = length-take-le (end - (sector.end + 1)) (drop (sector.end + 1) text) (omega (arith, length-drop (sector.end + 1) text, d.field.high)) in
+      let long : length digits ≡ end - (sector.end + 1) =
+      length-take-le (end - (sector.end + 1)) (drop (sector.end + 1) text) (omega (arith, length-drop (sector.end + 1) text, d.field.high)) in
       record {
         low = omega (arith, start_low, w.ends.field.low, o.ends.field.low, t.ends.field.low, d.field.low);
         order = d.field.low;

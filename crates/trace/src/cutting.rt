@@ -3,7 +3,8 @@
 
 ghost use Rattle.std.specs.Prelude.{◌≡◌, ◌≤◌, length, drop, true};
 ghost use Rattle.csv.specs.declared.parser.State.TheVariants.{InField};
-ghost use Rattle.trace.specs.Cutting.{CutsField, IsCut, EndsField, EndsPlain, EndsQuoted, IsMarkEnd, Joins, StartsRecord, begins_with, is_field_end, is_line_end, AreValues};
+ghost use Rattle.trace.specs.Cutting.{CutsField, IsCut, EndsField, EndsPlain, EndsQuoted, IsMarkEnd, Joins};
+ghost use Rattle.trace.specs.Cutting.{StartsRecord, begins_with, is_field_end, is_line_end, AreValues};
 
 use crate::lanes::{LANES, field_run};
 

@@ -5,7 +5,8 @@ ghost use Rattle.trace.specs.Cutting.{StandsBefore, fields_of_row};
 ghost use Rattle.trace.specs.Drafting.{IsChecked, IsDraft, MakePage};
 ghost use Rattle.trace.specs.Parsing.{Adds, AreSoFar, RefusesBy, fault_at};
 ghost use Rattle.trace.specs.Stored.{AreKept, drafted};
-ghost use Rattle.trace.specs.Trace.{AreCommands, IsFirstFault, checked, command_of, commands_of, is_of_record, number_below, op_of, page_of, whole_fault, workers_of};
+ghost use Rattle.trace.specs.Trace.{AreCommands, IsFirstFault, checked, command_of, commands_of, is_of_record};
+ghost use Rattle.trace.specs.Trace.{number_below, op_of, page_of, whole_fault, workers_of};
 ghost use Rattle.trace.specs.declared.fault.TraceFaultKind.TheVariants.{Memory};
 
 use crate::commands::{Commands, Op};

@@ -1,5 +1,6 @@
 -- Two hosts that make one call each: whichever is first, the sectors are the same.
-use Rattle.std.proofs.Common.{◌≡◌, ℕ, zero, suc, ◌<◌, ◌++◌, ◌⊎◌, inl, inr, ⊎_elim, eq-eqb, ne_eqb, List, [], ◌∷◌, Some, length, slice_get, get_or, sym, refl, ap, ◌∙◌, subst, arith}
+use Rattle.std.proofs.Common.{◌≡◌, ℕ, zero, suc, ◌<◌, ◌++◌, ◌⊎◌, inl, inr, ⊎_elim, eq-eqb, ne_eqb, List, [], ◌∷◌}
+use Rattle.std.proofs.Common.{Some, length, slice_get, get_or, sym, refl, ap, ◌∙◌, subst, arith}
 use Rattle.std.specs.Prelude.{All}
 use Rattle.std.proofs.Math.ListN.{set}
 use Rattle.std.proofs.lemmas.List.Elements.{All-head, All-tail}
@@ -22,7 +23,8 @@ use Rattle.host.specs.Told.{Wrote}
 use Rattle.volume.specs.Closing.{AreAll, AreFinal}
 
 -- the one call of a host, where the other one has none
-only : (h : List Call) (t u : ℕ) (y : Call) → ¬ (t ≡ u) → ((k : ℕ) → k < 2 → (k ≡ t) ⊎ (k ≡ u)) → All (λ c. caller c < 2) h → calls_of t h ≡ y ∷ [] → calls_of u h ≡ [] → h ≡ y ∷ []
+only : (h : List Call) (t u : ℕ) (y : Call) → ¬ (t ≡ u) → ((k : ℕ) → k < 2 → (k ≡ t) ⊎ (k ≡ u)) → All (λ c. caller c < 2) h → calls_of t h ≡ y ∷ []
+    → calls_of u h ≡ [] → h ≡ y ∷ []
 only [] t u y apart both low one none = absurd (cc)
 only (c ∷ h) t u y apart both low one none =
     let rest = All-tail (λ x. caller x < 2) c h low in
@@ -33,7 +35,8 @@ only (c ∷ h) t u y apart both low one none =
     let last : calls_of u h ≡ [] = rw (ne_eqb (caller c) u other) at none in
     let is : c ≡ y = (cc) in
     let no_more : calls_of t h ≡ [] = (cc) in
-    let nothing : h ≡ [] = nobody 2 h rest (λ k below. ⊎_elim (λ (same : k ≡ t). ap (λ n. calls_of n h) same ∙ no_more) (λ (same : k ≡ u). ap (λ n. calls_of n h) same ∙ last) (both k below)) in
+    let nothing : h ≡ [] = nobody 2 h rest
+    (λ k below. ⊎_elim (λ (same : k ≡ t). ap (λ n. calls_of n h) same ∙ no_more) (λ (same : k ≡ u). ap (λ n. calls_of n h) same ∙ last) (both k below)) in
     λ i. is i ∷ nothing i)
     (λ (theirs : caller c ≡ u). let some : c ∷ calls_of u h ≡ [] = rw (eq-eqb (caller c) u theirs) at none in absurd (cc))
     (both (caller c) (All-head (λ x. caller x < 2) c h low))
@@ -45,7 +48,8 @@ one_or_zero : (k : ℕ) → k < 2 → (k ≡ 1) ⊎ (k ≡ 0)
 one_or_zero k below = dite (ℕ_discrete k 1) (λ same. inl same) (λ other. inr (omega arith))
 
 -- the calls of two hosts, one each, in one order or the other
-pub in_some_order : (h : List Call) (x y : Call) → All (λ c. caller c < 2) h → calls_of 0 h ≡ x ∷ [] → calls_of 1 h ≡ y ∷ [] → (h ≡ x ∷ y ∷ []) ⊎ (h ≡ y ∷ x ∷ [])
+pub in_some_order : (h : List Call) (x y : Call) → All (λ c. caller c < 2) h → calls_of 0 h ≡ x ∷ [] → calls_of 1 h ≡ y ∷ []
+    → (h ≡ x ∷ y ∷ []) ⊎ (h ≡ y ∷ x ∷ [])
 in_some_order [] x y low one two = absurd (cc)
 in_some_order (c ∷ h) x y low one two =
     let rest = All-tail (λ z. caller z < 2) c h low in
@@ -69,7 +73,8 @@ in_some_order (c ∷ h) x y low one two =
     (zero_or_one (caller c) (All-head (λ z. caller z < 2) c h low))
 
 -- a write to sector 0 by one host and a write to sector 1 by the other
-pub both_stay : (h : List Call) (first second : List ℕ) → All (λ c. caller c < 2) h → calls_of 0 h ≡ Write 0 0 first ∷ [] → calls_of 1 h ≡ Write 1 1 second ∷ [] → after 2 h ≡ Some first ∷ Some second ∷ []
+pub both_stay : (h : List Call) (first second : List ℕ) → All (λ c. caller c < 2) h → calls_of 0 h ≡ Write 0 0 first ∷ []
+    → calls_of 1 h ≡ Write 1 1 second ∷ [] → after 2 h ≡ Some first ∷ Some second ∷ []
 both_stay h first second low one two =
     ⊎_elim
     (λ (e : h ≡ Write 0 0 first ∷ Write 1 1 second ∷ []). ap (after 2) e)
@@ -85,7 +90,8 @@ module _ (f : Flash) where
   first_ready [] x long new is = absurd (omega (arith, long))
   first_ready (p ∷ xs) x long new is = subst (λ q. (view_of q ≡ first_view (device f) 0) × IsReady f q) (sym is) (new 0 p refl)
 
-  pub second_ready : (xs : List Pass) (p' x : Pass) → length xs ≡ 2 → AreNew f xs → x ≡ get_or (set xs 0 p') 1 x → (view_of x ≡ first_view (device f) 1) × IsReady f x
+  pub second_ready : (xs : List Pass) (p' x : Pass) → length xs ≡ 2 → AreNew f xs → x ≡ get_or (set xs 0 p') 1 x
+      → (view_of x ≡ first_view (device f) 1) × IsReady f x
   second_ready [] p' x long new is = absurd (omega (arith, long))
   second_ready (p ∷ []) p' x long new is = absurd (omega (arith, long))
   second_ready (p ∷ q ∷ xs) p' x long new is = subst (λ r. (view_of r ≡ first_view (device f) 1) × IsReady f r) (sym is) (new 1 q refl)
@@ -102,10 +108,13 @@ module _ (f : Flash) where
   both_ready (x ∷ y ∷ z ∷ xs) p q long h h' = absurd (omega (arith, long))
 
   -- each has written its sector: the sectors are both values
-  pub both_values : (xs : List Pass) (a b p q : Pass) (first second : List ℕ) (was was' : Was) (seen : List Call) (sectors : List Sector) → length xs ≡ 2 → hosts_of (geometry_of f) ≡ 2 → sectors_of (geometry_of f) ≡ 2
+  pub both_values : (xs : List Pass) (a b p q : Pass) (first second : List ℕ) (was was' : Was) (seen : List Call) (sectors : List Sector)
+      → length xs ≡ 2 → hosts_of (geometry_of f) ≡ 2 → sectors_of (geometry_of f) ≡ 2
       → view_of a ≡ first_view (device f) 0 → view_of b ≡ first_view (device f) 1
-      → ((t : ℕ) → (view_of a).role ≡ Player (APass t) → Wrote (view_of a) t 0 first was (view_of p)) → ((t : ℕ) → (view_of b).role ≡ Player (APass t) → Wrote (view_of b) t 1 second was' (view_of q))
-      → (AreAll (hosts_of (geometry_of f)) (set (set xs 0 p) 1 q) → AreFinal (device f) (set (set xs 0 p) 1 q) seen sectors) → sectors ≡ Some first ∷ Some second ∷ []
+      → ((t : ℕ) → (view_of a).role ≡ Player (APass t) → Wrote (view_of a) t 0 first was (view_of p))
+      → ((t : ℕ) → (view_of b).role ≡ Player (APass t) → Wrote (view_of b) t 1 second was' (view_of q))
+      → (AreAll (hosts_of (geometry_of f)) (set (set xs 0 p) 1 q) → AreFinal (device f) (set (set xs 0 p) 1 q) seen sectors)
+      → sectors ≡ Some first ∷ Some second ∷ []
   both_values [] a b p q first second was was' seen sectors long hosts count new new' wrote wrote' final = absurd (omega (arith, long))
   both_values (x ∷ []) a b p q first second was was' seen sectors long hosts count new new' wrote wrote' final = absurd (omega (arith, long))
   both_values (x ∷ y ∷ z ∷ xs) a b p q first second was was' seen sectors long hosts count new new' wrote wrote' final = absurd (omega (arith, long))
@@ -125,4 +134,5 @@ module _ (f : Flash) where
       (zero_or_one t (omega (arith, low, hosts))) in
       let end : AreFinal (device f) (p ∷ q ∷ []) seen sectors = final all in
       let callers : All (λ c. caller c < 2) end.history = subst (λ n. All (λ c. caller c < n) end.history) hosts end.callers in
-      end.array ∙ (ap (λ n. after n end.history) count ∙ both_stay end.history first second callers (end.own 0 p (0, refl) is ∙ mine) (end.own 1 q (1, refl) is' ∙ mine'))
+      end.array ∙ (ap (λ n. after n end.history) count
+      ∙ both_stay end.history first second callers (end.own 0 p (0, refl) is ∙ mine) (end.own 1 q (1, refl) is' ∙ mine'))

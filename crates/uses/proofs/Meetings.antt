@@ -17,7 +17,8 @@ use Rattle.host.specs.Told.{Wrote, Refused, MetTold}
 use Rattle.uses.specs.Sharing.{IsStored, HasHeard}
 
 -- what a pass has called when it has written, or not
-mine_after : (v : View) (t s : ℕ) (value : List ℕ) (done way : Bool) → done ≡ way → v.mine ++ (if way then Write t s value ∷ [] else []) ≡ v.mine ++ (if done then Write t s value ∷ [] else [])
+mine_after : (v : View) (t s : ℕ) (value : List ℕ) (done way : Bool) → done ≡ way
+    → v.mine ++ (if way then Write t s value ∷ [] else []) ≡ v.mine ++ (if done then Write t s value ∷ [] else [])
 mine_after v t s value done way is = ap (λ (d : Bool). v.mine ++ (if d then Write t s value ∷ [] else [])) (sym is)
 
 -- either outcome of a write

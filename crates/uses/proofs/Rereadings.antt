@@ -8,7 +8,8 @@ use Rattle.volume.specs.Correct.{Correct, Read, Write, Found, Replaced, known_by
 use Rattle.uses.specs.Rereading.{IsReadBehind}
 
 -- two steps of one pass, one after the other
-pub read_behind : (n t s : ℕ) (value : List ℕ) (was : Was) (got : Got) (old new : List ℕ) (v w x : View) → Correct n t (Write s value) (Replaced was) (known_by v) (known_by w)
+pub read_behind : (n t s : ℕ) (value : List ℕ) (was : Was) (got : Got) (old new : List ℕ) (v w x : View)
+    → Correct n t (Write s value) (Replaced was) (known_by v) (known_by w)
     → Correct n t (Read s) (Found got old new) (known_by w) (known_by x) → IsReadBehind n t s value v got old new
 read_behind n t s value was got old new v w x wrote read =
     record {

@@ -21,7 +21,8 @@ pub fn two_writers(
     requires hosts { hosts_of (geometry_of (flash_of volume)) ≡ 2 }
     requires sectors { sectors_of (geometry_of (flash_of volume)) ≡ 2 }
     requires count { length passes.items ≡ 2 }
-    requires new { (t : ℕ) (p : Pass) → slice_get passes.items t ≡ Some p → (view_of p ≡ first_view (device (flash_of volume)) t) × IsReady (flash_of volume) p }
+    requires new { (t : ℕ) (p : Pass) → slice_get passes.items t ≡ Some p → (view_of p ≡ first_view (device (flash_of volume)) t)
+        × IsReady (flash_of volume) p }
     requires first { length first.now ≡ page_bytes_of (geometry_of (flash_of volume)) }
     requires second { length second.now ≡ page_bytes_of (geometry_of (flash_of volume)) }
     ensures both { IfOk result (λ closed. sectors_left closed ≡ Some first.now ∷ Some second.now ∷ []) }

@@ -22,7 +22,9 @@ pub fn write_and_read(
     requires out { length out.old ≡ page_bytes_of (geometry_of (flash_of volume.now)) }
 
     // What is read is what the sector held when the value was written, or later.
-    ensures behind { IfOk result (λ got. (t : ℕ) → HasNumber t pass.old → IsReadBehind (sectors_of (geometry_of (flash_of volume.now))) t sector value.now (view_of pass.old) got out.old out.new) }
+    ensures behind { IfOk result
+        (λ got. (t : ℕ) → HasNumber t pass.old
+        → IsReadBehind (sectors_of (geometry_of (flash_of volume.now))) t sector value.now (view_of pass.old) got out.old out.new) }
     ensures pass { IsReady (flash_of volume.now) pass.new }
 {
     volume.write(pass, sector, value)?;

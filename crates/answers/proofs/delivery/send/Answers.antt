@@ -12,6 +12,7 @@ loop-rest-preserved g c =
     let now = g.W.Write.contents (inner_of c.write.new.self) in
     let rest = c.loop-rest.rest.now in (
       subst (λ waiting. IsUnderWay was now waiting c.args.bytes.now) (sym (take_rest rest c.in-Ok.taken))
-          (IsUnderWay-take was (g.W.Write.contents (inner_of c.loop-rest.writer)) now rest c.args.bytes.now c.in-Ok.taken c.loop-rest.invariant.0 c.in-Ok.ensures.bytes),
+          (IsUnderWay-take was (g.W.Write.contents (inner_of c.loop-rest.writer)) now rest c.args.bytes.now c.in-Ok.taken c.loop-rest.invariant.0
+          c.in-Ok.ensures.bytes),
       grind (arith, nat_tests, c.in-Ok.ensures.count, c.loop-rest.invariant.1),
     )

@@ -16,7 +16,8 @@ returns-clause-playable g c =
 
 pub returns-clause-commands : goal.returns-clause-commands
 returns-clause-commands g c =
-    commands_held (g.R.Read.remaining (inner_of c.args.reader.now)) c.in_ok-text.text.items c.args.geometry.now c.parse_owned.result c.in_ok-text.ensures.bytes c.parse_owned.ensures.commands
+    commands_held (g.R.Read.remaining (inner_of c.args.reader.now)) c.in_ok-text.text.items c.args.geometry.now c.parse_owned.result
+    c.in_ok-text.ensures.bytes c.parse_owned.ensures.commands
 
 pub returns-clause-why : goal.returns-clause-why
 returns-clause-why g c = search rules

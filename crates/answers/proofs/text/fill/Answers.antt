@@ -1,5 +1,7 @@
 use Rattle.answers.proofs.Numbers.{filled_one, filled_two, filled_three, filled_four}
-use Rattle.answers.proofs.text.fill.Goals.{then-number-lt10, else-number-lt10+then-number-lt100, else-number-lt10+else-number-lt100+then-number-lt1000, else-number-lt10+else-number-lt100+else-number-lt1000}
+use Rattle.answers.proofs.text.fill.Goals.{then-number-lt10, else-number-lt10+then-number-lt100}
+use Rattle.answers.proofs.text.fill.Goals.{else-number-lt10+else-number-lt100+then-number-lt1000}
+use Rattle.answers.proofs.text.fill.Goals.{else-number-lt10+else-number-lt100+else-number-lt1000}
 use Rattle.answers.proofs.text.fill.Goals as goal
 
 pub returns-clause-digits : goal.returns-clause-digits

@@ -24,7 +24,8 @@ returns-then-from-to c =
     ∙ (sym (slot-front n below above c.args.from (omega (arith, before, cut.front_len)))
     ∙ ap (λ (xs : List ℕ). slot n xs c.args.from) (sym cut.value))) in
     let size : length s ≡ n =
-    ap (λ (xs : List ℕ). length xs) page ∙ length-take-le n (drop (c.args.from * n) bytes) (omega (arith, c.requires.from_within, length-drop (c.args.from * n) bytes)) in
+    ap (λ (xs : List ℕ). length xs) page
+    ∙ length-take-le n (drop (c.args.from * n) bytes) (omega (arith, c.requires.from_within, length-drop (c.args.from * n) bytes)) in
     let written : below ++ (s ++ drop n above) ≡ paste bytes at s n =
     ap (λ (xs : List ℕ). xs ++ (s ++ drop n above)) cut.front
     ∙ (ap (λ (xs : List ℕ). take at bytes ++ (s ++ drop n xs)) cut.back ∙ paste-above bytes at n s size) in

@@ -7,8 +7,13 @@ pub loop-handle-init : goal.loop-handle-init
 loop-handle-init c = (λ k d low within. absurd (omega (arith, low)), refl)
 
 pub loop-handle-preserved : goal.loop-handle-preserved
-loop-handle-preserved c =
-    (closes_next c.loop-handle.handles c.loop-handle.handle-index c.take.new.self (let low = c.loop-handle-test.true in let same = c.loop-handle.invariant.1 in omega (arith, low, same)) c.take.ensures.closed c.loop-handle.invariant.0, length-set c.loop-handle.handles c.loop-handle.handle-index c.take.new.self ∙ c.loop-handle.invariant.1)
+loop-handle-preserved c = (
+  closes_next c.loop-handle.handles c.loop-handle.handle-index c.take.new.self
+      (let low = c.loop-handle-test.true in let same = c.loop-handle.invariant.1 in omega (arith, low, same)) c.take.ensures.closed
+      c.loop-handle.invariant.0,
+  length-set c.loop-handle.handles c.loop-handle.handle-index c.take.new.self ∙ c.loop-handle.invariant.1,
+)
 
 pub returns-clause-closed : goal.returns-clause-closed
-returns-clause-closed c k d low = c.loop-handle.invariant.0 k d (let past = c.loop-handle-test.false in let same = c.loop-handle.invariant.1 in omega (arith, past, low, same)) low
+returns-clause-closed c k d low =
+    c.loop-handle.invariant.0 k d (let past = c.loop-handle-test.false in let same = c.loop-handle.invariant.1 in omega (arith, past, low, same)) low

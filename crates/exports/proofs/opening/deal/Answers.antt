@@ -4,4 +4,6 @@ use Rattle.exports.proofs.Dealing.{now_fresh}
 use Rattle.exports.proofs.opening.deal.Goals as goal
 
 pub returns-clause-fresh : goal.returns-clause-fresh
-returns-clause-fresh c _ = now_fresh _ _ _ _ (ap numbers_of c.in-Ok-new.ensures.ok ∙ c.in-Ok.ensures.geometry) (c.if-not-seat_hosts.ensures.seated refl) (c.if-not-seat_brooms.ensures.seated refl)
+returns-clause-fresh c _ =
+    now_fresh _ _ _ _ (ap numbers_of c.in-Ok-new.ensures.ok ∙ c.in-Ok.ensures.geometry) (c.if-not-seat_hosts.ensures.seated refl)
+    (c.if-not-seat_brooms.ensures.seated refl)

@@ -4,7 +4,10 @@ use Rattle.volume.specs.Brooms.{IsBroomReady}
 use Rattle.exports.proofs.opening.retire_brooms.Goals as goal
 
 pub retire_broom-requires : goal.retire_broom-requires
-retire_broom-requires c = (All-pop (IsBroomReady c.args.volume.now) c.loop-broom.brooms.items c.pop.new.self.items (Some c.in-Some.broom) c.in-Some.ensures.items c.loop-broom.invariant).1
+retire_broom-requires c =
+    (All-pop (IsBroomReady c.args.volume.now) c.loop-broom.brooms.items c.pop.new.self.items
+    (Some c.in-Some.broom) c.in-Some.ensures.items c.loop-broom.invariant).1
 
 pub loop-broom-preserved : goal.loop-broom-preserved
-loop-broom-preserved c = (All-pop (IsBroomReady c.args.volume.now) c.loop-broom.brooms.items c.pop.new.self.items (Some c.in-Some.broom) c.in-Some.ensures.items c.loop-broom.invariant).0
+loop-broom-preserved c = (All-pop (IsBroomReady c.args.volume.now) c.loop-broom.brooms.items c.pop.new.self.items
+    (Some c.in-Some.broom) c.in-Some.ensures.items c.loop-broom.invariant).0

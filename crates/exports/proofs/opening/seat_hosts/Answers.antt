@@ -11,6 +11,8 @@ loop-pass-smaller c = fewer c.loop-pass.passes.items c.pop.new.self.items c.in-S
 
 pub loop-pass-preserved : goal.loop-pass-preserved
 loop-pass-preserved c =
-    let Ready = IsReady (flash_of (arc_value c.args.volume.now)) in let First = IsFirstPass (arc_value c.args.volume.now) in let Fresh = IsFreshHost (arc_value c.args.volume.now) in
+    let Ready = IsReady (flash_of (arc_value c.args.volume.now)) in let First = IsFirstPass (arc_value c.args.volume.now) in
+    let Fresh = IsFreshHost (arc_value c.args.volume.now) in
     let first = (taken_first Ready First Fresh _ _ _ _ _ c.in-Some.ensures.items c.loop-pass.invariant).1 in
-    deal_goes_on Ready First Fresh _ _ _ _ _ c.in-Some.ensures.items c.loop-pass.invariant c.len-at.result c.seat_host.new.handle (c.len-at.ensures ∙ c.pop.new.self.ok.0) (c.in-Some.pass, first, c.if-not-seat_host.ensures.seated refl)
+    deal_goes_on Ready First Fresh _ _ _ _ _ c.in-Some.ensures.items c.loop-pass.invariant c.len-at.result c.seat_host.new.handle
+    (c.len-at.ensures ∙ c.pop.new.self.ok.0) (c.in-Some.pass, first, c.if-not-seat_host.ensures.seated refl)

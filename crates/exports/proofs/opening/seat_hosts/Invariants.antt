@@ -7,7 +7,8 @@ use Rattle.exports.proofs.Dealing.{DealsOn}
 use Rattle.exports.proofs.opening.seat_hosts.Given as goal
 
 abbrev pub invariant-loop-pass : goal.invariant-loop-pass
-invariant-loop-pass l = DealsOn (IsReady (flash_of (arc_value l.volume))) (IsFirstPass (arc_value l.volume)) (IsFreshHost (arc_value l.volume)) l.passes.items l.handles (length l.fn.handles)
+invariant-loop-pass l = DealsOn (IsReady (flash_of (arc_value l.volume))) (IsFirstPass (arc_value l.volume))
+    (IsFreshHost (arc_value l.volume)) l.passes.items l.handles (length l.fn.handles)
 
 abbrev pub decreases-loop-pass : goal.decreases-loop-pass
 decreases-loop-pass l = length l.passes.items

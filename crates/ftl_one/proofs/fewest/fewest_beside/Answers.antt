@@ -13,8 +13,10 @@ returns-then-place-below c =
     let counts = c.args.counts.now in
     let fits : (k : ℕ) → get_or counts k 0 ≤ 65535 = λ k. omega (arith, (c.type_inv.counts k).fits) in
     let above = subst (λ (xs : List ℕ). IsLeast xs (length xs) c.least_of-2.result) (rest counts (c.args.left_out + 1)) c.least_of-2.ensures in
-    fewest_below counts c.args.left_out c.least_of.result c.least_of-2.result c.min-least.result c.requires.left_out c.requires.others fits c.least_of.ensures above
-    (omega (arith, c.min-least.ensures), omega (arith, c.min-least.ensures)) (min_either c.least_of.result c.least_of-2.result c.min-least.result c.min-least.ensures)
+    fewest_below counts c.args.left_out c.least_of.result c.least_of-2.result c.min-least.result c.requires.left_out c.requires.others fits
+    c.least_of.ensures above
+    (omega (arith, c.min-least.ensures), omega (arith, c.min-least.ensures))
+    (min_either c.least_of.result c.least_of-2.result c.min-least.result c.min-least.ensures)
     c.first_of-place.result c.if-place-below.true c.first_of-place.ensures
 
 pub returns : goal.returns
@@ -23,6 +25,8 @@ returns c =
     let fits : (k : ℕ) → get_or counts k 0 ≤ 65535 = λ k. omega (arith, (c.type_inv.counts k).fits) in
     let above = subst (λ (xs : List ℕ). IsLeast xs (length xs) c.least_of-2.result) (rest counts (c.args.left_out + 1)) c.least_of-2.ensures in
     let first = subst (λ (xs : List ℕ). IsFirst xs c.min-least.result c.first_of.result) (rest counts (c.args.left_out + 1)) c.first_of.ensures in
-    fewest_above counts c.args.left_out c.least_of.result c.least_of-2.result c.min-least.result c.requires.left_out c.requires.others fits c.least_of.ensures above
-    (omega (arith, c.min-least.ensures), omega (arith, c.min-least.ensures)) (min_either c.least_of.result c.least_of-2.result c.min-least.result c.min-least.ensures)
+    fewest_above counts c.args.left_out c.least_of.result c.least_of-2.result c.min-least.result c.requires.left_out c.requires.others fits
+    c.least_of.ensures above
+    (omega (arith, c.min-least.ensures), omega (arith, c.min-least.ensures))
+    (min_either c.least_of.result c.least_of-2.result c.min-least.result c.min-least.ensures)
     c.first_of-place.result c.first_of.result c.if-place-below.false c.first_of-place.ensures first

@@ -13,8 +13,10 @@ rest roles from = take_all (length roles - from) (drop from roles) (omega (arith
 pub returns-in_err-ahead : goal.returns-in_err-ahead
 returns-in_err-ahead c =
     rw c.from_residual.ensures
-    (sym (position_from-none c.args.roles.now c.args.from c.requires.within c.requires.none_below (ap (position is_free) (sym (rest c.args.roles.now c.args.from)) ∙ (sym c.first_free.ensures ∙ c.in_err-ahead.was))))
+    (sym (position_from-none c.args.roles.now c.args.from c.requires.within c.requires.none_below
+    (ap (position is_free) (sym (rest c.args.roles.now c.args.from)) ∙ (sym c.first_free.ensures ∙ c.in_err-ahead.was))))
 
 pub returns : goal.returns
 returns c =
-    sym (position_from c.args.roles.now c.args.from c.requires.within c.requires.none_below c.in_ok-ahead.ahead (ap (position is_free) (sym (rest c.args.roles.now c.args.from)) ∙ (sym c.first_free.ensures ∙ c.in_ok-ahead.was)))
+    sym (position_from c.args.roles.now c.args.from c.requires.within c.requires.none_below c.in_ok-ahead.ahead
+    (ap (position is_free) (sym (rest c.args.roles.now c.args.from)) ∙ (sym c.first_free.ensures ∙ c.in_ok-ahead.was)))

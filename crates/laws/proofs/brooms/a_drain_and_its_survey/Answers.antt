@@ -52,8 +52,10 @@ returns-clause-no_queue c x y h = h
 pub returns-clause-restocked : goal.returns-clause-restocked
 returns-clause-restocked c x y h =
     ⊎_elim
-    (λ (had : HadSpare (view_of_broom x) (blocks_of_broom x) (view_of_broom y) (blocks_of_broom y)). (had.spare.0, ap (λ (k : BroomBlocks). k.spare) had.blocks ∙ had.spare.1))
-    (λ (did : DidRestock (view_of_broom x) (blocks_of_broom x) (view_of_broom y) (blocks_of_broom y)). (fresh_block did.block did.generation, ap (λ (k : BroomBlocks). k.spare) did.blocks))
+    (λ (had : HadSpare (view_of_broom x) (blocks_of_broom x) (view_of_broom y) (blocks_of_broom y)).
+    (had.spare.0, ap (λ (k : BroomBlocks). k.spare) had.blocks ∙ had.spare.1))
+    (λ (did : DidRestock (view_of_broom x) (blocks_of_broom x) (view_of_broom y) (blocks_of_broom y)).
+    (fresh_block did.block did.generation, ap (λ (k : BroomBlocks). k.spare) did.blocks))
     h
 
 pub returns-clause-found_none : goal.returns-clause-found_none

@@ -10,13 +10,15 @@ use Rattle.player.specs.declared.stop.Stop.TheVariants as stop
 use Rattle.laws.proofs.Statuses.{of_run, of_stop}
 use Rattle.laws.proofs.sessions.ends_of_a_session.Goals as goal
 
-well : (ending : Result (Unit {0}) Stop) (words : List Text) (i o e : Passage) (f : Filings) → 0 ≡ status_after ending → Explains ending words i o f → TellsEnding ending e
+well : (ending : Result (Unit {0}) Stop) (words : List Text) (i o e : Passage) (f : Filings) → 0 ≡ status_after ending → Explains ending words i o f
+    → TellsEnding ending e
     → (e.after ≡ e.before) × (o.after.failures ≡ o.before.failures)
 well (Ok done) words i o e f status (inl played) told = (told, played.answered.output_unfailed)
 well (Ok done) words i o e f status (inr helped) told = (told, helped.0.unfailed)
 well (Err why) words i o e f status because told = let s = of_stop why in absurd (omega (arith, status, s.some))
 
-by_words : (ending : Result (Unit {0}) Stop) (words : List Text) (i o : Passage) (f : Filings) → 2 ≡ status_after ending → Explains ending words i o f → IsIdle i o
+by_words : (ending : Result (Unit {0}) Stop) (words : List Text) (i o : Passage) (f : Filings) → 2 ≡ status_after ending → Explains ending words i o f
+    → IsIdle i o
 by_words (Ok done) words i o f status because = absurd (omega (arith, status))
 by_words (Err (stop.Arguments text)) words i o f status because = because.1
 by_words (Err (stop.Encoding place)) words i o f status because = absurd because
@@ -29,7 +31,8 @@ by_words (Err (stop.File file file_stop.NotOpened)) words i o f status because =
 by_words (Err (stop.File file file_stop.NotItsOwn)) words i o f status because = because.1
 by_words (Err (stop.File file file_stop.Failed)) words i o f status because = absurd (omega (arith, status))
 
-by_trace : (ending : Result (Unit {0}) Stop) (words : List Text) (i o : Passage) (f : Filings) → 3 ≡ status_after ending → Explains ending words i o f → o.after ≡ o.before
+by_trace : (ending : Result (Unit {0}) Stop) (words : List Text) (i o : Passage) (f : Filings) → 3 ≡ status_after ending → Explains ending words i o f
+    → o.after ≡ o.before
 by_trace (Ok done) words i o f status because = absurd (omega (arith, status))
 by_trace (Err (stop.Arguments text)) words i o f status because = absurd (omega (arith, status))
 by_trace (Err (stop.Encoding place)) words i o f status because = absurd (omega (arith, status))

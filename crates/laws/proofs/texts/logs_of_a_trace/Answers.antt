@@ -28,4 +28,5 @@ pub returns-clause-no_broom : goal.returns-clause-no_broom
 returns-clause-no_broom c geo bytes text none h = h.log ∙ ap brooms_text (none_in h.ends (h.served.count ∙ none))
 
 pub returns-clause-no_line : goal.returns-clause-no_line
-returns-clause-no_line c geo bytes text none h = h.log ∙ (ap (log_text geo) (none_meant (commands_of bytes geo) h.commands none h.meaning) ∙ append-nil collection_names)
+returns-clause-no_line c geo bytes text none h =
+    h.log ∙ (ap (log_text geo) (none_meant (commands_of bytes geo) h.commands none h.meaning) ∙ append-nil collection_names)

@@ -20,7 +20,9 @@ returns-clause-one c geo bytes text other a b =
     a.answers ∙ (ap (text_of_commands geo) same ∙ sym b.answers)
 
 pub returns-clause-empty : goal.returns-clause-empty
-returns-clause-empty c geo bytes text none h = h.answers ∙ (ap (text_of_commands geo) (none_meant (commands_of bytes geo) h.commands none h.meaning) ∙ no_work geo)
+returns-clause-empty c geo bytes text none h =
+    h.answers ∙ (ap (text_of_commands geo) (none_meant (commands_of bytes geo) h.commands none h.meaning) ∙ no_work geo)
 
 pub returns-clause-shared : goal.returns-clause-shared
-returns-clause-shared c geo bytes text none h = h.lines ∙ ap (λ (cs : List Command). lines_text 0 (merge cs h.rows) ++ end_text) (none_meant (commands_of bytes geo) h.commands none h.meaning)
+returns-clause-shared c geo bytes text none h =
+    h.lines ∙ ap (λ (cs : List Command). lines_text 0 (merge cs h.rows) ++ end_text) (none_meant (commands_of bytes geo) h.commands none h.meaning)

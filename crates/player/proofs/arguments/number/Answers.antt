@@ -11,4 +11,5 @@ pub returns : goal.returns
 returns c =
     subst (λ found. MatchOption found (c.unwrap_or.result ≡ c.args.default) (λ text. IsNumberIn text c.args.default c.unwrap_or.result))
     (one_text-rows (found_of c.args.matches.now) c.args.name.now)
-    (number_of (λ bs r. ParsesUnsigned 32 10 bs r × ExplainsUnsignedError 10 bs r × HasUnsignedDigitsIfOk bs r) (λ t r reads. reads.0) _ c.args.default c.get_one.result c.unwrap_or.result c.get_one.ensures.none c.get_one.ensures.value c.unwrap_or.ensures)
+    (number_of (λ bs r. ParsesUnsigned 32 10 bs r × ExplainsUnsignedError 10 bs r × HasUnsignedDigitsIfOk bs r)
+    (λ t r reads. reads.0) _ c.args.default c.get_one.result c.unwrap_or.result c.get_one.ensures.none c.get_one.ensures.value c.unwrap_or.ensures)

@@ -19,4 +19,5 @@ returns-clause-outcome c =
 
 pub returns-in-Err-clause-outcome : goal.returns-in-Err-clause-outcome
 returns-in-Err-clause-outcome c =
-    faults_are {T = ArgMatches} (app_of c.in_ok-command.command) (map (λ w. w.now) c.args.words.now) (Err c.in-Err.error) c.in_ok-command.ensures c.in-Err.ensures.kinds
+    faults_are {T = ArgMatches} (app_of c.in_ok-command.command) (map (λ w. w.now) c.args.words.now)
+    (Err c.in-Err.error) c.in_ok-command.ensures c.in-Err.ensures.kinds

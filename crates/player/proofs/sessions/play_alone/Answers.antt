@@ -30,7 +30,8 @@ returns-in-Ok g c =
     let old = c.args.files.now in
     let mid = c.open_files.new.files in
     let new = c.run_with_files.new.files in
-    let log = file_ended (λ n. n.now) given.collections c.is_some.result (IsLogFor geo) start (IsOpenedAs g.F.NamedFile.opened_as g.F.Write.contents old.collections)
+    let log = file_ended (λ n. n.now) given.collections c.is_some.result (IsLogFor geo) start
+    (IsOpenedAs g.F.NamedFile.opened_as g.F.Write.contents old.collections)
     (stream old.collections) (stream mid.collections) (stream new.collections) c.in-Ok.written.collections opens.1 c.is_some.ensures
     (one_log geo c.is_some.result start (over g.F.Write.contents mid.collections new.collections) c.in-Ok.written.collections c.requires told.collections) in
     let wear = file_ended (λ n. n.now) given.wear c.is_some-2.result (IsWearOf geo) start (IsOpenedAs g.F.NamedFile.opened_as g.F.Write.contents old.wear)
@@ -61,5 +62,6 @@ returns-in-Err-run_with_files g c =
       files_left fault c.is_some.result geo given (stream_of g.R.Read.remaining c.args.reader.now)
           (filings g.F.NamedFile.opened_as g.F.Write.contents c.args.files.now c.run_with_files.new.files)
           (stream mid.wear) (stream mid.collections) opens.0.1 opens.1.1 c.is_some.ensures told.no_wear
-          (one_left geo fault c.is_some.result (stream_of g.R.Read.remaining c.args.reader.now) (over g.F.Write.contents mid.collections c.run_with_files.new.files.collections) c.requires told.log_left),
+          (one_left geo fault c.is_some.result (stream_of g.R.Read.remaining c.args.reader.now)
+          (over g.F.Write.contents mid.collections c.run_with_files.new.files.collections) c.requires told.log_left),
     )

@@ -35,7 +35,8 @@ returns-in-Ok g c =
     let mid = c.open_files.new.files in
     let new = record mid { collections = c.run_by_workers.new.file } in
     let files = filings g.F.NamedFile.opened_as g.F.Write.contents old new in
-    let log = file_ended (λ n. n.now) given.collections c.is_some-wanted.result (IsLogFor geo) start (IsOpenedAs g.F.NamedFile.opened_as g.F.Write.contents old.collections)
+    let log = file_ended (λ n. n.now) given.collections c.is_some-wanted.result (IsLogFor geo) start
+    (IsOpenedAs g.F.NamedFile.opened_as g.F.Write.contents old.collections)
     (stream old.collections) (stream mid.collections) (stream new.collections) c.in-Ok.log opens.1 c.is_some-wanted.ensures
     (shared_log geo c.is_some-wanted.result start (over g.F.Write.contents mid.collections new.collections) c.in-Ok.log c.requires told.log) in
     let wear = unnamed (λ n. n.now) given.wear (IsWearOf geo) start files.wear (sym c.is_some.ensures ∙ c.if-is_some.false) opens.0.1 in

@@ -4,4 +4,5 @@ use Rattle.volume.specs.Brooms.{IsBroomReady}
 use Rattle.run_acceptance.proofs.opening.only_broom.Goals as goal
 
 pub returns : goal.returns
-returns c = (All-pop (IsBroomReady c.args.volume.now) c.args.brooms.items c.pop.new.self.items (Some c.in-Some.broom) c.in-Some.ensures.items c.requires.ready).1
+returns c = (All-pop (IsBroomReady c.args.volume.now) c.args.brooms.items c.pop.new.self.items
+    (Some c.in-Some.broom) c.in-Some.ensures.items c.requires.ready).1

@@ -5,4 +5,5 @@ use Rattle.volume.specs.Volume.{flash_of}
 use Rattle.run_acceptance.proofs.opening.only_pass.Goals as goal
 
 pub returns : goal.returns
-returns c = (All-pop (IsReady (flash_of c.args.volume.now)) c.args.passes.items c.pop.new.self.items (Some c.in-Some.pass) c.in-Some.ensures.items c.requires.ready).1
+returns c = (All-pop (IsReady (flash_of c.args.volume.now)) c.args.passes.items c.pop.new.self.items
+    (Some c.in-Some.pass) c.in-Some.ensures.items c.requires.ready).1

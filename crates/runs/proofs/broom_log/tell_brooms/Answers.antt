@@ -19,7 +19,8 @@ returns-in_err-make_room-clause-part g c =
 pub loop-k-preserved : goal.loop-k-preserved
 loop-k-preserved g c = (
   c.in_ok-make_room.ensures.unfailed ∙ c.loop-k.invariant.0,
-  brooms_turn c.args.brooms.now c.loop-k.k c.index-brooms-k.result _ _ _ _ _ _ c.loop-k-test.true c.index-brooms-k.is c.loop-k.invariant.1 c.in_ok-make_room.ensures.moved
+  brooms_turn c.args.brooms.now c.loop-k.k c.index-brooms-k.result _ _ _ _ _ _ c.loop-k-test.true c.index-brooms-k.is c.loop-k.invariant.1
+      c.in_ok-make_room.ensures.moved
       (c.broom.ensures.waiting ∙ ap (λ it. waiting_of c.make_room.new.self ++ broom_line it) c.counts.ensures),
 )
 

@@ -26,6 +26,7 @@ returns c =
           ∙ (ap (slice_get (answers_by rows w)) (sym here) ∙ sym (ap (λ b. if b then None else slice_get (answers_by rows w) p) plain)));
       next =
           map-set place_of next w c.next.new.cursor
-          ∙ (ap (slice_set (passed_in next) w) (c.next.ensures.place ∙ ap (λ n. n + 1) (sym here)) ∙ sym (ap (λ b. if b then passed_in next else slice_set (passed_in next) w (p + 1)) plain));
+          ∙ (ap (slice_set (passed_in next) w) (c.next.ensures.place ∙ ap (λ n. n + 1) (sym here))
+          ∙ sym (ap (λ b. if b then passed_in next else slice_set (passed_in next) w (p + 1)) plain));
       at = at_more rows next w row c.next.new.cursor c.index-rows-worker.is low c.requires.at c.next.ensures.at;
     }

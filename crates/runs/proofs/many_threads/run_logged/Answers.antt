@@ -63,7 +63,11 @@ pub returns-in-Err-Threads-clause-why : goal.returns-in-Err-Threads-clause-why
 returns-in-Err-Threads-clause-why g c =
     let input = g.R.Read.remaining (inner_of c.args.reader.now) in (
       λ none. omega (arith, none),
-      record { end = c.in-Ok.ensures.end; unfailed = c.in-Ok.ensures.unfailed; meaning = some_meaning c.args.geometry.now c.in-Ok.commands input c.in-Ok.ensures.commands },
+      record {
+        end = c.in-Ok.ensures.end;
+        unfailed = c.in-Ok.ensures.unfailed;
+        meaning = some_meaning c.args.geometry.now c.in-Ok.commands input c.in-Ok.ensures.commands;
+      },
       refl,
     )
 
@@ -74,5 +78,6 @@ returns-in-Ok-write_out-clause-log g c =
     let file = over g.V.Write.contents c.args.file.now c.tell_brooms_if.new.file in
     let ends = c.deref-in-Ok-write_out.result.now in
     let served = subst (AllHaveServed geo) (sym c.deref-in-Ok-write_out.ensures.value) c.in-Ok-play_commands.ensures.brooms in
-    ends_file c.args.wanted (IsBroomLogOf geo) input file (brooms_text ends) c.tell_brooms_if.result (brooms_right geo input.bytes c.in-Ok.commands ends c.in-Ok.ensures.commands served)
+    ends_file c.args.wanted (IsBroomLogOf geo) input file (brooms_text ends) c.tell_brooms_if.result
+    (brooms_right geo input.bytes c.in-Ok.commands ends c.in-Ok.ensures.commands served)
     (subst (λ w. EndsText w (brooms_text ends) file c.tell_brooms_if.result) c.in-Ok-log_room.ensures.wanted c.tell_brooms_if.ensures)

@@ -30,7 +30,8 @@ loop-i-preserved g c =
     let geo = geometry_of c.args.ftl.now in
     let commands = c.args.commands.now in
     let file = over g.V.Write.contents c.args.file.now c.answer_logged.new.file in
-    let played = ArePlayed-turn c.args.answers _ _ _ _ _ _ _ _ _ _ _ _ _ _ _ c.loop-i.invariant.0 c.loop-i.invariant.3 c.in_ok-make_room.ensures.moved c.command-command.ensures.at c.answer_logged.ensures.array c.answer_logged.ensures.stock c.answer_logged.ensures.lines in (
+    let played = ArePlayed-turn c.args.answers _ _ _ _ _ _ _ _ _ _ _ _ _ _ _ c.loop-i.invariant.0 c.loop-i.invariant.3 c.in_ok-make_room.ensures.moved
+    c.command-command.ensures.at c.answer_logged.ensures.array c.answer_logged.ensures.stock c.answer_logged.ensures.lines in (
       c.answer_logged.ensures.geometry ∙ c.loop-i.invariant.0,
       c.answer_logged.ensures.page ∙ (c.make_room.ensures.page ∙ c.loop-i.invariant.1),
       c.in_ok-make_room.ensures.unfailed ∙ c.loop-i.invariant.2,
@@ -56,23 +57,27 @@ loop-i-init g c =
 pub returns-in_err-make_room-clause-log_left : goal.returns-in_err-make_room-clause-log_left
 returns-in_err-make_room-clause-log_left g c =
     OnErr-any _ c.from_residual.result
-    (log_left_of (geometry_of c.args.ftl.now) c.args.commands.now c.loop-i.i c.args.log.now c.loop-i.log _ (omega arith) c.loop-i.invariant.4 c.loop-i.invariant.5)
+    (log_left_of (geometry_of c.args.ftl.now) c.args.commands.now c.loop-i.i c.args.log.now c.loop-i.log _
+    (omega arith) c.loop-i.invariant.4 c.loop-i.invariant.5)
 
 pub returns-in_err-make_room-2-clause-log_left : goal.returns-in_err-make_room-2-clause-log_left
 returns-in_err-make_room-2-clause-log_left g c =
     OnErr-any _ c.from_residual-in_err-make_room-2.result
-    (log_left_of (geometry_of c.args.ftl.now) c.args.commands.now c.loop-i.i c.args.log.now c.loop-i.log _ (omega arith) c.loop-i.invariant.4 c.loop-i.invariant.5)
+    (log_left_of (geometry_of c.args.ftl.now) c.args.commands.now c.loop-i.i c.args.log.now c.loop-i.log _
+    (omega arith) c.loop-i.invariant.4 c.loop-i.invariant.5)
 
 pub returns-clause-logged : goal.returns-clause-logged
 returns-clause-logged g c =
     let all : c.loop-i.i ≡ length c.args.commands.now = omega arith in
     OnOk-any _ c.hand_on.result
-    (subst (λ n. IsLogged c.loop-i.log (over g.V.Write.contents c.args.file.now c.loop-i.file) (log_before (geometry_of c.args.ftl.now) c.args.commands.now n)) all c.loop-i.invariant.5)
+    (subst (λ n. IsLogged c.loop-i.log (over g.V.Write.contents c.args.file.now c.loop-i.file)
+    (log_before (geometry_of c.args.ftl.now) c.args.commands.now n)) all c.loop-i.invariant.5)
 
 pub returns-clause-log_left : goal.returns-clause-log_left
 returns-clause-log_left g c =
     OnErr-any _ c.hand_on.result
-    (log_left_of (geometry_of c.args.ftl.now) c.args.commands.now c.loop-i.i c.args.log.now c.loop-i.log _ (omega arith) c.loop-i.invariant.4 c.loop-i.invariant.5)
+    (log_left_of (geometry_of c.args.ftl.now) c.args.commands.now c.loop-i.i c.args.log.now c.loop-i.log _
+    (omega arith) c.loop-i.invariant.4 c.loop-i.invariant.5)
 
 pub returns-in_err-make_room-2-clause-part : goal.returns-in_err-make_room-2-clause-part
 returns-in_err-make_room-2-clause-part g c =
@@ -86,8 +91,10 @@ returns-clause-sent g c =
     let commands = c.args.commands.now in
     let old = g.W.Write.contents (inner_of c.args.writer.now) in
     let all : c.loop-i.i ≡ length commands = omega arith in
-    let played : ArePlayed c.args.answers geo commands (length commands) (array_of c.loop-i.ftl) (stock_of c.loop-i.ftl) old (g.W.Write.contents (inner_of c.loop-i.writer)) (waiting_of c.loop-i.desk.lines) =
-    subst (λ n. ArePlayed c.args.answers geo commands n (array_of c.loop-i.ftl) (stock_of c.loop-i.ftl) old (g.W.Write.contents (inner_of c.loop-i.writer)) (waiting_of c.loop-i.desk.lines)) all c.loop-i.invariant.3 in
+    let played : ArePlayed c.args.answers geo commands (length commands) (array_of c.loop-i.ftl) (stock_of c.loop-i.ftl) old
+    (g.W.Write.contents (inner_of c.loop-i.writer)) (waiting_of c.loop-i.desk.lines) =
+    subst (λ n. ArePlayed c.args.answers geo commands n (array_of c.loop-i.ftl) (stock_of c.loop-i.ftl) old
+    (g.W.Write.contents (inner_of c.loop-i.writer)) (waiting_of c.loop-i.desk.lines)) all c.loop-i.invariant.3 in
     let whole = text_whole c.args.answers geo commands _ _ old _ _ _ _ _ played c.in_ok-make_room-2.ensures.moved c.end.ensures.lines in
     OnOk-map _ _ c.hand_on.result
     (λ sent. Appends-whole old (g.W.Write.contents (inner_of c.hand_on.new.writer)) (written_of c.args.answers geo commands)
@@ -99,8 +106,11 @@ returns-clause-part g c =
     let commands = c.args.commands.now in
     let old = g.W.Write.contents (inner_of c.args.writer.now) in
     let all : c.loop-i.i ≡ length commands = omega arith in
-    let played : ArePlayed c.args.answers geo commands (length commands) (array_of c.loop-i.ftl) (stock_of c.loop-i.ftl) old (g.W.Write.contents (inner_of c.loop-i.writer)) (waiting_of c.loop-i.desk.lines) =
-    subst (λ n. ArePlayed c.args.answers geo commands n (array_of c.loop-i.ftl) (stock_of c.loop-i.ftl) old (g.W.Write.contents (inner_of c.loop-i.writer)) (waiting_of c.loop-i.desk.lines)) all c.loop-i.invariant.3 in
+    let played : ArePlayed c.args.answers geo commands (length commands) (array_of c.loop-i.ftl) (stock_of c.loop-i.ftl) old
+    (g.W.Write.contents (inner_of c.loop-i.writer)) (waiting_of c.loop-i.desk.lines) =
+    subst (λ n. ArePlayed c.args.answers geo commands n (array_of c.loop-i.ftl) (stock_of c.loop-i.ftl) old
+    (g.W.Write.contents (inner_of c.loop-i.writer)) (waiting_of c.loop-i.desk.lines)) all c.loop-i.invariant.3 in
     let whole = text_whole c.args.answers geo commands _ _ old _ _ _ _ _ played c.in_ok-make_room-2.ensures.moved c.end.ensures.lines in
     OnErr-map _ _ c.hand_on.result
-    (λ part. AppendsBeginning-part old _ _ _ (written_of c.args.answers geo commands) (written_of c.args.answers geo commands) whole part (Begins-refl (written_of c.args.answers geo commands))) c.hand_on.ensures.part
+    (λ part. AppendsBeginning-part old _ _ _ (written_of c.args.answers geo commands) (written_of c.args.answers geo commands) whole part
+    (Begins-refl (written_of c.args.answers geo commands))) c.hand_on.ensures.part

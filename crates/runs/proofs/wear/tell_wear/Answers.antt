@@ -32,7 +32,8 @@ returns-clause-sent g c =
     let same : blocks_of c.geometry.result ≡ blocks_of geo = ap blocks_of c.geometry.ensures.value in
     let all : c.loop-block.block ≡ blocks_of geo = omega (arith, same) in
     let under : IsUnderWay old (g.V.Write.contents (inner_of c.loop-block.wear)) (waiting_of c.loop-block.desk.lines) (wear_text geo stock) =
-    subst (λ n. IsUnderWay old (g.V.Write.contents (inner_of c.loop-block.wear)) (waiting_of c.loop-block.desk.lines) (wear_before stock n)) all c.loop-block.invariant.1 in
+    subst (λ n. IsUnderWay old (g.V.Write.contents (inner_of c.loop-block.wear)) (waiting_of c.loop-block.desk.lines) (wear_before stock n)) all
+    c.loop-block.invariant.1 in
     OnOk-map _ _ c.hand_on.result
     (λ sent. Appends-whole old (g.V.Write.contents (inner_of c.hand_on.new.writer)) (wear_text geo stock)
     (IsUnderWay-sent old _ _ _ (wear_text geo stock) under sent)) c.hand_on.ensures.sent
@@ -45,6 +46,7 @@ returns-clause-part g c =
     let same : blocks_of c.geometry.result ≡ blocks_of geo = ap blocks_of c.geometry.ensures.value in
     let all : c.loop-block.block ≡ blocks_of geo = omega (arith, same) in
     let under : IsUnderWay old (g.V.Write.contents (inner_of c.loop-block.wear)) (waiting_of c.loop-block.desk.lines) (wear_text geo stock) =
-    subst (λ n. IsUnderWay old (g.V.Write.contents (inner_of c.loop-block.wear)) (waiting_of c.loop-block.desk.lines) (wear_before stock n)) all c.loop-block.invariant.1 in
+    subst (λ n. IsUnderWay old (g.V.Write.contents (inner_of c.loop-block.wear)) (waiting_of c.loop-block.desk.lines) (wear_before stock n)) all
+    c.loop-block.invariant.1 in
     OnErr-map _ _ c.hand_on.result
     (λ part. AppendsBeginning-part old _ _ _ (wear_text geo stock) (wear_text geo stock) under part (Begins-refl (wear_text geo stock))) c.hand_on.ensures.part

@@ -9,4 +9,5 @@ use Rattle.runs.proofs.wear.tell_wear.Given as goal
 abbrev pub invariant-loop-block : goal.invariant-loop-block
 invariant-loop-block g l =
     (failures_of l.wear ≡ failures_of l.initial.wear)
-    × IsUnderWay (g.V.Write.contents (inner_of l.initial.wear)) (g.V.Write.contents (inner_of l.wear)) (waiting_of l.desk.lines) (wear_before (stock_of l.ftl) l.block)
+    × IsUnderWay (g.V.Write.contents (inner_of l.initial.wear)) (g.V.Write.contents (inner_of l.wear)) (waiting_of l.desk.lines)
+    (wear_before (stock_of l.ftl) l.block)

@@ -9,7 +9,8 @@ returns-then-run-lt-LANES c =
     let run = c.field_run-run.ensures in
     let within : c.blocks-2.at + c.field_run-run.result ≤ length c.args.text.now = omega (arith, c.blocks-2-test.true, c.if-run-lt-LANES.true) in record {
       joins = plain-run c.args.text.now c.args.start c.blocks-2.at c.field_run-run.result c.blocks-2.invariant within run.joins;
-      stops = stops-at c.args.text.now (c.blocks-2.at + c.field_run-run.result) (omega (arith, c.blocks-2-test.true, c.if-run-lt-LANES.true)) (run.stops c.if-run-lt-LANES.true);
+      stops = stops-at c.args.text.now (c.blocks-2.at + c.field_run-run.result) (omega (arith, c.blocks-2-test.true, c.if-run-lt-LANES.true))
+          (run.stops c.if-run-lt-LANES.true);
     }
 
 pub blocks-2-preserved : goal.blocks-2-preserved
@@ -21,4 +22,5 @@ blocks-2-preserved c =
     (plain-run c.args.text.now c.args.start c.blocks-2.at c.field_run-run.result c.blocks-2.invariant within run.joins)
 
 pub loop-end-preserved : goal.loop-end-preserved
-loop-end-preserved c = plain-more c.args.text.now c.args.start c.loop-end.end c.loop-end.invariant c.loop-end-test.true (sym c.is_field_end.ensures ∙ c.if-is_field_end.false)
+loop-end-preserved c = plain-more c.args.text.now c.args.start c.loop-end.end c.loop-end.invariant c.loop-end-test.true
+    (sym c.is_field_end.ensures ∙ c.if-is_field_end.false)

@@ -2,7 +2,8 @@ use Rattle.trace.proofs.RecordFacts.{cut-end, cut-five, cut-four, cut-one, cut-t
 use Rattle.trace.proofs.cutting.next_cut.Goals as goal
 
 pub returns-then-start-text : goal.returns-then-start-text
-returns-then-start-text c = cut-end c.args.text.now c.args.at c.mark_end.result c.record_start-start.result c.mark_end.ensures c.record_start-start.ensures c.if-start-text.true
+returns-then-start-text c =
+    cut-end c.args.text.now c.args.at c.mark_end.result c.record_start-start.result c.mark_end.ensures c.record_start-start.ensures c.if-start-text.true
 
 pub returns-then-not-worker : goal.returns-then-not-worker
 returns-then-not-worker c =

@@ -7,27 +7,31 @@ use Rattle.trace.proofs.NumberFacts.{falls_past}
 use Rattle.trace.proofs.parsing.parse_lines.Goals as goal
 
 pub returns-in-End-clause-commands : goal.returns-in-End-clause-commands
-returns-in-End-clause-commands c = commands_of-commands _ _ (drafted c.args.text.now c.add_usual_lines.new.draft) (rw c.in-End.ensures at c.in-Ok.ensures.so_far ∙ append-nil _)
+returns-in-End-clause-commands c =
+    commands_of-commands _ _ (drafted c.args.text.now c.add_usual_lines.new.draft) (rw c.in-End.ensures at c.in-Ok.ensures.so_far ∙ append-nil _)
 
 pub returns-in-Fields-clause-fault : goal.returns-in-Fields-clause-fault
 returns-in-Fields-clause-fault c =
     let other = c.in-Fields.ensures in
     let refused = refuses_fields c.args.geometry.now other.fields other.count in
     rw (c.fault.ensures, c.next_line-line.ensures, line_is c.args.text.now c.add_usual_lines.new.draft)
-    (states_fault c.args.text.now c.args.geometry.now (drafted c.args.text.now c.add_usual_lines.new.draft) other.fields _ _ Fields c.in-Ok.ensures.so_far other.first (inr refused))
+    (states_fault c.args.text.now c.args.geometry.now
+    (drafted c.args.text.now c.add_usual_lines.new.draft) other.fields _ _ Fields c.in-Ok.ensures.so_far other.first (inr refused))
 
 pub returns-in-Fields-clause-first : goal.returns-in-Fields-clause-first
 returns-in-Fields-clause-first c =
     let other = c.in-Fields.ensures in
     rw (c.fault.ensures, c.next_line-line.ensures, line_is c.args.text.now c.add_usual_lines.new.draft)
-    (first_other c.args.text.now c.args.geometry.now (drafted c.args.text.now c.add_usual_lines.new.draft) other.fields _ _ c.in-Ok.ensures.so_far other.first other.count)
+    (first_other c.args.text.now c.args.geometry.now (drafted c.args.text.now c.add_usual_lines.new.draft) other.fields _ _ c.in-Ok.ensures.so_far
+    other.first other.count)
 
 pub returns-in-Err-clause-fault : goal.returns-in-Err-clause-fault
 returns-in-Err-clause-fault c =
     let next = c.in-Record-default-Some.ensures in
     let told = rw c.in-Record-default-Some.field-1-is at next.told in
     rw (c.fault-in-Err.ensures, c.next_line-line.ensures, line_is c.args.text.now c.add_usual_lines.new.draft)
-    (states_fault c.args.text.now c.args.geometry.now (drafted c.args.text.now c.add_usual_lines.new.draft) next.fields _ _ _ c.in-Ok.ensures.so_far next.first (rw told c.in-Err.ensures.refused))
+    (states_fault c.args.text.now c.args.geometry.now (drafted c.args.text.now c.add_usual_lines.new.draft) next.fields _ _ _ c.in-Ok.ensures.so_far
+    next.first (rw told c.in-Err.ensures.refused))
 
 pub records-preserved : goal.records-preserved
 records-preserved c =
@@ -36,7 +40,8 @@ records-preserved c =
     record {
       place = next.high;
       draft = c.in_default-add_cut.ensures.draft;
-      so_far = one_more_command c.args.text.now c.args.geometry.now (drafted c.args.text.now c.add_usual_lines.new.draft) (drafted c.args.text.now c.add_cut.new.draft) next.fields _ _ c.in-Ok.ensures.so_far next.first (rw told c.in_default-add_cut.ensures.added);
+      so_far = one_more_command c.args.text.now c.args.geometry.now (drafted c.args.text.now c.add_usual_lines.new.draft)
+          (drafted c.args.text.now c.add_cut.new.draft) next.fields _ _ c.in-Ok.ensures.so_far next.first (rw told c.in_default-add_cut.ensures.added);
     }
 
 pub returns-in-Err-clause-kept : goal.returns-in-Err-clause-kept
@@ -98,7 +103,8 @@ returns-in-Err-clause-first c =
     let next = c.in-Record-default-Some.ensures in
     let told = rw c.in-Record-default-Some.field-1-is at next.told in
     rw (c.fault-in-Err.ensures, c.next_line-line.ensures, line_is c.args.text.now c.add_usual_lines.new.draft)
-    (first_refused c.args.text.now c.args.geometry.now (drafted c.args.text.now c.add_usual_lines.new.draft) next.fields _ _ _ c.in-Ok.ensures.so_far next.first (rw told c.in-Err.ensures.refused))
+    (first_refused c.args.text.now c.args.geometry.now (drafted c.args.text.now c.add_usual_lines.new.draft) next.fields _ _ _ c.in-Ok.ensures.so_far
+    next.first (rw told c.in-Err.ensures.refused))
 
 pub records-init : goal.records-init
 records-init c =

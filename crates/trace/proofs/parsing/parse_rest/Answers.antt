@@ -9,20 +9,23 @@ use Rattle.trace.proofs.NumberFacts.{falls_next}
 use Rattle.trace.proofs.parsing.parse_rest.Goals as goal
 
 pub returns-in-End-clause-commands : goal.returns-in-End-clause-commands
-returns-in-End-clause-commands c = commands_of-commands _ _ (drafted c.args.text.now c.records.draft) (rw c.in-End.ensures at c.records.invariant.so_far ∙ append-nil _)
+returns-in-End-clause-commands c =
+    commands_of-commands _ _ (drafted c.args.text.now c.records.draft) (rw c.in-End.ensures at c.records.invariant.so_far ∙ append-nil _)
 
 pub returns-in-Fields-clause-fault : goal.returns-in-Fields-clause-fault
 returns-in-Fields-clause-fault c =
     let other = c.in-Fields.ensures in
     let refused = refuses_fields c.args.geometry.now other.fields other.count in
     rw (c.fault.ensures, c.next_line-line.ensures, line_is c.args.text.now c.records.draft)
-    (states_fault c.args.text.now c.args.geometry.now (drafted c.args.text.now c.records.draft) other.fields _ _ Fields c.records.invariant.so_far other.first (inr refused))
+    (states_fault c.args.text.now c.args.geometry.now (drafted c.args.text.now c.records.draft) other.fields _ _ Fields c.records.invariant.so_far
+    other.first (inr refused))
 
 pub returns-in-Fields-clause-first : goal.returns-in-Fields-clause-first
 returns-in-Fields-clause-first c =
     let other = c.in-Fields.ensures in
     rw (c.fault.ensures, c.next_line-line.ensures, line_is c.args.text.now c.records.draft)
-    (first_other c.args.text.now c.args.geometry.now (drafted c.args.text.now c.records.draft) other.fields _ _ c.records.invariant.so_far other.first other.count)
+    (first_other c.args.text.now c.args.geometry.now (drafted c.args.text.now c.records.draft) other.fields _ _ c.records.invariant.so_far other.first
+    other.count)
 
 pub returns-in-Err-clause-fault : goal.returns-in-Err-clause-fault
 returns-in-Err-clause-fault c = rw c.whole.ensures refl
@@ -33,7 +36,8 @@ returns-in-Err-add_read-clause-fault c =
     let taken = rw c.in-Ok-true.field-0-test at c.in-Ok-true.ensures.takes in
     let same = same_first _ _ _ _ _ taken (c.records.invariant.left ∙ next.first) in
     rw (c.fault-in-Err-add_read.ensures, c.next_line-line.ensures, line_is c.args.text.now c.records.draft)
-    (states_fault c.args.text.now c.args.geometry.now (drafted c.args.text.now c.records.draft) next.fields _ _ _ c.records.invariant.so_far next.first (rw (sym same.0 ∙ c.row_of.ensures) c.in-Err-add_read.ensures.refused))
+    (states_fault c.args.text.now c.args.geometry.now (drafted c.args.text.now c.records.draft) next.fields _ _ _ c.records.invariant.so_far
+    next.first (rw (sym same.0 ∙ c.row_of.ensures) c.in-Err-add_read.ensures.refused))
 
 pub records-preserved : goal.records-preserved
 records-preserved c =
@@ -44,7 +48,8 @@ records-preserved c =
       place = next.high;
       draft = c.in_default.ensures.draft;
       so_far =
-          one_more_command c.args.text.now c.args.geometry.now (drafted c.args.text.now c.records.draft) (drafted c.args.text.now c.add_read.new.draft) next.fields _ _ c.records.invariant.so_far next.first
+          one_more_command c.args.text.now c.args.geometry.now (drafted c.args.text.now c.records.draft)
+          (drafted c.args.text.now c.add_read.new.draft) next.fields _ _ c.records.invariant.so_far next.first
           (rw (sym same.0 ∙ c.row_of.ensures) c.in_default.ensures.added);
       reading = c.in-Ok-true.ensures.reading c.in-Ok-true.field-0-test;
       left = same.1;
@@ -56,7 +61,8 @@ returns-in-Err-add_read-clause-first c =
     let taken = rw c.in-Ok-true.field-0-test at c.in-Ok-true.ensures.takes in
     let same = same_first _ _ _ _ _ taken (c.records.invariant.left ∙ next.first) in
     rw (c.fault-in-Err-add_read.ensures, c.next_line-line.ensures, line_is c.args.text.now c.records.draft)
-    (first_refused c.args.text.now c.args.geometry.now (drafted c.args.text.now c.records.draft) next.fields _ _ _ c.records.invariant.so_far next.first (rw (sym same.0 ∙ c.row_of.ensures) c.in-Err-add_read.ensures.refused))
+    (first_refused c.args.text.now c.args.geometry.now (drafted c.args.text.now c.records.draft) next.fields _ _ _ c.records.invariant.so_far
+    next.first (rw (sym same.0 ∙ c.row_of.ensures) c.in-Err-add_read.ensures.refused))
 
 pub records-init : goal.records-init
 records-init c = record {

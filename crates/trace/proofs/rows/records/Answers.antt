@@ -8,7 +8,8 @@ use Rattle.trace.proofs.rows.records.Goals as goal
 
 pub returns-clause-reading : goal.returns-clause-reading
 returns-clause-reading c =
-    let built : c.flexible.result.now ≡ with_flexible (with_names_headers c.new.result false) true = c.flexible.ensures ∙ ap (λ b. with_flexible b true) c.has_headers.ensures in
+    let built : c.flexible.result.now ≡ with_flexible (with_names_headers c.new.result false) true =
+    c.flexible.ensures ∙ ap (λ b. with_flexible b true) c.has_headers.ensures in
     record {
       plain = c.from_reader.ensures.trim ∙ (ap builder_trim built ∙ c.new.ensures.trim);
       ready = inr (inr (c.from_reader.ensures.has_headers ∙ ap builder_names_headers built, c.from_reader.ensures.headers));

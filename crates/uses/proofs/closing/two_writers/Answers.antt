@@ -29,9 +29,12 @@ returns-clause-both c =
     let first = first_ready f c.args.passes.items _ c.requires.count c.requires.new c.index_mut.ensures.value in
     let second = second_ready f c.args.passes.items _ _ c.requires.count c.requires.new c.index_mut-2.ensures.value in
     IfOk-weaker c.close.result _ (λ closed. sectors_left closed ≡ Some c.args.first.now ∷ Some c.args.second.now ∷ [])
-    (λ closed final. both_values f c.args.passes.items c.index_mut.result.now c.index_mut-2.result.now c.write-one.new.pass c.write-two.new.pass c.args.first.now c.args.second.now one.0 two.0 (last_view closed).seen (sectors_left closed) c.requires.count c.requires.hosts c.requires.sectors first.0 second.0
+    (λ closed final. both_values f c.args.passes.items c.index_mut.result.now c.index_mut-2.result.now c.write-one.new.pass c.write-two.new.pass
+    c.args.first.now c.args.second.now one.0 two.0 (last_view closed).seen
+    (sectors_left closed) c.requires.count c.requires.hosts c.requires.sectors first.0 second.0
     (IfOk-at_ok _ one.1 c.write-one.ensures.wrote) (IfOk-at_ok _ two.1 c.write-two.ensures.wrote) final)
     c.close.ensures.one_history
 
 pub returns-then-is_err-clause-handed_back : goal.returns-then-is_err-clause-handed_back
-returns-then-is_err-clause-handed_back c = both_ready (flash_of c.args.volume) c.args.passes.items _ _ c.requires.count c.write-one.ensures.pass c.write-two.ensures.pass
+returns-then-is_err-clause-handed_back c =
+    both_ready (flash_of c.args.volume) c.args.passes.items _ _ c.requires.count c.write-one.ensures.pass c.write-two.ensures.pass

@@ -12,7 +12,8 @@ returns-clause-spared c k is =
     let undisturbed = c.stand.ensures.undisturbed h.0 h.1 in
     let page : page_of c.stand.result ≡ page_of c.args.held = undisturbed.page in
     let erased : Cycle = record { block = (page_of c.args.held).block; generation = (page_of c.args.held).generation } in
-    let stayed : (view_of_broom c.stand.new.broom).erases ≡ (view_of_broom c.erase.new.broom).erases = ap (λ (v : View). v.erases) c.stand.ensures.told.broom.changed in
+    let stayed : (view_of_broom c.stand.new.broom).erases ≡ (view_of_broom c.erase.new.broom).erases =
+    ap (λ (v : View). v.erases) c.stand.ensures.told.broom.changed in
     let before : slice_get (view_of_broom c.erase.new.broom).erases k ≡ Some erased = ap (λ (es : List Cycle). slice_get es k) (sym stayed) ∙ is in
     let earlier : erased.generation < (page_of c.stand.result).generation = undisturbed.unerased k erased before (ap (λ (m : MapWord). m.block) (sym page)) in
     omega (arith, earlier, ap (λ (m : MapWord). m.generation) page)

@@ -26,7 +26,8 @@ returns-clause-round c = reads_disjoint
 
 pub returns-clause-shared : goal.returns-clause-shared
 returns-clause-shared c first second sector =
-    one_round (read_by first sector ∷ read_by second sector ∷ []) (reads_disjoint (read_by first sector ∷ read_by second sector ∷ []) (both_read (read_by first sector) (read_by second sector) refl refl))
+    one_round (read_by first sector ∷ read_by second sector ∷ [])
+    (reads_disjoint (read_by first sector ∷ read_by second sector ∷ []) (both_read (read_by first sector) (read_by second sector) refl refl))
 
 pub returns-clause-changed : goal.returns-clause-changed
 returns-clause-changed c first second sector disjoint =

@@ -11,7 +11,8 @@ returns-clause-placed c =
     let s = c.if-number-self.self in
     let near : (s.from ≤ c.args.number) × (c.args.number < s.from + 10000) = elim c.if-number-self.branch [
       | then-number-self w ↦ rw w.self-is w.turn_to.ensures
-      | else-number-self+else-number-self-ge-STEP w ↦ let low = w.if-number-self.false in let high = w.if-number-self-ge-STEP.false in rw w.self-is (omega arith, omega arith)
+      | else-number-self+else-number-self-ge-STEP w ↦ let low = w.if-number-self.false in let high = w.if-number-self-ge-STEP.false in
+          rw w.self-is (omega arith, omega arith)
     ] in
     let whole = s.whole in
     let first : s.from / 10000 ≡ c.args.number / 10000 = omega (arith, near.0, near.1) in

@@ -20,27 +20,38 @@ place_of-source-requires-clause-page c =
     omega (arith, c.requires.source.programmed, pages_within c.args.self.now c.args.from.block c.requires.source.usable.within)
 
 -- a place below those of all pages lies within the bytes
-within_bytes : (c : After-deref_mut) (place : ℕ) → place < blocks_of c.args.self.now.geometry * pages_of c.args.self.now.geometry → (place + 1) * c.page_bytes-page_bytes.result ≤ length c.deref_mut.result.now
+within_bytes : (c : After-deref_mut) (place : ℕ) → place < blocks_of c.args.self.now.geometry * pages_of c.args.self.now.geometry
+    → (place + 1) * c.page_bytes-page_bytes.result ≤ length c.deref_mut.result.now
 within_bytes c place low =
     let d = c.args.self.now in
     let room = mul-le-mul_right c.page_bytes-page_bytes.result (the_next place (blocks_of d.geometry * pages_of d.geometry) low) in
-    omega (arith, room, d.bytes_sized, ap (λ (xs : List ℕ). length xs) c.deref_mut.ensures.value, ap (λ (k : ℕ). blocks_of d.geometry * pages_of d.geometry * k) c.page_bytes-page_bytes.ensures)
+    omega (
+      arith,
+      room,
+      d.bytes_sized,
+      ap (λ (xs : List ℕ). length xs) c.deref_mut.ensures.value,
+      ap (λ (k : ℕ). blocks_of d.geometry * pages_of d.geometry * k) c.page_bytes-page_bytes.ensures,
+    )
   where
     the_next : (k n : ℕ) → k < n → k + 1 ≤ n
     the_next k n h = omega (arith, h)
 
 pub move_page-requires-clause-from_within : goal.move_page-requires-clause-from_within
-move_page-requires-clause-from_within c = within_bytes (goal.at.move_page-requires-clause-from_within c).After-deref_mut c.place_of-source.result c.place_of-source.ensures.within
+move_page-requires-clause-from_within c =
+    within_bytes (goal.at.move_page-requires-clause-from_within c).After-deref_mut c.place_of-source.result c.place_of-source.ensures.within
 
 pub move_page-requires-clause-to_within : goal.move_page-requires-clause-to_within
-move_page-requires-clause-to_within c = within_bytes (goal.at.move_page-requires-clause-to_within c).After-deref_mut c.place_of-place.result c.place_of-place.ensures.within
+move_page-requires-clause-to_within c =
+    within_bytes (goal.at.move_page-requires-clause-to_within c).After-deref_mut c.place_of-place.result c.place_of-place.ensures.within
 
 -- the page that is programmed isn't the one that is copied, which is programmed already
 pub move_page-requires-clause-apart : goal.move_page-requires-clause-apart
 move_page-requires-clause-apart c = λ e.
     let d = c.args.self.now in
-    let page_low : c.args.from.page < pages_of d.geometry = omega (arith, c.requires.source.programmed, pages_within d c.args.from.block c.requires.source.usable.within) in
-    let same = same_from_place c.args.from.block c.args.from.page c.args.to.block c.args.to.page (pages_of d.geometry) page_low c.requires.next.within (sym c.place_of-source.ensures.value ∙ (e ∙ c.place_of-place.ensures.value)) in
+    let page_low : c.args.from.page < pages_of d.geometry =
+    omega (arith, c.requires.source.programmed, pages_within d c.args.from.block c.requires.source.usable.within) in
+    let same = same_from_place c.args.from.block c.args.from.page c.args.to.block c.args.to.page (pages_of d.geometry) page_low c.requires.next.within
+    (sym c.place_of-source.ensures.value ∙ (e ∙ c.place_of-place.ensures.value)) in
     omega (arith, same.1, c.requires.source.programmed, c.requires.next.next, ap (λ (b : ℕ). length (block_of d b).pages) same.0)
 
 pub index-requires : goal.index-requires
@@ -54,17 +65,27 @@ the_state c = state_read c.args.self.now c.args.to.block c.index_mut-2.result.no
 pub overflow_add-index_mut : goal.overflow_add-index_mut
 overflow_add-index_mut c =
     let e = the_state (goal.at.overflow_add-index_mut c).After-index_mut-2 in
-    omega (arith, ap (λ (s : BlockState). s.next) e, next-state c.args.self.now c.args.to c.requires.next, c.requires.next.within, c.args.self.now.geometry.in_limits.pages_high)
+    omega (
+      arith,
+      ap (λ (s : BlockState). s.next) e,
+      next-state c.args.self.now c.args.to c.requires.next,
+      c.requires.next.within,
+      c.args.self.now.geometry.in_limits.pages_high,
+    )
 
 -- the place holds what the source's holds, and the other places what they held
-the_bytes : (c : After-index_mut-2) → ((with_items c.args.self.now.bytes c.move_page.new.bytes).items ≡ c.move_page.new.bytes) × PutsSlot (page_bytes_of c.args.self.now.geometry) c.args.self.now.bytes.items c.move_page.new.bytes c.place_of-place.result (slot (page_bytes_of c.args.self.now.geometry) c.args.self.now.bytes.items c.place_of-source.result)
+the_bytes : (c : After-index_mut-2) → ((with_items c.args.self.now.bytes c.move_page.new.bytes).items ≡ c.move_page.new.bytes)
+    × PutsSlot (page_bytes_of c.args.self.now.geometry) c.args.self.now.bytes.items c.move_page.new.bytes c.place_of-place.result
+    (slot (page_bytes_of c.args.self.now.geometry) c.args.self.now.bytes.items c.place_of-source.result)
 the_bytes c =
     let d = c.args.self.now in
     let was = c.deref_mut.ensures.value in
     let sized : length c.move_page.new.bytes ≡ vec_len d.bytes = omega (arith, c.move_page.ensures.size, ap (λ (xs : List ℕ). length xs) was, d.bytes.ok.0) in
-    let by_size = subst (λ (n : ℕ). PutsSlot n c.deref_mut.result.now c.move_page.new.bytes c.place_of-place.result (slot n c.deref_mut.result.now c.place_of-source.result)) c.page_bytes-page_bytes.ensures c.move_page.ensures in (
+    let by_size = subst (λ (n : ℕ). PutsSlot n c.deref_mut.result.now c.move_page.new.bytes c.place_of-place.result
+    (slot n c.deref_mut.result.now c.place_of-source.result)) c.page_bytes-page_bytes.ensures c.move_page.ensures in (
       with_items_is d.bytes c.move_page.new.bytes sized,
-      subst (λ (xs : List ℕ). PutsSlot (page_bytes_of d.geometry) xs c.move_page.new.bytes c.place_of-place.result (slot (page_bytes_of d.geometry) xs c.place_of-source.result)) was by_size,
+      subst (λ (xs : List ℕ). PutsSlot (page_bytes_of d.geometry) xs c.move_page.new.bytes c.place_of-place.result
+          (slot (page_bytes_of d.geometry) xs c.place_of-source.result)) was by_size,
     )
 
 pub invariant_of-self : goal.invariant_of-self
@@ -80,22 +101,32 @@ invariant_of-self c =
     }
 
 -- the page that is copied, as the storage has it
-the_page : (c : After-index_mut-2) → (record { value = slot (page_bytes_of c.args.self.now.geometry) c.args.self.now.bytes.items c.place_of-source.result; stamp = c.index.result.now }) ≡ page_at (page_bytes_of c.args.self.now.geometry) (block_of c.args.self.now c.args.from.block) c.args.from.page
+the_page : (c : After-index_mut-2)
+    → (record {
+      value = slot (page_bytes_of c.args.self.now.geometry) c.args.self.now.bytes.items c.place_of-source.result;
+      stamp = c.index.result.now;
+    }) ≡ page_at (page_bytes_of c.args.self.now.geometry) (block_of c.args.self.now c.args.from.block) c.args.from.page
 unfolding stored
 the_page c =
     let d = c.args.self.now in
     let n = page_bytes_of d.geometry in
     let page : ℕ → ℕ → Page = λ place stamp. record { value = slot n d.bytes.items place; stamp = stamp } in
-    let stamp = get_or_read d.stamps.items c.place_of-source.result c.index.result.now (omega (arith, c.place_of-source.ensures.within, d.stamps_sized)) c.index.ensures 0 in
+    let stamp = get_or_read d.stamps.items c.place_of-source.result c.index.result.now
+    (omega (arith, c.place_of-source.ensures.within, d.stamps_sized)) c.index.ensures 0 in
     let place : ℕ = c.args.from.block * pages_of d.geometry + c.args.from.page in
     ap (λ (k : ℕ). page c.place_of-source.result k) stamp
     ∙ (ap (λ (k : ℕ). page k (get_or d.stamps.items k 0)) c.place_of-source.ensures.value
     ∙ sym (page-stored d c.args.from.block c.args.from.page c.requires.source.programmed))
 
 -- a page that is added, by the value of its stamp
-changed_by : (old new : Die) (b p : ℕ) (value : List ℕ) (stamp shown : ℕ) → new.geometry ≡ old.geometry → Adds (page_bytes_of old.geometry) (pages_of old.geometry) (blocks_of old.geometry) old.bytes.items new.bytes.items old.stamps.items new.stamps.items old.states.items new.states.items b p (record { value = value; stamp = stamp }) → stamp ≡ shown → ChangesBlock old new b (programmed (block_of old b) (record { value = value; stamp = shown }))
+changed_by : (old new : Die) (b p : ℕ) (value : List ℕ) (stamp shown : ℕ) → new.geometry ≡ old.geometry
+    → Adds (page_bytes_of old.geometry) (pages_of old.geometry)
+    (blocks_of old.geometry) old.bytes.items new.bytes.items old.stamps.items new.stamps.items old.states.items new.states.items b p
+    (record { value = value; stamp = stamp }) → stamp ≡ shown
+    → ChangesBlock old new b (programmed (block_of old b) (record { value = value; stamp = shown }))
 changed_by old new b p value stamp shown same adds is =
-    subst (λ (k : ℕ). ChangesBlock old new b (programmed (block_of old b) (record { value = value; stamp = k }))) is (changes_by_adding old new b p (record { value = value; stamp = stamp }) same adds)
+    subst (λ (k : ℕ). ChangesBlock old new b (programmed (block_of old b) (record { value = value; stamp = k }))) is
+    (changes_by_adding old new b p (record { value = value; stamp = stamp }) same adds)
 
 pub returns-clause-changes : goal.returns-clause-changes
 returns-clause-changes c =
@@ -106,5 +137,6 @@ returns-clause-changes c =
     let puts = subst (λ (xs : List ℕ). PutsSlot (page_bytes_of d.geometry) d.bytes.items xs c.place_of-place.result value) (sym b.0) b.1 in
     rw (← the_page at_end)
     (changed_by d _ c.args.to.block c.args.to.page value _ c.index.result.now refl
-    (adds_page d c.args.to c.place_of-place.result (record { value = value; stamp = _ }) (with_items d.bytes c.move_page.new.bytes).items c.index_mut-2.result.now c.requires.next c.place_of-place.ensures.value puts (the_state at_end))
+    (adds_page d c.args.to c.place_of-place.result (record { value = value; stamp = _ })
+    (with_items d.bytes c.move_page.new.bytes).items c.index_mut-2.result.now c.requires.next c.place_of-place.ensures.value puts (the_state at_end))
     (omega arith))

@@ -34,7 +34,9 @@ returns-clause-status c =
     let d = c.args.self.now in
     let e = the_state (goal.at.returns-clause-status c).After-index_mut-state in
     let n : c.index_mut-state.result.now.erases ≡ (block_of d c.args.block).erases = ap (λ (t : BlockState). t.erases) e ∙ sym (erases-block d c.args.block) in
-    c.from.ensures ∙ (ap (λ (k : ℕ). bool_byte (eqb (k + 1) c.endurance-endurance.result)) n ∙ (ap (λ (k : ℕ). bool_byte (eqb ((block_of d c.args.block).erases + 1) k)) c.endurance-endurance.ensures.value ∙ byte_of (eqb ((block_of d c.args.block).erases + 1) (endurance_of d.geometry))))
+    c.from.ensures ∙ (ap (λ (k : ℕ). bool_byte (eqb (k + 1) c.endurance-endurance.result)) n
+    ∙ (ap (λ (k : ℕ). bool_byte (eqb ((block_of d c.args.block).erases + 1) k)) c.endurance-endurance.ensures.value
+    ∙ byte_of (eqb ((block_of d c.args.block).erases + 1) (endurance_of d.geometry))))
 
 pub returns-clause-changes : goal.returns-clause-changes
 unfolding block_of

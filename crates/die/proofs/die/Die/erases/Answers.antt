@@ -12,4 +12,9 @@ pub returns-clause-usable : goal.returns-clause-usable
 returns-clause-usable c =
     λ usable.
     let s = state_read c.args.self.now c.args.block c.index.result.now c.requires c.index.ensures in
-    omega (arith, ap (λ (s : BlockState). s.erases) s, erases-block c.args.self.now c.args.block, erases_below c.args.self.now c.args.block c.requires usable.not_retired)
+    omega (
+      arith,
+      ap (λ (s : BlockState). s.erases) s,
+      erases-block c.args.self.now c.args.block,
+      erases_below c.args.self.now c.args.block c.requires usable.not_retired,
+    )

@@ -18,7 +18,9 @@ returns c = record {
       let g = c.args.geometry.now in
       let states = c.in_ok-vec-3.field-0.items in
       let fresh : states ≡ replicate c.blocks-blocks.result unused = c.in_ok-vec-3.ensures.items_if_clones_equal (λ y h. search rules) in
-      let state : get_or states b unused ≡ unused = ap (λ (xs : List BlockState). get_or xs b unused) fresh ∙ get_or-replicate c.blocks-blocks.result b unused unused (omega (arith, c.blocks-blocks.ensures.value)) in
+      let state : get_or states b unused ≡ unused =
+      ap (λ (xs : List BlockState). get_or xs b unused) fresh
+      ∙ get_or-replicate c.blocks-blocks.result b unused unused (omega (arith, c.blocks-blocks.ensures.value)) in
       let by : BlockState → Block = λ t. record {
         pages = map (λ p. stored (page_bytes_of g) c.in_ok-vec.field-0.items c.in_ok-vec-2.field-0.items (b * pages_of g + p)) (range_with_len 0 t.next);
         erases = t.erases;

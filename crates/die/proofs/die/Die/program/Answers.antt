@@ -24,7 +24,8 @@ put_page-requires c =
     let place : c.place_of-place.result + 1 ≤ blocks_of g * pages_of g = omega (arith, c.place_of-place.ensures.within) in
     let room : (c.place_of-place.result + 1) * page_bytes_of g ≤ blocks_of g * pages_of g * page_bytes_of g = mul-le-mul_right (page_bytes_of g) place in
     let long : length c.deref_mut.result.now ≡ length d.bytes.items = ap (λ (xs : List ℕ). length xs) c.deref_mut.ensures.value in
-    fits_same _ c.args.bytes.now (c.place_of-place.result + 1) _ (search (rules, take_all)) (omega (arith, room, long, d.bytes_sized, ap (λ (n : ℕ). (c.place_of-place.result + 1) * n) c.requires.size))
+    fits_same _ c.args.bytes.now (c.place_of-place.result + 1) _ (search (rules, take_all))
+    (omega (arith, room, long, d.bytes_sized, ap (λ (n : ℕ). (c.place_of-place.result + 1) * n) c.requires.size))
 
 the_state : (c : After-index_mut-2) → c.index_mut-2.result.now ≡ state_of c.args.self.now c.args.at.block
 the_state c = state_read c.args.self.now c.args.at.block c.index_mut-2.result.now c.requires.next.usable.within c.index_mut-2.ensures.value
@@ -32,15 +33,23 @@ the_state c = state_read c.args.self.now c.args.at.block c.index_mut-2.result.no
 pub overflow_add-index_mut : goal.overflow_add-index_mut
 overflow_add-index_mut c =
     let e = the_state (goal.at.overflow_add-index_mut c).After-index_mut-2 in
-    omega (arith, ap (λ (s : BlockState). s.next) e, next-state c.args.self.now c.args.at c.requires.next, c.requires.next.within, c.args.self.now.geometry.in_limits.pages_high)
+    omega (
+      arith,
+      ap (λ (s : BlockState). s.next) e,
+      next-state c.args.self.now c.args.at c.requires.next,
+      c.requires.next.within,
+      c.args.self.now.geometry.in_limits.pages_high,
+    )
 
 -- the place holds the bytes, and the other places what they held
-the_bytes : (c : After-index_mut-2) → ((with_items c.args.self.now.bytes c.put_page.new.bytes).items ≡ c.put_page.new.bytes) × PutsSlot (page_bytes_of c.args.self.now.geometry) c.args.self.now.bytes.items c.put_page.new.bytes c.place_of-place.result c.args.bytes.now
+the_bytes : (c : After-index_mut-2) → ((with_items c.args.self.now.bytes c.put_page.new.bytes).items ≡ c.put_page.new.bytes)
+    × PutsSlot (page_bytes_of c.args.self.now.geometry) c.args.self.now.bytes.items c.put_page.new.bytes c.place_of-place.result c.args.bytes.now
 the_bytes c =
     let d = c.args.self.now in
     let was = c.deref_mut.ensures.value in
     let sized : length c.put_page.new.bytes ≡ vec_len d.bytes = omega (arith, c.put_page.ensures.size, ap (λ (xs : List ℕ). length xs) was, d.bytes.ok.0) in
-    let by_size = subst (λ (n : ℕ). PutsSlot n c.deref_mut.result.now c.put_page.new.bytes c.place_of-place.result c.args.bytes.now) c.requires.size (puts_same c.place_of-place.result c.deref_mut.result.now c.put_page.new.bytes _ c.args.bytes.now c.put_page.ensures (search (rules, take_all))) in (
+    let by_size = subst (λ (n : ℕ). PutsSlot n c.deref_mut.result.now c.put_page.new.bytes c.place_of-place.result c.args.bytes.now) c.requires.size
+    (puts_same c.place_of-place.result c.deref_mut.result.now c.put_page.new.bytes _ c.args.bytes.now c.put_page.ensures (search (rules, take_all))) in (
       with_items_is d.bytes c.put_page.new.bytes sized,
       subst (λ (xs : List ℕ). PutsSlot (page_bytes_of d.geometry) xs c.put_page.new.bytes c.place_of-place.result c.args.bytes.now) was by_size,
     )
@@ -67,5 +76,6 @@ returns-clause-changes c =
     let b = the_bytes at_end in
     let page : Page = record { value = c.args.bytes.now; stamp = c.args.stamp } in
     let puts = subst (λ (xs : List ℕ). PutsSlot (page_bytes_of d.geometry) d.bytes.items xs c.place_of-place.result c.args.bytes.now) (sym b.0) b.1 in
-    let adds = adds_page d c.args.at c.place_of-place.result page (with_items d.bytes c.put_page.new.bytes).items c.index_mut-2.result.now c.requires.next c.place_of-place.ensures.value puts e in
+    let adds = adds_page d c.args.at c.place_of-place.result page
+    (with_items d.bytes c.put_page.new.bytes).items c.index_mut-2.result.now c.requires.next c.place_of-place.ensures.value puts e in
     changes_by_adding d _ c.args.at.block c.args.at.page page refl adds

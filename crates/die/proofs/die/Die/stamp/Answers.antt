@@ -18,6 +18,7 @@ pub returns : goal.returns
 unfolding stored
 returns c =
     let d = c.args.self.now in
-    c.from.ensures ∙ (get_or_read d.stamps.items c.place_of.result c.index.result.now (omega (arith, c.place_of.ensures.within, d.stamps_sized)) c.index.ensures 0
+    c.from.ensures ∙ (get_or_read d.stamps.items c.place_of.result c.index.result.now
+    (omega (arith, c.place_of.ensures.within, d.stamps_sized)) c.index.ensures 0
     ∙ (ap (λ (k : ℕ). get_or d.stamps.items k 0) c.place_of.ensures.value
     ∙ ap (λ (p : Page). p.stamp) (sym (page-stored d c.args.at.block c.args.at.page c.requires.programmed))))

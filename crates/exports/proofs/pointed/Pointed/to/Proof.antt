@@ -9,7 +9,8 @@ use base.Fml.{ftrue, feq, fsep, flft}
 use base.Fraction.{full_share}
 use prog.Wp.{WpFn}
 use types.Logic.{sem}
-use types.Kit.{Sq, ‵, raw, ◌⊛◌, some, later, prop, ◌$◌, ◌∵◌, !, qed, done, move, keep, drop, use0, use1, split, join, fsplit, fjoin, feq_l, pick, await, suffices}
+use types.Kit.{Sq, ‵, raw, ◌⊛◌, some, later, prop, ◌$◌, ◌∵◌, !, qed, done, move, keep, drop, use0}
+use types.Kit.{use1, split, join, fsplit, fjoin, feq_l, pick, await, suffices}
 use types.Run.{enter, of_opd, no_more, and_then, returns}
 use types.ByLocal.{alloc_all, pass_all, free_all, look_at, get, sets, lands_as}
 use types.Part.{agg}
@@ -61,19 +62,27 @@ to_spec {M = M} 𝓤 𝓛 𝓜 𝓡 wired T L drops glue =
     let Whole-laws : Laws Whole = box_laws.the_row_laws Value Heap ghosts (param_laws 0 T L) Heap-laws in
     let shape_of_pointing = shape (pointings.the_type Value) in let bare_pointing = Struct shape_of_pointing in
     -- the call of `into_raw`, which the heap's four functions and its drop meet
-    let heap_calls = passed 𝓡.env (code.calls-std_heap::GlobalAllocator::allocate 𝓡.env wired) (code.calls-std_heap::GlobalAllocator::deallocate 𝓡.env wired) (code.calls-std_heap::GlobalAllocator::grow 𝓡.env wired) (code.calls-std_heap::GlobalAllocator::shrink 𝓡.env wired) M 𝓤 𝓛 𝓜 𝓡 in
+    let heap_calls = passed 𝓡.env (code.calls-std_heap::GlobalAllocator::allocate 𝓡.env wired)
+    (code.calls-std_heap::GlobalAllocator::deallocate 𝓡.env wired) (code.calls-std_heap::GlobalAllocator::grow 𝓡.env wired)
+    (code.calls-std_heap::GlobalAllocator::shrink 𝓡.env wired) M 𝓤 𝓛 𝓜 𝓡 in
     let heap_goes = glues "exports::Destruct++none::drop" 𝓡.env (code.calls-exports::Destruct++none::drop 𝓡.env wired) Heap-arg Heap-arg-laws M 𝓤 𝓛 𝓜 𝓡 in
-    let Raw = triple_of 𝓛 (raw_call.signature T Heap-arg ghosts dict heap_drop drops) (raw_call.spec T Heap-arg ghosts dict heap_drop drops 𝓛 𝓜.mem 𝓡.returns) in
-    let raw_is_met = met 𝓤 𝓛 𝓜 𝓡 (code.calls-std_alloc::boxed::Box::into_raw 𝓡.env wired) T Heap-arg L Heap-arg-laws ghosts dict heap_drop drops heap_calls heap_goes glue in
+    let Raw = triple_of 𝓛 (raw_call.signature T Heap-arg ghosts dict heap_drop drops)
+    (raw_call.spec T Heap-arg ghosts dict heap_drop drops 𝓛 𝓜.mem 𝓡.returns) in
+    let raw_is_met = met 𝓤 𝓛 𝓜 𝓡 (code.calls-std_alloc::boxed::Box::into_raw 𝓡.env wired) T Heap-arg L Heap-arg-laws ghosts dict heap_drop drops
+    heap_calls heap_goes glue in
     let right = ghosts.dealloc_token heap in
     proved_at 𝓛 form taken promised 𝓜 𝓡 (Goes-dropped 𝓛 1 (plain (λ _. Whole)) no (λ κs x w. refl), tt)
     (f.Key.name types) body (code.unfolded 𝓤 𝓛.H 𝓜 𝓡 wired (T, tt) drops) (λ begun _.
     let life = begun.0.0.0 in let share = begun.0.1.0 in let box = begun.0.3.0 in
-    qed 𝓛 (((‵ (flft life share) ⊛ ‵ ftrue) ⊛ ‵ (owns (types_at form.signature.params begun.0.0) begun.0.3 begun.0.4)) ∷ (raw (fact 𝓤 (life ⊑ T.lives)) ⊛ ‵ ftrue) ∷ []) ∵
+    qed 𝓛 (((‵ (flft life share) ⊛ ‵ ftrue) ⊛ ‵
+    (owns (types_at form.signature.params begun.0.0) begun.0.3 begun.0.4)) ∷ (raw (fact 𝓤 (life ⊑ T.lives)) ⊛ ‵ ftrue) ∷ []) ∵
     -- the value outlives the call, and its box is one word
     move ! (1 ∷ []) $ split ! $ heard ! _ (λ outlives. drop ! $ split ! $ move ! (1 ∷ []) $ fsplit ! $ keep ! (0 ∷ 2 ∷ []) $
     peeks ! Whole (Is Whole) (shows 𝓛 Whole) box begun.0.4.0 (λ seen.
-    one_value (layout Whole) (λ vs. Sq 𝓛 (‵ (Whole.own_val box vs) ∷ (‵ (flft life share) ⊛ ‵ ftrue) ∷ []) (prop (WpFn 𝓤 𝓛.H running.C running.Λ body (vs ++ []) (walk.post begun)))) begun.0.4.0 ((Whole-laws.lawful 𝓛).typed box begun.0.4.0 seen) (λ whole well_typed.
+    one_value (layout Whole) (λ vs.
+    Sq 𝓛 (‵ (Whole.own_val box vs) ∷ (‵ (flft life share) ⊛ ‵ ftrue) ∷ [])
+    (prop (WpFn 𝓤 𝓛.H running.C running.Λ body (vs ++ []) (walk.post begun)))) begun.0.4.0 ((Whole-laws.lawful 𝓛).typed box begun.0.4.0 seen)
+    (λ whole well_typed.
     -- what the call asks: the box, the tokens of the two lifetimes, and that both last
     let asked : Raw.Ghost = (((life, ([], tt)), (share, (full_share, tt)), tt, (box, tt), (whole ∷ [], tt)), tt) in
     nothing ! $ move ! (1 ∷ 0 ∷ []) $ fjoin ! $ move ! (1 ∷ []) $ split ! $ move ! (1 ∷ []) $
@@ -85,13 +94,15 @@ to_spec {M = M} 𝓤 𝓛 𝓜 𝓡 wired T L drops glue =
     enter ! _ _ _ _ _ $ alloc_all ! (λ locals. pass_all ! refl (well_typed, tt) $ sets ! (of_opd ! (get ! refl)) refl well_typed $
     calls_at ! (framed 𝓤 𝓛.H 𝓜 running) Raw raw_is_met asked (and_then ! (get ! refl) (no_more !)) (λ answer.
     use1 𝓛 (later (some (λ (place : Ptr). ((‵ (flft life share) ⊛ ‵ (flft [] full_share) ⊛ ‵ ftrue) ⊛ ‵ (feq (List Val) (answer ∷ []) (ptr_val place ∷ []))) ⊛
-    some (λ (lasts : (Unit {0} × (Unit {0} × Unit {0})) × Unit {0}). ‵ (fsep (fsep ftrue (fsep ftrue ftrue)) ftrue) ⊛ ‵ (box_owns right Value place box.value))))) (id⊢ 𝓤 _) $
+    some (λ (lasts : (Unit {0} × (Unit {0} × Unit {0})) × Unit {0}).
+    ‵ (fsep (fsep ftrue (fsep ftrue ftrue)) ftrue) ⊛ ‵ (box_owns right Value place box.value))))) (id⊢ 𝓤 _) $
     await ! tt $ pick ! (λ place. split ! $ split ! $ split ! $ move ! (2 ∷ []) $ feq_l ! (λ is_place. move ! (2 ∷ []) $ pick ! (λ lasts. split ! $ drop ! $
     in_a_block ! place (λ p. box_owns right Value p box.value) (fst∗ 𝓤 (never 𝓤) (sem 𝓛 (right (bare (layout T)) null_ptr))) (λ block offset here.
     -- [what the box owned; the value's token; the other tokens]: the struct is made of the pointer
     let made : Pointing.Denot = record { place = block_ptr block offset; there = box.value } in
     lands_as ! (ap only is_place ∙ ap ptr_val here) refl (tt, tt) $ sets ! (agg ! (and_then ! (get ! refl) (no_more !))) refl (tt, (tt, tt)) $
     returns ! (look_at ! 0 refl) $ free_all ! refl $ keep ! (0 ∷ 1 ∷ []) $
-    owned ! bare_pointing (Is bare_pointing) (Struct-Makes 𝓛 shape_of_pointing (rawptr_pure, tt)) (block_ptr block offset, tt) (word (block_ptr block offset) ∷ []) ((vptr block offset ∷ [], tt), (refl, (refl, tt))) $ fjoin ! $
+    owned ! bare_pointing (Is bare_pointing) (Struct-Makes 𝓛 shape_of_pointing (rawptr_pure, tt)) (block_ptr block offset, tt)
+    (word (block_ptr block offset) ∷ []) ((vptr block offset ∷ [], tt), (refl, (refl, tt))) $ fjoin ! $
     suffices ! _ (ends_at 𝓛 form taken promised begun (word (block_ptr block offset)) made (tt, tt) (tt, tt)) $ says ! refl $
     nothing ! $ nothing ! $ join ! $ nothing ! $ move ! (3 ∷ 0 ∷ []) $ join ! $ done !))))))))))

@@ -8,4 +8,5 @@ use Rattle.exports.proofs.seat.Host.trim.Goals as goal
 
 pub returns-clause-told : goal.returns-clause-told
 returns-clause-told c low t number =
-    subst (λ (w : Was). HasCalled c.args.self.now.pass (call.Trim t c.args.sector) c.args.sector w c.trim.new.pass) (sym (ap was_by c.code_of.ensures ∙ was_back c.trim.result)) (c.trim.ensures.told t number)
+    subst (λ (w : Was). HasCalled c.args.self.now.pass (call.Trim t c.args.sector) c.args.sector w c.trim.new.pass)
+    (sym (ap was_by c.code_of.ensures ∙ was_back c.trim.result)) (c.trim.ensures.told t number)

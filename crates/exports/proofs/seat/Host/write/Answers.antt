@@ -8,4 +8,5 @@ use Rattle.exports.proofs.seat.Host.write.Goals as goal
 
 pub returns-in-Ok-clause-wrote : goal.returns-in-Ok-clause-wrote
 returns-in-Ok-clause-wrote c low t number =
-    subst (λ (w : Was). Wrote (view_of c.args.self.now.pass) t c.args.sector c.args.bytes.now w (view_of c.write.new.pass)) (sym (ap was_by c.code_of.ensures ∙ was_back c.in-Ok.was)) (c.in-Ok.ensures.wrote t number)
+    subst (λ (w : Was). Wrote (view_of c.args.self.now.pass) t c.args.sector c.args.bytes.now w (view_of c.write.new.pass))
+    (sym (ap was_by c.code_of.ensures ∙ was_back c.in-Ok.was)) (c.in-Ok.ensures.wrote t number)

@@ -48,11 +48,13 @@ filled_spec 𝓤 𝓛 𝓜 𝓡 wired =
     qed 𝓛 ((‵ ftrue ⊛ ‵ (owns (types_at f.ended.signature.params κs) args words)) ∷ raw ((promised κs args).requires tt) ∷ []) ∵
     split ! $ drop ! $ fsplit ! $ fsplit ! $ drop ! $
     -- [what the pointer owns]
-    in_a_block ! pointed.place (λ p. box_owns (ghosts.dealloc_token heap) Row p pointed.there) (fst∗ 𝓤 (never 𝓤) (sem 𝓛 (ghosts.dealloc_token heap (bare (layout Row)) null_ptr))) (λ block offset here.
+    in_a_block ! pointed.place (λ p. box_owns (ghosts.dealloc_token heap) Row p pointed.there)
+    (fst∗ 𝓤 (never 𝓤) (sem 𝓛 (ghosts.dealloc_token heap (bare (layout Row)) null_ptr))) (λ block offset here.
     regoal ! (λ (p : Ptr). prop (WpFn 𝓤 𝓛.H running.C running.Λ code.function (word p ∷ []) (walk.post begun))) here refl $
     enter ! _ _ _ _ _ $ alloc_all ! (λ locals. pass_all ! refl ((tt, (tt, tt)), tt) $
     sets ! (of_opd ! (get_in ! (fld ! refl (stop !)) (sub ! 0 refl (whole !)))) refl (tt, tt) $
     sets ! (agg ! (and_then ! (get ! refl) (no_more !))) refl (word_typed (block_ptr block offset)) $
     returns ! (look_at ! 0 refl) $ free_all ! refl $ keep ! (0 ∷ []) $ makes ! (block_ptr block offset) (Some pointed.there) $
-    suffices ! _ (ends_at 𝓛 f.ended taken promised begun (word (block_ptr block offset)) (record { at = block_ptr block offset; seat = Some pointed.there }) (tt, tt) (tt, tt)) $ says ! refl $
+    suffices ! _ (ends_at 𝓛 f.ended taken promised begun (word (block_ptr block offset))
+    (record { at = block_ptr block offset; seat = Some pointed.there }) (tt, tt) (tt, tt)) $ says ! refl $
     nothing ! $ nothing ! $ join ! $ nothing ! $ done !)))

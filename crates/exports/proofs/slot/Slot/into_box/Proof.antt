@@ -8,7 +8,8 @@ use base.Fml.{ftrue, fsep, flft}
 use base.Fraction.{full_share}
 use prog.Wp.{WpFn}
 use types.Logic.{sem}
-use types.Kit.{‵, raw, ◌⊛◌, some, later, prop, at_ret, ◌$◌, ◌∵◌, !, qed, done, move, keep, drop, use0, use1, split, join, fsplit, fjoin, feq_i, pick, await, rewrite, regoal, suffices}
+use types.Kit.{‵, raw, ◌⊛◌, some, later, prop, at_ret, ◌$◌, ◌∵◌, !, qed, done, move, keep, drop, use0, use1}
+use types.Kit.{split, join, fsplit, fjoin, feq_i, pick, await, rewrite, regoal, suffices}
 use types.Run.{enter, of_opd, stop, fld, no_more, and_then, first, blocks, exec, returns}
 use types.ByLocal.{alloc_all, pass_all, free_all, look_at, get, get_in, sets, lands_last, env}
 use types.Part.{sub, whole}
@@ -50,18 +51,24 @@ pub into_box_spec : {M : Type 1} → statement M
 unfolding nothing_dropped.code
 into_box_spec {M = M} 𝓤 𝓛 𝓜 𝓡 wired =
     let promised = f.clauses 𝓛 𝓜.mem 𝓡.returns in let walk = walk_of 𝓛 f.ended taken promised in let running = tables 𝓤 𝓛.H 𝓜 𝓡 𝓡.env in
-    let heap_calls = passed 𝓡.env (code.calls-std_heap::GlobalAllocator::allocate 𝓡.env wired) (code.calls-std_heap::GlobalAllocator::deallocate 𝓡.env wired) (code.calls-std_heap::GlobalAllocator::grow 𝓡.env wired) (code.calls-std_heap::GlobalAllocator::shrink 𝓡.env wired) M 𝓤 𝓛 𝓜 𝓡 in
+    let heap_calls = passed 𝓡.env (code.calls-std_heap::GlobalAllocator::allocate 𝓡.env wired)
+    (code.calls-std_heap::GlobalAllocator::deallocate 𝓡.env wired) (code.calls-std_heap::GlobalAllocator::grow 𝓡.env wired)
+    (code.calls-std_heap::GlobalAllocator::shrink 𝓡.env wired) M 𝓤 𝓛 𝓜 𝓡 in
     let heap_goes = glues "exports::Destruct++none::drop" 𝓡.env (code.calls-exports::Destruct++none::drop 𝓡.env wired) Heap-arg Heap-arg-laws M 𝓤 𝓛 𝓜 𝓡 in
-    let Raw = triple_of 𝓛 (raw_call.signature Seat-arg Heap-arg ghosts dict heap_drop) (raw_call.spec Seat-arg Heap-arg ghosts dict heap_drop 𝓛 𝓜.mem 𝓡.returns) in
-    let raw_is_met = met 𝓤 𝓛 𝓜 𝓡 (code.calls-std_alloc::boxed::Box::from_raw 𝓡.env wired) Seat-arg Heap-arg Seat-arg-laws Heap-arg-laws ghosts dict heap_drop heap_calls heap_goes in
-    proved 𝓛 f.ended taken promised 𝓜 𝓡 (Goes-dropped 𝓛 0 (plain (λ _. Slot)) yes (λ κs x w. refl), (Goes-dropped 𝓛 0 (plain (λ _. Heap)) yes (λ κs x w. refl), tt))
+    let Raw = triple_of 𝓛 (raw_call.signature Seat-arg Heap-arg ghosts dict heap_drop)
+    (raw_call.spec Seat-arg Heap-arg ghosts dict heap_drop 𝓛 𝓜.mem 𝓡.returns) in
+    let raw_is_met = met 𝓤 𝓛 𝓜 𝓡 (code.calls-std_alloc::boxed::Box::from_raw 𝓡.env wired) Seat-arg Heap-arg Seat-arg-laws Heap-arg-laws ghosts dict
+    heap_drop heap_calls heap_goes in
+    proved 𝓛 f.ended taken promised 𝓜 𝓡
+    (Goes-dropped 𝓛 0 (plain (λ _. Slot)) yes (λ κs x w. refl), (Goes-dropped 𝓛 0 (plain (λ _. Heap)) yes (λ κs x w. refl), tt))
     f.Key.name code.function (code.unfolded 𝓤 𝓛.H 𝓜 𝓡 wired)
     (λ κs. ((λ slot. lowers.lowered slot ∷ []), ((λ _. heap_val ∷ []), tt))) (λ κs. (lowers.val_is, (heap_Tells, tt))) (λ κs qs bounds args _ are.
     let slot = args.0 in let alloc = args.1.0 in
     let words : List Val × (List Val × Unit {0}) = (lowers.lowered slot ∷ [], (heap_val ∷ [], tt)) in
     let begun : walk.Ghost = ((κs, qs, bounds, args, words), tt) in
     qed 𝓛 ((‵ ftrue ⊛ ‵ (owns (types_at f.ended.signature.params κs) args words)) ∷ raw ((promised κs args).requires tt) ∷ []) ∵
-    move ! (1 ∷ []) $ heard ! _ (λ tested. let x : Seat = (the_seat slot.seat tested).0 in let is_some_seat : slot.seat ≡ Some x = (the_seat slot.seat tested).1 in
+    move ! (1 ∷ []) $ heard ! _
+    (λ tested. let x : Seat = (the_seat slot.seat tested).0 in let is_some_seat : slot.seat ≡ Some x = (the_seat slot.seat tested).1 in
     split ! $ drop ! $ fsplit ! $ fsplit ! $ drop ! $
     -- [what is kept; the heap with the end of the list]
     rewrite ! 0 (λ (seat : Option Seat). ‵ (kept slot.at seat)) is_some_seat refl $
@@ -70,16 +77,28 @@ into_box_spec {M = M} 𝓤 𝓛 𝓜 𝓡 wired =
     enter ! _ _ _ _ _ $ alloc_all ! (λ locals. pass_all ! refl (word_typed (block_ptr block offset), ((tt, ((tt, tt), tt)), tt)) $
     sets ! (of_opd ! (get_in ! (fld ! refl (stop !)) (sub ! 0 refl (whole !)))) refl (tt, tt) $
     -- what the call requires, its arguments, and the tokens of two lifetimes without end
-    let asked : Raw.Ghost = ((([], ([], tt)), (full_share, (full_share, tt)), tt, (alloc, (block_ptr block offset, tt)), (heap_val ∷ [], (vptr block offset ∷ [], tt))), x) in
+    let asked : Raw.Ghost = (
+      (
+        ([], ([], tt)),
+        (full_share, (full_share, tt)),
+        tt,
+        (alloc, (block_ptr block offset, tt)),
+        (heap_val ∷ [], (vptr block offset ∷ [], tt)),
+      ),
+      x,
+    ) in
     use0 𝓛 (raw (fact 𝓤 ([] ⊑ Heap.lives))) (fact_i 𝓤 ([] ⊑ Heap.lives) (emp 𝓤) (⊑_static [])) $ join ! $
     use0 𝓛 (raw (fact 𝓤 ([] ⊑ Row.lives))) (fact_i 𝓤 ([] ⊑ Row.lives) (emp 𝓤) (⊑_static [])) $ join ! $
-    move ! (1 ∷ []) $ fsplit ! $ move ! (1 ∷ []) $ feq_i ! (List Val) (vptr block offset ∷ []) (vptr block offset ∷ []) refl $ fjoin ! $ move ! (1 ∷ 0 ∷ []) $ fjoin ! $
+    move ! (1 ∷ []) $ fsplit ! $ move ! (1 ∷ []) $ feq_i ! (List Val) (vptr block offset ∷ []) (vptr block offset ∷ []) refl $ fjoin ! $ move !
+    (1 ∷ 0 ∷ []) $ fjoin ! $
     nothing ! $ use0 𝓛 (‵ (flft [] full_share)) (𝓛.lfts.lft-nil full_share) $ join ! $ use0 𝓛 (‵ (flft [] full_share)) (𝓛.lfts.lft-nil full_share) $ join ! $
     join ! $ join ! $ use1 𝓛 (raw (Raw.pre asked)) (id⊢ 𝓤 _) $
     first ! $ blocks ! $
     calls_at_last ! (framed 𝓤 𝓛.H 𝓜 running) Raw raw_is_met asked (and_then ! (get ! refl) (and_then ! (get ! refl) (no_more !))) (λ answer.
-    use1 𝓛 (later (some (λ (whole_box : Boxed.Denot). ((‵ (flft [] full_share) ⊛ ‵ (flft [] full_share) ⊛ ‵ ftrue) ⊛ ‵ (Boxed.own_val whole_box (answer ∷ []))) ⊛
-    some (λ (lasts : Unit {0} × (Unit {0} × Unit {0})). ‵ (fsep ftrue (fsep ftrue ftrue)) ⊛ (raw (fact 𝓤 (whole_box.value ≡ x)) ⊛ raw (fact 𝓤 (whole_box.alloc ≡ alloc))))))) (id⊢ 𝓤 _) $
+    use1 𝓛 (later (some (λ (whole_box : Boxed.Denot).
+    ((‵ (flft [] full_share) ⊛ ‵ (flft [] full_share) ⊛ ‵ ftrue) ⊛ ‵ (Boxed.own_val whole_box (answer ∷ []))) ⊛
+    some (λ (lasts : Unit {0} × (Unit {0} × Unit {0})).
+    ‵ (fsep ftrue (fsep ftrue ftrue)) ⊛ (raw (fact 𝓤 (whole_box.value ≡ x)) ⊛ raw (fact 𝓤 (whole_box.alloc ≡ alloc))))))) (id⊢ 𝓤 _) $
     await ! tt $ pick ! (λ whole_box. split ! $ split ! $ drop ! $ move ! (1 ∷ []) $ pick ! (λ lasts. split ! $ drop ! $ split ! $ heard ! _ (λ same. drop ! $
     -- [the box]
     peeks ! Boxed (Is Boxed) (shows 𝓛 Boxed) whole_box (answer ∷ []) (λ seen. let well_typed = ((Boxed-laws.lawful 𝓛).typed whole_box (answer ∷ []) seen).0 in

@@ -41,7 +41,8 @@ returns-in_err-spare c =
     c.from_residual.ensures
     ∙ sym (due_is (geometry_of f) k None None None
     (open_of-stock f ∙ none_of f.open_block (sym c.is_some.ensures ∙ c.if-is_some.false))
-    (free_of-stock f ∙ (ap (position is_free) (sym c.deref.ensures.value) ∙ (sym c.lowest_free.ensures ∙ none_of c.lowest_free.result (sym c.is_some-2.ensures ∙ c.if-is_some-2.false))))
+    (free_of-stock f ∙ (ap (position is_free) (sym c.deref.ensures.value)
+    ∙ (sym c.lowest_free.ensures ∙ none_of c.lowest_free.result (sym c.is_some-2.ensures ∙ c.if-is_some-2.false))))
     (spare_of-stock f ∙ c.in_err-spare.was))
 
 pub collection_into-requires-clause-none : goal.collection_into-requires-clause-none
@@ -51,7 +52,9 @@ collection_into-requires-clause-none c =
 
 pub collection_into-requires-clause-no_free : goal.collection_into-requires-clause-no_free
 collection_into-requires-clause-no_free c =
-    free_of-stock c.args.self.now ∙ (ap (position is_free) (sym c.deref.ensures.value) ∙ (sym c.lowest_free.ensures ∙ none_of c.lowest_free.result (sym c.is_some-2.ensures ∙ c.if-is_some-2.false)))
+    free_of-stock c.args.self.now
+    ∙ (ap (position is_free) (sym c.deref.ensures.value)
+    ∙ (sym c.lowest_free.ensures ∙ none_of c.lowest_free.result (sym c.is_some-2.ensures ∙ c.if-is_some-2.false)))
 
 pub collection_into-requires-clause-spare : goal.collection_into-requires-clause-spare
 collection_into-requires-clause-spare c = spare_of-stock c.args.self.now ∙ c.in_ok-spare.was
@@ -62,6 +65,8 @@ returns c =
     let k = stock_of f in
     sym (due_is (geometry_of f) k None None (Some c.in_ok-spare.spare)
     (open_of-stock f ∙ none_of f.open_block (sym c.is_some.ensures ∙ c.if-is_some.false))
-    (free_of-stock f ∙ (ap (position is_free) (sym c.deref.ensures.value) ∙ (sym c.lowest_free.ensures ∙ none_of c.lowest_free.result (sym c.is_some-2.ensures ∙ c.if-is_some-2.false))))
+    (free_of-stock f ∙ (ap (position is_free) (sym c.deref.ensures.value)
+    ∙ (sym c.lowest_free.ensures ∙ none_of c.lowest_free.result (sym c.is_some-2.ensures ∙ c.if-is_some-2.false))))
     (spare_of-stock f ∙ c.in_ok-spare.was)
-    ∙ (ap (option_map (collection_into (geometry_of f) k c.in_ok-spare.spare)) c.collection_into.ensures.victim ∙ ap Some (sym c.collection_into.ensures.value)))
+    ∙ (ap (option_map (collection_into (geometry_of f) k c.in_ok-spare.spare)) c.collection_into.ensures.victim
+    ∙ ap Some (sym c.collection_into.ensures.value)))

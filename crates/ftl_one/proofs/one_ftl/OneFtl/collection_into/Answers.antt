@@ -39,7 +39,12 @@ erases-erases-requires c = the_low (goal.at.erases-erases-requires c).After-fewe
 
 pub overflow_add-erases : goal.overflow_add-erases
 overflow_add-erases c =
-    omega (arith, c.erases-erases.ensures, erases_at c.args.self.now c.fewest_beside-victim.result (the_low (goal.at.overflow_add-erases c).After-fewest_beside-victim), c.args.self.now.store.die.geometry.in_limits.endurance_high)
+    omega (
+      arith,
+      c.erases-erases.ensures,
+      erases_at c.args.self.now c.fewest_beside-victim.result (the_low (goal.at.overflow_add-erases c).After-fewest_beside-victim),
+      c.args.self.now.store.die.geometry.in_limits.endurance_high,
+    )
 
 pub copybacks-requires-clause-victim : goal.copybacks-requires-clause-victim
 copybacks-requires-clause-victim c = the_low (goal.at.copybacks-requires-clause-victim c).After-fewest_beside-victim
@@ -49,7 +54,8 @@ copybacks-requires-clause-spare c = spare_within c.args.self.now c.args.spare c.
 
 pub returns-clause-victim : goal.returns-clause-victim
 returns-clause-victim c =
-    victim_by c.args.self.now c.args.spare c.requires.none c.requires.no_free c.requires.spare c.fewest_beside-victim.result (the_fewest (goal.at.returns-clause-victim c).After-fewest_beside-victim)
+    victim_by c.args.self.now c.args.spare c.requires.none c.requires.no_free c.requires.spare c.fewest_beside-victim.result
+    (the_fewest (goal.at.returns-clause-victim c).After-fewest_beside-victim)
 
 pub returns-clause-value : goal.returns-clause-value
 unfolding geometry_of

@@ -17,5 +17,6 @@ unfolding geometry_of counts_of
 returns c =
     let f = c.args.self.now in
     let b = c.args.block in
-    let counted : get_or (counts_of f.store) b 0 ≡ live_of (block_at (stock_of f) b) = count-entries_of f.store b c.requires ∙ sym (ap live_of (block_at-stock f b c.requires)) in
+    let counted : get_or (counts_of f.store) b 0 ≡ live_of (block_at (stock_of f) b) =
+    count-entries_of f.store b c.requires ∙ sym (ap live_of (block_at-stock f b c.requires)) in
     grind (arith, common_steps, c.from.ensures, c.live.ensures.value, counted)

@@ -25,7 +25,8 @@ ready_is E k o f s p q r =
 pub returns-in-Some-clause-ready : goal.returns-in-Some-clause-ready
 returns-in-Some-clause-ready c =
     let k = stock_of c.args.self.now in
-    ready_is (endurance_of (geometry_of c.args.self.now)) k (Some c.in-Some.block) (free_of k.blocks) (spare_of k.blocks) (open_of-stock c.args.self.now ∙ c.in-Some.is) refl refl
+    ready_is (endurance_of (geometry_of c.args.self.now)) k (Some c.in-Some.block) (free_of k.blocks) (spare_of k.blocks)
+    (open_of-stock c.args.self.now ∙ c.in-Some.is) refl refl
 
 pub returns-in-Some-clause-opened : goal.returns-in-Some-clause-opened
 returns-in-Some-clause-opened c = open_of-stock c.args.self.now ∙ c.in-Some.is

@@ -44,8 +44,11 @@ invariant_of-result c =
       free_within = omega arith;
       free_above = λ b below. absurd (omega (arith, below));
       knows_spare = subst (λ (xs : List Role). KnowsSpare (role_in xs) (Some n)) (sym (the_roles at_end)) (spare_new n);
-      lawful = subst (λ (xs : List Role). IsLawful (blocks_of (pages.geometry_of s)) (pages_of (pages.geometry_of s)) (λ b. length (pages.entries_of s b)) (pages.retired_of s) (role_in xs) None) (sym (the_roles at_end))
-          (subst (λ (k : ℕ). IsLawful k (pages_of (pages.geometry_of s)) (λ b. length (pages.entries_of s b)) (pages.retired_of s) (role_in (roles_new n)) None) (sym (the_size at_end)) law);
+      lawful = subst (λ (xs : List Role).
+          IsLawful (blocks_of (pages.geometry_of s)) (pages_of (pages.geometry_of s)) (λ b. length (pages.entries_of s b)) (pages.retired_of s)
+          (role_in xs) None) (sym (the_roles at_end))
+          (subst (λ (k : ℕ). IsLawful k (pages_of (pages.geometry_of s)) (λ b. length (pages.entries_of s b)) (pages.retired_of s)
+          (role_in (roles_new n)) None) (sym (the_size at_end)) law);
       bounded = omega arith;
     }
 

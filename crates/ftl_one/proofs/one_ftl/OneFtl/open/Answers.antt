@@ -25,7 +25,8 @@ roles_open f b = set f.roles.items b Open
 others_kept : (f : OneFtl) (b k : ℕ) → k ≢ b → role_in (roles_open f b) k ≡ role_in f.roles.items k
 others_kept f b k apart = get_or-set_other f.roles.items b k Open Retired apart
 
-the_blocks : (f : OneFtl) (b : ℕ) → b < length f.roles.items → blocks_in f.store (roles_open f b) ≡ change_at (blocks_in f.store f.roles.items) b (λ block. record block { role = Open })
+the_blocks : (f : OneFtl) (b : ℕ) → b < length f.roles.items
+    → blocks_in f.store (roles_open f b) ≡ change_at (blocks_in f.store f.roles.items) b (λ block. record block { role = Open })
 the_blocks f b low =
     let roles = f.roles.items in
     blocks-role f.store roles (roles_open f b) b Open (length-set roles b Open) low (get_or-set_same roles b Open Retired low) (others_kept f b)
@@ -40,7 +41,8 @@ invariant_of-self c =
     let found = free_found f b c.requires.free in
     let here : role_in new b ≡ Open = get_or-set_same f.roles.items b Open Retired found.0 in
     let heavy : sum_by (weight (pages_of g)) (blocks_in s new) ≡ sum_by (weight (pages_of g)) (blocks_in s f.roles.items) =
-    ap (sum_by (weight (pages_of g))) (the_blocks f b found.0) ∙ weight-role (pages_of g) b Open (blocks_in s f.roles.items) (omega (arith, found.0, length-blocks s f.roles.items)) in
+    ap (sum_by (weight (pages_of g))) (the_blocks f b found.0)
+    ∙ weight-role (pages_of g) b Open (blocks_in s f.roles.items) (omega (arith, found.0, length-blocks s f.roles.items)) in
     record {
       one_thread = f.one_thread;
       roles_sized = length-set f.roles.items b Open ∙ f.roles_sized;
@@ -49,9 +51,12 @@ invariant_of-self c =
         | inl e ↦ ap is_free (ap (role_in new) e ∙ here)
         | inr apart ↦ ap is_free (others_kept f b k apart) ∙ none_below f b c.requires.free k (omega (arith, below, apart))
       ];
-      knows_spare = spare-kept (role_in f.roles.items) (role_in new) f.spare b f.knows_spare (λ h. free≢spare (role_in f.roles.items b) found.1 h) (λ h. open≢spare (role_in new b) here h) (others_kept f b);
-      lawful = lawful-open (blocks_of g) (pages_of g) (λ k. length (pages.entries_of s k)) (pages.retired_of s) (role_in f.roles.items) f.open_block f.lawful (role_in new) b
-          (omega (arith, s.die.geometry.in_limits.pages_low)) (omega (arith, found.0, f.roles_sized)) (sym (open_of-stock f) ∙ c.requires.none) found.1 here (others_kept f b);
+      knows_spare = spare-kept (role_in f.roles.items) (role_in new) f.spare b f.knows_spare (λ h. free≢spare (role_in f.roles.items b) found.1 h)
+          (λ h. open≢spare (role_in new b) here h) (others_kept f b);
+      lawful = lawful-open (blocks_of g) (pages_of g) (λ k. length (pages.entries_of s k)) (pages.retired_of s)
+          (role_in f.roles.items) f.open_block f.lawful (role_in new) b
+          (omega (arith, s.die.geometry.in_limits.pages_low)) (omega (arith, found.0, f.roles_sized))
+          (sym (open_of-stock f) ∙ c.requires.none) found.1 here (others_kept f b);
       bounded = omega (arith, heavy, f.bounded);
     }
 

@@ -25,7 +25,8 @@ invariant_of-self c =
     let blocks = blocks-forget f.store s f.roles.items c.args.sector f.roles_sized c.forget.ensures.entries c.forget.ensures.keeps in
     let heavy : sum_by (weight (pages_of g)) (blocks_in s f.roles.items) ≡ sum_by (weight (pages_of g)) (blocks_in f.store f.roles.items) =
     ap (sum_by (weight (pages_of g))) blocks ∙ weight-forget (pages_of g) c.args.sector (blocks_in f.store f.roles.items) in
-    let law = lawful-same (blocks_of g) (pages_of g) (λ b. length (pages.entries_of f.store b)) (pages.retired_of f.store) (role_in f.roles.items) f.open_block f.lawful (λ b. length (pages.entries_of s b)) (pages.retired_of s)
+    let law = lawful-same (blocks_of g) (pages_of g) (λ b. length (pages.entries_of f.store b)) (pages.retired_of f.store)
+    (role_in f.roles.items) f.open_block f.lawful (λ b. length (pages.entries_of s b)) (pages.retired_of s)
     (λ b low. ap (λ (xs : List Entry). length xs) (c.forget.ensures.entries b low) ∙ length-map (pages.entries_of f.store b) (forgotten c.args.sector))
     c.forget.ensures.keeps.retired in
     record {
@@ -34,8 +35,10 @@ invariant_of-self c =
       free_within = f.free_within;
       free_above = f.free_above;
       knows_spare = f.knows_spare;
-      lawful = subst (λ (h : Geometry). IsLawful (blocks_of h) (pages_of h) (λ b. length (pages.entries_of s b)) (pages.retired_of s) (role_in f.roles.items) f.open_block) (sym same) law;
-      bounded = subst (λ (h : Geometry). f.counts.programs + f.counts.copies + f.counts.erases ≤ sum_by (weight (pages_of h)) (blocks_in s f.roles.items)) (sym same) (omega (arith, heavy, f.bounded));
+      lawful = subst (λ (h : Geometry). IsLawful (blocks_of h) (pages_of h) (λ b. length (pages.entries_of s b)) (pages.retired_of s)
+          (role_in f.roles.items) f.open_block) (sym same) law;
+      bounded = subst (λ (h : Geometry). f.counts.programs + f.counts.copies + f.counts.erases
+          ≤ sum_by (weight (pages_of h)) (blocks_in s f.roles.items)) (sym same) (omega (arith, heavy, f.bounded));
     }
 
 pub returns-clause-geometry : goal.returns-clause-geometry
@@ -56,4 +59,5 @@ returns-clause-stock c =
     let f = c.args.self.now in
     let s = c.forget.new.self in
     let by : List Block → Stock = λ blocks. record { blocks = blocks; programs = f.counts.programs; copies = f.counts.copies; erases = f.counts.erases } in
-    ap (λ (blocks : List Block). Some (by blocks)) (sym (blocks-forget f.store s f.roles.items c.args.sector f.roles_sized c.forget.ensures.entries c.forget.ensures.keeps))
+    ap (λ (blocks : List Block). Some (by blocks))
+    (sym (blocks-forget f.store s f.roles.items c.args.sector f.roles_sized c.forget.ensures.entries c.forget.ensures.keeps))

@@ -14,7 +14,8 @@ use Rattle.ftl_one.proofs.CollectionLemmas.{write-makes}
 use Rattle.ftl_one.proofs.LawLemmas.{nothing_same, write-does, write-programs}
 
 -- a write that finds a block ready, and one that doesn't
-next_is : (g : Geometry) (k : Stock) (s : ℕ) (v : List ℕ) (r : Option Stock) → ready (endurance_of g) k ≡ r → next g k (Write 0 s v) ≡ option_and_then (write_of (pages_of g) s) r
+next_is : (g : Geometry) (k : Stock) (s : ℕ) (v : List ℕ) (r : Option Stock) → ready (endurance_of g) k ≡ r
+    → next g k (Write 0 s v) ≡ option_and_then (write_of (pages_of g) s) r
 unfolding next
 next_is g k s v r e = ap (option_and_then (write_of (pages_of g) s)) e
 
@@ -59,7 +60,9 @@ returns-clause-others c = λ s apart.
     ∙ ap (λ (xs : List Sector). get_or xs s None) c.in-Some.ensures.sectors)
 
 -- what the definition of the stock says of the call
-the_next : (c : After-write_into) → option_and_then (write_of (pages_of (geometry_of c.args.self.now)) c.args.sector) (ready (endurance_of (geometry_of c.args.self.now)) (stock_of c.args.self.now)) ≡ Some (stock_of c.write_into.new.self)
+the_next : (c : After-write_into)
+    → option_and_then (write_of (pages_of (geometry_of c.args.self.now)) c.args.sector)
+    (ready (endurance_of (geometry_of c.args.self.now)) (stock_of c.args.self.now)) ≡ Some (stock_of c.write_into.new.self)
 the_next c =
     let g = geometry_of c.args.self.now in
     let mid = stock_of c.make_ready.new.self in
@@ -69,12 +72,14 @@ the_next c =
 pub returns-clause-programs : goal.returns-clause-programs
 returns-clause-programs c =
     let g = geometry_of c.args.self.now in
-    write-programs (pages_of g) (endurance_of g) c.args.sector (stock_of c.args.self.now) (stock_of c.write_into.new.self) (the_next (goal.at.returns-clause-programs c).After-write_into)
+    write-programs (pages_of g) (endurance_of g) c.args.sector (stock_of c.args.self.now) (stock_of c.write_into.new.self)
+    (the_next (goal.at.returns-clause-programs c).After-write_into)
 
 pub returns-clause-collection : goal.returns-clause-collection
 returns-clause-collection c =
     let g = geometry_of c.args.self.now in
-    elim (write-does (pages_of g) (endurance_of g) c.args.sector (stock_of c.args.self.now) (stock_of c.write_into.new.self) (the_next (goal.at.returns-clause-collection c).After-write_into)) [
+    elim (write-does (pages_of g) (endurance_of g) c.args.sector (stock_of c.args.self.now) (stock_of c.write_into.new.self)
+    (the_next (goal.at.returns-clause-collection c).After-write_into)) [
       | inl nothing ↦ inl nothing
       | inr one ↦ inr (one.0, one.3)
     ]
@@ -82,7 +87,8 @@ returns-clause-collection c =
 pub returns-clause-after_failure : goal.returns-clause-after_failure
 returns-clause-after_failure c = λ retired.
     let g = geometry_of c.args.self.now in
-    elim (write-does (pages_of g) (endurance_of g) c.args.sector (stock_of c.args.self.now) (stock_of c.write_into.new.self) (the_next (goal.at.returns-clause-after_failure c).After-write_into)) [
+    elim (write-does (pages_of g) (endurance_of g) c.args.sector (stock_of c.args.self.now) (stock_of c.write_into.new.self)
+    (the_next (goal.at.returns-clause-after_failure c).After-write_into)) [
       | inl nothing ↦ nothing
       | inr one ↦ absurd (no_spare c.args.self.now retired one.1 one.2)
     ]
@@ -92,4 +98,5 @@ returns-in_default-clause-no_page c = c.in_default.ensures.no_page
 
 pub returns-clause-due : goal.returns-clause-due
 returns-clause-due c =
-    write-makes (geometry_of c.args.self.now) c.args.sector (stock_of c.args.self.now) (stock_of c.write_into.new.self) (the_next (goal.at.returns-clause-due c).After-write_into)
+    write-makes (geometry_of c.args.self.now) c.args.sector (stock_of c.args.self.now) (stock_of c.write_into.new.self)
+    (the_next (goal.at.returns-clause-due c).After-write_into)

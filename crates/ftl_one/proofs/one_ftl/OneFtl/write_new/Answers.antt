@@ -20,7 +20,9 @@ unfolding array_of
 its_value c = some_of (sector_at (array_of c.args.self.now) c.args.sector) (sym c.was.ensures ∙ c.in-Written.is)
 
 -- the call is a write where the sector is empty
-by_write : (c : In-Empty) → next (geometry_of c.args.self.now) (stock_of c.args.self.now) (WriteNew 0 c.args.sector c.args.bytes.now) ≡ next (geometry_of c.args.self.now) (stock_of c.args.self.now) (Write 0 c.args.sector c.args.bytes.now)
+by_write : (c : In-Empty)
+    → next (geometry_of c.args.self.now) (stock_of c.args.self.now) (WriteNew 0 c.args.sector c.args.bytes.now)
+    ≡ next (geometry_of c.args.self.now) (stock_of c.args.self.now) (Write 0 c.args.sector c.args.bytes.now)
 by_write c =
     let f = c.args.self.now in
     next_empty (geometry_of f) (stock_of f) c.args.sector c.args.bytes.now (has_page-stock f c.args.sector c.requires.sector ∙ ap is_some (the_sector c))

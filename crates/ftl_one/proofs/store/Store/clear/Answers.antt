@@ -26,7 +26,8 @@ pub relocate-requires-clause-source_usable : goal.relocate-requires-clause-sourc
 relocate-requires-clause-source_usable c = c.loop-page.invariant.keeps.retired c.args.victim c.requires.victim ∙ c.requires.usable
 
 pub relocate-requires-clause-source_page : goal.relocate-requires-clause-source_page
-relocate-requires-clause-source_page c = omega (arith, c.loop-page.invariant.size, c.next-page-end.ensures.value, length-entries_of c.args.self.now c.args.victim)
+relocate-requires-clause-source_page c =
+    omega (arith, c.loop-page.invariant.size, c.next-page-end.ensures.value, length-entries_of c.args.self.now c.args.victim)
 
 pub relocate-requires-clause-live : goal.relocate-requires-clause-live
 relocate-requires-clause-live c = sym c.is_live.ensures ∙ c.if-is_live.true
@@ -51,14 +52,17 @@ overflow_add-copies c =
 
 pub loop-page-preserved : goal.loop-page-preserved
 loop-page-preserved c =
-    let low : c.loop-page.page < length (entries_of c.args.self.now c.args.victim) = omega (arith, c.next-page-end.ensures.value, length-entries_of c.args.self.now c.args.victim) in
+    let low : c.loop-page.page < length (entries_of c.args.self.now c.args.victim) =
+    omega (arith, c.next-page-end.ensures.value, length-entries_of c.args.self.now c.args.victim) in
     elim c.if-is_live.branch [
       | then-is_live w ↦
           rw (w.self-is, w.copies-is)
-          (ClearedTo-live c.args.self.now c.loop-page.self w.relocate.new.self c.args.victim c.args.spare c.loop-page.page c.loop-page.copies c.loop-page.invariant low c.requires.victim (sym c.is_live.ensures ∙ w.if-is_live.true) w.relocate.ensures)
+          (ClearedTo-live c.args.self.now c.loop-page.self w.relocate.new.self c.args.victim c.args.spare c.loop-page.page c.loop-page.copies
+          c.loop-page.invariant low c.requires.victim (sym c.is_live.ensures ∙ w.if-is_live.true) w.relocate.ensures)
       | else-is_live w ↦
           rw (w.self-is, w.copies-is)
-          (ClearedTo-dead c.args.self.now c.loop-page.self c.args.victim c.args.spare c.loop-page.page c.loop-page.copies c.loop-page.invariant low (sym c.is_live.ensures ∙ w.if-is_live.false))
+          (ClearedTo-dead c.args.self.now c.loop-page.self c.args.victim c.args.spare c.loop-page.page c.loop-page.copies c.loop-page.invariant low
+          (sym c.is_live.ensures ∙ w.if-is_live.false))
     ]
 
 pub returns-clause-copies : goal.returns-clause-copies

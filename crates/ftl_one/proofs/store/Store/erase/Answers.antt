@@ -27,8 +27,11 @@ invariant_of-self c =
     let changes = c.erase.ensures.changes in
     record {
       page_sized = s.page_sized ∙ ap page_bytes_of (sym changes.geometry);
-      mapped = subst (λ (h : Geometry). IsMapped (page_bytes_of h) (blocks_of h) (sectors_of h) (block_of die) s.current.items s.live.items) (sym changes.geometry)
-          (mapped-erase (page_bytes_of g) (blocks_of g) (sectors_of g) (endurance_of g) (block_of s.die) (block_of die) s.current.items s.live.items s.mapped c.args.block c.requires.block c.requires.dead (record { changed = changes.changed; others = changes.others }));
+      mapped = subst (λ (h : Geometry). IsMapped (page_bytes_of h) (blocks_of h) (sectors_of h) (block_of die) s.current.items s.live.items)
+          (sym changes.geometry)
+          (mapped-erase (page_bytes_of g) (blocks_of g) (sectors_of g) (endurance_of g) (block_of s.die)
+          (block_of die) s.current.items s.live.items s.mapped c.args.block c.requires.block c.requires.dead
+          (record { changed = changes.changed; others = changes.others }));
     }
 
 pub returns-clause-failed : goal.returns-clause-failed
@@ -44,16 +47,21 @@ returns-clause-erases c =
     let g = die_geometry_of s.die in
     let die = c.erase.new.self in
     let changes = c.erase.ensures.changes in
-    let becomes : Becomes (blocks_of g) (block_of s.die) (block_of die) c.args.block (erased (endurance_of g) (block_of s.die c.args.block)) = record { changed = changes.changed; others = changes.others } in
+    let becomes : Becomes (blocks_of g) (block_of s.die) (block_of die) c.args.block (erased (endurance_of g) (block_of s.die c.args.block)) =
+    record { changed = changes.changed; others = changes.others } in
     let by : Geometry → ℕ → List Entry = λ h b. entries_in (page_bytes_of h) s.current.items b (block_of die b) in
     record {
-      emptied = ap (λ (h : Geometry). by h c.args.block) changes.geometry ∙ entries-erase (page_bytes_of g) (blocks_of g) (sectors_of g) (endurance_of g) (block_of s.die) (block_of die) s.current.items s.live.items s.mapped c.args.block c.requires.block c.requires.dead becomes;
+      emptied = ap (λ (h : Geometry). by h c.args.block) changes.geometry
+          ∙ entries-erase (page_bytes_of g) (blocks_of g) (sectors_of g) (endurance_of g) (block_of s.die)
+          (block_of die) s.current.items s.live.items s.mapped c.args.block c.requires.block c.requires.dead becomes;
       counted = ap (λ (k : Block). k.erases) changes.changed;
       retired = ap (λ (k : Block). k.retired) changes.changed;
-      entries = λ b apart low. ap (λ (h : Geometry). by h b) changes.geometry ∙ ap (λ (k : Block). entries_in (page_bytes_of g) s.current.items b k) (changes.others b apart low);
+      entries = λ b apart low. ap (λ (h : Geometry). by h b) changes.geometry
+          ∙ ap (λ (k : Block). entries_in (page_bytes_of g) s.current.items b k) (changes.others b apart low);
       erases = λ b apart low. ap (λ (k : Block). k.erases) (changes.others b apart low);
       others = λ b apart low. ap (λ (k : Block). k.retired) (changes.others b apart low);
       sectors = ap (λ (h : Geometry). sectors_in (page_bytes_of h) (block_of die) s.current.items) changes.geometry
-          ∙ sectors-erase (page_bytes_of g) (blocks_of g) (sectors_of g) (endurance_of g) (block_of s.die) (block_of die) s.current.items s.live.items s.mapped c.args.block c.requires.block c.requires.dead becomes;
+          ∙ sectors-erase (page_bytes_of g) (blocks_of g) (sectors_of g) (endurance_of g) (block_of s.die)
+          (block_of die) s.current.items s.live.items s.mapped c.args.block c.requires.block c.requires.dead becomes;
       geometry = changes.geometry;
     }

@@ -16,20 +16,24 @@ use Rattle.ftl_one.proofs.store.Store.forget.Goals.{After-page-was, After-recoun
 the_was : (c : After-page-was) → get_or c.args.self.now.current.items c.args.sector None ≡ c.page-was.result
 the_was c =
     let s = c.args.self.now in
-    sym (c.page-was.ensures ∙ (c.replace-entry.ensures.value ∙ get_or_read s.current.items c.args.sector c.index_mut.result.now (omega (arith, c.requires, s.mapped.current_size)) c.index_mut.ensures.value None))
+    sym (c.page-was.ensures ∙ (c.replace-entry.ensures.value
+    ∙ get_or_read s.current.items c.args.sector c.index_mut.result.now (omega (arith, c.requires, s.mapped.current_size)) c.index_mut.ensures.value None))
 
 pub recount-requires-clause-dead_within : goal.recount-requires-clause-dead_within
 recount-requires-clause-dead_within c =
     let was = the_was (goal.at.recount-requires-clause-dead_within c).After-page-was in
-    subst (λ (xs : List ℕ). IfSome c.page-was.result (λ at. at.block < length xs)) (sym c.deref_mut.ensures.value) (named_within c.args.self.now c.args.sector c.page-was.result was)
+    subst (λ (xs : List ℕ). IfSome c.page-was.result (λ at. at.block < length xs)) (sym c.deref_mut.ensures.value)
+    (named_within c.args.self.now c.args.sector c.page-was.result was)
 
 pub recount-requires-clause-counted : goal.recount-requires-clause-counted
 recount-requires-clause-counted c =
     let was = the_was (goal.at.recount-requires-clause-counted c).After-page-was in
-    subst (λ (xs : List ℕ). IfSome c.page-was.result (λ at. 0 < get_or xs at.block 0)) (sym c.deref_mut.ensures.value) (named_counted c.args.self.now c.args.sector c.page-was.result was)
+    subst (λ (xs : List ℕ). IfSome c.page-was.result (λ at. 0 < get_or xs at.block 0)) (sym c.deref_mut.ensures.value)
+    (named_counted c.args.self.now c.args.sector c.page-was.result was)
 
 -- the counts without that page
-the_counts : (c : After-recount) → get_or c.args.self.now.current.items c.args.sector None ≡ c.page-was.result → Recounts c.args.self.now.live.items c.recount.new.counts (get_or c.args.self.now.current.items c.args.sector None) None
+the_counts : (c : After-recount) → get_or c.args.self.now.current.items c.args.sector None ≡ c.page-was.result
+    → Recounts c.args.self.now.live.items c.recount.new.counts (get_or c.args.self.now.current.items c.args.sector None) None
 the_counts c was =
     subst (λ (o : Option PageAddr). Recounts c.args.self.now.live.items c.recount.new.counts o None) (sym was)
     (subst (λ (xs : List ℕ). Recounts xs c.recount.new.counts c.page-was.result None) c.deref_mut.ensures.value c.recount.ensures)
@@ -40,8 +44,10 @@ invariant_of-self c =
     let g = die_geometry_of s.die in
     let was = the_was (goal.at.invariant_of-self c).After-page-was in
     let counts = the_counts (goal.at.invariant_of-self c).After-recount was in
-    let mapped = mapped-forget (page_bytes_of g) (blocks_of g) (sectors_of g) (block_of s.die) s.current.items s.live.items s.mapped c.args.sector c.recount.new.counts c.requires counts in
-    let P : Option PageAddr → List ℕ → Type 0 = λ o xs. IsMapped (page_bytes_of g) (blocks_of g) (sectors_of g) (block_of s.die) (set s.current.items c.args.sector o) xs in
+    let mapped = mapped-forget (page_bytes_of g) (blocks_of g) (sectors_of g)
+    (block_of s.die) s.current.items s.live.items s.mapped c.args.sector c.recount.new.counts c.requires counts in
+    let P : Option PageAddr → List ℕ → Type 0 =
+    λ o xs. IsMapped (page_bytes_of g) (blocks_of g) (sectors_of g) (block_of s.die) (set s.current.items c.args.sector o) xs in
     record {
       page_sized = s.page_sized;
       mapped = subst (λ (o : Option PageAddr). P o (with_items s.live c.recount.new.counts).items) (sym (c.replace-entry.ensures.after ∙ c.none.ensures))
@@ -67,7 +73,8 @@ returns-clause-entries c =
     λ b low.
     let s = c.args.self.now in
     let g = die_geometry_of s.die in
-    ap (λ (o : Option PageAddr). entries_in (page_bytes_of g) (set s.current.items c.args.sector o) b (block_of s.die b)) (c.replace-entry.ensures.after ∙ c.none.ensures)
+    ap (λ (o : Option PageAddr). entries_in (page_bytes_of g) (set s.current.items c.args.sector o) b (block_of s.die b))
+    (c.replace-entry.ensures.after ∙ c.none.ensures)
     ∙ entries-forget (page_bytes_of g) (blocks_of g) (sectors_of g) (block_of s.die) s.current.items s.live.items s.mapped c.args.sector b c.requires
 
 pub returns-clause-keeps : goal.returns-clause-keeps

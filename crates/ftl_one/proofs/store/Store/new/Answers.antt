@@ -1,4 +1,5 @@
-use Rattle.std.proofs.Common.{◌≡◌, ◌∙◌, inl, inr, ℕ, zero, suc, cond, ◌<◌, List, [], ◌∷◌, length, map, get_or, replicate, sum_by, Option, None, Some, is_some, sym, ap, refl, subst, arith, rules}
+use Rattle.std.proofs.Common.{◌≡◌, ◌∙◌, inl, inr, ℕ, zero, suc, cond, ◌<◌, List, [], ◌∷◌, length, map, get_or, replicate}
+use Rattle.std.proofs.Common.{sum_by, Option, None, Some, is_some, sym, ap, refl, subst, arith, rules}
 use Rattle.std.specs.Option.{option_map}
 use Rattle.std.proofs.lemmas.List.{length-replicate, get_or-replicate, get_or_past, nil_from_length}
 use Rattle.std.proofs.lemmas.List.Sums.{sum_by-cons}
@@ -40,7 +41,8 @@ the_live : (c : In_ok-vec-3) → c.in_ok-vec-2.field-0.items ≡ replicate c.blo
 the_live c = c.in_ok-vec-2.ensures.items_if_clones_equal (λ y h. search rules)
 
 -- a map that names no page, over new blocks
-mapped_new : (n count sectors : ℕ) (B : ℕ → Block) → ((b : ℕ) → b < count → B b ≡ new_block) → IsMapped n count sectors B (replicate sectors None) (replicate count 0)
+mapped_new : (n count sectors : ℕ) (B : ℕ → Block) → ((b : ℕ) → b < count → B b ≡ new_block)
+    → IsMapped n count sectors B (replicate sectors None) (replicate count 0)
 mapped_new n count sectors B fresh =
     record {
       current_size = length-replicate sectors None;
@@ -75,7 +77,8 @@ unfolding array_of entries_of erases_of retired_of sectors_in
 returns c =
     let g = c.args.geometry.now in
     let die = c.in_ok-new.field-0 in
-    let current : c.in_ok-vec.field-0.items ≡ replicate (sectors_of g) None = the_current (goal.at.returns c).In_ok-vec-3 ∙ ap (λ (k : ℕ). replicate k None) c.sectors.ensures.value in
+    let current : c.in_ok-vec.field-0.items ≡ replicate (sectors_of g) None =
+    the_current (goal.at.returns c).In_ok-vec-3 ∙ ap (λ (k : ℕ). replicate k None) c.sectors.ensures.value in
     let f : Option PageAddr → Sector = option_map (value_in (page_bytes_of (die_geometry_of die)) (block_of die)) in
     record {
       geometry = c.in_ok-new.ensures.geometry;

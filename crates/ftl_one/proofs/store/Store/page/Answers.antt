@@ -17,7 +17,8 @@ the_page c =
     get_or_read s.current.items c.args.sector c.index.result.now (omega (arith, c.requires, s.mapped.current_size)) c.index.ensures None
 
 -- what the sector holds
-the_sector : (c : After-index) → (o : Option PageAddr) → c.index.result.now ≡ o → get_or (array_of c.args.self.now) c.args.sector None ≡ option_map (value_in (size_of c.args.self.now) (block_of c.args.self.now.die)) o
+the_sector : (c : After-index) → (o : Option PageAddr) → c.index.result.now ≡ o
+    → get_or (array_of c.args.self.now) c.args.sector None ≡ option_map (value_in (size_of c.args.self.now) (block_of c.args.self.now.die)) o
 unfolding array_of
 the_sector c o e =
     let s = c.args.self.now in
@@ -30,7 +31,8 @@ page-requires-2 c =
     record { usable = record { within = is.block; not_retired = is.usable }; programmed = is.page }
 
 pub returns-in_err-at-clause-none : goal.returns-in_err-at-clause-none
-returns-in_err-at-clause-none c = rw c.from_residual.ensures (the_sector (goal.at.returns-in_err-at-clause-none c).After-index None (sym c.page.ensures ∙ c.in_err-at.was))
+returns-in_err-at-clause-none c =
+    rw c.from_residual.ensures (the_sector (goal.at.returns-in_err-at-clause-none c).After-index None (sym c.page.ensures ∙ c.in_err-at.was))
 
 pub returns-clause-some : goal.returns-clause-some
 returns-clause-some c =

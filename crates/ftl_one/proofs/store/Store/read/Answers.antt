@@ -17,7 +17,8 @@ the_page c =
     get_or_read s.current.items c.args.sector c.index.result.now (omega (arith, c.requires.sector, s.mapped.current_size)) c.index.ensures None
 
 -- what the sector holds
-the_sector : (c : After-index) → (o : Option PageAddr) → c.index.result.now ≡ o → get_or (array_of c.args.self.now) c.args.sector None ≡ option_map (value_in (size_of c.args.self.now) (block_of c.args.self.now.die)) o
+the_sector : (c : After-index) → (o : Option PageAddr) → c.index.result.now ≡ o
+    → get_or (array_of c.args.self.now) c.args.sector None ≡ option_map (value_in (size_of c.args.self.now) (block_of c.args.self.now.die)) o
 unfolding array_of
 the_sector c o e =
     let s = c.args.self.now in
@@ -26,7 +27,8 @@ the_sector c o e =
 pub read-requires-clause-usable : goal.read-requires-clause-usable
 read-requires-clause-usable c =
     let s = c.args.self.now in
-    let is = s.mapped.named c.args.sector c.in-Some.at (sym (the_page (goal.at.read-requires-clause-usable c).After-index) ∙ (sym c.page.ensures ∙ c.in-Some.is)) in
+    let is = s.mapped.named c.args.sector c.in-Some.at
+    (sym (the_page (goal.at.read-requires-clause-usable c).After-index) ∙ (sym c.page.ensures ∙ c.in-Some.is)) in
     record { within = is.block; not_retired = is.usable }
 
 pub returns-in-None : goal.returns-in-None

@@ -24,7 +24,8 @@ pub copy_page-requires-clause-source : goal.copy_page-requires-clause-source
 copy_page-requires-clause-source c = programmed_page c.args.self.now c.args.source c.requires.source_block c.requires.source_usable c.requires.source_page
 
 pub copy_page-requires-clause-next : goal.copy_page-requires-clause-next
-copy_page-requires-clause-next c = next_of_block c.args.self.now c.next_page-to.result c.args.block c.requires.room c.next_page-to.ensures.block c.next_page-to.ensures.page
+copy_page-requires-clause-next c =
+    next_of_block c.args.self.now c.next_page-to.result c.args.block c.requires.room c.next_page-to.ensures.block c.next_page-to.ensures.page
 
 pub copy_page-requires-clause-one_lun : goal.copy_page-requires-clause-one_lun
 copy_page-requires-clause-one_lun c =
@@ -67,10 +68,17 @@ pub recount-requires-clause-room : goal.recount-requires-clause-room
 recount-requires-clause-room c =
     let s = c.args.self.now in
     let small = count_small s c.args.block c.requires.room.within in
-    omega (arith, small, ap (λ (k : ℕ). get_or s.live.items k 0) c.next_page-to.ensures.block, ap (λ (xs : List ℕ). get_or xs c.next_page-to.result.block 0) c.deref_mut-2.ensures.value)
+    omega (
+      arith,
+      small,
+      ap (λ (k : ℕ). get_or s.live.items k 0) c.next_page-to.ensures.block,
+      ap (λ (xs : List ℕ). get_or xs c.next_page-to.result.block 0) c.deref_mut-2.ensures.value,
+    )
 
 -- the counts with the copy in place of the page
-the_counts : (c : After-recount) → Recounts c.args.self.now.live.items c.recount.new.counts (get_or c.args.self.now.current.items (page_of c.args.self.now c.args.source).stamp None) (Some c.next_page-to.result)
+the_counts : (c : After-recount)
+    → Recounts c.args.self.now.live.items c.recount.new.counts
+    (get_or c.args.self.now.current.items (page_of c.args.self.now c.args.source).stamp None) (Some c.next_page-to.result)
 the_counts c =
     let s = c.args.self.now in
     let named = names_live s c.args.source c.requires.source_page c.requires.live in
@@ -87,15 +95,20 @@ invariant_of-self c =
     let die = c.copy_page.new.die in
     let g = die_geometry_of die in
     let at = c.next_page-to.result in
-    let mapped = put-mapped s die at page c.recount.new.counts (stamp_below s c.args.source c.requires.source_block c.requires.source_page) next c.copy_page.ensures.changes counts in
-    let P : ℕ → Option PageAddr → List ℕ → Type 0 = λ k o xs. IsMapped (page_bytes_of g) (blocks_of g) (sectors_of g) (block_of die) (set s.current.items k o) xs in
+    let mapped = put-mapped s die at page c.recount.new.counts (stamp_below s c.args.source c.requires.source_block c.requires.source_page) next
+    c.copy_page.ensures.changes counts in
+    let P : ℕ → Option PageAddr → List ℕ → Type 0 =
+    λ k o xs. IsMapped (page_bytes_of g) (blocks_of g) (sectors_of g) (block_of die) (set s.current.items k o) xs in
     let buffer : (with_items s.page c.copy_page.new.page).items ≡ c.copy_page.new.page =
     with_items_is s.page c.copy_page.new.page (omega (arith, c.copy_page.auto.page, c.deref_mut.ensures.len)) in
     record {
-      page_sized = ap (λ (xs : List ℕ). length xs) buffer ∙ (c.copy_page.auto.page ∙ (ap (λ (xs : List ℕ). length xs) c.deref_mut.ensures.value ∙ (s.page_sized ∙ ap page_bytes_of (sym c.copy_page.ensures.changes.geometry))));
+      page_sized = ap (λ (xs : List ℕ). length xs) buffer
+          ∙ (c.copy_page.auto.page ∙ (ap (λ (xs : List ℕ). length xs) c.deref_mut.ensures.value
+          ∙ (s.page_sized ∙ ap page_bytes_of (sym c.copy_page.ensures.changes.geometry))));
       mapped = subst (λ (o : Option PageAddr). P c.stamp-sector.result o (with_items s.live c.recount.new.counts).items) (sym c.of.ensures)
           (subst (λ (k : ℕ). P k (Some at) (with_items s.live c.recount.new.counts).items) (sym c.stamp-sector.ensures)
-          (subst (λ (xs : List ℕ). P page.stamp (Some at) xs) (sym (recounted s c.recount.new.counts (get_or s.current.items page.stamp None) (Some at) counts)) mapped));
+          (subst (λ (xs : List ℕ). P page.stamp (Some at) xs)
+          (sym (recounted s c.recount.new.counts (get_or s.current.items page.stamp None) (Some at) counts)) mapped));
     }
 
 pub returns : goal.returns
@@ -115,12 +128,19 @@ returns c =
     let e : (b : ℕ) → by c.stamp-sector.result c.of.result b ≡ by page.stamp (Some at) b = λ b.
     ap (λ (o : Option PageAddr). by c.stamp-sector.result o b) c.of.ensures ∙ ap (λ (k : ℕ). by k (Some at) b) c.stamp-sector.ensures in
     rw (← c.next_page-to.ensures.block, sector_of-page s c.args.source c.requires.source_page) (record {
-      copied = e at.block ∙ relocate-copied s die c.args.source at live c.requires.source_block c.requires.source_page c.requires.live apart next c.copy_page.ensures.changes counts;
-      dead = e c.args.source.block ∙ relocate-dead s die c.args.source at live c.requires.source_block c.requires.source_page c.requires.live apart next c.copy_page.ensures.changes counts;
-      others = λ b first second inside. e b ∙ relocate-others s die c.args.source at live c.requires.source_block c.requires.source_page c.requires.live apart next c.copy_page.ensures.changes counts b first second inside;
-      sectors = ap (λ (o : Option PageAddr). sectors_in (page_bytes_of (die_geometry_of die)) (block_of die) (set s.current.items c.stamp-sector.result o)) c.of.ensures
+      copied = e at.block ∙ relocate-copied s die c.args.source at live c.requires.source_block c.requires.source_page c.requires.live apart next
+          c.copy_page.ensures.changes counts;
+      dead = e c.args.source.block
+          ∙ relocate-dead s die c.args.source at live c.requires.source_block c.requires.source_page c.requires.live apart next
+          c.copy_page.ensures.changes counts;
+      others = λ b first second inside. e b
+          ∙ relocate-others s die c.args.source at live c.requires.source_block c.requires.source_page c.requires.live apart next
+          c.copy_page.ensures.changes counts b first second inside;
+      sectors = ap (λ (o : Option PageAddr).
+          sectors_in (page_bytes_of (die_geometry_of die)) (block_of die) (set s.current.items c.stamp-sector.result o)) c.of.ensures
           ∙ (ap (λ (k : ℕ). sectors_in (page_bytes_of (die_geometry_of die)) (block_of die) (set s.current.items k (Some at))) c.stamp-sector.ensures
-          ∙ relocate-sectors s die c.args.source at live c.requires.source_block c.requires.source_page c.requires.live apart next c.copy_page.ensures.changes counts);
+          ∙ relocate-sectors s die c.args.source at live c.requires.source_block c.requires.source_page c.requires.live apart next
+          c.copy_page.ensures.changes counts);
       keeps = record {
         geometry = c.copy_page.ensures.changes.geometry;
         erases = put-erases s die at page live low next c.copy_page.ensures.changes counts;

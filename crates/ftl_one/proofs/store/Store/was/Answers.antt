@@ -9,4 +9,5 @@ returns c =
     let s = c.args.self.now in
     c.answer_of.ensures
     ∙ (ap was_by c.page.ensures
-    ∙ was-named s c.args.sector c.index.result.now c.requires (get_or_read s.current.items c.args.sector c.index.result.now (omega (arith, c.requires, s.mapped.current_size)) c.index.ensures None))
+    ∙ was-named s c.args.sector c.index.result.now c.requires
+    (get_or_read s.current.items c.args.sector c.index.result.now (omega (arith, c.requires, s.mapped.current_size)) c.index.ensures None))

@@ -15,7 +15,8 @@ use Rattle.runs.proofs.delivery.Delivery.deliver.Goals as goal
 pub returns-in_err-make_room-clause-part : goal.returns-in_err-make_room-clause-part
 returns-in_err-make_room-clause-part g c =
     OnErr-any _ c.from_residual.result
-    (AppendsBeginning-part _ _ _ _ _ _ c.loop-i.invariant.text c.in_err-make_room.ensures.part (text_begins c.loop-i.i c.args.commands.now (answers_by c.args.rows.now)))
+    (AppendsBeginning-part _ _ _ _ _ _ c.loop-i.invariant.text c.in_err-make_room.ensures.part
+    (text_begins c.loop-i.i c.args.commands.now (answers_by c.args.rows.now)))
 
 pub next_answer-answer-requires-clause-there : goal.next_answer-answer-requires-clause-there
 next_answer-answer-requires-clause-there g c =
@@ -31,7 +32,9 @@ next_answer-answer-requires-clause-at g c = subst (λ (l : List Cursor). AreAt c
 pub put_answer-requires-clause-pages : goal.put_answer-requires-clause-pages
 put_answer-requires-clause-pages g c = λ a is.
     let digits : HasDigits (digits_in c.args.self) a =
-    answer_found (HasDigits (digits_in c.args.self)) c.args.rows.now c.command-command.result (get_or (passed_in c.deref_mut.result.now) c.command-command.result.worker 0) a (all_digits (digits_in c.args.self) c.args.rows.now c.requires.pages) (sym c.next_answer-answer.ensures.answer ∙ is) in
+    answer_found (HasDigits (digits_in c.args.self)) c.args.rows.now c.command-command.result
+    (get_or (passed_in c.deref_mut.result.now) c.command-command.result.worker 0) a
+    (all_digits (digits_in c.args.self) c.args.rows.now c.requires.pages) (sym c.next_answer-answer.ensures.answer ∙ is) in
     subst (λ n. HasDigits n a) (sym (c.in_ok-make_room.ensures.page ∙ c.loop-i.invariant.page)) digits
 
 pub loop-i-preserved : goal.loop-i-preserved
@@ -56,22 +59,26 @@ loop-i-preserved g c =
       long = ap (length {A = Cursor}) back ∙ (c.next_answer-answer.auto.next ∙ count);
       page = c.put_answer.ensures.page ∙ (c.in_ok-make_room.ensures.page ∙ c.loop-i.invariant.page);
       unfailed = c.in_ok-make_room.ensures.unfailed ∙ c.loop-i.invariant.unfailed;
-      text = delivery_turn i commands command (answers_by rows) _ _ _ _ _ _ _ c.loop-i.invariant.text c.in_ok-make_room.ensures.moved c.command-command.ensures.at answer c.put_answer.ensures.waiting;
+      text = delivery_turn i commands command (answers_by rows) _ _ _ _ _ _ _ c.loop-i.invariant.text c.in_ok-make_room.ensures.moved
+          c.command-command.ensures.at answer c.put_answer.ensures.waiting;
     }
 
 pub returns-in_err-make_room-2-clause-part : goal.returns-in_err-make_room-2-clause-part
 returns-in_err-make_room-2-clause-part g c =
     OnErr-any _ c.from_residual-in_err-make_room-2.result
-    (AppendsBeginning-part _ _ _ _ _ _ c.loop-i.invariant.text c.in_err-make_room-2.ensures.part (text_begins c.loop-i.i c.args.commands.now (answers_by c.args.rows.now)))
+    (AppendsBeginning-part _ _ _ _ _ _ c.loop-i.invariant.text c.in_err-make_room-2.ensures.part
+    (text_begins c.loop-i.i c.args.commands.now (answers_by c.args.rows.now)))
 
 pub returns-clause-part : goal.returns-clause-part
 returns-clause-part g c =
     let commands = c.args.commands.now in
     let rows = answers_by c.args.rows.now in
     let old = g.W.Write.contents (inner_of c.args.writer.now) in
-    let whole = delivery_whole c.loop-i.i commands rows old _ _ _ _ _ (omega arith) c.loop-i.invariant.text c.in_ok-make_room-2.ensures.moved c.end.ensures.waiting in
+    let whole = delivery_whole c.loop-i.i commands rows old _ _ _ _ _
+    (omega arith) c.loop-i.invariant.text c.in_ok-make_room-2.ensures.moved c.end.ensures.waiting in
     OnErr-map _ _ c.hand_on.result
-    (λ part. AppendsBeginning-part old _ _ _ (text_of commands rows) (text_of commands rows) whole part (Begins-refl (text_of commands rows))) c.hand_on.ensures.part
+    (λ part. AppendsBeginning-part old _ _ _ (text_of commands rows) (text_of commands rows) whole part (Begins-refl (text_of commands rows)))
+    c.hand_on.ensures.part
 
 pub loop-i-init : goal.loop-i-init
 loop-i-init g c =

@@ -15,5 +15,6 @@ invariant-loop-i g l = record {
   long : length l.next.items ≡ length l.rows;
   page : page_digits_of l.lines ≡ digits_in l.fn.self;
   unfailed : failures_of l.writer ≡ failures_of l.initial.writer;
-  text : IsUnderWay (g.W.Write.contents (inner_of l.initial.writer)) (g.W.Write.contents (inner_of l.writer)) (waiting_of l.lines) (text_before l.i l.commands (answers_by l.rows));
+  text : IsUnderWay (g.W.Write.contents (inner_of l.initial.writer)) (g.W.Write.contents (inner_of l.writer)) (waiting_of l.lines)
+      (text_before l.i l.commands (answers_by l.rows));
 }

@@ -10,7 +10,16 @@ returns-clause-at c =
     let shown = command_at self.text.items self.odd.items self.page_bytes in
     let here : c.args.i < length self.stored.items = omega (arith, length-map self.stored.items shown, ap length c.self.view_is) in
     let place = slice_get-map_at shown self.stored.items c.args.i c.index.result.now here c.index.ensures in
-    rw (c.new.ensures, c.from.ensures, c.page_len.ensures, c.digits_at-digits.ensures, c.deref.ensures.value, c.deref-2.ensures.value, c.head-head.ensures, ← c.self.view_is) place
+    rw (
+      c.new.ensures,
+      c.from.ensures,
+      c.page_len.ensures,
+      c.digits_at-digits.ensures,
+      c.deref.ensures.value,
+      c.deref-2.ensures.value,
+      c.head-head.ensures,
+      ← c.self.view_is,
+    ) place
 
 pub returns-clause-rest : goal.returns-clause-rest
 returns-clause-rest c =
@@ -18,4 +27,14 @@ returns-clause-rest c =
     let shown = command_at self.text.items self.odd.items self.page_bytes in
     let here : c.args.i < length self.stored.items = omega (arith, length-map self.stored.items shown, ap length c.self.view_is) in
     let place = drop-map_at shown self.stored.items c.args.i c.index.result.now here c.index.ensures in
-    rw (c.new.ensures, c.from.ensures, c.page_len.ensures, c.digits_at-digits.ensures, c.deref.ensures.value, c.deref-2.ensures.value, c.head-head.ensures, add-one, ← c.self.view_is) place
+    rw (
+      c.new.ensures,
+      c.from.ensures,
+      c.page_len.ensures,
+      c.digits_at-digits.ensures,
+      c.deref.ensures.value,
+      c.deref-2.ensures.value,
+      c.head-head.ensures,
+      add-one,
+      ← c.self.view_is,
+    ) place

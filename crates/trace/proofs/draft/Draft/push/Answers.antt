@@ -6,4 +6,5 @@ pub returns-clause-draft : goal.returns-clause-draft
 returns-clause-draft c =
     let self = c.args.self.now in
     rw c.in_ok-push.ensures.items
-    (push-kept c.args.text.now self.odd.items self.page_bytes self.stored.items c.new.result c.args.head c.new.ensures.head (omega arith) c.requires.draft (rw (c.new.ensures.start, c.new.ensures.digits) c.requires.fits))
+    (push-kept c.args.text.now self.odd.items self.page_bytes self.stored.items c.new.result c.args.head c.new.ensures.head
+    (omega arith) c.requires.draft (rw (c.new.ensures.start, c.new.ensures.digits) c.requires.fits))
