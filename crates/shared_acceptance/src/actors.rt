@@ -133,7 +133,7 @@ impl<'a, H: Home> Host<'a, H> {
         }
     }
 
-    fn does<G: Gate>(self, call: Call, gate: &mut G) -> (Actor<'a, H>, Done) {
+    fn perform<G: Gate>(self, call: Call, gate: &mut G) -> (Actor<'a, H>, Done) {
         let mut host = self;
         let done = match call {
             Call::Hold(sector) if sector < host.volume.geometry().sectors() => {
@@ -210,7 +210,7 @@ impl<'a, H: Home> Holder<'a, H> {
         Host { volume, pass, of }
     }
 
-    fn does(self, call: Call) -> (Actor<'a, H>, Done) {
+    fn perform(self, call: Call) -> (Actor<'a, H>, Done) {
         let mut holder = self;
         let done = match call {
             Call::Look => holder.look(),
@@ -222,9 +222,9 @@ impl<'a, H: Home> Holder<'a, H> {
     }
 
     // A broom makes a `stand` with the hold.
-    fn stand(self, sweeper: &mut Sweeper<'a, H>) -> Holder<'a, H> {
+    fn stand(self, collector: &mut Collector<'a, H>) -> Holder<'a, H> {
         let Holder { volume, held, of } = self;
-        let held = volume.stand(held, &mut sweeper.broom);
+        let held = volume.stand(held, &mut collector.broom);
         Holder { volume, held, of }
     }
 
@@ -243,10 +243,10 @@ impl<'a, H: Home> Holder<'a, H> {
                 let holder = self.meet_host(&mut host);
                 (Actor::Holder(holder), Actor::Host(host), true)
             }
-            Actor::Sweeper(sweeper) => {
-                let mut sweeper = sweeper;
-                let holder = self.stand(&mut sweeper);
-                (Actor::Holder(holder), Actor::Sweeper(sweeper), true)
+            Actor::Collector(collector) => {
+                let mut collector = collector;
+                let holder = self.stand(&mut collector);
+                (Actor::Holder(holder), Actor::Collector(collector), true)
             }
             other => (Actor::Holder(self), other, false),
         }
@@ -254,7 +254,7 @@ impl<'a, H: Home> Holder<'a, H> {
 }
 
 /// A broom between two calls.
-pub(crate) struct Sweeper<'a, H: Home> {
+pub(crate) struct Collector<'a, H: Home> {
     pub volume: &'a Volume,
     pub broom: Broom,
     pub of: PhantomData<H>,
@@ -262,9 +262,9 @@ pub(crate) struct Sweeper<'a, H: Home> {
     ghost ready: { IsBroomReady volume.now broom } by { Prim.hlevel IsBroomReady-prop },
 }
 
-impl<H: Home> Drop for Sweeper<'_, H> {
+impl<H: Home> Drop for Collector<'_, H> {
     fn drop(self) {
-        let Sweeper {
+        let Collector {
             volume,
             broom,
             of: _,
@@ -273,10 +273,10 @@ impl<H: Home> Drop for Sweeper<'_, H> {
     }
 }
 
-impl<'a, H: Home> Sweeper<'a, H> {
+impl<'a, H: Home> Collector<'a, H> {
     /// Folds a broom.
     pub(crate) fn fold(self, rt: &impl Wait) {
-        let Sweeper {
+        let Collector {
             volume,
             broom,
             of: _,
@@ -307,20 +307,20 @@ impl<'a, H: Home> Sweeper<'a, H> {
         }
     }
 
-    fn meet(&mut self, other: &mut Sweeper<'a, H>) {
+    fn meet(&mut self, other: &mut Collector<'a, H>) {
         self.volume.meet_brooms(&mut self.broom, &mut other.broom)
     }
 
     // Meets another broom.
     fn meet_one(self, other: Actor<'a, H>) -> (Actor<'a, H>, Actor<'a, H>, bool) {
-        let mut sweeper = self;
+        let mut collector = self;
         match other {
-            Actor::Sweeper(second) => {
+            Actor::Collector(second) => {
                 let mut second = second;
-                sweeper.meet(&mut second);
-                (Actor::Sweeper(sweeper), Actor::Sweeper(second), true)
+                collector.meet(&mut second);
+                (Actor::Collector(collector), Actor::Collector(second), true)
             }
-            other => (Actor::Sweeper(sweeper), other, false),
+            other => (Actor::Collector(collector), other, false),
         }
     }
 }
@@ -338,24 +338,24 @@ pub(crate) enum Role {
 pub(crate) enum Actor<'a, H: Home> {
     Host(Host<'a, H>),
     Holder(Holder<'a, H>),
-    Sweeper(Sweeper<'a, H>),
+    Collector(Collector<'a, H>),
 }
 
 impl<'a, H: Home> Actor<'a, H> {
     /// A call, with its answer.
-    pub(crate) fn does<G: Gate>(
+    pub(crate) fn perform<G: Gate>(
         self,
         rt: &impl Wait,
         call: Call,
         gate: &mut G,
     ) -> (Actor<'a, H>, Done) {
         match self {
-            Actor::Host(host) => host.does(call, gate),
-            Actor::Holder(holder) => holder.does(call),
-            Actor::Sweeper(sweeper) => {
-                let mut sweeper = sweeper;
-                let done = sweeper.answer(rt, call, gate);
-                (Actor::Sweeper(sweeper), done)
+            Actor::Host(host) => host.perform(call, gate),
+            Actor::Holder(holder) => holder.perform(call),
+            Actor::Collector(collector) => {
+                let mut collector = collector;
+                let done = collector.answer(rt, call, gate);
+                (Actor::Collector(collector), done)
             }
         }
     }
@@ -366,7 +366,7 @@ impl<'a, H: Home> Actor<'a, H> {
         match self {
             Actor::Host(host) => host.meet_one(other),
             Actor::Holder(holder) => holder.meet_one(other),
-            Actor::Sweeper(sweeper) => sweeper.meet_one(other),
+            Actor::Collector(collector) => collector.meet_one(other),
         }
     }
 
@@ -374,17 +374,17 @@ impl<'a, H: Home> Actor<'a, H> {
         match self {
             Actor::Host(_) => Role::Host,
             Actor::Holder(_) => Role::Holder,
-            Actor::Sweeper(_) => Role::Broom,
+            Actor::Collector(_) => Role::Broom,
         }
     }
 
     /// The block of a sector's page, or nothing for an empty sector. A host holds the page only for a moment.
     pub(crate) fn find(self, rt: &impl Wait, sector: u32) -> (Actor<'a, H>, Option<u32>) {
-        let (actor, done) = self.does(rt, Call::Hold(sector), &mut NoGate);
+        let (actor, done) = self.perform(rt, Call::Hold(sector), &mut NoGate);
         let Done::Holds(Some((block, _))) = done else {
             return (actor, None);
         };
-        let (actor, _) = actor.does(rt, Call::Release, &mut NoGate);
+        let (actor, _) = actor.perform(rt, Call::Release, &mut NoGate);
         (actor, Some(block))
     }
 
@@ -406,7 +406,7 @@ impl<'a, H: Home> Actor<'a, H> {
 }
 
 /// Drops an actor, if there is one. Returns whether there was.
-pub(crate) fn dismiss<H: Home>(actor: Option<Actor<'_, H>>) -> bool {
+pub(crate) fn drop_actor<H: Home>(actor: Option<Actor<'_, H>>) -> bool {
     actor.is_some()
 }
 
@@ -416,10 +416,20 @@ pub(crate) fn call_at<H: Home>(
     rt: &impl Wait,
     call: Call,
 ) -> Done {
+    gated_call_at(place, rt, call, &mut NoGate)
+}
+
+/// The same with a gate.
+pub(crate) fn gated_call_at<H: Home, G: Gate>(
+    place: &mut Option<Actor<'_, H>>,
+    rt: &impl Wait,
+    call: Call,
+    gate: &mut G,
+) -> Done {
     let Some(actor) = place.take() else {
         return Done::Nothing;
     };
-    let (actor, done) = actor.does(rt, call, &mut NoGate);
-    dismiss(place.replace(actor));
+    let (actor, done) = actor.perform(rt, call, gate);
+    drop_actor(place.replace(actor));
     done
 }

@@ -1,8 +1,8 @@
 //! Brooms that drain and erase blocks while two hosts make calls.
 use crate::calls::{Call, Done, EMPTY, WRITTEN};
-use crate::cast::Who;
+use crate::idle_actors::Who;
 use crate::playing_rows::{Device, Row, check_row};
-use crate::stage::{Step, Told};
+use crate::schedule::{ExpectedCall, Step};
 use broom::{Drain, Erase};
 use flash_table::Point;
 use std::test::Fail;
@@ -20,7 +20,7 @@ const TWO_BROOMS: Device = Device {
 };
 
 // A drain of the first block that moved no page.
-const DRAINED: Told = (
+const DRAINED: ExpectedCall = (
     Call::Drain,
     Done::Drained(Drain::Drained {
         block: 0,
@@ -29,7 +29,7 @@ const DRAINED: Told = (
 );
 
 // A drain that moved a page.
-const MOVED: Told = (
+const MOVED: ExpectedCall = (
     Call::Drain,
     Done::Drained(Drain::Drained {
         block: 0,
@@ -37,7 +37,7 @@ const MOVED: Told = (
     }),
 );
 
-const ERASED: Told = (
+const ERASED: ExpectedCall = (
     Call::Erase(0),
     Done::Erased(Erase::Erased {
         block: 0,
@@ -46,7 +46,7 @@ const ERASED: Told = (
 );
 
 // The first block is erased by a broom that has copied into its spare, and is the next spare.
-const KEPT: Told = (
+const KEPT: ExpectedCall = (
     Call::Erase(0),
     Done::Erased(Erase::Erased {
         block: 0,
@@ -54,9 +54,9 @@ const KEPT: Told = (
     }),
 );
 
-const PINNED: Told = (Call::Erase(0), Done::Erased(Erase::Pinned));
+const PINNED: ExpectedCall = (Call::Erase(0), Done::Erased(Erase::Pinned));
 
-const NOTHING: Told = (Call::Drain, Done::Drained(Drain::NothingToGain));
+const NOTHING: ExpectedCall = (Call::Drain, Done::Drained(Drain::NothingToGain));
 
 const WRITES_BEFORE_A_MOVE: [Step; 7] = [
     Step::By(Who::A, (Call::Write(0, 1), EMPTY)),
@@ -68,7 +68,10 @@ const WRITES_BEFORE_A_MOVE: [Step; 7] = [
     Step::By(Who::First, KEPT),
 ];
 
-const WRITES_BEFORE_A_MOVE_BESIDE: [(Who, Told); 1] = [(Who::A, (Call::Write(1, 5), WRITTEN))];
+const WRITES_BEFORE_A_MOVE_BESIDE: [(Who, ExpectedCall); 1] = [(
+    Who::A,
+    (Call::Write(1, 5), WRITTEN),
+)];
 
 const GAINS_NOTHING: [Step; 4] = [
     Step::By(Who::First, NOTHING),
@@ -103,7 +106,7 @@ const LOSES_A_BLOCK_THAT_IS_READ: [Step; 10] = [
     Step::By(Who::First, KEPT),
 ];
 
-const LOSES_A_BLOCK_THAT_IS_READ_BESIDE: [(Who, Told); 1] = [(
+const LOSES_A_BLOCK_THAT_IS_READ_BESIDE: [(Who, ExpectedCall); 1] = [(
     Who::B,
     (Call::Hold(1), Done::Holds(Some((0, 0)))),
 )];
@@ -120,7 +123,7 @@ const DRAINS_A_PINNED_BLOCK: [Step; 4] = [
     Step::By(Who::B, (Call::Read(0), Done::Read(Some(3), 1))),
 ];
 
-const DRAINS_A_PINNED_BLOCK_BESIDE: [(Who, Told); 4] = [
+const DRAINS_A_PINNED_BLOCK_BESIDE: [(Who, ExpectedCall); 4] = [
     (Who::A, (Call::Write(0, 3), WRITTEN)),
     (Who::A, (Call::Write(1, 4), WRITTEN)),
     (Who::First, DRAINED),
@@ -139,7 +142,7 @@ const LOOKS_TWICE: [Step; 3] = [
     ),
 ];
 
-const LOOKS_TWICE_BESIDE: [(Who, Told); 4] = [
+const LOOKS_TWICE_BESIDE: [(Who, ExpectedCall); 4] = [
     (Who::A, (Call::Write(0, 3), WRITTEN)),
     (Who::A, (Call::Write(1, 4), WRITTEN)),
     (Who::First, DRAINED),
@@ -158,7 +161,7 @@ const LOOKS_THREE_TIMES: [Step; 3] = [
     ),
 ];
 
-const LOOKS_THREE_TIMES_BESIDE: [(Who, Told); 8] = [
+const LOOKS_THREE_TIMES_BESIDE: [(Who, ExpectedCall); 8] = [
     (Who::A, (Call::Write(0, 3), WRITTEN)),
     (Who::A, (Call::Write(1, 4), WRITTEN)),
     (Who::First, DRAINED),
@@ -196,7 +199,7 @@ const DRAINS_BY_TWO: [Step; 6] = [
     Step::Meet(Who::First, Who::Second),
 ];
 
-const DRAINS_BY_TWO_BESIDE: [(Who, Told); 1] = [(
+const DRAINS_BY_TWO_BESIDE: [(Who, ExpectedCall); 1] = [(
     Who::Second,
     (
         Call::Drain,
@@ -218,7 +221,7 @@ const ERASES_BY_TWO: [Step; 8] = [
     Step::By(Who::A, (Call::Read(0), Done::Read(Some(4), 1))),
 ];
 
-const ERASES_BY_TWO_BESIDE: [(Who, Told); 1] = [(Who::Second, ERASED)];
+const ERASES_BY_TWO_BESIDE: [(Who, ExpectedCall); 1] = [(Who::Second, ERASED)];
 
 #[test]
 fn brooms_answer_as_the_rows_say(rt: HostRuntime) -> Result<(), Fail> {

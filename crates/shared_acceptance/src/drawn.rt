@@ -1,9 +1,9 @@
 //! The calls of a schedule, drawn from a seed.
 ghost use Rattle.std.specs.Prelude.{◌<◌};
 
-use crate::broom_judge::Start;
+use crate::broom_model::CallStart;
 use crate::calls::Call;
-use crate::cast::Who;
+use crate::idle_actors::Who;
 
 /// Who takes part, as a number.
 pub(crate) const ACTORS: u32 = 5;
@@ -63,7 +63,7 @@ pub(crate) struct Begun {
     pub k: u32,
     pub drawn: Drawn,
     pub call: Call,
-    pub start: Start,
+    pub start: CallStart,
     pub calls: u64,
     ghost below: { k < 5 },
 }

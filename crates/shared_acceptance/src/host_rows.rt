@@ -1,8 +1,8 @@
 //! Two hosts at a device, without a broom or with one that does nothing.
 use crate::calls::{Call, Done, EMPTY, FULL, TRIMMED, WRITTEN};
-use crate::cast::Who;
+use crate::idle_actors::Who;
 use crate::playing_rows::{Device, Row, check_row};
-use crate::stage::{Step, Told};
+use crate::schedule::{ExpectedCall, Step};
 use flash_table::Point;
 use std::test::Fail;
 
@@ -69,7 +69,7 @@ const TRIMS_BEFORE_A_SWAP: [Step; 3] = [
     Step::By(Who::A, (Call::Read(0), Done::Read(Some(2), 1))),
 ];
 
-const TRIMS_BEFORE_A_SWAP_BESIDE: [(Who, Told); 1] = [(Who::B, (Call::Trim(0), TRIMMED))];
+const TRIMS_BEFORE_A_SWAP_BESIDE: [(Who, ExpectedCall); 1] = [(Who::B, (Call::Trim(0), TRIMMED))];
 
 const HOLDS: [Step; 11] = [
     Step::By(Who::B, (Call::Hold(0), Done::Holds(None))),
@@ -130,7 +130,10 @@ const WINS_BY_THE_FIRST_EXCHANGE: [Step; 2] = [
     Step::By(Who::A, (Call::Read(0), Done::Read(Some(2), 1))),
 ];
 
-const WINS_BY_THE_FIRST_EXCHANGE_BESIDE: [(Who, Told); 1] = [(Who::B, (Call::New(0, 2), EMPTY))];
+const WINS_BY_THE_FIRST_EXCHANGE_BESIDE: [(Who, ExpectedCall); 1] = [(
+    Who::B,
+    (Call::New(0, 2), EMPTY),
+)];
 
 #[test]
 fn hosts_answer_as_the_rows_say(rt: HostRuntime) -> Result<(), Fail> {

@@ -5,13 +5,13 @@ ghost use Rattle.volume.specs.Brooms.{IsBroomReady};
 ghost use Rattle.volume.specs.Volume.{flash_of};
 ghost use Rattle.shared_acceptance.specs.Kept.{IsHome};
 
+use crate::actor_setup::{end_all, next_broom, next_host};
 use crate::actors::Home;
+use crate::assertions::expect;
 use crate::calls::{WORDS, hold};
-use crate::cast::{Cast, Who};
 use crate::closing::close;
-use crate::entries::{disband, next_broom, next_host};
-use crate::saying::expect;
-use crate::stage::{Stage, Step, Told};
+use crate::idle_actors::{IdleActors, Who};
+use crate::schedule::{ExpectedCall, Schedule, Step};
 use broom::Broom;
 use flash_table::{Pass, Point};
 use geometry::Geometry;
@@ -37,7 +37,7 @@ pub(crate) struct Row<'a> {
     pub device: Device,
     pub steps: &'a [Step],
     /// What others do at the gate of a call.
-    pub meanwhile: &'a [(Who, Told)],
+    pub meanwhile: &'a [(Who, ExpectedCall)],
     /// Their numbers, 0 for an empty one.
     pub sectors: [u64; 2],
 }
@@ -49,7 +49,7 @@ fn play<'x, 's, R: Wait, H: Home>(
     passes: Vec<Pass>,
     brooms: Vec<Broom>,
     steps: &[Step],
-    meanwhile: &'s [(Who, Told)],
+    meanwhile: &'s [(Who, ExpectedCall)],
 ) -> (Vec<Pass>, usize)
     requires home { IsHome H.home volume.now }
     requires ready { All (IsReady (flash_of volume.now)) passes.items }
@@ -63,16 +63,16 @@ fn play<'x, 's, R: Wait, H: Home>(
     let first: Option<_> = next_broom(volume, &mut brooms);
     let second = next_broom(volume, &mut brooms);
     brooms.destroy_empty();
-    let cast: Cast<'x, H> = Cast {
+    let idle: IdleActors<'x, H> = IdleActors {
         a,
         b,
         c: None,
         first,
         second,
     };
-    let mut stage = Stage {
+    let mut schedule = Schedule {
         rt,
-        cast,
+        idle,
         point: Point::Answered,
         calls: meanwhile,
         each: 1,
@@ -80,13 +80,13 @@ fn play<'x, 's, R: Wait, H: Home>(
     };
     let mut done = 0usize;
     for step in steps {
-        stage.step(*step);
-        if !stage.right {
+        schedule.step(*step);
+        if !schedule.right {
             break;
         }
         done = done.wrapping_add(1);
     }
-    disband(rt, volume, stage.cast, &mut passes);
+    end_all(rt, volume, schedule.idle, &mut passes);
     (passes, done)
 }
 

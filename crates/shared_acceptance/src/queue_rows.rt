@@ -1,5 +1,5 @@
 //! Numbers put and taken by one thread.
-use crate::queue_hands::{QueueCall, next_hand};
+use crate::queue_users::{QueueCall, next_user};
 use erase_queue::EraseQueue;
 use std::test::Fail;
 
@@ -22,7 +22,7 @@ const ROWS: [QueueCall; 12] = [
 fn the_first_number_put_is_the_first_taken(rt: HostRuntime) -> Result<(), Fail> {
     let (queue, mut passes) = EraseQueue::new(rt.alloc(), 3, 1)?;
     assert!(rt; queue.limit() == 3);
-    let mut hand = next_hand(&queue, &mut passes);
-    assert!(rt; hand.answers(&rt, &ROWS));
+    let mut user = next_user(&queue, &mut passes);
+    assert!(rt; user.answers(&rt, &ROWS));
     Ok(())
 }

@@ -181,7 +181,7 @@ fn wipe_all(flash: &Flash, seat: &mut BroomSeat)
     requires seat { IsBroomOf flash.now seat.old }
     requires erasing { (o : ReclaimedBlock) × IsErasing flash.now seat.old o }
     requires none { (broom_view seat.old).wiped ≡ 0 }
-    ensures told { broom_view seat.new ≡ record (broom_view seat.old) { wiped = words_in_block (device flash.now) } }
+    ensures wiped { broom_view seat.new ≡ record (broom_view seat.old) { wiped = words_in_block (device flash.now) } }
     ensures seat { IsBroomOf flash.now seat.new }
     ensures blocks { own_blocks seat.new ≡ own_blocks seat.old }
 {

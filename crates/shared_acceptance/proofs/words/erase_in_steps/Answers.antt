@@ -48,7 +48,7 @@ returns-clause-seat c =
     let drained : p.phase ≡ Drained = search rules in
     let loaded : own_blocks c.load_state-state.new.broom ≡ own_blocks s = c.load_state-state.ensures.blocks in
     let wiped = was_wiped f s c.load_state-state.new.broom c.condemn.new.broom t c.args.block p c.requires.seat c.load_state-state.ensures.fits drained (omega arith) c.load_state-state.ensures.told loaded
-    c.if-not-condemn.ensures.told c.wipe_all.ensures.told c.wipe_all.ensures.blocks in
+    c.if-not-condemn.ensures.told c.wipe_all.ensures.wiped c.wipe_all.ensures.blocks in
     let endures : c.endurance.result ≡ (broom_view s).numbers.endurance =
     c.endurance.ensures.value ∙ (ap endurance_of c.geometry.ensures ∙ ap (λ (z : Numbers). z.endurance) (sym c.requires.seat.seat.numbers)) in
     let done = did_retire s t u c.args.block p wiped (c.if-state-endurance.false ∙ endures) (c.retire_block.ensures.told _ (its s t c.args.block p wiped)) c.retire_block.ensures.blocks in

@@ -1,0 +1,416 @@
+//! Brooms that drain again with their last survey, and brooms that have lost their spare, while two hosts make calls.
+use crate::calls::{Call, Done, EMPTY, FULL, TRIMMED, WRITTEN};
+use crate::idle_actors::Who;
+use crate::playing_rows::{Device, Row, check_row};
+use crate::schedule::{ExpectedCall, Step};
+use broom::{Drain, Erase};
+use std::test::Fail;
+
+const ONE_BROOM: Device = Device {
+    blocks: 5,
+    endurance: 10,
+    brooms: 1,
+};
+
+const TWO_BROOMS: Device = Device {
+    blocks: 7,
+    endurance: 10,
+    brooms: 2,
+};
+
+// Each block may be erased once.
+const ONCE: Device = Device {
+    blocks: 5,
+    endurance: 1,
+    brooms: 1,
+};
+
+// Each block may be erased twice.
+const TWICE: Device = Device {
+    blocks: 5,
+    endurance: 2,
+    brooms: 1,
+};
+
+const DRAINS_ONE: ExpectedCall = (
+    Call::Drain,
+    Done::Drained(Drain::Drained {
+        block: 1,
+        copied: 0,
+    }),
+);
+
+const DRAINS_NEXT_ZERO_BY_MOVES: ExpectedCall = (
+    Call::DrainNext,
+    Done::Drained(Drain::Drained {
+        block: 0,
+        copied: 1,
+    }),
+);
+
+const NO_SPARE_FOR_NEXT: ExpectedCall = (Call::DrainNext, Done::Drained(Drain::NoSpare));
+
+const DRAINS_NEXT_ZERO: ExpectedCall = (
+    Call::DrainNext,
+    Done::Drained(Drain::Drained {
+        block: 0,
+        copied: 0,
+    }),
+);
+
+const DRAINS_NEXT_TWO_BY_MOVES: ExpectedCall = (
+    Call::DrainNext,
+    Done::Drained(Drain::Drained {
+        block: 2,
+        copied: 1,
+    }),
+);
+
+const KEEPS_ZERO: ExpectedCall = (
+    Call::Erase(0),
+    Done::Erased(Erase::Erased {
+        block: 0,
+        kept: true,
+    }),
+);
+
+const DRAINS_NEXT_TWO: ExpectedCall = (
+    Call::DrainNext,
+    Done::Drained(Drain::Drained {
+        block: 2,
+        copied: 0,
+    }),
+);
+
+const DRAINS_ZERO_BY_MOVES: ExpectedCall = (
+    Call::Drain,
+    Done::Drained(Drain::Drained {
+        block: 0,
+        copied: 1,
+    }),
+);
+
+const LOSES_NEXT: ExpectedCall = (Call::DrainNext, Done::Drained(Drain::Lost));
+
+const FREES_ZERO: ExpectedCall = (
+    Call::Erase(0),
+    Done::Erased(Erase::Erased {
+        block: 0,
+        kept: false,
+    }),
+);
+
+const FREES_ONE: ExpectedCall = (
+    Call::Erase(1),
+    Done::Erased(Erase::Erased {
+        block: 1,
+        kept: false,
+    }),
+);
+
+const NOTHING_NEXT: ExpectedCall = (Call::DrainNext, Done::Drained(Drain::NothingToGain));
+
+const NOTHING: ExpectedCall = (Call::Drain, Done::Drained(Drain::NothingToGain));
+
+const HAS_SPARE: ExpectedCall = (Call::Restock, Done::Restocked(true));
+
+const RETIRES_ZERO: ExpectedCall = (Call::Erase(0), Done::Erased(Erase::Retired { block: 0 }));
+
+const NO_SPARE: ExpectedCall = (Call::Drain, Done::Drained(Drain::NoSpare));
+
+const DRAINS_ONE_BY_MOVES: ExpectedCall = (
+    Call::Drain,
+    Done::Drained(Drain::Drained {
+        block: 1,
+        copied: 1,
+    }),
+);
+
+const RETIRES_ONE: ExpectedCall = (Call::Erase(1), Done::Erased(Erase::Retired { block: 1 }));
+
+const DRAINS_THREE_BY_MOVES: ExpectedCall = (
+    Call::Drain,
+    Done::Drained(Drain::Drained {
+        block: 3,
+        copied: 1,
+    }),
+);
+
+const RETIRES_THREE: ExpectedCall = (Call::Erase(3), Done::Erased(Erase::Retired { block: 3 }));
+
+const FINDS_NO_SPARE: ExpectedCall = (Call::Restock, Done::Restocked(false));
+
+const DRAINS_TWO_BY_MOVES: ExpectedCall = (
+    Call::Drain,
+    Done::Drained(Drain::Drained {
+        block: 2,
+        copied: 1,
+    }),
+);
+
+const KEEPS_TWO: ExpectedCall = (
+    Call::Erase(2),
+    Done::Erased(Erase::Erased {
+        block: 2,
+        kept: true,
+    }),
+);
+
+const DRAINS_FOUR_BY_MOVES: ExpectedCall = (
+    Call::Drain,
+    Done::Drained(Drain::Drained {
+        block: 4,
+        copied: 1,
+    }),
+);
+
+const FREES_FOUR: ExpectedCall = (
+    Call::Erase(4),
+    Done::Erased(Erase::Erased {
+        block: 4,
+        kept: false,
+    }),
+);
+
+const RETIRES_TWO: ExpectedCall = (Call::Erase(2), Done::Erased(Erase::Retired { block: 2 }));
+
+// In block 0 the page of sector 1 is live, in block 1 none, and in block 2 that of sector 0.
+const GOES_ON: [Step; 9] = [
+    Step::By(Who::A, (Call::Write(0, 1), EMPTY)),
+    Step::By(Who::A, (Call::Write(1, 2), EMPTY)),
+    Step::By(Who::A, (Call::Write(0, 3), WRITTEN)),
+    Step::By(Who::A, (Call::Write(0, 4), WRITTEN)),
+    Step::By(Who::A, (Call::Write(0, 5), WRITTEN)),
+    Step::By(Who::A, (Call::Write(0, 6), WRITTEN)),
+    Step::By(Who::First, DRAINS_ONE),
+    Step::By(Who::First, DRAINS_NEXT_ZERO_BY_MOVES),
+    Step::By(Who::First, NO_SPARE_FOR_NEXT),
+];
+
+const GOES_ON_PAST_A_TRIM: [Step; 10] = [
+    Step::By(Who::A, (Call::Write(0, 1), EMPTY)),
+    Step::By(Who::A, (Call::Write(1, 2), EMPTY)),
+    Step::By(Who::A, (Call::Write(0, 3), WRITTEN)),
+    Step::By(Who::A, (Call::Write(0, 4), WRITTEN)),
+    Step::By(Who::A, (Call::Write(0, 5), WRITTEN)),
+    Step::By(Who::A, (Call::Write(0, 6), WRITTEN)),
+    Step::By(Who::First, DRAINS_ONE),
+    Step::By(Who::A, (Call::Trim(1), TRIMMED)),
+    Step::By(Who::First, DRAINS_NEXT_ZERO),
+    Step::By(Who::First, DRAINS_NEXT_TWO_BY_MOVES),
+];
+
+const GOES_ON_PAST_A_WRITE: [Step; 12] = [
+    Step::By(Who::A, (Call::Write(0, 1), EMPTY)),
+    Step::By(Who::A, (Call::Write(1, 2), EMPTY)),
+    Step::By(Who::A, (Call::Write(0, 3), WRITTEN)),
+    Step::By(Who::A, (Call::Write(0, 4), WRITTEN)),
+    Step::By(Who::A, (Call::Write(0, 5), WRITTEN)),
+    Step::By(Who::A, (Call::Write(0, 6), WRITTEN)),
+    Step::By(Who::First, DRAINS_ONE),
+    Step::By(Who::A, (Call::Write(0, 7), WRITTEN)),
+    Step::By(Who::First, DRAINS_NEXT_ZERO_BY_MOVES),
+    Step::By(Who::A, (Call::Write(1, 8), WRITTEN)),
+    Step::By(Who::First, KEEPS_ZERO),
+    Step::By(Who::First, DRAINS_NEXT_TWO),
+];
+
+const LOSES_A_BLOCK: [Step; 11] = [
+    Step::By(Who::A, (Call::Write(0, 1), EMPTY)),
+    Step::By(Who::A, (Call::Write(1, 2), EMPTY)),
+    Step::By(Who::A, (Call::Write(0, 3), WRITTEN)),
+    Step::By(Who::A, (Call::Write(0, 4), WRITTEN)),
+    Step::By(Who::A, (Call::Write(0, 5), WRITTEN)),
+    Step::By(Who::A, (Call::Write(0, 6), WRITTEN)),
+    Step::By(Who::First, DRAINS_ONE),
+    Step::By(Who::Second, DRAINS_ZERO_BY_MOVES),
+    Step::By(Who::First, LOSES_NEXT),
+    Step::By(Who::First, DRAINS_NEXT_TWO_BY_MOVES),
+    Step::Meet(Who::First, Who::Second),
+];
+
+// The second broom drains a block that the first one has marked, and the first one erases it.
+const ERASES_BETWEEN: [Step; 10] = [
+    Step::By(Who::A, (Call::Write(0, 1), EMPTY)),
+    Step::By(Who::A, (Call::Write(1, 2), EMPTY)),
+    Step::By(Who::A, (Call::Write(0, 3), WRITTEN)),
+    Step::By(Who::A, (Call::Write(0, 4), WRITTEN)),
+    Step::By(Who::A, (Call::Write(0, 5), WRITTEN)),
+    Step::By(Who::A, (Call::Write(0, 6), WRITTEN)),
+    Step::By(Who::First, DRAINS_ONE),
+    Step::By(Who::Second, DRAINS_ZERO_BY_MOVES),
+    Step::By(Who::First, FREES_ZERO),
+    Step::By(Who::First, DRAINS_NEXT_TWO_BY_MOVES),
+];
+
+const ERASES_ITS_OWN: [Step; 12] = [
+    Step::By(Who::A, (Call::Write(0, 1), EMPTY)),
+    Step::By(Who::A, (Call::Write(1, 2), EMPTY)),
+    Step::By(Who::A, (Call::Write(0, 3), WRITTEN)),
+    Step::By(Who::A, (Call::Write(0, 4), WRITTEN)),
+    Step::By(Who::A, (Call::Write(0, 5), WRITTEN)),
+    Step::By(Who::A, (Call::Write(0, 6), WRITTEN)),
+    Step::By(Who::First, DRAINS_ONE),
+    Step::By(Who::First, FREES_ONE),
+    Step::By(Who::A, (Call::Write(0, 7), WRITTEN)),
+    Step::By(Who::A, (Call::Write(0, 8), WRITTEN)),
+    Step::By(Who::First, DRAINS_NEXT_ZERO_BY_MOVES),
+    Step::By(Who::First, NO_SPARE_FOR_NEXT),
+];
+
+const HAS_NO_SURVEY: [Step; 14] = [
+    Step::By(Who::A, (Call::Write(0, 1), EMPTY)),
+    Step::By(Who::A, (Call::Write(1, 2), EMPTY)),
+    Step::By(Who::A, (Call::Write(0, 3), WRITTEN)),
+    Step::By(Who::A, (Call::Write(0, 4), WRITTEN)),
+    Step::By(Who::A, (Call::Write(0, 5), WRITTEN)),
+    Step::By(Who::A, (Call::Write(0, 6), WRITTEN)),
+    Step::By(Who::First, NOTHING_NEXT),
+    Step::By(Who::First, DRAINS_ONE),
+    Step::By(Who::A, (Call::Trim(0), TRIMMED)),
+    Step::By(Who::A, (Call::Trim(1), TRIMMED)),
+    Step::By(Who::First, DRAINS_NEXT_ZERO),
+    Step::By(Who::First, DRAINS_NEXT_TWO),
+    Step::By(Who::First, NOTHING_NEXT),
+    Step::By(Who::First, NOTHING),
+];
+
+// The spare is block 4, then block 2; then no block is free.
+const RESTOCKS_ONCE: [Step; 22] = [
+    Step::By(Who::A, (Call::Write(0, 1), EMPTY)),
+    Step::By(Who::A, (Call::Write(1, 2), EMPTY)),
+    Step::By(Who::A, (Call::Write(0, 3), WRITTEN)),
+    Step::By(Who::First, HAS_SPARE),
+    Step::By(Who::First, DRAINS_ZERO_BY_MOVES),
+    Step::By(Who::First, RETIRES_ZERO),
+    Step::By(Who::First, NO_SPARE),
+    Step::By(Who::First, NO_SPARE_FOR_NEXT),
+    Step::By(Who::First, HAS_SPARE),
+    Step::By(Who::First, HAS_SPARE),
+    Step::By(Who::A, (Call::Write(1, 4), WRITTEN)),
+    Step::By(Who::First, NOTHING),
+    Step::By(Who::A, (Call::Write(0, 5), WRITTEN)),
+    Step::By(Who::First, DRAINS_ONE_BY_MOVES),
+    Step::By(Who::First, RETIRES_ONE),
+    Step::By(Who::A, (Call::Write(0, 6), WRITTEN)),
+    Step::By(Who::First, DRAINS_THREE_BY_MOVES),
+    Step::By(Who::First, RETIRES_THREE),
+    Step::By(Who::First, NO_SPARE),
+    Step::By(Who::First, FINDS_NO_SPARE),
+    Step::By(Who::A, (Call::Write(0, 7), FULL)),
+    Step::By(Who::First, FINDS_NO_SPARE),
+];
+
+const RESTOCKS_TWICE: [Step; 30] = [
+    Step::By(Who::A, (Call::Write(0, 1), EMPTY)),
+    Step::By(Who::A, (Call::Write(1, 2), EMPTY)),
+    Step::By(Who::A, (Call::Write(0, 3), WRITTEN)),
+    Step::By(Who::First, DRAINS_ZERO_BY_MOVES),
+    Step::By(Who::First, KEEPS_ZERO),
+    Step::By(Who::A, (Call::Write(1, 4), WRITTEN)),
+    Step::By(Who::A, (Call::Write(0, 5), WRITTEN)),
+    Step::By(Who::First, DRAINS_ONE_BY_MOVES),
+    Step::By(Who::First, FREES_ONE),
+    Step::By(Who::A, (Call::Write(0, 6), WRITTEN)),
+    Step::By(Who::First, DRAINS_TWO_BY_MOVES),
+    Step::By(Who::First, KEEPS_TWO),
+    Step::By(Who::A, (Call::Write(0, 7), WRITTEN)),
+    Step::By(Who::First, DRAINS_FOUR_BY_MOVES),
+    Step::By(Who::First, FREES_FOUR),
+    Step::By(Who::A, (Call::Write(0, 8), WRITTEN)),
+    Step::By(Who::First, DRAINS_ZERO_BY_MOVES),
+    Step::By(Who::First, RETIRES_ZERO),
+    Step::By(Who::First, NO_SPARE),
+    Step::By(Who::First, HAS_SPARE),
+    Step::By(Who::First, DRAINS_ONE_BY_MOVES),
+    Step::By(Who::First, RETIRES_ONE),
+    Step::By(Who::First, NOTHING),
+    Step::By(Who::A, (Call::Write(0, 9), WRITTEN)),
+    Step::By(Who::First, DRAINS_TWO_BY_MOVES),
+    Step::By(Who::First, RETIRES_TWO),
+    Step::By(Who::First, FINDS_NO_SPARE),
+    Step::By(Who::A, (Call::Write(1, 10), WRITTEN)),
+    Step::By(Who::A, (Call::Write(0, 11), FULL)),
+    Step::By(Who::First, NO_SPARE),
+];
+
+#[test]
+fn drains_by_the_last_survey_answer_as_the_rows_say(rt: HostRuntime) -> Result<(), Fail> {
+    for row in [
+        Row {
+            name: "after a survey the drains go on in the order of its counts",
+            device: ONE_BROOM,
+            steps: &GOES_ON,
+            meanwhile: &[],
+            sectors: [6, 2],
+        },
+        Row {
+            name: "a page that was trimmed since is not moved",
+            device: ONE_BROOM,
+            steps: &GOES_ON_PAST_A_TRIM,
+            meanwhile: &[],
+            sectors: [6, 0],
+        },
+        Row {
+            name: "a page that was overwritten since is not moved, and the order stays",
+            device: ONE_BROOM,
+            steps: &GOES_ON_PAST_A_WRITE,
+            meanwhile: &[],
+            sectors: [7, 8],
+        },
+        Row {
+            name: "a block that another broom has drained is lost, and the next one is not",
+            device: TWO_BROOMS,
+            steps: &LOSES_A_BLOCK,
+            meanwhile: &[],
+            sectors: [6, 2],
+        },
+        Row {
+            name: "a block that the broom erased is not marked any more",
+            device: TWO_BROOMS,
+            steps: &ERASES_BETWEEN,
+            meanwhile: &[],
+            sectors: [6, 2],
+        },
+        Row {
+            name: "a block that was erased and filled again is not drained by the old survey",
+            device: ONE_BROOM,
+            steps: &ERASES_ITS_OWN,
+            meanwhile: &[],
+            sectors: [8, 2],
+        },
+        Row {
+            name: "before a survey nothing is gained, nor once no mark is left",
+            device: ONE_BROOM,
+            steps: &HAS_NO_SURVEY,
+            meanwhile: &[],
+            sectors: [0, 0],
+        },
+    ] {
+        check_row(&rt, row)?;
+    }
+    Ok(())
+}
+
+#[test]
+fn brooms_without_a_spare_answer_as_the_rows_say(rt: HostRuntime) -> Result<(), Fail> {
+    for row in [
+        Row {
+            name: "a broom is restocked until no block is left",
+            device: ONCE,
+            steps: &RESTOCKS_ONCE,
+            meanwhile: &[],
+            sectors: [6, 4],
+        },
+        Row {
+            name: "and so where each block may be erased twice",
+            device: TWICE,
+            steps: &RESTOCKS_TWICE,
+            meanwhile: &[],
+            sectors: [9, 10],
+        },
+    ] {
+        check_row(&rt, row)?;
+    }
+    Ok(())
+}
