@@ -8,4 +8,6 @@ pub returns-then-len-capacity : goal.returns-then-len-capacity
 returns-then-len-capacity g c =
     let P = IsReady (flash_of c.args.volume.now) in
     let items = c.args.passes.now.items in
-    let pass = c.into_pass.result in All-same P c.push_reserved.new.self.items (items ++ pass ∷ []) c.push_reserved.ensures.items (All-push P items pass c.requires.ready c.into_pass.ensures)
+    let pass = c.into_pass.result in
+    All-same P c.push_reserved.new.self.items (items ++ pass ∷ []) c.push_reserved.ensures.items
+    (All-push P items pass c.requires.ready c.into_pass.ensures)

@@ -5,8 +5,11 @@ use Rattle.shared_acceptance.proofs.actor_setup.next_broom.Goals as goal
 
 pub invariant_of-result : goal.invariant_of-result
 invariant_of-result g c =
-    let popped = All-pop (IsBroomReady c.args.volume.now) c.args.brooms.now.items c.pop.new.self.items (Some c.in_ok-broom.broom) c.in_ok-broom.ensures.items c.requires.ready in
+    let popped = All-pop (IsBroomReady c.args.volume.now) c.args.brooms.now.items c.pop.new.self.items
+    (Some c.in_ok-broom.broom) c.in_ok-broom.ensures.items c.requires.ready in
     record { home = c.requires.home; ready = popped.1 }
 
 pub returns-clause-ready : goal.returns-clause-ready
-returns-clause-ready g c = (All-pop (IsBroomReady c.args.volume.now) c.args.brooms.now.items c.pop.new.self.items (Some c.in_ok-broom.broom) c.in_ok-broom.ensures.items c.requires.ready).0
+returns-clause-ready g c =
+    (All-pop (IsBroomReady c.args.volume.now) c.args.brooms.now.items c.pop.new.self.items
+    (Some c.in_ok-broom.broom) c.in_ok-broom.ensures.items c.requires.ready).0

@@ -6,8 +6,10 @@ use Rattle.shared_acceptance.proofs.actor_setup.next_host.Goals as goal
 
 pub invariant_of-result : goal.invariant_of-result
 invariant_of-result g c =
-    let popped = All-pop (IsReady (flash_of c.args.volume.now)) c.args.passes.now.items c.pop.new.self.items (Some c.in_ok-pass.pass) c.in_ok-pass.ensures.items c.requires.ready in
+    let popped = All-pop (IsReady (flash_of c.args.volume.now)) c.args.passes.now.items c.pop.new.self.items
+    (Some c.in_ok-pass.pass) c.in_ok-pass.ensures.items c.requires.ready in
     record { home = c.requires.home; ready = popped.1 }
 
 pub returns : goal.returns
-returns g c = (All-pop (IsReady (flash_of c.args.volume.now)) c.args.passes.now.items c.pop.new.self.items (Some c.in_ok-pass.pass) c.in_ok-pass.ensures.items c.requires.ready).0
+returns g c = (All-pop (IsReady (flash_of c.args.volume.now)) c.args.passes.now.items c.pop.new.self.items
+    (Some c.in_ok-pass.pass) c.in_ok-pass.ensures.items c.requires.ready).0

@@ -10,14 +10,16 @@ pub loop-i-init : goal.loop-i-init
 loop-i-init c = wiped_none c.args.flash.now c.args.seat.now c.requires.seat c.requires.none
 
 pub wipe-requires-clause-erasing : goal.wipe-requires-clause-erasing
-wipe-requires-clause-erasing c = let o = c.requires.erasing in (o.0, still_erases c.args.flash.now c.args.seat.now c.loop-i.seat o.0 c.loop-i.invariant.blocks o.1)
+wipe-requires-clause-erasing c = let o = c.requires.erasing in
+    (o.0, still_erases c.args.flash.now c.args.seat.now c.loop-i.seat o.0 c.loop-i.invariant.blocks o.1)
 
 pub wipe-requires-clause-next : goal.wipe-requires-clause-next
 wipe-requires-clause-next c = sym (ap (λ (v : View). v.wiped) c.loop-i.invariant.changed)
 
 pub loop-i-preserved : goal.loop-i-preserved
 loop-i-preserved c =
-    wiped_more c.args.flash.now (broom_view c.args.seat.now) (own_blocks c.args.seat.now) c.loop-i.i c.loop-i.seat c.wipe.new.broom c.loop-i.invariant c.wipe.ensures.broom c.wipe.ensures.blocks c.wipe.ensures.told
+    wiped_more c.args.flash.now (broom_view c.args.seat.now) (own_blocks c.args.seat.now) c.loop-i.i c.loop-i.seat c.wipe.new.broom c.loop-i.invariant
+    c.wipe.ensures.broom c.wipe.ensures.blocks c.wipe.ensures.told
 
 pub returns-clause-wiped : goal.returns-clause-wiped
 returns-clause-wiped c =
