@@ -61,11 +61,51 @@ def build():
         raise Fault(f"{LAUNCHER} failed with status {done.returncode}")
 
 
+class Counted:
+    """Passes a trace on, whole lines at a time, and counts its lines and its writes. The counts are exact if the lines are plain, as
+    tools/trace writes them: each is a record, and only the op of a write stands as `write` between commas."""
+
+    def __init__(self, sink):
+        self._sink = sink
+        self._last = b"\n"
+        self.lines = 0
+        self.writes = 0
+        self.plain = True
+
+    def write(self, lines):
+        self.lines += lines.count(b"\n")
+        self.writes += lines.count(b",write,")
+        self.plain = self.plain and not any(mark in lines for mark in (b'"', b"\r", b",new,", b"\n\n")) and lines[:1] != b"\n" and lines.isascii()
+        self._last = lines[-1:] or self._last
+        self._sink.write(lines)
+
+    def flush(self):
+        self._sink.flush()
+
+    def records(self):
+        return self.lines + (self._last != b"\n")
+
+
 def play(device, feed):
-    """Plays the trace that `feed` writes, and returns its totals. The answers are read as they come, and not kept."""
-    lines, worn, tail = run(device, feed, _read_answers)
-    programs, copies, erases = (int(text) for text in tail.split(b",")[1:])
-    return Totals(lines - 1, programs, copies, erases, worn)
+    """Plays the trace that `feed` writes, and returns its totals, without the answers: each write that wasn't refused programmed a page.
+    Only if a line isn't plain, the trace is played again and the answers are counted as they come."""
+    counted = None
+
+    def counting(sink):
+        nonlocal counted
+        counted = Counted(sink)
+        feed(counted)
+
+    programs, copies, erases = _totals(run(device, counting, lambda source: source.read(), ("--quiet",)))
+    if counted.plain:
+        return Totals(counted.records(), programs, copies, erases, counted.writes - programs)
+    lines, worn, last = run(device, feed, _read_answers)
+    return Totals(lines - 1, *_totals(last), worn)
+
+
+def _totals(line):
+    """The pages programmed for writes, the pages copied and the erases."""
+    return [int(text) for text in line.split(b",")[1:]]
 
 
 def run(device, feed, reader, further=()):

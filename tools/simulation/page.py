@@ -60,7 +60,7 @@ def html(options, run: Run) -> str:
         further += [row for row in response.as_rows(run.responses, run.response.part.shown()) if not row[0].startswith("response of")]
     parts = [
         f"<h1>{escape(title)}</h1>",
-        *_played(options),
+        *_played(options, run.answers.quiet),
         '<h2 id="totals">Totals</h2>',
         _table("totals-table", "What the run did", ("", ""), [*summary.as_rows(run.summary), *further], texts=True),
         *(part for section in sections(options, run) for part in _section(section)),
@@ -71,7 +71,7 @@ def html(options, run: Run) -> str:
     return f'<!DOCTYPE html>\n<html lang="en"><head>{head}</head>\n<body><main>\n{body}\n</main></body></html>\n'
 
 
-def _played(options):
+def _played(options, quiet):
     """The device, the trace and the command lines."""
     rows = []
     if device.is_named(options):
@@ -83,18 +83,18 @@ def _played(options):
     played = ['<h2 id="played">What was played</h2>']
     if rows:
         played.append(_table("device-table", "Device and trace", ("", ""), rows, texts=True))
-    lines = "\n".join(escape(line) for line in command_lines(options))
+    lines = "\n".join(escape(line) for line in command_lines(options, quiet))
     return [*played, "<p>The command lines:</p>", f"<pre><code>{lines}</code></pre>"]
 
 
-def command_lines(options) -> list:
+def command_lines(options, quiet) -> list:
     """What the caller says made the trace, the run as the options tell it, and this report."""
     lines = list(options.made_by)
     if options.trace and device.is_named(options):
         numbers, trace, answers = device.words_of(device.numbers_of(options)), shlex.quote(options.trace), shlex.quote(options.answers)
         given = {"--wear": options.wear, "--collections": options.collections}
         files = [word for option, name in given.items() if name for word in (option, name)]
-        lines.append(f"{shlex.join(['./flashplay', *numbers, *files])} < {trace} > {answers}")
+        lines.append(f"{shlex.join(['./flashplay', *numbers, *files, *(['--quiet'] if quiet else [])])} < {trace} > {answers}")
     return [*lines, shlex.join(["tools/report", *sys.argv[1:]])]
 
 

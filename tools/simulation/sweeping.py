@@ -24,6 +24,7 @@ COLUMNS = (*device.DEFAULTS, "utilisation", "lines", "programs", "copies", "eras
 # With the times of a part: the response of writes, by the name in a report, and the load of the device.
 RESPONSES = {"write_mean_us": "response_writes_mean_us", "write_p99_us": "response_writes_p99_us", "write_p999_us": "response_writes_p999_us"}
 RESPONSE_COLUMNS = ("load", *RESPONSES)
+LINES_AT_ONCE = 4096
 SWEEP = device.TOP / "tools/sweep"
 
 
@@ -137,11 +138,11 @@ def feeder(options, point, rounds):
 
 
 def copy_lines(path, lines, sink):
+    """Copies the first lines of a file, or all, many whole lines at a time."""
     with inputs.opened(path) as trace:
-        if lines is None:
-            shutil.copyfileobj(trace, sink)
-        else:
-            sink.writelines(itertools.islice(trace, lines))
+        left = itertools.islice(trace, lines)
+        while some := list(itertools.islice(left, LINES_AT_ONCE)):
+            sink.write(b"".join(some))
 
 
 def want_parallel():

@@ -26,12 +26,12 @@ class Formats(unittest.TestCase):
         self.assertEqual(len(found), 40)
 
     def test_a_folder_as_standard_input_is_named_in_one_line(self):
-        with tempfile.TemporaryDirectory() as folder:
-            opened = os.open(folder, os.O_RDONLY)
-            words = [TOOLS / "trace", "convert", "fio", "--page-bytes", "4096", "--sectors", "16"]
-            done = subprocess.run(words, stdin=opened, capture_output=True, text=True)
-            os.close(opened)
-        self.assertEqual((done.returncode, done.stdout, done.stderr), (1, "", "trace: standard input: Is a directory\n"))
+        for name, *words in (("trace", "convert", "fio", "--page-bytes", "4096", "--sectors", "16"), ("report", "-"), ("model",)):
+            with self.subTest(name), tempfile.TemporaryDirectory() as folder:
+                opened = os.open(folder, os.O_RDONLY)
+                done = subprocess.run([TOOLS / name, *words], stdin=opened, capture_output=True, text=True)
+                os.close(opened)
+                self.assertEqual((done.returncode, done.stdout, done.stderr), (1, "", f"{name}: standard input: Is a directory\n"))
 
     @needs("fio")
     def test_converts_iolog_of_installed_fio(self):

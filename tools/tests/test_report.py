@@ -148,6 +148,14 @@ class Collections(InFolder):
         reported = json.loads(report(b"end,5,1,1\n", "--json", "--page-bytes", "8", "--collections", self.file("log", LOG)).text)
         self.assertEqual((reported["lines"], reported["write_amplification"], reported["erases_per_gigabyte"], reported["copybacks"]), (None, 1.2, 25_000_000, 1))
 
+    @needs("matplotlib")
+    def test_the_page_of_a_quiet_run_has_the_call_that_wrote_it(self):
+        page = self.room / "page.html"
+        for answers, quiet in ((self.file("quiet", b"end,5,1,1\n"), True), (COLLECTION, False)):
+            words = ("--collections", self.file("log", LOG), "--trace", "trace.csv", "--blocks", "3", "--pages", "2", "--words", "1", "--sectors", "3", "--page", page)
+            self.assertEqual(Run("report", answers, *words).errors, "")
+            self.assertEqual(" --quiet &lt; trace.csv &gt; " in page.read_text(), quiet)
+
     def test_the_source_of_the_size_of_a_page_is_told(self):
         self.assertIn("(40 bytes in pages of 8, as the reads show)", Run("report", COLLECTION).text)
         self.assertIn("(20,480 bytes in pages of 4,096, as --page-bytes says)", Run("report", COLLECTION, "--page-bytes", "4096").text)

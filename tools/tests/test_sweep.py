@@ -34,6 +34,28 @@ class Grids(unittest.TestCase):
             self.assertEqual(grid.point_in(str(point)), point)
 
 
+class Totals(unittest.TestCase):
+    def test_totals_are_those_of_the_last_line_alone_unless_a_line_is_not_plain(self):
+        numbers = {"luns": 1, "blocks": 3, "pages": 2, "words": 1, "sectors": 3, "endurance": 1}
+        writes = "".join(f"0,write,{n % 2},{n:02x}\n" for n in range(7))
+        # Six writes fill the device and its last erase; the seventh is refused.
+        wanted = device.Totals(9, 6, 0, 1, 1)
+        for text, plays in [
+            (f"{writes}0,read,1,\n0,meet,0,\n", 1),
+            (f"{writes}0,read,1,\n0,trim,1,", 1),
+            (f"\n{writes}0,read,1,\n0,trim,1,\n", 2),
+            (f"{writes}\n0,read,1,\n\n0,trim,1,\n", 2),
+            (f"\ufeff{writes}0,read,1,\n0,trim,1,\n", 2),
+            (f'{writes}0,"read",1,\n0,trim,1,\n', 2),
+            (f"{writes}0,read,1,\r\n0,trim,1,\n", 2),
+            (f"{writes}0,new,1,\n0,trim,1,\n", 2),
+        ]:
+            with self.subTest(text), mock.patch.object(device, "run", wraps=device.run) as run:
+                lines = text.encode().splitlines(keepends=True)
+                self.assertEqual(device.play(numbers, lambda sink: [sink.write(line) for line in lines]), wanted)
+                self.assertEqual([call.args[3:] for call in run.call_args_list], [(("--quiet",),), ()][:plays])
+
+
 @needs("parallel", "matplotlib")
 class Sweeps(unittest.TestCase):
     def setUp(self):

@@ -58,7 +58,7 @@ file_ended f o wanted IsTextOf input is_opened_as old mid new r (opened, same) a
     (subst (λ w. EndsFile w IsTextOf input (record { before = mid; after = new }) r) (asked ∙ is_some_map f o) ends))
 
 -- a run ends by how its log and its wear were written
-pub run_ended : (c w : Result (Unit {0}) OutputFailed) (geo : Geometry) (given : Options) (input output : Passage) (files : Filings) → PlaysOn geo input output
+pub run_ended : (c w : Result (Unit {0}) OutputFailed) (geo : Geometry) (given : Options) (input output : Passage) (files : Filings) → PlaysOn geo given input output
     → ByEnd c (TellsFile (name_given run_file.Collections given) (IsLogFor geo) input.before files.collections) (LosesFile (name_given run_file.Collections given) (IsLogFor geo) input.before files.collections)
     → ByEnd w (TellsFile (name_given run_file.Wear given) (IsWearOf geo) input.before files.wear) (LosesFile (name_given run_file.Wear given) (IsWearOf geo) input.before files.wear)
     → EndsOn (outcome_of c w) geo given input output files
@@ -101,7 +101,7 @@ not_opened (stop.File file why) geo given input output files (fault, is, asked, 
     by open_fault.InUse = (asked, idle, fails)
 
 -- what was played on the described device is the answer of the session
-abbrev answered_on : (words : List Text) (geo : Geometry) (device : IsDescribed words geo) (input output : Passage) → PlaysOn geo input output → Answered words input output
+abbrev answered_on : (words : List Text) (geo : Geometry) (device : IsDescribed words geo) (input output : Passage) → PlaysOn geo device.given input output → Answered words input output
 answered_on words geo device input output plays = record {
   geo = geo;
   device = device;

@@ -1,6 +1,6 @@
 -- What a run tells, by whether its device has hosts.
 use Rattle.std.proofs.Common.{◌≡◌, ◌≢◌, ℕ, zero, suc, List, Option, refl, sym, subst}
-use Rattle.std.specs.Prelude.{Bool, IfSome, Result}
+use Rattle.std.specs.Prelude.{Bool, not, IfSome, Result}
 use Rattle.geometry.specs.Geometry.{hosts_of}
 use Rattle.geometry.specs.declared.geometry.Geometry.{Geometry}
 use Rattle.answers.specs.Delivery.{AppendsText}
@@ -12,36 +12,37 @@ use Rattle.answers.specs.declared.delivery.OutputFailed.{OutputFailed}
 use Rattle.runs.specs.Brooms.{IsBroomLogOf}
 use Rattle.runs.specs.Collections.{IsLogOf}
 use Rattle.runs.specs.Files.{EndsFile, LeavesLog}
-use Rattle.runs.specs.Playing.{IsTextOf}
-use Rattle.runs.specs.Texts.{IsTextOf as IsSharedTextOf}
+use Rattle.runs.specs.Outputs.{IsOutputByWorkers, IsOutputOf}
+use Rattle.player.specs.declared.command_line.Options.{Options}
 use Rattle.player.specs.Session.{IsLogBy, IsLogFor, IsTextBy, IsTextFor, LeavesLogBy}
 
 -- without hosts the text is that of one thread
-pub one_text : (geo : Geometry) (input old new : Option (List ℕ)) → hosts_of geo ≡ 0 → IfSome input (λ bytes. AppendsText (IsTextOf geo) bytes old new) → IfSome input (λ bytes. AppendsText (IsTextFor geo) bytes old new)
-one_text geo input old new none text = subst (λ h. IfSome input (λ bytes. AppendsText (IsTextBy h geo) bytes old new)) (sym none) text
+pub one_text : (given : Options) (geo : Geometry) (input old new : Option (List ℕ)) → hosts_of geo ≡ 0 → IfSome input (λ bytes. AppendsText (IsOutputOf (not given.quiet) geo) bytes old new)
+    → IfSome input (λ bytes. AppendsText (IsTextFor given geo) bytes old new)
+one_text given geo input old new none text = subst (λ h. IfSome input (λ bytes. AppendsText (IsTextBy h (not given.quiet) geo) bytes old new)) (sym none) text
 
-pub one_why : (geo : Geometry) (fault : RunFault) (input output : Passage) → hosts_of geo ≡ 0 → ExplainsRun IsTextOf geo input output fault → ExplainsRun IsTextFor geo input output fault
-one_why geo (run.Trace found) input output none why = why
-one_why geo run.Memory input output none why = why
-one_why geo run.Threads input output none why = why
-one_why geo run.Output input output none (reads, failed, part) =
-    (reads, failed, subst (λ h. TellsPart (IsTextBy h geo) input.before output) (sym none) part)
+pub one_why : (given : Options) (geo : Geometry) (fault : RunFault) (input output : Passage) → hosts_of geo ≡ 0 → ExplainsRun (IsOutputOf (not given.quiet)) geo input output fault → ExplainsRun (IsTextFor given) geo input output fault
+one_why given geo (run.Trace found) input output none why = why
+one_why given geo run.Memory input output none why = why
+one_why given geo run.Threads input output none why = why
+one_why given geo run.Output input output none (reads, failed, part) =
+    (reads, failed, subst (λ h. TellsPart (IsTextBy h (not given.quiet) geo) input.before output) (sym none) part)
 
 -- with hosts it is that of their workers
-pub shared_text : (hosts : ℕ) (geo : Geometry) (input : Stream) (output : Passage) → hosts ≢ 0 → Tells (IsSharedTextOf geo) input output → Tells (IsTextBy hosts geo) input output
-shared_text zero geo input output some text = absurd (some refl)
-shared_text (suc others) geo input output some text = text
+pub shared_text : (hosts : ℕ) (answers : Bool) (geo : Geometry) (input : Stream) (output : Passage) → hosts ≢ 0 → Tells (IsOutputByWorkers answers geo) input output → Tells (IsTextBy hosts answers geo) input output
+shared_text zero answers geo input output some text = absurd (some refl)
+shared_text (suc others) answers geo input output some text = text
 
-shared_part : (hosts : ℕ) (geo : Geometry) (input : Stream) (output : Passage) → hosts ≢ 0 → TellsPart (IsSharedTextOf geo) input output → TellsPart (IsTextBy hosts geo) input output
-shared_part zero geo input output some part = absurd (some refl)
-shared_part (suc others) geo input output some part = part
+shared_part : (hosts : ℕ) (answers : Bool) (geo : Geometry) (input : Stream) (output : Passage) → hosts ≢ 0 → TellsPart (IsOutputByWorkers answers geo) input output → TellsPart (IsTextBy hosts answers geo) input output
+shared_part zero answers geo input output some part = absurd (some refl)
+shared_part (suc others) answers geo input output some part = part
 
-pub shared_why : (geo : Geometry) (fault : RunFault) (input output : Passage) → hosts_of geo ≢ 0 → ExplainsRun IsSharedTextOf geo input output fault → ExplainsRun IsTextFor geo input output fault
-shared_why geo (run.Trace found) input output some why = why
-shared_why geo run.Memory input output some why = why
-shared_why geo run.Threads input output some why = why
-shared_why geo run.Output input output some (reads, failed, part) =
-    (reads, failed, shared_part (hosts_of geo) geo input.before output some part)
+pub shared_why : (given : Options) (geo : Geometry) (fault : RunFault) (input output : Passage) → hosts_of geo ≢ 0 → ExplainsRun (IsOutputByWorkers (not given.quiet)) geo input output fault → ExplainsRun (IsTextFor given) geo input output fault
+shared_why given geo (run.Trace found) input output some why = why
+shared_why given geo run.Memory input output some why = why
+shared_why given geo run.Threads input output some why = why
+shared_why given geo run.Output input output some (reads, failed, part) =
+    (reads, failed, shared_part (hosts_of geo) (not given.quiet) geo input.before output some part)
 
 -- and so is the log
 pub one_log : (geo : Geometry) (wanted : Bool) (input : Stream) (file : Passage) (r : Result (Unit {0}) OutputFailed) → hosts_of geo ≡ 0 → EndsFile wanted (IsLogOf geo) input file r → EndsFile wanted (IsLogFor geo) input file r

@@ -1,9 +1,10 @@
 -- The command line: the options as clap knows them, and the numbers that its matches give.
-use Rattle.std.specs.Prelude.{◌≡◌, ℕ, true, List, [], ◌∷◌, codes, Some, pos, MatchOption, ◌^◌, ◌<◌, ◌⊎◌}
+use Rattle.std.specs.Prelude.{◌≡◌, ℕ, Bool, true, false, List, [], ◌∷◌, codes, None, Some, pos, MatchOption, ◌^◌, ◌<◌, ◌⊎◌}
 use Rattle.std.specs.Option.{option_map}
 use Rattle.std.specs.Str.Parse.{IsNumeral, digits_value, without_leading_plus}
 use Rattle.clap.specs.Simple.{on_top}
 use Rattle.clap.specs.Words.{App, Kinds, Row, Rule, Text, fault_of, first_of, matches_of, new_app, new_rule, one_of, with_rule}
+use Rattle.clap.specs.declared.builder.action.ArgAction.TheVariants as action
 use Rattle.clap.specs.declared.builder.value_parser.ValueParser.TheVariants as parser
 use Rattle.geometry.specs.Limits.{Numbers, numbers}
 use Rattle.player.specs.declared.arguments.NumberOption.{NumberOption}
@@ -33,6 +34,10 @@ named_rule name = record (new_rule name) { long = Some name; value_names = 1 }
 abbrev pub file_rule : Text → Rule
 file_rule name = record (named_rule name) { parser = Some parser.NonEmptyString }
 
+-- an option without a value
+abbrev pub flag_rule : Text → Rule
+flag_rule name = record (new_rule name) { long = Some name; action = Some action.SetTrue }
+
 -- an option of a whole number, by its name, its default and the numbers that it takes
 abbrev pub number_rule : NumberOption → Rule
 number_rule number =
@@ -61,9 +66,9 @@ with_numbers =
 abbrev pub with_threads : App → App
 with_threads app = with_rule (with_rule (with_rule (with_rule app (option_rule (codes "workers") (codes "0"))) (option_rule (codes "brooms") (codes "0"))) patience_rule) drains_rule
 
--- the program's command line: the numbers of a device, the threads of a run, and the files of a run
+-- the program's command line: the numbers of a device, the threads of a run, the files of a run, and whether its answers are left out
 abbrev pub flashplay : App
-flashplay = with_rule (with_rule (with_threads with_numbers) (file_rule (codes "wear"))) (file_rule (codes "collections"))
+flashplay = with_rule (with_rule (with_rule (with_threads with_numbers) (file_rule (codes "wear"))) (file_rule (codes "collections"))) (flag_rule (codes "quiet"))
 
 -- what clap finds for each option in the words of a command line, the defaults included
 unfoldable pub rows_given : List Text → List Row
@@ -86,7 +91,13 @@ IsNumberIn text default number =
 abbrev pub IsNumberOf : List Row → Text → ℕ → ℕ → Type 0
 IsNumberOf rows name default number = MatchOption (one_of name rows) (number ≡ default) (λ text. IsNumberIn text default number)
 
--- each number is the one that the matches give for its option, and so is the name of each file
+-- an option without a value is set if the matches have true for it, and isn't if they have false or nothing
+pub record IsFlagOf (rows : List Row) (name : Text) (is_set : Bool) : Type 0 where
+  pub none : one_of name rows ≡ None → is_set ≡ false
+  pub used : one_of name rows ≡ Some (codes "true") → is_set ≡ true
+  pub unused : one_of name rows ≡ Some (codes "false") → is_set ≡ false
+
+-- each number is the one that the matches give for its option, and so are the name of each file and whether the answers are left out
 pub record AreOptionsOf (rows : List Row) (given : Options) : Type 0 where
   pub luns : IsNumberOf rows (codes "luns") LUNS given.luns
   pub blocks : IsNumberOf rows (codes "blocks") BLOCKS given.blocks
@@ -100,6 +111,7 @@ pub record AreOptionsOf (rows : List Row) (given : Options) : Type 0 where
   pub drains : IsNumberOf rows (codes "drains") DRAINS given.drains
   pub wear : option_map (λ name. name.now) given.wear ≡ first_of (codes "wear") rows
   pub collections : option_map (λ name. name.now) given.collections ≡ first_of (codes "collections") rows
+  pub quiet : IsFlagOf rows (codes "quiet") given.quiet
 
 -- the numbers of the device that the options describe: it has a host for each worker
 abbrev pub numbers_given : Options → Numbers

@@ -1,5 +1,5 @@
 -- How a session of the program ends.
-use Rattle.std.specs.Prelude.{◌≡◌, ◌≢◌, ◌⊎◌, ⊤, ℕ, zero, suc, Bool, List, [], true, MatchOption, IfSome, Option, Some, is_some, option_map, Result, Ok, Err}
+use Rattle.std.specs.Prelude.{◌≡◌, ◌≢◌, ◌⊎◌, ⊤, ℕ, zero, suc, Bool, not, List, [], true, MatchOption, IfSome, Option, Some, is_some, option_map, Result, Ok, Err}
 use Rattle.std.specs.Io.KnownBytes.{IsAtEnd}
 use Rattle.clap.specs.Words.{IsAmong, Text, kind_of}
 use Rattle.clap.specs.declared.error.Error.{Error}
@@ -23,10 +23,9 @@ use Rattle.answers.specs.declared.delivery.OutputFailed.{OutputFailed}
 use Rattle.runs.specs.Brooms.{IsBroomLogOf}
 use Rattle.runs.specs.Collections.{IsLogOf}
 use Rattle.runs.specs.Files.{LeavesLog}
-use Rattle.runs.specs.Playing.{IsTextOf}
+use Rattle.runs.specs.Outputs.{IsOutputByWorkers, IsOutputOf}
 use Rattle.runs.specs.Wear.{IsWearOf}
 use Rattle.runs.specs.declared.files.RunFiles.{RunFiles}
-use Rattle.runs.specs.Texts.{IsTextOf as IsSharedTextOf}
 use Rattle.player.specs.CommandLine.{AreOptionsOf, faults_given, numbers_given, rows_given}
 use Rattle.player.specs.Telling.{TellsEnding}
 use Rattle.player.specs.declared.command_line.Options.{Options}
@@ -86,14 +85,14 @@ pub record DescribesNone (words : List Text) (found : GeometryFault) : Type 0 wh
   pub told : AreOptionsOf (rows_given words) given
   pub first : first_fault (numbers_given given) ≡ Some found
 
--- the text of a run by this many workers: with no worker it is that of one thread
-abbrev pub IsTextBy : ℕ → Geometry → List ℕ → List ℕ → Type 0
-IsTextBy zero geo bytes text = IsTextOf geo bytes text
-IsTextBy (suc others) geo bytes text = IsSharedTextOf geo bytes text
+-- the output of a run by this many workers, if its answers are wanted or not: with no worker it is that of one thread
+abbrev pub IsTextBy : ℕ → Bool → Geometry → List ℕ → List ℕ → Type 0
+IsTextBy zero answers geo bytes text = IsOutputOf answers geo bytes text
+IsTextBy (suc others) answers geo bytes text = IsOutputByWorkers answers geo bytes text
 
--- the text of a run on this device, by a worker for each of its hosts
-abbrev pub IsTextFor : Geometry → List ℕ → List ℕ → Type 0
-IsTextFor geo bytes text = IsTextBy (hosts_of geo) geo bytes text
+-- the output of a run on this device, by a worker for each of its hosts: the text, or its last line alone if the options leave out the answers
+abbrev pub IsTextFor : Options → Geometry → List ℕ → List ℕ → Type 0
+IsTextFor given geo bytes text = IsTextBy (hosts_of geo) (not given.quiet) geo bytes text
 
 -- the log of a run by this many workers: with no worker it lists the collections, and otherwise what each broom has done
 abbrev pub IsLogBy : ℕ → Geometry → List ℕ → List ℕ → Type 0
@@ -109,12 +108,12 @@ abbrev pub LeavesLogBy : ℕ → RunFault → Bool → Geometry → Stream → P
 LeavesLogBy zero found wanted geo input file = LeavesLog found wanted geo input file
 LeavesLogBy (suc others) found wanted geo input file = file.after ≡ file.before
 
--- the trace was played: the input was read to its end, the text of all its bytes was written, and no call failed
+-- the trace was played: the input was read to its end, what the options want of the text of all its bytes was written, and no call failed
 pub record Answered (words : List Text) (input output : Passage) : Type 0 where
   pub geo : Geometry
   pub device : IsDescribed words geo
   pub end : IsAtEnd input.after.bytes
-  pub text : Tells (IsTextFor geo) input.before output
+  pub text : Tells (IsTextFor device.given geo) input.before output
   pub input_unfailed : input.after.failures ≡ input.before.failures
   pub output_unfailed : output.after.failures ≡ output.before.failures
 
@@ -221,10 +220,11 @@ pub record NamesFile (words : List Text) (file : RunFile) : Type 0 where
 abbrev pub IsIdle : Passage → Passage → Type 0
 IsIdle input output = (input.after ≡ input.before) × (output.after ≡ output.before)
 
--- the trace was played on a device: the input was read to its end, the text of all its bytes was written, and no call failed
-pub record PlaysOn (geo : Geometry) (input output : Passage) : Type 0 where
+-- the trace was played on a device: the input was read to its end, what the options want of the text of all its bytes was written, and no
+-- call failed
+pub record PlaysOn (geo : Geometry) (given : Options) (input output : Passage) : Type 0 where
   pub end : IsAtEnd input.after.bytes
-  pub text : Tells (IsTextFor geo) input.before output
+  pub text : Tells (IsTextFor given geo) input.before output
   pub input_unfailed : input.after.failures ≡ input.before.failures
   pub output_unfailed : output.after.failures ≡ output.before.failures
 
@@ -235,16 +235,16 @@ LosesOn file file_stop.NotWithWorkers geo given input output files =
 LosesOn file file_stop.NotOpened geo given input output files = (is_some (name_given file given) ≡ true) × IsIdle input output × FailsToOpen file files
 LosesOn file file_stop.NotItsOwn geo given input output files = (is_some (name_given file given) ≡ true) × IsIdle input output × FailsToOpen file files
 LosesOn file file_stop.Failed geo given input output files =
-    PlaysOn geo input output × LosesOne file geo given input.before files
+    PlaysOn geo given input output × LosesOne file geo given input.before files
 
 -- how a run on a device ended, by the options
 abbrev pub EndsOn : Result (Unit {0}) Stop → Geometry → Options → Passage → Passage → Filings → Type 0
-EndsOn (Ok _) geo given input output files = PlaysOn geo input output × TellsFiles geo given input.before files
+EndsOn (Ok _) geo given input output files = PlaysOn geo given input output × TellsFiles geo given input.before files
 EndsOn (Err (stop.Arguments text)) geo given input output files = ⊥
 EndsOn (Err (stop.Encoding place)) geo given input output files = ⊥
 EndsOn (Err (stop.Geometry found)) geo given input output files = ⊥
 EndsOn (Err (stop.Run found)) geo given input output files =
-    ExplainsRun IsTextFor geo input output found × LeavesFiles found geo given input.before files
+    ExplainsRun (IsTextFor given) geo input output found × LeavesFiles found geo given input.before files
 EndsOn (Err stop.Help) geo given input output files = ⊥
 EndsOn (Err stop.Memory) geo given input output files = ⊥
 EndsOn (Err (stop.File file why)) geo given input output files = LosesOn file why geo given input output files
@@ -289,7 +289,7 @@ pub record Helped (words : List Text) (input output : Passage) : Type 0 where
 pub record Stopped (words : List Text) (found : RunFault) (input output : Passage) (files : Filings) : Type 0 where
   pub geo : Geometry
   pub device : IsDescribed words geo
-  pub why : ExplainsRun IsTextFor geo input output found
+  pub why : ExplainsRun (IsTextFor device.given) geo input output found
   pub left : LeavesFiles found geo device.given input.before files
 
 -- some of a text was written, and then the writer failed

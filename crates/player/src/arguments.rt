@@ -1,13 +1,13 @@
 ghost use Rattle.std.specs.Prelude.{◌≡◌, codes, map, false, Some, IfOk};
 ghost use Rattle.clap.specs.Words.{FailsBy, app_of, found_of, rows_of, rule_of};
-ghost use Rattle.player.specs.CommandLine.{AreOptionsOf, IsNumberOf, faults_given, file_rule, flashplay, named_rule, number_rule, rows_given, versioned, with_numbers, with_threads};
+ghost use Rattle.player.specs.CommandLine.{AreOptionsOf, IsNumberOf, faults_given, file_rule, flag_rule, flashplay, named_rule, number_rule, rows_given, versioned, with_numbers, with_threads};
 
 use crate::command_line::{
     BLOCKS, BROOMS, DRAINS, ENDURANCE, LUNS, Options, PAGES, PATIENCE, SECTORS, WORDS, WORKERS,
 };
 use crate::help::{HELP, VERSION};
 use clap::builder::ValueParser;
-use clap::{Arg, ArgMatches, Command, Error};
+use clap::{Arg, ArgAction, ArgMatches, Command, Error};
 use std::alloc::{AllocError, Global};
 
 /// The options that the words of a command line set. The first word is the program's name.
@@ -40,6 +40,7 @@ fn options_in<'a>(matches: &ArgMatches<'a>) -> Options<'a>
         drains: number(matches, "drains", DRAINS),
         wear: matches.get_str("wear"),
         collections: matches.get_str("collections"),
+        quiet: matches.get_flag("quiet"),
     }
 }
 
@@ -140,6 +141,11 @@ fn flashplay<'a>(alloc: Global) -> Result<Command<'a>, AllocError>
             alloc,
             "collections",
             "Writes a line for each collection to this file, as they are made; by workers a line for each broom",
+        ))?
+        .arg(flag(
+            alloc,
+            "quiet",
+            "Leaves out the answers: the output is the last line alone",
         ))
 }
 
@@ -182,6 +188,17 @@ fn file<'a>(alloc: Global, name: &'a str, help: &'a str) -> Arg<'a>
     ensures local { result.global ≡ false }
 {
     named(alloc, name, "FILE", help).value_parser(ValueParser::NonEmptyString)
+}
+
+// An option without a value.
+fn flag<'a>(alloc: Global, name: &'a str, help: &'a str) -> Arg<'a>
+    ensures rule { rule_of result ≡ flag_rule name.entry.now }
+    ensures local { result.global ≡ false }
+{
+    Arg::new(alloc, name)
+        .long(name)
+        .action(ArgAction::SetTrue)
+        .help(help)
 }
 
 // An option behind two dashes, by its name, its value's name, and its help.

@@ -36,4 +36,6 @@ pub struct Options<'a> {
     pub wear: Option<&'a str>,
     /// The file for the collections, as they are made.
     pub collections: Option<&'a str>,
+    /// Whether the answers are left out.
+    pub quiet: bool,
 }

@@ -104,6 +104,7 @@ fn play_alone<R: Read, W: Write, F: NamedFile>(
         return Err(stop);
     }
     let wanted = Wanted {
+        answers: !given.quiet,
         collections: given.collections.is_some(),
         wear: given.wear.is_some(),
     };
@@ -136,6 +137,7 @@ fn play_shared<T: Threads + Wait + Clock + Sync, R: Read, W: Write, F: NamedFile
     if let Err(stop) = open_files(given, files) {
         return Err(stop);
     }
+    let answers = !given.quiet;
     let wanted = given.collections.is_some();
     let (patience, drains) = (given.patience, given.drains);
     match run_by_workers(
@@ -143,6 +145,7 @@ fn play_shared<T: Threads + Wait + Clock + Sync, R: Read, W: Write, F: NamedFile
         alloc,
         reader,
         writer,
+        answers,
         wanted,
         &mut files.collections,
         geometry,

@@ -1,6 +1,6 @@
 -- The log of one broom more.
 use Rattle.std.proofs.Common.{◌≡◌, ℕ, ◌+◌, ◌-◌, ◌<◌, ◌≤◌, List, [], ◌++◌, Option, None, Some, get_or, length, refl, subst, sym, ap, ◌∙◌, append-nil, append_assoc, arith}
-use Rattle.std.specs.Prelude.{IfSome, Ok, slice_get}
+use Rattle.std.specs.Prelude.{IfSome, Ok}
 use Rattle.std.specs.Option.{option_map_or}
 use Rattle.std.specs.List.{flat_map, range_with_len}
 use Rattle.std.proofs.lemmas.Option.{slice_get_read}

@@ -7,7 +7,7 @@ use Rattle.geometry.specs.Geometry.{endurance_of, pages_of}
 use Rattle.geometry.specs.History.{Trim, Write, WriteNew}
 use Rattle.geometry.specs.declared.geometry.Geometry.{Geometry}
 use Rattle.ftl_one.specs.Collections.{collection_between, collection_due}
-use Rattle.ftl_one.specs.Stock.{Stock, forget, has_page, next, ready, write_of}
+use Rattle.ftl_one.specs.Stock.{Stock, has_page, next, ready, write_of}
 use Rattle.ftl_one.specs.declared.collection.Collection.{Collection}
 use Rattle.ftl_one.proofs.CollectionLemmas.{between_nothing, write-makes}
 use Rattle.ftl_one.proofs.Current.{next_empty, next_written}

@@ -1,10 +1,10 @@
 -- The next answer of each worker, where so many commands have theirs.
-use Rattle.std.proofs.Common.{◌≡◌, ℕ, ◌+◌, ◌*◌, ◌<◌, All, List, [], ◌∷◌, ◌++◌, Bool, true, false, Option, None, Some, zero, suc, length, map, replicate, get_or, take, drop, refl, sym, ap, ◌∙◌, subst, arith, eq-eqb, ne_eqb}
+use Rattle.std.proofs.Common.{◌≡◌, ℕ, ◌+◌, ◌*◌, ◌<◌, All, List, [], ◌∷◌, ◌++◌, Bool, true, false, Option, None, Some, zero, suc, length, replicate, get_or, take, drop, refl, sym, ap, ◌∙◌, subst, arith, eq-eqb, ne_eqb}
 use Rattle.std.specs.Prelude.{slice_get, slice_set, if◌then◌else◌, not, ◌&&◌, ◌==◌}
 use Rattle.std.proofs.lemmas.List.{get_or-map, get_or-replicate, get_or_default, get_or-set_same, get_or-set_other, length-append, length-map, length-replicate, length-set, take-append-drop}
 use Rattle.std.proofs.Math.Seq.{take-append_seam}
 use Rattle.std.proofs.lemmas.List.Elements.{filter-append}
-use Rattle.std.proofs.lemmas.Option.{slice_get_read, slice_get_within}
+use Rattle.std.proofs.lemmas.Option.{slice_get_within}
 use mathlib.Core.Logic.{dite}
 use native.Mathlib.Decide.{ℕ_discrete}
 use Rattle.trace.specs.declared.commands.Command.{Command}
@@ -14,7 +14,6 @@ use Rattle.rounds.proofs.Merging.{own_line}
 use Rattle.rounds.proofs.Planning.{at_place, commands_more}
 use Rattle.rounds.specs.Rows.{answers_by}
 use Rattle.rounds.specs.Answers.{first_place, page_size_of, place_of, said_in, IsCursorOf}
-use Rattle.rounds.specs.declared.answer.Kind.TheVariants as kind
 use Rattle.rounds.specs.declared.answer_list.Answers.{Answers}
 use Rattle.rounds.specs.declared.answer_list.Cursor.{Cursor}
 use Rattle.rounds.proofs.Pages.{said_whole}

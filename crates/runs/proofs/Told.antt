@@ -1,27 +1,19 @@
 -- What a run's answers are for a delivery: one for each line, with a whole page where one is told.
-use Rattle.std.proofs.Common.{◌≡◌, ℕ, ◌*◌, ◌<◌, ◌≤◌, ⊎_elim, zero, suc, Bool, true, false, List, [], ◌∷◌, ◌++◌, Option, None, Some, length, get_or, refl, sym, ap, ◌∙◌, subst, arith, ne_eqb}
-use Rattle.std.specs.Prelude.{All, IfSome, Ok, Vec, if◌then◌else◌, not, ◌&&◌, ◌==◌, slice_get}
+use Rattle.std.proofs.Common.{◌≡◌, ℕ, ◌*◌, ◌<◌, ◌≤◌, suc, Bool, true, false, List, [], ◌∷◌, ◌++◌, Option, None, Some, length, get_or, refl, sym, ap, subst, arith, ne_eqb}
+use Rattle.std.specs.Prelude.{All, IfSome, Ok, if◌then◌else◌, not, ◌&&◌, ◌==◌}
 use Rattle.std.specs.Io.KnownBytes.{Appends}
-use Rattle.std.specs.Global.{Global}
-use Rattle.std.proofs.lemmas.List.{get_or-map}
 use Rattle.std.proofs.lemmas.List.Elements.{All-head, All-tail, All-weaker}
-use Rattle.std.proofs.lemmas.Option.{slice_get-get_or}
 use mathlib.Core.Logic.{dite}
 use native.Mathlib.Decide.{dec_lt}
 use Rattle.geometry.specs.Geometry.{hosts_of, page_bytes_of, sectors_of}
 use Rattle.geometry.specs.History.{Call}
-use Rattle.geometry.specs.Sectors.{Sector, was_of}
 use Rattle.geometry.specs.declared.geometry.Geometry.{Geometry}
 use Rattle.trace.specs.Trace.{commands_of}
 use Rattle.trace.specs.declared.commands.Command.{Command}
-use Rattle.trace.specs.declared.commands.Op.{Op}
-use Rattle.trace.specs.declared.commands.Op.TheVariants as op
 use Rattle.answers.specs.Delivery.{AppendsBeginning, AppendsPart, AppendsText}
 use Rattle.answers.specs.Playable.{IsPlayable}
 use Rattle.rounds.specs.Playing.{Plays}
-use Rattle.rounds.specs.Lines.{Said, calls_made, kind_of, IsRight}
-use Rattle.rounds.specs.declared.answer.Kind.{Kind}
-use Rattle.rounds.specs.declared.answer.Kind.TheVariants as kind
+use Rattle.rounds.specs.Lines.{Said, calls_made}
 use Rattle.rounds.specs.Merging.{is_meet, line_count, lines_for, merge, HaveAnswers}
 use Rattle.rounds.specs.Answers.{page_size_of}
 use Rattle.rounds.specs.declared.answer_list.Answers.{Answers}
@@ -29,6 +21,7 @@ use Rattle.rounds.specs.Rows.{answers_by}
 use Rattle.rounds.specs.Texts.{lines_text}
 use Rattle.runs.specs.Delivering.{text_of}
 use Rattle.workers.specs.Commands.{ArePlayed}
+use Rattle.runs.specs.Outputs.{IsOutputByWorkers, written_by_workers}
 use Rattle.runs.specs.Texts.{IsTextOf}
 
 -- each line that was played has one answer
@@ -90,15 +83,20 @@ module _ (geo : Geometry) (cs : List Command) (rows : ℕ → List Said) (played
     answers = λ apart. record { lines = lines_text 0 (merge cs rows); answers = played.text apart; whole = refl };
   }
 
+  -- and what is written of it is right, with the answers or without
+  is_output : (wanted : Bool) (bytes : List ℕ) → commands_of bytes geo ≡ Ok cs → IsOutputByWorkers wanted geo bytes (written_by_workers wanted cs rows)
+  is_output true bytes meaning = is_text bytes meaning
+  is_output false bytes meaning = record { lines = lines_text 0 (merge cs rows); whole = is_text bytes meaning; line = refl }
+
   -- so such a text was written
-  pub text_sent : (input old new : Option (List ℕ)) → IfSome input (λ bytes. commands_of bytes geo ≡ Ok cs) → Appends old new (text_of cs rows) → IfSome input (λ bytes. AppendsText (IsTextOf geo) bytes old new)
-  text_sent None old new meaning sent = tt
-  text_sent (Some bytes) old new meaning sent = record { text = text_of cs rows; is_text = is_text bytes meaning; out = sent }
+  pub text_sent : (wanted : Bool) (input old new : Option (List ℕ)) → IfSome input (λ bytes. commands_of bytes geo ≡ Ok cs) → Appends old new (written_by_workers wanted cs rows) → IfSome input (λ bytes. AppendsText (IsOutputByWorkers wanted geo) bytes old new)
+  text_sent wanted None old new meaning sent = tt
+  text_sent wanted (Some bytes) old new meaning sent = record { text = written_by_workers wanted cs rows; is_text = is_output wanted bytes meaning; out = sent }
 
   -- or a beginning of it
-  pub part_sent : (input old new : Option (List ℕ)) → IfSome input (λ bytes. commands_of bytes geo ≡ Ok cs) → AppendsBeginning old new (text_of cs rows) → IfSome input (λ bytes. AppendsPart (IsTextOf geo) bytes old new)
-  part_sent None old new meaning part = tt
-  part_sent (Some bytes) old new meaning part = record { text = text_of cs rows; is_text = is_text bytes meaning; out = part }
+  pub part_sent : (wanted : Bool) (input old new : Option (List ℕ)) → IfSome input (λ bytes. commands_of bytes geo ≡ Ok cs) → AppendsBeginning old new (written_by_workers wanted cs rows) → IfSome input (λ bytes. AppendsPart (IsOutputByWorkers wanted geo) bytes old new)
+  part_sent wanted None old new meaning part = tt
+  part_sent wanted (Some bytes) old new meaning part = record { text = written_by_workers wanted cs rows; is_text = is_output wanted bytes meaning; out = part }
 
 -- the bytes mean some commands
 pub some_meaning : (geo : Geometry) (cs : List Command) (input : Option (List ℕ)) → IfSome input (λ bytes. commands_of bytes geo ≡ Ok cs) → IfSome input (λ bytes. (commands : List Command) × (commands_of bytes geo ≡ Ok commands))

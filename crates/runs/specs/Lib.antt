@@ -6,6 +6,7 @@ pub mod Files
 pub mod Brooms
 pub mod Delivering
 pub mod Texts
+pub mod Outputs
 -- Internal.
 pub mod Steps
 pub mod Logs

@@ -49,10 +49,14 @@ refused_at geo commands k = option_map_or (is_refused geo (stock_before geo comm
 abbrev pub end_text : Stock → List ℕ
 end_text stock = totals_text stock.programs stock.copies stock.erases
 
--- the whole text of a run: the answers of all commands, and the totals after the last
+-- the last line of a run of these commands: the totals after the last
+abbrev pub last_line : Geometry → List Command → List ℕ
+last_line geo commands = end_text (stock_before geo commands (length commands))
+
+-- the whole text of a run: the answers of all commands, and the last line
 abbrev pub text_of_commands : Geometry → List Command → List ℕ
 text_of_commands geo commands =
-    answers (codes "worn") (sectors_of geo) (refused_at geo commands) commands ++ end_text (stock_before geo commands (length commands))
+    answers (codes "worn") (sectors_of geo) (refused_at geo commands) commands ++ last_line geo commands
 
 -- the text of the commands that these bytes mean
 pub record IsTextOf (geo : Geometry) (bytes text : List ℕ) : Type 0 where

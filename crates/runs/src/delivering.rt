@@ -2,6 +2,7 @@ ghost use Rattle.std.specs.Prelude.{◌≡◌, ◌≢◌, ℕ, List, Some, ◌+�
 ghost use Rattle.geometry.specs.Geometry.{hosts_of, page_bytes_of};
 ghost use Rattle.hex.specs.Hex.{encode_lower};
 ghost use Rattle.trace.specs.Watched.{failures_of};
+ghost use Rattle.answers.specs.Answers.{end_text};
 ghost use Rattle.answers.specs.Lines.{page_digits_of, waiting_of};
 ghost use Rattle.answers.specs.Replies.{reply_text};
 ghost use Rattle.answers.specs.declared.line.TheConstants.{PIECE_BYTES};
@@ -14,6 +15,7 @@ ghost use Rattle.rounds.specs.Merging.{is_meet, HaveAnswers};
 ghost use Rattle.rounds.specs.Texts.{answer_text};
 ghost use Rattle.rounds.specs.Rows.{answers_by};
 ghost use Rattle.runs.specs.Delivering.{AreAt, HasDigits, digits_in, line_of, next_of, passed, passed_in, said_as, text_of, workers_in};
+ghost use Rattle.runs.specs.Outputs.{written_by_workers};
 
 use crate::delivery::Delivery;
 use answers::{Lines, OutputFailed, Reply};
@@ -33,6 +35,40 @@ impl Delivery {
             next: vec![in alloc; Cursor::new(); geometry.hosts() as usize]?,
             lines: Lines::new(alloc, geometry)?,
         })
+    }
+
+    /// Writes the answers as `deliver` does if they are wanted, and otherwise the last line alone.
+    pub fn write_out<W: Write>(
+        self,
+        wanted: bool,
+        commands: &Commands,
+        rows: &[Answers],
+        writer: &mut Watched<W>,
+    ) -> Result<(), OutputFailed>
+        requires workers { length rows.now ≡ workers_in self }
+        requires answers { HaveAnswers (answers_by rows.now) commands.now }
+        requires pages { All (λ row. digits_in self ≡ 2 * page_size_of row) rows.now }
+        ensures sent { OnOk result (Sends (over W.contents writer.old writer.new) (written_by_workers wanted commands.now (answers_by rows.now))) }
+        ensures unfailed { OnOk result (failures_of writer.new ≡ failures_of writer.old) }
+        ensures part { OnErr result (SendsBeginning (over W.contents writer.old writer.new) (written_by_workers wanted commands.now (answers_by rows.now))) }
+        ensures failed { OnErr result (failures_of writer.new ≢ failures_of writer.old) }
+    {
+        if wanted {
+            return self.deliver(commands, rows, writer);
+        }
+        self.write_end(writer)
+    }
+
+    // Writes the last line alone.
+    fn write_end<W: Write>(self, writer: &mut Watched<W>) -> Result<(), OutputFailed>
+        ensures sent { OnOk result (Sends (over W.contents writer.old writer.new) end_text) }
+        ensures unfailed { OnOk result (failures_of writer.new ≡ failures_of writer.old) }
+        ensures part { OnErr result (SendsBeginning (over W.contents writer.old writer.new) end_text) }
+        ensures failed { OnErr result (failures_of writer.new ≢ failures_of writer.old) }
+    {
+        let mut lines = self.lines;
+        lines.end();
+        lines.hand_on(writer)
     }
 
     /// Writes the line of each command in the order of the trace, and then the last line. Each row of answers is that of one worker, in the order

@@ -1,4 +1,4 @@
-ghost use Rattle.std.specs.Prelude.{◌≡◌, ◌≢◌, ◌+◌, ◌*◌, ◌<◌, ◌≤◌, [], ◌++◌, length, vec_len, IfOk, OnOk, OnErr};
+ghost use Rattle.std.specs.Prelude.{◌≡◌, ◌≢◌, ◌+◌, ◌*◌, ◌<◌, ◌≤◌, [], ◌++◌, length, vec_len, if◌then◌else◌, IfOk, OnOk, OnErr};
 ghost use Rattle.std.specs.List.{fold};
 ghost use Rattle.geometry.specs.Geometry.{blocks_of, page_bytes_of, sectors_of};
 ghost use Rattle.geometry.specs.History.{step};
@@ -41,17 +41,22 @@ impl Desk {
         })
     }
 
-    /// Does a command, and adds its answer line to those that wait.
-    pub fn answer(&mut self, ftl: &mut OneFtl, command: &Command<'_>, line: u64)
+    /// Does a command, and if its answer is wanted adds the line to those that wait.
+    #[inline(always)]
+    pub fn answer(&mut self, ftl: &mut OneFtl, command: &Command<'_>, line: u64, wanted: bool)
         requires playable { IsPlayable (geometry_of ftl.old) command.now }
         requires page { vec_len self.old.page ≡ page_bytes_of (geometry_of ftl.old) }
         requires room { length (waiting_of self.old.lines) ≤ PIECE_BYTES }
         ensures page { vec_len self.new.page ≡ vec_len self.old.page }
-        ensures lines { waiting_of self.new.lines ≡ waiting_of self.old.lines ++ line_by ftl.old line command.now }
+        ensures lines { waiting_of self.new.lines ≡ waiting_of self.old.lines ++ (if wanted then line_by ftl.old line command.now else []) }
         ensures geometry { geometry_of ftl.new ≡ geometry_of ftl.old }
         ensures array { array_of ftl.new ≡ fold step (array_of ftl.old) (calls_of (is_refused (geometry_of ftl.old) (stock_of ftl.old) command.now) command.now) }
         ensures stock { stock_of ftl.new ≡ stock_after (geometry_of ftl.old) (stock_of ftl.old) command.now }
     {
+        if !wanted {
+            self.perform(ftl, command);
+            return;
+        }
         if let Op::Read = command.op {
             self.answer_read(ftl, command.sector, line);
             return;
@@ -59,6 +64,24 @@ impl Desk {
         let reply = perform(ftl, command, &mut self.page);
         self.lines
             .answer(line, command.op, command.sector, reply, &self.page);
+    }
+
+    // Does a command, and adds no line. A read changes nothing.
+    fn perform(&mut self, ftl: &mut OneFtl, command: &Command<'_>)
+        requires playable { IsPlayable (geometry_of ftl.old) command.now }
+        requires page { vec_len self.old.page ≡ page_bytes_of (geometry_of ftl.old) }
+        ensures page { vec_len self.new.page ≡ vec_len self.old.page }
+        ensures lines { waiting_of self.new.lines ≡ waiting_of self.old.lines }
+        ensures geometry { geometry_of ftl.new ≡ geometry_of ftl.old }
+        ensures array { array_of ftl.new ≡ fold step (array_of ftl.old) (calls_of (is_refused (geometry_of ftl.old) (stock_of ftl.old) command.now) command.now) }
+        ensures stock { stock_of ftl.new ≡ stock_after (geometry_of ftl.old) (stock_of ftl.old) command.now }
+    {
+        match command.op {
+            Op::Read => {}
+            _ => {
+                perform(ftl, command, &mut self.page);
+            }
+        }
     }
 
     // Adds the answer line of a read. A page is encoded where it is.

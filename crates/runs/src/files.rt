@@ -10,9 +10,11 @@ pub struct RunFiles<F> {
     pub wear: Watched<F>,
 }
 
-/// Which files a run is to write.
+/// What a run is to write.
 #[derive(Clone, Copy, Debug, PartialEq, Eq)]
 pub struct Wanted {
+    /// The answers. Without them the output is the last line.
+    pub answers: bool,
     pub collections: bool,
     pub wear: bool,
 }

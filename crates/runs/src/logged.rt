@@ -1,4 +1,4 @@
-ghost use Rattle.std.specs.Prelude.{◌≡◌, ◌*◌, ◌≤◌, ◌++◌, ℕ, List, if◌then◌else◌, length, nat_lt, vec_len, None};
+ghost use Rattle.std.specs.Prelude.{◌≡◌, ◌*◌, ◌≤◌, [], ◌++◌, ℕ, List, if◌then◌else◌, length, nat_lt, vec_len, None};
 ghost use Rattle.std.specs.List.{fold};
 ghost use Rattle.geometry.specs.Geometry.{page_bytes_of};
 ghost use Rattle.geometry.specs.History.{step};
@@ -19,12 +19,14 @@ use ftl_one::{Collection, OneFtl};
 use std::io::Write;
 use trace::{Command, Watched};
 
-/// Does a command, adds its answer line to those that wait, and records in the log the collection that it made.
+/// Does a command, adds its answer line to those that wait if it is wanted, and records in the log the collection that it made.
+#[inline(always)]
 pub fn answer_logged<V: Write>(
     ftl: &mut OneFtl,
     desk: &mut Desk,
     command: &Command<'_>,
     line: u64,
+    wanted: bool,
     log: &mut Log,
     file: &mut Watched<V>,
 )
@@ -32,7 +34,7 @@ pub fn answer_logged<V: Write>(
     requires page { vec_len desk.old.page ≡ page_bytes_of (geometry_of ftl.old) }
     requires room { length (waiting_of desk.old.lines) ≤ PIECE_BYTES }
     ensures page { vec_len desk.new.page ≡ vec_len desk.old.page }
-    ensures lines { waiting_of desk.new.lines ≡ waiting_of desk.old.lines ++ line_by ftl.old line command.now }
+    ensures lines { waiting_of desk.new.lines ≡ waiting_of desk.old.lines ++ (if wanted then line_by ftl.old line command.now else []) }
     ensures geometry { geometry_of ftl.new ≡ geometry_of ftl.old }
     ensures array { array_of ftl.new ≡ fold step (array_of ftl.old) (calls_of (is_refused (geometry_of ftl.old) (stock_of ftl.old) command.now) command.now) }
     ensures stock { stock_of ftl.new ≡ stock_after (geometry_of ftl.old) (stock_of ftl.old) command.now }
@@ -44,12 +46,12 @@ pub fn answer_logged<V: Write>(
 {
     // If no log is written, nothing is asked about collections.
     let Log::Open(_) = log else {
-        desk.answer(ftl, command, line);
+        desk.answer(ftl, command, line, wanted);
         return;
     };
     let due = log.due(ftl, command.op);
     let programs = ftl.counts().programs;
-    desk.answer(ftl, command, line);
+    desk.answer(ftl, command, line, wanted);
     log.tell(line, made(due, programs, ftl.counts().programs), file);
 }
 

@@ -6,6 +6,7 @@ ghost use Rattle.answers.specs.Outcome.{ExplainsRun};
 ghost use Rattle.answers.specs.Streams.{Tells, over, stream_of};
 ghost use Rattle.runs.specs.Brooms.{IsBroomLogOf};
 ghost use Rattle.runs.specs.Files.{EndsFile};
+ghost use Rattle.runs.specs.Outputs.{IsOutputByWorkers};
 ghost use Rattle.runs.specs.Texts.{IsTextOf};
 
 use crate::broom_log::{log_room, tell_brooms_if};
@@ -58,6 +59,7 @@ pub fn run_shared<T: Threads + Wait + Clock + Sync, R: Read, W: Write, G: Gate +
         alloc,
         reader,
         writer,
+        true,
         false,
         &mut no_log,
         geometry,
@@ -70,12 +72,13 @@ pub fn run_shared<T: Threads + Wait + Clock + Sync, R: Read, W: Write, G: Gate +
     }
 }
 
-// Plays a trace as `run_shared` does, and then writes what each broom has done, where that is wanted.
+// Plays a trace as `run_shared` does, writes its output with or without the answers, and then what each broom has done, if that is wanted.
 fn run_logged<T: Threads + Wait + Clock + Sync, R: Read, W: Write, V: Write, G: Gate + Send>(
     rt: &T,
     alloc: Global,
     reader: &mut Watched<R>,
     writer: &mut Watched<W>,
+    answers: bool,
     wanted: bool,
     file: &mut Watched<V>,
     geometry: &Geometry,
@@ -86,11 +89,11 @@ fn run_logged<T: Threads + Wait + Clock + Sync, R: Read, W: Write, V: Write, G: 
     requires hosts { 0 < hosts_of geometry.now }
     requires gates { length gates.old ≡ hosts_of geometry.now + brooms_of geometry.now }
     ensures end { OnOk result (IsAtEnd (R.remaining (inner_of reader.new))) }
-    ensures text { OnOk result (Tells (IsTextOf geometry.now) (stream_of R.remaining reader.old) (over W.contents writer.old writer.new)) }
+    ensures text { OnOk result (Tells (IsOutputByWorkers answers geometry.now) (stream_of R.remaining reader.old) (over W.contents writer.old writer.new)) }
     ensures reader_unfailed { OnOk result (failures_of reader.new ≡ failures_of reader.old) }
     ensures writer_unfailed { OnOk result (failures_of writer.new ≡ failures_of writer.old) }
     ensures log { IfOk result (EndsFile wanted (IsBroomLogOf geometry.now) (stream_of R.remaining reader.old) (over V.contents file.old file.new)) }
-    ensures why { IfErr result (ExplainsRun IsTextOf geometry.now (over R.remaining reader.old reader.new) (over W.contents writer.old writer.new)) }
+    ensures why { IfErr result (ExplainsRun (IsOutputByWorkers answers) geometry.now (over R.remaining reader.old reader.new) (over W.contents writer.old writer.new)) }
     ensures no_log { OnErr result (stream_of V.contents file.new ≡ stream_of V.contents file.old) }
 {
     let commands = match read_commands(alloc, reader, geometry) {
@@ -111,20 +114,21 @@ fn run_logged<T: Threads + Wait + Clock + Sync, R: Read, W: Write, V: Write, G: 
         Err(RoundFault::Memory) => return Err(RunFault::Memory),
         Err(RoundFault::Threads) => return Err(RunFault::Threads),
     };
-    match delivery.deliver(&commands, &end.rows, writer) {
+    match delivery.write_out(answers, &commands, &end.rows, writer) {
         Ok(()) => Ok(tell_brooms_if(log, &end.brooms, file)),
         Err(OutputFailed) => Err(RunFault::Output),
     }
 }
 
-/// Plays a trace as `run_shared` does, with gates that do nothing, and then writes the log if it is wanted: what each broom has done. If the log
-/// fails, the answers are whole.
+/// Plays a trace as `run_shared` does, with gates that do nothing, and then writes the log if it is wanted: what each broom has done. If the
+/// answers aren't wanted, the output is the last line alone. If the log fails, the output is complete.
 #[allow(clippy::too_many_arguments)]
 pub fn run_by_workers<T: Threads + Wait + Clock + Sync, R: Read, W: Write, V: Write>(
     rt: &T,
     alloc: Global,
     reader: &mut Watched<R>,
     writer: &mut Watched<W>,
+    answers: bool,
     wanted: bool,
     file: &mut Watched<V>,
     geometry: &Geometry,
@@ -133,7 +137,7 @@ pub fn run_by_workers<T: Threads + Wait + Clock + Sync, R: Read, W: Write, V: Wr
 ) -> Result<Result<(), OutputFailed>, RunFault>
     requires { 0 < hosts_of geometry.now }
     ensures end { OnOk result (IsAtEnd (R.remaining (inner_of reader.new))) }
-    ensures text { OnOk result (Tells (IsTextOf geometry.now) (stream_of R.remaining reader.old) (over W.contents writer.old writer.new)) }
+    ensures text { OnOk result (Tells (IsOutputByWorkers answers geometry.now) (stream_of R.remaining reader.old) (over W.contents writer.old writer.new)) }
     ensures reader_unfailed { OnOk result (failures_of reader.new ≡ failures_of reader.old) }
     ensures writer_unfailed { OnOk result (failures_of writer.new ≡ failures_of writer.old) }
 
@@ -141,7 +145,7 @@ pub fn run_by_workers<T: Threads + Wait + Clock + Sync, R: Read, W: Write, V: Wr
     ensures log { IfOk result (EndsFile wanted (IsBroomLogOf geometry.now) (stream_of R.remaining reader.old) (over V.contents file.old file.new)) }
 
     // After a fault of the run no log was written.
-    ensures why { IfErr result (ExplainsRun IsTextOf geometry.now (over R.remaining reader.old reader.new) (over W.contents writer.old writer.new)) }
+    ensures why { IfErr result (ExplainsRun (IsOutputByWorkers answers) geometry.now (over R.remaining reader.old reader.new) (over W.contents writer.old writer.new)) }
     ensures no_log { OnErr result (stream_of V.contents file.new ≡ stream_of V.contents file.old) }
 {
     let mut gates = [NoGate; MAX_THREADS];
@@ -151,6 +155,7 @@ pub fn run_by_workers<T: Threads + Wait + Clock + Sync, R: Read, W: Write, V: Wr
         alloc,
         reader,
         writer,
+        answers,
         wanted,
         file,
         geometry,

@@ -13,7 +13,8 @@ ghost use Rattle.answers.specs.Streams.{Sends, SendsBeginning, Tells, over, stre
 ghost use Rattle.runs.specs.Collections.{IsLogOf, log_text};
 ghost use Rattle.runs.specs.Files.{EndsFile, LeavesLog, LeavesText};
 ghost use Rattle.runs.specs.Logs.{IsLogUnderWay, IsLogged, is_wanted};
-ghost use Rattle.runs.specs.Playing.{IsTextOf, stock_before, text_of_commands};
+ghost use Rattle.runs.specs.Outputs.{IsOutputOf, written_of};
+ghost use Rattle.runs.specs.Playing.{IsTextOf, stock_before};
 ghost use Rattle.runs.specs.Wear.{IsStockOf, IsWearOf};
 
 use crate::desk::Desk;
@@ -49,15 +50,21 @@ pub fn run<R: Read, W: Write>(
     // A fault says what happened. Only a failed writer has taken bytes, and those are a beginning of the text.
     ensures why { IfErr result (ExplainsRun IsTextOf geometry.now (over R.remaining reader.old reader.new) (over W.contents writer.old writer.new)) }
 {
+    let wanted = Wanted {
+        answers: true,
+        collections: false,
+        wear: false,
+    };
     let mut no_log = Watched::new(io::sink());
-    match run_out(alloc, reader, writer, false, &mut no_log, geometry) {
+    match run_out(alloc, reader, writer, wanted, &mut no_log, geometry) {
         Ok(_) => Ok(()),
         Err(fault) => Err(fault),
     }
 }
 
-/// Plays a trace as `run` does, and writes the wanted files: the log of its collections as they are made, and the wear of the device after
-/// it. If a file fails, the run continues without it, and its answers are complete.
+/// Plays a trace as `run` does, and writes what is wanted: the answers, the log of its collections as they are made, and the wear of the
+/// device after it. Without the answers the output is the last line alone. If a file fails, the run continues without it, and its output
+/// is complete.
 pub fn run_with_files<R: Read, W: Write, V: Write>(
     alloc: Global,
     reader: &mut Watched<R>,
@@ -68,7 +75,7 @@ pub fn run_with_files<R: Read, W: Write, V: Write>(
 ) -> Result<Written, RunFault>
     requires { hosts_of geometry.now ≡ 0 }
     ensures end { OnOk result (IsAtEnd (R.remaining (inner_of reader.new))) }
-    ensures text { OnOk result (Tells (IsTextOf geometry.now) (stream_of R.remaining reader.old) (over W.contents writer.old writer.new)) }
+    ensures text { OnOk result (Tells (IsOutputOf wanted.answers geometry.now) (stream_of R.remaining reader.old) (over W.contents writer.old writer.new)) }
     ensures reader_unfailed { OnOk result (failures_of reader.new ≡ failures_of reader.old) }
     ensures writer_unfailed { OnOk result (failures_of writer.new ≡ failures_of writer.old) }
 
@@ -77,7 +84,7 @@ pub fn run_with_files<R: Read, W: Write, V: Write>(
     ensures wear { IfOk result (λ written. EndsFile wanted.wear (IsWearOf geometry.now) (stream_of R.remaining reader.old) (over V.contents files.old.wear files.new.wear) written.wear) }
 
     // After a fault of the run no wear was written, and a part of the log only if the answers could not be written.
-    ensures why { IfErr result (ExplainsRun IsTextOf geometry.now (over R.remaining reader.old reader.new) (over W.contents writer.old writer.new)) }
+    ensures why { IfErr result (ExplainsRun (IsOutputOf wanted.answers) geometry.now (over R.remaining reader.old reader.new) (over W.contents writer.old writer.new)) }
     ensures log_left { IfErr result (λ fault. LeavesLog fault wanted.collections geometry.now (stream_of R.remaining reader.old) (over V.contents files.old.collections files.new.collections)) }
     ensures no_wear { OnErr result (stream_of V.contents files.new.wear ≡ stream_of V.contents files.old.wear) }
 {
@@ -85,7 +92,7 @@ pub fn run_with_files<R: Read, W: Write, V: Write>(
         alloc,
         reader,
         writer,
-        wanted.collections,
+        wanted,
         &mut files.collections,
         geometry,
     ) {
@@ -99,26 +106,26 @@ pub fn run_with_files<R: Read, W: Write, V: Write>(
     }
 }
 
-// Plays a trace and writes its log, if one is wanted; returns the device, the desk and the log after it.
+// Plays a trace and writes its output and its log, if one is wanted; returns the device, the desk and the log after it.
 fn run_out<R: Read, W: Write, V: Write>(
     alloc: Global,
     reader: &mut Watched<R>,
     writer: &mut Watched<W>,
-    wanted: bool,
+    wanted: Wanted,
     file: &mut Watched<V>,
     geometry: &Geometry,
 ) -> Result<Played, RunFault>
     requires { hosts_of geometry.now ≡ 0 }
     ensures end { OnOk result (IsAtEnd (R.remaining (inner_of reader.new))) }
-    ensures text { OnOk result (Tells (IsTextOf geometry.now) (stream_of R.remaining reader.old) (over W.contents writer.old writer.new)) }
+    ensures text { OnOk result (Tells (IsOutputOf wanted.answers geometry.now) (stream_of R.remaining reader.old) (over W.contents writer.old writer.new)) }
     ensures reader_unfailed { OnOk result (failures_of reader.new ≡ failures_of reader.old) }
     ensures writer_unfailed { OnOk result (failures_of writer.new ≡ failures_of writer.old) }
     ensures geometry { IfOk result (λ played. geometry_of played.ftl ≡ geometry.now) }
     ensures stock { IfOk result (λ played. IfSome (R.remaining (inner_of reader.old)) (λ bytes. IsStockOf geometry.now bytes (stock_of played.ftl))) }
-    ensures wanted { IfOk result (λ played. is_wanted played.log ≡ wanted) }
+    ensures wanted { IfOk result (λ played. is_wanted played.log ≡ wanted.collections) }
     ensures logged { IfOk result (λ played. IsLogUnderWay geometry.now (stream_of R.remaining reader.old) played.log (over V.contents file.old file.new)) }
-    ensures why { IfErr result (ExplainsRun IsTextOf geometry.now (over R.remaining reader.old reader.new) (over W.contents writer.old writer.new)) }
-    ensures log_left { IfErr result (λ fault. LeavesLog fault wanted geometry.now (stream_of R.remaining reader.old) (over V.contents file.old file.new)) }
+    ensures why { IfErr result (ExplainsRun (IsOutputOf wanted.answers) geometry.now (over R.remaining reader.old reader.new) (over W.contents writer.old writer.new)) }
+    ensures log_left { IfErr result (λ fault. LeavesLog fault wanted.collections geometry.now (stream_of R.remaining reader.old) (over V.contents file.old file.new)) }
 {
     let commands = match read_commands(alloc, reader, geometry) {
         Ok(commands) => commands,
@@ -130,20 +137,24 @@ fn run_out<R: Read, W: Write, V: Write>(
     let Ok(mut desk) = Desk::new(alloc, geometry) else {
         return Err(RunFault::Memory);
     };
-    let Ok(mut log) = Log::new(alloc, geometry, wanted) else {
+    let Ok(mut log) = Log::new(alloc, geometry, wanted.collections) else {
         return Err(RunFault::Memory);
     };
-    match play(&mut ftl, &commands, &mut desk, writer, &mut log, file) {
+    let answers = wanted.answers;
+    match play(
+        &mut ftl, &commands, &mut desk, answers, writer, &mut log, file,
+    ) {
         Ok(()) => Ok(Played { ftl, desk, log }),
         Err(OutputFailed) => Err(RunFault::Output),
     }
 }
 
-// Plays commands on an unused layer, writes the answers, and adds their collections to the log.
+// Plays commands on an unused layer, writes the answers if they are wanted and the last line, and adds the collections to the log.
 fn play<W: Write, V: Write>(
     ftl: &mut OneFtl,
     commands: &Commands,
     desk: &mut Desk,
+    answers: bool,
     writer: &mut Watched<W>,
     log: &mut Log,
     file: &mut Watched<V>,
@@ -154,11 +165,11 @@ fn play<W: Write, V: Write>(
     requires page { vec_len desk.old.page ≡ page_bytes_of (geometry_of ftl.old) }
     requires lines { waiting_of desk.old.lines ≡ [] }
     requires names { IsLogged log.old (over V.contents file.old file.old) collection_names }
-    ensures sent { OnOk result (Sends (over W.contents writer.old writer.new) (text_of_commands (geometry_of ftl.old) commands.now)) }
+    ensures sent { OnOk result (Sends (over W.contents writer.old writer.new) (written_of answers (geometry_of ftl.old) commands.now)) }
     ensures geometry { OnOk result (geometry_of ftl.new ≡ geometry_of ftl.old) }
     ensures stock { OnOk result (stock_of ftl.new ≡ stock_before (geometry_of ftl.old) commands.now (length commands.now)) }
     ensures lines_sent { OnOk result (waiting_of desk.new.lines ≡ []) }
-    ensures part { OnErr result (SendsBeginning (over W.contents writer.old writer.new) (text_of_commands (geometry_of ftl.old) commands.now)) }
+    ensures part { OnErr result (SendsBeginning (over W.contents writer.old writer.new) (written_of answers (geometry_of ftl.old) commands.now)) }
     ensures unfailed { OnOk result (failures_of writer.new ≡ failures_of writer.old) }
     ensures failed { OnErr result (failures_of writer.new ≢ failures_of writer.old) }
     ensures wanted { is_wanted log.new ≡ is_wanted log.old }
@@ -168,7 +179,7 @@ fn play<W: Write, V: Write>(
     for i in 0..commands.len() {
         desk.make_room(writer)?;
         let command = commands.command(i);
-        answer_logged(ftl, desk, &command, i as u64 + 1, log, file);
+        answer_logged(ftl, desk, &command, i as u64 + 1, answers, log, file);
     }
     desk.make_room(writer)?;
     desk.end(ftl);

@@ -1,6 +1,7 @@
 use Rattle.std.proofs.Common.{◌∙◌, codes}
 use Rattle.clap.specs.Words.{found_of}
 use Rattle.clap.proofs.WalkLemmas.{first_value-rows}
+use Rattle.player.proofs.CommandLines.{flag_of}
 use Rattle.player.proofs.arguments.options_in.Goals as goal
 
 pub returns : goal.returns
@@ -17,4 +18,5 @@ returns c = record {
   drains = c.number-10.ensures;
   wear = c.get_str.ensures ∙ first_value-rows (found_of c.args.matches.now) (codes "wear");
   collections = c.get_str-2.ensures ∙ first_value-rows (found_of c.args.matches.now) (codes "collections");
+  quiet = flag_of (found_of c.args.matches.now) (codes "quiet") c.get_flag.result c.get_flag.ensures.none c.get_flag.ensures.value c.get_flag.ensures.other;
 }

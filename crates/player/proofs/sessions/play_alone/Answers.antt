@@ -39,7 +39,7 @@ returns-in-Ok g c =
     (run_ended c.in-Ok.written.collections c.in-Ok.written.wear geo given input output files
     (record {
       end = told.end;
-      text = one_text geo _ _ _ c.requires told.text;
+      text = one_text given geo _ _ _ c.requires told.text;
       input_unfailed = told.reader_unfailed;
       output_unfailed = told.writer_unfailed;
     })
@@ -54,7 +54,7 @@ returns-in-Err-run_with_files g c =
     let fault = c.in-Err-run_with_files.fault in
     let stream = stream_of g.F.Write.contents in
     let mid = c.open_files.new.files in (
-      one_why geo fault
+      one_why given geo fault
           (over g.R.Read.remaining c.args.reader.now c.run_with_files.new.reader)
           (over g.W.Write.contents c.args.writer.now c.run_with_files.new.writer)
           c.requires told.why,

@@ -1,5 +1,5 @@
 use Rattle.std.proofs.Common.{◌∙◌, refl, subst, sym}
-use Rattle.std.specs.Prelude.{Ok, Result}
+use Rattle.std.specs.Prelude.{Ok, Result, not}
 use Rattle.answers.specs.Streams.{over, stream_of}
 use Rattle.geometry.specs.Geometry.{hosts_of}
 use Rattle.runs.specs.Wear.{IsWearOf}
@@ -43,7 +43,7 @@ returns-in-Ok g c =
     (run_ended c.in-Ok.log (Ok tt) geo given input output files
     (record {
       end = told.end;
-      text = shared_text (hosts_of geo) geo start output c.requires told.text;
+      text = shared_text (hosts_of geo) (not given.quiet) geo start output c.requires told.text;
       input_unfailed = told.reader_unfailed;
       output_unfailed = told.writer_unfailed;
     })
@@ -60,7 +60,7 @@ returns-in-Err-run_by_workers g c =
     let stream = stream_of g.F.Write.contents in
     let mid = c.open_files.new.files in
     let new = record mid { collections = c.run_by_workers.new.file } in (
-      shared_why geo fault
+      shared_why given geo fault
           (over g.R.Read.remaining c.args.reader.now c.run_by_workers.new.reader)
           (over g.W.Write.contents c.args.writer.now c.run_by_workers.new.writer) c.requires told.why,
       files_left fault c.is_some-wanted.result geo given start (filings g.F.NamedFile.opened_as g.F.Write.contents c.args.files.now new)

@@ -1,4 +1,4 @@
-use Rattle.std.proofs.Common.{◌≡◌, ◌∙◌, ap, length, refl, subst, sym, arith}
+use Rattle.std.proofs.Common.{◌≡◌, ◌∙◌, refl, subst, sym, arith}
 use Rattle.std.proofs.lemmas.Grind.{common_steps}
 use Rattle.std.proofs.lemmas.List.{reverse-reverse}
 use Rattle.std.specs.List.{All}
@@ -17,8 +17,8 @@ use Rattle.runs.proofs.LogTexts.{ends_file}
 use Rattle.runs.proofs.Told.{all_digits, enough_answers, part_sent, renamed, renamed_meaning, some_meaning, text_sent}
 use Rattle.runs.proofs.many_threads.run_logged.Goals as goal
 
-pub deliver-requires-clause-answers : goal.deliver-requires-clause-answers
-deliver-requires-clause-answers g c =
+pub write_out-requires-clause-answers : goal.write_out-requires-clause-answers
+write_out-requires-clause-answers g c =
     let geo = c.args.geometry.now in
     let commands = c.deref.result.now in
     let kept : c.deref-2.result.now ≡ c.in-Ok-play_commands.end.rows.items = grind (arith, common_steps, reverse-reverse) in
@@ -26,25 +26,25 @@ deliver-requires-clause-answers g c =
     let same : commands ≡ c.in-Ok.commands = c.deref.ensures ∙ c.in-Ok-new-2.ensures.ok in
     enough_answers geo commands (answers_by c.deref-2.result.now) c.requires.hosts (subst (All (IsPlayable geo)) (sym same) c.in-Ok.ensures.playable) played
 
-pub deliver-requires-clause-pages : goal.deliver-requires-clause-pages
-deliver-requires-clause-pages g c =
+pub write_out-requires-clause-pages : goal.write_out-requires-clause-pages
+write_out-requires-clause-pages g c =
     let geo = c.args.geometry.now in
     let kept : c.deref-2.result.now ≡ c.in-Ok-play_commands.end.rows.items = grind (arith, common_steps, reverse-reverse) in
     let sizes = subst (All (λ row. page_size_of row ≡ page_bytes_of geo)) (sym kept) c.in-Ok-play_commands.ensures.pages in
     all_digits geo c.deref-2.result.now (digits_in c.in-Ok-new.delivery) c.in-Ok-new.ensures.digits sizes
 
-pub returns-in-Ok-deliver-clause-text : goal.returns-in-Ok-deliver-clause-text
-returns-in-Ok-deliver-clause-text g c =
+pub returns-in-Ok-write_out-clause-text : goal.returns-in-Ok-write_out-clause-text
+returns-in-Ok-write_out-clause-text g c =
     let geo = c.args.geometry.now in
     let commands = c.deref.result.now in
     let input = g.R.Read.remaining (inner_of c.args.reader.now) in
     let kept : c.deref-2.result.now ≡ c.in-Ok-play_commands.end.rows.items = grind (arith, common_steps, reverse-reverse) in
     let played = renamed geo commands _ c.deref-2.result.now _ c.deref.ensures kept c.in-Ok-play_commands.ensures.played in
     let meaning = renamed_meaning geo commands _ input (c.deref.ensures ∙ c.in-Ok-new-2.ensures.ok) c.in-Ok.ensures.commands in
-    text_sent geo commands (answers_by c.deref-2.result.now) played input _ _ meaning c.in-Ok-deliver.ensures.sent
+    text_sent geo commands (answers_by c.deref-2.result.now) played c.args.answers input _ _ meaning c.in-Ok-write_out.ensures.sent
 
-pub returns-in-Err-deliver-clause-why : goal.returns-in-Err-deliver-clause-why
-returns-in-Err-deliver-clause-why g c =
+pub returns-in-Err-write_out-clause-why : goal.returns-in-Err-write_out-clause-why
+returns-in-Err-write_out-clause-why g c =
     let geo = c.args.geometry.now in
     let commands = c.deref.result.now in
     let input = g.R.Read.remaining (inner_of c.args.reader.now) in
@@ -52,8 +52,8 @@ returns-in-Err-deliver-clause-why g c =
     let played = renamed geo commands _ c.deref-2.result.now _ c.deref.ensures kept c.in-Ok-play_commands.ensures.played in
     let meaning = renamed_meaning geo commands _ input (c.deref.ensures ∙ c.in-Ok-new-2.ensures.ok) c.in-Ok.ensures.commands in (
       record { end = c.in-Ok.ensures.end; unfailed = c.in-Ok.ensures.unfailed; meaning = some_meaning geo commands input meaning },
-      c.in-Err-deliver.ensures.failed,
-      part_sent geo commands (answers_by c.deref-2.result.now) played input _ _ meaning c.in-Err-deliver.ensures.part,
+      c.in-Err-write_out.ensures.failed,
+      part_sent geo commands (answers_by c.deref-2.result.now) played c.args.answers input _ _ meaning c.in-Err-write_out.ensures.part,
     )
 
 pub play_commands-requires-clause-playable : goal.play_commands-requires-clause-playable
@@ -67,12 +67,12 @@ returns-in-Err-Threads-clause-why g c =
       refl,
     )
 
-pub returns-in-Ok-deliver-clause-log : goal.returns-in-Ok-deliver-clause-log
-returns-in-Ok-deliver-clause-log g c =
+pub returns-in-Ok-write_out-clause-log : goal.returns-in-Ok-write_out-clause-log
+returns-in-Ok-write_out-clause-log g c =
     let geo = c.args.geometry.now in
     let input = stream_of g.R.Read.remaining c.args.reader.now in
     let file = over g.V.Write.contents c.args.file.now c.tell_brooms_if.new.file in
-    let ends = c.deref-in-Ok-deliver.result.now in
-    let served = subst (AllHaveServed geo) (sym c.deref-in-Ok-deliver.ensures.value) c.in-Ok-play_commands.ensures.brooms in
+    let ends = c.deref-in-Ok-write_out.result.now in
+    let served = subst (AllHaveServed geo) (sym c.deref-in-Ok-write_out.ensures.value) c.in-Ok-play_commands.ensures.brooms in
     ends_file c.args.wanted (IsBroomLogOf geo) input file (brooms_text ends) c.tell_brooms_if.result (brooms_right geo input.bytes c.in-Ok.commands ends c.in-Ok.ensures.commands served)
     (subst (λ w. EndsText w (brooms_text ends) file c.tell_brooms_if.result) c.in-Ok-log_room.ensures.wanted c.tell_brooms_if.ensures)

@@ -7,7 +7,7 @@ use Rattle.answers.specs.Streams.{over, stream_of}
 use Rattle.answers.specs.Playable.{IsPlayable}
 use Rattle.runs.specs.Collections.{log_before}
 use Rattle.runs.specs.Logs.{IsLogged}
-use Rattle.runs.specs.Playing.{text_of_commands}
+use Rattle.runs.specs.Outputs.{written_of}
 use Rattle.runs.specs.Steps.{ArePlayed}
 use Rattle.answers.proofs.Deliveries.{AppendsBeginning-part, Appends-whole, IsUnderWay-sent, OnErr-any, OnErr-map, OnOk-map}
 use Rattle.runs.proofs.LogTexts.{OnOk-any, log_left_of, log_none, log_turn}
@@ -18,7 +18,7 @@ pub returns-in_err-make_room-clause-part : goal.returns-in_err-make_room-clause-
 returns-in_err-make_room-clause-part g c =
     OnErr-any _ c.from_residual.result
     (AppendsBeginning-part _ _ _ _ _ _ c.loop-i.invariant.3.text c.in_err-make_room.ensures.part
-    (lines_begin (geometry_of c.args.ftl.now) c.args.commands.now c.loop-i.i (omega arith)))
+    (lines_begin c.args.answers (geometry_of c.args.ftl.now) c.args.commands.now c.loop-i.i (omega arith)))
 
 pub answer_logged-requires-clause-playable : goal.answer_logged-requires-clause-playable
 answer_logged-requires-clause-playable g c =
@@ -30,7 +30,7 @@ loop-i-preserved g c =
     let geo = geometry_of c.args.ftl.now in
     let commands = c.args.commands.now in
     let file = over g.V.Write.contents c.args.file.now c.answer_logged.new.file in
-    let played = ArePlayed-turn _ _ _ _ _ _ _ _ _ _ _ _ _ _ _ c.loop-i.invariant.0 c.loop-i.invariant.3 c.in_ok-make_room.ensures.moved c.command-command.ensures.at c.answer_logged.ensures.array c.answer_logged.ensures.stock c.answer_logged.ensures.lines in (
+    let played = ArePlayed-turn c.args.answers _ _ _ _ _ _ _ _ _ _ _ _ _ _ _ c.loop-i.invariant.0 c.loop-i.invariant.3 c.in_ok-make_room.ensures.moved c.command-command.ensures.at c.answer_logged.ensures.array c.answer_logged.ensures.stock c.answer_logged.ensures.lines in (
       c.answer_logged.ensures.geometry ∙ c.loop-i.invariant.0,
       c.answer_logged.ensures.page ∙ (c.make_room.ensures.page ∙ c.loop-i.invariant.1),
       c.in_ok-make_room.ensures.unfailed ∙ c.loop-i.invariant.2,
@@ -48,7 +48,7 @@ loop-i-init g c =
       refl,
       c.requires.page,
       refl,
-      ArePlayed-none geo commands (array_of c.args.ftl.now) (stock_of c.args.ftl.now) _ _ c.requires.array c.requires.stock c.requires.lines,
+      ArePlayed-none c.args.answers geo commands (array_of c.args.ftl.now) (stock_of c.args.ftl.now) _ _ c.requires.array c.requires.stock c.requires.lines,
       refl,
       subst (IsLogged c.args.log.now (over g.V.Write.contents c.args.file.now c.args.file.now)) (sym (log_none geo commands)) c.requires.names,
     )
@@ -78,7 +78,7 @@ pub returns-in_err-make_room-2-clause-part : goal.returns-in_err-make_room-2-cla
 returns-in_err-make_room-2-clause-part g c =
     OnErr-any _ c.from_residual-in_err-make_room-2.result
     (AppendsBeginning-part _ _ _ _ _ _ c.loop-i.invariant.3.text c.in_err-make_room-2.ensures.part
-    (lines_begin (geometry_of c.args.ftl.now) c.args.commands.now c.loop-i.i (omega arith)))
+    (lines_begin c.args.answers (geometry_of c.args.ftl.now) c.args.commands.now c.loop-i.i (omega arith)))
 
 pub returns-clause-sent : goal.returns-clause-sent
 returns-clause-sent g c =
@@ -86,12 +86,12 @@ returns-clause-sent g c =
     let commands = c.args.commands.now in
     let old = g.W.Write.contents (inner_of c.args.writer.now) in
     let all : c.loop-i.i ≡ length commands = omega arith in
-    let played : ArePlayed geo commands (length commands) (array_of c.loop-i.ftl) (stock_of c.loop-i.ftl) old (g.W.Write.contents (inner_of c.loop-i.writer)) (waiting_of c.loop-i.desk.lines) =
-    subst (λ n. ArePlayed geo commands n (array_of c.loop-i.ftl) (stock_of c.loop-i.ftl) old (g.W.Write.contents (inner_of c.loop-i.writer)) (waiting_of c.loop-i.desk.lines)) all c.loop-i.invariant.3 in
-    let whole = text_whole geo commands _ _ old _ _ _ _ _ played c.in_ok-make_room-2.ensures.moved c.end.ensures.lines in
+    let played : ArePlayed c.args.answers geo commands (length commands) (array_of c.loop-i.ftl) (stock_of c.loop-i.ftl) old (g.W.Write.contents (inner_of c.loop-i.writer)) (waiting_of c.loop-i.desk.lines) =
+    subst (λ n. ArePlayed c.args.answers geo commands n (array_of c.loop-i.ftl) (stock_of c.loop-i.ftl) old (g.W.Write.contents (inner_of c.loop-i.writer)) (waiting_of c.loop-i.desk.lines)) all c.loop-i.invariant.3 in
+    let whole = text_whole c.args.answers geo commands _ _ old _ _ _ _ _ played c.in_ok-make_room-2.ensures.moved c.end.ensures.lines in
     OnOk-map _ _ c.hand_on.result
-    (λ sent. Appends-whole old (g.W.Write.contents (inner_of c.hand_on.new.writer)) (text_of_commands geo commands)
-    (IsUnderWay-sent old _ _ _ (text_of_commands geo commands) whole sent)) c.hand_on.ensures.sent
+    (λ sent. Appends-whole old (g.W.Write.contents (inner_of c.hand_on.new.writer)) (written_of c.args.answers geo commands)
+    (IsUnderWay-sent old _ _ _ (written_of c.args.answers geo commands) whole sent)) c.hand_on.ensures.sent
 
 pub returns-clause-part : goal.returns-clause-part
 returns-clause-part g c =
@@ -99,8 +99,8 @@ returns-clause-part g c =
     let commands = c.args.commands.now in
     let old = g.W.Write.contents (inner_of c.args.writer.now) in
     let all : c.loop-i.i ≡ length commands = omega arith in
-    let played : ArePlayed geo commands (length commands) (array_of c.loop-i.ftl) (stock_of c.loop-i.ftl) old (g.W.Write.contents (inner_of c.loop-i.writer)) (waiting_of c.loop-i.desk.lines) =
-    subst (λ n. ArePlayed geo commands n (array_of c.loop-i.ftl) (stock_of c.loop-i.ftl) old (g.W.Write.contents (inner_of c.loop-i.writer)) (waiting_of c.loop-i.desk.lines)) all c.loop-i.invariant.3 in
-    let whole = text_whole geo commands _ _ old _ _ _ _ _ played c.in_ok-make_room-2.ensures.moved c.end.ensures.lines in
+    let played : ArePlayed c.args.answers geo commands (length commands) (array_of c.loop-i.ftl) (stock_of c.loop-i.ftl) old (g.W.Write.contents (inner_of c.loop-i.writer)) (waiting_of c.loop-i.desk.lines) =
+    subst (λ n. ArePlayed c.args.answers geo commands n (array_of c.loop-i.ftl) (stock_of c.loop-i.ftl) old (g.W.Write.contents (inner_of c.loop-i.writer)) (waiting_of c.loop-i.desk.lines)) all c.loop-i.invariant.3 in
+    let whole = text_whole c.args.answers geo commands _ _ old _ _ _ _ _ played c.in_ok-make_room-2.ensures.moved c.end.ensures.lines in
     OnErr-map _ _ c.hand_on.result
-    (λ part. AppendsBeginning-part old _ _ _ (text_of_commands geo commands) (text_of_commands geo commands) whole part (Begins-refl (text_of_commands geo commands))) c.hand_on.ensures.part
+    (λ part. AppendsBeginning-part old _ _ _ (written_of c.args.answers geo commands) (written_of c.args.answers geo commands) whole part (Begins-refl (written_of c.args.answers geo commands))) c.hand_on.ensures.part

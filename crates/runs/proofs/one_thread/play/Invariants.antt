@@ -14,6 +14,6 @@ invariant-loop-i g l =
     (geometry_of l.ftl ≡ geometry_of l.initial.ftl)
     × (vec_len l.desk.page ≡ page_bytes_of (geometry_of l.initial.ftl))
     × (failures_of l.writer ≡ failures_of l.initial.writer)
-    × ArePlayed (geometry_of l.initial.ftl) l.commands l.i (array_of l.ftl) (stock_of l.ftl) (g.W.Write.contents (inner_of l.initial.writer)) (g.W.Write.contents (inner_of l.writer)) (waiting_of l.desk.lines)
+    × ArePlayed l.answers (geometry_of l.initial.ftl) l.commands l.i (array_of l.ftl) (stock_of l.ftl) (g.W.Write.contents (inner_of l.initial.writer)) (g.W.Write.contents (inner_of l.writer)) (waiting_of l.desk.lines)
     × (is_wanted l.log ≡ is_wanted l.initial.log)
     × IsLogged l.log (over g.V.Write.contents l.initial.file l.file) (log_before (geometry_of l.initial.ftl) l.commands l.i)

@@ -1,4 +1,4 @@
-use Rattle.std.proofs.Common.{ℕ, ◌+◌, List, length, vec_len, refl, get_or, drop, sym, ap, ◌∙◌, arith, subst}
+use Rattle.std.proofs.Common.{◌+◌, List, length, vec_len, refl, get_or, drop, sym, ap, ◌∙◌, arith, subst}
 use Rattle.std.proofs.lemmas.Grind.{common_steps}
 use Rattle.geometry.proofs.Histories.{Begins-refl}
 use Rattle.trace.specs.Watched.{inner_of}
