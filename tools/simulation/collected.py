@@ -96,10 +96,10 @@ def _broom(number: int, line: bytes, wanted: int) -> Broom:
     broom, *counts = (number_in(text, number, name) for text, name in zip(parts, BROOMS_HEAD.decode().split(",")))
     if broom != wanted:
         raise LineFault(number, f"this line should be that of broom {wanted}")
-    told = Broom(*counts)
-    if told.moved > told.programmed:
+    found = Broom(*counts)
+    if found.moved > found.programmed:
         raise LineFault(number, "more pages moved than programmed")
-    return told
+    return found
 
 
 def check(log: Collections, answers):
@@ -120,9 +120,9 @@ def _total(number) -> str:
 def as_object(log) -> dict:
     """Flat keys; what isn't known of this kind of run is None."""
     brooms = log if isinstance(log, list) else None
-    told = {f"broom_{name}": None if brooms is None else sum(getattr(broom, name) for broom in brooms) for name in COUNTS}
+    of_brooms = {f"broom_{name}": None if brooms is None else sum(getattr(broom, name) for broom in brooms) for name in COUNTS}
     if brooms is not None or log is None:
-        return {**dict.fromkeys(_OF_ONE_THREAD), "brooms": None if brooms is None else len(brooms), **told}
+        return {**dict.fromkeys(_OF_ONE_THREAD), "brooms": None if brooms is None else len(brooms), **of_brooms}
     copies, count = sum(log.copied), len(log)
     of_one_thread = (
         count,
@@ -132,7 +132,7 @@ def as_object(log) -> dict:
         sum(log.copybacks) / copies if copies else None,
         int(log.retired),
     )
-    return {**dict(zip(_OF_ONE_THREAD, of_one_thread)), "brooms": None, **told}
+    return {**dict(zip(_OF_ONE_THREAD, of_one_thread)), "brooms": None, **of_brooms}
 
 
 _OF_ONE_THREAD = ("collections", "first_collection_line", "victim_live_pages_mean", "copybacks", "copyback_share", "collections_retired")
@@ -149,10 +149,10 @@ def as_rows(log) -> list:
         ]
     if not len(log):
         return [("collections", "0")]
-    told = as_object(log)
-    share = "" if told["copyback_share"] is None else f", {100 * told['copyback_share']:.1f} % of them by copyback"
+    values = as_object(log)
+    share = "" if values["copyback_share"] is None else f", {100 * values['copyback_share']:.1f} % of them by copyback"
     ended = ", the last retired its victim" if log.retired else ""
-    return [("collections", f"{len(log):,}, the first at line {log.lines[0]:,}; {told['victim_live_pages_mean']:.2f} pages copied each{share}{ended}")]
+    return [("collections", f"{len(log):,}, the first at line {log.lines[0]:,}; {values['victim_live_pages_mean']:.2f} pages copied each{share}{ended}")]
 
 
 def live_pages(log: Collections) -> list:

@@ -21,7 +21,7 @@ class Piece:
 
 
 def in_pieces(answers, log, count: int) -> list:
-    """The run in so many pieces, of as many lines as can be each."""
+    """The run in `count` pieces with equally many lines, as far as possible."""
     if answers.quiet:
         raise Fault("the answers have only their last line, so it isn't known when pages were written", ARGUMENTS)
     ends = sorted({answers.lines * piece // count for piece in range(1, count + 1)} - {0})
@@ -36,8 +36,8 @@ def in_pieces(answers, log, count: int) -> list:
 def so_far(pieces) -> list:
     """The write amplification of all up to the end of each piece."""
     programs = copies = 0
-    told = []
+    amplifications = []
     for piece in pieces:
         programs, copies = programs + piece.programs, copies + piece.copies
-        told.append((programs + copies) / programs if programs else None)
-    return told
+        amplifications.append((programs + copies) / programs if programs else None)
+    return amplifications

@@ -40,8 +40,8 @@ class Part:
         return self.read + 2 * self.transfer + self.program
 
     def shown(self) -> str:
-        told = {name: getattr(self, name) for name in TIMES}
-        times = ", ".join(f"{name} {time / NANOSECONDS:,g}" for name, time in told.items() if time is not None)
+        times_by_name = {name: getattr(self, name) for name in TIMES}
+        times = ", ".join(f"{name} {time / NANOSECONDS:,g}" for name, time in times_by_name.items() if time is not None)
         return f"{self.name} ({times} µs)" if self.name else f"{times} µs"
 
 
@@ -58,9 +58,9 @@ def is_named(options) -> bool:
 
 def part_of(options) -> Part:
     """The part that the options name: a file, single times, or a file with some times replaced."""
-    told = read_part(options.part) if options.part else {}
+    from_file = read_part(options.part) if options.part else {}
     given = {name: _option(options, name) for name in TIMES}
-    return part_in({**told, **{name: time for name, time in given.items() if time is not None}}, options.part or "the part")
+    return part_in({**from_file, **{name: time for name, time in given.items() if time is not None}}, options.part or "the part")
 
 
 def words_of(part: Part) -> list:
@@ -82,17 +82,17 @@ def read_part(path) -> dict:
             raise Fault(f"{path} isn't a TOML file: {error}", BROKEN)
 
 
-def part_in(told: dict, where) -> Part:
-    """The part with these keys; a time that is missing or that no part has is named."""
+def part_in(keys: dict, where) -> Part:
+    """The part with these keys; a missing or invalid time is reported by its name."""
     status = ARGUMENTS if where == "the part" else BROKEN
-    unknown = sorted(set(told) - {*TIMES, *TEXTS})
+    unknown = sorted(set(keys) - {*TIMES, *TEXTS})
     if unknown:
         raise Fault(f"{where}: {unknown[0]!r} isn't a key of a part; the times are {', '.join(TIMES)}, in microseconds", status)
-    missing = [name for name in TIMES if name not in told and name not in OPTIONAL]
+    missing = [name for name in TIMES if name not in keys and name not in OPTIONAL]
     if missing:
         raise Fault(f"{where}: the time {missing[0]!r} is missing: data sheets have it, and there is no default", status)
-    times = {name: _nanoseconds(name, told[name], where, status) for name in TIMES if name in told}
-    return Part(str(told.get("name", "")), **times)
+    times = {name: _nanoseconds(name, keys[name], where, status) for name in TIMES if name in keys}
+    return Part(str(keys.get("name", "")), **times)
 
 
 def _nanoseconds(name, time, where, status) -> int:

@@ -122,91 +122,91 @@ def figures(numpy, times) -> dict:
         return {"count": 0, **dict.fromkeys(FIGURES)}
     ordered = numpy.sort(times)
     places = {name: -(-count * share // 10_000) - 1 for name, share in PERCENTILES.items()}
-    told = {name: int(ordered[place]) / MICROSECOND for name, place in places.items()}
-    return {"count": count, "mean": int(ordered.sum()) / count / MICROSECOND, **told, "longest": int(ordered[-1]) / MICROSECOND}
+    percentiles = {name: int(ordered[place]) / MICROSECOND for name, place in places.items()}
+    return {"count": count, "mean": int(ordered.sum()) / count / MICROSECOND, **percentiles, "longest": int(ordered[-1]) / MICROSECOND}
 
 
-def summarise(told: Response, page_bytes) -> dict:
+def summarise(responses: Response, page_bytes) -> dict:
     """One flat object; times are in microseconds."""
     import numpy
 
-    response, collected = told.response(), told.collected
-    out = {"response_timed": told.timed}
+    response, collected = responses.response(), responses.collected
+    out = {"response_timed": responses.timed}
     for group in GROUPS:
-        lines = told.of(group)
+        lines = responses.of(group)
         out |= {f"response_{group}_{name}": number for name, number in _units(figures(numpy, response[lines])).items()}
-    requests = told.of("all")
+    requests = responses.of("all")
     met = requests & (collected > 0)
     count, waited = int(requests.sum()), int(met.sum())
     out["collection_met_share"] = waited / count if count else None
     out["collection_met_mean_us"] = int(collected[met].sum()) / waited / MICROSECOND if waited else None
     out["collection_met_longest_us"] = int(collected[met].max()) / MICROSECOND if waited else None
-    return {**out, **_division(told, page_bytes, count)}
+    return {**out, **_division(responses, page_bytes, count)}
 
 
 def _units(numbers: dict) -> dict:
     return {name if name == "count" else f"{name}_us": number for name, number in numbers.items()}
 
 
-def _division(told: Response, page_bytes, requests) -> dict:
+def _division(responses: Response, page_bytes, requests) -> dict:
     """How the time of the device divides, from the first arrival to the last end, and what it did in a second."""
-    reads, programs = (int((told.kind == kind).sum()) for kind in (kinds.READ_DATA, kinds.WRITE_DONE))
-    whole = int(told.done[-1] - told.arrival[0]) if len(told.done) else 0
+    reads, programs = (int((responses.kind == kind).sum()) for kind in (kinds.READ_DATA, kinds.WRITE_DONE))
+    whole = int(responses.done[-1] - responses.arrival[0]) if len(responses.done) else 0
     times = {
-        "reads": reads * told.part.of_read(),
-        "programs": programs * told.part.of_program(),
-        "copies": told.copybacks * told.part.of_copyback() + (told.copied - told.copybacks) * told.part.of_copy(),
-        "erases": told.collections * told.part.erase,
+        "reads": reads * responses.part.of_read(),
+        "programs": programs * responses.part.of_program(),
+        "copies": responses.copybacks * responses.part.of_copyback() + (responses.copied - responses.copybacks) * responses.part.of_copy(),
+        "erases": responses.collections * responses.part.erase,
     }
     busy = sum(times.values())
-    if busy != int(told.service.sum()):
+    if busy != int(responses.service.sum()):
         raise Fault("the times of the lines don't add up to those of the totals", BROKEN)
-    times |= {"rest": whole - busy - _owed(told)}
+    times |= {"rest": whole - busy - _backlog(responses)}
     out = {f"time_{name}_us": time / MICROSECOND for name, time in times.items()}
-    out |= {"time_whole_us": sum(times.values()) / MICROSECOND, "load": _load(told, busy)}
+    out |= {"time_whole_us": sum(times.values()) / MICROSECOND, "load": _load(responses, busy)}
     out["requests_per_second"] = requests * SECOND / whole if whole else None
     known = whole and page_bytes is not None
     out["megabytes_per_second"] = (reads + programs) * page_bytes * SECOND / whole / 1_000_000 if known else None
     return out
 
 
-def _load(told: Response, busy):
+def _load(responses: Response, busy):
     """The work that arrives in a second, in seconds; above 1 the queue grows as long as the run lasts."""
-    span = int(told.arrival[-1] - told.arrival[0]) if told.timed and len(told.arrival) else 0
+    span = int(responses.arrival[-1] - responses.arrival[0]) if responses.timed and len(responses.arrival) else 0
     return busy / span if span else None
 
 
-def _owed(told: Response) -> int:
+def _backlog(responses: Response) -> int:
     """What the device still had to do for the lines before the first reported one, when that one arrived."""
-    return int(told.begin[0] - told.arrival[0]) if len(told.begin) else 0
+    return int(responses.begin[0] - responses.arrival[0]) if len(responses.begin) else 0
 
 
-def as_rows(told: dict, name: str) -> list:
+def as_rows(numbers: dict, name: str) -> list:
     """Names and texts for a report."""
-    times = "waiting and service, one queue, first come first served" if told["response_timed"] else "service alone: no arrivals are given"
-    rows = [("part", name), ("times", times), *((f"response of {group}", _figures(told, group)) for group in GROUPS)]
-    rows.append(("met a collection", _met(told)))
-    whole = told["time_whole_us"]
-    shares = (f"{name} {100 * told[f'time_{name}_us'] / whole:.1f} %" for name in ("reads", "programs", "copies", "erases", "rest")) if whole else ()
+    times = "waiting and service, one queue, first come first served" if numbers["response_timed"] else "service alone: no arrivals are given"
+    rows = [("part", name), ("times", times), *((f"response of {group}", _figures(numbers, group)) for group in GROUPS)]
+    rows.append(("met a collection", _met(numbers)))
+    whole = numbers["time_whole_us"]
+    shares = (f"{name} {100 * numbers[f'time_{name}_us'] / whole:.1f} %" for name in ("reads", "programs", "copies", "erases", "rest")) if whole else ()
     rows.append(("time of the device", f"{whole / 1e6:,.3f} s" + (": " + ", ".join(shares) if whole else "")))
-    if told["load"] is not None:
-        rows.append(("load", f"{told['load']:.3f} seconds of work arrive in a second"))
-    if told["requests_per_second"] is not None:
-        size = "" if told["megabytes_per_second"] is None else f", {told['megabytes_per_second']:,.2f} MB a second"
-        rows.append(("throughput", f"{told['requests_per_second']:,.1f} requests a second{size}"))
+    if numbers["load"] is not None:
+        rows.append(("load", f"{numbers['load']:.3f} seconds of work arrive in a second"))
+    if numbers["requests_per_second"] is not None:
+        size = "" if numbers["megabytes_per_second"] is None else f", {numbers['megabytes_per_second']:,.2f} MB a second"
+        rows.append(("throughput", f"{numbers['requests_per_second']:,.1f} requests a second{size}"))
     return rows
 
 
-def _figures(told, group) -> str:
-    if not told[f"response_{group}_count"]:
+def _figures(numbers, group) -> str:
+    if not numbers[f"response_{group}_count"]:
         return "none"
     names = {"mean": "mean", "median": "median", "p95": "95 %", "p99": "99 %", "p999": "99.9 %", "p9999": "99.99 %", "longest": "longest"}
-    texts = ", ".join(f"{name} {told[f'response_{group}_{key}_us']:,.1f}" for key, name in names.items())
-    return f"{told[f'response_{group}_count']:,}: {texts} µs"
+    texts = ", ".join(f"{name} {numbers[f'response_{group}_{key}_us']:,.1f}" for key, name in names.items())
+    return f"{numbers[f'response_{group}_count']:,}: {texts} µs"
 
 
-def _met(told) -> str:
-    if not told["collection_met_share"]:
+def _met(numbers) -> str:
+    if not numbers["collection_met_share"]:
         return "no line"
-    mean, longest = told["collection_met_mean_us"], told["collection_met_longest_us"]
-    return f"{100 * told['collection_met_share']:.2f} % of the lines, for {mean:,.1f} µs on average and {longest:,.1f} µs at most"
+    mean, longest = numbers["collection_met_mean_us"], numbers["collection_met_longest_us"]
+    return f"{100 * numbers['collection_met_share']:.2f} % of the lines, for {mean:,.1f} µs on average and {longest:,.1f} µs at most"

@@ -25,7 +25,7 @@ class Formats(unittest.TestCase):
         self.assertEqual(found, wanted)
         self.assertEqual(len(found), 40)
 
-    def test_a_folder_as_standard_input_is_named_in_one_line(self):
+    def test_reports_folder_as_standard_input(self):
         for name, *words in (("trace", "convert", "fio", "--page-bytes", "4096", "--sectors", "16"), ("report", "-"), ("model",)):
             with self.subTest(name), tempfile.TemporaryDirectory() as folder:
                 opened = os.open(folder, os.O_RDONLY)

@@ -120,7 +120,7 @@ class Colours(unittest.TestCase):
 @needs("matplotlib", "numpy", "chromium")
 class PageInBrowser(InFolder):
     def page_of_a_run(self):
-        arrivals, trace = self.room / "arrivals", self.room / "zipf.csv"
+        arrivals, trace = self.folder / "arrivals", self.folder / "zipf.csv"
         words = ("zipf", "--sectors", "180", "--lines", "6000", "--reads", "30", "--trims", "2", "--fill", "--seed", "3")
         made = make(*words, "--rate", "500", "--arrivals", arrivals)
         played = model.Model(**DEVICE)
@@ -128,7 +128,7 @@ class PageInBrowser(InFolder):
         wear, log = self.file("wear", played.wear().encode()), self.file("log", played.log().encode())
         files = ("--wear", wear, "--collections", log, "--arrivals", arrivals, "--trace", trace)
         device = [word for name, number in DEVICE.items() for word in (f"--{name}", number)]
-        page = self.room / "page.html"
+        page = self.folder / "page.html"
         part = TOP / "examples/parts/dftl_large_block.toml"
         line = "tools/trace make zipf <fast> & \"quoted\""
         done = Run("report", answers, *files, *device, "--part", part, "--page", page, "--made-by", line)
@@ -138,7 +138,7 @@ class PageInBrowser(InFolder):
     def browse(self, page, *words):
         """What Chromium writes of a page, which may log nothing."""
         file = self.file("look.html", page.encode())
-        words = ["--headless", "--no-sandbox", "--disable-gpu", "--disable-dev-shm-usage", "--no-first-run", f"--user-data-dir={self.room}/chromium", *words]
+        words = ["--headless", "--no-sandbox", "--disable-gpu", "--disable-dev-shm-usage", "--no-first-run", f"--user-data-dir={self.folder}/chromium", *words]
         words += ["--enable-logging=stderr", "--virtual-time-budget=20000", "--host-resolver-rules=MAP * ~NOTFOUND", f"file://{file}"]
         done = subprocess.run(["chromium", *words], capture_output=True, text=True, timeout=120)
         logged = [line for line in done.stderr.splitlines() if "CONSOLE" in line]
@@ -171,15 +171,15 @@ class PageInBrowser(InFolder):
         """The page as it is printed where dark is preferred: dark on white, with nothing beyond the margins, and each picture beside its head."""
         from matplotlib import pyplot
 
-        printed = self.room / "printed.pdf"
+        printed = self.folder / "printed.pdf"
         self.browse(page, DARK, "--no-pdf-header-footer", f"--print-to-pdf={printed}")
         text = subprocess.run(["pdftotext", "-layout", printed, "-"], capture_output=True, text=True, check=True).stdout
         sheets = [" ".join(sheet.split()) for sheet in text.split("\f")[:-1]]
         whole = " ".join(sheets)
         for cell in re.findall(r"<t[hd][^>]*>([^<]+)</t[hd]>", page):
             self.assertIn(" ".join(html.unescape(cell).split()), whole)
-        subprocess.run(["pdftoppm", "-r", "50", "-png", printed, self.room / "sheet"], check=True)
-        pixels = [pyplot.imread(path)[..., :3] for path in sorted(self.room.glob("sheet-*.png"))]
+        subprocess.run(["pdftoppm", "-r", "50", "-png", printed, self.folder / "sheet"], check=True)
+        pixels = [pyplot.imread(path)[..., :3] for path in sorted(self.folder.glob("sheet-*.png"))]
         self.assertEqual(len(pixels), len(sheets))
         blue = [int(schemes()[2]["blue"][place : place + 2], 16) / 255 for place in (1, 3, 5)]
         for head, caption in re.findall(r"<h2>([^<]+)</h2>\n?<figure>.*?<figcaption>(\S+ \S+ \S+)", page, re.DOTALL):
@@ -238,7 +238,7 @@ class PageInBrowser(InFolder):
         self.assertEqual(re.findall(r'(?:src|href)="(?!#|data:,)[^"]*"|url\((?!#)[^)]*\)|@import|<script', page), [])
         self.assertIn(html.escape(line), page)
         device = "--luns 2 --blocks 16 --pages 16 --words 1 --sectors 180 --endurance 1000"
-        self.assertIn(f"./flashplay {device} --wear {self.room}/wear --collections {self.room}/log &lt; ", page)
+        self.assertIn(f"./flashplay {device} --wear {self.folder}/wear --collections {self.folder}/log &lt; ", page)
         self.assertIn("2 LUNs, 16 blocks of 16 pages, 180 sectors (70.3 %) · zipf.csv", page)
         for section in SECTIONS:
             names = f'<title id="{section}-title">[^<]+</title><desc id="{section}-text">[^<]+</desc>'
@@ -247,7 +247,7 @@ class PageInBrowser(InFolder):
             self.assertIn(f'<table id="{section}-table">', page)
 
     def test_page_without_log_has_only_totals(self):
-        page = self.room / "page.html"
+        page = self.folder / "page.html"
         self.assertEqual(Run("report", TOP / "examples/collection.out", "--page", page).status, 0)
         self.assertNotIn("<svg", page.read_text())
         self.assertIn("1.200 (5 pages written, 1 copied)", page.read_text())

@@ -25,13 +25,13 @@ def report(answers, *words):
 
 class InFolder(unittest.TestCase):
     def setUp(self):
-        room = tempfile.TemporaryDirectory()
-        self.addCleanup(room.cleanup)
-        self.room = pathlib.Path(room.name)
+        folder = tempfile.TemporaryDirectory()
+        self.addCleanup(folder.cleanup)
+        self.folder = pathlib.Path(folder.name)
 
     def file(self, name, data):
-        (self.room / name).write_bytes(data)
-        return self.room / name
+        (self.folder / name).write_bytes(data)
+        return self.folder / name
 
 
 class Reported(unittest.TestCase):
@@ -149,14 +149,14 @@ class Collections(InFolder):
         self.assertEqual((reported["lines"], reported["write_amplification"], reported["erases_per_gigabyte"], reported["copybacks"]), (None, 1.2, 25_000_000, 1))
 
     @needs("matplotlib")
-    def test_the_page_of_a_quiet_run_has_the_call_that_wrote_it(self):
-        page = self.room / "page.html"
+    def test_page_of_quiet_run_names_the_option(self):
+        page = self.folder / "page.html"
         for answers, quiet in ((self.file("quiet", b"end,5,1,1\n"), True), (COLLECTION, False)):
             words = ("--collections", self.file("log", LOG), "--trace", "trace.csv", "--blocks", "3", "--pages", "2", "--words", "1", "--sectors", "3", "--page", page)
             self.assertEqual(Run("report", answers, *words).errors, "")
             self.assertEqual(" --quiet &lt; trace.csv &gt; " in page.read_text(), quiet)
 
-    def test_the_source_of_the_size_of_a_page_is_told(self):
+    def test_reports_source_of_page_bytes(self):
         self.assertIn("(40 bytes in pages of 8, as the reads show)", Run("report", COLLECTION).text)
         self.assertIn("(20,480 bytes in pages of 4,096, as --page-bytes says)", Run("report", COLLECTION, "--page-bytes", "4096").text)
         self.assertEqual([self.reported(*words)["page_bytes_from"] for words in ((), ("--page-bytes", "4096"))], ["reads", "option"])
@@ -249,7 +249,7 @@ class Pictures(InFolder):
 
     def drawn(self, suffix, *words):
         log, wear = self.file("log", LOG), self.file("wear", WEAR)
-        paths = [self.room / f"{kind}{suffix}" for kind in self.kinds]
+        paths = [self.folder / f"{kind}{suffix}" for kind in self.kinds]
         pictures = [word for kind, path in zip(self.kinds, paths) for word in (f"--{kind}-picture", path)]
         done = Run("report", COLLECTION, "--wear", wear, "--collections", log, "--pieces", 3, *pictures, *words)
         self.assertEqual(done.status, 0, done.errors)
@@ -275,7 +275,7 @@ class Pictures(InFolder):
         for count in (200, 201):
             wear = b"block,erases,live,retired\n" + b"".join(b"%d,%d,0,%d\n" % (block, block % 7, block == 6) for block in range(count))
             erases = sum(block % 7 for block in range(count))
-            paths.append(self.room / f"{count}.svg")
+            paths.append(self.folder / f"{count}.svg")
             done = Run("report", self.file("answers", b"end,0,0,%d\n" % erases), "--wear", self.file("wear", wear), "--erases-picture", paths[-1])
             self.assertEqual(done.status, 0, done.errors)
         bars, curve = (path.read_text() for path in paths)

@@ -74,7 +74,7 @@ class ProgramRuns(ResponseTest):
     """Runs of the program with its own log, and the sum of their services by hand."""
 
     def sum_of(self, words, trace, times=TIMES):
-        log = self.room / "log"
+        log = self.folder / "log"
         call = [LAUNCHER, *words.split(), "--collections", log]
         answers = self.file("answers", subprocess.run(call, input=trace.encode(), capture_output=True, check=True).stdout)
         reported = json.loads(Run("report", answers, "--json", "--collections", log, *times).text)
@@ -153,7 +153,7 @@ class Queues(ResponseTest):
             with self.subTest(times):
                 self.file("answers", self.answers.encode())
                 self.file("log", (LOG_HEAD + self.log).encode())
-                done = Run("report", self.room / "answers", "--collections", self.room / "log", *TIMES, *self.arrivals(*times))
+                done = Run("report", self.folder / "answers", "--collections", self.folder / "log", *TIMES, *self.arrivals(*times))
                 self.assertEqual((done.status, done.text), (3, ""))
                 self.assertIn(message, done.errors)
 
@@ -192,14 +192,14 @@ class SmallRuns(InFolder):
         log = self.file("log", LOG_HEAD.encode())
         # The page draws the others.
         kinds = ("collections", "victims")
-        pictures = [word for kind in kinds for word in (f"--{kind}-picture", self.room / f"{kind}.svg")]
+        pictures = [word for kind in kinds for word in (f"--{kind}-picture", self.folder / f"{kind}.svg")]
         for lines, writes in (("", 0), ("1,meet,0,met\n", 0), ("1,trim,0,empty\n", 0), ("1,read,0,empty\n2,read,0,empty\n", 0), ("1,write,0,empty\n", 1)):
             with self.subTest(lines):
                 answers = self.file("answers", f"{lines}end,{writes},0,0\n".encode())
-                done = Run("report", answers, "--collections", log, *TIMES, *pictures, "--page", self.room / "page.html")
+                done = Run("report", answers, "--collections", log, *TIMES, *pictures, "--page", self.folder / "page.html")
                 self.assertEqual((done.status, done.errors), (0, ""))
                 self.assertIn(f"response of writes   {'1: mean 10.5' if writes else 'none'}", done.text)
-                self.assertIn("<svg", (self.room / "page.html").read_text())
+                self.assertIn("<svg", (self.folder / "page.html").read_text())
 
 
 class Parts(InFolder):
@@ -251,7 +251,7 @@ class Parts(InFolder):
 
 class Arrivals(InFolder):
     def convert(self, name, log, *words, **numbers):
-        path = self.room / "arrivals"
+        path = self.folder / "arrivals"
         done = convert(name, log, "--arrivals", path, *words, **numbers)
         return done, path.read_text().split() if path.exists() else None
 
@@ -270,8 +270,8 @@ class Arrivals(InFolder):
     @needs("fio")
     def test_rate_of_installed_fio(self):
         words = ["--name=job", "--ioengine=null", "--filename=disk", "--size=400k", "--rw=write", "--bs=4k", "--rate_iops=500"]
-        subprocess.run(["fio", *words, f"--write_iolog={self.room}/log"], cwd=self.room, check=True, capture_output=True)
-        done, times = self.convert("fio", (self.room / "log").read_bytes())
+        subprocess.run(["fio", *words, f"--write_iolog={self.folder}/log"], cwd=self.folder, check=True, capture_output=True)
+        done, times = self.convert("fio", (self.folder / "log").read_bytes())
         self.assertEqual((done.status, len(times)), (0, 100))
         # 99 intervals of 2,000 microseconds.
         self.assertAlmostEqual(float(times[-1]) / 198_000, 1, delta=0.1)
@@ -286,21 +286,21 @@ class Arrivals(InFolder):
     def test_made_arrivals_leave_trace_unchanged(self):
         words = ("uniform", "--sectors", "9", "--lines", "50", "--fill")
         plain = make(*words)
-        timed = make(*words, "--rate", "100", "--arrivals", self.room / "a")
+        timed = make(*words, "--rate", "100", "--arrivals", self.folder / "a")
         self.assertEqual(timed.bytes, plain.bytes)
-        times = [float(line) for line in (self.room / "a").read_text().split()]
+        times = [float(line) for line in (self.folder / "a").read_text().split()]
         self.assertEqual((len(times), times), (59, sorted(times)))
         for seed, name in ((1, "again"), (2, "other")):
-            make(*words, "--rate", "100", "--seed", seed, "--arrivals", self.room / name)
-        again, other = ((self.room / name).read_bytes() for name in ("again", "other"))
-        self.assertEqual(again, (self.room / "a").read_bytes())
+            make(*words, "--rate", "100", "--seed", seed, "--arrivals", self.folder / name)
+        again, other = ((self.folder / name).read_bytes() for name in ("again", "other"))
+        self.assertEqual(again, (self.folder / "a").read_bytes())
         self.assertNotEqual(again, other)
-        make(*words, "--interval", "2.5", "--arrivals", self.room / "b")
-        self.assertEqual((self.room / "b").read_text().split()[:3], ["0.000", "2.500", "5.000"])
+        make(*words, "--interval", "2.5", "--arrivals", self.folder / "b")
+        self.assertEqual((self.folder / "b").read_text().split()[:3], ["0.000", "2.500", "5.000"])
 
     def test_made_arrivals_have_exponential_intervals(self):
-        make("uniform", "--sectors", "9", "--lines", "100000", "--rate", "1000", "--arrivals", self.room / "a")
-        times = [float(line) for line in (self.room / "a").read_text().split()]
+        make("uniform", "--sectors", "9", "--lines", "100000", "--rate", "1000", "--arrivals", self.folder / "a")
+        times = [float(line) for line in (self.folder / "a").read_text().split()]
         gaps = [after - before for before, after in zip(times, times[1:])]
         mean = sum(gaps) / len(gaps)
         # Of an exponential distribution the deviation is the mean, and a share of 1/e is longer than it.
@@ -309,7 +309,7 @@ class Arrivals(InFolder):
         self.assertAlmostEqual(sum(gap > 1000 for gap in gaps) / len(gaps), 0.3679, delta=0.006)
 
     def test_refuses_invalid_options(self):
-        to = "--arrivals", self.room / "a"
+        to = "--arrivals", self.folder / "a"
         for words in (("--rate", "5"), to, ("--rate", "0", *to), ("--rate", "nan", *to), ("--interval", "-1", *to), ("--rate", "1", "--interval", "1", *to)):
             with self.subTest(words):
                 self.assertEqual(make("uniform", "--sectors", "9", "--lines", "5", *words).status, 2)
@@ -320,7 +320,7 @@ class ClosedForm(InFolder):
     def test_reads_wait_as_in_queue_with_constant_service(self):
         """The mean waiting of Poisson arrivals at a server with constant service s and load rho is rho s / (2 (1 - rho))."""
         count, service = 1_000_000, 100
-        arrivals = self.room / "arrivals"
+        arrivals = self.folder / "arrivals"
         make("sequential", "--sectors", "1", "--lines", str(count), "--reads", "100", "--rate", "1000", "--arrivals", arrivals)
         answers = self.file("answers", b"".join(b"%d,read,0,0000000000000000\n" % line for line in range(1, count + 1)) + b"end,0,0,0\n")
         log = self.file("log", LOG_HEAD.encode())
@@ -348,7 +348,7 @@ class Large(InFolder):
 
         super().setUp()
         lines = numpy.arange(1, self.COUNT + 1)
-        with open(self.room / "answers", "wb") as sink:
+        with open(self.folder / "answers", "wb") as sink:
             for first in range(1, self.COUNT + 1, 100_000):
                 sink.write(b"".join(map(answer_of, range(first, first + 100_000))))
             writes = int((lines % 3 > 0).sum())
@@ -361,16 +361,16 @@ class Large(InFolder):
     def report(self, *words):
         """Checks that a report takes at most a minute of processor time and 1.5 GB of memory. It may take longer by the clock only if more
         processes want to run than there are processors."""
-        files = ("--collections", self.room / "log", "--arrivals", self.room / "arrivals")
-        call = [sys.executable, TOOLS / "report", self.room / "answers", "--json", *files, *map(str, TIMES), *words]
+        files = ("--collections", self.folder / "log", "--arrivals", self.folder / "arrivals")
+        call = [sys.executable, TOOLS / "report", self.folder / "answers", "--json", *files, *map(str, TIMES), *words]
         begun = time.monotonic()
-        with open(self.room / "out", "wb") as sink:
+        with open(self.folder / "out", "wb") as sink:
             process = subprocess.Popen(call, stdout=sink)
             _, status, usage = os.wait4(process.pid, 0)
         passed = time.monotonic() - begun
         process.returncode = os.waitstatus_to_exitcode(status)
         self.assertEqual(process.returncode, 0)
-        self.assertEqual(json.loads((self.room / "out").read_text())["response_all_count"], self.COUNT)
+        self.assertEqual(json.loads((self.folder / "out").read_text())["response_all_count"], self.COUNT)
         self.assertLess(usage.ru_utime + usage.ru_stime, 60)
         self.assertLess(passed, 60 * max(1, os.getloadavg()[0] / os.cpu_count()))
         self.assertLess(usage.ru_maxrss / 1_000_000, 1.5)
@@ -380,7 +380,7 @@ class Large(InFolder):
 
     @needs("matplotlib")
     def test_page_of_five_million_lines_is_within_limits(self):
-        self.report("--page", self.room / "page.html")
-        page = (self.room / "page.html").read_text()
+        self.report("--page", self.folder / "page.html")
+        page = (self.folder / "page.html").read_text()
         self.assertEqual(page.count("<svg"), 4)
         self.assertLess(len(page), 1_000_000)

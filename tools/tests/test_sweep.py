@@ -34,8 +34,8 @@ class Grids(unittest.TestCase):
             self.assertEqual(grid.point_in(str(point)), point)
 
 
-class Totals(unittest.TestCase):
-    def test_totals_are_those_of_the_last_line_alone_unless_a_line_is_not_plain(self):
+class QuietTotals(unittest.TestCase):
+    def test_totals_come_from_quiet_run_if_lines_are_plain(self):
         numbers = {"luns": 1, "blocks": 3, "pages": 2, "words": 1, "sectors": 3, "endurance": 1}
         writes = "".join(f"0,write,{n % 2},{n:02x}\n" for n in range(7))
         # Six writes fill the device and its last erase; the seventh is refused.
