@@ -32,6 +32,11 @@ same_erased r o x first second = one o x (sym first ∙ second) where
   one : (o x : ReclaimedBlock) → reclaiming.Erasing o ≡ reclaiming.Erasing x → o ≡ x
   one o x e = cc
 
+-- a place at which the block that a broom erases begins, where another name of that block is asked for
+pub begins_same : (z : Numbers) (start : ℕ) (a b : ReclaimedBlock) (r : Reclaiming) → start ≡ page_index z a.block 0 → r ≡ reclaiming.Erasing a
+    → r ≡ reclaiming.Erasing b → start ≡ page_index z b.block 0
+begins_same z start a b r at p q = at ∙ ap (λ (o : ReclaimedBlock). page_index z o.block 0) (same_erased r a b p q)
+
 -- the place of a word of the block, counted from its first page's first word, lies in the table
 pub wiped_within : (z : Numbers) (b i : ℕ) → b < z.blocks → i < words_in_block z → page_index z b 0 + i < table_words_of z.blocks z.pages z.words z.sectors
 wiped_within z b i low below =

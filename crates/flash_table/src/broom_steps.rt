@@ -39,8 +39,10 @@ impl Flash {
         requires broom { IsBroomOf self.now broom.old }
         requires filled { IsFilled (geometry_of self.now) (broom_view broom.old) (own_blocks broom.old).destination }
         ensures told { (o : OpenBlock) (x : Work) → (own_blocks broom.old).destination ≡ Some o → CanCount (broom_view broom.old) (owned_of o) x
-            → broom_view broom.new ≡ record (broom_view broom.old)
-            { programs = (broom_view broom.old).programs ++ x.page ∷ []; owns = with_owned (owned_of (record o { written = o.written + 1 })) (broom_view broom.old).owns } }
+            → broom_view broom.new ≡ record (broom_view broom.old) {
+              programs = (broom_view broom.old).programs ++ x.page ∷ [];
+              owns = with_owned (owned_of (record o { written = o.written + 1 })) (broom_view broom.old).owns;
+            } }
         ensures blocks { HasOneMore (own_blocks broom.old) (own_blocks broom.new) }
         ensures broom { IsBroomOf self.now broom.new }
     {
