@@ -23,7 +23,7 @@ impl Flash {
         requires rested { (own_blocks broom.old).reclaiming ≡ reclaiming.Nothing }
         requires block { block < blocks_of (geometry_of self.now) }
         requires expected { IsUnread (broom_view broom.old) block expected }
-        ensures told { CondemnTold broom.old block expected result broom.new }
+        ensures condemned { CondemnTold broom.old block expected result broom.new }
         ensures broom { IsBroomOf self.now broom.new }
     {
         let word = pin_at(&self.geometry, block);
@@ -52,7 +52,7 @@ impl Flash {
             → start ≡ page_index (device self.now) o.block 0 }
         requires next { i ≡ (broom_view broom.old).wiped }
         requires word { i < words_in_block (device self.now) }
-        ensures told { broom_view broom.new ≡ record (broom_view broom.old) { wiped = i + 1 } }
+        ensures wiped { broom_view broom.new ≡ record (broom_view broom.old) { wiped = i + 1 } }
         ensures broom { IsBroomOf self.now broom.new }
         ensures blocks { own_blocks broom.new ≡ own_blocks broom.old }
     {
@@ -66,7 +66,7 @@ impl Flash {
     pub fn free_block(&self, broom: &mut BroomSeat)
         requires broom { IsBroomOf self.now broom.old }
         requires wiped { (o : ReclaimedBlock) × CanLiveOn self.now broom.old o }
-        ensures told { (o : ReclaimedBlock) → (own_blocks broom.old).reclaiming ≡ reclaiming.Erasing o
+        ensures freed { (o : ReclaimedBlock) → (own_blocks broom.old).reclaiming ≡ reclaiming.Erasing o
             → broom_view broom.new ≡ left_free (broom_view broom.old) o }
         ensures blocks { own_blocks broom.new ≡ record (own_blocks broom.old) { reclaiming = reclaiming.Nothing } }
         ensures broom { IsBroomOf self.now broom.new }
@@ -86,7 +86,7 @@ impl Flash {
         requires broom { IsBroomOf self.now broom.old }
         requires wiped { (o : ReclaimedBlock) × CanLiveOn self.now broom.old o }
         requires no_spare { (own_blocks broom.old).spare ≡ None }
-        ensures told { (o : ReclaimedBlock) → (own_blocks broom.old).reclaiming ≡ reclaiming.Erasing o
+        ensures kept { (o : ReclaimedBlock) → (own_blocks broom.old).reclaiming ≡ reclaiming.Erasing o
             → broom_view broom.new ≡ record (broom_view broom.old)
             { owns = with_owned (owned_of (record { block = o.block; generation = o.generation + 1; written = 0 })) (broom_view broom.old).owns } }
         ensures blocks { (o : ReclaimedBlock) → (own_blocks broom.old).reclaiming ≡ reclaiming.Erasing o
@@ -116,7 +116,7 @@ impl Flash {
     pub fn retire_block(&self, broom: &mut BroomSeat)
         requires broom { IsBroomOf self.now broom.old }
         requires last { (o : ReclaimedBlock) × IsLastErase self.now broom.old o }
-        ensures told { (o : ReclaimedBlock) → (own_blocks broom.old).reclaiming ≡ reclaiming.Erasing o
+        ensures retired { (o : ReclaimedBlock) → (own_blocks broom.old).reclaiming ≡ reclaiming.Erasing o
             → broom_view broom.new ≡ left_retired (broom_view broom.old) o }
         ensures blocks { own_blocks broom.new ≡ record (own_blocks broom.old) { reclaiming = reclaiming.Nothing } }
         ensures broom { IsBroomOf self.now broom.new }

@@ -44,7 +44,7 @@ wipe-requires-clause-start c o is =
 pub loop-i-preserved : goal.loop-i-preserved
 loop-i-preserved c =
     wiped_more c.args.flash.now (broom_view c.args.seat.now) (own_blocks c.args.seat.now) c.loop-i.i c.loop-i.seat c.wipe.new.broom c.loop-i.invariant
-    c.wipe.ensures.broom c.wipe.ensures.blocks c.wipe.ensures.told
+    c.wipe.ensures.broom c.wipe.ensures.blocks c.wipe.ensures.wiped
 
 pub returns-clause-wiped : goal.returns-clause-wiped
 returns-clause-wiped c =

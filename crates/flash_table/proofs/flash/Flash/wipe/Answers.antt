@@ -52,8 +52,8 @@ invariant_of-broom c =
     let now = changed (goal.at.invariant_of-broom c).After-store in
     record { bare = c.store.ensures.2.0 ∙ s.bare; owns = just_now _ _ _ (ap (λ (w : View). w.owns) now) s.owns }
 
-pub returns-clause-told : goal.returns-clause-told
-returns-clause-told c = changed (goal.at.returns-clause-told c).After-store
+pub returns-clause-wiped : goal.returns-clause-wiped
+returns-clause-wiped c = changed (goal.at.returns-clause-wiped c).After-store
 
 pub returns-clause-broom : goal.returns-clause-broom
 returns-clause-broom c =
