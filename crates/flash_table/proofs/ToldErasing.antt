@@ -1,14 +1,14 @@
 -- What a broom that erases may do by what its calls ask, and what a step's play makes of its seat.
-use Rattle.std.proofs.Common.{◌≡◌, ℕ, ◌+◌, ◌*◌, ◌<◌, true, sym, refl, ap, ◌∙◌, subst, arith}
+use Rattle.std.proofs.Common.{◌≡◌, ℕ, ◌+◌, ◌*◌, ◌<◌, sym, refl, ap, ◌∙◌, subst, arith}
 use mathlib.Core.Option.{none}
 use Rattle.atomic_table.specs.Table.{step}
 use Rattle.geometry.specs.Limits.{Numbers, table_words_of}
-use Rattle.geometry.specs.PinWords.{pin_word, freed_added, kept_added}
+use Rattle.geometry.specs.PinWords.{pin_word}
 use Rattle.geometry.specs.TableOrder.{pin_index, page_index}
 use Rattle.geometry.specs.declared.pin_word.PinWord.{PinWord}
 use Rattle.geometry.specs.declared.pin_word.Phase.TheVariants.{Erasing}
 use Rattle.geometry.specs.declared.pin_word.TheConstants.{NEXT_PHASE}
-use Rattle.flash_rule.specs.Views.{is_broom, without, with_owned}
+use Rattle.flash_rule.specs.Views.{with_owned}
 use Rattle.flash_rule.specs.World.{blank_word}
 use Rattle.flash_rule.specs.Plays.{Sitter}
 use Rattle.flash_rule.specs.BroomPlays.{CanCondemn, Condemned, IsErasing, CanWipe, CanRenew, CanRetire}

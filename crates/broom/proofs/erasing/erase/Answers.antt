@@ -6,7 +6,7 @@ use Rattle.geometry.specs.Geometry.{endurance_of}
 use Rattle.geometry.specs.Limits.{Numbers}
 use Rattle.geometry.specs.declared.pin_word.Phase.TheVariants.{Drained}
 use Rattle.flash_table.specs.declared.broom_seat.Reclaiming.TheVariants.{Nothing}
-use Rattle.flash_table.specs.Flash.{broom_view, own_blocks, geometry_of, device}
+use Rattle.flash_table.specs.Flash.{broom_view, own_blocks, geometry_of}
 use Rattle.broom.specs.Erasing.{DidKeep, DidFree}
 use Rattle.broom.proofs.Renewing.{loaded_stale, loaded_busy, loaded_changed, rested_loaded, WasWiped, was_wiped, its}
 use Rattle.broom.proofs.Renewing.{did_retire, did_renew, told_erased, rested_retired, rested_renewed}
