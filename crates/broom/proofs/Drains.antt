@@ -290,70 +290,83 @@ module _ (v : View) (b : ℕ) (r after : Broom) (chosen : Chosen v b r) (x : Bro
       let seen : w.seen ≡ u.seen = ap (λ (z : View). z.seen) lost in
       surveyed_still (ap (λ (z : View). z.loaded) lost) ([], append-nil u.named ∙ sym named) ([], append-nil u.seen ∙ sym seen)
 
-  surveyed_drained : (copied : ℕ) → DidDrainAgain u (blocks_of_broom r) r.states.items b copied w (blocks_of_broom after)
-      → DidDrain v x b copied w (blocks_of_broom after)
-  surveyed_drained copied h =
-      let c = h.changed in
+  -- the victim as the drain has it is the survey's
+  same_victim : block_in r.states.items b ≡ victim_in chosen.survey b
+  same_victim i = block_in (sym chosen.kept i) b
+
+  -- its pages were emptied behind the survey's looks, and what was given up is listed behind what was given up before
+  drained_emptied : (copied : ℕ) → DidDrainAgain u (blocks_of_broom r) r.states.items b copied w (blocks_of_broom after)
+      → (e : Emptied v.numbers.pages (victim_in chosen.survey b) (record v { named = v.named ++ looks_of chosen.survey.pages }) x copied w
+      (blocks_of_broom after)) × (w.ceded ≡ v.ceded ++ given_up v.numbers.pages e.copies (victim_in chosen.survey b))
+  drained_emptied copied h =
       let k = chosen.changed in
-      let victim : block_in r.states.items b ≡ victim_in chosen.survey b = λ i. block_in (sym chosen.kept i) b in
       let begun : View = record v { named = v.named ++ looks_of chosen.survey.pages } in
       let P : Numbers × ReclaimedBlock × BroomBlocks → Type 0 =
       λ y. (e : Emptied y.0.pages y.1 u y.2 copied w (blocks_of_broom after)) × (w.ceded ≡ u.ceded ++ given_up y.0.pages e.copies y.1) in
-      let emptied : P (v.numbers, victim_in chosen.survey b, x) = subst P (λ i. (numbers i, victim i, same i)) (h.emptied, ap (λ (z : View). z.ceded) c) in
-      let gave : w.ceded ≡ v.ceded ++ given_up v.numbers.pages emptied.0.copies (victim_in chosen.survey b) =
-      emptied.1 ∙ ap (λ (z : View). z.ceded ++ given_up v.numbers.pages emptied.0.copies (victim_in chosen.survey b)) k in
-      let named : u.named ≡ v.named ++ looks_of chosen.survey.pages = ap (λ (z : View). z.named) k in
+      let emptied : P (v.numbers, victim_in chosen.survey b, x) =
+      subst P (λ i. (numbers i, same_victim i, same i)) (h.emptied, ap (λ (z : View). z.ceded) h.changed) in
+      let named : u.named ≡ v.named ++ looks_of chosen.survey.pages = ap (λ (z : View). z.named) k in (
+        emptied_same v.numbers.pages copied (victim_in chosen.survey b) u begun w w x x (blocks_of_broom after)
+            (blocks_of_broom after) named (ap (λ (z : View). z.programs) k) (ap (λ (z : View). z.work) k) refl refl refl refl refl emptied.0,
+        emptied.1 ∙ ap (λ (z : View). z.ceded ++ given_up v.numbers.pages emptied.0.copies (victim_in chosen.survey b)) k,
+      )
+
+  -- what the survey and the drain have changed together
+  drained_changed : (copied : ℕ) → DidDrainAgain u (blocks_of_broom r) r.states.items b copied w (blocks_of_broom after)
+      → w ≡ record v {
+        seen = w.seen;
+        loaded = u.loaded;
+        named = w.named;
+        busy = u.busy;
+        stale = u.stale;
+        owns = w.owns;
+        work = w.work;
+        programs = w.programs;
+        cleared = (block_in r.states.items b).written;
+        moves = v.moves + copied;
+        drains = v.drains ++ record { block = b; generation = (block_in r.states.items b).generation } ∷ [];
+        ceded = w.ceded;
+      }
+  drained_changed copied h =
+      let c = h.changed in
+      let k = chosen.changed in
+      c
+      ∙ ((λ i. record u {
+        seen = w.seen;
+        named = w.named;
+        owns = w.owns;
+        work = w.work;
+        programs = w.programs;
+        cleared = (block_in r.states.items b).written;
+        moves = u.moves + copied;
+        drains = u.drains ++ record { block = b; generation = (block_in r.states.items b).generation } ∷ [];
+        ceded = (sym c i).ceded;
+      })
+      ∙ (λ i. record (k i) {
+        seen = w.seen;
+        named = w.named;
+        owns = w.owns;
+        work = w.work;
+        programs = w.programs;
+        cleared = (block_in r.states.items b).written;
+        moves = (k i).moves + copied;
+        drains = (k i).drains ++ record { block = b; generation = (block_in r.states.items b).generation } ∷ [];
+        ceded = w.ceded;
+      }))
+
+  surveyed_drained : (copied : ℕ) → DidDrainAgain u (blocks_of_broom r) r.states.items b copied w (blocks_of_broom after)
+      → DidDrain v x b copied w (blocks_of_broom after)
+  surveyed_drained copied h =
+      let all = drained_changed copied h in
+      let emptied = drained_emptied copied h in
       record {
         survey = chosen.survey;
         made = made_drained copied h;
         victim = chosen.victim;
-        emptied = emptied_same v.numbers.pages copied (victim_in chosen.survey b) u begun w w x x (blocks_of_broom after)
-            (blocks_of_broom after) named (ap (λ (z : View). z.programs) k) (ap (λ (z : View). z.work) k) refl refl refl refl refl emptied.0;
+        emptied = emptied.0;
         room = λ o is. subst (λ (z : Numbers). o.written < z.pages) numbers (h.room o is);
         reclaiming = h.reclaiming ∙ ap (λ (z : BroomBlocks). z.reclaiming) same;
-        changed =
-            let all : w
-            ≡ record v {
-              seen = w.seen;
-              loaded = u.loaded;
-              named = w.named;
-              busy = u.busy;
-              stale = u.stale;
-              owns = w.owns;
-              work = w.work;
-              programs = w.programs;
-              cleared = (block_in r.states.items b).written;
-              moves = v.moves + copied;
-              drains =
-                  v.drains ++ record { block = b; generation = (block_in r.states.items b).generation } ∷ [];
-              ceded = w.ceded;
-            } =
-            c
-            ∙ ((λ i. record u {
-              seen = w.seen;
-              named = w.named;
-              owns = w.owns;
-              work = w.work;
-              programs = w.programs;
-              cleared = (block_in r.states.items b).written;
-              moves = u.moves + copied;
-              drains =
-                  u.drains ++ record { block = b; generation = (block_in r.states.items b).generation } ∷ [];
-              ceded = (sym c i).ceded;
-            })
-            ∙ (λ i. record (k i) {
-              seen = w.seen;
-              named = w.named;
-              owns = w.owns;
-              work = w.work;
-              programs = w.programs;
-              cleared = (block_in r.states.items b).written;
-              moves = (k i).moves + copied;
-              drains =
-                  (k i).drains ++ record { block = b; generation = (block_in r.states.items b).generation } ∷ [];
-              ceded = w.ceded;
-            })) in
-            all
+        changed = all
             ∙ (λ i. record v {
               seen = w.seen;
               loaded = (sym all i).loaded;
@@ -363,10 +376,10 @@ module _ (v : View) (b : ℕ) (r after : Broom) (chosen : Chosen v b r) (x : Bro
               owns = w.owns;
               work = w.work;
               programs = w.programs;
-              cleared = (victim i).written;
+              cleared = (same_victim i).written;
               moves = v.moves + copied;
-              drains = v.drains ++ record { block = b; generation = (victim i).generation } ∷ [];
-              ceded = gave i;
+              drains = v.drains ++ record { block = b; generation = (same_victim i).generation } ∷ [];
+              ceded = emptied.1 i;
             });
       }
 

@@ -4,6 +4,7 @@ pub mod Counting
 pub mod Ranks
 pub mod Choosing
 pub mod Marking
+pub mod Unmarking
 pub mod Emptying
 pub mod Sweeping
 pub mod Copying

@@ -1,7 +1,6 @@
 -- How many pages a broom can still copy to.
-use Rattle.std.proofs.Common.{◌≡◌, ℕ, ◌+◌, ◌-◌, ◌++◌, List, Option, None, Some, length, map, refl, length-append}
+use Rattle.std.proofs.Common.{◌≡◌, ℕ, ◌+◌, ◌-◌, Some, length, length-append}
 use Rattle.std.proofs.lemmas.List.FromFn.{length-map-range_with_len}
-use Rattle.geometry.specs.declared.map_word.MapWord.{MapWord}
 use Rattle.flash_table.specs.declared.pass.OpenBlock.{OpenBlock}
 use Rattle.flash_table.specs.declared.broom_seat.BroomBlocks.{BroomBlocks}
 use Rattle.broom.specs.Emptying.{page_at, pages_left, pages_to_fill}

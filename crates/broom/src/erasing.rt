@@ -13,8 +13,8 @@ ghost use Rattle.broom.specs.Told.{Unmarks};
 
 use crate::answer::Erase;
 use crate::broom::Broom;
-use flash_table::{BroomSeat, Flash, Gate, Point};
-use geometry::Phase;
+use flash_table::{BroomSeat, Flash, Gate, Point, Reclaiming};
+use geometry::{MapWord, Phase};
 
 /// Erases a drained block that nobody reads. It calls its gate after it has loaded the block's state, before it condemns the block.
 pub fn erase<G: Gate>(flash: &Flash, broom: &mut Broom, block: u32, gate: &mut G) -> Erase
@@ -55,9 +55,18 @@ fn wipe_all(flash: &Flash, seat: &mut BroomSeat)
     ensures seat { IsBroomOf flash.now seat.new }
     ensures blocks { own_blocks seat.new ≡ own_blocks seat.old }
 {
+    let Reclaiming::Erasing(erased) = seat.blocks().reclaiming else {
+        unreachable!()
+    };
+    let first = MapWord {
+        generation: erased.generation,
+        block: erased.block,
+        page: 0,
+    };
+    let start = flash.page_start(first);
     let geometry = flash.geometry();
     for i in 0..geometry.pages() * (geometry.words() + 1) {
-        flash.wipe(seat, i);
+        flash.wipe(seat, start, i);
     }
 }
 

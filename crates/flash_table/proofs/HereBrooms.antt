@@ -1,5 +1,5 @@
 -- The steps of brooms as `atomic_table` asks for them, at the place that the code computes and at the table's own numbers.
-use Rattle.std.proofs.Common.{◌≡◌, ℕ, ◌+◌, ◌%◌, ◌^◌, ◌<◌, ◌==◌, true, Some, sym, ap, ◌∙◌, subst}
+use Rattle.std.proofs.Common.{◌≡◌, ℕ, ◌+◌, ◌%◌, ◌^◌, ◌<◌, ◌==◌, true, Some, ap, ◌∙◌, subst}
 use prog.Atomic.{either}
 use mathlib.Core.Option.{none}
 use Rattle.atomic_table.specs.Table.{step, Allows}

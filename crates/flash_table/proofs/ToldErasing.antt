@@ -1,14 +1,14 @@
 -- What a broom that erases may do by what its calls ask, and what a step's play makes of its seat.
-use Rattle.std.proofs.Common.{◌≡◌, ℕ, ◌+◌, ◌*◌, ◌<◌, true, sym, refl, ap, ◌∙◌, subst, arith}
+use Rattle.std.proofs.Common.{◌≡◌, ℕ, ◌+◌, ◌*◌, ◌<◌, sym, refl, ap, ◌∙◌, subst, arith}
 use mathlib.Core.Option.{none}
 use Rattle.atomic_table.specs.Table.{step}
 use Rattle.geometry.specs.Limits.{Numbers, table_words_of}
-use Rattle.geometry.specs.PinWords.{pin_word, freed_added, kept_added}
+use Rattle.geometry.specs.PinWords.{pin_word}
 use Rattle.geometry.specs.TableOrder.{pin_index, page_index}
 use Rattle.geometry.specs.declared.pin_word.PinWord.{PinWord}
 use Rattle.geometry.specs.declared.pin_word.Phase.TheVariants.{Erasing}
 use Rattle.geometry.specs.declared.pin_word.TheConstants.{NEXT_PHASE}
-use Rattle.flash_rule.specs.Views.{is_broom, without, with_owned}
+use Rattle.flash_rule.specs.Views.{with_owned}
 use Rattle.flash_rule.specs.World.{blank_word}
 use Rattle.flash_rule.specs.Plays.{Sitter}
 use Rattle.flash_rule.specs.BroomPlays.{CanCondemn, Condemned, IsErasing, CanWipe, CanRenew, CanRetire}
@@ -31,6 +31,11 @@ pub same_erased : (r : Reclaiming) (o x : ReclaimedBlock) → r ≡ reclaiming.E
 same_erased r o x first second = one o x (sym first ∙ second) where
   one : (o x : ReclaimedBlock) → reclaiming.Erasing o ≡ reclaiming.Erasing x → o ≡ x
   one o x e = cc
+
+-- a place at which the block that a broom erases begins, where another name of that block is asked for
+pub begins_same : (z : Numbers) (start : ℕ) (a b : ReclaimedBlock) (r : Reclaiming) → start ≡ page_index z a.block 0 → r ≡ reclaiming.Erasing a
+    → r ≡ reclaiming.Erasing b → start ≡ page_index z b.block 0
+begins_same z start a b r at p q = at ∙ ap (λ (o : ReclaimedBlock). page_index z o.block 0) (same_erased r a b p q)
 
 -- the place of a word of the block, counted from its first page's first word, lies in the table
 pub wiped_within : (z : Numbers) (b i : ℕ) → b < z.blocks → i < words_in_block z → page_index z b 0 + i < table_words_of z.blocks z.pages z.words z.sectors

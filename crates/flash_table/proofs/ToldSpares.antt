@@ -1,12 +1,12 @@
 -- What a take makes of a broom's seat.
-use Rattle.std.proofs.Common.{◌≡◌, ℕ, ◌+◌, ◌<◌, [], ◌∷◌, ◌++◌, None, sym, refl, ap, ◌∙◌, subst, arith}
+use Rattle.std.proofs.Common.{◌≡◌, ℕ, ◌+◌, ◌<◌, [], ◌∷◌, ◌++◌, None, sym, ap, ◌∙◌, subst, arith}
 use mathlib.Core.Option.{none}
 use Rattle.atomic_table.specs.Table.{step}
 use Rattle.geometry.specs.Limits.{Numbers}
 use Rattle.geometry.specs.PinWords.{FitsPin, pin_word}
 use Rattle.geometry.specs.TableOrder.{pin_index}
 use Rattle.geometry.specs.declared.pin_word.PinWord.{PinWord}
-use Rattle.geometry.specs.declared.pin_word.Phase.TheVariants.{Free, Open}
+use Rattle.geometry.specs.declared.pin_word.Phase.TheVariants.{Free}
 use Rattle.geometry.specs.declared.pin_word.TheConstants.{TAKEN}
 use Rattle.geometry.proofs.PinBits.{pin_same}
 use Rattle.flash_rule.specs.declared.view.View.{View}

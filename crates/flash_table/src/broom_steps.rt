@@ -24,7 +24,7 @@ impl Flash {
         requires next { IsNextWord (geometry_of self.now) (broom_view broom.old) (own_blocks broom.old).destination i }
         requires start { (o : OpenBlock) → (own_blocks broom.old).destination ≡ Some o
             → start ≡ page_index (numbers_of (geometry_of self.now)) o.block o.written }
-        ensures told { HasPut (broom_view broom.old) (own_blocks broom.old).destination word (broom_view broom.new) }
+        ensures put { HasPut (broom_view broom.old) (own_blocks broom.old).destination word (broom_view broom.new) }
         ensures broom { IsBroomOf self.now broom.new }
         ensures blocks { own_blocks broom.new ≡ own_blocks broom.old }
     {
@@ -38,9 +38,11 @@ impl Flash {
     pub fn count_copy(&self, broom: &mut BroomSeat)
         requires broom { IsBroomOf self.now broom.old }
         requires filled { IsFilled (geometry_of self.now) (broom_view broom.old) (own_blocks broom.old).destination }
-        ensures told { (o : OpenBlock) (x : Work) → (own_blocks broom.old).destination ≡ Some o → CanCount (broom_view broom.old) (owned_of o) x
-            → broom_view broom.new ≡ record (broom_view broom.old)
-            { programs = (broom_view broom.old).programs ++ x.page ∷ []; owns = with_owned (owned_of (record o { written = o.written + 1 })) (broom_view broom.old).owns } }
+        ensures counted { (o : OpenBlock) (x : Work) → (own_blocks broom.old).destination ≡ Some o → CanCount (broom_view broom.old) (owned_of o) x
+            → broom_view broom.new ≡ record (broom_view broom.old) {
+              programs = (broom_view broom.old).programs ++ x.page ∷ [];
+              owns = with_owned (owned_of (record o { written = o.written + 1 })) (broom_view broom.old).owns;
+            } }
         ensures blocks { HasOneMore (own_blocks broom.old) (own_blocks broom.new) }
         ensures broom { IsBroomOf self.now broom.new }
     {
@@ -62,7 +64,7 @@ impl Flash {
     pub fn close_destination(&self, broom: &mut BroomSeat)
         requires broom { IsBroomOf self.now broom.old }
         requires settled { CanGiveUp (geometry_of self.now) (broom_view broom.old) (own_blocks broom.old).destination }
-        ensures told { (o : OpenBlock) → (own_blocks broom.old).destination ≡ Some o → broom_view broom.new ≡ left_closed (broom_view broom.old) o }
+        ensures closed { (o : OpenBlock) → (own_blocks broom.old).destination ≡ Some o → broom_view broom.new ≡ left_closed (broom_view broom.old) o }
         ensures blocks { own_blocks broom.new ≡ record (own_blocks broom.old) { destination = None } }
         ensures broom { IsBroomOf self.now broom.new }
     {

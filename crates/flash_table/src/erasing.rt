@@ -1,6 +1,7 @@
 //! The steps by which a broom erases a block, one atomic operation each.
 ghost use Rattle.std.specs.Prelude.{◌≡◌, ◌+◌, ◌<◌, Some, None};
 ghost use Rattle.geometry.specs.Geometry.{blocks_of};
+ghost use Rattle.geometry.specs.TableOrder.{page_index};
 ghost use Rattle.flash_rule.specs.Views.{with_owned};
 ghost use Rattle.flash_table.specs.Owning.{owned_of};
 ghost use Rattle.flash_table.specs.GivingUp.{left_free, left_retired};
@@ -13,7 +14,7 @@ use crate::broom_seat::{BroomBlocks, BroomSeat, ReclaimedBlock, Reclaiming};
 use crate::flash::Flash;
 use crate::pass::OpenBlock;
 use flash_rule::{Condemn, FreeBlock, KeepBlock, RetireBlock, Wipe};
-use geometry::{ERASED, NEXT_PHASE, PageAddr, PinWord, freed, kept, page_word_at, pin_at};
+use geometry::{ERASED, NEXT_PHASE, PinWord, freed, kept, pin_at};
 
 impl Flash {
     /// Condemns a drained block if its state is the expected one. Returns whether it did; then the broom owns the block and may erase it.
@@ -22,7 +23,7 @@ impl Flash {
         requires rested { (own_blocks broom.old).reclaiming ≡ reclaiming.Nothing }
         requires block { block < blocks_of (geometry_of self.now) }
         requires expected { IsUnread (broom_view broom.old) block expected }
-        ensures told { CondemnTold broom.old block expected result broom.new }
+        ensures condemned { CondemnTold broom.old block expected result broom.new }
         ensures broom { IsBroomOf self.now broom.new }
     {
         let word = pin_at(&self.geometry, block);
@@ -42,24 +43,20 @@ impl Flash {
         true
     }
 
-    /// Sets word `i` of the block that the broom erases to all ones, after the words before it. A page's stamp comes after its data words.
-    pub fn wipe(&self, broom: &mut BroomSeat, i: u32)
+    /// Sets word `i` of the block that the broom erases, whose words begin at `start`, to all ones, after the words before it. A page's stamp comes
+    /// after its data words.
+    pub fn wipe(&self, broom: &mut BroomSeat, start: usize, i: u32)
         requires broom { IsBroomOf self.now broom.old }
         requires erasing { (o : ReclaimedBlock) × IsErasing self.now broom.old o }
+        requires start { (o : ReclaimedBlock) → (own_blocks broom.old).reclaiming ≡ reclaiming.Erasing o
+            → start ≡ page_index (device self.now) o.block 0 }
         requires next { i ≡ (broom_view broom.old).wiped }
         requires word { i < words_in_block (device self.now) }
-        ensures told { broom_view broom.new ≡ record (broom_view broom.old) { wiped = i + 1 } }
+        ensures wiped { broom_view broom.new ≡ record (broom_view broom.old) { wiped = i + 1 } }
         ensures broom { IsBroomOf self.now broom.new }
         ensures blocks { own_blocks broom.new ≡ own_blocks broom.old }
     {
-        let Reclaiming::Erasing(erased) = broom.blocks.reclaiming else {
-            unreachable!()
-        };
-        let first = PageAddr {
-            block: erased.block,
-            page: 0,
-        };
-        let place = page_word_at(&self.geometry, first, 0) + i as usize;
+        let place = start + i as usize;
         self.table
             .shared
             .store::<Wipe>(&mut broom.seat, place, ERASED);
@@ -69,7 +66,7 @@ impl Flash {
     pub fn free_block(&self, broom: &mut BroomSeat)
         requires broom { IsBroomOf self.now broom.old }
         requires wiped { (o : ReclaimedBlock) × CanLiveOn self.now broom.old o }
-        ensures told { (o : ReclaimedBlock) → (own_blocks broom.old).reclaiming ≡ reclaiming.Erasing o
+        ensures freed { (o : ReclaimedBlock) → (own_blocks broom.old).reclaiming ≡ reclaiming.Erasing o
             → broom_view broom.new ≡ left_free (broom_view broom.old) o }
         ensures blocks { own_blocks broom.new ≡ record (own_blocks broom.old) { reclaiming = reclaiming.Nothing } }
         ensures broom { IsBroomOf self.now broom.new }
@@ -89,7 +86,7 @@ impl Flash {
         requires broom { IsBroomOf self.now broom.old }
         requires wiped { (o : ReclaimedBlock) × CanLiveOn self.now broom.old o }
         requires no_spare { (own_blocks broom.old).spare ≡ None }
-        ensures told { (o : ReclaimedBlock) → (own_blocks broom.old).reclaiming ≡ reclaiming.Erasing o
+        ensures kept { (o : ReclaimedBlock) → (own_blocks broom.old).reclaiming ≡ reclaiming.Erasing o
             → broom_view broom.new ≡ record (broom_view broom.old)
             { owns = with_owned (owned_of (record { block = o.block; generation = o.generation + 1; written = 0 })) (broom_view broom.old).owns } }
         ensures blocks { (o : ReclaimedBlock) → (own_blocks broom.old).reclaiming ≡ reclaiming.Erasing o
@@ -119,7 +116,7 @@ impl Flash {
     pub fn retire_block(&self, broom: &mut BroomSeat)
         requires broom { IsBroomOf self.now broom.old }
         requires last { (o : ReclaimedBlock) × IsLastErase self.now broom.old o }
-        ensures told { (o : ReclaimedBlock) → (own_blocks broom.old).reclaiming ≡ reclaiming.Erasing o
+        ensures retired { (o : ReclaimedBlock) → (own_blocks broom.old).reclaiming ≡ reclaiming.Erasing o
             → broom_view broom.new ≡ left_retired (broom_view broom.old) o }
         ensures blocks { own_blocks broom.new ≡ record (own_blocks broom.old) { reclaiming = reclaiming.Nothing } }
         ensures broom { IsBroomOf self.now broom.new }

@@ -11,8 +11,8 @@ ghost use Rattle.shared_acceptance.specs.Kept.{IsRested-prop};
 
 use broom::{Broom, Drain, Erase, fold_seat};
 use erase_queue::EraseQueue;
-use flash_table::{BroomSeat, Flash, NoGate, Pass};
-use geometry::{Geometry, Phase, UNMAPPED};
+use flash_table::{BroomSeat, Flash, NoGate, Pass, Reclaiming};
+use geometry::{Geometry, MapWord, Phase, UNMAPPED};
 use host::Holding;
 use std::process::Abort;
 use std::test::Fail;
@@ -185,9 +185,18 @@ fn wipe_all(flash: &Flash, seat: &mut BroomSeat)
     ensures seat { IsBroomOf flash.now seat.new }
     ensures blocks { own_blocks seat.new ≡ own_blocks seat.old }
 {
+    let Reclaiming::Erasing(erased) = seat.blocks().reclaiming else {
+        unreachable!()
+    };
+    let first = MapWord {
+        generation: erased.generation,
+        block: erased.block,
+        page: 0,
+    };
+    let start = flash.page_start(first);
     let geometry = flash.geometry();
     for i in 0..geometry.pages() * (geometry.words() + 1) {
-        flash.wipe(seat, i);
+        flash.wipe(seat, start, i);
     }
 }
 

@@ -33,7 +33,7 @@ sweeping : (g : Over) (c : Else-not-claim g)
 sweeping g c =
     claimed_sweeps c.args.flash.now c.args.broom.now c.args.block c.requires.ready c.requires.marked c.index-state.result.now c.index-state.ensures
     c.claim.new.broom c.claim.ensures.broom
-    (with_owned (owned_as c.args.block c.index-state.result.now Victim) (view_of_broom c.args.broom.now).owns) c.if-not-claim.ensures.told
+    (with_owned (owned_as c.args.block c.index-state.result.now Victim) (view_of_broom c.args.broom.now).owns) c.if-not-claim.ensures.claimed
     c.if-not-claim.ensures.blocks
 
 pub relocate-copied-requires-clause-sweeps : goal.relocate-copied-requires-clause-sweeps
@@ -43,7 +43,7 @@ relocate-copied-requires-clause-sweeps g c =
     let q = c.index-state.result.now in
     let at = (goal.at.relocate-copied-requires-clause-sweeps g c).Else-not-claim in
     let room = claimed_room f r c.args.block c.requires.ready c.requires.marked q c.index-state.ensures c.claim.new.broom c.claim.ensures.broom
-    (with_owned (owned_as c.args.block q Victim) (view_of_broom r).owns) c.if-not-claim.ensures.told c.if-not-claim.ensures.blocks c.requires.spare in
+    (with_owned (owned_as c.args.block q Victim) (view_of_broom r).owns) c.if-not-claim.ensures.claimed c.if-not-claim.ensures.blocks c.requires.spare in
     (victim_of_state f r c.args.block c.requires.ready c.requires.marked q c.index-state.ensures, sweeping g at, room)
 
 -- and still sweeps it when all its pages are cleared
@@ -79,9 +79,9 @@ returns-clause-told g c =
     let began = sweeping g (goal.at.After-relocate-copied g at).Else-not-claim in (
       refl,
       did_drain f r b c.requires.ready c.requires.marked q c.index-state.ensures c.claim.new.broom c.claim.ensures.broom
-          (with_owned (owned_as b q Victim) (view_of_broom r).owns) c.if-not-claim.ensures.told c.if-not-claim.ensures.blocks
+          (with_owned (owned_as b q Victim) (view_of_broom r).owns) c.if-not-claim.ensures.claimed c.if-not-claim.ensures.blocks
           c.relocate-copied.new.seat c.drain.new.broom c.relocate-copied.result told.told told.source h
-          (without b (broom_view c.relocate-copied.new.seat).owns) (c.drain.ensures.told x h.draining) c.drain.ensures.blocks
+          (without b (broom_view c.relocate-copied.new.seat).owns) (c.drain.ensures.drained x h.draining) c.drain.ensures.blocks
           c.requires.ready.rested.source (told.cleared x began) (told.emptied x began),
     )
 
@@ -99,18 +99,18 @@ returns-clause-ready g c =
     let ready = c.requires.ready in
     record {
       rested = drained_rested f r b ready c.requires.marked q c.index-state.ensures c.claim.new.broom c.claim.ensures.broom
-          (with_owned (owned_as b q Victim) (view_of_broom r).owns) c.if-not-claim.ensures.told c.if-not-claim.ensures.blocks
+          (with_owned (owned_as b q Victim) (view_of_broom r).owns) c.if-not-claim.ensures.claimed c.if-not-claim.ensures.blocks
           c.relocate-copied.new.seat c.drain.new.broom c.relocate-copied.result told.told told.source h
-          (without b (broom_view c.relocate-copied.new.seat).owns) (c.drain.ensures.told x h.draining) c.drain.ensures.blocks
+          (without b (broom_view c.relocate-copied.new.seat).owns) (c.drain.ensures.drained x h.draining) c.drain.ensures.blocks
           ready.rested.source (told.cleared x began) (told.emptied x began) c.drain.ensures.broom;
       states = ready.states;
       counts = ready.counts;
       closed = length-set r.closed.items b false ∙ ready.closed;
       marks =
           let loaded = drained_loaded f r b ready c.requires.marked q c.index-state.ensures c.claim.new.broom c.claim.ensures.broom
-          (with_owned (owned_as b q Victim) (view_of_broom r).owns) c.if-not-claim.ensures.told c.if-not-claim.ensures.blocks
+          (with_owned (owned_as b q Victim) (view_of_broom r).owns) c.if-not-claim.ensures.claimed c.if-not-claim.ensures.blocks
           c.relocate-copied.new.seat c.drain.new.broom c.relocate-copied.result told.told told.source h
-          (without b (broom_view c.relocate-copied.new.seat).owns) (c.drain.ensures.told x h.draining) c.drain.ensures.blocks
+          (without b (broom_view c.relocate-copied.new.seat).owns) (c.drain.ensures.drained x h.draining) c.drain.ensures.blocks
           ready.rested.source (told.cleared x began) (told.emptied x began) in
           marks_kept (device f) r.states.items (view_of_broom r) (broom_view c.drain.new.broom) r.closed.items (set r.closed.items b false) loaded
           (still_marked r.closed.items b (low_mark f r b ready c.requires.marked)) ready.marks;
@@ -129,12 +129,12 @@ returns-then-not-claim-clause-ready g c =
     let lost = c.if-not-claim.ensures in
     let low = low_mark c.args.flash.now r b h c.requires.marked in
     record {
-      rested = rested_lost c.args.flash.now r.seat c.claim.new.broom b h.rested lost.broom lost.blocks lost.told;
+      rested = rested_lost c.args.flash.now r.seat c.claim.new.broom b h.rested lost.broom lost.blocks lost.claimed;
       states = h.states;
       counts = h.counts;
       closed = length-set r.closed.items b false ∙ h.closed;
       marks = marks_kept (device c.args.flash.now) r.states.items (view_of_broom r) (broom_view c.claim.new.broom) r.closed.items
-          (set r.closed.items b false) (ap (λ (v : View). v.loaded) lost.told) (still_marked r.closed.items b low) h.marks;
+          (set r.closed.items b false) (ap (λ (v : View). v.loaded) lost.claimed) (still_marked r.closed.items b low) h.marks;
       ranking = ranks_fewer r.counts.items r.closed.items (set r.closed.items b false) r.ranking (length-set r.closed.items b false)
           (still_marked r.closed.items b low) h.ranking;
     }

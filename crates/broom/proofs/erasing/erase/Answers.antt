@@ -1,4 +1,4 @@
-use Rattle.std.proofs.Common.{rules, ◌≡◌, ℕ, ◌<◌, Bool, true, false, [], ◌∷◌, ◌++◌, length, MatchBool, set, refl, sym, ap, ◌∙◌, arith, length-set}
+use Rattle.std.proofs.Common.{rules, ◌≡◌, ℕ, Bool, true, false, [], ◌∷◌, ◌++◌, MatchBool, refl, sym, ap, ◌∙◌, arith}
 use Rattle.flash_rule.specs.declared.view.View.{View}
 use Rattle.flash_table.specs.declared.broom_seat.BroomBlocks.{BroomBlocks}
 use Rattle.geometry.specs.PinWords.{pin_word}
@@ -6,13 +6,11 @@ use Rattle.geometry.specs.Geometry.{endurance_of}
 use Rattle.geometry.specs.Limits.{Numbers}
 use Rattle.geometry.specs.declared.pin_word.Phase.TheVariants.{Drained}
 use Rattle.flash_table.specs.declared.broom_seat.Reclaiming.TheVariants.{Nothing}
-use Rattle.flash_table.specs.Flash.{broom_view, own_blocks, geometry_of, device}
+use Rattle.flash_table.specs.Flash.{broom_view, own_blocks, geometry_of}
 use Rattle.broom.specs.Erasing.{DidKeep, DidFree}
 use Rattle.broom.proofs.Renewing.{loaded_stale, loaded_busy, loaded_changed, rested_loaded, WasWiped, was_wiped, its}
 use Rattle.broom.proofs.Renewing.{did_retire, did_renew, told_erased, rested_retired, rested_renewed}
-use Rattle.broom.specs.Ready.{view_of_broom}
-use Rattle.broom.proofs.Marking.{marks_after, still_marked}
-use Rattle.broom.proofs.Ranks.{ranks_fewer}
+use Rattle.broom.proofs.Unmarking.{ready_unmarked}
 use Rattle.broom.proofs.erasing.erase.Given.{Over}
 use Rattle.broom.proofs.erasing.erase.Goals as goal
 use Rattle.broom.proofs.erasing.erase.Goals.{After-wipe_all}
@@ -25,7 +23,7 @@ wiped g c =
     let wiped : own_blocks c.wipe_all.new.seat ≡ own_blocks c.condemn.new.broom = cc in
     was_wiped c.args.flash.now c.args.broom.now.seat c.load_state-state.new.broom c.condemn.new.broom c.wipe_all.new.seat c.args.block
     c.load_state-state.result c.requires.broom.rested c.load_state-state.ensures.fits
-    drained (omega arith) c.load_state-state.ensures.told loaded c.if-not-condemn.ensures.told c.wipe_all.ensures.told wiped
+    drained (omega arith) c.load_state-state.ensures.loaded loaded c.if-not-condemn.ensures.condemned c.wipe_all.ensures.told wiped
 
 -- the endurance, as the device and as the broom's view have it
 endures : (g : Over) (c : After-wipe_all g) (n : ℕ) → n ≡ endurance_of (geometry_of c.args.flash.now) → n ≡ (broom_view c.args.broom.now.seat).numbers.endurance
@@ -38,28 +36,16 @@ returns-then-ne-clause-told g c =
     let p = c.load_state-state.result in
     let load = c.load_state-state.ensures in
     let other : ¬ (p.phase ≡ Drained) = search rules in
-    let is = loaded_stale (broom_view s) (broom_view c.load_state-state.new.broom) c.args.block p load.fits other load.told in
+    let is = loaded_stale (broom_view s) (broom_view c.load_state-state.new.broom) c.args.block p load.fits other load.loaded in
     (record { state = p; fits = load.fits; undrained = other; changed = is }, load.blocks)
 
 pub returns-then-ne-clause-ready : goal.returns-then-ne-clause-ready
 returns-then-ne-clause-ready g c =
     let load = c.load_state-state.ensures in
-    let h = c.requires.broom in
     let is = (returns-then-ne-clause-told g c).0.changed in
-    let h0 = c.args.broom.now in
-    let low : c.args.block < length h0.closed.items = let long = h.closed in let block = c.requires.block in omega arith in
-    record {
-      rested = rested_loaded c.args.flash.now c.args.broom.now.seat c.load_state-state.new.broom h.rested load.broom load.blocks _ _ _ is;
-      states = h.states;
-      counts = h.counts;
-      closed = length-set c.args.broom.now.closed.items c.args.block false ∙ h.closed;
-      marks =
-          marks_after (device c.args.flash.now) h0.states.items (view_of_broom h0) _ h0.closed.items c.args.block _ low
-          (ap (λ (v : View). v.loaded) is) h.marks;
-      ranking =
-          ranks_fewer h0.counts.items h0.closed.items (set h0.closed.items c.args.block false) h0.ranking
-          (length-set h0.closed.items c.args.block false) (still_marked h0.closed.items c.args.block low) h.ranking;
-    }
+    ready_unmarked c.args.flash.now c.args.broom.now _ c.args.block _ c.requires.broom c.requires.block
+    (rested_loaded c.args.flash.now c.args.broom.now.seat c.load_state-state.new.broom c.requires.broom.rested load.broom load.blocks _ _ _ is)
+    refl refl (ap (λ (v : View). v.loaded) is)
 
 -- it has readers
 pub returns-then-state-gt0-clause-told : goal.returns-then-state-gt0-clause-told
@@ -68,28 +54,16 @@ returns-then-state-gt0-clause-told g c =
     let p = c.load_state-state.result in
     let load = c.load_state-state.ensures in
     let drained : p.phase ≡ Drained = search rules in
-    let is = loaded_busy (broom_view s) (broom_view c.load_state-state.new.broom) c.args.block p load.fits drained (omega arith) load.told in
+    let is = loaded_busy (broom_view s) (broom_view c.load_state-state.new.broom) c.args.block p load.fits drained (omega arith) load.loaded in
     (record { state = p; fits = load.fits; drained = drained; changed = is }, load.blocks)
 
 pub returns-then-state-gt0-clause-ready : goal.returns-then-state-gt0-clause-ready
 returns-then-state-gt0-clause-ready g c =
     let load = c.load_state-state.ensures in
-    let h = c.requires.broom in
     let is = (returns-then-state-gt0-clause-told g c).0.changed in
-    let h0 = c.args.broom.now in
-    let low : c.args.block < length h0.closed.items = let long = h.closed in let block = c.requires.block in omega arith in
-    record {
-      rested = rested_loaded c.args.flash.now c.args.broom.now.seat c.load_state-state.new.broom h.rested load.broom load.blocks _ _ _ is;
-      states = h.states;
-      counts = h.counts;
-      closed = length-set c.args.broom.now.closed.items c.args.block false ∙ h.closed;
-      marks =
-          marks_after (device c.args.flash.now) h0.states.items (view_of_broom h0) _ h0.closed.items c.args.block _ low
-          (ap (λ (v : View). v.loaded) is) h.marks;
-      ranking =
-          ranks_fewer h0.counts.items h0.closed.items (set h0.closed.items c.args.block false) h0.ranking
-          (length-set h0.closed.items c.args.block false) (still_marked h0.closed.items c.args.block low) h.ranking;
-    }
+    ready_unmarked c.args.flash.now c.args.broom.now _ c.args.block _ c.requires.broom c.requires.block
+    (rested_loaded c.args.flash.now c.args.broom.now.seat c.load_state-state.new.broom c.requires.broom.rested load.broom load.blocks _ _ _ is)
+    refl refl (ap (λ (v : View). v.loaded) is)
 
 -- its word has changed
 pub returns-then-not-condemn-clause-told : goal.returns-then-not-condemn-clause-told
@@ -98,33 +72,18 @@ returns-then-not-condemn-clause-told g c =
     let p = c.load_state-state.result in
     let load = c.load_state-state.ensures in
     let drained : p.phase ≡ Drained = search rules in
-    let busy = c.if-not-condemn.ensures.told in
+    let busy = c.if-not-condemn.ensures.condemned in
     let is = loaded_changed (broom_view s) (broom_view c.load_state-state.new.broom) (broom_view c.condemn.new.broom) c.args.block p load.fits drained
-    (omega arith) load.told busy.changed in
+    (omega arith) load.loaded busy.changed in
     (record { state = p; fits = load.fits; drained = drained; changed = is }, (busy.blocks ∙ load.blocks))
 
 pub returns-then-not-condemn-clause-ready : goal.returns-then-not-condemn-clause-ready
 returns-then-not-condemn-clause-ready g c =
-    let load = c.load_state-state.ensures in
-    let h = c.requires.broom in
-    let busy = c.if-not-condemn.ensures.told in
+    let blocks = c.if-not-condemn.ensures.condemned.blocks ∙ c.load_state-state.ensures.blocks in
     let is = (returns-then-not-condemn-clause-told g c).0.changed in
-    let h0 = c.args.broom.now in
-    let low : c.args.block < length h0.closed.items = let long = h.closed in let block = c.requires.block in omega arith in
-    record {
-      rested = rested_loaded c.args.flash.now c.args.broom.now.seat c.condemn.new.broom h.rested c.condemn.ensures.broom
-          (busy.blocks ∙ load.blocks) _ _ _ is;
-      states = h.states;
-      counts = h.counts;
-      closed =
-          length-set c.args.broom.now.closed.items c.args.block false ∙ h.closed;
-      marks =
-          marks_after (device c.args.flash.now) h0.states.items (view_of_broom h0) _ h0.closed.items c.args.block _ low
-          (ap (λ (v : View). v.loaded) is) h.marks;
-      ranking =
-          ranks_fewer h0.counts.items h0.closed.items (set h0.closed.items c.args.block false) h0.ranking
-          (length-set h0.closed.items c.args.block false) (still_marked h0.closed.items c.args.block low) h.ranking;
-    }
+    ready_unmarked c.args.flash.now c.args.broom.now _ c.args.block _ c.requires.broom c.requires.block
+    (rested_loaded c.args.flash.now c.args.broom.now.seat c.condemn.new.broom c.requires.broom.rested c.condemn.ensures.broom blocks _ _ _ is)
+    refl refl (ap (λ (v : View). v.loaded) is)
 
 pub condemn-requires-clause-expected : goal.condemn-requires-clause-expected
 condemn-requires-clause-expected g c = search rules
@@ -138,25 +97,15 @@ returns-then-state-endurance-clause-told g c =
     let given_up : own_blocks c.retire_block.new.broom ≡ record (own_blocks c.wipe_all.new.seat) { reclaiming = Nothing } = cc in (
       refl,
       did_retire s c.wipe_all.new.seat c.retire_block.new.broom c.args.block p (wiped g at) (c.if-state-endurance.true ∙ last)
-          (c.retire_block.ensures.told _ (its s c.wipe_all.new.seat c.args.block p (wiped g at))) given_up,
+          (c.retire_block.ensures.retired _ (its s c.wipe_all.new.seat c.args.block p (wiped g at))) given_up,
     )
 
 pub returns-then-state-endurance-clause-ready : goal.returns-then-state-endurance-clause-ready
 returns-then-state-endurance-clause-ready g c =
-    let did = returns-then-state-endurance-clause-told g c in
-    let h = c.requires.broom in
-    let h0 = c.args.broom.now in
-    let low : c.args.block < length h0.closed.items = let long = h.closed in let block = c.requires.block in omega arith in
-    record {
-      rested = rested_retired c.args.flash.now c.args.broom.now.seat c.retire_block.new.broom c.args.block h.rested c.retire_block.ensures.broom did.1;
-      states = h.states;
-      counts = h.counts;
-      closed = length-set h0.closed.items c.args.block false ∙ h.closed;
-      marks = marks_after (device c.args.flash.now) h0.states.items (view_of_broom h0) _ h0.closed.items c.args.block _ low
-          (ap (λ (v : View). v.loaded) did.1.erased.changed) h.marks;
-      ranking = ranks_fewer h0.counts.items h0.closed.items (set h0.closed.items c.args.block false) h0.ranking
-          (length-set h0.closed.items c.args.block false) (still_marked h0.closed.items c.args.block low) h.ranking;
-    }
+    let did = (returns-then-state-endurance-clause-told g c).1 in
+    ready_unmarked c.args.flash.now c.args.broom.now _ c.args.block _ c.requires.broom c.requires.block
+    (rested_retired c.args.flash.now c.args.broom.now.seat c.retire_block.new.broom c.args.block c.requires.broom.rested c.retire_block.ensures.broom did)
+    refl refl (ap (λ (v : View). v.loaded) did.erased.changed)
 
 -- the block begins its next generation
 renewed : (g : Over) (c : goal.After-renew-kept g) → MatchBool c.renew-kept.result
@@ -184,17 +133,7 @@ returns-clause-told g c = told_erased c.args.broom.now _ c.args.block c.renew-ke
 
 pub returns-clause-ready : goal.returns-clause-ready
 returns-clause-ready g c =
-    let h = c.requires.broom in
-    let h0 = c.args.broom.now in
-    let low : c.args.block < length h0.closed.items = let long = h.closed in let block = c.requires.block in omega arith in
-    record {
-      rested = rested_renewed c.args.flash.now c.args.broom.now.seat c.renew-kept.new.seat c.args.block h.rested c.renew-kept.ensures.seat
-          c.renew-kept.result c.requires.block (renewed g c);
-      states = h.states;
-      counts = h.counts;
-      closed = length-set h0.closed.items c.args.block false ∙ h.closed;
-      marks = let more = renewed_loaded _ _ c.args.block _ _ c.renew-kept.result (renewed g c) in
-          marks_after (device c.args.flash.now) h0.states.items (view_of_broom h0) _ h0.closed.items c.args.block more.0 low more.1 h.marks;
-      ranking = ranks_fewer h0.counts.items h0.closed.items (set h0.closed.items c.args.block false) h0.ranking
-          (length-set h0.closed.items c.args.block false) (still_marked h0.closed.items c.args.block low) h.ranking;
-    }
+    ready_unmarked c.args.flash.now c.args.broom.now _ c.args.block _ c.requires.broom c.requires.block
+    (rested_renewed c.args.flash.now c.args.broom.now.seat c.renew-kept.new.seat c.args.block c.requires.broom.rested c.renew-kept.ensures.seat
+    c.renew-kept.result c.requires.block (renewed g c))
+    refl refl (renewed_loaded _ _ c.args.block _ _ c.renew-kept.result (renewed g c)).1

@@ -17,7 +17,7 @@ returns-then-is_some-clause-told c =
     let here = ap (λ (x : BroomBlocks). x.destination) c.blocks-2.ensures in
     let found = the_block c.blocks-2.result.destination (sym c.is_some.ensures ∙ c.if-is_some.true) in
     closes_one (broom_view s) (broom_view c.close_destination.new.broom) (own_blocks s) found.0 (sym here ∙ found.1)
-    (c.close_destination.ensures.told found.0 (sym here ∙ found.1))
+    (c.close_destination.ensures.closed found.0 (sym here ∙ found.1))
 
 pub returns-else-is_some-clause-told : goal.returns-else-is_some-clause-told
 returns-else-is_some-clause-told c =

@@ -20,7 +20,7 @@ first_look : (c : After-broom_look)
 first_look c =
     let v = view_of_broom c.args.first.now in
     let hosted = c.broom_take_in.ensures.told ∙ ap (host_of v) c.broom_lend-note.ensures.note.0 in
-    subst (λ (x : View). Named x 0 (sector_word c.broom_look.result) (broom_view c.broom_look.new.broom)) hosted c.broom_look.ensures.told
+    subst (λ (x : View). Named x 0 (sector_word c.broom_look.result) (broom_view c.broom_look.new.broom)) hosted c.broom_look.ensures.named
 
 pub broom_give_back-note-requires-clause-guest : goal.broom_give_back-note-requires-clause-guest
 broom_give_back-note-requires-clause-guest c =
@@ -48,7 +48,7 @@ returns-clause-told c =
     let w = broom_view c.broom_look.new.broom in
     let u = broom_view c.broom_look-2.new.broom in
     let came = c.broom_come_home.ensures.told ∙ (λ i. home (c.broom_lend-note.ensures.told i) (c.broom_give_back-note.ensures.note.0 i)) in
-    let again = subst (λ (x : View). Named x 0 (sector_word c.broom_look-2.result) u) came c.broom_look-2.ensures.told in
+    let again = subst (λ (x : View). Named x 0 (sector_word c.broom_look-2.result) u) came c.broom_look-2.ensures.named in
     let t =
     brooms_met v v' w c.broom_look.result (named_broom v.role c.requires.first.rested.seat.role)
     (named_broom v'.role c.requires.second.rested.seat.role) c.requires.first.rested.source

@@ -54,7 +54,7 @@ returns-clause-told c =
     let y = broom_view c.broom_look.new.broom in
     let read = c.get_word.ensures.same ∙ hosted at in
     let came = c.broom_come_home.ensures.told ∙ (λ i. home (c.broom_lend-note.ensures.told i) ((c.give_back-note.ensures.note.0 ∙ ap given_note read) i)) in
-    let looked = subst (λ (z : View). Named z 0 (sector_word c.broom_look.result) y) came c.broom_look.ensures.told in
+    let looked = subst (λ (z : View). Named z 0 (sector_word c.broom_look.result) y) came c.broom_look.ensures.named in
     let t =
     stood v x (page_in c.args.page c.args.generation) (named_pass v.role c.requires.pass.1.pass.role)
     (named_broom x.role c.requires.broom.rested.seat.role) (spares at) y c.broom_look.result c.requires.broom.rested.source

@@ -103,7 +103,7 @@ the_move : (g : Over) (c : After-move_to-moved g)
 the_move g c =
     let at = (goal.at.After-move_to-moved g c).After-copy_page-copy in
     let l = live g (goal.at.After-copy_page-copy g at).After-open_destination in
-    c.move_to-moved.ensures.told (record { page = c.args.page; stamp = c.in-Some.sector; value = Some l.value }) (the_copy g at).can.is
+    c.move_to-moved.ensures.moved (record { page = c.args.page; stamp = c.in-Some.sector; value = Some l.value }) (the_copy g at).can.is
 
 moved_sweeps : (g : Over) (c : After-move_to-moved g) (x : ReclaimedBlock) → Sweeps c.args.flash.now c.args.seat.now x
     → IsSweeping c.args.flash.now (pages_of (geometry_of c.args.flash.now) + 1) c.move_to-moved.new.broom x

@@ -25,7 +25,7 @@ returns-then-destination-pages-clause-told c =
     let o = c.in-Some.destination in
     let is = opened at.In-Some in
     closed_tidied c.args.flash.now c.args.seat.now o is c.close_destination.new.broom (without o.block (broom_view c.args.seat.now).owns)
-    (c.close_destination.ensures.told o is) c.close_destination.ensures.blocks
+    (c.close_destination.ensures.closed o is) c.close_destination.ensures.blocks
     (let full = c.if-destination-pages.true in let pages = pages_are at.After-pages in omega (arith, full, pages))
 
 pub returns-then-destination-pages-clause-sweeps : goal.returns-then-destination-pages-clause-sweeps
@@ -34,7 +34,7 @@ returns-then-destination-pages-clause-sweeps c x =
     let o = c.in-Some.destination in
     let is = opened at.In-Some in
     closed_sweeps c.args.flash.now c.args.seat.now o is c.close_destination.new.broom (without o.block (broom_view c.args.seat.now).owns)
-    (c.close_destination.ensures.told o is) c.close_destination.ensures.blocks
+    (c.close_destination.ensures.closed o is) c.close_destination.ensures.blocks
     (let full = c.if-destination-pages.true in let pages = pages_are at.After-pages in omega (arith, full, pages)) x c.close_destination.ensures.broom
 
 pub returns-else-destination-pages-clause-told : goal.returns-else-destination-pages-clause-told

@@ -91,8 +91,8 @@ loop-i-preserved c o there value is =
     let source = ap (λ (v : View). v.source) (c.loop-i.invariant o there value is).changed ∙ is in
     filling_more f (broom_view c.args.seat.now) (own_blocks c.args.seat.now) o value c.loop-i.i _ c.get_source_word-word.new.broom
     c.put_copy_word.new.broom h c.put_copy_word.ensures.broom c.put_copy_word.ensures.blocks
-    (c.put_copy_word.ensures.told o (ap (λ (y : BroomBlocks). y.destination) h.kept ∙ h.opened))
-    (omega (arith, c.get_source_word-word.ensures.told x value source refl))
+    (c.put_copy_word.ensures.put o (ap (λ (y : BroomBlocks). y.destination) h.kept ∙ h.opened))
+    (omega (arith, c.get_source_word-word.ensures.value x value source refl))
 
 -- all words of the source stand in the copy
 full : (c : After-loop-i) (value : List ℕ)
@@ -114,7 +114,7 @@ stamped : (c : After-put_copy_word-2) (value : List ℕ)
     → broom_view c.put_copy_word-2.new.broom ≡ record (broom_view c.loop-i.seat) { work = Some (put_work c.in-Some.destination c.loop-i.seat c.args.sector) }
 stamped c value is =
     let h = full (goal.at.After-put_copy_word-2 c).After-loop-i value is in
-    c.put_copy_word-2.ensures.told c.in-Some.destination (ap (λ (x : BroomBlocks). x.destination) h.kept ∙ h.opened)
+    c.put_copy_word-2.ensures.put c.in-Some.destination (ap (λ (x : BroomBlocks). x.destination) h.kept ∙ h.opened)
     ∙ ap (λ n. record (broom_view c.loop-i.seat) { work = Some (put_work c.in-Some.destination c.loop-i.seat n) }) c.from.ensures
 
 pub put_copy_word-requires-2-clause-broom : goal.put_copy_word-requires-2-clause-broom
@@ -171,7 +171,7 @@ returns-clause-told c o value there source whole =
     let now = stamped at value source in
     let can = filled_can f (broom_view c.args.seat.now) (own_blocks c.args.seat.now) p value c.args.sector c.loop-i.seat c.put_copy_word-2.new.broom h
     now put.broom put.blocks in
-    let counted = c.count_copy.ensures.told p (put_work p c.loop-i.seat c.args.sector)
+    let counted = c.count_copy.ensures.counted p (put_work p c.loop-i.seat c.args.sector)
     (ap (λ (x : BroomBlocks). x.destination) (put.blocks ∙ h.kept) ∙ h.opened) can in
     let x : Source = record { page = c.args.page; stamp = c.args.sector; value = Some value } in
     let done = copied f (broom_view c.args.seat.now) (own_blocks c.args.seat.now) p value c.args.sector c.loop-i.seat c.put_copy_word-2.new.broom h
@@ -199,7 +199,7 @@ returns-clause-sweeps c x g =
     let can = filled_can f (broom_view c.args.seat.now) (own_blocks c.args.seat.now) p t.0 c.args.sector c.loop-i.seat c.put_copy_word-2.new.broom h
     now put.broom put.blocks in
     let here = ap (λ (x : BroomBlocks). x.destination) (put.blocks ∙ h.kept) ∙ h.opened in
-    let counted = c.count_copy.ensures.told p (put_work p c.loop-i.seat c.args.sector) here can in
+    let counted = c.count_copy.ensures.counted p (put_work p c.loop-i.seat c.args.sector) here can in
     copied_sweeps f (broom_view c.args.seat.now) (own_blocks c.args.seat.now) p t.0 c.args.sector c.loop-i.seat c.put_copy_word-2.new.broom h now
     put.broom put.blocks c.count_copy.new.broom counted x c.args.seat.now g refl refl
     c.count_copy.ensures.broom (c.count_copy.ensures.blocks p here)

@@ -23,7 +23,7 @@ returns-then-stamp-from-clause-told c =
     let past = c.if-stamp-from.true in
     let from = c.from.ensures in
     stamp_dead (broom_view c.args.seat.now) (broom_view c.get_stamp-stamp.new.broom) t.0 c.get_stamp-stamp.result
-    (c.get_stamp-stamp.ensures.told t.0 t.1.draining) c.args.page (omega arith)
+    (c.get_stamp-stamp.ensures.stamp t.0 t.1.draining) c.args.page (omega arith)
 
 pub returns-then-stamp-from-clause-sweeps : goal.returns-then-stamp-from-clause-sweeps
 returns-then-stamp-from-clause-sweeps c x h =
@@ -32,7 +32,7 @@ returns-then-stamp-from-clause-sweeps c x h =
     let sectors = sectors_are (goal.at.returns-then-stamp-from-clause-sweeps c).After-sectors in
     let past = c.if-stamp-from.true in
     let from = c.from.ensures in
-    let e = (c.get_stamp-stamp.ensures.told x h.draining).dead (omega arith) in
+    let e = (c.get_stamp-stamp.ensures.stamp x h.draining).dead (omega arith) in
     sweeps_on c.args.flash.now (pages_of (geometry_of c.args.flash.now)) c.args.seat.now c.get_stamp-stamp.new.broom x h
     c.get_stamp-stamp.ensures.broom c.get_stamp-stamp.ensures.blocks (ap (λ (y : View). y.work) e)
     (callers_same v w None (v.cleared + 1) e h.callers)
@@ -46,7 +46,7 @@ source_is c =
     let sectors = sectors_are (goal.at.After-found c).After-sectors in
     let below = c.if-stamp-from.false in
     let from = c.from.ensures in
-    let e = (c.get_stamp-stamp.ensures.told t.0 t.1.draining).sector (omega arith) in
+    let e = (c.get_stamp-stamp.ensures.stamp t.0 t.1.draining).sector (omega arith) in
     let page : victim_page t.0 (broom_view c.args.seat.now).cleared ≡ c.args.page = ap (victim_page t.0) (sym c.requires.cleared) ∙ sym t.2.0 in
     e ∙ (λ i. record (broom_view c.args.seat.now) { source = Some (record { page = page i; stamp = c.get_stamp-stamp.result; value = None }) })
 
@@ -70,7 +70,7 @@ sweeping c x h =
     let look = c.broom_look-named.ensures in
     sweeps_on c.args.flash.now (pages_of (geometry_of c.args.flash.now)) c.args.seat.now c.broom_look-named.new.broom x h look.broom
     (look.blocks ∙ c.get_stamp-stamp.ensures.blocks)
-    (ap (λ (z : View). z.work) look.told.changed ∙ ap (λ (z : View). z.work) e) (look_callers w y c.get_stamp-stamp.result c.broom_look-named.result look.told)
+    (ap (λ (z : View). z.work) look.named.changed ∙ ap (λ (z : View). z.work) e) (look_callers w y c.get_stamp-stamp.result c.broom_look-named.result look.named)
 
 pub returns-then-found-clause-told : goal.returns-then-found-clause-told
 returns-then-found-clause-told c =
@@ -84,7 +84,7 @@ returns-then-found-clause-told c =
     let from = c.from.ensures in
     let numbers : w.numbers.sectors ≡ v.numbers.sectors = ap (λ (z : View). z.numbers.sectors) e in
     found_live_then v w y c.args.page c.get_stamp-stamp.result (began at) (ap (λ (z : View). z.cleared) e) (alone at)
-    (look_live w y c.get_stamp-stamp.result c.broom_look-named.result c.broom_look-named.ensures.told c.args.page
+    (look_live w y c.get_stamp-stamp.result c.broom_look-named.result c.broom_look-named.ensures.named c.args.page
     (ap (λ (z : View). z.source) e) (omega arith) c.if-found.ensures)
 
 pub returns-then-found-clause-sweeps : goal.returns-then-found-clause-sweeps
@@ -101,7 +101,7 @@ returns-else-found-clause-told c =
     let fits = subst FitsMap (sym t.2.0)
     (page_fits c.args.flash.now (pages_of (geometry_of c.args.flash.now)) c.args.seat.now t.0 c.args.page.page t.1 t.2.1) in
     found_dead_then v w y c.args.page (began at) (ap (λ (z : View). z.cleared) e) (alone at)
-    (look_dead w y c.get_stamp-stamp.result c.broom_look-named.result c.broom_look-named.ensures.told c.args.page
+    (look_dead w y c.get_stamp-stamp.result c.broom_look-named.result c.broom_look-named.ensures.named c.args.page
     (ap (λ (z : View). z.source) e) c.broom_look-named.ensures.fits fits c.if-found.ensures)
 
 pub returns-else-found-clause-sweeps : goal.returns-else-found-clause-sweeps

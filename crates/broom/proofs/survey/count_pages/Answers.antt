@@ -17,13 +17,13 @@ loop-sector-preserved-in_default c =
     let h = c.loop-sector.invariant in
     counted_more c.args.flash.now (broom_view c.args.seat.now) (own_blocks c.args.seat.now) c.args.states.now c.loop-sector.sector c.loop-sector.seat
     c.broom_look.new.broom c.loop-sector.counts c.loop-sector.counts None c.requires.source h
-    c.broom_look.ensures.broom c.broom_look.ensures.blocks tt c.in_default.ensures.told (counts_empty c.args.states.now h.pages c.loop-sector.counts h.counted)
+    c.broom_look.ensures.broom c.broom_look.ensures.blocks tt c.in_default.ensures.named (counts_empty c.args.states.now h.pages c.loop-sector.counts h.counted)
 
 -- the page that was found lies in a block of this device
 found_low : (c : In-Some) → c.in-Some.page.block < length c.args.states.now
 found_low c =
     let within = look_within (broom_view c.loop-sector.seat)
-    (broom_view c.broom_look.new.broom) c.loop-sector.sector c.in-Some.page c.in-Some.ensures.fits c.in-Some.ensures.told in
+    (broom_view c.broom_look.new.broom) c.loop-sector.sector c.in-Some.page c.in-Some.ensures.fits c.in-Some.ensures.named in
     let blocks = ap (λ (z : Numbers). z.blocks) c.loop-sector.invariant.seat.numbers in
     let states = c.requires.states in
     let low = within.0 in omega arith
@@ -45,7 +45,7 @@ loop-sector-preserved c =
     let more = counted_more c.args.flash.now (broom_view c.args.seat.now)
     (own_blocks c.args.seat.now) c.args.states.now c.loop-sector.sector c.loop-sector.seat c.broom_look.new.broom c.loop-sector.counts
     c.if-states-block.counts (Some page) c.requires.source h
-    c.broom_look.ensures.broom c.broom_look.ensures.blocks c.in-Some.ensures.fits c.in-Some.ensures.told in
+    c.broom_look.ensures.broom c.broom_look.ensures.blocks c.in-Some.ensures.fits c.in-Some.ensures.named in
     let P : List ℕ → Type 0 = λ l. Counts c.args.states.now (h.pages ++ Some page ∷ []) l in
     elim c.if-states-block.branch [
       | then-states-block w ↦ more

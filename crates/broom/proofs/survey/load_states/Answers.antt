@@ -17,7 +17,7 @@ loop-block-preserved c =
     let more =
     loaded_more f v (own_blocks c.args.seat.now) c.loop-block.block c.loop-block.seat c.load_state-state.new.broom c.loop-block.states
     c.loop-block.closed state c.loop-block.invariant (omega arith) (omega arith) told.broom told.blocks
-    (record { fits = told.fits; young = told.ranges.0; within = told.ranges.1 }) told.told in
+    (record { fits = told.fits; young = told.ranges.0; within = told.ranges.1 }) told.loaded in
     let P : Bool → Type 0 = λ mark. LoadedTo f v (own_blocks c.args.seat.now) (c.loop-block.block + 1) c.load_state-state.new.broom
     (set c.loop-block.states c.loop-block.block state) (set c.loop-block.closed c.loop-block.block mark) in
     subst P (sym c.is_closed.ensures) more

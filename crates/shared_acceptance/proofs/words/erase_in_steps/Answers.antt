@@ -14,24 +14,24 @@ use Rattle.shared_acceptance.proofs.words.erase_in_steps.Goals as goal
 pub returns-then-ne-clause-seat : goal.returns-then-ne-clause-seat
 returns-then-ne-clause-seat c =
     rested_loaded c.args.flash.now c.args.seat.now c.load_state-state.new.broom c.requires.seat c.load_state-state.ensures.broom
-    c.load_state-state.ensures.blocks c.args.block (pin_word c.load_state-state.result) c.load_state-state.ensures.told
+    c.load_state-state.ensures.blocks c.args.block (pin_word c.load_state-state.result) c.load_state-state.ensures.loaded
 
 pub wipe_all-requires-clause-erasing : goal.wipe_all-requires-clause-erasing
 wipe_all-requires-clause-erasing c = (
   _,
   record {
-    its = ap (λ (x : BroomBlocks). x.reclaiming) c.if-not-condemn.ensures.told.blocks;
+    its = ap (λ (x : BroomBlocks). x.reclaiming) c.if-not-condemn.ensures.condemned.blocks;
     low = c.requires.block;
     within = c.load_state-state.ensures.ranges.1;
   },
 )
 
 pub wipe_all-requires-clause-none : goal.wipe_all-requires-clause-none
-wipe_all-requires-clause-none c = ap (λ (v : View). v.wiped) c.if-not-condemn.ensures.told.changed
+wipe_all-requires-clause-none c = ap (λ (v : View). v.wiped) c.if-not-condemn.ensures.condemned.changed
 
 pub retire_block-requires-clause-last : goal.retire_block-requires-clause-last
 retire_block-requires-clause-last c =
-    let its = ap (λ (x : BroomBlocks). x.reclaiming) (c.wipe_all.ensures.blocks ∙ c.if-not-condemn.ensures.told.blocks) in (
+    let its = ap (λ (x : BroomBlocks). x.reclaiming) (c.wipe_all.ensures.blocks ∙ c.if-not-condemn.ensures.condemned.blocks) in (
       _,
       record {
         erases = record { its = its; low = c.requires.block; within = c.load_state-state.ensures.ranges.1 };
@@ -55,10 +55,10 @@ returns-clause-seat c =
     let drained : p.phase ≡ Drained = search rules in
     let loaded : own_blocks c.load_state-state.new.broom ≡ own_blocks s = c.load_state-state.ensures.blocks in
     let wiped = was_wiped f s c.load_state-state.new.broom c.condemn.new.broom t c.args.block p c.requires.seat c.load_state-state.ensures.fits
-    drained (omega arith) c.load_state-state.ensures.told loaded
-    c.if-not-condemn.ensures.told c.wipe_all.ensures.wiped c.wipe_all.ensures.blocks in
+    drained (omega arith) c.load_state-state.ensures.loaded loaded
+    c.if-not-condemn.ensures.condemned c.wipe_all.ensures.wiped c.wipe_all.ensures.blocks in
     let endures : c.endurance.result ≡ (broom_view s).numbers.endurance =
     c.endurance.ensures.value ∙ (ap endurance_of c.geometry.ensures ∙ ap (λ (z : Numbers). z.endurance) (sym c.requires.seat.seat.numbers)) in
     let done = did_retire s t u c.args.block p wiped (c.if-state-endurance.false ∙ endures)
-    (c.retire_block.ensures.told _ (its s t c.args.block p wiped)) c.retire_block.ensures.blocks in
+    (c.retire_block.ensures.retired _ (its s t c.args.block p wiped)) c.retire_block.ensures.blocks in
     rested_retired f s u c.args.block c.requires.seat c.retire_block.ensures.broom done

@@ -1,10 +1,29 @@
 use Rattle.std.proofs.Common.{◌≡◌, ◌+◌, ◌*◌, sym, ap, ◌∙◌, arith}
 use Rattle.geometry.specs.Geometry.{pages_of, words_of}
 use Rattle.flash_rule.specs.declared.view.View.{View}
-use Rattle.flash_table.specs.Erasing.{words_in_block}
+use Rattle.flash_table.specs.declared.broom_seat.BroomBlocks.{BroomBlocks}
+use Rattle.flash_table.specs.declared.broom_seat.Reclaiming.TheVariants as reclaiming
+use Rattle.flash_table.specs.Erasing.{IsErasing, words_in_block}
 use Rattle.flash_table.specs.Flash.{broom_view, own_blocks, geometry_of, device}
+use Rattle.flash_table.proofs.ToldErasing.{of_erased, begins_same}
 use Rattle.broom.proofs.Wiping.{wiped_none, wiped_more, still_erases}
 use Rattle.shared_acceptance.proofs.words.wipe_all.Goals as goal
+use Rattle.shared_acceptance.proofs.words.wipe_all.Goals.{In-Erasing}
+
+-- the block that the seat erases
+its : (c : In-Erasing) → (own_blocks c.args.seat.now).reclaiming ≡ reclaiming.Erasing c.in-Erasing.erased
+its c = ap (λ (x : BroomBlocks). x.reclaiming) (sym c.blocks-2.ensures) ∙ c.in-Erasing.is
+
+pub page_start-start-requires-clause-block : goal.page_start-start-requires-clause-block
+page_start-start-requires-clause-block c =
+    let f = c.args.flash.now in
+    let s = c.args.seat.now in
+    let o = c.requires.erasing in
+    let is = its (goal.at.page_start-start-requires-clause-block c).In-Erasing in
+    (of_erased f s c.requires.seat (λ x. IsErasing f s x) c.in-Erasing.erased is o.0 o.1.its o.1).low
+
+pub page_start-start-requires-clause-page : goal.page_start-start-requires-clause-page
+page_start-start-requires-clause-page c = c.args.flash.now.geometry.in_limits.pages_low
 
 pub loop-i-init : goal.loop-i-init
 loop-i-init c = wiped_none c.args.flash.now c.args.seat.now c.requires.seat c.requires.none
@@ -16,10 +35,16 @@ wipe-requires-clause-erasing c = let o = c.requires.erasing in
 pub wipe-requires-clause-next : goal.wipe-requires-clause-next
 wipe-requires-clause-next c = sym (ap (λ (v : View). v.wiped) c.loop-i.invariant.changed)
 
+pub wipe-requires-clause-start : goal.wipe-requires-clause-start
+wipe-requires-clause-start c o is =
+    let here = its (goal.at.wipe-requires-clause-start c).In-Erasing in
+    begins_same (device c.args.flash.now) c.page_start-start.result c.in-Erasing.erased o (own_blocks c.loop-i.seat).reclaiming
+    c.page_start-start.ensures (ap (λ (x : BroomBlocks). x.reclaiming) c.loop-i.invariant.blocks ∙ here) is
+
 pub loop-i-preserved : goal.loop-i-preserved
 loop-i-preserved c =
     wiped_more c.args.flash.now (broom_view c.args.seat.now) (own_blocks c.args.seat.now) c.loop-i.i c.loop-i.seat c.wipe.new.broom c.loop-i.invariant
-    c.wipe.ensures.broom c.wipe.ensures.blocks c.wipe.ensures.told
+    c.wipe.ensures.broom c.wipe.ensures.blocks c.wipe.ensures.wiped
 
 pub returns-clause-wiped : goal.returns-clause-wiped
 returns-clause-wiped c =

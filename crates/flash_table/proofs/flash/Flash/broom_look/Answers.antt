@@ -25,8 +25,8 @@ invariant_of-broom c =
     let s = c.args.broom.now in
     record { bare = c.load-found.ensures.2.0 ∙ s.bare; owns = just_now _ _ _ (ap (λ (w : View). w.owns) c.load-found.ensures.2.1.changed) s.owns }
 
-pub returns-clause-told : goal.returns-clause-told
-returns-clause-told c =
+pub returns-clause-named : goal.returns-clause-named
+returns-clause-named c =
     let told = c.load-found.ensures.2.1 in
     let word = unpacked c.unpack.result c.load-found.result c.unpack.ensures.some c.unpack.ensures.none (λ some. let t = told.page some in (t.0, t.2)) in
     subst (λ n. Named (broom_view c.args.broom.now) c.args.sector n c.load-found.new.seat.me.0) word told

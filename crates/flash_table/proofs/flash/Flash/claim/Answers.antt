@@ -35,8 +35,8 @@ invariant_of-broom c =
     let changed = told.lost (λ is. c.if-found-expected.true (is ∙ sym c.pack-expected.ensures)) in
     record { bare = c.compare_exchange-found.ensures.2.0 ∙ s.bare; owns = just_now _ _ _ (ap (λ (w : View). w.owns) changed) s.owns }
 
-pub returns-then-found-expected-clause-told : goal.returns-then-found-expected-clause-told
-returns-then-found-expected-clause-told c =
+pub returns-then-found-expected-clause-claimed : goal.returns-then-found-expected-clause-claimed
+returns-then-found-expected-clause-claimed c =
     let f = c.args.self.now in
     let s = c.args.broom.now in
     let can = claim_can f s c.requires.broom c.args.block c.args.state c.requires.block c.requires.state c.requires.loaded c.requires.at_rest in
@@ -74,8 +74,8 @@ invariant_of-broom-2 c =
           (claimed_just (own_blocks s) (broom_view s).owns s.owns now c.requires.at_rest (told.fresh is));
     }
 
-pub returns-clause-told : goal.returns-clause-told
-returns-clause-told c =
+pub returns-clause-claimed : goal.returns-clause-claimed
+returns-clause-claimed c =
     let f = c.args.self.now in
     let s = c.args.broom.now in
     let can = claim_can f s c.requires.broom c.args.block c.args.state c.requires.block c.requires.state c.requires.loaded c.requires.at_rest in

@@ -40,8 +40,8 @@ invariant_of-broom c =
       owns = just_now _ _ _ (ap (λ (w : View). w.owns) changed) (closed_just (own_blocks s) (broom_view s).owns s.owns o c.in-Some.is);
     }
 
-pub returns-clause-told : goal.returns-clause-told
-returns-clause-told c o is =
+pub returns-clause-closed : goal.returns-clause-closed
+returns-clause-closed c o is =
     let f = c.args.self.now in
     let s = c.args.broom.now in
     let can = close_can f s c.requires.broom o is c.requires.settled in

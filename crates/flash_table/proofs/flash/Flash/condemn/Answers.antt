@@ -38,8 +38,8 @@ invariant_of-broom c =
     let changed = told.busy (λ is. c.if-found-old.true (is ∙ sym c.pack-old.ensures)) in
     record { bare = c.compare_exchange-found.ensures.2.0 ∙ s.bare; owns = just_now _ _ _ (ap (λ (w : View). w.owns) changed) s.owns }
 
-pub returns-then-found-old-clause-told : goal.returns-then-found-old-clause-told
-returns-then-found-old-clause-told c =
+pub returns-then-found-old-clause-condemned : goal.returns-then-found-old-clause-condemned
+returns-then-found-old-clause-condemned c =
     let f = c.args.self.now in
     let s = c.args.broom.now in
     let can = can_condemn f s c.requires.broom c.args.block c.args.expected c.requires.rested c.requires.block c.requires.expected in
@@ -73,8 +73,8 @@ invariant_of-broom-2 c =
           (condemned_just (own_blocks s) (broom_view s).owns s.owns o c.requires.rested (told.fresh is));
     }
 
-pub returns-clause-told : goal.returns-clause-told
-returns-clause-told c =
+pub returns-clause-condemned : goal.returns-clause-condemned
+returns-clause-condemned c =
     let f = c.args.self.now in
     let s = c.args.broom.now in
     let can = can_condemn f s c.requires.broom c.args.block c.args.expected c.requires.rested c.requires.block c.requires.expected in

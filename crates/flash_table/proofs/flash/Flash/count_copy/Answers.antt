@@ -43,8 +43,8 @@ invariant_of-broom c =
       owns = just_now _ _ _ (ap (λ (w : View). w.owns) changed) (counted_just (own_blocks s) (broom_view s).owns s.owns o e c.in-Some.is refl);
     }
 
-pub returns-clause-told : goal.returns-clause-told
-returns-clause-told c o x is can =
+pub returns-clause-counted : goal.returns-clause-counted
+returns-clause-counted c o x is can =
     let f = c.args.self.now in
     let s = c.args.broom.now in
     let same = same_block c.in-Some.opened o (own_blocks s).destination c.in-Some.is is in

@@ -44,8 +44,8 @@ invariant_of-broom c =
       owns = just_now _ _ _ (ap (λ (w : View). w.owns) changed) (drained_just (own_blocks s) (broom_view s).owns s.owns o c.in-Draining.is);
     }
 
-pub returns-clause-told : goal.returns-clause-told
-returns-clause-told c e is =
+pub returns-clause-drained : goal.returns-clause-drained
+returns-clause-drained c e is =
     let f = c.args.self.now in
     let s = c.args.broom.now in
     let o = c.in-Draining.victim in

@@ -39,8 +39,8 @@ invariant_of-broom c =
       owns = just_now _ _ _ (ap (λ (w : View). w.owns) changed) (erased_just (own_blocks s) (broom_view s).owns s.owns o c.in-Erasing.is);
     }
 
-pub returns-clause-told : goal.returns-clause-told
-returns-clause-told c x is =
+pub returns-clause-freed : goal.returns-clause-freed
+returns-clause-freed c x is =
     let f = c.args.self.now in
     let s = c.args.broom.now in
     let o = c.in-Erasing.erased in

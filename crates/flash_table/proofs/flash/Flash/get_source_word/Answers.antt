@@ -31,8 +31,8 @@ invariant_of-broom c =
     let s = c.args.broom.now in
     record { bare = ap (λ (m : Sitter). m.1) c.load.ensures.2.0 ∙ s.bare; owns = just_now _ _ _ (ap (λ (m : Sitter). m.0.owns) c.load.ensures.2.0) s.owns }
 
-pub returns-clause-told : goal.returns-clause-told
-returns-clause-told c x value is live =
+pub returns-clause-value : goal.returns-clause-value
+returns-clause-value c x value is live =
     let f = c.args.self.now in
     let s = c.args.broom.now in
     let t = c.requires.source in

@@ -57,8 +57,8 @@ invariant_of-broom c =
     let changed = stamp_changed _ _ _ _ told in
     record { bare = c.load.ensures.2.0 ∙ s.bare; owns = just_now _ _ _ (ap (λ (w : View). w.owns) changed) s.owns }
 
-pub returns-clause-told : goal.returns-clause-told
-returns-clause-told c e is =
+pub returns-clause-stamp : goal.returns-clause-stamp
+returns-clause-stamp c e is =
     let f = c.args.self.now in
     let s = c.args.broom.now in
     let o = c.in-Draining.victim in

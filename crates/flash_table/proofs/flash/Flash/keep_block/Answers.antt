@@ -46,8 +46,8 @@ invariant_of-broom c =
           (kept_just (own_blocks s) (broom_view s).owns s.owns o e c.in-Erasing.is c.requires.no_spare refl);
     }
 
-pub returns-clause-told : goal.returns-clause-told
-returns-clause-told c x is =
+pub returns-clause-kept : goal.returns-clause-kept
+returns-clause-kept c x is =
     let f = c.args.self.now in
     let s = c.args.broom.now in
     let o = c.in-Erasing.erased in

@@ -33,8 +33,8 @@ invariant_of-broom c =
     c.pack-new.ensures c.compare_exchange-found.ensures.2 in
     record { bare = c.compare_exchange-found.ensures.2.0 ∙ s.bare; owns = just_now _ _ _ (ap (λ (w : View). w.owns) told.changed) s.owns }
 
-pub returns-clause-told : goal.returns-clause-told
-returns-clause-told c x is =
+pub returns-clause-moved : goal.returns-clause-moved
+returns-clause-moved c x is =
     let f = c.args.self.now in
     let s = c.args.broom.now in
     let t = c.requires.live in

@@ -43,8 +43,8 @@ invariant_of-broom c =
     (c.args.start + c.args.i) c.args.i c.args.word t.0 t.2 t.3 at c.store.ensures.2 in
     record { bare = c.store.ensures.2.0 ∙ s.bare; owns = just_now _ _ _ (ap (λ (w : View). w.owns) changed) s.owns }
 
-pub returns-clause-told : goal.returns-clause-told
-returns-clause-told c o is =
+pub returns-clause-put : goal.returns-clause-put
+returns-clause-put c o is =
     let f = c.args.self.now in
     let s = c.args.broom.now in
     let t = put_can f s c.requires.broom o is c.args.i c.requires.next in

@@ -43,8 +43,8 @@ invariant_of-broom-in-None c =
     c.pin_at-word.result c.args.block c.requires.block c.pin_at-word.ensures c.fetch_or-found.ensures.2 c.in-None.ensures.none in
     record { bare = c.fetch_or-found.ensures.2.0 ∙ s.bare; owns = just_now _ _ _ (ap (λ (w : View). w.owns) changed) s.owns }
 
-pub returns-in-Some-clause-told : goal.returns-in-Some-clause-told
-returns-in-Some-clause-told c =
+pub returns-in-Some-clause-spare : goal.returns-in-Some-clause-spare
+returns-in-Some-clause-spare c =
     let f = c.args.self.now in
     let s = c.args.broom.now in
     let taken = spare_taken f s c.requires.broom f.table.shared.table_id.slots c.fetch_or-found.result c.fetch_or-found.new.seat.me
@@ -59,8 +59,8 @@ returns-in-Some-clause-broom c =
     c.pin_at-word.result c.args.block c.requires.block c.pin_at-word.ensures c.fetch_or-found.ensures.2 c.in-Some.generation c.in-Some.ensures.some in
     stays_broom f s _ c.requires.broom c.fetch_or-found.ensures.0 (ap (λ (w : View). w.role) taken.changed) (ap (λ (w : View). w.numbers) taken.changed)
 
-pub returns-in-None-clause-told : goal.returns-in-None-clause-told
-returns-in-None-clause-told c =
+pub returns-in-None-clause-spare : goal.returns-in-None-clause-spare
+returns-in-None-clause-spare c =
     let f = c.args.self.now in
     let s = c.args.broom.now in
     record {

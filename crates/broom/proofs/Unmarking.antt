@@ -1,0 +1,32 @@
+-- A broom that unmarks a block, loads its state and rests again is ready as before.
+use Rattle.std.proofs.Common.{◌≡◌, ℕ, ◌<◌, Bool, false, List, [], ◌∷◌, ◌++◌, length, set, sym, ap, ◌∙◌, subst, arith, length-set}
+use Rattle.geometry.specs.Geometry.{blocks_of}
+use Rattle.geometry.specs.declared.pin_word.PinWord.{PinWord}
+use Rattle.flash_table.specs.declared.flash.Flash.{Flash}
+use Rattle.flash_table.specs.Flash.{geometry_of, device}
+use Rattle.broom.specs.declared.broom.Broom.{Broom}
+use Rattle.broom.specs.declared.ranking.Ranking.{Ranking}
+use Rattle.broom.specs.Ready.{AreMarked, IsReady, IsRested, view_of_broom}
+use Rattle.broom.specs.Ranking.{Ranks}
+use Rattle.broom.proofs.Marking.{marks_after, still_marked}
+use Rattle.broom.proofs.Ranks.{ranks_fewer}
+
+pub ready_unmarked : (f : Flash) (r after : Broom) (b n : ℕ) → IsReady f r → b < blocks_of (geometry_of f) → IsRested f after.seat
+    → after ≡ record r { seat = after.seat; closed = after.closed } → after.closed.items ≡ set r.closed.items b false
+    → (view_of_broom after).loaded ≡ (view_of_broom r).loaded ++ (b, n) ∷ [] → IsReady f after
+ready_unmarked f r after b n h block rested kept marks loaded =
+    let low : b < length r.closed.items = let long = h.closed in omega arith in
+    let fewer : List Bool = set r.closed.items b false in
+    let long : length fewer ≡ length r.closed.items = length-set r.closed.items b false in
+    let P : List PinWord × List Bool → Type 0 = λ x. AreMarked (device f) (view_of_broom after) x.0 x.1 in
+    let Q : List ℕ × List Bool × Ranking → Type 0 = λ x. Ranks x.0 x.1 x.2 in
+    record {
+      rested = rested;
+      states = ap (λ (x : Broom). length x.states.items) kept ∙ h.states;
+      counts = ap (λ (x : Broom). length x.counts.items) kept ∙ h.counts;
+      closed = ap (length {A = Bool}) marks ∙ (long ∙ h.closed);
+      marks = subst P (λ i. ((sym kept i).states.items, sym marks i))
+          (marks_after (device f) r.states.items (view_of_broom r) (view_of_broom after) r.closed.items b n low loaded h.marks);
+      ranking = subst Q (λ i. ((sym kept i).counts.items, sym marks i, (sym kept i).ranking))
+          (ranks_fewer r.counts.items r.closed.items fewer r.ranking long (still_marked r.closed.items b low) h.ranking);
+    }
