@@ -1,17 +1,15 @@
 -- Steps on page words: put and get.
-use Rattle.flash_rule.proofs.Words.{◌≡◌, ◌≢◌, ℕ, zero, suc, ◌*◌, ◌<◌, ◌≤◌, inl, inr, ⊎_elim, eq-eqb, ne_eqb, true, false, List, [], ◌∷◌, ◌++◌, Option}
-use Rattle.flash_rule.proofs.Words.{None, Some, length, set, sym, refl, ap, ◌∙◌, subst, arith, length-append, get_or, some, dite, ℕ_discrete}
-use Rattle.flash_rule.proofs.Words.{get_elem?, Numbers, MapWord, Open, Erasing, Pin, Owned, Pass, Broom, Role, Dealer, Player, Note, Gone, Clear}
-use Rattle.flash_rule.proofs.Words.{Accepted, Work, Carried, View, is_pass, is_player, owned_at, World, put_word, is_still, age_of, data_word}
-use Rattle.flash_rule.proofs.Words.{IsFilling, LawfulOwned, LawfulWork, LawfulView, Lawful, LawfulPin, Onward, next_page, words_in, ◌+◌}
+use Rattle.flash_rule.proofs.Words.{◌≡◌, ◌≢◌, ℕ, zero, suc, ◌*◌, ◌<◌, ◌≤◌, inl, inr, ⊎_elim, eq-eqb, ne_eqb, true, false, List, [], ◌∷◌, ◌++◌, Option, None}
+use Rattle.flash_rule.proofs.Words.{Some, length, set, sym, refl, ap, ◌∙◌, subst, arith, length-append, get_or, some, dite, ℕ_discrete, get_elem?, Numbers}
+use Rattle.flash_rule.proofs.Words.{MapWord, Open, Erasing, Pin, Owned, Pass, Broom, Role, Dealer, Player, Note, Gone, Clear, Accepted, Work, Carried, View}
+use Rattle.flash_rule.proofs.Words.{is_pass, is_player, owned_at, World, put_word, is_still, age_of, data_word, IsFilling, LawfulOwned, LawfulWork, LawfulView}
+use Rattle.flash_rule.proofs.Words.{Lawful, LawfulPin, Onward, next_page, words_in, ◌+◌}
 use Rattle.flash_rule.specs.Plays.{SettledBut, Spared}
 use Rattle.flash_rule.proofs.Points.{eq_self}
-use Rattle.flash_rule.proofs.Owning.{some_same, blocks_apart, open_victim}
-use Rattle.flash_rule.proofs.Frames.{counted, knowledge_kept}
-use Rattle.flash_rule.proofs.Assembly.{assembled, block_kept, sector_kept}
+use Rattle.flash_rule.proofs.Owning.{some_same, blocks_apart, open_victim, holding_with, kind_with, knowledge_as, owned_with, source_with}
+use Rattle.flash_rule.proofs.Frames.{counted, knowledge_kept, assembled, block_kept, sector_kept}
 use Rattle.flash_rule.proofs.Ceding.{ceded_still}
 use Rattle.flash_rule.proofs.Still.{pass_of, intact_age, met, programs_once, onward_of}
-use Rattle.flash_rule.proofs.Keeping.{holding_with, kind_with, knowledge_as, owned_with, source_with}
 
 pub word_here : (f : ℕ → ℕ → ℕ → ℕ) (b p i x : ℕ) → put_word f b p i x b p i ≡ x
 word_here f b p i x = rw (eq_self b) (rw (eq_self p) (rw (eq_self i) refl))
@@ -132,8 +130,6 @@ module _ (z : Numbers) (g : World) (vs : List View) (id : ℕ) (v : View) (o : O
       let h = law.views id v at in
       let b = o.block in
       let g' = put_world in
-      let kind = h.kind in
-      let holds = h.holding in
       let mine = entry in
       let on : Onward z g g' id id = onward_of z g id id g.map g'.pages g.badge g.carries
       (λ c other q j. else_block c q j (λ same. other (ap g.owner same ∙ mine.owner)))
@@ -143,24 +139,24 @@ module _ (z : Numbers) (g : World) (vs : List View) (id : ℕ) (v : View) (o : O
       let s = settled f.work e f.is (subst (λ c. owned_at c v.owns ≡ Some e) (sym f.block) owns) (λ same. unlike (sym f.block ∙ same)) in
       let l = f.page in absurd (omega arith) in
       let after : LawfulView z g' id putter = record {
-        kind = kind_with kind refl kind.opens
+        kind = kind_with h.kind refl h.kind.opens
             (λ is. let no : true ≡ false = sym player ∙ is in absurd (cc))
-            kind.owns_none kind.reclaims;
+            h.kind.owns_none h.kind.reclaims;
         knowledge = knowledge_as knows refl;
-        holding = holding_with holds refl refl holds.calls holds.lists
+        holding = holding_with h.holding refl refl h.holding.calls h.holding.lists
             (λ c e owns. dite (ℕ_discrete c b)
             (λ same.
             let same_entry : o ≡ e = some_same o e (sym own ∙ subst (λ c. owned_at c v.owns ≡ Some e) same owns) in
             subst (λ (y : ℕ × Owned). LawfulOwned z g' id (Some put_work) v.cleared v.wiped y.0 y.1) (λ t. (sym same t, same_entry t)) put_block)
             (λ unlike.
-            let k = holds.owned c e owns in
+            let k = h.holding.owned c e owns in
             owned_with k refl refl
             (λ is q from below _ j most. else_block c q j unlike ∙ k.rest is q from below (λ f. not_filling c q e owns unlike from f) j most)
             k.dead
             (λ is q j low most below. else_block c q j unlike ∙ k.clean is q j low most below)))
             (λ y is. subst (λ (y : Work). LawfulWork z g' v.owns y) (some_same put_work y is) (put_lawful room short))
             (λ y is.
-            let k = holds.source y is in
+            let k = h.holding.source y is in
             let unlike = blocks_apart v.owns o k.entry y.page.block own k.own (open_victim o k.entry opened k.victim) in
             source_with k k.own refl (λ j. else_block y.page.block y.page.page j unlike));
       } in

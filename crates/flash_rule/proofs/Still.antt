@@ -1,18 +1,15 @@
 -- A step that changes no word: the looks of a pass.
-use Rattle.flash_rule.proofs.Words.{◌⊎◌, ◌≡◌, ◌≢◌, ℕ, zero, suc, ◌*◌, ◌+◌, ◌<◌, ◌≤◌, inl, true, false, List, [], ◌∷◌, Option, None, Some, length, set}
-use Rattle.flash_rule.proofs.Words.{sym, refl, ap, ◌∙◌, subst, arith, length-set, suc-mul, get_or, get_or-set_same, get_or-set_other, some, dite}
-use Rattle.flash_rule.proofs.Words.{ℕ_discrete, get_elem?, Begins, held, Numbers, Begins-refl, map_word, FitsMap, MapWord, PinWord, Phase, Free, Open}
-use Rattle.flash_rule.proofs.Words.{Closed, Victim, Drained, Erasing, Retired, Name, Pass, Broom, Role, Dealer, Player, Note, Gone, Pin, Clear}
-use Rattle.flash_rule.proofs.Words.{Candidate, Accepted, Stray, Cycle, Carried, View, one_if, is_pass, is_live_role, pin_is_on, pins_on, weight}
-use Rattle.flash_rule.proofs.Words.{owned_at, AreOfHosts, calls_of, sum_of, World, is_intact, is_nameable, age_of, half_cycle, IsCurrent, Programs}
-use Rattle.flash_rule.proofs.Words.{Erases, LawfulKind, LawfulKnowledge, LawfulPin, LawfulView, LawfulCopy, Lawful, IsValue, PinOnward, Onward}
-use Rattle.flash_rule.proofs.Words.{Looked, Met, is_unpinned}
+use Rattle.flash_rule.proofs.Words.{◌⊎◌, ◌≡◌, ◌≢◌, ℕ, zero, suc, ◌*◌, ◌+◌, ◌<◌, ◌≤◌, inl, true, false, List, [], ◌∷◌, Option, None, Some, length, set, sym}
+use Rattle.flash_rule.proofs.Words.{refl, ap, ◌∙◌, subst, arith, length-set, suc-mul, get_or, get_or-set_same, get_or-set_other, some, dite, ℕ_discrete}
+use Rattle.flash_rule.proofs.Words.{get_elem?, Begins, held, Numbers, Begins-refl, map_word, FitsMap, MapWord, PinWord, Phase, Free, Open, Closed, Victim}
+use Rattle.flash_rule.proofs.Words.{Drained, Erasing, Retired, Name, Pass, Broom, Role, Dealer, Player, Note, Gone, Pin, Clear, Candidate, Accepted, Stray}
+use Rattle.flash_rule.proofs.Words.{Cycle, Carried, View, one_if, is_pass, is_live_role, pin_is_on, pins_on, weight, owned_at, AreOfHosts, calls_of, sum_of}
+use Rattle.flash_rule.proofs.Words.{World, is_intact, is_nameable, age_of, half_cycle, IsCurrent, Programs, Erases, LawfulKind, LawfulKnowledge, LawfulPin}
+use Rattle.flash_rule.proofs.Words.{LawfulView, LawfulCopy, Lawful, IsValue, PinOnward, Onward, Looked, Met, is_unpinned}
 use Rattle.flash_rule.specs.Plays.{Disjoint, Once}
-use Rattle.flash_rule.proofs.Frames.{lists_stay}
-use Rattle.flash_rule.proofs.Assembly.{assembled, block_kept}
+use Rattle.flash_rule.proofs.Frames.{lists_stay, assembled, block_kept}
 use Rattle.flash_rule.proofs.Ceding.{ceded_still}
-use Rattle.flash_rule.proofs.Owning.{some_same}
-use Rattle.flash_rule.proofs.Keeping.{holding_with, knowledge_with}
+use Rattle.flash_rule.proofs.Owning.{some_same, holding_with, knowledge_with}
 
 pub pin_stays : (p : PinWord) → PinOnward p p
 pin_stays p = record {
@@ -218,23 +215,21 @@ module _ (z : Numbers) (g : World) (vs : List View) (id : ℕ) (v : View) (s : �
   looking_lawful pin known free lawful long ages =
       let h = law.views id v at in
       let w : View = looking pin known in
-      let kind = h.kind in
-      let knows = h.knowledge in
       let holds = h.holding in
       still z g vs id v w law at
       (record {
         kind = record {
-          numbers = kind.numbers;
-          host = kind.host;
+          numbers = h.kind.numbers;
+          host = h.kind.host;
           known = λ _. long;
-          opens = kind.opens;
+          opens = h.kind.opens;
           unpinned = λ not. let no : true ≡ false =
               sym pass ∙ not in absurd (cc);
-          idle = kind.idle;
-          owns_none = kind.owns_none;
-          reclaims = kind.reclaims;
+          idle = h.kind.idle;
+          owns_none = h.kind.owns_none;
+          reclaims = h.kind.reclaims;
         };
-        knowledge = knowledge_with w knows refl (Begins-refl g.history) lawful ages knows.programs knows.erases;
+        knowledge = knowledge_with w h.knowledge refl (Begins-refl g.history) lawful ages h.knowledge.programs h.knowledge.erases;
         holding = holding_with holds refl refl (λ t is. let c = (holds.calls t is).0 in (c, c)) holds.lists holds.owned holds.work holds.source;
       })
       (λ b. no_pin pin free b ∙ sym (no_pin v.pin unpinned b)) refl refl refl refl refl
