@@ -6,7 +6,7 @@ use Rattle.flash_rule.proofs.Words.{Onward, Ruled, spare, spares, List, Lawful, 
 use Rattle.atomic_table.proofs.Lists.{at_last}
 use Rattle.flash_rule.specs.Seats.{next_spare, new_broom, dealt_broom}
 use Rattle.flash_rule.proofs.Points.{put_here, put_else, eq_self}
-use Rattle.flash_rule.proofs.Owning.{none_some, with_here, without_else, each_with, each_without, owned_else, one_with_open, one_without, kind_with}
+use Rattle.flash_rule.proofs.Owning.{none_some, with_here, without_else, each_with, each_without, owned_else, one_without, kind_with}
 use Rattle.flash_rule.proofs.Owning.{knowledge_as}
 use Rattle.flash_rule.proofs.Ceding.{ceded_split}
 use Rattle.flash_rule.proofs.Frames.{counted, knowledge_kept, owner_kept}

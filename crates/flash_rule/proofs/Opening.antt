@@ -1,8 +1,8 @@
 -- The table at the start meets the rule.
 use Rattle.flash_rule.proofs.Words.{◌≡◌, ℕ, zero, suc, ◌*◌, ◌+◌, ◌-◌, ◌<◌, ◌≤◌, inl, eq-eqb, ne_eqb, true, false, List, [], ◌∷◌, ◌++◌, None, Some, length}
 use Rattle.flash_rule.proofs.Words.{replicate, slice_get, sym, refl, ap, ◌∙◌, subst, arith, length-append, length-replicate, All-nil, get_or, if◌then◌else◌}
-use Rattle.flash_rule.proofs.Words.{some, some-injective, some-ne-none, dite, ℕ_discrete, dec_lt, get_elem?, Begins-refl, Numbers, pin_index, page_index}
-use Rattle.flash_rule.proofs.Words.{PinWord, Free, Open, Owned, View, owned_at, caller, World, Fits, is_owned, is_reclaimed, blank_word, IsCededBy, drained_of}
+use Rattle.flash_rule.proofs.Words.{some, some-injective, some-ne-none, dite, ℕ_discrete, dec_lt, get_elem?, Numbers, pin_index, page_index}
+use Rattle.flash_rule.proofs.Words.{PinWord, Free, Open, Owned, View, owned_at, caller, World, Fits, is_owned, blank_word, IsCededBy, drained_of}
 use Rattle.flash_rule.proofs.Words.{LawfulCeded, LawfulBlock, LawfulOwned, LawfulView, Lawful, Ruled, spare, spares, Dealer}
 use Rattle.std.specs.Prelude.{nat_lt}
 use Rattle.atomic_table.specs.Table.{opening}

@@ -8,8 +8,8 @@ use Rattle.flash_rule.proofs.Words.{⊎_elim, None, length, slice_get, Begins, C
 use Rattle.flash_rule.proofs.Words.{next_page, Source, LawfulSource, ReclaimsOne}
 use Rattle.flash_rule.proofs.Points.{player_may_own, put_here, put_else, put_all, total_set, player_same, idle_or_player, may_own_else, name_here, name_else}
 use Rattle.flash_rule.proofs.Points.{name_all}
-use Rattle.flash_rule.proofs.Owning.{with_here, with_else, each_with, owned_else, one_with_open, holding_with, kind_as, kind_with, knowledge_as, source_with}
-use Rattle.flash_rule.proofs.Owning.{work_with, owns_none_else, some_same, none_some, without_else, each_without, one_without, get_last, put3, put3_here}
+use Rattle.flash_rule.proofs.Owning.{with_here, with_else, owned_else, one_with_open, holding_with, kind_as, kind_with, knowledge_as, source_with}
+use Rattle.flash_rule.proofs.Owning.{work_with, owns_none_else, some_same, none_some, without_else, one_without, get_last, put3, put3_here}
 use Rattle.flash_rule.proofs.Owning.{put3_else, blocks_apart, open_victim, knowledge_with, owned_with, entry_gone, entry_set}
 use Rattle.flash_rule.proofs.Frames.{counted, knowledge_kept, lists_stay, assembled, block_kept, named_kept}
 use Rattle.flash_rule.proofs.Ceding.{ceded_owned, ceded_last}

@@ -33,6 +33,18 @@ get_end [] y (suc k) is = absurd (omega arith)
 get_end (x ∷ xs) y zero is = absurd (omega arith)
 get_end (x ∷ xs) y (suc k) is = get_end xs y k (omega arith)
 
+-- a block whose work is counted has no words in its next page
+pub words_none : (d : Option Work) (o : Owned) → ((x : Work) → d ≡ Some x → x.page.block ≡ o.block → x.page.page < o.written) → words_in d o ≡ []
+words_none None o counted = refl
+words_none (Some x) o counted =
+    dite (ℕ_discrete x.page.block o.block)
+    (λ here. let low = counted x refl here in
+    let other : x.page.page ≢ o.written = omega arith in rw (eq-eqb x.page.block o.block here) (rw (ne_eqb x.page.page o.written other) refl))
+    (λ else. rw (ne_eqb x.page.block o.block else) refl)
+
+pub words_here : (o : Owned) (words : List ℕ) → words_in (Some (record { page = next_page o; words = words })) o ≡ words
+words_here o words = rw (eq_self o.block) (rw (eq_self o.written) refl)
+
 -- the words put so far into the next page stand in it
 words_stand : (z : Numbers) (g : World) (owns : List Owned) (doing : Option Work) (o : Owned) → ((w : Work) → doing ≡ Some w → LawfulWork z g owns w)
     → (j : ℕ) → j < length (words_in doing o)

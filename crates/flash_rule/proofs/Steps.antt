@@ -3,8 +3,8 @@ use Rattle.flash_rule.proofs.Words.{◌≡◌, ℕ, ◌+◌, ◌%◌, ◌^◌, �
 use Rattle.flash_rule.proofs.Words.{sym, refl, ap, ◌∙◌, subst, arith, get_or, some, none, get_elem?, Act, Valid, step, keeps, stepped, carried_after, Allows}
 use Rattle.flash_rule.proofs.Words.{set_again, dite, ℕ_discrete, either, Call, Write, WriteNew, Trim, Numbers, map_word, FitsMap, pin_word, pin_index}
 use Rattle.flash_rule.proofs.Words.{page_index, MapWord, PinWord, Free, Open, Closed, TAKEN, NEXT_PHASE, PAGE_WRITTEN, Owned, Accepted, Work, View, is_pass}
-use Rattle.flash_rule.proofs.Words.{is_player, owned_at, without, with_owned, World, Fits, is_owned, sector_word, Lawful, Ruled, Sitter, Looked, Placed, Took}
-use Rattle.flash_rule.proofs.Words.{CanPlace, CanCount, CanClose, words_in, next_page, take_told, count_told, close_told, is_unpinned, map_same}
+use Rattle.flash_rule.proofs.Words.{is_player, owned_at, without, with_owned, World, is_owned, sector_word, Lawful, Ruled, Sitter, Looked, Placed, Took}
+use Rattle.flash_rule.proofs.Words.{CanPlace, CanCount, CanClose, words_in, next_page, take_told, count_told, close_told, is_unpinned}
 use Rattle.std.specs.Int.Bits.{bit_or}
 use Rattle.geometry.specs.Sectors.{was_of}
 use Rattle.geometry.specs.declared.answer.Was.{Was}
@@ -13,12 +13,12 @@ use Rattle.geometry.specs.declared.map_word.TheConstants.{UNMAPPED}
 use Rattle.flash_rule.specs.Plays.{CanPut, look_told, write_told, new_told, trim_told, put_told, get_told, Called}
 use Rattle.geometry.proofs.PinBits.{next_phase, counts, takes_free, takes_taken}
 use Rattle.flash_rule.proofs.Points.{player_live, phase_or_not}
-use Rattle.flash_rule.proofs.Places.{fits_load, fits_map, fits_page, page_within, page_same}
+use Rattle.flash_rule.proofs.Places.{fits_page, page_within, page_same}
 use Rattle.flash_rule.proofs.Owning.{some_same}
 use Rattle.flash_rule.proofs.Frames.{state_fits}
 use Rattle.flash_rule.proofs.Still.{look_empty, look_named, pass_of}
 use Rattle.flash_rule.proofs.OwnSteps.{deeds, takes, denied, taken_state, taker, counts_page, closes, worker, own_low, is_open, counter, count_deeds}
-use Rattle.flash_rule.proofs.OwnSteps.{counted_state, closer, closed_state}
+use Rattle.flash_rule.proofs.OwnSteps.{counted_state, closed_state}
 use Rattle.flash_rule.proofs.Ruling.{Does, does, ruled_kept, ruled_map, ruled_as, ruled_plus, ruled_still, same_block, same_owned, owner_adds}
 use Rattle.flash_rule.proofs.PageSteps.{puts_word, putter, put_world, gets_accepted, spared}
 use Rattle.flash_rule.proofs.MapSteps.{placed, placer, place_world, pass_same, word_empty, word_named, trims, writes, writes_new, leaves}
@@ -105,10 +105,12 @@ module _ (z : Numbers) (slots id : ℕ) (me : Sitter) where
       → Does z id me t s new (new_told (step slots s UNMAPPED word none) me n) = λ x now lawful.
       let w : View = placer z g t.views id me.0 is.0 s (WriteNew is.0 s value) x law at is.1 refl in
       does z id me t s new (new_told (step slots s UNMAPPED word none) me n) w
-      (ruled_map z id me t g fits s x (g.history ++ WriteNew is.0 s value ∷ []) w new low now lawful)
-      (refl, λ u m' value' role _ second fitting' can'.
-      subst (λ (y : ℕ × List ℕ). Placed me.0 (WriteNew y.0 s y.1) s n w) (λ i. (pass_same is.0 u (sym is.1 ∙ role) i, one_value can can' i))
-      (placed z g t.views id me.0 is.0 s (WriteNew is.0 s value) x law at is.1 refl (law.sectors s low) n found)) in
+      (ruled_map z id me t g fits s x (g.history ++ WriteNew is.0 s value ∷ []) w new low now lawful) (
+        refl,
+        λ u m' value' role _ second fitting' can'.
+            subst (λ (y : ℕ × List ℕ). Placed me.0 (WriteNew y.0 s y.1) s n w) (λ i. (pass_same is.0 u (sym is.1 ∙ role) i, one_value can can' i))
+            (placed z g t.views id me.0 is.0 s (WriteNew is.0 s value) x law at is.1 refl (law.sectors s low) n found),
+      ) in
       dite (ℕ_discrete n UNMAPPED)
       (λ empty. answer (Some m) (ap (λ b. either b word n) (eq-eqb n UNMAPPED empty) ∙ packed)
       (writes_new z g t.views id me.0 is.0 s law at is.1 low m value (word_empty (g.map s) (sym found ∙ empty)) can))

@@ -52,4 +52,3 @@ pub use Rattle.geometry.specs.declared.pin_word.TheConstants.{NEXT_PHASE, PAGE_W
 pub use Rattle.flash_rule.specs.Forced.{Forces, SitsAt}
 pub use Rattle.flash_rule.specs.declared.facts.Pin.{Pin}
 pub use Rattle.std.proofs.lemmas.List.Elements.{All-nil}
-
