@@ -13,7 +13,7 @@ use Rattle.flash_rule.proofs.Owning.{work_with, owns_none_else, some_same, none_
 use Rattle.flash_rule.proofs.Owning.{put3_else, blocks_apart, open_victim, knowledge_with, owned_with, entry_gone, entry_set}
 use Rattle.flash_rule.proofs.Frames.{counted, knowledge_kept, lists_stay, assembled, block_kept, named_kept}
 use Rattle.flash_rule.proofs.Ceding.{ceded_owned, ceded_last}
-use Rattle.flash_rule.proofs.Still.{pin_stays, still}
+use Rattle.flash_rule.proofs.Still.{stays_onward, pin_stays, still}
 use Rattle.std.proofs.lemmas.List.{append-nil}
 use Rattle.flash_rule.specs.Plays.{IsSettled}
 pub use Rattle.flash_rule.proofs.Points.{player_of}
@@ -212,26 +212,47 @@ pub record IsOwning (z : Numbers) (g' : World) (id : ℕ) (v w : View) (b : ℕ)
   pub owns_none : may_own v.role ≡ false → w.owns ≡ []
   pub reclaims : ReclaimsOne w.owns
 
--- The state q of the block b, and what its seat has then, fit together: the new state is onward of the old one, which is nobody else's; what
--- a map word names of the block it may still name; what is being filled elsewhere stays so, and no more is cleared or wiped than was
-pub record IsTurn (z : Numbers) (g : World) (id : ℕ) (v w : View) (b : ℕ) (q : PinWord) (d : Deeds) : Type 0 where
-  pub onward : PinOnward (g.pins b) q
-  pub alone : g.owner b ≢ id → ¬ (is_owned (g.pins b).phase ≡ true)
-  pub readers : q.readers ≡ (g.pins b).readers
+-- The state q that comes after p has its readers, and its numbers are in range
+pub record IsState (z : Numbers) (p q : PinWord) : Type 0 where
+  pub readers : q.readers ≡ p.readers
   pub written : q.written ≤ z.pages
   pub generation : q.generation < z.endurance
   pub free : q.phase ≡ Free → q.written ≡ 0
+
+-- What is being filled elsewhere stays so, and no more is cleared or wiped than was
+pub record IsNoMore (v w : View) : Type 0 where
+  pub filling : (c : ℕ) (e : Owned) → owned_at c v.owns ≡ Some e → (p : ℕ) → e.written ≤ p → IsFilling v.work c p → IsFilling w.work c p
+  pub cleared : w.cleared ≤ v.cleared
+  pub wiped : w.wiped ≤ v.wiped
+
+-- The state q of the block b, and what its seat has then, fit together: the new state is onward of the old one, which is nobody else's, and what
+-- a map word names of the block it may still name
+pub record IsTurn (z : Numbers) (g : World) (id : ℕ) (v w : View) (b : ℕ) (q : PinWord) (d : Deeds) : Type 0 where
+  pub onward : PinOnward (g.pins b) q
+  pub alone : g.owner b ≢ id → ¬ (is_owned (g.pins b).phase ≡ true)
+  pub state : IsState z (g.pins b) q
   pub rest : is_still q.phase ≡ true → (p : ℕ) → q.written ≤ p → p < z.pages → IsBlank z (g.pages b p)
   pub owner : is_owned q.phase ≡ true → (e : Owned) × (owned_at b w.owns ≡ Some e)
   pub named : (s : ℕ) (m : MapWord) → s < z.sectors → g.map s ≡ Some m → m.block ≡ b → IsCurrent z g s m
       → (q.generation ≡ (g.pins b).generation) × (is_nameable q.phase ≡ true) × ((g.pins b).written ≤ q.written)
   pub listing : IsListed z g (turned g b q id d) id v w
   pub owning : IsOwning z (turned g b q id d) id v w b
-  pub filling : (c : ℕ) (e : Owned) → owned_at c v.owns ≡ Some e → (p : ℕ) → e.written ≤ p → IsFilling v.work c p → IsFilling w.work c p
-  pub cleared : w.cleared ≤ v.cleared
-  pub wiped : w.wiped ≤ v.wiped
+  pub no_more : IsNoMore v w
   pub work : (x : Work) → w.work ≡ Some x → LawfulWork z (turned g b q id d) w.owns x
   pub source : (x : Source) → v.source ≡ Some x → LawfulSource z g v.owns v.cleared x → (x.page.block ≢ b) × (w.cleared ≡ v.cleared)
+
+-- a turn by which only the phase changes
+pub phase_onward : (p : PinWord) (f : Phase) → half_cycle p.phase ≤ half_cycle f → (0 < p.readers → is_intact p.phase ≡ true → is_intact f ≡ true)
+    → (is_intact f ≡ true → ¬ (p.phase ≡ Free) → is_intact p.phase ≡ true) → ¬ (f ≡ Free) → PinOnward p (record p { phase = f })
+phase_onward p f ages held was taken =
+    record {
+      generation = omega arith;
+      age = omega arith;
+      written = λ _. omega arith;
+      held = λ some is. (refl, held some is);
+      was = λ _ is not. was is not;
+      free = λ _ is. absurd (taken is);
+    }
 
 -- a turn by which nothing is programmed or erased
 pub none_listed : (z : Numbers) (g : World) (id : ℕ) (v w : View) (b : ℕ) (q : PinWord) → LawfulKind z v → (is_player v.role ≡ false → w.work ≡ None)
@@ -308,10 +329,10 @@ module _ (z : Numbers) (g : World) (vs : List View) (id : ℕ) (v w : View) (b :
       let knows = knowledge_kept z g g' id id on v (λ c is below. counted vs law id v at c is below) h.knowledge in
       let elsewhere : (c : ℕ) (e : Owned) → c ≢ b → owned_at c v.owns ≡ Some e → LawfulOwned z g' id w.work w.cleared w.wiped c e = λ c e unlike has.
       let k = holds.owned c e has in
-      let fewer = t.cleared in
-      let less = t.wiped in
+      let fewer = t.no_more.cleared in
+      let less = t.no_more.wiped in
       owned_else z g g' id v.work w.work w.cleared w.wiped c e (put_else g.pins b q c unlike) (put_else g.owner b id c unlike) (λ p i. refl)
-      (λ s m is _. inl is) (t.filling c e has)
+      (λ s m is _. inl is) (t.no_more.filling c e has)
       (owned_with k refl refl k.rest (λ victim p s below. k.dead victim p s (omega arith))
       (λ erasing p i below most under. k.clean erasing p i below most (omega arith))) in
       let own : LawfulView z g' id turner = record {
@@ -333,7 +354,7 @@ module _ (z : Numbers) (g : World) (vs : List View) (id : ℕ) (v w : View) (b :
             source_with k (t.owning.there x.page.block s.0 ∙ k.own) s.1 (λ _. refl));
       } in
       pin_turned z g vs id v turner b q id d law at on own t.named
-      (block_turned z g vs id v turner b q id d law at low (ap (λ n. n + pins_on b v) t.readers) t.written t.generation t.free t.rest
+      (block_turned z g vs id v turner b q id d law at low (ap (λ n. n + pins_on b v) t.state.readers) t.state.written t.state.generation t.state.free t.rest
       (λ is. let e = t.owner is in (turner, e.0, seat_set vs id v turner at, e.1)))
       (λ c _. refl) (λ c unlike e is. (e, t.owning.there c unlike ∙ is)) refl given
 
@@ -367,19 +388,10 @@ module _ (z : Numbers) (g : World) (vs : List View) (id : ℕ) (v : View) (b : �
       (ceded_owned z g.pins vs id v taker law.ceded at refl b taken_state refl refl refl
       (inr (refl, (let e : rank (g.pins b).phase ≡ 0 = ap rank free in omega arith), omega arith)))
       (record {
-        onward = record {
-          generation = omega arith;
-          age = (let e : half_cycle (g.pins b).phase ≡ 0 = ap half_cycle free in omega arith);
-          written = λ _. omega arith;
-          held = λ _ intact. let no : true ≡ false = sym intact ∙ ap is_intact free in absurd (cc);
-          was = λ _ _ not. absurd (not free);
-          free = λ _ is. absurd (cc);
-        };
+        onward = phase_onward (g.pins b) Open (let e : half_cycle (g.pins b).phase ≡ 0 = ap half_cycle free in omega arith)
+            (λ _ intact. let no : true ≡ false = sym intact ∙ ap is_intact free in absurd (cc)) (λ _ not. absurd (not free)) (λ is. absurd (cc));
         alone = λ _ is. free_not (g.pins b).phase free is;
-        readers = refl;
-        written = block.written;
-        generation = block.generation;
-        free = λ is. absurd (cc);
+        state = record { readers = refl; written = block.written; generation = block.generation; free = λ is. absurd (cc) };
         rest = λ is. absurd (cc);
         owner = λ _. (newly_owned, with_here newly_owned v.owns);
         named = λ s m _ _ same current. let no : true ≡ false =
@@ -387,9 +399,7 @@ module _ (z : Numbers) (g : World) (vs : List View) (id : ℕ) (v : View) (b : �
         listing = none_listed z g id v taker b taken_state h.kind (λ is. (h.kind.idle is).0) refl refl;
         owning = got z taken id v taker newly_owned fresh (λ _. refl)
             (λ is. let no : true ≡ false = sym (player_may_own v.role player) ∙ is in absurd (cc)) (one_with_open newly_owned v.owns refl h.kind.reclaims);
-        filling = λ _ _ _ _ _ f. f;
-        cleared = omega arith;
-        wiped = omega arith;
+        no_more = record { filling = λ _ _ _ _ _ f. f; cleared = omega arith; wiped = omega arith };
         work = work_else z g vs id v taker b taken_state (deeds g) law at (λ is. let no : Free ≡ Open = sym free ∙ is in absurd (cc))
             (λ c unlike. with_else newly_owned c v.owns unlike);
         source = λ x is k. (
@@ -527,19 +537,14 @@ module _ (z : Numbers) (g : World) (vs : List View) (id : ℕ) (v : View) (o : O
         turns z g vs id v counter b counted_state (count_deeds n) law at own_low
         (ceded_owned z g.pins vs id v counter law.ceded at refl b counted_state refl refl (ap is_owned is_open) (inr (refl, omega arith, omega arith)))
         (record {
-          onward = record {
-            generation = omega arith;
-            age = omega arith;
-            written = λ _. omega arith;
-            held = λ _ intact. (refl, intact);
-            was = λ _ intact _. intact;
-            free = λ _ free. free;
-          };
+          onward = stays_onward (g.pins b) counted_state refl refl (omega arith);
           alone = λ other _. other entry.owner;
-          readers = refl;
-          written = omega arith;
-          generation = block.generation;
-          free = λ is. let e : Open ≡ Free = sym is_open ∙ is in absurd (cc);
+          state = record {
+            readers = refl;
+            written = omega arith;
+            generation = block.generation;
+            free = λ is. let e : Open ≡ Free = sym is_open ∙ is in absurd (cc);
+          };
           rest = λ is. let e : false ≡ true = sym (ap is_still is_open) ∙ is in absurd (cc);
           owner = λ _. (more, with_here more v.owns);
           named = λ s m _ _ same current. (refl, ap (λ j. is_nameable (g.pins j).phase) (sym same) ∙ current.phase, omega arith);
@@ -556,9 +561,7 @@ module _ (z : Numbers) (g : World) (vs : List View) (id : ℕ) (v : View) (o : O
           };
           owning = got z (count_world n) id v counter more (counted_block n) (λ _. opened)
               (λ is. let no : true ≡ false = sym (ap may_own role) ∙ is in absurd (cc)) (one_with_open more v.owns opened h.kind.reclaims);
-          filling = λ _ _ _ _ _ f. f;
-          cleared = omega arith;
-          wiped = omega arith;
+          no_more = record { filling = λ _ _ _ _ _ f. f; cleared = omega arith; wiped = omega arith };
           work = λ y is. subst (λ (y : Work). LawfulWork z (count_world n) (with_owned more v.owns) y) (some_same x y (sym doing ∙ is)) (counted_work n);
           source = λ y _ k. (blocks_apart v.owns o k.entry y.page.block own k.own (open_victim o k.entry opened k.victim), refl);
         })
@@ -593,27 +596,16 @@ module _ (z : Numbers) (g : World) (vs : List View) (id : ℕ) (v : View) (o : O
       (sym (append-nil v.drains))
       (may_own_else v.role (λ is. owns_none_else v.owns o own (h.kind.owns_none is))))
       (record {
-        onward = record {
-          generation = omega arith;
-          age = (let e : half_cycle (g.pins b).phase ≡ 0 = ap half_cycle phase_is in omega arith);
-          written = λ _. omega arith;
-          held = λ _ _. (refl, refl);
-          was = λ _ _ _. ap is_intact phase_is;
-          free = λ _ is. absurd (cc);
-        };
+        onward = phase_onward (g.pins b) Closed (let e : half_cycle (g.pins b).phase ≡ 0 = ap half_cycle phase_is in omega arith) (λ _ _. refl)
+            (λ _ _. ap is_intact phase_is) (λ is. absurd (cc));
         alone = λ other _. other entry.owner;
-        readers = refl;
-        written = block.written;
-        generation = block.generation;
-        free = λ is. absurd (cc);
+        state = record { readers = refl; written = block.written; generation = block.generation; free = λ is. absurd (cc) };
         rest = λ _ p from below. let m = entry.written in entry.rest opened p (omega arith) below (λ f. not_filling b o own p (omega arith) f);
         owner = λ is. absurd (cc);
         named = λ s m _ _ _ _. (refl, refl, omega arith);
         listing = none_listed z g id v closer b closed_state h.kind (λ _. refl) refl refl;
         owning = given_up z close_world id v closer b h.kind;
-        filling = λ c e owns p from f. absurd (not_filling c e owns p from f);
-        cleared = omega arith;
-        wiped = omega arith;
+        no_more = record { filling = λ c e owns p from f. absurd (not_filling c e owns p from f); cleared = omega arith; wiped = omega arith };
         work = λ y is. absurd (none_some y is);
         source = λ y _ k. (blocks_apart v.owns o k.entry y.page.block own k.own (open_victim o k.entry opened k.victim), refl);
       })

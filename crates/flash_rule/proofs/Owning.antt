@@ -60,6 +60,21 @@ kind_with {z} {v} {w} h same opens idle owns_none reclaims =
       host = its.host;
     }
 
+-- the kind of a pass whose pin and known ages may be others
+pub kind_reading : {z : Numbers} {v : View} (w : View) → LawfulKind z v → is_pass v.role ≡ true → length w.known ≡ z.blocks
+    → LawfulKind z (record v { seen = w.seen; looks = w.looks; pin = w.pin; known = w.known })
+kind_reading w kind pass long =
+    record {
+      numbers = kind.numbers;
+      host = kind.host;
+      known = λ _. long;
+      opens = kind.opens;
+      unpinned = λ not. let no : true ≡ false = sym pass ∙ not in absurd (cc);
+      idle = kind.idle;
+      owns_none = kind.owns_none;
+      reclaims = kind.reclaims;
+    }
+
 -- what a view knows, where nothing of that changes
 pub knowledge_as : {z : Numbers} {g : World} {v w : View} → LawfulKnowledge z g v → known_of v ≡ known_of w → LawfulKnowledge z g w
 knowledge_as {z} {g} {v} {w} h same =

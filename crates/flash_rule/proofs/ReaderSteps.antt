@@ -11,8 +11,8 @@ use Rattle.flash_rule.proofs.Frames.{counted, knowledge_kept, owner_kept, state_
 use Rattle.flash_rule.proofs.Ceding.{ceded_read}
 use Rattle.flash_rule.proofs.OwnSteps.{deeds, moved, pin_moves, block_turned, pin_turned_nameable}
 use Rattle.flash_rule.proofs.Ruling.{ruled_as, ruled_plus}
-use Rattle.flash_rule.proofs.Still.{sum_set, ages_bounded, pass_numbers}
-use Rattle.flash_rule.proofs.Owning.{holding_with, source_with, work_with, knowledge_with}
+use Rattle.flash_rule.proofs.Still.{stays_onward, sum_set, ages_bounded, pass_numbers}
+use Rattle.flash_rule.proofs.Owning.{kind_reading, holding_with, source_with, work_with, knowledge_with}
 
 module _ (z : Numbers) (g : World) (vs : List View) (id : ℕ) (v : View) (b : ℕ) (readers : ℕ) (pin : Pin) (known : List ℕ) (law : Lawful z g vs)
     (at : get_elem? vs id ≡ some v) (pass : is_pass v.role ≡ true) (low : b < z.blocks) where
@@ -28,14 +28,7 @@ module _ (z : Numbers) (g : World) (vs : List View) (id : ℕ) (v : View) (b : �
   pub read_onward : Onward z g read_world id id
   read_onward =
       pin_moves z g id b read_state (g.owner b)
-      (record {
-        generation = omega arith;
-        age = omega arith;
-        written = λ _. omega arith;
-        held = λ _ intact. (refl, intact);
-        was = λ _ intact _. intact;
-        free = λ _ free. free;
-      })
+      (stays_onward (g.pins b) read_state refl refl (omega arith))
       (λ _ _. (refl, refl, refl, refl))
 
   -- an owned block, whoever reads it
@@ -72,17 +65,7 @@ module _ (z : Numbers) (g : World) (vs : List View) (id : ℕ) (v : View) (b : �
       let on = read_onward in
       let knows = knowledge_kept z g g' id id on v (λ c is below. counted vs law id v at c is below) h.knowledge in
       let own : LawfulView z g' id reader = record {
-        kind = record {
-          numbers = h.kind.numbers;
-          host = h.kind.host;
-          known = λ _. long;
-          opens = h.kind.opens;
-          unpinned = λ not. let no : true ≡ false =
-              sym pass ∙ not in absurd (cc);
-          idle = h.kind.idle;
-          owns_none = h.kind.owns_none;
-          reclaims = h.kind.reclaims;
-        };
+        kind = kind_reading reader h.kind pass long;
         knowledge = knowledge_with reader knows refl knows.seen lawful
             (λ c below. let a = (on.pins c below).age in let k = ages c below in omega arith) knows.programs knows.erases;
         holding = holding_with h.holding refl refl h.holding.calls h.holding.lists (λ c o owns. owned_read c o (h.holding.owned c o owns))

@@ -1,7 +1,7 @@
 -- Each step of a broom on a pin word, as the table asks for it: whatever the table is, the step keeps the rule and tells what it says.
 use Rattle.flash_rule.proofs.Words.{◌≡◌, ◌≢◌, ℕ, ◌+◌, ◌%◌, ◌^◌, ◌<◌, ◌≤◌, ⊎_elim, ◌==◌, eq-eqb, ne_eqb, true, List, [], ◌∷◌, ◌++◌, set, sym, refl, ap, ◌∙◌}
-use Rattle.flash_rule.proofs.Words.{subst, arith, get_or, either, some, none, dite, ℕ_discrete, get_elem?, State, Act, Valid, step, keeps, stepped}
-use Rattle.flash_rule.proofs.Words.{carried_after, Allows, Numbers, pin_word, FitsPin, freed_added, kept_added, pin_index, PinWord, Open, Closed, Victim}
+use Rattle.flash_rule.proofs.Words.{subst, arith, get_or, either, some, none, dite, ℕ_discrete, get_elem?, State, step, keeps, stepped}
+use Rattle.flash_rule.proofs.Words.{Allows, Numbers, pin_word, FitsPin, freed_added, kept_added, pin_index, PinWord, Open, Closed, Victim}
 use Rattle.flash_rule.proofs.Words.{Drained, Erasing, Retired, NEXT_PHASE, Owned, View, is_broom, without, with_owned, World, Fits, is_owned, freed_as, Lawful}
 use Rattle.flash_rule.proofs.Words.{Ruled, Sitter, CanClaim, Claimed, CanCondemn, Condemned, CanDrain, CanRenew, CanRetire, owned_as, cycle_of, claim_told}
 use Rattle.flash_rule.proofs.Words.{condemn_told, drain_told, freed_told, kept_told, retired_told}
@@ -9,7 +9,7 @@ use Rattle.flash_rule.specs.BroomPlays.{Loaded, state_told}
 use Rattle.flash_rule.proofs.Points.{player_of, broom_player, broom_live, phase_or_not}
 use Rattle.flash_rule.proofs.Frames.{state_fits}
 use Rattle.flash_rule.proofs.OwnSteps.{Deeds, deeds, turned}
-use Rattle.flash_rule.proofs.Ruling.{ruled_as, ruled_still, same_block, owner_adds}
+use Rattle.flash_rule.proofs.Ruling.{Does, does, ruled_as, ruled_still, same_block, owner_adds}
 use Rattle.flash_rule.proofs.Reclaiming.{unowned, notes, claims, claimed_state, claimer, condemns, condemned_state, condemner, condemn_deeds, drains_block}
 use Rattle.flash_rule.proofs.Reclaiming.{drained_state, retires, retired_state, frees, freed_state, keeps_block, kept_state, erasing_low, erasing_written}
 use Rattle.flash_rule.proofs.Reclaiming.{is_erasing}
@@ -43,51 +43,24 @@ module _ (z : Numbers) (slots id : ℕ) (me : Sitter) where
       let within : p.written ≤ v.numbers.pages = let r = (law.blocks b low).written in
       let e : v.numbers.pages ≡ z.pages = ap (λ (y : Numbers). y.pages) numbers in omega arith in
       let noted : List (ℕ × ℕ) = v.loaded ++ (b, n) ∷ [] in
-      let answer : (w : View) → Lawful z g (set t.views id w) → Loaded v b n w
-      → (w : View) × (a : Act (Unit {0})) × Valid t.homes me.1 a × Ruled z (stepped t k n id me.1 w a)
-      × state_told (step slots k 0 0 none) me n (w, carried_after me.1 a) = λ w lawful told. (
-        w,
-        keeps,
-        tt,
-        ruled_still z id me t g fits b low w n refl lawful,
-        (refl, λ c _ is. subst (λ (j : ℕ). Loaded v j n w) (same_block z me numbers b c is) told),
+      let answer : (w : View) → Lawful z g (set t.views id w) → (p.phase ≡ Drained → p.readers ≡ 0 → w ≡ record v { loaded = noted })
+      → (p.phase ≡ Drained → 0 < p.readers → w ≡ record v { loaded = noted; busy = v.busy ++ b ∷ [] })
+      → (¬ (p.phase ≡ Drained) → w ≡ record v { loaded = noted; stale = v.stale ++ b ∷ [] })
+      → Does z id me t k n (state_told (step slots k 0 0 none) me n) = λ w lawful ready busy stale.
+      does z id me t k n (state_told (step slots k 0 0 none) me n) w (ruled_still z id me t g fits b low w n refl lawful) (
+        refl,
+        λ c _ is. subst (λ (j : ℕ). Loaded v j n w) (same_block z me numbers b c is)
+            (record { state = p; fits = fitting; young = young; within = within; found = found; ready = ready; busy = busy; stale = stale }),
       ) in
       ⊎_elim
       (λ (drained : p.phase ≡ Drained). dite (ℕ_discrete p.readers 0)
-      (λ none. answer (record v { loaded = noted }) (notes z g t.views id v law at noted v.lost v.busy v.stale)
-      (record {
-        state = p;
-        fits = fitting;
-        young = young;
-        within = within;
-        found = found;
-        ready = λ _ _. refl;
-        busy = λ _ some. absurd (omega arith);
-        stale = λ not. absurd (not drained);
-      }))
+      (λ none. answer (record v { loaded = noted }) (notes z g t.views id v law at noted v.lost v.busy v.stale) (λ _ _. refl)
+      (λ _ some. absurd (omega arith)) (λ not. absurd (not drained)))
       (λ some. answer (record v { loaded = noted; busy = v.busy ++ b ∷ [] }) (notes z g t.views id v law at noted v.lost (v.busy ++ b ∷ []) v.stale)
-      (record {
-        state = p;
-        fits = fitting;
-        young = young;
-        within = within;
-        found = found;
-        ready = λ _ none. absurd (some none);
-        busy = λ _ _. refl;
-        stale = λ not. absurd (not drained);
-      })))
+      (λ _ none. absurd (some none)) (λ _ _. refl) (λ not. absurd (not drained))))
       (λ (other : ¬ (p.phase ≡ Drained)).
       answer (record v { loaded = noted; stale = v.stale ++ b ∷ [] }) (notes z g t.views id v law at noted v.lost v.busy (v.stale ++ b ∷ []))
-      (record {
-        state = p;
-        fits = fitting;
-        young = young;
-        within = within;
-        found = found;
-        ready = λ drained _. absurd (other drained);
-        busy = λ drained _. absurd (other drained);
-        stale = λ _. refl;
-      }))
+      (λ drained _. absurd (other drained)) (λ drained _. absurd (other drained)) (λ _. refl))
       (phase_or_not p.phase Drained)
 
   -- ---- an exchange

@@ -11,7 +11,7 @@ use Rattle.flash_rule.proofs.Owning.{owns_none_else, some_same, with_here, witho
 use Rattle.flash_rule.proofs.Owning.{holding_with, kind_as, knowledge_as, one_at_rest, get_last}
 use Rattle.flash_rule.proofs.Owning.{put2, put2_here, put2_else, one_with_open, blocks_apart}
 use Rattle.flash_rule.proofs.Still.{still}
-use Rattle.flash_rule.proofs.OwnSteps.{Deeds, deeds, turned, block_owned, IsListed, turns, IsOwning, given_up}
+use Rattle.flash_rule.proofs.OwnSteps.{IsState, phase_onward, Deeds, deeds, turned, block_owned, IsListed, turns, IsOwning, given_up}
 use Rattle.flash_rule.specs.BroomPlays.{IsAtRest}
 use Rattle.flash_rule.proofs.Ceding.{ceded_owned, ceded_last}
 use Rattle.std.proofs.lemmas.List.{append-nil}
@@ -85,29 +85,18 @@ module _ (z : Numbers) (g : World) (vs : List View) (id : ℕ) (v : View) (b : �
       (ceded_owned z g.pins vs id v claimer law.ceded at refl b q refl refl refl
       (inr (refl, (let e : rank (g.pins b).phase ≡ 2 = ap rank closed in omega arith), omega arith)))
       (record {
-        onward = record {
-          generation = omega arith;
-          age = (let e : half_cycle (g.pins b).phase ≡ 0 = ap half_cycle closed in omega arith);
-          written = λ _. omega arith;
-          held = λ _ _. (refl, refl);
-          was = λ _ _ _. ap is_intact closed;
-          free = λ _ is. absurd (cc);
-        };
+        onward = phase_onward (g.pins b) Victim (let e : half_cycle (g.pins b).phase ≡ 0 = ap half_cycle closed in omega arith) (λ _ _. refl)
+            (λ _ _. ap is_intact closed) (λ is. absurd (cc));
         alone = λ _ is. let no : true ≡ false = sym is ∙ ap is_owned closed in absurd (cc);
-        readers = refl;
-        written = block.written;
-        generation = block.generation;
-        free = λ is. absurd (cc);
+        state = record { readers = refl; written = block.written; generation = block.generation; free = λ is. absurd (cc) };
         rest = λ _. block.rest (ap is_still closed);
         owner = λ _. (claimed_block, with_here claimed_block v.owns);
         named = λ s m _ _ _ _. (refl, refl, omega arith);
         listing = none_listed z g id v claimer b q (law.views id v at).kind (λ is. ((law.views id v at).kind.idle is).0) refl refl;
         owning = got z claim_world id v claimer claimed_block fresh (λ is. absurd (not_pass is)) owns_some (one_at_rest claimed_block v.owns rested);
-        filling = λ _ _ _ _ _ f. f;
+        no_more = record { filling = λ _ _ _ _ _ f. f; cleared = omega arith; wiped = omega arith };
         work = work_else z g vs id v claimer b q (deeds g) law at (λ is. let no : Closed ≡ Open = sym closed ∙ is in absurd (cc))
             (λ c unlike. with_else claimed_block c v.owns unlike);
-        cleared = omega arith;
-        wiped = omega arith;
         source = λ x is _. absurd (no_source x is);
       })
 
@@ -186,19 +175,9 @@ module _ (z : Numbers) (g : World) (vs : List View) (id : ℕ) (v : View) (b : �
       (ceded_owned z g.pins vs id v condemner law.ceded at refl b q refl refl refl
       (inr (refl, (let e : rank (g.pins b).phase ≡ 4 = ap rank drained in omega arith), omega arith)))
       (record {
-        onward = record {
-          generation = omega arith;
-          age = omega arith;
-          written = λ _. omega arith;
-          held = λ some _. absurd (omega arith);
-          was = λ _ is. absurd (cc);
-          free = λ _ is. absurd (cc);
-        };
+        onward = phase_onward (g.pins b) Erasing (omega arith) (λ some _. absurd (omega arith)) (λ is. absurd (cc)) (λ is. absurd (cc));
         alone = λ _ is. let no : true ≡ false = sym is ∙ ap is_owned drained in absurd (cc);
-        readers = refl;
-        written = block.written;
-        generation = block.generation;
-        free = λ is. absurd (cc);
+        state = record { readers = refl; written = block.written; generation = block.generation; free = λ is. absurd (cc) };
         rest = λ is. absurd (cc);
         owner = λ _. (condemned_block, with_here condemned_block v.owns);
         named = λ s m _ _ same current. let no : true ≡ false =
@@ -206,11 +185,9 @@ module _ (z : Numbers) (g : World) (vs : List View) (id : ℕ) (v : View) (b : �
         listing = erases_listed n role drained;
         owning = got z (condemn_world n) id v condemner condemned_block fresh (λ is. absurd (not_pass is)) owns_some
             (one_at_rest condemned_block v.owns rested);
-        filling = λ _ _ _ _ _ f. f;
+        no_more = record { filling = λ _ _ _ _ _ f. f; cleared = omega arith; wiped = omega arith };
         work = work_else z g vs id v condemner b q (condemn_deeds n) law at (λ is. let no : Drained ≡ Open = sym drained ∙ is in absurd (cc))
             (λ c unlike. with_else condemned_block c v.owns unlike);
-        cleared = omega arith;
-        wiped = omega arith;
         source = λ x is _. absurd (no_source x is);
       })
 
@@ -244,19 +221,10 @@ module _ (z : Numbers) (g : World) (vs : List View) (id : ℕ) (v : View) (o : O
       drained_block (λ i. record { block = b; phase = Drained; generation = sym mine.generation i; written = sym mine.written i }) refl refl
       (may_own_else v.role (λ is. owns_none_else v.owns o can.own (h.kind.owns_none is))))
       (record {
-        onward = record {
-          generation = omega arith;
-          age = (let e : half_cycle (g.pins b).phase ≡ 0 = ap half_cycle victim in omega arith);
-          written = λ _. omega arith;
-          held = λ _ _. (refl, refl);
-          was = λ _ _ _. ap is_intact victim;
-          free = λ _ is. absurd (cc);
-        };
+        onward = phase_onward (g.pins b) Drained (let e : half_cycle (g.pins b).phase ≡ 0 = ap half_cycle victim in omega arith) (λ _ _. refl)
+            (λ _ _. ap is_intact victim) (λ is. absurd (cc));
         alone = λ other _. other mine.owner;
-        readers = refl;
-        written = block.written;
-        generation = block.generation;
-        free = λ is. absurd (cc);
+        state = record { readers = refl; written = block.written; generation = block.generation; free = λ is. absurd (cc) };
         rest = λ _. block.rest (ap is_still victim);
         owner = λ is. absurd (cc);
         named = λ s m in_range is same current.
@@ -266,11 +234,9 @@ module _ (z : Numbers) (g : World) (vs : List View) (id : ℕ) (v : View) (o : O
             (is ∙ λ i. Some (record { generation = generation i; block = same i; page = m.page })));
         listing = none_listed z g id v drainer b drained_state h.kind (λ is. (h.kind.idle is).0) refl refl;
         owning = given_up z drain_world id v drainer b h.kind;
-        filling = λ _ _ _ _ _ f. f;
+        no_more = record { filling = λ _ _ _ _ _ f. f; cleared = omega arith; wiped = omega arith };
         work = work_else z g vs id v drainer b drained_state (deeds g) law at (λ is. let no : Victim ≡ Open = sym victim ∙ is in absurd (cc))
             (λ c unlike. without_else b c v.owns unlike);
-        cleared = omega arith;
-        wiped = omega arith;
         source = λ x is k. (
           (λ same.
               let P : ℕ → Type 0 = λ c. owned_at c v.owns ≡ Some k.entry in
@@ -317,30 +283,24 @@ module _ (z : Numbers) (g : World) (vs : List View) (id : ℕ) (v : View) (o : O
   eraser_owns = may_own_else v.role (λ is. owns_none_else v.owns o erasing.own ((law.views id v at).kind.owns_none is))
 
   -- a turn of the block: what is told of its new state is all that has to be shown
-  turn_with : (q : PinWord) (owns ceded : List Owned) → PinOnward (g.pins o.block) q → q.readers ≡ (g.pins o.block).readers → q.written ≤ z.pages
-      → q.generation < z.endurance → (q.phase ≡ Free → q.written ≡ 0)
+  turn_with : (q : PinWord) (owns ceded : List Owned) → PinOnward (g.pins o.block) q → IsState z (g.pins o.block) q
       → (is_still q.phase ≡ true → (p : ℕ) → q.written ≤ p → p < z.pages → IsBlank z (g.pages o.block p))
       → (is_owned q.phase ≡ true → (e : Owned) × (owned_at o.block owns ≡ Some e))
       → IsOwning z (moved g o.block q id) id v (record v { owns = owns; ceded = ceded }) o.block
       → IsTurn z g id v (record v { owns = owns; ceded = ceded }) o.block q (deeds g)
-  turn_with q owns ceded onward readers written generation free rest owner owning =
+  turn_with q owns ceded onward state rest owner owning =
       let kind = (law.views id v at).kind in
       let w : View = record v { owns = owns; ceded = ceded } in
       record {
         onward = onward;
         alone = λ other _. other entry.owner;
-        readers = readers;
-        written = written;
-        generation = generation;
-        free = free;
+        state = state;
         rest = rest;
         owner = owner;
         named = λ s m _ _ same current. absurd (not_named (ap (λ j. is_nameable (g.pins j).phase) (sym same) ∙ current.phase));
         listing = none_listed z g id v w o.block q kind (λ is. (kind.idle is).0) refl refl;
         owning = owning;
-        filling = λ _ _ _ _ _ f. f;
-        cleared = omega arith;
-        wiped = omega arith;
+        no_more = record { filling = λ _ _ _ _ _ f. f; cleared = omega arith; wiped = omega arith };
         work = work_else z g vs id v w o.block q (deeds g) law at not_open owning.there;
         source = λ x _ k. (source_else x k, refl);
       }
@@ -370,15 +330,9 @@ module _ (z : Numbers) (g : World) (vs : List View) (id : ℕ) (v : View) (o : O
       retired_block (λ i. record { block = b; phase = Retired; generation = sym entry.generation i; written = sym entry.written i }) refl
       (sym (append-nil v.drains)) eraser_owns)
       (turn_with retired_state (without b v.owns) (v.ceded ++ retired_block ∷ [])
-      (record {
-        generation = omega arith;
-        age = (let e : half_cycle (g.pins b).phase ≡ 1 = ap half_cycle is_erasing in omega arith);
-        written = λ _. omega arith;
-        held = λ _ is. absurd (not_intact is);
-        was = λ _ is. absurd (cc);
-        free = λ _ is. absurd (cc);
-      })
-      refl block.written block.generation (λ is. absurd (cc)) (λ is. absurd (cc)) (λ is. absurd (cc))
+      (phase_onward (g.pins b) Retired (let e : half_cycle (g.pins b).phase ≡ 1 = ap half_cycle is_erasing in omega arith)
+      (λ _ is. absurd (not_intact is)) (λ is. absurd (cc)) (λ is. absurd (cc)))
+      (record { readers = refl; written = block.written; generation = block.generation; free = λ is. absurd (cc) }) (λ is. absurd (cc)) (λ is. absurd (cc))
       (given_up z retire_world id v retirer b h.kind))
 
   -- ---- the next generation
@@ -425,7 +379,8 @@ module _ (z : Numbers) (g : World) (vs : List View) (id : ℕ) (v : View) (o : O
       turns z g vs id v freer b freed_state (deeds g) law at entry.low
       (ceded_last z g.pins vs id v freer law.ceded at refl b freed_state entry.low (inl (omega arith)) (freed_as o)
       (λ i. record { block = b; phase = Free; generation = sym entry.generation i + 1; written = 0 }) refl (sym (append-nil v.drains)) eraser_owns)
-      (turn_with freed_state (without b v.owns) (v.ceded ++ freed_as o ∷ []) (renewed freed_state refl) refl (omega arith) (young can) (λ _. refl)
+      (turn_with freed_state (without b v.owns) (v.ceded ++ freed_as o ∷ []) (renewed freed_state refl)
+      (record { readers = refl; written = omega arith; generation = young can; free = λ _. refl })
       (λ _ p _ below. all_blank can p below) (λ is. absurd (cc)) (given_up z free_world id v freer b h.kind))
 
   -- ---- keep
@@ -451,7 +406,8 @@ module _ (z : Numbers) (g : World) (vs : List View) (id : ℕ) (v : View) (o : O
       (λ _ p _ below _. all_blank can p below) (λ is. absurd (cc)) (λ is. absurd (cc)) in
       turns z g vs id v keeper b kept_state (deeds g) law at entry.low
       (ceded_owned z g.pins vs id v keeper law.ceded at refl b kept_state refl refl refl (inl (omega arith)))
-      (turn_with kept_state (with_owned kept_block v.owns) v.ceded (renewed kept_state refl) refl (omega arith) (young can) (λ is. absurd (cc))
+      (turn_with kept_state (with_owned kept_block v.owns) v.ceded (renewed kept_state refl)
+      (record { readers = refl; written = omega arith; generation = young can; free = λ is. absurd (cc) })
       (λ is. absurd (cc)) (λ _. (kept_block, with_here kept_block v.owns))
       (got z keep_world id v keeper kept_block fresh (λ _. refl) (λ is. owns_none_else v.owns o erasing.own (h.kind.owns_none is))
       (one_with_open kept_block v.owns refl h.kind.reclaims)))

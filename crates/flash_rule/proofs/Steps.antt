@@ -1,6 +1,6 @@
 -- Each kind of step of a pass, as the table asks for it: whatever the table is, the step keeps the rule and tells what it says.
 use Rattle.flash_rule.proofs.Words.{◌≡◌, ℕ, ◌+◌, ◌%◌, ◌^◌, ◌<◌, ◌≤◌, ◌==◌, eq-eqb, ne_eqb, ⊎_elim, true, List, [], ◌∷◌, ◌++◌, Option, None, Some, length, set}
-use Rattle.flash_rule.proofs.Words.{sym, refl, ap, ◌∙◌, subst, arith, get_or, some, none, get_elem?, Act, Valid, step, keeps, stepped, carried_after, Allows}
+use Rattle.flash_rule.proofs.Words.{sym, refl, ap, ◌∙◌, subst, arith, get_or, some, none, get_elem?, step, keeps, stepped, Allows}
 use Rattle.flash_rule.proofs.Words.{set_again, dite, ℕ_discrete, either, Call, Write, WriteNew, Trim, Numbers, map_word, FitsMap, pin_word, pin_index}
 use Rattle.flash_rule.proofs.Words.{page_index, MapWord, PinWord, Free, Open, Closed, TAKEN, NEXT_PHASE, PAGE_WRITTEN, Owned, Accepted, Work, View, is_pass}
 use Rattle.flash_rule.proofs.Words.{is_player, owned_at, without, with_owned, World, is_owned, sector_word, Lawful, Ruled, Sitter, Looked, Placed, Took}
@@ -131,39 +131,27 @@ module _ (z : Numbers) (slots id : ℕ) (me : Sitter) where
       let numbers = numbers_now g t.views law at player in
       let young : p.generation < me.0.numbers.endurance = let r = (law.blocks b low).generation in let e : me.0.numbers.endurance ≡ z.endurance =
       ap (λ (y : Numbers). y.endurance) numbers in omega arith in
-      let answer : (w : View) → Ruled z (stepped t (pin_index z b) (bit_or n TAKEN) id me.1 w keeps) → Took me.0 b n w
-      → (w : View) × (a : Act (Unit {0})) × Valid t.homes me.1 a × Ruled z (stepped t (pin_index z b) (bit_or n TAKEN) id me.1 w a)
-      × take_told (step slots (pin_index z b) TAKEN 0 none) me n (w, carried_after me.1 a) = λ w ruled told.
-      (w, keeps, tt, ruled, (refl, λ c _ is. subst (λ (j : ℕ). Took me.0 j n w) (same_block z me numbers b c is) told)) in
+      let answer : (w : View) → Ruled z (stepped t (pin_index z b) (bit_or n TAKEN) id me.1 w keeps)
+      → (p.phase ≡ Free → (owned_at b me.0.owns ≡ None) × (w ≡ taker z g t.views id me.0 b law at player low))
+      → (¬ (p.phase ≡ Free) → w ≡ record me.0 { denied = me.0.denied ++ b ∷ [] })
+      → Does z id me t (pin_index z b) (bit_or n TAKEN) (take_told (step slots (pin_index z b) TAKEN 0 none) me n) = λ w ruled free denied.
+      does z id me t (pin_index z b) (bit_or n TAKEN) (take_told (step slots (pin_index z b) TAKEN 0 none) me n) w ruled (
+        refl,
+        λ c _ is. subst (λ (j : ℕ). Took me.0 j n w) (same_block z me numbers b c is)
+            (record { state = p; fits = fitting; young = young; found = found; fresh = λ is. (free is).0; free = λ is. (free is).1; denied = denied }),
+      ) in
       ⊎_elim
       (λ (free : p.phase ≡ Free).
       let w : View = taker z g t.views id me.0 b law at player low in
       answer w
       (ruled_as z id me t g fits b low (taken_state z g t.views id me.0 b law at player low) id (deeds g) w (bit_or n TAKEN)
       (ap (λ x. bit_or x TAKEN) found ∙ takes_free p fitting free) (takes z g t.views id me.0 b law at player low free))
-      (record {
-        state = p;
-        fits = fitting;
-        young = young;
-        found = found;
-        fresh = λ _. unowned z g t.views id me.0 law at b (ap is_owned free);
-        free = λ _. refl;
-        denied = λ not. absurd (not free);
-      }))
+      (λ _. (unowned z g t.views id me.0 law at b (ap is_owned free), refl)) (λ not. absurd (not free)))
       (λ (not : ¬ (p.phase ≡ Free)).
       let w : View = record me.0 { denied = me.0.denied ++ b ∷ [] } in
       answer w
       (ruled_still z id me t g fits b low w (bit_or n TAKEN) (ap (λ x. bit_or x TAKEN) found ∙ (takes_taken p fitting not ∙ sym found))
-      (denied z g t.views id me.0 b law at player low))
-      (record {
-        state = p;
-        fits = fitting;
-        young = young;
-        found = found;
-        fresh = λ free. absurd (not free);
-        free = λ free. absurd (not free);
-        denied = λ _. refl;
-      }))
+      (denied z g t.views id me.0 b law at player low)) (λ free. absurd (not free)) (λ _. refl))
       (phase_or_not p.phase Free)
 
   -- ---- put

@@ -1,5 +1,5 @@
 -- A step that changes no word: the looks of a pass.
-use Rattle.flash_rule.proofs.Words.{◌⊎◌, ◌≡◌, ◌≢◌, ℕ, zero, suc, ◌*◌, ◌+◌, ◌<◌, ◌≤◌, inl, true, false, List, [], ◌∷◌, Option, None, Some, length, set, sym}
+use Rattle.flash_rule.proofs.Words.{◌⊎◌, ◌≡◌, ◌≢◌, ℕ, zero, suc, ◌*◌, ◌+◌, ◌<◌, ◌≤◌, inl, true, List, [], ◌∷◌, Option, None, Some, length, set, sym}
 use Rattle.flash_rule.proofs.Words.{refl, ap, ◌∙◌, subst, arith, length-set, suc-mul, get_or, get_or-set_same, get_or-set_other, some, dite, ℕ_discrete}
 use Rattle.flash_rule.proofs.Words.{get_elem?, Begins, held, Numbers, Begins-refl, map_word, FitsMap, MapWord, PinWord, Phase, Free, Open, Closed, Victim}
 use Rattle.flash_rule.proofs.Words.{Drained, Erasing, Retired, Name, Pass, Broom, Role, Dealer, Player, Note, Gone, Pin, Clear, Candidate, Accepted, Stray}
@@ -9,17 +9,23 @@ use Rattle.flash_rule.proofs.Words.{LawfulView, LawfulCopy, Lawful, IsValue, Pin
 use Rattle.flash_rule.specs.Plays.{Disjoint, Once}
 use Rattle.flash_rule.proofs.Frames.{lists_stay, assembled, block_kept}
 use Rattle.flash_rule.proofs.Ceding.{ceded_still}
-use Rattle.flash_rule.proofs.Owning.{some_same, holding_with, knowledge_with}
+use Rattle.flash_rule.proofs.Owning.{kind_reading, some_same, holding_with, knowledge_with}
+
+-- a state with the same phase and generation, whatever its readers, and no fewer pages written
+pub stays_onward : (p q : PinWord) → q.phase ≡ p.phase → q.generation ≡ p.generation → p.written ≤ q.written → PinOnward p q
+stays_onward p q phase generation written =
+    let half : half_cycle q.phase ≡ half_cycle p.phase = ap half_cycle phase in
+    record {
+      generation = omega arith;
+      age = omega arith;
+      written = λ _. written;
+      held = λ _ intact. (generation, ap is_intact phase ∙ intact);
+      was = λ _ intact _. ap is_intact (sym phase) ∙ intact;
+      free = λ _ free. sym phase ∙ free;
+    }
 
 pub pin_stays : (p : PinWord) → PinOnward p p
-pin_stays p = record {
-  generation = omega arith;
-  age = omega arith;
-  written = λ _. omega arith;
-  held = λ _ intact. (refl, intact);
-  was = λ _ intact _. intact;
-  free = λ _ free. free;
-}
+pin_stays p = stays_onward p p refl refl (omega arith)
 
 -- the table with another map, other pages, and badges elsewhere
 abbrev pub with_words : World → (ℕ → Option MapWord) → (ℕ → ℕ → ℕ → ℕ) → (Name → ℕ) → (Name → Option Carried) → World
@@ -218,17 +224,7 @@ module _ (z : Numbers) (g : World) (vs : List View) (id : ℕ) (v : View) (s : �
       let holds = h.holding in
       still z g vs id v w law at
       (record {
-        kind = record {
-          numbers = h.kind.numbers;
-          host = h.kind.host;
-          known = λ _. long;
-          opens = h.kind.opens;
-          unpinned = λ not. let no : true ≡ false =
-              sym pass ∙ not in absurd (cc);
-          idle = h.kind.idle;
-          owns_none = h.kind.owns_none;
-          reclaims = h.kind.reclaims;
-        };
+        kind = kind_reading w h.kind pass long;
         knowledge = knowledge_with w h.knowledge refl (Begins-refl g.history) lawful ages h.knowledge.programs h.knowledge.erases;
         holding = holding_with holds refl refl (λ t is. let c = (holds.calls t is).0 in (c, c)) holds.lists holds.owned holds.work holds.source;
       })
