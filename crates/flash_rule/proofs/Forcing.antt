@@ -8,7 +8,7 @@ use Rattle.flash_rule.proofs.Words.{Pinned, take_told, pin_told, unpin_told, cou
 use Rattle.flash_rule.proofs.Words.{kept_told, retired_told}
 use Rattle.flash_rule.proofs.Points.{phase_of, of_rank, total_set, player_live, broom_live, phase_or_not}
 use Rattle.flash_rule.proofs.Places.{pin_within}
-use Rattle.flash_rule.proofs.Ceding.{view_set}
+use Rattle.flash_rule.proofs.Points.{seat_set}
 use Rattle.std.proofs.Common.{bit_or}
 use Rattle.flash_rule.specs.Forced.{plus, to_next_phase, TakeSets, PinAdds, UnpinTakesOff, CountAdds, CloseAdds, ClaimExchanges, DrainAdds, CondemnExchanges}
 use Rattle.flash_rule.specs.Forced.{FreeAdds, KeepAdds, RetireAdds}
@@ -97,7 +97,7 @@ tied_sets vs id v w u at owns ceded j x is =
     ⊎_elim
     (λ (t : (j ≡ id) × (w ≡ x)). (
       u,
-      ap (λ i. get_elem? (set vs id u) i) t.0 ∙ view_set vs id v u at,
+      ap (λ i. get_elem? (set vs id u) i) t.0 ∙ seat_set vs id v u at,
       sym (ap (λ (y : View). y.owns) t.1) ∙ owns,
       sym (ap (λ (y : View). y.ceded) t.1) ∙ ceded,
     ))

@@ -11,6 +11,7 @@ use Rattle.geometry.proofs.Histories.{Begins-trans}
 use Rattle.flash_rule.specs.Rule.{IsAccepted}
 use Rattle.flash_rule.proofs.Points.{eq_self, total_set}
 use Rattle.flash_rule.proofs.Owning.{source_with, work_with}
+use Rattle.flash_rule.proofs.Points.{seat_set}
 
 pub programmed_onward : {p q : PinWord} (m : MapWord) → PinOnward p q → IsProgrammed p m → IsProgrammed q m
 programmed_onward {p} {q} m on (inl older) = let h = on.generation in inl (omega arith)
@@ -223,13 +224,8 @@ owner_kept z g g' vs id v w b at block owned same keeps =
     (λ mine.
     let is : h.0 ≡ v = some-injective h.0 v (sym h.2 ∙ (ap (λ j. get_elem? vs j) mine ∙ at)) in
     let k = keeps h.1 (sym (ap (λ (u : View). owned_at b u.owns) is) ∙ h.3) in
-    (w, k.0, ap (λ j. get_elem? (set vs id w) j) (same ∙ mine) ∙ set_at vs id v w at, k.1))
+    (w, k.0, ap (λ j. get_elem? (set vs id w) j) (same ∙ mine) ∙ seat_set vs id v w at, k.1))
     (λ other. (h.0, h.1, ap (λ j. get_elem? (set vs id w) j) same ∙ (set_else vs id (g.owner b) w other ∙ h.2), h.3))
-  where
-    set_at : (vs : List View) (id : ℕ) (v w : View) → get_elem? vs id ≡ some v → get_elem? (set vs id w) id ≡ some w
-    set_at [] id v w at = absurd (some-ne-none v (sym at))
-    set_at (x ∷ xs) zero v w at = refl
-    set_at (x ∷ xs) (suc id) v w at = set_at xs id v w at
 
 -- A block that the step doesn't concern
 pub block_kept : (z : Numbers) (g g' : World) (vs : List View) (id : ℕ) (v w : View) (b : ℕ) → get_elem? vs id ≡ some v → LawfulBlock z g vs b

@@ -14,21 +14,16 @@ use Rattle.flash_rule.proofs.Owning.{none_some, some_same, nothing}
 use Rattle.flash_rule.proofs.Places.{row_within}
 use Rattle.flash_rule.proofs.Splitting.{kind_fresh, knowledge_fresh, holding_unnamed}
 use Rattle.std.proofs.lemmas.Bool.Decides.{nat_tests}
+use Rattle.std.proofs.lemmas.List.{get_or_append_left, get_or-append-add, get_or-replicate}
 
 front : (xs ys : List ℕ) (k : ℕ) → k < length xs → get_or (xs ++ ys) k 0 ≡ get_or xs k 0
-front [] ys k low = absurd (omega arith)
-front (x ∷ xs) ys zero low = refl
-front (x ∷ xs) ys (suc k) low = front xs ys k (omega arith)
+front xs ys k low = get_or_append_left xs ys 0 k low
 
 back : (xs ys : List ℕ) (k j : ℕ) → k ≡ length xs + j → get_or (xs ++ ys) k 0 ≡ get_or ys j 0
-back [] ys k j is = ap (λ i. get_or ys i 0) (omega arith)
-back (x ∷ xs) ys zero j is = absurd (omega arith)
-back (x ∷ xs) ys (suc k) j is = back xs ys k j (omega arith)
+back xs ys k j is = ap (λ i. get_or (xs ++ ys) i 0) is ∙ get_or-append-add xs ys j 0
 
 same_all : (n x k : ℕ) → k < n → get_or (replicate n x) k 0 ≡ x
-same_all zero x k low = absurd (omega arith)
-same_all (suc n) x zero low = refl
-same_all (suc n) x (suc k) low = same_all n x k (omega arith)
+same_all n x k low = get_or-replicate n k x 0 low
 
 spare_is : (n from b : ℕ) (o : Owned) → owned_at b (spares n from) ≡ Some o → (from ≤ b) × (b < from + n) × (spare b ≡ o)
 spare_is zero from b o is = absurd (none_some o is)

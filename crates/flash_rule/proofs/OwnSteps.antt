@@ -17,11 +17,7 @@ use Rattle.flash_rule.proofs.Still.{stays_onward, pin_stays, still}
 use Rattle.std.proofs.lemmas.List.{append-nil}
 use Rattle.flash_rule.specs.Plays.{IsSettled}
 pub use Rattle.flash_rule.proofs.Points.{player_of}
-
-pub seat_set : (vs : List View) (id : ℕ) (v w : View) → get_elem? vs id ≡ some v → get_elem? (set vs id w) id ≡ some w
-seat_set [] id v w at = absurd (some-ne-none v (sym at))
-seat_set (x ∷ xs) zero v w at = refl
-seat_set (x ∷ xs) (suc id) v w at = seat_set xs id v w at
+use Rattle.flash_rule.proofs.Points.{seat_set}
 
 -- who programmed and erased what, and what each one did, in order
 pub record Deeds : Type 0 where

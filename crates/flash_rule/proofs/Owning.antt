@@ -292,7 +292,7 @@ put2_else f a b x i j apart =
     (λ p. rw (ne_eqb i a p) refl)
 
 -- a function of three numbers with one value replaced
-pub put3 : {X : Type 0} → (ℕ → ℕ → ℕ → X) → ℕ → ℕ → ℕ → X → ℕ → ℕ → ℕ → X
+unfoldable pub put3 : {X : Type 0} → (ℕ → ℕ → ℕ → X) → ℕ → ℕ → ℕ → X → ℕ → ℕ → ℕ → X
 put3 f a b c x = put f a (put (f a) b (put (f a b) c x))
 
 pub put3_here : {X : Type 0} (f : ℕ → ℕ → ℕ → X) (a b c : ℕ) (x : X) → put3 f a b c x a b c ≡ x

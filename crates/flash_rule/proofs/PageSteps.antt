@@ -10,28 +10,16 @@ use Rattle.flash_rule.proofs.Owning.{some_same, blocks_apart, open_victim, holdi
 use Rattle.flash_rule.proofs.Frames.{counted, knowledge_kept, assembled, block_kept, sector_kept}
 use Rattle.flash_rule.proofs.Ceding.{ceded_still}
 use Rattle.flash_rule.proofs.Still.{pass_of, intact_age, met, programs_once, onward_of}
+use Rattle.std.proofs.lemmas.List.{get_or_append_left, get_or_push}
+use Rattle.flash_rule.proofs.Owning.{put3, put3_here, put3_else}
 
 pub word_here : (f : ℕ → ℕ → ℕ → ℕ) (b p i x : ℕ) → put_word f b p i x b p i ≡ x
-word_here f b p i x = rw (eq_self b) (rw (eq_self p) (rw (eq_self i) refl))
+unfolding put3
+word_here f b p i x = put3_here f b p i x
 
 pub word_else : (f : ℕ → ℕ → ℕ → ℕ) (b p i x c q j : ℕ) → ¬ ((c ≡ b) × (q ≡ p) × (j ≡ i)) → put_word f b p i x c q j ≡ f c q j
-word_else f b p i x c q j apart =
-    dite (ℕ_discrete c b)
-    (λ k. dite (ℕ_discrete q p)
-    (λ l. dite (ℕ_discrete j i) (λ m. absurd (apart (k, l, m))) (λ m. rw (eq-eqb c b k) (rw (eq-eqb q p l) (rw (ne_eqb j i m) (λ t. f (sym k t) (sym l t) j)))))
-    (λ l. rw (eq-eqb c b k) (rw (ne_eqb q p l) (λ t. f (sym k t) q j))))
-    (λ k. rw (ne_eqb c b k) refl)
-
-get_front : (xs ys : List ℕ) (k : ℕ) → k < length xs → get_or (xs ++ ys) k 0 ≡ get_or xs k 0
-get_front [] ys k low = absurd (omega arith)
-get_front (x ∷ xs) ys zero low = refl
-get_front (x ∷ xs) ys (suc k) low = get_front xs ys k (omega arith)
-
-get_end : (xs : List ℕ) (y k : ℕ) → k ≡ length xs → get_or (xs ++ y ∷ []) k 0 ≡ y
-get_end [] y zero is = refl
-get_end [] y (suc k) is = absurd (omega arith)
-get_end (x ∷ xs) y zero is = absurd (omega arith)
-get_end (x ∷ xs) y (suc k) is = get_end xs y k (omega arith)
+unfolding put3
+word_else f b p i x c q j apart = put3_else f b p i x c q j apart
 
 -- a block whose work is counted has no words in its next page
 pub words_none : (d : Option Work) (o : Owned) → ((x : Work) → d ≡ Some x → x.page.block ≡ o.block → x.page.page < o.written) → words_in d o ≡ []
@@ -130,11 +118,11 @@ module _ (z : Numbers) (g : World) (vs : List View) (id : ℕ) (v : View) (o : O
         full = λ low. absurd (omega arith);
         stands = λ j low. dite (ℕ_discrete j put_at)
             (λ last. ap (λ k. put_word g.pages o.block p put_at x o.block p k) last
-            ∙ (word_here g.pages o.block p put_at x ∙ sym (get_end words x j last)))
+            ∙ (word_here g.pages o.block p put_at x ∙ sym (get_or_push words x 0 j (sym last))))
             (λ other.
             let within : j < length words = omega arith in
             word_else g.pages o.block p put_at x o.block p j (λ same. other same.2)
-            ∙ (words_stand z g v.owns v.work o (law.views id v at).holding.work j within ∙ sym (get_front words (x ∷ []) j within)));
+            ∙ (words_stand z g v.owns v.work o (law.views id v at).holding.work j within ∙ sym (get_or_append_left words (x ∷ []) 0 j within)));
       }
 
   pub puts_word : o.written < z.pages → put_at ≤ z.words → SettledBut v o.block → Lawful z put_world (set vs id putter)

@@ -62,6 +62,11 @@ total_set f [] id v w at = absurd (some-ne-none v (sym at))
 total_set f (x ∷ xs) zero v w at = let e : f x ≡ f v = ap f (some-injective x v at) in omega arith
 total_set f (x ∷ xs) (suc id) v w at = let r = total_set f xs id v w at in omega arith
 
+pub seat_set : (vs : List View) (id : ℕ) (v w : View) → get_elem? vs id ≡ some v → get_elem? (set vs id w) id ≡ some w
+seat_set [] id v w at = absurd (some-ne-none v (sym at))
+seat_set (x ∷ xs) zero v w at = refl
+seat_set (x ∷ xs) (suc id) v w at = seat_set xs id v w at
+
 -- ---- roles
 pub player_same : (n m : Name) → Player n ≡ Player m → n ≡ m
 player_same n m e = cc

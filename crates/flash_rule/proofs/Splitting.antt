@@ -23,17 +23,9 @@ total_end : (f : View → ℕ) (vs : List View) (v : View) → total f (vs ++ v 
 total_end f [] v = omega arith
 total_end f (x ∷ vs) v = let r = total_end f vs v in omega arith
 
-seat_low : (vs : List View) (id : ℕ) (v : View) → get_elem? vs id ≡ some v → id < length vs
-seat_low [] id v at = absurd (some-ne-none v (sym at))
-seat_low (x ∷ vs) zero v at = omega arith
-seat_low (x ∷ vs) (suc id) v at = let r = seat_low vs id v at in omega arith
-
 -- ---- names
-pass_same : (t u : ℕ) → Player (Pass t) ≡ Player (Pass u) → t ≡ u
-pass_same t u e = cc
-
-broom_or_pass : (u t : ℕ) → Pass u ≡ Pass t → u ≡ t
-broom_or_pass u t e = cc
+passes_same : (t u : ℕ) → Pass t ≡ Pass u → t ≡ u
+passes_same t u e = cc
 
 alike : (n b c : ℕ) → get_or (replicate n c) b c ≡ c
 alike zero b c = refl
@@ -41,7 +33,7 @@ alike (suc n) zero c = refl
 alike (suc n) (suc b) c = alike n b c
 
 fresh_name : (g : World) (t : ℕ) → g.passes ≤ t → (m : Name) → IsDealt g m → ¬ (m ≡ Pass t)
-fresh_name g t high (Pass u) low e = let same : u ≡ t = broom_or_pass u t e in absurd (omega arith)
+fresh_name g t high (Pass u) low e = let same : u ≡ t = passes_same u t e in absurd (omega arith)
 fresh_name g t high (Broom j) low e = absurd (cc)
 
 dealt_more : (g g' : World) → g'.passes ≡ g.passes + 1 → g'.brooms ≡ g.brooms → (m : Name) → IsDealt g m → IsDealt g' m
@@ -250,9 +242,6 @@ module _ (z : Numbers) (g : World) (id new : ℕ) (n : Name) (passes brooms : �
         home = λ m is _. subst (λ (m : Name). after_deal.carries m ≡ None) (same m is) (name_here g.carries n None);
         dealer = λ is. absurd (cc);
       }
-
-passes_same : (t u : ℕ) → Pass t ≡ Pass u → t ≡ u
-passes_same t u e = cc
 
 module _ (z : Numbers) (id : ℕ) (v : View) where
   -- DEAL. The dealer hands out the next pass

@@ -4,12 +4,13 @@ use Rattle.std.specs.Prelude.{◌≡◌, ℕ, ◌+◌, ◌*◌, ◌<◌, ◌≤�
 use Rattle.atomic_table.specs.Table.{Step}
 use Rattle.geometry.specs.History.{held, Begins}
 use Rattle.geometry.specs.MapWords.{map_word, FitsMap}
-use Rattle.geometry.specs.PinWords.{pin_word, FitsPin}
+use Rattle.geometry.specs.PinWords.{pin_word, FitsPin, freed_added, kept_added}
 use Rattle.geometry.specs.TableOrder.{pin_index, page_index}
 use Rattle.geometry.specs.declared.map_word.MapWord.{MapWord}
 use Rattle.geometry.specs.declared.pin_word.PinWord.{PinWord}
 use Rattle.geometry.specs.declared.pin_word.Phase.{Phase}
 use Rattle.geometry.specs.declared.pin_word.Phase.TheVariants.{Open, Closed, Victim, Drained, Erasing, Retired}
+use Rattle.geometry.specs.declared.pin_word.TheConstants.{NEXT_PHASE}
 use Rattle.flash_rule.specs.declared.facts.Owned.{Owned}
 use Rattle.flash_rule.specs.declared.facts.Source.{Source}
 use Rattle.flash_rule.specs.declared.facts.Cycle.{Cycle}
