@@ -1,17 +1,16 @@
 -- Each kind of step that a broom makes on map words and page words, as the table asks for it: whatever the table is, the step keeps the rule and
 -- tells what it says.
 use Rattle.flash_rule.proofs.Words.{◌≡◌, ℕ, ◌+◌, ◌*◌, ◌<◌, ◌≤◌, ◌==◌, eq-eqb, ne_eqb, true, Some, set, sym, refl, ap, ◌∙◌, subst, arith, get_or, none, dite}
-use Rattle.flash_rule.proofs.Words.{ℕ_discrete, either, step, keeps, stepped, Allows, set_again, Numbers, map_word, page_index}
-use Rattle.flash_rule.proofs.Words.{MapWord, Owned, Source, View, is_player, owned_at, World, Fits, sector_word, blank_word, Lawful, Ruled, Sitter, Named}
-use Rattle.flash_rule.proofs.Words.{CanGetStamp, GotStamp, CanMove, Moved, wiper}
-use Rattle.flash_rule.specs.BroomPlays.{CanWipe, broom_look_told, stamp_told, source_told, move_told, wipe_told}
+use Rattle.flash_rule.proofs.Words.{ℕ_discrete, either, step, keeps, stepped, Allows, set_again, Numbers, map_word, page_index, MapWord, Owned, Source, View}
+use Rattle.flash_rule.proofs.Words.{is_player, owned_at, World, Fits, sector_word, blank_word, Lawful, Ruled, Sitter, Named, CanGetStamp, GotStamp, CanMove}
+use Rattle.flash_rule.proofs.Words.{Moved, wiper}
 use Rattle.flash_rule.proofs.Points.{player_of}
 use Rattle.flash_rule.proofs.Owning.{some_same}
 use Rattle.flash_rule.proofs.Places.{fits_page, page_within, page_same}
 use Rattle.flash_rule.proofs.Ruling.{Does, does, ruled_kept, ruled_map}
-use Rattle.flash_rule.proofs.BroomSteps.{looks, stamp_low, gets_stamp, gets_source, source_low, names_source, mover, stays, moves_page}
-use Rattle.flash_rule.proofs.BroomSteps.{move_told_here}
+use Rattle.flash_rule.proofs.BroomSteps.{looks, stamp_low, gets_stamp, gets_source, source_low, names_source, mover, stays, moves_page, move_told_here}
 use Rattle.flash_rule.proofs.Wiping.{row_of, wiped_index, wipe_world, wipes_word, erased_low}
+use Rattle.flash_rule.specs.BroomPlays.{CanWipe, broom_look_told, stamp_told, source_told, move_told, wipe_told}
 
 module _ (z : Numbers) (slots id : ℕ) (me : Sitter) where
   -- ---- look
@@ -104,7 +103,8 @@ module _ (z : Numbers) (slots id : ℕ) (me : Sitter) where
       (λ its.
       let named = names_source z g t.views id me.0 name.0 law at name.1 x can.is low (sym found ∙ its) in
       answer (after (me.0.moves + 1))
-      (ruled_map z id me t g fits s (Some copy) g.history (after (me.0.moves + 1)) new low (ap (λ b. either b (map_word copy) n) (eq-eqb n (map_word x.page) its))
+      (ruled_map z id me t g fits s (Some copy) g.history (after (me.0.moves + 1)) new low
+      (ap (λ b. either b (map_word copy) n) (eq-eqb n (map_word x.page) its))
       (moves_page z g t.views id me.0 name.0 law at name.1 x copy can low named))
       (move_told_here z g t.views id me.0 name.0 law at name.1 x copy can low named n its))
       (λ other.

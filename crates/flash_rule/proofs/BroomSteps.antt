@@ -4,15 +4,15 @@ use Rattle.flash_rule.proofs.Words.{subst, arith, some, dite, ℕ_discrete, dec_
 use Rattle.flash_rule.proofs.Words.{map_same, MapWord, Victim, Name, Pass, Player, Owned, Work, Source, Carried, View, is_player, is_live_role, owned_at}
 use Rattle.flash_rule.proofs.Words.{AreOfHosts, calls_of, World, is_reclaimed, sector_word, data_word, IsValue, IsCurrent, ReclaimsOne, LawfulOwned}
 use Rattle.flash_rule.proofs.Words.{LawfulSource, Lawful, Met, Named, CanGetStamp, GotStamp, Phase, Open, put, LawfulSector, LawfulView, Onward, CanMove, Moved}
-use Rattle.flash_rule.specs.World.{HoldsValue}
-use Rattle.flash_rule.specs.BroomPlays.{victim_page}
 use Rattle.flash_rule.proofs.Owning.{some_same, none_some, holding_with, kind_with, owned_with, knowledge_with, work_with}
-use Rattle.flash_rule.proofs.Still.{still, met_now, map_fits, onward_of}
+use Rattle.flash_rule.proofs.Still.{still, met_now, map_fits, onward_called}
 use Rattle.flash_rule.proofs.MapSteps.{word_empty, word_named, filled}
 use Rattle.flash_rule.proofs.Values.{value_same}
 use Rattle.flash_rule.proofs.Points.{put_here, put_else, put_all}
 use Rattle.flash_rule.proofs.Frames.{counted, knowledge_kept, assembled, block_kept, sector_kept}
 use Rattle.flash_rule.proofs.Ceding.{ceded_still}
+use Rattle.flash_rule.specs.World.{HoldsValue}
+use Rattle.flash_rule.specs.BroomPlays.{victim_page}
 
 some_or_none : {X : Type 0} (x : Option X) → (x ≡ None) ⊎ ((y : X) × (x ≡ Some y))
 some_or_none None = inl refl
@@ -371,7 +371,8 @@ module _ (z : Numbers) (g : World) (vs : List View) (id : ℕ) (v : View) (n : N
 
     move_onward : Onward z g exchanged_world id id
     move_onward =
-        onward_of z g id id exchanged_world.map g.pages g.badge g.carries (λ _ _ p i. refl) (λ b p i _ _. refl)
+        onward_called z g id id g.history exchanged_world.map g.pages g.badge g.carries (Begins-refl g.history) (λ _ _. refl)
+        (λ _ _ p i. refl) (λ b p i _ _. refl)
         (λ s m is. put_all g.map x.stamp (Some copy) (λ j y. y ≡ Some m → (g.map j ≡ Some m) ⊎ (g.owner m.block ≡ id))
         (λ is. inr (ap (λ (y : MapWord). g.owner y.block) (sym (some_same copy m is)) ∙ the_copy.0)) (λ j _ is. inl is) s is)
         (λ n _ _. (refl, refl)) (λ n c is. inl is)

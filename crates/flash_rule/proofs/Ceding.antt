@@ -3,11 +3,10 @@ use Rattle.flash_rule.proofs.Words.{◌≡◌, ◌≢◌, ℕ, zero, suc, ◌<�
 use Rattle.flash_rule.proofs.Words.{slice_get, sym, refl, ap, ◌∙◌, subst, arith, if◌then◌else◌, some, some-injective, some-ne-none, dite, ℕ_discrete, get_elem?}
 use Rattle.flash_rule.proofs.Words.{at_set, set_else, at_longer, Numbers, PinWord, Owned, Cycle, View, may_own, put, is_owned, rank, entry_of, IsReached}
 use Rattle.flash_rule.proofs.Words.{IsUnused, IsCededBy, IsCeded, drained_of, LawfulCeded}
+use Rattle.flash_rule.proofs.Points.{put_here, put_all, seat_set}
+use Rattle.flash_rule.proofs.Owning.{nothing, get_last}
 use Rattle.atomic_table.proofs.Lists.{at_snoc}
 use Rattle.flash_rule.specs.Ceded.{IsSameTurn, is_drained}
-use Rattle.flash_rule.proofs.Points.{put_here, put_all}
-use Rattle.flash_rule.proofs.Owning.{nothing, get_last}
-use Rattle.flash_rule.proofs.Points.{seat_set}
 
 -- what was reached stays reached
 pub reached_on : (o : Owned) (b : ℕ) (p q : PinWord) → IsReached o p → IsReached (entry_of b p) q → IsReached o q

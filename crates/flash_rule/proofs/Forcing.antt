@@ -6,18 +6,17 @@ use Rattle.flash_rule.proofs.Words.{Ruled, Sitter, Forces, ◌+◌, ◌^◌, ◌
 use Rattle.flash_rule.proofs.Words.{MapWord, Free, Open, READER, PAGE_WRITTEN, NEXT_PHASE, TAKEN, is_broom, is_player, with_owned, Intact, LawfulKind, Took}
 use Rattle.flash_rule.proofs.Words.{Pinned, take_told, pin_told, unpin_told, count_told, close_told, claim_told, drain_told, condemn_told, freed_told}
 use Rattle.flash_rule.proofs.Words.{kept_told, retired_told}
-use Rattle.flash_rule.proofs.Points.{phase_of, of_rank, total_set, player_live, broom_live, phase_or_not}
+use Rattle.flash_rule.proofs.Points.{phase_of, of_rank, total_set, player_live, broom_live, phase_or_not, seat_set}
 use Rattle.flash_rule.proofs.Places.{pin_within}
-use Rattle.flash_rule.proofs.Points.{seat_set}
-use Rattle.std.proofs.Common.{bit_or}
-use Rattle.flash_rule.specs.Forced.{plus, to_next_phase, TakeSets, PinAdds, UnpinTakesOff, CountAdds, CloseAdds, ClaimExchanges, DrainAdds, CondemnExchanges}
-use Rattle.flash_rule.specs.Forced.{FreeAdds, KeepAdds, RetireAdds}
 use Rattle.flash_rule.proofs.OwnSteps.{worker}
 use Rattle.flash_rule.proofs.Ruling.{owner_numbers}
 use Rattle.flash_rule.proofs.Still.{pass_numbers}
 use Rattle.flash_rule.proofs.Steps.{take_allowed, count_allowed, close_allowed}
 use Rattle.flash_rule.proofs.ReaderSteps.{intact_or_not, pin_allowed, unpin_allowed}
 use Rattle.flash_rule.proofs.ReclaimAllowed.{claim_allowed, condemn_allowed, drain_allowed, freed_allowed, kept_allowed, retired_allowed}
+use Rattle.std.proofs.Common.{bit_or}
+use Rattle.flash_rule.specs.Forced.{plus, to_next_phase, TakeSets, PinAdds, UnpinTakesOff, CountAdds, CloseAdds, ClaimExchanges, DrainAdds, CondemnExchanges}
+use Rattle.flash_rule.specs.Forced.{FreeAdds, KeepAdds, RetireAdds}
 use Rattle.geometry.proofs.PinBits as bits
 
 -- Two views of one seat own and gave up the same blocks, and have the same pinned

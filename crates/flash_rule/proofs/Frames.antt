@@ -6,12 +6,11 @@ use Rattle.flash_rule.proofs.Words.{IsProgrammed, Programs, Erases, IsCandidate,
 use Rattle.flash_rule.proofs.Words.{LawfulSource, LawfulHolding, LawfulView, Lawful, PinOnward, Untouched, ListsOnward, Onward, ◌≢◌, ◌-◌, Bool, false, set}
 use Rattle.flash_rule.proofs.Words.{at_set, set_else, held, FitsPin, Broom, Dealer, Player, Note, Gone, is_pass, weight, role_weight, owned_at, AreOfHosts}
 use Rattle.flash_rule.proofs.Words.{calls_of, is_nameable, is_still, LawfulCeded, IsCurrent, LawfulSector, LawfulBlock, LawfulKind}
+use Rattle.flash_rule.proofs.Points.{eq_self, total_set, seat_set}
+use Rattle.flash_rule.proofs.Owning.{source_with, work_with}
 use Rattle.std.proofs.lemmas.List.{append-nil}
 use Rattle.geometry.proofs.Histories.{Begins-trans}
 use Rattle.flash_rule.specs.Rule.{IsAccepted}
-use Rattle.flash_rule.proofs.Points.{eq_self, total_set}
-use Rattle.flash_rule.proofs.Owning.{source_with, work_with}
-use Rattle.flash_rule.proofs.Points.{seat_set}
 
 pub programmed_onward : {p q : PinWord} (m : MapWord) → PinOnward p q → IsProgrammed p m → IsProgrammed q m
 programmed_onward {p} {q} m on (inl older) = let h = on.generation in inl (omega arith)

@@ -3,13 +3,13 @@ use Rattle.flash_rule.proofs.Words.{◌≡◌, ◌≢◌, ℕ, ◌<◌, ◌⊎�
 use Rattle.flash_rule.proofs.Words.{arith, some, dite, ℕ_discrete, get_elem?, Call, held, Begins-refl, Numbers, MapWord, Open, Victim, Pass, Dealer, Player}
 use Rattle.flash_rule.proofs.Words.{View, is_pass, AreOfHosts, calls_of, caller, World, put, sector_word, LawfulSector, LawfulView, Lawful, Onward, Placed, ◌≤◌}
 use Rattle.flash_rule.proofs.Words.{inr, get_or, Write, WriteNew, Trim, Name, Owned, is_live_role, owned_at, is_nameable, IsCurrent, IsValue, CanPlace}
-use Rattle.std.proofs.lemmas.List.Elements.{All-push}
-use Rattle.geometry.proofs.Histories.{Begins-push, held_written, held_trimmed, held_new, after_refused, held_by_write, held_by_new, held_by_trim}
 use Rattle.flash_rule.proofs.Points.{put_else, put_all, put_here}
 use Rattle.flash_rule.proofs.Frames.{counted, knowledge_kept, lists_stay, assembled, block_kept, sector_kept}
 use Rattle.flash_rule.proofs.Ceding.{ceded_still}
-use Rattle.flash_rule.proofs.Still.{pin_stays, pass_numbers}
+use Rattle.flash_rule.proofs.Still.{pin_stays, pass_numbers, onward_called}
 use Rattle.flash_rule.proofs.Owning.{kind_as, owned_with, work_with, knowledge_with, some_same, none_some}
+use Rattle.std.proofs.lemmas.List.Elements.{All-push}
+use Rattle.geometry.proofs.Histories.{Begins-push, held_written, held_trimmed, held_new, after_refused, held_by_write, held_by_new, held_by_trim}
 
 calls_else : (t : ℕ) (h : List Call) (c : Call) → caller c ≢ t → calls_of t (h ++ c ∷ []) ≡ calls_of t h
 calls_else t [] c apart = rw (ne_eqb (caller c) t apart) refl
@@ -63,21 +63,11 @@ module _ (z : Numbers) (g : World) (vs : List View) (id : ℕ) (v : View) (t s :
       let h = law.views id v at in
       let g' = place_world in
       let named = h.holding.name (Pass t) role in
-      let on : Onward z g g' id id = record {
-        history = Begins-push g.history c;
-        calls = λ u other. calls_else u g.history c (λ same. other (ap (λ k. g.seat (Pass k)) (sym same ∙ by_me) ∙ named.0));
-        seat = λ n dealt. (refl, dealt);
-        pins = λ b _. pin_stays (g.pins b);
-        owned = λ b _ _ _. record { owner = refl; phase = refl; generation = refl; written = refl; pages = λ p i. refl };
-        pages = λ b p i _ _ _. refl;
-        named = λ u n is. put_all g.map s m (λ j x. x ≡ Some n → (g.map j ≡ Some n) ⊎ (g.owner n.block ≡ id)) (mine n) (λ j _ is. inl is) u is;
-        programmer = λ n _. refl;
-        eraser = λ b n _. refl;
-        lists = λ n _. lists_stay g g' id n refl refl;
-        dealer = λ _. (refl, refl);
-        badge = λ n _ _ _. (refl, refl);
-        carries = λ n c is. inl is;
-      } in
+      let on : Onward z g g' id id = onward_called z g id id (g.history ++ c ∷ []) g'.map g.pages g.badge g.carries (Begins-push g.history c)
+      (λ u other. calls_else u g.history c (λ same. other (ap (λ k. g.seat (Pass k)) (sym same ∙ by_me) ∙ named.0)))
+      (λ _ _ p i. refl) (λ b p i _ _. refl)
+      (λ u n is. put_all g.map s m (λ j x. x ≡ Some n → (g.map j ≡ Some n) ⊎ (g.owner n.block ≡ id)) (mine n) (λ j _ is. inl is) u is)
+      (λ n _ _. (refl, refl)) (λ n c is. inl is) in
       let knows = knowledge_kept z g g' id id on v (λ b is below. counted vs law id v at b is below) h.knowledge in
       let calls : (u : ℕ) → v.role ≡ Player (Pass u) → calls_of u (g.history ++ c ∷ []) ≡ v.mine ++ c ∷ [] = λ u is.
       let same : t ≡ u = pass_same t u (sym role ∙ is) in calls_here u g.history c (by_me ∙ same) ∙ ap (λ l. l ++ c ∷ []) (h.holding.calls u is).0 in

@@ -4,14 +4,14 @@ use Rattle.flash_rule.proofs.Words.{arith, some, some-injective, dite, ℕ_discr
 use Rattle.flash_rule.proofs.Words.{Pass, Broom, Role, Dealer, Player, Note, Owned, Pin, Clear, Carried, View, one_if, is_pass, is_live_role, may_own, Gone}
 use Rattle.flash_rule.proofs.Words.{pin_is_on, pins_on, weight, role_weight, owned_at, same_name, if◌then◌else◌, World, put_name, LawfulBlock, LawfulCopy}
 use Rattle.flash_rule.proofs.Words.{Grown, LawfulKnowledge, LawfulView, Lawful, IsDealt, Onward, Ruled, gone}
-use Rattle.atomic_table.specs.Table.{Joins}
-use Rattle.flash_rule.specs.Seats.{newcomer, name_of, carried, lender, lent_note, host_of, giver, given_note, home}
 use Rattle.flash_rule.proofs.Points.{player_same, total_set, name_here, name_else, name_all}
 use Rattle.flash_rule.proofs.Owning.{some_same, none_some, knowledge_as, owned_as, source_with, work_with}
 use Rattle.flash_rule.proofs.Ceding.{ceded_split, ceded_gone}
 use Rattle.flash_rule.proofs.Frames.{begins_same, counted, others, knowledge_kept, copy_kept, owner_kept}
-use Rattle.flash_rule.proofs.Still.{onward_of}
+use Rattle.flash_rule.proofs.Still.{onward_called}
 use Rattle.flash_rule.proofs.Splitting.{split, current_kept, kind_fresh, knowledge_fresh, holding_unnamed}
+use Rattle.atomic_table.specs.Table.{Joins}
+use Rattle.flash_rule.specs.Seats.{newcomer, name_of, carried, lender, lent_note, host_of, giver, given_note, home}
 
 -- the table with one badge moved, and what it has with it
 abbrev pub badged : World → Name → ℕ → Option Carried → World
@@ -21,7 +21,8 @@ badged g n seat c = record g { badge = put_name g.badge n seat; carries = put_na
 pub badge_moves : (z : Numbers) (g : World) (id other : ℕ) (n : Name) (seat : ℕ) (c : Option Carried) → (g.badge n ≡ id) ⊎ (g.badge n ≡ other)
     → ((d : Carried) → c ≡ Some d → (d.programs ≡ g.programs d.of) × (d.erases ≡ g.erases d.of)) → Onward z g (badged g n seat c) id other
 badge_moves z g id other n seat c was all =
-    onward_of z g id other g.map g.pages (put_name g.badge n seat) (put_name g.carries n c) (λ _ _ p i. refl) (λ b p i _ _. refl) (λ s m is. inl is)
+    onward_called z g id other g.history g.map g.pages (put_name g.badge n seat) (put_name g.carries n c) (Begins-refl g.history) (λ _ _. refl)
+    (λ _ _ p i. refl) (λ b p i _ _. refl) (λ s m is. inl is)
     (λ m apart apart'.
     let other_name : ¬ (m ≡ n) = λ same. ⊎_elim (λ e. apart (ap g.badge same ∙ e)) (λ e. apart' (ap g.badge same ∙ e)) was in
     (name_else g.badge n seat m other_name, name_else g.carries n c m other_name))

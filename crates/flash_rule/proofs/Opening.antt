@@ -1,18 +1,18 @@
 -- The table at the start meets the rule.
 use Rattle.flash_rule.proofs.Words.{◌≡◌, ℕ, zero, suc, ◌*◌, ◌+◌, ◌-◌, ◌<◌, ◌≤◌, inl, eq-eqb, ne_eqb, true, false, List, [], ◌∷◌, ◌++◌, None, Some, length}
 use Rattle.flash_rule.proofs.Words.{replicate, slice_get, sym, refl, ap, ◌∙◌, subst, arith, length-append, length-replicate, All-nil, get_or, if◌then◌else◌}
-use Rattle.flash_rule.proofs.Words.{some, some-injective, some-ne-none, dite, ℕ_discrete, dec_lt, get_elem?, Numbers, pin_index, page_index}
-use Rattle.flash_rule.proofs.Words.{PinWord, Free, Open, Owned, View, owned_at, caller, World, Fits, is_owned, blank_word, IsCededBy, drained_of}
-use Rattle.flash_rule.proofs.Words.{LawfulCeded, LawfulBlock, LawfulOwned, LawfulView, Lawful, Ruled, spare, spares, Dealer}
+use Rattle.flash_rule.proofs.Words.{some, some-injective, some-ne-none, dite, ℕ_discrete, dec_lt, get_elem?, Numbers, pin_index, page_index, PinWord, Free}
+use Rattle.flash_rule.proofs.Words.{Open, Owned, View, owned_at, caller, World, Fits, is_owned, blank_word, IsCededBy, drained_of, LawfulCeded, LawfulBlock}
+use Rattle.flash_rule.proofs.Words.{LawfulOwned, LawfulView, Lawful, Ruled, spare, spares, Dealer}
+use Rattle.flash_rule.proofs.Owning.{none_some, some_same, nothing}
+use Rattle.flash_rule.proofs.Places.{row_within}
+use Rattle.flash_rule.proofs.Splitting.{kind_fresh, knowledge_fresh, holding_unnamed}
 use Rattle.std.specs.Prelude.{nat_lt}
 use Rattle.atomic_table.specs.Table.{opening}
 use Rattle.geometry.proofs.Histories.{held_at_first}
 use Rattle.geometry.specs.Limits.{IsWithinLimits}
 use Rattle.geometry.specs.PinWords.{phase_bits}
 use Rattle.flash_rule.specs.Seats.{dealer, opening_words}
-use Rattle.flash_rule.proofs.Owning.{none_some, some_same, nothing}
-use Rattle.flash_rule.proofs.Places.{row_within}
-use Rattle.flash_rule.proofs.Splitting.{kind_fresh, knowledge_fresh, holding_unnamed}
 use Rattle.std.proofs.lemmas.Bool.Decides.{nat_tests}
 use Rattle.std.proofs.lemmas.List.{get_or_append_left, get_or-append-add, get_or-replicate}
 

@@ -7,17 +7,16 @@ use Rattle.flash_rule.proofs.Words.{IsProgrammed, IsFilling, LawfulBlock, Lawful
 use Rattle.flash_rule.proofs.Words.{⊎_elim, None, length, slice_get, Begins, Closed, Player, may_own, without, put_name, Programs, LawfulKind, LawfulWork}
 use Rattle.flash_rule.proofs.Words.{next_page, Source, LawfulSource, ReclaimsOne}
 use Rattle.flash_rule.proofs.Points.{player_may_own, put_here, put_else, put_all, total_set, player_same, idle_or_player, may_own_else, name_here, name_else}
-use Rattle.flash_rule.proofs.Points.{name_all}
-use Rattle.flash_rule.proofs.Owning.{with_here, with_else, owned_else, one_with_open, holding_with, kind_as, kind_with, knowledge_as, source_with}
-use Rattle.flash_rule.proofs.Owning.{work_with, owns_none_else, some_same, none_some, without_else, one_without, get_last, put3, put3_here}
-use Rattle.flash_rule.proofs.Owning.{put3_else, blocks_apart, open_victim, knowledge_with, owned_with, entry_gone, entry_set}
+use Rattle.flash_rule.proofs.Points.{name_all, seat_set}
+use Rattle.flash_rule.proofs.Owning.{with_here, with_else, owned_else, one_with_open, holding_with, kind_as, kind_with, knowledge_as, source_with, work_with}
+use Rattle.flash_rule.proofs.Owning.{owns_none_else, some_same, none_some, without_else, one_without, get_last, put3, put3_here, put3_else, blocks_apart}
+use Rattle.flash_rule.proofs.Owning.{open_victim, knowledge_with, owned_with, entry_gone, entry_set}
 use Rattle.flash_rule.proofs.Frames.{counted, knowledge_kept, lists_stay, assembled, block_kept, named_kept}
 use Rattle.flash_rule.proofs.Ceding.{ceded_owned, ceded_last}
 use Rattle.flash_rule.proofs.Still.{stays_onward, pin_stays, still}
 use Rattle.std.proofs.lemmas.List.{append-nil}
 use Rattle.flash_rule.specs.Plays.{IsSettled}
 pub use Rattle.flash_rule.proofs.Points.{player_of}
-use Rattle.flash_rule.proofs.Points.{seat_set}
 
 -- who programmed and erased what, and what each one did, in order
 pub record Deeds : Type 0 where

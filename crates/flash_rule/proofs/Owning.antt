@@ -4,8 +4,8 @@ use Rattle.flash_rule.proofs.Words.{Open, Victim, Erasing, Name, Pass, Player, O
 use Rattle.flash_rule.proofs.Words.{World, IsBlank, blank_word, IsFilling, ReclaimsOne, LawfulKind, LawfulKnowledge, LawfulOwned, LawfulWork, LawfulSource}
 use Rattle.flash_rule.proofs.Words.{LawfulHolding, gone, Begins, LawfulPin, Programs, Erases, age_of, ◌≢◌, zero, suc, ◌⊎◌, inl, inr, ⊎_elim, eq-eqb, ne_eqb}
 use Rattle.flash_rule.proofs.Words.{◌∷◌, ◌++◌, length, slice_get, dite, ℕ_discrete, MapWord, without, with_owned, put, is_reclaimed}
-use Rattle.std.specs.Prelude.{slice_index}
 use Rattle.flash_rule.proofs.Points.{eq_self}
+use Rattle.std.specs.Prelude.{slice_index}
 
 -- what is said of a view's kind, but for its blocks and work
 abbrev kind_of : View → View

@@ -3,15 +3,15 @@ use Rattle.flash_rule.proofs.Words.{◌≡◌, ◌≢◌, ℕ, zero, suc, ◌*�
 use Rattle.flash_rule.proofs.Words.{Some, length, set, sym, refl, ap, ◌∙◌, subst, arith, length-append, get_or, some, dite, ℕ_discrete, get_elem?, Numbers}
 use Rattle.flash_rule.proofs.Words.{MapWord, Open, Erasing, Pin, Owned, Pass, Broom, Role, Dealer, Player, Note, Gone, Clear, Accepted, Work, Carried, View}
 use Rattle.flash_rule.proofs.Words.{is_pass, is_player, owned_at, World, put_word, is_still, age_of, data_word, IsFilling, LawfulOwned, LawfulWork, LawfulView}
-use Rattle.flash_rule.proofs.Words.{Lawful, LawfulPin, Onward, next_page, words_in, ◌+◌}
-use Rattle.flash_rule.specs.Plays.{SettledBut, Spared}
+use Rattle.flash_rule.proofs.Words.{Lawful, LawfulPin, Onward, next_page, words_in, ◌+◌, Begins-refl}
 use Rattle.flash_rule.proofs.Points.{eq_self}
-use Rattle.flash_rule.proofs.Owning.{some_same, blocks_apart, open_victim, holding_with, kind_with, knowledge_as, owned_with, source_with}
+use Rattle.flash_rule.proofs.Owning.{some_same, blocks_apart, open_victim, holding_with, kind_with, knowledge_as, owned_with, source_with, put3, put3_here}
+use Rattle.flash_rule.proofs.Owning.{put3_else}
 use Rattle.flash_rule.proofs.Frames.{counted, knowledge_kept, assembled, block_kept, sector_kept}
 use Rattle.flash_rule.proofs.Ceding.{ceded_still}
-use Rattle.flash_rule.proofs.Still.{pass_of, intact_age, met, programs_once, onward_of}
+use Rattle.flash_rule.proofs.Still.{pass_of, intact_age, met, programs_once, onward_called}
+use Rattle.flash_rule.specs.Plays.{SettledBut, Spared}
 use Rattle.std.proofs.lemmas.List.{get_or_append_left, get_or_push}
-use Rattle.flash_rule.proofs.Owning.{put3, put3_here, put3_else}
 
 pub word_here : (f : ℕ → ℕ → ℕ → ℕ) (b p i x : ℕ) → put_word f b p i x b p i ≡ x
 unfolding put3
@@ -131,7 +131,7 @@ module _ (z : Numbers) (g : World) (vs : List View) (id : ℕ) (v : View) (o : O
       let b = o.block in
       let g' = put_world in
       let mine = entry in
-      let on : Onward z g g' id id = onward_of z g id id g.map g'.pages g.badge g.carries
+      let on : Onward z g g' id id = onward_called z g id id g.history g.map g'.pages g.badge g.carries (Begins-refl g.history) (λ _ _. refl)
       (λ c other q j. else_block c q j (λ same. other (ap g.owner same ∙ mine.owner)))
       (λ c q j _ low. programmed_stays c q j low) (λ s m is. inl is) (λ n _ _. (refl, refl)) (λ n c is. inl is) in
       let knows = knowledge_kept z g g' id id on v (λ c is below. counted vs law id v at c is below) h.knowledge in

@@ -1,11 +1,10 @@
 -- Each step of a broom on a pin word, as the table asks for it: whatever the table is, the step keeps the rule and tells what it says.
 use Rattle.flash_rule.proofs.Words.{◌≡◌, ◌≢◌, ℕ, ◌+◌, ◌%◌, ◌^◌, ◌<◌, ◌≤◌, ⊎_elim, ◌==◌, eq-eqb, ne_eqb, true, List, [], ◌∷◌, ◌++◌, set, sym, refl, ap, ◌∙◌}
-use Rattle.flash_rule.proofs.Words.{subst, arith, get_or, either, some, none, dite, ℕ_discrete, get_elem?, State, step, keeps, stepped}
-use Rattle.flash_rule.proofs.Words.{Allows, Numbers, pin_word, FitsPin, freed_added, kept_added, pin_index, PinWord, Open, Closed, Victim}
-use Rattle.flash_rule.proofs.Words.{Drained, Erasing, Retired, NEXT_PHASE, Owned, View, is_broom, without, with_owned, World, Fits, is_owned, freed_as, Lawful}
-use Rattle.flash_rule.proofs.Words.{Ruled, Sitter, CanClaim, Claimed, CanCondemn, Condemned, CanDrain, CanRenew, CanRetire, owned_as, cycle_of, claim_told}
-use Rattle.flash_rule.proofs.Words.{condemn_told, drain_told, freed_told, kept_told, retired_told}
-use Rattle.flash_rule.specs.BroomPlays.{Loaded, state_told}
+use Rattle.flash_rule.proofs.Words.{subst, arith, get_or, either, some, none, dite, ℕ_discrete, get_elem?, State, step, keeps, stepped, Allows, Numbers}
+use Rattle.flash_rule.proofs.Words.{pin_word, FitsPin, freed_added, kept_added, pin_index, PinWord, Open, Closed, Victim, Drained, Erasing, Retired, NEXT_PHASE}
+use Rattle.flash_rule.proofs.Words.{Owned, View, is_broom, without, with_owned, World, Fits, is_owned, freed_as, Lawful, Ruled, Sitter, CanClaim, Claimed}
+use Rattle.flash_rule.proofs.Words.{CanCondemn, Condemned, CanDrain, CanRenew, CanRetire, owned_as, cycle_of, claim_told, condemn_told, drain_told, freed_told}
+use Rattle.flash_rule.proofs.Words.{kept_told, retired_told}
 use Rattle.flash_rule.proofs.Points.{player_of, broom_player, broom_live, phase_or_not}
 use Rattle.flash_rule.proofs.Frames.{state_fits}
 use Rattle.flash_rule.proofs.OwnSteps.{Deeds, deeds, turned}
@@ -13,6 +12,7 @@ use Rattle.flash_rule.proofs.Ruling.{Does, does, ruled_as, ruled_still, same_blo
 use Rattle.flash_rule.proofs.Reclaiming.{unowned, notes, claims, claimed_state, claimer, condemns, condemned_state, condemner, condemn_deeds, drains_block}
 use Rattle.flash_rule.proofs.Reclaiming.{drained_state, retires, retired_state, frees, freed_state, keeps_block, kept_state, erasing_low, erasing_written}
 use Rattle.flash_rule.proofs.Reclaiming.{is_erasing}
+use Rattle.flash_rule.specs.BroomPlays.{Loaded, state_told}
 use Rattle.geometry.proofs.PinBits as bits
 
 -- what an exchange leaves

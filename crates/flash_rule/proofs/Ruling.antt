@@ -2,12 +2,12 @@
 use Rattle.flash_rule.proofs.Words.{◌≡◌, ℕ, ◌+◌, ◌%◌, ◌^◌, ◌<◌, List, Option, Some, set, sym, refl, ap, ◌∙◌, subst, arith, get_or, get_elem?, some, State, Act}
 use Rattle.flash_rule.proofs.Words.{Valid, keeps, stepped, carried_after, Allows, Call, Numbers, pin_word, FitsPin, pin_index, MapWord, PinWord, Owned, View}
 use Rattle.flash_rule.proofs.Words.{owned_at, World, Fits, sector_word, put, LawfulKind, Lawful, Ruled, Sitter, adds}
-use Rattle.geometry.specs.Limits.{table_words_of}
 use Rattle.flash_rule.proofs.Points.{owner_live, put_here}
 use Rattle.flash_rule.proofs.Places.{fits_load, fits_map, fits_pin, pin_within}
 use Rattle.flash_rule.proofs.Owning.{some_same, owns_none_else}
 use Rattle.flash_rule.proofs.Frames.{state_fits}
 use Rattle.flash_rule.proofs.OwnSteps.{Deeds, deeds, turned}
+use Rattle.geometry.specs.Limits.{table_words_of}
 
 module _ (z : Numbers) (id : ℕ) (me : Sitter) (t : State (Unit {0}) View) where
   -- what the table asks for a step that holds no slot

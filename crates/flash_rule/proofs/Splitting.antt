@@ -5,13 +5,13 @@ use Rattle.flash_rule.proofs.Words.{get_elem?, Splits, at_set, at_longer, Begins
 use Rattle.flash_rule.proofs.Words.{Clear, View, one_if, total, is_player, is_live_role, pin_is_on, pins_on, weight, role_weight, owned_at, AreOfHosts, Option}
 use Rattle.flash_rule.proofs.Words.{calls_of, World, put_name, is_owned, is_still, is_nameable, LawfulCeded, held, Free, LawfulSector, LawfulBlock, LawfulView}
 use Rattle.flash_rule.proofs.Words.{Lawful, IsDealt, Onward, Ruled, LawfulHolding, LawfulKnowledge, LawfulOwned, age_of, Carried, is_pass, Open, may_own, false}
-use Rattle.flash_rule.specs.Seats.{newcomer, new_pass, dealt_pass}
+use Rattle.flash_rule.proofs.Words.{LawfulKind}
 use Rattle.flash_rule.proofs.Points.{player_same, total_set, name_here, name_else, name_all}
 use Rattle.flash_rule.proofs.Owning.{none_some, not_reclaimed, nothing, kind_as, knowledge_as, owned_as}
 use Rattle.flash_rule.proofs.Ceding.{ceded_split}
 use Rattle.flash_rule.proofs.Frames.{counted, others, knowledge_kept, lists_stay, owner_kept, sector_kept}
 use Rattle.flash_rule.proofs.Still.{pin_stays}
-use Rattle.flash_rule.proofs.Words.{LawfulKind}
+use Rattle.flash_rule.specs.Seats.{newcomer, new_pass, dealt_pass}
 
 at_end : {X : Type 0} (xs : List X) (x y : X) (j : ℕ) → get_elem? (xs ++ x ∷ []) j ≡ some y → (get_elem? xs j ≡ some y) ⊎ ((j ≡ length xs) × (x ≡ y))
 at_end [] x y zero e = inr (refl, some-injective x y e)

@@ -1,17 +1,10 @@
 -- Each kind of step of a pass, as the table asks for it: whatever the table is, the step keeps the rule and tells what it says.
 use Rattle.flash_rule.proofs.Words.{◌≡◌, ℕ, ◌+◌, ◌%◌, ◌^◌, ◌<◌, ◌≤◌, ◌==◌, eq-eqb, ne_eqb, ⊎_elim, true, List, [], ◌∷◌, ◌++◌, Option, None, Some, length, set}
-use Rattle.flash_rule.proofs.Words.{sym, refl, ap, ◌∙◌, subst, arith, get_or, some, none, get_elem?, step, keeps, stepped, Allows}
-use Rattle.flash_rule.proofs.Words.{set_again, dite, ℕ_discrete, either, Call, Write, WriteNew, Trim, Numbers, map_word, FitsMap, pin_word, pin_index}
-use Rattle.flash_rule.proofs.Words.{page_index, MapWord, PinWord, Free, Open, Closed, TAKEN, NEXT_PHASE, PAGE_WRITTEN, Owned, Accepted, Work, View, is_pass}
-use Rattle.flash_rule.proofs.Words.{is_player, owned_at, without, with_owned, World, is_owned, sector_word, Lawful, Ruled, Sitter, Looked, Placed, Took}
-use Rattle.flash_rule.proofs.Words.{CanPlace, CanCount, CanClose, words_in, next_page, take_told, count_told, close_told, is_unpinned}
-use Rattle.std.specs.Int.Bits.{bit_or}
-use Rattle.geometry.specs.Sectors.{was_of}
-use Rattle.geometry.specs.declared.answer.Was.{Was}
-use Rattle.geometry.specs.declared.answer.Was.TheVariants.{Empty, Written}
-use Rattle.geometry.specs.declared.map_word.TheConstants.{UNMAPPED}
-use Rattle.flash_rule.specs.Plays.{CanPut, look_told, write_told, new_told, trim_told, put_told, get_told, Called}
-use Rattle.geometry.proofs.PinBits.{next_phase, counts, takes_free, takes_taken}
+use Rattle.flash_rule.proofs.Words.{sym, refl, ap, ◌∙◌, subst, arith, get_or, some, none, get_elem?, step, keeps, stepped, Allows, set_again, dite, ℕ_discrete}
+use Rattle.flash_rule.proofs.Words.{either, Call, Write, WriteNew, Trim, Numbers, map_word, FitsMap, pin_word, pin_index, page_index, MapWord, PinWord, Free}
+use Rattle.flash_rule.proofs.Words.{Open, Closed, TAKEN, NEXT_PHASE, PAGE_WRITTEN, Owned, Accepted, Work, View, is_pass, is_player, owned_at, without}
+use Rattle.flash_rule.proofs.Words.{with_owned, World, is_owned, sector_word, Lawful, Ruled, Sitter, Looked, Placed, Took, CanPlace, CanCount, CanClose}
+use Rattle.flash_rule.proofs.Words.{words_in, next_page, take_told, count_told, close_told, is_unpinned}
 use Rattle.flash_rule.proofs.Points.{player_live, phase_or_not}
 use Rattle.flash_rule.proofs.Places.{fits_page, page_within, page_same}
 use Rattle.flash_rule.proofs.Owning.{some_same}
@@ -24,6 +17,13 @@ use Rattle.flash_rule.proofs.PageSteps.{puts_word, putter, put_world, gets_accep
 use Rattle.flash_rule.proofs.MapSteps.{placed, placer, place_world, pass_same, word_empty, word_named, trims, writes, writes_new, leaves}
 use Rattle.flash_rule.proofs.Values.{value_same}
 use Rattle.flash_rule.proofs.Reclaiming.{unowned}
+use Rattle.std.specs.Int.Bits.{bit_or}
+use Rattle.geometry.specs.Sectors.{was_of}
+use Rattle.geometry.specs.declared.answer.Was.{Was}
+use Rattle.geometry.specs.declared.answer.Was.TheVariants.{Empty, Written}
+use Rattle.geometry.specs.declared.map_word.TheConstants.{UNMAPPED}
+use Rattle.flash_rule.specs.Plays.{CanPut, look_told, write_told, new_told, trim_told, put_told, get_told, Called}
+use Rattle.geometry.proofs.PinBits.{next_phase, counts, takes_free, takes_taken}
 
 module _ (z : Numbers) (slots id : ℕ) (me : Sitter) where
   numbers_now : (g : World) (vs : List View) → Lawful z g vs → get_elem? vs id ≡ some me.0 → is_player me.0.role ≡ true → me.0.numbers ≡ z

@@ -2,14 +2,14 @@
 use Rattle.flash_rule.proofs.Words.{◌≡◌, ◌≢◌, ℕ, zero, suc, ◌+◌, ◌-◌, ◌*◌, ◌<◌, ◌≤◌, inl, true, false, List, Some, set, sym, refl, ap, ◌∙◌, subst, arith}
 use Rattle.flash_rule.proofs.Words.{suc-mul, some, dite, ℕ_discrete, dec_lt, get_elem?, Numbers, page_index, Open, Victim, Erasing, Name, Player, Owned, View}
 use Rattle.flash_rule.proofs.Words.{is_player, owned_at, World, put_word, is_intact, is_nameable, is_reclaimed, is_still, blank_word, LawfulOwned, LawfulView}
-use Rattle.flash_rule.proofs.Words.{Lawful, Onward, IsErasing, wiper}
-use Rattle.std.proofs.Math.Nat.{add-mul}
+use Rattle.flash_rule.proofs.Words.{Lawful, Onward, IsErasing, wiper, Begins-refl}
 use Rattle.flash_rule.proofs.Owning.{some_same, holding_with, kind_with, knowledge_as, owned_with, source_with, work_with}
 use Rattle.flash_rule.proofs.Frames.{counted, knowledge_kept, assembled, block_kept, sector_kept}
 use Rattle.flash_rule.proofs.Places.{row_same}
 use Rattle.flash_rule.proofs.Ceding.{ceded_still}
-use Rattle.flash_rule.proofs.Still.{onward_of}
+use Rattle.flash_rule.proofs.Still.{onward_called}
 use Rattle.flash_rule.proofs.PageSteps.{word_here, word_else}
+use Rattle.std.proofs.Math.Nat.{add-mul}
 
 -- a place in rows of one length is one of some row
 pub row_of : (rows n k : ℕ) → k < rows * n → (p : ℕ) × (i : ℕ) × (p < rows) × (i < n) × (p * n + i ≡ k)
@@ -51,7 +51,7 @@ module _ (z : Numbers) (g : World) (vs : List View) (id : ℕ) (v : View) (n : N
 
   wipe_onward : Onward z g wipe_world id id
   wipe_onward =
-      onward_of z g id id g.map wipe_world.pages g.badge g.carries
+      onward_called z g id id g.history g.map wipe_world.pages g.badge g.carries (Begins-refl g.history) (λ _ _. refl)
       (λ c other q j. other_block c q j (λ same. other (ap g.owner same ∙ mine.owner)))
       (λ c q j intact _. other_block c q j (not_intact c intact)) (λ s m is. inl is) (λ n _ _. (refl, refl)) (λ n c is. inl is)
 
