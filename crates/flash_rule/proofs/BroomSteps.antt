@@ -25,7 +25,7 @@ pub clears : (z : Numbers) (g : World) (id : ℕ) (doing : Option Work) (cleared
     → ((s : ℕ) → s < z.sectors → ¬ (g.map s ≡ Some (record { generation = victim.generation; block = c; page = cleared })))
     → (b : ℕ) (o : Owned) → owned_at b owns ≡ Some o → LawfulOwned z g id doing cleared wiped b o → LawfulOwned z g id doing (cleared + 1) wiped b o
 clears z g id doing cleared wiped owns c victim one its phase unnamed b o is h =
-    owned_with h refl refl h.rest
+    owned_with h (refl, refl, refl) refl h.rest
     (λ reclaimed p s below low named.
     let same : b ≡ c = one b c o victim is its (ap is_reclaimed reclaimed) (ap is_reclaimed phase) in
     let entry : o ≡ victim = some_same o victim (sym is ∙ (ap (λ j. owned_at j owns) same ∙ its)) in
@@ -384,7 +384,7 @@ module _ (z : Numbers) (g : World) (vs : List View) (id : ℕ) (v : View) (n : N
 
     still_owned : (b : ℕ) (o : Owned) → LawfulOwned z g id v.work v.cleared v.wiped b o → LawfulOwned z exchanged_world id v.work v.cleared v.wiped b o
     still_owned b o h =
-        owned_with h refl refl h.rest
+        owned_with h (refl, refl, refl) refl h.rest
         (λ victim p s below s_low is.
         put_all g.map x.stamp (Some copy) (λ j y. j < z.sectors → y ≡ Some (record { generation = o.generation; block = b; page = p }) → ⊥)
         (λ _ here. copy_open b (record { generation = o.generation; block = b; page = p })

@@ -7,7 +7,7 @@ use Rattle.flash_rule.proofs.Words.{LawfulSource, LawfulHolding, LawfulView, Law
 use Rattle.flash_rule.proofs.Words.{at_set, set_else, held, FitsPin, Broom, Dealer, Player, Note, Gone, is_pass, weight, role_weight, owned_at, AreOfHosts}
 use Rattle.flash_rule.proofs.Words.{calls_of, is_nameable, is_still, LawfulCeded, IsCurrent, LawfulSector, LawfulBlock, LawfulKind}
 use Rattle.flash_rule.proofs.Points.{eq_self, total_set, seat_set}
-use Rattle.flash_rule.proofs.Owning.{source_with, work_with}
+use Rattle.flash_rule.proofs.Owning.{owned_with, source_with, work_with}
 use Rattle.std.proofs.lemmas.List.{append-nil}
 use Rattle.geometry.proofs.Histories.{Begins-trans}
 use Rattle.flash_rule.specs.Rule.{IsAccepted}
@@ -142,19 +142,11 @@ module _ (z : Numbers) (g g' : World) (id other : ℕ) (on : Onward z g g' id ot
     pub owned_kept : (v : View) (b : ℕ) (o : Owned) → LawfulOwned z g at v.work v.cleared v.wiped b o → LawfulOwned z g' at v.work v.cleared v.wiped b o
     owned_kept v b o h =
         let same = untouched v b o h in
-        record {
-          block = h.block;
-          low = h.low;
-          owner = same.owner ∙ h.owner;
-          owned = h.owned;
-          phase = same.phase ∙ h.phase;
-          generation = same.generation ∙ h.generation;
-          written = same.written ∙ h.written;
-          rest = λ opened p from below other i most. same.pages p i ∙ h.rest opened p from below (λ f. other f) i most;
-          dead = λ victim p s cleared low named.
-              ⊎_elim (λ (was : g.map s ≡ _). h.dead victim p s cleared low was) (λ (mine : g.owner b ≡ id). apart (sym h.owner ∙ mine)) (on.named s _ named);
-          clean = λ erasing p i low most below. same.pages p i ∙ h.clean erasing p i low most below;
-        }
+        owned_with h (same.phase, same.generation, same.written) same.owner
+        (λ opened p from below other i most. same.pages p i ∙ h.rest opened p from below (λ f. other f) i most)
+        (λ victim p s cleared low named.
+        ⊎_elim (λ (was : g.map s ≡ _). h.dead victim p s cleared low was) (λ (mine : g.owner b ≡ id). apart (sym h.owner ∙ mine)) (on.named s _ named))
+        (λ erasing p i low most below. same.pages p i ∙ h.clean erasing p i low most below)
 
     pub work_kept : (v : View) (w : Work) → LawfulHolding z g at v → LawfulWork z g v.owns w → LawfulWork z g' v.owns w
     work_kept v w held h =

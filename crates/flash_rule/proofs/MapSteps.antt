@@ -80,7 +80,7 @@ module _ (z : Numbers) (g : World) (vs : List View) (id : ℕ) (v : View) (t s :
           lists = h.holding.lists;
           owned = λ b o owns.
               let k = h.holding.owned b o owns in
-              owned_with k refl refl k.rest
+              owned_with k (refl, refl, refl) refl k.rest
               (λ victim. let e : Open ≡ Victim = sym (h.kind.opens is_a_pass b o owns) ∙ victim in absurd (cc))
               k.clean;
           work = λ x is.

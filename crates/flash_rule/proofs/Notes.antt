@@ -281,6 +281,10 @@ module _ (z : Numbers) (g : World) (vs : List View) (id other : ℕ) (v w u : Vi
 
 module _ (z : Numbers) (id other : ℕ) (v w : View) (n m : Name) (c : Carried) (role : v.role ≡ Player n) (note : w.role ≡ Note)
     (guest : w.guest ≡ Some m) (copy : w.copy ≡ Some c) where
+  -- the copies of the note are lawful for another player
+  copied : (g : World) → LawfulCopy z g w.role c → ¬ (v.role ≡ Player c.of) → (d : Carried) → w.copy ≡ Some d → LawfulCopy z g v.role d
+  copied g new other d is = subst (λ (d : Carried). LawfulCopy z g v.role d) (some_same c d (sym copy ∙ is)) (another z g w.role v.role c new other)
+
   -- TAKE IN
   pub takes_in : v.whole ≡ true → c.of ≡ m → Joins (Ruled z) id v other w (host_of v w) gone
   takes_in whole of_is s (g, fits, law) at apart there =
@@ -302,12 +306,8 @@ module _ (z : Numbers) (id other : ℕ) (v w : View) (n m : Name) (c : Carried) 
         known = knows.known;
         programs = knows.programs;
         erases = knows.erases;
-        copy = λ d is.
-            let old = k.knowledge.copy c copy in
-            let new : LawfulCopy z g' w.role c = copy_kept z g g' id other on w.role c old in
-            let same : c ≡ d = some_same c d (sym copy ∙ is) in
-            subst (λ (d : Carried). LawfulCopy z g' v.role d) same
-            (another z g' w.role v.role c new (λ e. names (player_same n m (sym role ∙ (e ∙ ap Player of_is)))));
+        copy = copied g' (copy_kept z g g' id other on w.role c (k.knowledge.copy c copy))
+            (λ e. names (player_same n m (sym role ∙ (e ∙ ap Player of_is))));
         older = λ o d old new same.
             let its : c ≡ d = some_same c d (sym copy ∙ new) in
             h.knowledge.out m o d (inl (sym of_is ∙ (ap (λ (x : Carried). x.of) its ∙ sym same))) old (k.holding.note m note guest ∙ new) same;
@@ -343,11 +343,7 @@ module _ (z : Numbers) (id other : ℕ) (v w : View) (n m : Name) (c : Carried) 
         known = knows.known;
         programs = knows.programs;
         erases = knows.erases;
-        copy = λ d is.
-            let old = k.knowledge.copy c copy in
-            let new : LawfulCopy z g' w.role c = copy_kept z g g' id other on w.role c old in
-            let same : c ≡ d = some_same c d (sym copy ∙ is) in
-            subst (λ (d : Carried). LawfulCopy z g' v.role d) same (another z g' w.role v.role c new unlike);
+        copy = copied g' (copy_kept z g g' id other on w.role c (k.knowledge.copy c copy)) unlike;
         older = λ o d old new same. h.knowledge.out m o d (inr (role ∙ ap Player (sym mine))) old (k.holding.note m note guest ∙ new) same;
         out = λ x d e whose is there same.
             ⊎_elim (λ (his : x ≡ d.of). its_knows.out x d e (inl his) is there same)

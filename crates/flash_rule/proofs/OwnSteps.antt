@@ -79,29 +79,13 @@ pin_turns z g id b q owner d on mine programmed erased lists =
       calls = λ t _. refl;
       seat = λ n dealt. (refl, dealt);
       pins = λ c _. put_all g.pins b q (λ c p. PinOnward (g.pins c) p) on (λ c _. pin_stays (g.pins c)) c;
-      owned = λ c low other owned. dite (ℕ_discrete c b)
-          (λ same.
-          let other' : g.owner b ≢ id = λ e. other (ap g.owner same ∙ e) in
-          let owned' : is_owned (g.pins b).phase ≡ true = ap (λ j. is_owned (g.pins j).phase) (sym same) ∙ owned in
-          let m = mine other' owned' in
-          let here : put g.pins b q b ≡ q = put_here g.pins b q in
-          let untouched : Untouched g (turned g b q owner d) b = record {
-            owner = put_here g.owner b owner ∙ m.0;
-            phase = ap (λ (p : PinWord). p.phase) here ∙ m.1;
-            generation = ap (λ (p : PinWord). p.generation) here ∙ m.2;
-            written = ap (λ (p : PinWord). p.written) here ∙ m.3;
-            pages = λ p i. refl;
-          } in
-          subst (λ j. Untouched g (turned g b q owner d) j) (sym same) untouched)
-          (λ unlike.
-          let here = put_else g.pins b q c unlike in
-          record {
-            owner = put_else g.owner b owner c unlike;
-            phase = ap (λ (p : PinWord). p.phase) here;
-            generation = ap (λ (p : PinWord). p.generation) here;
-            written = ap (λ (p : PinWord). p.written) here;
-            pages = λ p i. refl;
-          });
+      owned = λ c low other owned.
+          let whose = put_all g.owner b owner (λ j x. g.owner j ≢ id → is_owned (g.pins j).phase ≡ true → x ≡ g.owner j) (λ o w. (mine o w).0)
+          (λ j _ _ _. refl) c other owned in
+          let state = put_all g.pins b q (λ j p. g.owner j ≢ id → is_owned (g.pins j).phase ≡ true
+          → (p.phase ≡ (g.pins j).phase) × (p.generation ≡ (g.pins j).generation) × (p.written ≡ (g.pins j).written))
+          (λ o w. let m = mine o w in (m.1, m.2, m.3)) (λ j _ _ _. (refl, refl, refl)) c other owned in
+          record { owner = whose; phase = state.0; generation = state.1; written = state.2; pages = λ p i. refl };
       pages = λ c p i _ _ _. refl;
       named = λ s m is. inl is;
       programmer = programmed;
@@ -133,24 +117,10 @@ module _ (z : Numbers) (g : World) (vs : List View) (id : ℕ) (v w : View) (b :
       let g' = turned g b q owner d in
       assembled z g g' vs id v w law at on own
       (λ s low. named_kept z g g' s (law.sectors s low) refl refl (λ m is current.
-      let c : ℕ = m.block in
-      dite (ℕ_discrete c b)
-      (λ same.
-      let P : ℕ → Type 0 = λ j. (((put g.pins b q) j).generation ≡ (g.pins j).generation) × (is_nameable ((put g.pins b q) j).phase ≡ true)
-      × ((g.pins j).written ≤ ((put g.pins b q) j).written)
-      × ((p i : ℕ) → p < (g.pins j).written → g.pages j p i ≡ g.pages j p i) in
-      let n = nameable s m low is same current in
-      let there : P b = subst (λ (x : PinWord). (x.generation ≡ (g.pins b).generation) × (is_nameable x.phase ≡ true)
-      × ((g.pins b).written ≤ x.written) × ((p i : ℕ) → p < (g.pins b).written → g.pages b p i ≡ g.pages b p i))
-      (sym (put_here g.pins b q)) (n.0, n.1, n.2, λ p i _. refl) in
-      subst P (sym same) there)
-      (λ unlike.
-      let e = put_else g.pins b q c unlike in (
-        ap (λ (p : PinWord). p.generation) e,
-        ap (λ (p : PinWord). is_nameable p.phase) e ∙ current.phase,
-        (let w = ap (λ (p : PinWord). p.written) e in omega arith),
-        λ p i _. refl,
-      ))))
+      put_all g.pins b q (λ j p. j ≡ m.block → (p.generation ≡ (g.pins j).generation) × (is_nameable p.phase ≡ true) × ((g.pins j).written ≤ p.written)
+      × ((k i : ℕ) → k < (g.pins j).written → g.pages j k i ≡ g.pages j k i))
+      (λ same. let n = nameable s m low is (sym same) current in (n.0, n.1, n.2, λ k i _. refl))
+      (λ j _ same. (refl, ap (λ k. is_nameable (g.pins k).phase) same ∙ current.phase, omega arith, λ k i _. refl)) m.block refl))
       law.callers
       (λ c low. dite (ℕ_discrete c b)
       (λ same. subst (λ j. LawfulBlock z g' (set vs id w) j) (sym same) here)
@@ -328,7 +298,7 @@ module _ (z : Numbers) (g : World) (vs : List View) (id : ℕ) (v w : View) (b :
       let less = t.no_more.wiped in
       owned_else z g g' id v.work w.work w.cleared w.wiped c e (put_else g.pins b q c unlike) (put_else g.owner b id c unlike) (λ p i. refl)
       (λ s m is _. inl is) (t.no_more.filling c e has)
-      (owned_with k refl refl k.rest (λ victim p s below. k.dead victim p s (omega arith))
+      (owned_with k (refl, refl, refl) refl k.rest (λ victim p s below. k.dead victim p s (omega arith))
       (λ erasing p i below most under. k.clean erasing p i below most (omega arith))) in
       let own : LawfulView z g' id turner = record {
         kind = kind_with h.kind refl
@@ -368,15 +338,12 @@ module _ (z : Numbers) (g : World) (vs : List View) (id : ℕ) (v : View) (b : �
   abbrev pub taker : View
   taker = record v { taken = v.taken + 1; owns = with_owned newly_owned v.owns }
 
-  abbrev pub taken : World
-  taken = moved g b taken_state id
-
   -- a block that was found free is the seat's
-  pub takes : (g.pins b).phase ≡ Free → Lawful z taken (set vs id taker)
+  pub takes : (g.pins b).phase ≡ Free → Lawful z (moved g b taken_state id) (set vs id taker)
   takes free =
       let h = law.views id v at in
       let block = law.blocks b low in
-      let fresh : LawfulOwned z taken id v.work v.cleared v.wiped b newly_owned =
+      let fresh : LawfulOwned z (moved g b taken_state id) id v.work v.cleared v.wiped b newly_owned =
       block_owned z g id b taken_state (deeds g) v.work v.cleared v.wiped newly_owned refl low refl (refl, refl, block.free free)
       (λ _ p from below _. block.rest (ap is_still free) p (let e = block.free free in omega arith) below) (λ is. absurd (cc)) (λ is. absurd (cc)) in
       turns z g vs id v taker b taken_state (deeds g) law at low
@@ -392,7 +359,7 @@ module _ (z : Numbers) (g : World) (vs : List View) (id : ℕ) (v : View) (b : �
         named = λ s m _ _ same current. let no : true ≡ false =
             sym (ap (λ j. is_nameable (g.pins j).phase) (sym same) ∙ current.phase) ∙ ap is_nameable free in absurd (cc);
         listing = none_listed z g id v taker b taken_state h.kind (λ is. (h.kind.idle is).0) refl refl;
-        owning = got z taken id v taker newly_owned fresh (λ _. refl)
+        owning = got z (moved g b taken_state id) id v taker newly_owned fresh (λ _. refl)
             (λ is. let no : true ≡ false = sym (player_may_own v.role player) ∙ is in absurd (cc)) (one_with_open newly_owned v.owns refl h.kind.reclaims);
         no_more = record { filling = λ _ _ _ _ _ f. f; cleared = omega arith; wiped = omega arith };
         work = work_else z g vs id v taker b taken_state (deeds g) law at (λ is. let no : Free ≡ Open = sym free ∙ is in absurd (cc))
@@ -571,10 +538,7 @@ module _ (z : Numbers) (g : World) (vs : List View) (id : ℕ) (v : View) (o : O
   abbrev pub closed_state : PinWord
   closed_state = record (g.pins o.block) { phase = Closed }
 
-  abbrev pub close_world : World
-  close_world = moved g o.block closed_state id
-
-  pub closes : IsSettled v → Lawful z close_world (set vs id closer)
+  pub closes : IsSettled v → Lawful z (moved g o.block closed_state id) (set vs id closer)
   closes settled =
       let h = law.views id v at in
       let b = o.block in
@@ -599,7 +563,7 @@ module _ (z : Numbers) (g : World) (vs : List View) (id : ℕ) (v : View) (o : O
         owner = λ is. absurd (cc);
         named = λ s m _ _ _ _. (refl, refl, omega arith);
         listing = none_listed z g id v closer b closed_state h.kind (λ _. refl) refl refl;
-        owning = given_up z close_world id v closer b h.kind;
+        owning = given_up z (moved g o.block closed_state id) id v closer b h.kind;
         no_more = record { filling = λ c e owns p from f. absurd (not_filling c e owns p from f); cleared = omega arith; wiped = omega arith };
         work = λ y is. absurd (none_some y is);
         source = λ y _ k. (blocks_apart v.owns o k.entry y.page.block own k.own (open_victim o k.entry opened k.victim), refl);

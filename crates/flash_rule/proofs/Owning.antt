@@ -211,7 +211,8 @@ source_with {z} h own same pages =
 -- an owned block whose state and owner stay
 pub owned_with : {z : Numbers} {g g' : World} {id : ℕ} {doing doing' : Option Work} {cleared cleared' wiped wiped' b : ℕ} {o : Owned}
     → LawfulOwned z g id doing cleared wiped b o
-    → g'.pins b ≡ g.pins b → g'.owner b ≡ g.owner b
+    → ((g'.pins b).phase ≡ (g.pins b).phase) × ((g'.pins b).generation ≡ (g.pins b).generation) × ((g'.pins b).written ≡ (g.pins b).written)
+    → g'.owner b ≡ g.owner b
     → (o.phase ≡ Open → (p : ℕ) → o.written ≤ p → p < z.pages → ¬ IsFilling doing' b p → IsBlank z (g'.pages b p))
     → (o.phase ≡ Victim → (p s : ℕ) → p < cleared' → s < z.sectors → ¬ (g'.map s ≡ Some (record { generation = o.generation; block = b; page = p })))
     → (o.phase ≡ Erasing → (p i : ℕ) → p < z.pages → i ≤ z.words → p * (z.words + 1) + i < wiped' → g'.pages b p i ≡ blank_word)
@@ -222,19 +223,23 @@ owned_with h pin owner rest dead clean =
       low = h.low;
       owner = owner ∙ h.owner;
       owned = h.owned;
-      phase = ap (λ (p : PinWord). p.phase) pin ∙ h.phase;
-      generation = ap (λ (p : PinWord). p.generation) pin ∙ h.generation;
-      written = ap (λ (p : PinWord). p.written) pin ∙ h.written;
+      phase = pin.0 ∙ h.phase;
+      generation = pin.1 ∙ h.generation;
+      written = pin.2 ∙ h.written;
       rest = rest;
       dead = dead;
       clean = clean;
     }
 
+-- a state that stays
+same_parts : {p q : PinWord} → p ≡ q → (p.phase ≡ q.phase) × (p.generation ≡ q.generation) × (p.written ≡ q.written)
+same_parts e = (ap (λ (p : PinWord). p.phase) e, ap (λ (p : PinWord). p.generation) e, ap (λ (p : PinWord). p.written) e)
+
 -- an owned block of a table with the same pages and the same map
 pub owned_as : {z : Numbers} {g g' : World} {id : ℕ} {doing : Option Work} {cleared wiped b : ℕ} {o : Owned} → LawfulOwned z g id doing cleared wiped b o
     → g'.pins b ≡ g.pins b → g'.owner b ≡ g.owner b → g'.pages ≡ g.pages → g'.map ≡ g.map → LawfulOwned z g' id doing cleared wiped b o
 owned_as {b = b} h pin owner pages map =
-    owned_with h pin owner
+    owned_with h (same_parts pin) owner
     (λ opened p from below not i most. ap (λ (f : ℕ → ℕ → ℕ → ℕ). f b p i) pages ∙ h.rest opened p from below not i most)
     (λ victim p s below low is. h.dead victim p s below low (ap (λ f. f s) (sym map) ∙ is))
     (λ erasing p i low most below. ap (λ (f : ℕ → ℕ → ℕ → ℕ). f b p i) pages ∙ h.clean erasing p i low most below)
@@ -363,7 +368,7 @@ pub owned_else : (z : Numbers) (g g' : World) (id : ℕ) (doing doing' : Option 
     → ((p : ℕ) → o.written ≤ p → IsFilling doing b p → IsFilling doing' b p)
     → LawfulOwned z g id doing cleared wiped b o → LawfulOwned z g' id doing' cleared wiped b o
 owned_else z g g' id doing doing' cleared wiped b o pin owner pages named filling h =
-    owned_with h pin owner
+    owned_with h (same_parts pin) owner
     (λ opened p from below not i most. pages p i ∙ h.rest opened p from below (λ f. not (filling p from f)) i most)
     (λ victim p s low in_range is. ⊎_elim (λ (t : g.map s ≡ _). h.dead victim p s low in_range t) (λ (t : g.owner b ≢ id). t h.owner) (named s _ is refl))
     (λ erasing p i low most below. pages p i ∙ h.clean erasing p i low most below)

@@ -95,7 +95,7 @@ module _ (z : Numbers) (g : World) (vs : List View) (id : ℕ) (v : View) (o : O
   put_block : LawfulOwned z put_world id (Some put_work) v.cleared v.wiped o.block o
   put_block =
       let mine = entry in
-      owned_with mine refl refl
+      owned_with mine (refl, refl, refl) refl
       (λ is q from below not.
       let later : q ≢ (next_page o).page = λ same. not (record { work = put_work; is = refl; block = refl; page = sym same }) in
       λ j most. else_page o.block q j later ∙ mine.rest is q from below (λ f. filling_none q from later f) j most)
@@ -150,7 +150,7 @@ module _ (z : Numbers) (g : World) (vs : List View) (id : ℕ) (v : View) (o : O
             subst (λ (y : ℕ × Owned). LawfulOwned z g' id (Some put_work) v.cleared v.wiped y.0 y.1) (λ t. (sym same t, same_entry t)) put_block)
             (λ unlike.
             let k = h.holding.owned c e owns in
-            owned_with k refl refl
+            owned_with k (refl, refl, refl) refl
             (λ is q from below _ j most. else_block c q j unlike ∙ k.rest is q from below (λ f. not_filling c q e owns unlike from f) j most)
             k.dead
             (λ is q j low most below. else_block c q j unlike ∙ k.clean is q j low most below)))

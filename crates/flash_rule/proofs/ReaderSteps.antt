@@ -11,7 +11,7 @@ use Rattle.flash_rule.proofs.Ceding.{ceded_read}
 use Rattle.flash_rule.proofs.OwnSteps.{deeds, moved, pin_moves, block_turned, pin_turned_nameable}
 use Rattle.flash_rule.proofs.Ruling.{ruled_as, ruled_plus}
 use Rattle.flash_rule.proofs.Still.{stays_onward, sum_set, ages_bounded, pass_numbers}
-use Rattle.flash_rule.proofs.Owning.{kind_reading, holding_with, source_with, work_with, knowledge_with}
+use Rattle.flash_rule.proofs.Owning.{owned_with, kind_reading, holding_with, source_with, work_with, knowledge_with}
 use Rattle.geometry.proofs.PinBits.{takes_off, reads}
 
 module _ (z : Numbers) (g : World) (vs : List View) (id : ℕ) (v : View) (b : ℕ) (readers : ℕ) (pin : Pin) (known : List ℕ) (law : Lawful z g vs)
@@ -39,19 +39,7 @@ module _ (z : Numbers) (g : World) (vs : List View) (id : ℕ) (v : View) (b : �
       put_all g.pins b read_state (λ j p. (p.phase ≡ (g.pins j).phase) × (p.generation ≡ (g.pins j).generation) × (p.written ≡ (g.pins j).written))
       (refl, refl, refl) (λ j _. (refl, refl, refl)) in
       let whose : put g.owner b (g.owner b) c ≡ g.owner c = put_all g.owner b (g.owner b) (λ j x. x ≡ g.owner j) refl (λ j _. refl) c in
-      let s = same c in
-      record {
-        block = h.block;
-        low = h.low;
-        owner = whose ∙ h.owner;
-        owned = h.owned;
-        phase = s.0 ∙ h.phase;
-        generation = s.1 ∙ h.generation;
-        written = s.2 ∙ h.written;
-        rest = h.rest;
-        dead = h.dead;
-        clean = h.clean;
-      }
+      owned_with h (same c) whose h.rest h.dead h.clean
 
   -- a pass's pin changes, and with it one block's readers
   pub reader_moves : length known ≡ z.blocks → LawfulPin z read_world known pin → ((c : ℕ) → c < z.blocks → get_or known c 0 ≤ age_of (g.pins c))

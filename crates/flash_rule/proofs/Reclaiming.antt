@@ -68,15 +68,12 @@ module _ (z : Numbers) (g : World) (vs : List View) (id : ℕ) (v : View) (b : �
   abbrev pub claimer : View
   claimer = record v { owns = with_owned claimed_block v.owns; cleared = 0 }
 
-  abbrev pub claim_world : World
-  claim_world = turned g b claimed_state id (deeds g)
-
   -- a closed block is the broom's victim
-  pub claims : (g.pins b).phase ≡ Closed → Lawful z claim_world (set vs id claimer)
+  pub claims : (g.pins b).phase ≡ Closed → Lawful z (moved g b claimed_state id) (set vs id claimer)
   claims closed =
       let block = law.blocks b low in
       let q : PinWord = claimed_state in
-      let fresh : LawfulOwned z claim_world id v.work 0 v.wiped b claimed_block =
+      let fresh : LawfulOwned z (moved g b claimed_state id) id v.work 0 v.wiped b claimed_block =
       block_owned z g id b q (deeds g) v.work 0 v.wiped claimed_block refl low refl (refl, refl, refl) (λ is. absurd (cc))
       (λ _ p s below. absurd (omega arith)) (λ is. absurd (cc)) in
       turns z g vs id v claimer b q (deeds g) law at low
@@ -91,7 +88,8 @@ module _ (z : Numbers) (g : World) (vs : List View) (id : ℕ) (v : View) (b : �
         owner = λ _. (claimed_block, with_here claimed_block v.owns);
         named = λ s m _ _ _ _. (refl, refl, omega arith);
         listing = none_listed z g id v claimer b q (law.views id v at).kind (λ is. ((law.views id v at).kind.idle is).0) refl refl;
-        owning = got z claim_world id v claimer claimed_block fresh (λ is. absurd (not_pass is)) owns_some (one_at_rest claimed_block v.owns rested);
+        owning = got z (moved g b claimed_state id) id v claimer claimed_block fresh (λ is. absurd (not_pass is)) owns_some
+            (one_at_rest claimed_block v.owns rested);
         no_more = record { filling = λ _ _ _ _ _ f. f; cleared = omega arith; wiped = omega arith };
         work = work_else z g vs id v claimer b q (deeds g) law at (λ is. let no : Closed ≡ Open = sym closed ∙ is in absurd (cc))
             (λ c unlike. with_else claimed_block c v.owns unlike);
@@ -200,11 +198,8 @@ module _ (z : Numbers) (g : World) (vs : List View) (id : ℕ) (v : View) (o : O
   abbrev pub drainer : View
   drainer = record v { owns = without o.block v.owns; drains = v.drains ++ cycle_of o ∷ []; ceded = v.ceded ++ drained_block ∷ [] }
 
-  abbrev pub drain_world : World
-  drain_world = turned g o.block drained_state id (deeds g)
-
   -- a victim whose written pages are all cleared is drained, and nobody's
-  pub drains_block : CanDrain v o → Lawful z drain_world (set vs id drainer)
+  pub drains_block : CanDrain v o → Lawful z (moved g o.block drained_state id) (set vs id drainer)
   drains_block can =
       let b : ℕ = o.block in
       let h = law.views id v at in
@@ -231,7 +226,7 @@ module _ (z : Numbers) (g : World) (vs : List View) (id : ℕ) (v : View) (o : O
             absurd (mine.dead can.victim m.page s (omega arith) in_range
             (is ∙ λ i. Some (record { generation = generation i; block = same i; page = m.page })));
         listing = none_listed z g id v drainer b drained_state h.kind (λ is. (h.kind.idle is).0) refl refl;
-        owning = given_up z drain_world id v drainer b h.kind;
+        owning = given_up z (moved g o.block drained_state id) id v drainer b h.kind;
         no_more = record { filling = λ _ _ _ _ _ f. f; cleared = omega arith; wiped = omega arith };
         work = work_else z g vs id v drainer b drained_state (deeds g) law at (λ is. let no : Victim ≡ Open = sym victim ∙ is in absurd (cc))
             (λ c unlike. without_else b c v.owns unlike);
@@ -313,11 +308,8 @@ module _ (z : Numbers) (g : World) (vs : List View) (id : ℕ) (v : View) (o : O
   abbrev pub retirer : View
   retirer = record v { owns = without o.block v.owns; ceded = v.ceded ++ retired_block ∷ [] }
 
-  abbrev pub retire_world : World
-  retire_world = turned g o.block retired_state id (deeds g)
-
   -- a block that is being erased retires
-  pub retires : Lawful z retire_world (set vs id retirer)
+  pub retires : Lawful z (moved g o.block retired_state id) (set vs id retirer)
   retires =
       let b : ℕ = o.block in
       let h = law.views id v at in
@@ -331,7 +323,7 @@ module _ (z : Numbers) (g : World) (vs : List View) (id : ℕ) (v : View) (o : O
       (phase_onward (g.pins b) Retired (let e : half_cycle (g.pins b).phase ≡ 1 = ap half_cycle is_erasing in omega arith)
       (λ _ is. absurd (not_intact is)) (λ is. absurd (cc)) (λ is. absurd (cc)))
       (record { readers = refl; written = block.written; generation = block.generation; free = λ is. absurd (cc) }) (λ is. absurd (cc)) (λ is. absurd (cc))
-      (given_up z retire_world id v retirer b h.kind))
+      (given_up z (moved g o.block retired_state id) id v retirer b h.kind))
 
   -- ---- the next generation
   -- all words of a wiped block are ones
@@ -366,11 +358,8 @@ module _ (z : Numbers) (g : World) (vs : List View) (id : ℕ) (v : View) (o : O
   abbrev pub freer : View
   freer = record v { owns = without o.block v.owns; ceded = v.ceded ++ freed_as o ∷ [] }
 
-  abbrev pub free_world : World
-  free_world = turned g o.block freed_state id (deeds g)
-
   -- a wiped block is free in its next generation
-  pub frees : CanRenew v o → Lawful z free_world (set vs id freer)
+  pub frees : CanRenew v o → Lawful z (moved g o.block freed_state id) (set vs id freer)
   frees can =
       let b : ℕ = o.block in
       let h = law.views id v at in
@@ -379,7 +368,7 @@ module _ (z : Numbers) (g : World) (vs : List View) (id : ℕ) (v : View) (o : O
       (λ i. record { block = b; phase = Free; generation = sym entry.generation i + 1; written = 0 }) refl (sym (append-nil v.drains)) eraser_owns)
       (turn_with freed_state (without b v.owns) (v.ceded ++ freed_as o ∷ []) (renewed freed_state refl)
       (record { readers = refl; written = omega arith; generation = young can; free = λ _. refl })
-      (λ _ p _ below. all_blank can p below) (λ is. absurd (cc)) (given_up z free_world id v freer b h.kind))
+      (λ _ p _ below. all_blank can p below) (λ is. absurd (cc)) (given_up z (moved g o.block freed_state id) id v freer b h.kind))
 
   -- ---- keep
   abbrev pub kept_block : Owned
@@ -391,15 +380,12 @@ module _ (z : Numbers) (g : World) (vs : List View) (id : ℕ) (v : View) (o : O
   abbrev pub keeper : View
   keeper = record v { owns = with_owned kept_block v.owns }
 
-  abbrev pub keep_world : World
-  keep_world = turned g o.block kept_state id (deeds g)
-
   -- a wiped block is its eraser's, open in its next generation
-  pub keeps_block : CanRenew v o → Lawful z keep_world (set vs id keeper)
+  pub keeps_block : CanRenew v o → Lawful z (moved g o.block kept_state id) (set vs id keeper)
   keeps_block can =
       let b : ℕ = o.block in
       let h = law.views id v at in
-      let fresh : LawfulOwned z keep_world id v.work v.cleared v.wiped b kept_block =
+      let fresh : LawfulOwned z (moved g o.block kept_state id) id v.work v.cleared v.wiped b kept_block =
       block_owned z g id b kept_state (deeds g) v.work v.cleared v.wiped kept_block refl entry.low refl (refl, ap (λ k. k + 1) entry.generation, refl)
       (λ _ p _ below _. all_blank can p below) (λ is. absurd (cc)) (λ is. absurd (cc)) in
       turns z g vs id v keeper b kept_state (deeds g) law at entry.low
@@ -407,5 +393,5 @@ module _ (z : Numbers) (g : World) (vs : List View) (id : ℕ) (v : View) (o : O
       (turn_with kept_state (with_owned kept_block v.owns) v.ceded (renewed kept_state refl)
       (record { readers = refl; written = omega arith; generation = young can; free = λ is. absurd (cc) })
       (λ is. absurd (cc)) (λ _. (kept_block, with_here kept_block v.owns))
-      (got z keep_world id v keeper kept_block fresh (λ _. refl) (λ is. owns_none_else v.owns o erasing.own (h.kind.owns_none is))
+      (got z (moved g o.block kept_state id) id v keeper kept_block fresh (λ _. refl) (λ is. owns_none_else v.owns o erasing.own (h.kind.owns_none is))
       (one_with_open kept_block v.owns refl h.kind.reclaims)))

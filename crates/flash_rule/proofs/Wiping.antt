@@ -58,7 +58,7 @@ module _ (z : Numbers) (g : World) (vs : List View) (id : ℕ) (v : View) (n : N
   -- one word more of the block is all ones
   wiped_more : LawfulOwned z wipe_world id v.work v.cleared (wiper v).wiped o.block o
   wiped_more =
-      owned_with mine refl refl
+      owned_with mine (refl, refl, refl) refl
       (λ opened. let e : Open ≡ Erasing = sym opened ∙ erasing.erasing in absurd (cc))
       mine.dead
       (λ is q j low most below. dite (ℕ_discrete (q * (z.words + 1) + j) v.wiped)
@@ -73,7 +73,7 @@ module _ (z : Numbers) (g : World) (vs : List View) (id : ℕ) (v : View) (n : N
   wiped_else c e unlike owns =
       let h = law.views id v at in
       let k = h.holding.owned c e owns in
-      owned_with k refl refl
+      owned_with k (refl, refl, refl) refl
       (λ opened q from below not j most. other_block c q j unlike ∙ k.rest opened q from below not j most)
       k.dead
       (λ is. absurd (unlike (h.kind.reclaims c o.block e o owns erasing.own (ap is_reclaimed is) (ap is_reclaimed erasing.erasing))))
