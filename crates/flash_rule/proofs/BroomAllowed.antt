@@ -1,16 +1,16 @@
 -- Each kind of step that a broom makes on map words and page words, as the table asks for it: whatever the table is, the step keeps the rule and
 -- tells what it says.
-use Rattle.flash_rule.proofs.Words.{◌≡◌, ℕ, ◌+◌, ◌*◌, ◌<◌, ◌≤◌, ◌==◌, eq-eqb, ne_eqb, true, Some, set, sym, refl, ap, ◌∙◌, subst, arith, get_or, none}
-use Rattle.flash_rule.proofs.Words.{dite, ℕ_discrete, either, Act, Valid, step, keeps, stepped, carried_after, Allows, set_again, Numbers, map_word}
-use Rattle.flash_rule.proofs.Words.{page_index, MapWord, Owned, Source, View, is_player, owned_at, World, Fits, sector_word, blank_word, Lawful}
-use Rattle.flash_rule.proofs.Words.{Ruled, Sitter, Named, CanGetStamp, GotStamp, CanMove, Moved, wiper}
-use Rattle.flash_rule.specs.BroomPlays.{CanWipe, broom_look_told, stamp_told, source_told, move_told, wipe_told}
-use Rattle.flash_rule.proofs.Roles.{player_of}
+use Rattle.flash_rule.proofs.Words.{◌≡◌, ℕ, ◌+◌, ◌*◌, ◌<◌, ◌≤◌, ◌==◌, eq-eqb, ne_eqb, true, Some, set, sym, refl, ap, ◌∙◌, subst, arith, get_or, none, dite}
+use Rattle.flash_rule.proofs.Words.{ℕ_discrete, either, step, keeps, stepped, Allows, set_again, Numbers, map_word, page_index, MapWord, Owned, Source, View}
+use Rattle.flash_rule.proofs.Words.{is_player, owned_at, World, Fits, sector_word, blank_word, Lawful, Ruled, Sitter, Named, CanGetStamp, GotStamp, CanMove}
+use Rattle.flash_rule.proofs.Words.{Moved, wiper}
+use Rattle.flash_rule.proofs.Points.{player_of}
 use Rattle.flash_rule.proofs.Owning.{some_same}
-use Rattle.flash_rule.proofs.Places.{fits_load, fits_map, fits_page, page_within, page_same}
-use Rattle.flash_rule.proofs.BroomSteps.{looks, stamp_low, gets_stamp, gets_source, source_low, names_source}
-use Rattle.flash_rule.proofs.Moving.{mover, exchanged_world, stays, moves_page, move_told_here}
+use Rattle.flash_rule.proofs.Places.{fits_page, page_within, page_same}
+use Rattle.flash_rule.proofs.Ruling.{Does, does, ruled_kept, ruled_map}
+use Rattle.flash_rule.proofs.BroomSteps.{looks, stamp_low, gets_stamp, gets_source, source_low, names_source, mover, stays, moves_page, move_told_here}
 use Rattle.flash_rule.proofs.Wiping.{row_of, wiped_index, wipe_world, wipes_word, erased_low}
+use Rattle.flash_rule.specs.BroomPlays.{CanWipe, broom_look_told, stamp_told, source_told, move_told, wipe_told}
 
 module _ (z : Numbers) (slots id : ℕ) (me : Sitter) where
   -- ---- look
@@ -24,7 +24,7 @@ module _ (z : Numbers) (slots id : ℕ) (me : Sitter) where
         h.0,
         keeps,
         tt,
-        (g, fits_load z g.map g.pins g.pages t.words fits s (omega arith), h.1),
+        ruled_kept z id me t g fits s h.0 (get_or t.words s 0) (omega arith) refl h.1,
         (refl, subst (λ n. Named me.0 s n h.0) (sym found) h.2),
       )
 
@@ -43,7 +43,7 @@ module _ (z : Numbers) (slots id : ℕ) (me : Sitter) where
         h.0,
         keeps,
         tt,
-        (g, fits_load z g.map g.pins g.pages t.words fits k (page_within z o.block me.0.cleared z.words low.0 low.1 (omega arith)), h.1),
+        ruled_kept z id me t g fits k h.0 n (page_within z o.block me.0.cleared z.words low.0 low.1 (omega arith)) refl h.1,
         (
           refl,
           λ o' can' is.
@@ -69,11 +69,8 @@ module _ (z : Numbers) (slots id : ℕ) (me : Sitter) where
         me.0,
         keeps,
         tt,
-        (
-          g,
-          fits_load z g.map g.pins g.pages t.words fits k (page_within z b p i in_table.0 in_table.1 (omega arith)),
-          subst (λ vs. Lawful z g vs) (sym (set_again t.views id me.0 at)) law,
-        ),
+        ruled_kept z id me t g fits k me.0 (get_or t.words k 0) (page_within z b p i in_table.0 in_table.1 (omega arith)) refl
+            (subst (λ vs. Lawful z g vs) (sym (set_again t.views id me.0 at)) law),
         (
           refl,
           λ x' value j is' live low' here.
@@ -95,42 +92,26 @@ module _ (z : Numbers) (slots id : ℕ) (me : Sitter) where
       let name = player_of me.0.role player in
       let s : ℕ = x.stamp in
       let n : ℕ = get_or t.words s 0 in
-      let f : ℕ → ℕ = λ n. either (n == map_word x.page) (map_word copy) n in
+      let new : ℕ = either (n == map_word x.page) (map_word copy) n in
       let found : n ≡ sector_word (g.map s) = fits.sectors s low in
-      let told : (w : View) → Moved me.0 x n w → move_told (step slots s (map_word x.page) (map_word copy) none) me n (w, me.1) = λ w h. (
-        refl,
-        λ x' copy' can' _ _ _ _ _. subst (λ (y : Source). Moved me.0 y n w) (some_same x x' (sym can.is ∙ can'.is)) h,
-      ) in
+      let after : ℕ → View = λ moves. mover z g t.views id me.0 name.0 law at name.1 x copy can low moves in
+      let answer : (w : View) → Ruled z (stepped t s new id me.1 w keeps) → Moved me.0 x n w
+      → Does z id me t s new (move_told (step slots s (map_word x.page) (map_word copy) none) me n) = λ w ruled moved.
+      does z id me t s new (move_told (step slots s (map_word x.page) (map_word copy) none) me n) w ruled
+      (refl, λ x' copy' can' _ _ _ _ _. subst (λ (y : Source). Moved me.0 y n w) (some_same x x' (sym can.is ∙ can'.is)) moved) in
       dite (ℕ_discrete n (map_word x.page))
       (λ its.
       let named = names_source z g t.views id me.0 name.0 law at name.1 x can.is low (sym found ∙ its) in
-      let w : View = mover z g t.views id me.0 name.0 law at name.1 x copy can low (me.0.moves + 1) in
-      let after : World = exchanged_world z g t.views id me.0 name.0 law at name.1 x copy can low in
-      let now : f n ≡ map_word copy = ap (λ b. either b (map_word copy) n) (eq-eqb n (map_word x.page) its) in
-      let answer : (w : View) × (a : Act (Unit {0})) × Valid t.homes me.1 a × Ruled z (stepped t s (f n) id me.1 w a)
-      × move_told (step slots s (map_word x.page) (map_word copy) none) me n (w, carried_after me.1 a) = (
-        w,
-        keeps,
-        tt,
-        (
-          after,
-          subst (λ y. Fits z after.map g.pins g.pages (set t.words s y)) (sym now) (fits_map z g.map g.pins g.pages t.words fits s (Some copy) low),
-          moves_page z g t.views id me.0 name.0 law at name.1 x copy can low named,
-        ),
-        told w (move_told_here z g t.views id me.0 name.0 law at name.1 x copy can low named n its),
-      ) in answer)
+      answer (after (me.0.moves + 1))
+      (ruled_map z id me t g fits s (Some copy) g.history (after (me.0.moves + 1)) new low
+      (ap (λ b. either b (map_word copy) n) (eq-eqb n (map_word x.page) its))
+      (moves_page z g t.views id me.0 name.0 law at name.1 x copy can low named))
+      (move_told_here z g t.views id me.0 name.0 law at name.1 x copy can low named n its))
       (λ other.
       let h = stays z g t.views id me.0 name.0 law at name.1 x copy can low n found other in
-      let w : View = mover z g t.views id me.0 name.0 law at name.1 x copy can low me.0.moves in
-      let now : f n ≡ n = ap (λ b. either b (map_word copy) n) (ne_eqb n (map_word x.page) other) in
-      let answer : (w : View) × (a : Act (Unit {0})) × Valid t.homes me.1 a × Ruled z (stepped t s (f n) id me.1 w a)
-      × move_told (step slots s (map_word x.page) (map_word copy) none) me n (w, carried_after me.1 a) = (
-        w,
-        keeps,
-        tt,
-        (g, subst (λ y. Fits z g.map g.pins g.pages (set t.words s y)) (sym now) (fits_load z g.map g.pins g.pages t.words fits s (omega arith)), h.0),
-        told w h.1,
-      ) in answer)
+      answer (after me.0.moves)
+      (ruled_kept z id me t g fits s (after me.0.moves) new (omega arith) (ap (λ b. either b (map_word copy) n) (ne_eqb n (map_word x.page) other)) h.0)
+      h.1)
 
   -- ---- wipe
   -- a broom sets the next word of its erasing block to all ones

@@ -1,12 +1,12 @@
 -- The blocks given up, over each kind of change: none given up and the blocks onward, one given up by the seat that steps, a seat split, and a note joined.
-use Rattle.flash_rule.proofs.Words.{◌≡◌, ◌≢◌, ℕ, zero, suc, ◌<◌, ◌≤◌, ◌⊎◌, inl, inr, ⊎_elim, Bool, true, false, List, [], ◌∷◌, ◌++◌, Some, length}
-use Rattle.flash_rule.proofs.Words.{set, slice_get, sym, refl, ap, ◌∙◌, subst, arith, if◌then◌else◌, some, some-injective, some-ne-none, dite}
-use Rattle.flash_rule.proofs.Words.{ℕ_discrete, get_elem?, at_set, set_else, at_longer, Numbers, PinWord, Owned, Cycle, View, may_own, put, is_owned}
-use Rattle.flash_rule.proofs.Words.{rank, entry_of, IsReached, IsUnused, IsCededBy, IsCeded, drained_of, LawfulCeded}
+use Rattle.flash_rule.proofs.Words.{◌≡◌, ◌≢◌, ℕ, zero, suc, ◌<◌, ◌≤◌, ◌⊎◌, inl, inr, ⊎_elim, Bool, true, false, List, [], ◌∷◌, ◌++◌, Some, length, set}
+use Rattle.flash_rule.proofs.Words.{slice_get, sym, refl, ap, ◌∙◌, subst, arith, if◌then◌else◌, some, some-injective, some-ne-none, dite, ℕ_discrete, get_elem?}
+use Rattle.flash_rule.proofs.Words.{at_set, set_else, at_longer, Numbers, PinWord, Owned, Cycle, View, may_own, put, is_owned, rank, entry_of, IsReached}
+use Rattle.flash_rule.proofs.Words.{IsUnused, IsCededBy, IsCeded, drained_of, LawfulCeded}
+use Rattle.flash_rule.proofs.Points.{put_here, put_all, seat_set}
+use Rattle.flash_rule.proofs.Owning.{nothing, get_last}
 use Rattle.atomic_table.proofs.Lists.{at_snoc}
 use Rattle.flash_rule.specs.Ceded.{IsSameTurn, is_drained}
-use Rattle.flash_rule.proofs.Points.{put_here, put_all}
-use Rattle.flash_rule.proofs.Owning.{nothing, get_last}
 
 -- what was reached stays reached
 pub reached_on : (o : Owned) (b : ℕ) (p q : PinWord) → IsReached o p → IsReached (entry_of b p) q → IsReached o q
@@ -96,11 +96,6 @@ module _ (z : Numbers) (pins pins' : ℕ → PinWord) (vs vs' : List View) (law 
             (was id u is);
       }
 
-pub view_set : (vs : List View) (id : ℕ) (v w : View) → get_elem? vs id ≡ some v → get_elem? (set vs id w) id ≡ some w
-view_set [] id v w at = absurd (some-ne-none v (sym at))
-view_set (x ∷ xs) zero v w at = refl
-view_set (x ∷ xs) (suc id) v w at = view_set xs id v w at
-
 -- ---- one seat steps
 module _ (z : Numbers) (pins : ℕ → PinWord) (vs : List View) (id : ℕ) (v w : View) (law : LawfulCeded z pins vs) (at : get_elem? vs id ≡ some v)
     (role : w.role ≡ v.role) where
@@ -123,7 +118,7 @@ module _ (z : Numbers) (pins : ℕ → PinWord) (vs : List View) (id : ℕ) (v w
       (λ j x is. dite (ℕ_discrete j id)
       (λ (e : j ≡ id).
       let its : v ≡ x = some-injective v x (sym at ∙ (ap (λ i. get_elem? vs i) (sym e) ∙ is)) in
-      inr (w, ap (λ i. get_elem? (set vs id w) i) e ∙ view_set vs id v w at, ceded ∙ ap (λ (y : View). y.ceded) its))
+      inr (w, ap (λ i. get_elem? (set vs id w) i) e ∙ seat_set vs id v w at, ceded ∙ ap (λ (y : View). y.ceded) its))
       (λ (other : j ≢ id). inr (x, set_else vs id j w other ∙ is, refl)))
 
   -- no block changes
@@ -249,7 +244,7 @@ module _ (z : Numbers) (pins : ℕ → PinWord) (vs : List View) (id : ℕ) (v w
         newest = (
           id,
           length v.ceded,
-          record { view = w; seat = view_set vs id v w at; entry = ap (λ (l : List Owned). slice_get l (length v.ceded)) ceded ∙ last_at v.ceded e },
+          record { view = w; seat = seat_set vs id v w at; entry = ap (λ (l : List Owned). slice_get l (length v.ceded)) ceded ∙ last_at v.ceded e },
         )
           where
             last_at : (os : List Owned) (o : Owned) → slice_get (os ++ o ∷ []) (length os) ≡ Some o
@@ -263,7 +258,7 @@ module _ (z : Numbers) (pins : ℕ → PinWord) (vs : List View) (id : ℕ) (v w
             let its : v ≡ h.view = some-injective v h.view (sym at ∙ (ap (λ i. get_elem? vs i) (sym mine) ∙ h.seat)) in
             let there : IsCededBy (set vs id w) j k o = record {
               view = w;
-              seat = ap (λ i. get_elem? (set vs id w) i) mine ∙ view_set vs id v w at;
+              seat = ap (λ i. get_elem? (set vs id w) i) mine ∙ seat_set vs id v w at;
               entry = ap (λ (l : List Owned). slice_get l k) ceded ∙ longer_at v.ceded e k o (ap (λ (x : View). slice_get x.ceded k) its ∙ h.entry);
             } in
             let answer : IsCeded (set vs id w) o = (j, k, there) in answer)

@@ -1,17 +1,15 @@
 -- The dealer hands out the next broom, with the first of the spares that it still owns.
-use Rattle.flash_rule.proofs.Words.{◌≡◌, ℕ, zero, suc, ◌+◌, ◌<◌, ◌≤◌, inl, ne_eqb, true, false, [], ◌∷◌, ◌++◌, None, Some, length, set, sym, refl, ap}
-use Rattle.flash_rule.proofs.Words.{◌∙◌, arith, length-set, dite, ℕ_discrete, get_elem?, Splits, at_longer, Numbers, Name, Pass, Broom, Dealer, View}
-use Rattle.flash_rule.proofs.Words.{is_pass, is_player, is_live_role, weight, owned_at, without, some, World, put, is_owned, LawfulOwned, LawfulView}
-use Rattle.flash_rule.proofs.Words.{IsDealt, IsFilling, Onward, Ruled, spare, spares, List, Lawful}
+use Rattle.flash_rule.proofs.Words.{◌≡◌, ℕ, zero, suc, ◌+◌, ◌<◌, ◌≤◌, inl, ne_eqb, true, false, [], ◌∷◌, ◌++◌, None, Some, length, set, sym, refl, ap, ◌∙◌}
+use Rattle.flash_rule.proofs.Words.{arith, length-set, dite, ℕ_discrete, get_elem?, Splits, at_longer, Numbers, Name, Pass, Broom, Dealer, View, is_pass, Open}
+use Rattle.flash_rule.proofs.Words.{is_player, is_live_role, weight, owned_at, without, some, World, put, is_owned, LawfulOwned, LawfulView, IsDealt, IsFilling}
+use Rattle.flash_rule.proofs.Words.{Onward, Ruled, spare, spares, List, Lawful, Player}
+use Rattle.flash_rule.proofs.Points.{put_here, put_else, eq_self}
+use Rattle.flash_rule.proofs.Owning.{none_some, with_here, without_else, each_with, each_without, owned_else, one_without, kind_with, knowledge_as}
+use Rattle.flash_rule.proofs.Ceding.{ceded_split}
+use Rattle.flash_rule.proofs.Frames.{counted, knowledge_kept, owner_kept}
+use Rattle.flash_rule.proofs.Splitting.{Owner, split_with, current_kept, dealt_world, dealt_onward, dealer_holding, kind_fresh, knowledge_fresh, new_holding}
 use Rattle.atomic_table.proofs.Lists.{at_last}
 use Rattle.flash_rule.specs.Seats.{next_spare, new_broom, dealt_broom}
-use Rattle.flash_rule.proofs.Points.{put_here, put_else, eq_self}
-use Rattle.flash_rule.proofs.Owning.{none_some, with_here, without_else, each_with, each_without, owned_else, one_with_open, one_without}
-use Rattle.flash_rule.proofs.Ceding.{ceded_split}
-use Rattle.flash_rule.proofs.Frames.{counted, knowledge_kept}
-use Rattle.flash_rule.proofs.Assembly.{owner_kept}
-use Rattle.flash_rule.proofs.Splitting.{Owner, split_with, current_kept, dealt_world, dealt_onward, dealer_holding, new_knowledge, new_holding}
-use Rattle.flash_rule.proofs.Keeping.{kind_with, knowledge_as}
 
 -- the dealer's spares, one by one
 pub first_spare : (n from : ℕ) → owned_at from (spares (suc n) from) ≡ Some (spare from)
@@ -60,21 +58,19 @@ module _ (z : Numbers) (g : World) (vs : List View) (id : ℕ) (v : View) (law :
   dealer_after : LawfulView z after id (dealt_broom v)
   dealer_after =
       let h = law.views id v at in
-      let kind = h.kind in
-      let holds = h.holding in
       let b : ℕ = next_spare v in
-      let none = kind.idle (ap is_player role) in
-      let d = holds.dealer role in
+      let none = h.kind.idle (ap is_player role) in
+      let d = h.holding.dealer role in
       record {
-        kind = kind_with kind refl
+        kind = kind_with h.kind refl
             (λ is. let no : true ≡ false = sym is ∙ ap is_pass role in absurd (cc))
-            kind.idle (λ is. ap (λ l. without b l) (kind.owns_none is)) (one_without b v.owns kind.reclaims);
+            h.kind.idle (λ is. ap (λ l. without b l) (h.kind.owns_none is)) (one_without b v.owns h.kind.reclaims);
         knowledge = knowledge_as (knowledge_kept z g after id id onward_after v (λ c is below. counted vs law id v at c is below) h.knowledge) refl;
         holding = dealer_holding z g id (length vs) (Broom v.brooms) g.passes (g.brooms + 1) owner_after not_yet still_dealt (dealt_broom v) role
-            (none.0, none.1) holds.guest
+            (none.0, none.1) h.holding.guest
             (each_without (λ c o. LawfulOwned z after id v.work v.cleared v.wiped c o) b v.owns (λ c o unlike is.
             owned_else z g after id v.work v.work v.cleared v.wiped c o refl (put_else g.owner b (length vs) c unlike) (λ p i. refl) (λ s m named _. inl named)
-            (λ p _ f. f) (holds.owned c o is)))
+            (λ p _ f. f) (h.holding.owned c o is)))
             (d.0, d.1, ap (λ k. k + 1) d.2);
       }
 
@@ -99,18 +95,9 @@ module _ (z : Numbers) (g : World) (vs : List View) (id : ℕ) (v : View) (law :
         clean = λ is. absurd (cc);
       } in
       record {
-        kind = record {
-          numbers = λ _. numbers;
-          host = λ k m is guest. absurd (none_some m guest);
-          known = λ is. absurd (cc);
-          opens = λ is. absurd (cc);
-          unpinned = λ _. refl;
-          idle = λ is. absurd (cc);
-          owns_none = λ is. absurd (cc);
-          reclaims = one_with_open (spare b) [] refl (λ c e x y is. absurd (none_some x is));
-        };
-        knowledge = new_knowledge z g id (length vs) (Broom v.brooms) g.passes (g.brooms + 1) owner_after not_yet still_dealt v.numbers [] (spares 1 b)
-            (λ c _. omega arith);
+        kind = kind_fresh v.numbers (Player (Broom v.brooms)) [] (spares 1 b) true None None (λ _. numbers) (λ is. absurd (cc))
+            (each_with (λ _ o. o.phase ≡ Open) (spare b) [] refl (λ c o _ is. absurd (none_some o is))) (λ is. absurd (cc)) (λ _ _ _ _. refl);
+        knowledge = knowledge_fresh v.numbers (Player (Broom v.brooms)) [] (spares 1 b) true (λ c _. omega arith);
         holding = new_holding z g id (length vs) (Broom v.brooms) g.passes (g.brooms + 1) owner_after not_yet still_dealt v.numbers [] (spares 1 b)
             (let d = (law.views id v at).holding.dealer role in let brooms_is = d.2 in omega arith)
             (λ t is. absurd (cc))

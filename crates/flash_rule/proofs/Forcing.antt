@@ -1,12 +1,23 @@
--- The states of all blocks follow from what the seats own, gave up and have pinned; so a step on a pin word can leave one word alone.
-use Rattle.flash_rule.proofs.Words.{◌≡◌, ◌≢◌, ℕ, zero, suc, ◌<◌, inl, inr, ⊎_elim, Bool, true, false, List, length, set, slice_get, sym, refl, ap}
-use Rattle.flash_rule.proofs.Words.{◌∙◌, arith, get_or, get_or-set_same, some, get_elem?, Allows, at_set, set_else, Numbers, pin_word, pin_index}
-use Rattle.flash_rule.proofs.Words.{PinWord, Owned, Pin, View, one_if, pin_is_on, pins_on, owned_at, World, is_owned, rank, entry_of, IsReached}
-use Rattle.flash_rule.proofs.Words.{IsUnused, IsCededBy, IsCeded, Lawful, Ruled, Sitter, Forces}
-use Rattle.flash_rule.proofs.Roles.{phase_of, of_rank}
-use Rattle.flash_rule.proofs.Points.{total_set}
+-- The states of all blocks follow from what the seats own, gave up and have pinned; so each step on a pin word can leave one word alone.
+use Rattle.flash_rule.proofs.Words.{◌≡◌, ◌≢◌, ℕ, zero, suc, ◌<◌, inl, inr, ⊎_elim, Bool, true, false, List, length, set, slice_get, sym, refl, ap, ◌∙◌, arith}
+use Rattle.flash_rule.proofs.Words.{get_or, get_or-set_same, some, get_elem?, Allows, at_set, set_else, Numbers, pin_word, pin_index, PinWord, Owned, Pin, View}
+use Rattle.flash_rule.proofs.Words.{one_if, pin_is_on, pins_on, owned_at, World, is_owned, rank, entry_of, IsReached, IsUnused, IsCededBy, IsCeded, Lawful}
+use Rattle.flash_rule.proofs.Words.{Ruled, Sitter, Forces, ◌+◌, ◌^◌, ◌-◌, [], ◌∷◌, ◌++◌, Some, subst, none, dite, ℕ_discrete, step, freed_added, kept_added}
+use Rattle.flash_rule.proofs.Words.{MapWord, Free, Open, READER, PAGE_WRITTEN, NEXT_PHASE, TAKEN, is_broom, is_player, with_owned, Intact, LawfulKind, Took}
+use Rattle.flash_rule.proofs.Words.{Pinned, take_told, pin_told, unpin_told, count_told, close_told, claim_told, drain_told, condemn_told, freed_told}
+use Rattle.flash_rule.proofs.Words.{kept_told, retired_told}
+use Rattle.flash_rule.proofs.Points.{phase_of, of_rank, total_set, player_live, broom_live, phase_or_not, seat_set}
 use Rattle.flash_rule.proofs.Places.{pin_within}
-use Rattle.flash_rule.proofs.Ceding.{view_set}
+use Rattle.flash_rule.proofs.OwnSteps.{worker}
+use Rattle.flash_rule.proofs.Ruling.{owner_numbers}
+use Rattle.flash_rule.proofs.Still.{pass_numbers}
+use Rattle.flash_rule.proofs.Steps.{take_allowed, count_allowed, close_allowed}
+use Rattle.flash_rule.proofs.ReaderSteps.{intact_or_not, pin_allowed, unpin_allowed}
+use Rattle.flash_rule.proofs.ReclaimAllowed.{claim_allowed, condemn_allowed, drain_allowed, freed_allowed, kept_allowed, retired_allowed}
+use Rattle.std.proofs.Common.{bit_or}
+use Rattle.flash_rule.specs.Forced.{plus, to_next_phase, TakeSets, PinAdds, UnpinTakesOff, CountAdds, CloseAdds, ClaimExchanges, DrainAdds, CondemnExchanges}
+use Rattle.flash_rule.specs.Forced.{FreeAdds, KeepAdds, RetireAdds}
+use Rattle.geometry.proofs.PinBits as bits
 
 -- Two views of one seat own and gave up the same blocks, and have the same pinned
 pub record Alike (w u : View) : Type 0 where
@@ -85,7 +96,7 @@ tied_sets vs id v w u at owns ceded j x is =
     ⊎_elim
     (λ (t : (j ≡ id) × (w ≡ x)). (
       u,
-      ap (λ i. get_elem? (set vs id u) i) t.0 ∙ view_set vs id v u at,
+      ap (λ i. get_elem? (set vs id u) i) t.0 ∙ seat_set vs id v u at,
       sym (ap (λ (y : View). y.owns) t.1) ∙ owns,
       sym (ap (λ (y : View). y.ceded) t.1) ∙ ceded,
     ))
@@ -122,3 +133,142 @@ forced z slots id me b f told low fixes allowed other also t sits =
     let its : other n ≡ pin_word (two.3.0.pins b) = sym (get_or-set_same t.words k (other n) 0 within) ∙ two.3.1.blocks b low in
     let same = state_same z one.3.0 two.3.0 t.views id me.0 one.0 two.0 sits.seat one.3.2 two.3.2 alike b low in
     its ∙ (ap pin_word (sym same) ∙ sym mine)
+
+-- two views that are both this one are alike
+both : (u v w : View) → v ≡ u → w ≡ u → Alike v w
+both u v w e f = alike_same v w (e ∙ sym f)
+
+-- what a take and a pin fix, in the state that they found
+took_alike : (v : View) (b n : ℕ) (w u : View) → Took v b n w → Took v b n u → Alike w u
+took_alike v b n w u one two =
+    let same : one.state ≡ two.state = bits.pin_same one.state two.state one.fits two.fits (sym one.found ∙ two.found) in
+    ⊎_elim
+    (λ (free : one.state.phase ≡ Free).
+    let other : two.state.phase ≡ Free = sym (ap (λ (p : PinWord). p.phase) same) ∙ free in
+    alike_same w u (one.free free
+    ∙ ((λ i. record v {
+      taken = v.taken + 1;
+      owns = with_owned (record { block = b; phase = Open; generation = (same i).generation; written = 0 }) v.owns;
+    }) ∙ sym (two.free other))))
+    (λ (not : ¬ (one.state.phase ≡ Free)).
+    both (record v { denied = v.denied ++ b ∷ [] }) w u (one.denied not) (two.denied (λ e. not (ap (λ (p : PinWord). p.phase) same ∙ e))))
+    (phase_or_not one.state.phase Free)
+
+pinned_alike : (v : View) (m : MapWord) (value : List ℕ) (n : ℕ) (w u : View) → Pinned v m value n w → Pinned v m value n u → Alike w u
+pinned_alike v m value n w u one two =
+    let same : one.state ≡ two.state = bits.pin_same one.state two.state one.fits two.fits (sym one.found ∙ two.found) in
+    record {
+      owns = ap (λ (x : View). x.owns) one.changed ∙ sym (ap (λ (x : View). x.owns) two.changed);
+      ceded = ap (λ (x : View). x.ceded) one.changed ∙ sym (ap (λ (x : View). x.ceded) two.changed);
+      pin = ⊎_elim
+          (λ (is : Intact one.state m.generation). (one.accepted is).0 ∙ sym (two.accepted (subst (λ (p : PinWord). Intact p m.generation) same is)).0)
+          (λ (not : ¬ Intact one.state m.generation). (one.stray not).0
+          ∙ sym (two.stray (λ is. not (subst (λ (p : PinWord). Intact p m.generation) (sym same) is))).0)
+          (intact_or_not one.state m.generation);
+    }
+
+-- and what an exchange fixes, by the word that it found
+exchanged_alike : (n old : ℕ) (won lost w u : View) → (n ≡ old → (w ≡ won) × (u ≡ won)) → (¬ (n ≡ old) → (w ≡ lost) × (u ≡ lost)) → Alike w u
+exchanged_alike n old won lost w u wins loses =
+    dite (ℕ_discrete n old) (λ is. both won w u (wins is).0 (wins is).1) (λ not. both lost w u (loses not).0 (loses not).1)
+
+-- a step of a seat that has the table's numbers, on the word of a block of the table
+module _ (z : Numbers) (slots id : ℕ) (me : Sitter) (b : ℕ) (f : ℕ → ℕ) (told : ℕ → Sitter → Type 0) where
+  forced_at : ((g : World) (vs : List View) → Lawful z g vs → get_elem? vs id ≡ some me.0 → (me.0.numbers ≡ z) × (b < z.blocks))
+      → (me.0.numbers ≡ z → pin_index z b ≡ pin_index me.0.numbers b → (n : ℕ) (w u : Sitter) → told n w → told n u → Alike w.0 u.0)
+      → (LawfulKind z me.0 → Allows (Ruled z) slots id me (pin_index z b) f told) → Forces z slots id me (pin_index z b) f told
+  forced_at here fixes allowed other also t sits =
+      let law = sits.ruled.2 in
+      let h = here sits.ruled.0 t.views law sits.seat in
+      forced z slots id me b f told h.1 (fixes h.0 (ap (λ (y : Numbers). pin_index y b) (sym h.0)))
+      (allowed (law.views id me.0 sits.seat).kind) other also t sits
+
+  -- the view after an owner's step is one
+  forced_of : (o : Owned) → o.block ≡ b → owned_at o.block me.0.owns ≡ Some o
+      → (pin_index z b ≡ pin_index me.0.numbers b → (n : ℕ) (w u : Sitter) → told n w → told n u → w.0 ≡ u.0)
+      → (LawfulKind z me.0 → Allows (Ruled z) slots id me (pin_index z b) f told) → Forces z slots id me (pin_index z b) f told
+  forced_of o same own fixes allowed =
+      forced_at
+      (λ g vs law at.
+      let h = law.views id me.0 at in
+      (owner_numbers z me.0 o h.kind own, subst (λ c. c < z.blocks) same (h.holding.owned o.block o own).low))
+      (λ _ at n w u one two. alike_same w.0 u.0 (fixes at n w u one two)) allowed
+
+-- ---- the laws
+pub takes_forced : TakeSets
+takes_forced z slots id me x y b player low =
+    forced_at z slots id me b (λ n. bit_or n TAKEN) (take_told (step slots (pin_index z b) x y none) me)
+    (λ g vs law at. ((law.views id me.0 at).kind.numbers (player_live me.0.role player), low))
+    (λ numbers at n w u one two.
+    let below : b < me.0.numbers.blocks = subst (λ (n : Numbers). b < n.blocks) (sym numbers) low in
+    took_alike me.0 b n w.0 u.0 (one.1 b below at) (two.1 b below at))
+    (λ _. take_allowed z slots id me b player low)
+
+pub pins_forced : PinAdds
+pins_forced z slots id me x y m value pass is low =
+    forced_at z slots id me m.block (plus READER) (pin_told (step slots (pin_index z m.block) x y none) me)
+    (λ g vs law at. (pass_numbers z me.0 (law.views id me.0 at).kind pass, low))
+    (λ _ at n w u one two. pinned_alike me.0 m value n w.0 u.0 (one.1 m value is at) (two.1 m value is at))
+    (λ _. pin_allowed z slots id me m value pass is low)
+
+pub unpins_forced : UnpinTakesOff
+unpins_forced z slots id me x y b pass on low =
+    forced_at z slots id me b (plus (2 ^ 64 - READER)) (unpin_told (step slots (pin_index z b) x y none) me)
+    (λ g vs law at. (pass_numbers z me.0 (law.views id me.0 at).kind pass, low))
+    (λ _ at n w u one two. alike_same w.0 u.0 (one.1 b on at ∙ sym (two.1 b on at)))
+    (λ kind. unpin_allowed z slots id me b pass on low (pass_numbers z me.0 kind pass))
+
+pub counts_forced : CountAdds
+counts_forced z slots id me x y o work can =
+    forced_of z slots id me o.block (plus PAGE_WRITTEN) (count_told (step slots (pin_index z o.block) x y none) me) o refl can.own
+    (λ at n w u one two. one.1 o work can at ∙ sym (two.1 o work can at))
+    (λ kind. count_allowed z slots id me o work (ap is_player (worker z me.0 work kind can.is).1) (owner_numbers z me.0 o kind can.own) can)
+
+pub closes_forced : CloseAdds
+closes_forced z slots id me x y o can =
+    forced_of z slots id me o.block (plus NEXT_PHASE) (close_told (step slots (pin_index z o.block) x y none) me) o refl can.own
+    (λ at n w u one two. one.1 o can at ∙ sym (two.1 o can at)) (λ kind. close_allowed z slots id me o (owner_numbers z me.0 o kind can.own) can)
+
+pub drains_forced : DrainAdds
+drains_forced z slots id me x y o can =
+    forced_of z slots id me o.block (plus NEXT_PHASE) (drain_told (step slots (pin_index z o.block) x y none) me) o refl can.own
+    (λ at n w u one two. one.1 o can at ∙ sym (two.1 o can at)) (λ _. drain_allowed z slots id me o can)
+
+pub retires_forced : RetireAdds
+retires_forced z slots id me x y o can =
+    forced_of z slots id me o.block (plus NEXT_PHASE) (retired_told (step slots (pin_index z o.block) x y none) me) o refl can.erasing.own
+    (λ at n w u one two. one.1 o can at ∙ sym (two.1 o can at)) (λ _. retired_allowed z slots id me o can)
+
+pub frees_forced : FreeAdds
+frees_forced z slots id me x y o can =
+    forced_of z slots id me o.block (plus (freed_added o.written)) (freed_told (step slots (pin_index z o.block) x y none) me) o refl can.erasing.own
+    (λ at n w u one two. one.1 o can at ∙ sym (two.1 o can at)) (λ _. freed_allowed z slots id me o can)
+
+pub keeps_forced : KeepAdds
+keeps_forced z slots id me x y o can =
+    forced_of z slots id me o.block (plus (kept_added o.written)) (kept_told (step slots (pin_index z o.block) x y none) me) o refl can.erasing.own
+    (λ at n w u one two. one.1 o can at ∙ sym (two.1 o can at)) (λ _. kept_allowed z slots id me o can)
+
+-- a broom's numbers are the table's, and so the block is the table's
+broom_at : (z : Numbers) (id : ℕ) (me : Sitter) (b : ℕ) → is_broom me.0.role ≡ true → b < me.0.numbers.blocks → (g : World) (vs : List View) → Lawful z g vs
+    → get_elem? vs id ≡ some me.0 → (me.0.numbers ≡ z) × (b < z.blocks)
+broom_at z id me b broom low g vs law at =
+    let numbers = (law.views id me.0 at).kind.numbers (broom_live me.0.role broom) in (numbers, subst (λ (n : Numbers). b < n.blocks) numbers low)
+
+pub claims_forced : ClaimExchanges
+claims_forced z slots id me x y b p broom can =
+    forced_at z slots id me b (to_next_phase p) (claim_told (step slots (pin_index z b) (pin_word p) y none) me) (broom_at z id me b broom can.low)
+    (λ _ at n w u one two.
+    let k = one.1 b p can at refl in
+    let l = two.1 b p can at refl in
+    exchanged_alike n (pin_word p) _ _ w.0 u.0 (λ is. (k.won is, l.won is)) (λ not. (k.lost not, l.lost not)))
+    (λ _. claim_allowed z slots id me b p broom can)
+
+pub condemns_forced : CondemnExchanges
+condemns_forced z slots id me x y b p broom can =
+    forced_at z slots id me b (to_next_phase p) (condemn_told (step slots (pin_index z b) (pin_word p) y none) me) (broom_at z id me b broom can.low)
+    (λ _ at n w u one two.
+    let k = one.1 b p can at refl in
+    let l = two.1 b p can at refl in
+    exchanged_alike n (pin_word p) _ _ w.0 u.0 (λ is. (k.won is, l.won is)) (λ not. (k.busy not, l.busy not)))
+    (λ _. condemn_allowed z slots id me b p broom can)

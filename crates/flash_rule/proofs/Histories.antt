@@ -1,6 +1,6 @@
 -- The calls of each host in a history that only grows: where no host has made a call in between, two histories are one.
-use Rattle.flash_rule.proofs.Words.{◌≡◌, ℕ, ◌<◌, eq-eqb, ne_eqb, List, [], ◌∷◌, ◌++◌, length, sym, refl, ap, ◌∙◌, subst, arith, length-append}
-use Rattle.flash_rule.proofs.Words.{All-nil, dite, ℕ_discrete, Call, Begins, caller, calls_of}
+use Rattle.flash_rule.proofs.Words.{◌≡◌, ℕ, ◌<◌, eq-eqb, ne_eqb, List, [], ◌∷◌, ◌++◌, length, sym, refl, ap, ◌∙◌, subst, arith, length-append, All-nil, dite}
+use Rattle.flash_rule.proofs.Words.{ℕ_discrete, Call, Begins, caller, calls_of}
 use Rattle.std.proofs.Common.{append-nil}
 use Rattle.std.specs.Prelude.{All}
 use Rattle.std.proofs.lemmas.List.{append_cancel_left, nil_from_length}

@@ -1,16 +1,15 @@
--- One map word changes, and the history with it: what a place does.
-use Rattle.flash_rule.proofs.Words.{◌≡◌, ◌≢◌, ℕ, ◌<◌, ◌⊎◌, inl, eq-eqb, ne_eqb, true, List, [], ◌∷◌, ◌++◌, Option, None, Some, set, sym, refl, ap}
-use Rattle.flash_rule.proofs.Words.{◌∙◌, subst, arith, some, dite, ℕ_discrete, get_elem?, Call, held, Begins-refl, Numbers, MapWord, Open, Victim}
-use Rattle.flash_rule.proofs.Words.{Pass, Dealer, Player, View, is_pass, AreOfHosts, calls_of, caller, World, put, sector_word, LawfulSector}
-use Rattle.flash_rule.proofs.Words.{LawfulView, Lawful, Onward, Placed}
-use Rattle.std.proofs.lemmas.List.Elements.{All-push}
-use Rattle.geometry.proofs.Histories.{Begins-push}
-use Rattle.flash_rule.proofs.Points.{put_else, put_all}
-use Rattle.flash_rule.proofs.Frames.{counted, knowledge_kept, lists_stay}
-use Rattle.flash_rule.proofs.Assembly.{assembled, block_kept, sector_kept}
+-- One map word changes, and the history with it: what a place does, of a trim, of a write and of a write of an empty sector.
+use Rattle.flash_rule.proofs.Words.{◌≡◌, ◌≢◌, ℕ, ◌<◌, ◌⊎◌, inl, eq-eqb, ne_eqb, true, List, [], ◌∷◌, ◌++◌, Option, None, Some, set, sym, refl, ap, ◌∙◌, subst}
+use Rattle.flash_rule.proofs.Words.{arith, some, dite, ℕ_discrete, get_elem?, Call, held, Begins-refl, Numbers, MapWord, Open, Victim, Pass, Dealer, Player}
+use Rattle.flash_rule.proofs.Words.{View, is_pass, AreOfHosts, calls_of, caller, World, put, sector_word, LawfulSector, LawfulView, Lawful, Onward, Placed, ◌≤◌}
+use Rattle.flash_rule.proofs.Words.{inr, get_or, Write, WriteNew, Trim, Name, Owned, is_live_role, owned_at, is_nameable, IsCurrent, IsValue, CanPlace}
+use Rattle.flash_rule.proofs.Points.{put_else, put_all, put_here}
+use Rattle.flash_rule.proofs.Frames.{counted, knowledge_kept, lists_stay, assembled, block_kept, sector_kept}
 use Rattle.flash_rule.proofs.Ceding.{ceded_still}
-use Rattle.flash_rule.proofs.Still.{pin_stays, pass_numbers}
-use Rattle.flash_rule.proofs.Keeping.{kind_as, owned_with, work_with, knowledge_with}
+use Rattle.flash_rule.proofs.Still.{pin_stays, pass_numbers, onward_called}
+use Rattle.flash_rule.proofs.Owning.{kind_as, owned_with, work_with, knowledge_with, some_same, none_some}
+use Rattle.std.proofs.lemmas.List.Elements.{All-push}
+use Rattle.geometry.proofs.Histories.{Begins-push, held_written, held_trimmed, held_new, after_refused, held_by_write, held_by_new, held_by_trim}
 
 calls_else : (t : ℕ) (h : List Call) (c : Call) → caller c ≢ t → calls_of t (h ++ c ∷ []) ≡ calls_of t h
 calls_else t [] c apart = rw (ne_eqb (caller c) t apart) refl
@@ -63,49 +62,37 @@ module _ (z : Numbers) (g : World) (vs : List View) (id : ℕ) (v : View) (t s :
   places mine others here =
       let h = law.views id v at in
       let g' = place_world in
-      let kind = h.kind in
-      let holds = h.holding in
-      let named = holds.name (Pass t) role in
-      let on : Onward z g g' id id = record {
-        history = Begins-push g.history c;
-        calls = λ u other. calls_else u g.history c (λ same. other (ap (λ k. g.seat (Pass k)) (sym same ∙ by_me) ∙ named.0));
-        seat = λ n dealt. (refl, dealt);
-        pins = λ b _. pin_stays (g.pins b);
-        owned = λ b _ _ _. record { owner = refl; phase = refl; generation = refl; written = refl; pages = λ p i. refl };
-        pages = λ b p i _ _ _. refl;
-        named = λ u n is. put_all g.map s m (λ j x. x ≡ Some n → (g.map j ≡ Some n) ⊎ (g.owner n.block ≡ id)) (mine n) (λ j _ is. inl is) u is;
-        programmer = λ n _. refl;
-        eraser = λ b n _. refl;
-        lists = λ n _. lists_stay g g' id n refl refl;
-        dealer = λ _. (refl, refl);
-        badge = λ n _ _ _. (refl, refl);
-        carries = λ n c is. inl is;
-      } in
+      let named = h.holding.name (Pass t) role in
+      let on : Onward z g g' id id = onward_called z g id id (g.history ++ c ∷ []) g'.map g.pages g.badge g.carries (Begins-push g.history c)
+      (λ u other. calls_else u g.history c (λ same. other (ap (λ k. g.seat (Pass k)) (sym same ∙ by_me) ∙ named.0)))
+      (λ _ _ p i. refl) (λ b p i _ _. refl)
+      (λ u n is. put_all g.map s m (λ j x. x ≡ Some n → (g.map j ≡ Some n) ⊎ (g.owner n.block ≡ id)) (mine n) (λ j _ is. inl is) u is)
+      (λ n _ _. (refl, refl)) (λ n c is. inl is) in
       let knows = knowledge_kept z g g' id id on v (λ b is below. counted vs law id v at b is below) h.knowledge in
       let calls : (u : ℕ) → v.role ≡ Player (Pass u) → calls_of u (g.history ++ c ∷ []) ≡ v.mine ++ c ∷ [] = λ u is.
-      let same : t ≡ u = pass_same t u (sym role ∙ is) in calls_here u g.history c (by_me ∙ same) ∙ ap (λ l. l ++ c ∷ []) (holds.calls u is).0 in
+      let same : t ≡ u = pass_same t u (sym role ∙ is) in calls_here u g.history c (by_me ∙ same) ∙ ap (λ l. l ++ c ∷ []) (h.holding.calls u is).0 in
       let after : LawfulView z g' id placer = record {
-        kind = kind_as kind refl refl (refl, refl, refl, refl);
+        kind = kind_as h.kind refl refl (refl, refl, refl, refl);
         knowledge = knowledge_with placer knows refl (Begins-refl (g.history ++ c ∷ [])) knows.pin knows.known knows.programs knows.erases;
         holding = record {
-          name = holds.name;
+          name = h.holding.name;
           calls = λ u is. (calls u is, calls u is);
-          lists = holds.lists;
+          lists = h.holding.lists;
           owned = λ b o owns.
-              let k = holds.owned b o owns in
-              owned_with k refl refl k.rest
-              (λ victim. let e : Open ≡ Victim = sym (kind.opens is_a_pass b o owns) ∙ victim in absurd (cc))
+              let k = h.holding.owned b o owns in
+              owned_with k (refl, refl, refl) refl k.rest
+              (λ victim. let e : Open ≡ Victim = sym (h.kind.opens is_a_pass b o owns) ∙ victim in absurd (cc))
               k.clean;
           work = λ x is.
-              let k = holds.work x is in
+              let k = h.holding.work x is in
               work_with k k.own (λ _. refl);
           source = λ x is.
-              let k = holds.source x is in
-              let e : Open ≡ Victim = sym (kind.opens is_a_pass x.page.block k.entry k.own) ∙ k.victim in absurd (cc);
-          whole = holds.whole;
-          guest = holds.guest;
-          note = holds.note;
-          home = holds.home;
+              let k = h.holding.source x is in
+              let e : Open ≡ Victim = sym (h.kind.opens is_a_pass x.page.block k.entry k.own) ∙ k.victim in absurd (cc);
+          whole = h.holding.whole;
+          guest = h.holding.guest;
+          note = h.holding.note;
+          home = h.holding.home;
           dealer = λ is. let e : Player (Pass t) ≡ Dealer = sym role ∙ is in absurd (cc);
         };
       } in
@@ -135,3 +122,94 @@ module _ (z : Numbers) (g : World) (vs : List View) (id : ℕ) (v : View) (t s :
         own = λ u is. let same : t ≡ u = pass_same t u (sym role ∙ is) in
             calls_here u g.history c (by_me ∙ same) ∙ ap (λ l. l ++ c ∷ []) (h.holding.calls u is).0;
       }
+
+-- a page that a player has filled and counted with the sector's value is one that its map word may name
+pub filled : (z : Numbers) (g : World) (vs : List View) (id : ℕ) (v : View) (n : Name) (s : ℕ) (m : MapWord) (value : List ℕ) → Lawful z g vs
+    → get_elem? vs id ≡ some v → v.role ≡ Player n → CanPlace v s m value
+    → (history : List Call) (map : ℕ → Option MapWord) → held z.sectors history s ≡ Some value
+    → (g.owner m.block ≡ id) × ((g.pins m.block).phase ≡ Open) × IsCurrent z (record g { history = history; map = map }) s m
+filled z g vs id v n s m value law at role can history map here =
+    let h = law.views id v at in
+    let same : v.numbers ≡ z = h.kind.numbers (ap is_live_role role) in
+    let own = h.holding.owned m.block can.entry can.own in
+    let work = h.holding.work can.work can.is in
+    let block_is : can.work.page.block ≡ m.block = ap (λ (y : MapWord). y.block) can.page in
+    let page_is : can.work.page.page ≡ m.page = ap (λ (y : MapWord). y.page) can.page in
+    let P : ℕ → Type 0 = λ c. owned_at c v.owns ≡ Some work.entry in
+    let entry_is : work.entry ≡ can.entry = some_same work.entry can.entry (sym (subst P block_is work.own) ∙ can.own) in
+    let written_is : work.entry.written ≡ can.entry.written = ap (λ (y : Owned). y.written) entry_is in
+    let low_page = can.counted in
+    let full = work.full (omega arith) in
+    let words_same : v.numbers.words ≡ z.words = ap (λ (y : Numbers). y.words) same in
+    let stands : (i : ℕ) → i ≤ z.words → g.pages m.block m.page i ≡ get_or can.work.words i 0 = λ i most.
+    ap (λ b. g.pages b m.page i) (sym block_is) ∙ (ap (λ p. g.pages can.work.page.block p i) (sym page_is) ∙ work.stands i (omega arith)) in
+    let opened : can.entry.phase ≡ Open = ap (λ (y : Owned). y.phase) (sym entry_is) ∙ work.opened in (
+      own.owner,
+      own.phase ∙ opened,
+      record {
+        value = value;
+        here = here;
+        block = own.low;
+        same = own.generation ∙ (ap (λ (y : Owned). y.generation) (sym entry_is) ∙ (work.generation ∙ ap (λ (y : MapWord). y.generation) can.page));
+        phase = ap is_nameable (own.phase ∙ opened);
+        written = (let w = own.written in omega arith);
+        stands = λ i below. stands i (omega arith) ∙ can.words i (omega arith);
+        whole = subst (λ (y : Numbers). IsValue y value) same can.whole;
+        stamp = stands z.words (omega arith) ∙ (ap (λ i. get_or can.work.words i 0) (sym words_same) ∙ can.stamp);
+      },
+    )
+
+module _ (z : Numbers) (g : World) (vs : List View) (id : ℕ) (v : View) (t s : ℕ) (law : Lawful z g vs) (at : get_elem? vs id ≡ some v)
+    (role : v.role ≡ Player (Pass t)) (low : s < z.sectors) where
+  -- a trim empties its sector
+  pub trims : Lawful z (place_world z g vs id v t s (Trim t s) None law at role refl) (set vs id (placer z g vs id v t s (Trim t s) None law at role refl))
+  trims =
+      places z g vs id v t s (Trim t s) None law at role refl (λ n is. absurd (none_some n is))
+      (λ other unlike. held_by_trim z.sectors g.history t s other unlike)
+      (record {
+        empty = λ _. held_trimmed z.sectors g.history t s low;
+        named = λ n is. absurd (none_some n (sym (put_here g.map s None) ∙ is));
+      })
+
+  -- a call names the page that was filled and counted, and leaves the other sectors
+  names : (c : Call) (by_me : caller c ≡ t) (m : MapWord) (value : List ℕ) → CanPlace v s m value → held z.sectors (g.history ++ c ∷ []) s ≡ Some value
+      → ((other : ℕ) → other ≢ s → held z.sectors (g.history ++ c ∷ []) other ≡ held z.sectors g.history other)
+      → Lawful z (place_world z g vs id v t s c (Some m) law at role by_me) (set vs id (placer z g vs id v t s c (Some m) law at role by_me))
+  names c by_me m value can here others =
+      let after = place_world z g vs id v t s c (Some m) law at role by_me in
+      let own = filled z g vs id v (Pass t) s m value law at role can after.history after.map here in
+      places z g vs id v t s c (Some m) law at role by_me
+      (λ n is. inr (ap (λ (y : MapWord). g.owner y.block) (sym (some_same m n is)) ∙ own.0)) others
+      (record {
+        empty = λ is. absurd (none_some m (sym is ∙ put_here g.map s (Some m)));
+        named = λ n is. subst (λ (n : MapWord). IsCurrent z after s n) (some_same m n (sym (put_here g.map s (Some m)) ∙ is)) own.2;
+      })
+
+  -- so does a write
+  pub writes : (m : MapWord) (value : List ℕ) → CanPlace v s m value
+      → Lawful z (place_world z g vs id v t s (Write t s value) (Some m) law at role refl)
+      (set vs id (placer z g vs id v t s (Write t s value) (Some m) law at role refl))
+  writes m value can =
+      names (Write t s value) refl m value can (held_written z.sectors g.history t s value low)
+      (λ other unlike. held_by_write z.sectors g.history t s value other unlike)
+
+  -- and a write of an empty sector, where no page is named
+  pub writes_new : (m : MapWord) (value : List ℕ) → g.map s ≡ None → CanPlace v s m value
+      → Lawful z (place_world z g vs id v t s (WriteNew t s value) (Some m) law at role refl)
+      (set vs id (placer z g vs id v t s (WriteNew t s value) (Some m) law at role refl))
+  writes_new m value none can =
+      names (WriteNew t s value) refl m value can (held_new z.sectors g.history t s value low ((law.sectors s low).empty none))
+      (λ other unlike. held_by_new z.sectors g.history t s value other unlike)
+
+  -- and it leaves the page that is named, where one is
+  pub leaves : (m : MapWord) (value : List ℕ) → g.map s ≡ Some m
+      → Lawful z (place_world z g vs id v t s (WriteNew t s value) (g.map s) law at role refl)
+      (set vs id (placer z g vs id v t s (WriteNew t s value) (g.map s) law at role refl))
+  leaves m value named =
+      let after = place_world z g vs id v t s (WriteNew t s value) (g.map s) law at role refl in
+      let now = (law.sectors s low).named m named in
+      let stays = after_refused z.sectors g.history t s value now.value now.here in
+      places z g vs id v t s (WriteNew t s value) (g.map s) law at role refl (λ n is. inl is)
+      (λ other unlike. held_by_new z.sectors g.history t s value other unlike)
+      (sector_kept z g after s (law.sectors s low) (put_here g.map s (g.map s)) (ap (λ a. get_or a s None) stays)
+      (λ b _ is. (refl, is, omega arith, λ p i _. refl)))

@@ -1,20 +1,17 @@
 -- The moves of notes: lend, take in, give back, come home.
-use Rattle.flash_rule.proofs.Words.{◌≡◌, ◌≢◌, ℕ, ◌⊎◌, inl, inr, ⊎_elim, Bool, true, false, List, [], Option, None, Some, length, set, sym, refl, ap}
-use Rattle.flash_rule.proofs.Words.{◌∙◌, subst, arith, some, some-injective, dite, ℕ_discrete, get_elem?, Splits, at_set, set_else, Begins-refl}
-use Rattle.flash_rule.proofs.Words.{Begins, Numbers, Name, Pass, Broom, Role, Dealer, Player, Note, Owned, Pin, Clear, Carried, View, one_if, is_pass}
-use Rattle.flash_rule.proofs.Words.{is_live_role, may_own, pin_is_on, pins_on, weight, role_weight, owned_at, same_name, if◌then◌else◌, World}
-use Rattle.flash_rule.proofs.Words.{put_name, LawfulBlock, LawfulCopy, Grown, LawfulKnowledge, LawfulView, Lawful, IsDealt, Onward, Ruled, gone}
+use Rattle.flash_rule.proofs.Words.{◌≡◌, ◌≢◌, ℕ, ◌⊎◌, inl, inr, ⊎_elim, Bool, true, false, List, [], Option, None, Some, length, set, sym, refl, ap, ◌∙◌, subst}
+use Rattle.flash_rule.proofs.Words.{arith, some, some-injective, dite, ℕ_discrete, get_elem?, Splits, at_set, set_else, Begins-refl, Begins, Numbers, Name}
+use Rattle.flash_rule.proofs.Words.{Pass, Broom, Role, Dealer, Player, Note, Owned, Pin, Clear, Carried, View, one_if, is_pass, is_live_role, may_own, Gone}
+use Rattle.flash_rule.proofs.Words.{pin_is_on, pins_on, weight, role_weight, owned_at, same_name, if◌then◌else◌, World, put_name, LawfulBlock, LawfulCopy}
+use Rattle.flash_rule.proofs.Words.{Grown, LawfulKnowledge, LawfulView, Lawful, IsDealt, Onward, Ruled, gone}
+use Rattle.flash_rule.proofs.Points.{player_same, total_set, name_here, name_else, name_all}
+use Rattle.flash_rule.proofs.Owning.{some_same, none_some, knowledge_as, owned_as, source_with, work_with}
+use Rattle.flash_rule.proofs.Ceding.{ceded_split, ceded_gone}
+use Rattle.flash_rule.proofs.Frames.{begins_same, counted, others, knowledge_kept, copy_kept, owner_kept}
+use Rattle.flash_rule.proofs.Still.{onward_called}
+use Rattle.flash_rule.proofs.Splitting.{split, current_kept, kind_fresh, knowledge_fresh, holding_unnamed}
 use Rattle.atomic_table.specs.Table.{Joins}
 use Rattle.flash_rule.specs.Seats.{newcomer, name_of, carried, lender, lent_note, host_of, giver, given_note, home}
-use Rattle.flash_rule.proofs.Roles.{player_same}
-use Rattle.flash_rule.proofs.Points.{total_set, name_here, name_else, name_all}
-use Rattle.flash_rule.proofs.Owning.{some_same, none_some}
-use Rattle.flash_rule.proofs.Ceding.{ceded_split, ceded_gone}
-use Rattle.flash_rule.proofs.Frames.{begins_same, counted, others, knowledge_kept, copy_kept}
-use Rattle.flash_rule.proofs.Assembly.{owner_kept}
-use Rattle.flash_rule.proofs.Still.{onward_of}
-use Rattle.flash_rule.proofs.Splitting.{split, current_kept}
-use Rattle.flash_rule.proofs.Keeping.{knowledge_as, owned_as, source_with, work_with}
 
 -- the table with one badge moved, and what it has with it
 abbrev pub badged : World → Name → ℕ → Option Carried → World
@@ -24,7 +21,8 @@ badged g n seat c = record g { badge = put_name g.badge n seat; carries = put_na
 pub badge_moves : (z : Numbers) (g : World) (id other : ℕ) (n : Name) (seat : ℕ) (c : Option Carried) → (g.badge n ≡ id) ⊎ (g.badge n ≡ other)
     → ((d : Carried) → c ≡ Some d → (d.programs ≡ g.programs d.of) × (d.erases ≡ g.erases d.of)) → Onward z g (badged g n seat c) id other
 badge_moves z g id other n seat c was all =
-    onward_of z g id other g.map g.pages (put_name g.badge n seat) (put_name g.carries n c) (λ _ _ p i. refl) (λ b p i _ _. refl) (λ s m is. inl is)
+    onward_called z g id other g.history g.map g.pages (put_name g.badge n seat) (put_name g.carries n c) (Begins-refl g.history) (λ _ _. refl)
+    (λ _ _ p i. refl) (λ b p i _ _. refl) (λ s m is. inl is)
     (λ m apart apart'.
     let other_name : ¬ (m ≡ n) = λ same. ⊎_elim (λ e. apart (ap g.badge same ∙ e)) (λ e. apart' (ap g.badge same ∙ e)) was in
     (name_else g.badge n seat m other_name, name_else g.carries n c m other_name))
@@ -49,16 +47,8 @@ note_lawful z g seat v owner n numbers role known lists knows here dealt carries
     let of_owner : P owner = (known, begins_same v.programs (g.programs owner) lists.0, begins_same v.erases (g.erases owner) lists.1) in
     let copied : P (name_of v.role) = subst P of_is of_owner in
     record {
-      kind = record {
-        numbers = λ _. numbers;
-        host = λ k m is. absurd (cc);
-        known = λ is. absurd (cc);
-        opens = λ is. absurd (cc);
-        unpinned = λ _. refl;
-        idle = λ _. (refl, refl, refl, refl);
-        owns_none = λ _. refl;
-        reclaims = λ b c o e is. absurd (none_some o is);
-      };
+      kind = kind_fresh v.numbers Note [] [] false (Some n) (Some (carried v)) (λ _. numbers) (λ is. absurd (cc)) (λ b o is. absurd (none_some o is))
+          (λ _. refl) (λ k m is. absurd (cc));
       knowledge = record {
         seen = (g.history, refl);
         pin = tt;
@@ -85,20 +75,10 @@ note_lawful z g seat v owner n numbers role known lists knows here dealt carries
             subst (λ (x : Carried). Grown x d) its (out d (ap g.carries (sym name) ∙ there)))
             (λ (no : Note ≡ Player m). absurd (cc)) whose;
       };
-      holding = record {
-        name = λ m is. absurd (cc);
-        calls = λ t is. absurd (cc);
-        lists = λ m is. absurd (cc);
-        owned = λ b o is. absurd (none_some o is);
-        work = λ w is. absurd (none_some w is);
-        source = λ x is. absurd (none_some x is);
-        whole = λ is. absurd (cc);
-        note = λ m _ is. ap g.carries (sym (some_same n m is)) ∙ carries;
-        home = λ m is. absurd (cc);
-        guest = λ m is. let same : n ≡ m = some_same n m is in let P : Name → Type 0 = λ m. (g.badge m ≡ seat) × IsDealt g m in
-            let now : P n = (here, dealt) in subst P same now;
-        dealer = λ is. absurd (cc);
-      };
+      holding = holding_unnamed (record (newcomer v.numbers Note) { guest = Some n; copy = Some (carried v) }) (λ m is. absurd (cc)) (refl, refl)
+          (λ b o is. absurd (none_some o is))
+          (λ m is. subst (λ (k : Name). (g.badge k ≡ seat) × IsDealt g k) (some_same n m is) (here, dealt))
+          (λ m _ is. ap g.carries (sym (some_same n m is)) ∙ carries) (λ is. absurd (cc));
     }
 
 -- copies are lawful for any seat that isn't their player's
@@ -128,27 +108,25 @@ badged_view : (z : Numbers) (g : World) (id : ℕ) (v w : View) (n m : Name) (se
     → ((k : Name) → v.role ≡ Player k → w.whole ≡ true → put_name g.carries m c k ≡ None)
     → LawfulView z (badged g m seat c) id (record v { guest = w.guest; whole = w.whole; copy = w.copy; older = w.older })
 badged_view z g id v w n m seat c role h host knowledge whole guest home =
-    let kind = h.kind in
-    let holds = h.holding in
     record {
       kind = record {
-        numbers = kind.numbers;
+        numbers = h.kind.numbers;
         host = host;
-        known = kind.known;
-        opens = kind.opens;
-        unpinned = kind.unpinned;
-        idle = kind.idle;
-        owns_none = kind.owns_none;
-        reclaims = kind.reclaims;
+        known = h.kind.known;
+        opens = h.kind.opens;
+        unpinned = h.kind.unpinned;
+        idle = h.kind.idle;
+        owns_none = h.kind.owns_none;
+        reclaims = h.kind.reclaims;
       };
       knowledge = knowledge;
       holding = record {
-        name = λ k is. let t = holds.name k is in (t.0, as_dealt g m seat c k t.1);
-        calls = holds.calls;
-        lists = holds.lists;
-        owned = λ b o is. let k = holds.owned b o is in owned_as k refl refl refl refl;
-        work = λ x is. let k = holds.work x is in work_with k k.own (λ _. refl);
-        source = λ x is. let k = holds.source x is in source_with k k.own refl (λ _. refl);
+        name = λ k is. let t = h.holding.name k is in (t.0, as_dealt g m seat c k t.1);
+        calls = h.holding.calls;
+        lists = h.holding.lists;
+        owned = λ b o is. let k = h.holding.owned b o is in owned_as k refl refl refl refl;
+        work = λ x is. let k = h.holding.work x is in work_with k k.own (λ _. refl);
+        source = λ x is. let k = h.holding.source x is in source_with k k.own refl (λ _. refl);
         whole = whole;
         guest = guest;
         note = λ k is. let e : Player n ≡ Note = sym role ∙ is in absurd (cc);
@@ -166,8 +144,7 @@ module _ (z : Numbers) (id : ℕ) (v : View) (n : Name) (role : v.role ≡ Playe
   lends whole alone s (g, fits, law) at =
       let vs = s.views in
       let h = law.views id v at in
-      let kind = h.kind in
-      let numbers : v.numbers ≡ z = kind.numbers (player_live v.role n role) in
+      let numbers : v.numbers ≡ z = h.kind.numbers (player_live v.role n role) in
       let new : ℕ = length vs in
       let g' : World = badged g n new (Some (carried v)) in
       let named = h.holding.name n role in
@@ -198,15 +175,14 @@ module _ (z : Numbers) (id : ℕ) (v : View) (n : Name) (role : v.role ≡ Playe
   gives m guest apart s (g, fits, law) at =
       let vs = s.views in
       let h = law.views id v at in
-      let kind = h.kind in
-      let numbers : v.numbers ≡ z = kind.numbers (player_live v.role n role) in
+      let numbers : v.numbers ≡ z = h.kind.numbers (player_live v.role n role) in
       let new : ℕ = length vs in
       let g' : World = badged g m new (Some (carried v)) in
       let was = h.holding.guest m guest in
       let all : (d : Carried) → Some (carried v) ≡ Some d → (d.programs ≡ g.programs d.of) × (d.erases ≡ g.erases d.of) =
       copies_all g v n role (h.holding.lists n role) in
       let on : Onward z g g' id id = badge_moves z g id id m new (Some (carried v)) (inl was.0) all in
-      let whole : v.whole ≡ true = kind.host n m role guest in
+      let whole : v.whole ≡ true = h.kind.host n m role guest in
       let unlike : ¬ (n ≡ m) = λ same. apart (role ∙ ap Player same) in
       let nothing_out : g'.carries n ≡ None = name_else g.carries m (Some (carried v)) n unlike ∙ h.holding.home n role whole in
       let knows = knowledge_kept z g g' id id on v (λ b is below. counted vs law id v at b is below) h.knowledge in
@@ -238,40 +214,11 @@ stays_with f m id x is = by_test (same_name x m) where
 gone_lawful : (z : Numbers) (g : World) (seat : ℕ) → LawfulView z g seat gone
 gone_lawful z g seat =
     record {
-      kind = record {
-        numbers = λ is. absurd (cc);
-        host = λ n m is. absurd (cc);
-        known = λ is. absurd (cc);
-        opens = λ is. absurd (cc);
-        unpinned = λ _. refl;
-        idle = λ _. (refl, refl, refl, refl);
-        owns_none = λ _. refl;
-        reclaims = λ b c o e is. absurd (none_some o is);
-      };
-      knowledge = record {
-        seen = (g.history, refl);
-        pin = tt;
-        known = λ b _. omega arith;
-        programs = λ m is. absurd (cc);
-        erases = λ m is. absurd (cc);
-        copy = λ c is. absurd (none_some c is);
-        older = λ o c is. absurd (none_some o is);
-        out =
-            λ m c d _ is. absurd (none_some c is);
-      };
-      holding = record {
-        name = λ m is. absurd (cc);
-        calls = λ t is. absurd (cc);
-        lists = λ m is. absurd (cc);
-        owned = λ b o is. absurd (none_some o is);
-        work = λ w is. absurd (none_some w is);
-        source = λ x is. absurd (none_some x is);
-        whole = λ is. absurd (cc);
-        guest = λ m is. absurd (none_some m is);
-        note = λ m is. absurd (cc);
-        home = λ m is. absurd (cc);
-        dealer = λ is. absurd (cc);
-      };
+      kind = kind_fresh gone.numbers Gone [] [] false None None (λ is. absurd (cc)) (λ is. absurd (cc)) (λ b o is. absurd (none_some o is)) (λ _. refl)
+          (λ n m is. absurd (cc));
+      knowledge = knowledge_fresh gone.numbers Gone [] [] false (λ b _. omega arith);
+      holding = holding_unnamed gone (λ m is. absurd (cc)) (refl, refl) (λ b o is. absurd (none_some o is)) (λ m is. absurd (none_some m is))
+          (λ m is. absurd (cc)) (λ is. absurd (cc));
     }
 
 module _ (z : Numbers) (g : World) (vs : List View) (id other : ℕ) (v w u : View) (n : Name) (law : Lawful z g vs) (at : get_elem? vs id ≡ some v)
@@ -334,6 +281,10 @@ module _ (z : Numbers) (g : World) (vs : List View) (id other : ℕ) (v w u : Vi
 
 module _ (z : Numbers) (id other : ℕ) (v w : View) (n m : Name) (c : Carried) (role : v.role ≡ Player n) (note : w.role ≡ Note)
     (guest : w.guest ≡ Some m) (copy : w.copy ≡ Some c) where
+  -- the copies of the note are lawful for another player
+  copied : (g : World) → LawfulCopy z g w.role c → ¬ (v.role ≡ Player c.of) → (d : Carried) → w.copy ≡ Some d → LawfulCopy z g v.role d
+  copied g new other d is = subst (λ (d : Carried). LawfulCopy z g v.role d) (some_same c d (sym copy ∙ is)) (another z g w.role v.role c new other)
+
   -- TAKE IN
   pub takes_in : v.whole ≡ true → c.of ≡ m → Joins (Ruled z) id v other w (host_of v w) gone
   takes_in whole of_is s (g, fits, law) at apart there =
@@ -355,12 +306,8 @@ module _ (z : Numbers) (id other : ℕ) (v w : View) (n m : Name) (c : Carried) 
         known = knows.known;
         programs = knows.programs;
         erases = knows.erases;
-        copy = λ d is.
-            let old = k.knowledge.copy c copy in
-            let new : LawfulCopy z g' w.role c = copy_kept z g g' id other on w.role c old in
-            let same : c ≡ d = some_same c d (sym copy ∙ is) in
-            subst (λ (d : Carried). LawfulCopy z g' v.role d) same
-            (another z g' w.role v.role c new (λ e. names (player_same n m (sym role ∙ (e ∙ ap Player of_is)))));
+        copy = copied g' (copy_kept z g g' id other on w.role c (k.knowledge.copy c copy))
+            (λ e. names (player_same n m (sym role ∙ (e ∙ ap Player of_is))));
         older = λ o d old new same.
             let its : c ≡ d = some_same c d (sym copy ∙ new) in
             h.knowledge.out m o d (inl (sym of_is ∙ (ap (λ (x : Carried). x.of) its ∙ sym same))) old (k.holding.note m note guest ∙ new) same;
@@ -396,11 +343,7 @@ module _ (z : Numbers) (id other : ℕ) (v w : View) (n m : Name) (c : Carried) 
         known = knows.known;
         programs = knows.programs;
         erases = knows.erases;
-        copy = λ d is.
-            let old = k.knowledge.copy c copy in
-            let new : LawfulCopy z g' w.role c = copy_kept z g g' id other on w.role c old in
-            let same : c ≡ d = some_same c d (sym copy ∙ is) in
-            subst (λ (d : Carried). LawfulCopy z g' v.role d) same (another z g' w.role v.role c new unlike);
+        copy = copied g' (copy_kept z g g' id other on w.role c (k.knowledge.copy c copy)) unlike;
         older = λ o d old new same. h.knowledge.out m o d (inr (role ∙ ap Player (sym mine))) old (k.holding.note m note guest ∙ new) same;
         out = λ x d e whose is there same.
             ⊎_elim (λ (his : x ≡ d.of). its_knows.out x d e (inl his) is there same)

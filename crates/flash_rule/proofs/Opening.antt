@@ -1,34 +1,29 @@
 -- The table at the start meets the rule.
-use Rattle.flash_rule.proofs.Words.{◌≡◌, ℕ, zero, suc, ◌*◌, ◌+◌, ◌-◌, ◌<◌, ◌≤◌, inl, eq-eqb, ne_eqb, true, false, List, [], ◌∷◌, ◌++◌, None, Some}
-use Rattle.flash_rule.proofs.Words.{length, replicate, slice_get, sym, refl, ap, ◌∙◌, subst, arith, length-append, length-replicate, All-nil, get_or}
-use Rattle.flash_rule.proofs.Words.{if◌then◌else◌, some, some-injective, some-ne-none, dite, ℕ_discrete, dec_lt, get_elem?, Begins-refl, Numbers}
-use Rattle.flash_rule.proofs.Words.{pin_index, page_index, PinWord, Free, Open, Owned, View, owned_at, caller, World, Fits, is_owned, is_reclaimed}
-use Rattle.flash_rule.proofs.Words.{blank_word, IsCededBy, drained_of, LawfulCeded, LawfulBlock, LawfulOwned, LawfulView, Lawful, Ruled, spare}
-use Rattle.flash_rule.proofs.Words.{spares}
+use Rattle.flash_rule.proofs.Words.{◌≡◌, ℕ, zero, suc, ◌*◌, ◌+◌, ◌-◌, ◌<◌, ◌≤◌, inl, eq-eqb, ne_eqb, true, false, List, [], ◌∷◌, ◌++◌, None, Some, length}
+use Rattle.flash_rule.proofs.Words.{replicate, slice_get, sym, refl, ap, ◌∙◌, subst, arith, length-append, length-replicate, All-nil, get_or, if◌then◌else◌}
+use Rattle.flash_rule.proofs.Words.{some, some-injective, some-ne-none, dite, ℕ_discrete, dec_lt, get_elem?, Numbers, pin_index, page_index, PinWord, Free}
+use Rattle.flash_rule.proofs.Words.{Open, Owned, View, owned_at, caller, World, Fits, is_owned, blank_word, IsCededBy, drained_of, LawfulCeded, LawfulBlock}
+use Rattle.flash_rule.proofs.Words.{LawfulOwned, LawfulView, Lawful, Ruled, spare, spares, Dealer}
+use Rattle.flash_rule.proofs.Owning.{none_some, some_same, nothing}
+use Rattle.flash_rule.proofs.Places.{row_within}
+use Rattle.flash_rule.proofs.Splitting.{kind_fresh, knowledge_fresh, holding_unnamed}
 use Rattle.std.specs.Prelude.{nat_lt}
 use Rattle.atomic_table.specs.Table.{opening}
 use Rattle.geometry.proofs.Histories.{held_at_first}
 use Rattle.geometry.specs.Limits.{IsWithinLimits}
 use Rattle.geometry.specs.PinWords.{phase_bits}
 use Rattle.flash_rule.specs.Seats.{dealer, opening_words}
-use Rattle.flash_rule.proofs.Owning.{none_some, some_same, nothing}
-use Rattle.flash_rule.proofs.Places.{row_within}
 use Rattle.std.proofs.lemmas.Bool.Decides.{nat_tests}
+use Rattle.std.proofs.lemmas.List.{get_or_append_left, get_or-append-add, get_or-replicate}
 
 front : (xs ys : List ℕ) (k : ℕ) → k < length xs → get_or (xs ++ ys) k 0 ≡ get_or xs k 0
-front [] ys k low = absurd (omega arith)
-front (x ∷ xs) ys zero low = refl
-front (x ∷ xs) ys (suc k) low = front xs ys k (omega arith)
+front xs ys k low = get_or_append_left xs ys 0 k low
 
 back : (xs ys : List ℕ) (k j : ℕ) → k ≡ length xs + j → get_or (xs ++ ys) k 0 ≡ get_or ys j 0
-back [] ys k j is = ap (λ i. get_or ys i 0) (omega arith)
-back (x ∷ xs) ys zero j is = absurd (omega arith)
-back (x ∷ xs) ys (suc k) j is = back xs ys k j (omega arith)
+back xs ys k j is = ap (λ i. get_or (xs ++ ys) i 0) is ∙ get_or-append-add xs ys j 0
 
 same_all : (n x k : ℕ) → k < n → get_or (replicate n x) k 0 ≡ x
-same_all zero x k low = absurd (omega arith)
-same_all (suc n) x zero low = refl
-same_all (suc n) x (suc k) low = same_all n x k (omega arith)
+same_all n x k low = get_or-replicate n k x 0 low
 
 spare_is : (n from b : ℕ) (o : Owned) → owned_at b (spares n from) ≡ Some o → (from ≤ b) × (b < from + n) × (spare b ≡ o)
 spare_is zero from b o is = absurd (none_some o is)
@@ -166,45 +161,13 @@ module _ (z : Numbers) (limits : IsWithinLimits z) where
   opening_view : LawfulView z opening_world 0 (dealer z)
   opening_view =
       record {
-        kind = record {
-          numbers = λ _. refl;
-          host = λ n m is. absurd (cc);
-          known = λ is. absurd (cc);
-          opens = λ is. absurd (cc);
-          unpinned = λ _. refl;
-          idle = λ _. (refl, refl, refl, refl);
-          owns_none = λ is. absurd (cc);
-          reclaims = λ b c o e is _ busy. absurd (idle b o is busy);
-        };
-        knowledge = record {
-          seen = Begins-refl [];
-          pin = tt;
-          known = λ b _. omega arith;
-          programs = λ n is. absurd (cc);
-          erases = λ n is. absurd (cc);
-          copy = λ c is. absurd (none_some c is);
-          older = λ o c is. absurd (none_some o is);
-          out =
-              λ m c d _ is. absurd (none_some c is);
-        };
-        holding = record {
-          name = λ n is. absurd (cc);
-          calls = λ t is. absurd (cc);
-          lists = λ n is. absurd (cc);
-          owned = opening_owned;
-          work = λ w is. absurd (none_some w is);
-          source = λ x is. absurd (none_some x is);
-          whole = λ is. absurd (cc);
-          guest = λ n is. absurd (none_some n is);
-          note = λ n is. absurd (cc);
-          home = λ n is. absurd (cc);
-          dealer = λ _. (refl, refl, refl);
-        };
+        kind = kind_fresh z Dealer [] (dealer z).owns false None None (λ _. refl) (λ is. absurd (cc))
+            (λ b o is. let r = spare_is z.brooms (z.blocks - z.brooms) b o is in sym (ap (λ (x : Owned). x.phase) r.2)) (λ is. absurd (cc))
+            (λ n m is. absurd (cc));
+        knowledge = knowledge_fresh z Dealer [] (dealer z).owns false (λ b _. omega arith);
+        holding = holding_unnamed (dealer z) (λ n is. absurd (cc)) (refl, refl) opening_owned (λ n is. absurd (none_some n is)) (λ n is. absurd (cc))
+            (λ _. (refl, refl, refl));
       }
-    where
-      idle : (b : ℕ) (o : Owned) → owned_at b (dealer z).owns ≡ Some o → is_reclaimed o.phase ≡ true → ⊥
-      idle b o is busy = let r = spare_is z.brooms (z.blocks - z.brooms) b o is in
-          let no : false ≡ true = ap (λ (x : Owned). is_reclaimed x.phase) r.2 ∙ busy in absurd (cc)
 
   opening_ceded : LawfulCeded z opening_pin (dealer z ∷ [])
   opening_ceded =

@@ -1,20 +1,388 @@
--- The owner's steps on the pin word of an open block: count and close.
-use Rattle.flash_rule.proofs.Words.{◌≡◌, ℕ, ◌+◌, ◌<◌, ◌≤◌, inl, inr, ⊎_elim, true, false, List, [], ◌∷◌, ◌++◌, Option, None, Some, length, set}
-use Rattle.flash_rule.proofs.Words.{slice_get, sym, refl, ap, ◌∙◌, subst, arith, some, get_elem?, Begins, Numbers, Begins-refl, MapWord, PinWord}
-use Rattle.flash_rule.proofs.Words.{Free, Open, Closed, Owned, Name, Player, Work, View, is_player, may_own, owned_at, without, with_owned, World}
-use Rattle.flash_rule.proofs.Words.{put, put_name, is_owned, is_intact, is_still, half_cycle, rank, IsProgrammed, IsDealt, IsFilling, Programs}
-use Rattle.flash_rule.proofs.Words.{LawfulKind, LawfulOwned, LawfulWork, LawfulView, Lawful, ListsOnward, Onward, next_page}
+-- Steps that change one pin word: what all have in common; take; and the owner's steps on an open block, count and close.
+use Rattle.flash_rule.proofs.Words.{◌≡◌, ◌≢◌, ℕ, zero, suc, ◌+◌, ◌*◌, ◌<◌, ◌≤◌, inl, inr, true, false, List, [], ◌∷◌, ◌++◌, Option, Some, set, sym, refl, ap}
+use Rattle.flash_rule.proofs.Words.{◌∙◌, subst, arith, some, some-ne-none, dite, ℕ_discrete, get_elem?, Numbers, Begins-refl, MapWord, PinWord, Phase, Free}
+use Rattle.flash_rule.proofs.Words.{Open, Victim, Erasing, Owned, Cycle, Name, Work, View, is_player, pins_on, weight, owned_at, with_owned, World, put, Erases}
+use Rattle.flash_rule.proofs.Words.{is_owned, is_intact, is_nameable, is_still, half_cycle, age_of, IsBlank, blank_word, rank, LawfulCeded, IsCurrent, is_pass}
+use Rattle.flash_rule.proofs.Words.{IsProgrammed, IsFilling, LawfulBlock, LawfulOwned, LawfulView, Lawful, IsDealt, PinOnward, Untouched, ListsOnward, Onward}
+use Rattle.flash_rule.proofs.Words.{⊎_elim, None, length, slice_get, Begins, Closed, Player, may_own, without, put_name, Programs, LawfulKind, LawfulWork}
+use Rattle.flash_rule.proofs.Words.{next_page, Source, LawfulSource, ReclaimsOne}
+use Rattle.flash_rule.proofs.Points.{player_may_own, put_here, put_else, put_all, total_set, player_same, idle_or_player, may_own_else, name_here, name_else}
+use Rattle.flash_rule.proofs.Points.{name_all, seat_set}
+use Rattle.flash_rule.proofs.Owning.{with_here, with_else, owned_else, one_with_open, holding_with, kind_as, kind_with, knowledge_as, source_with, work_with}
+use Rattle.flash_rule.proofs.Owning.{owns_none_else, some_same, none_some, without_else, one_without, get_last, put3, put3_here, put3_else, blocks_apart}
+use Rattle.flash_rule.proofs.Owning.{open_victim, knowledge_with, owned_with, entry_gone, entry_set}
+use Rattle.flash_rule.proofs.Frames.{counted, knowledge_kept, lists_stay, assembled, block_kept, named_kept}
+use Rattle.flash_rule.proofs.Ceding.{ceded_owned, ceded_last}
+use Rattle.flash_rule.proofs.Still.{stays_onward, pin_stays, still}
 use Rattle.std.proofs.lemmas.List.{append-nil}
 use Rattle.flash_rule.specs.Plays.{IsSettled}
-pub use Rattle.flash_rule.proofs.Roles.{player_of}
-use Rattle.flash_rule.proofs.Roles.{player_same, idle_or_player, may_own_else}
-use Rattle.flash_rule.proofs.Points.{put_here, name_here, name_else, name_all}
-use Rattle.flash_rule.proofs.Owning.{owns_none_else, some_same, none_some, with_here, with_else, without_else, each_with, each_without, one_with_open}
-use Rattle.flash_rule.proofs.Owning.{one_without, get_last, put3, put3_here, put3_else, blocks_apart, open_victim}
-use Rattle.flash_rule.proofs.Frames.{counted, knowledge_kept}
-use Rattle.flash_rule.proofs.Ceding.{ceded_owned, ceded_last}
-use Rattle.flash_rule.proofs.PinSteps.{Deeds, deeds, turned, moved, pin_turns, pin_moves, block_owned, block_turned, pin_turned_nameable, turned_else, seat_set}
-use Rattle.flash_rule.proofs.Keeping.{holding_with, kind_with, knowledge_as, source_with, knowledge_with}
+pub use Rattle.flash_rule.proofs.Points.{player_of}
+
+-- who programmed and erased what, and what each one did, in order
+pub record Deeds : Type 0 where
+  pub programmer : ℕ → ℕ → ℕ → Option (Name × ℕ)
+  pub eraser : ℕ → ℕ → Option (Name × ℕ)
+  pub programs : Name → List MapWord
+  pub erases : Name → List Cycle
+
+-- those of a table
+abbrev pub deeds : World → Deeds
+deeds g = record { programmer = g.programmer; eraser = g.eraser; programs = g.programs; erases = g.erases }
+
+-- the table with one block's state, its owner and the deeds changed
+abbrev pub turned : World → ℕ → PinWord → ℕ → Deeds → World
+turned g b q owner d = record g {
+  pins = put g.pins b q;
+  owner = put g.owner b owner;
+  programmer = d.programmer;
+  eraser = d.eraser;
+  programs = d.programs;
+  erases = d.erases;
+}
+
+-- the same with the deeds as they were
+abbrev pub moved : World → ℕ → PinWord → ℕ → World
+moved g b q owner = turned g b q owner (deeds g)
+
+-- a block that the seat has after a change of its pin word
+pub block_owned : (z : Numbers) (g : World) (id b : ℕ) (q : PinWord) (d : Deeds) (doing : Option Work) (cleared wiped : ℕ) (o : Owned) → o.block ≡ b
+    → b < z.blocks → is_owned o.phase ≡ true → (q.phase ≡ o.phase) × (q.generation ≡ o.generation) × (q.written ≡ o.written)
+    → (o.phase ≡ Open → (p : ℕ) → o.written ≤ p → p < z.pages → ¬ IsFilling doing b p → IsBlank z (g.pages b p))
+    → (o.phase ≡ Victim → (p s : ℕ) → p < cleared → s < z.sectors → ¬ (g.map s ≡ Some (record { generation = o.generation; block = b; page = p })))
+    → (o.phase ≡ Erasing → (p i : ℕ) → p < z.pages → i ≤ z.words → p * (z.words + 1) + i < wiped → g.pages b p i ≡ blank_word)
+    → LawfulOwned z (turned g b q id d) id doing cleared wiped b o
+block_owned z g id b q d doing cleared wiped o block low owned same rest dead clean =
+    let here : put g.pins b q b ≡ q = put_here g.pins b q in
+    record {
+      block = block;
+      low = low;
+      owner = put_here g.owner b id;
+      owned = owned;
+      phase = ap (λ (p : PinWord). p.phase) here ∙ same.0;
+      generation = ap (λ (p : PinWord). p.generation) here ∙ same.1;
+      written = ap (λ (p : PinWord). p.written) here ∙ same.2;
+      rest = rest;
+      dead = dead;
+      clean = clean;
+    }
+
+-- ONE PIN WORD CHANGES. The new state is onward of the old one, and as it was but for readers if another seat owns the block
+pub pin_turns : (z : Numbers) (g : World) (id b : ℕ) (q : PinWord) (owner : ℕ) (d : Deeds) → PinOnward (g.pins b) q
+    → (g.owner b ≢ id → is_owned (g.pins b).phase ≡ true → (owner ≡ g.owner b) × (q.phase ≡ (g.pins b).phase) × (q.generation ≡ (g.pins b).generation)
+    × (q.written ≡ (g.pins b).written))
+    → ((m : MapWord) → IsProgrammed (g.pins m.block) m → d.programmer m.block m.page m.generation ≡ g.programmer m.block m.page m.generation)
+    → ((c n : ℕ) → 2 * n < age_of (g.pins c) → d.eraser c n ≡ g.eraser c n) → ((n : Name) → IsDealt g n → ListsOnward g (turned g b q owner d) id n)
+    → Onward z g (turned g b q owner d) id id
+pin_turns z g id b q owner d on mine programmed erased lists =
+    record {
+      history = Begins-refl g.history;
+      calls = λ t _. refl;
+      seat = λ n dealt. (refl, dealt);
+      pins = λ c _. put_all g.pins b q (λ c p. PinOnward (g.pins c) p) on (λ c _. pin_stays (g.pins c)) c;
+      owned = λ c low other owned.
+          let whose = put_all g.owner b owner (λ j x. g.owner j ≢ id → is_owned (g.pins j).phase ≡ true → x ≡ g.owner j) (λ o w. (mine o w).0)
+          (λ j _ _ _. refl) c other owned in
+          let state = put_all g.pins b q (λ j p. g.owner j ≢ id → is_owned (g.pins j).phase ≡ true
+          → (p.phase ≡ (g.pins j).phase) × (p.generation ≡ (g.pins j).generation) × (p.written ≡ (g.pins j).written))
+          (λ o w. let m = mine o w in (m.1, m.2, m.3)) (λ j _ _ _. (refl, refl, refl)) c other owned in
+          record { owner = whose; phase = state.0; generation = state.1; written = state.2; pages = λ p i. refl };
+      pages = λ c p i _ _ _. refl;
+      named = λ s m is. inl is;
+      programmer = programmed;
+      eraser = erased;
+      lists = lists;
+      dealer = λ _. (refl, refl);
+      badge = λ n _ _ _. (refl, refl);
+      carries = λ n c is. inl is;
+    }
+
+pub pin_moves : (z : Numbers) (g : World) (id b : ℕ) (q : PinWord) (owner : ℕ) → PinOnward (g.pins b) q
+    → (g.owner b ≢ id → is_owned (g.pins b).phase ≡ true → (owner ≡ g.owner b) × (q.phase ≡ (g.pins b).phase) × (q.generation ≡ (g.pins b).generation)
+    × (q.written ≡ (g.pins b).written))
+    → Onward z g (moved g b q owner) id id
+pin_moves z g id b q owner on mine =
+    pin_turns z g id b q owner (deeds g) on mine (λ m _. refl) (λ c n _. refl) (λ n _. lists_stay g (moved g b q owner) id n refl refl)
+
+module _ (z : Numbers) (g : World) (vs : List View) (id : ℕ) (v w : View) (b : ℕ) (q : PinWord) (owner : ℕ) (d : Deeds) (law : Lawful z g vs)
+    (at : get_elem? vs id ≡ some v) where
+  -- the rule after a change of one pin word; a page of this block that a map word names stays where one may name it
+  pub pin_turned : Onward z g (turned g b q owner d) id id → LawfulView z (turned g b q owner d) id w
+      → ((s : ℕ) (m : MapWord) → s < z.sectors → g.map s ≡ Some m → m.block ≡ b → IsCurrent z g s m
+      → (q.generation ≡ (g.pins b).generation) × (is_nameable q.phase ≡ true) × ((g.pins b).written ≤ q.written))
+      → LawfulBlock z (turned g b q owner d) (set vs id w) b
+      → ((c : ℕ) → c ≢ b → pins_on c w ≡ pins_on c v)
+      → ((c : ℕ) → c ≢ b → (o : Owned) → owned_at c v.owns ≡ Some o → (o' : Owned) × (owned_at c w.owns ≡ Some o'))
+      → weight z w ≡ weight z v → LawfulCeded z (put g.pins b q) (set vs id w) → Lawful z (turned g b q owner d) (set vs id w)
+  pin_turned on own nameable here counted keeps weighs ceded =
+      let g' = turned g b q owner d in
+      assembled z g g' vs id v w law at on own
+      (λ s low. named_kept z g g' s (law.sectors s low) refl refl (λ m is current.
+      put_all g.pins b q (λ j p. j ≡ m.block → (p.generation ≡ (g.pins j).generation) × (is_nameable p.phase ≡ true) × ((g.pins j).written ≤ p.written)
+      × ((k i : ℕ) → k < (g.pins j).written → g.pages j k i ≡ g.pages j k i))
+      (λ same. let n = nameable s m low is (sym same) current in (n.0, n.1, n.2, λ k i _. refl))
+      (λ j _ same. (refl, ap (λ k. is_nameable (g.pins k).phase) same ∙ current.phase, omega arith, λ k i _. refl)) m.block refl))
+      law.callers
+      (λ c low. dite (ℕ_discrete c b)
+      (λ same. subst (λ j. LawfulBlock z g' (set vs id w) j) (sym same) here)
+      (λ unlike. block_kept z g g' vs id v w c at (law.blocks c low) (put_else g.pins b q c unlike) (put_else g.owner b owner c unlike) (λ p i. refl)
+      (counted c unlike) (keeps c unlike)))
+      law.strangers weighs law.dealt ceded
+
+  -- the same where the block stays nameable if it was
+  pub pin_turned_nameable : Onward z g (turned g b q owner d) id id → LawfulView z (turned g b q owner d) id w
+      → (is_nameable (g.pins b).phase ≡ true → (q.generation ≡ (g.pins b).generation) × (is_nameable q.phase ≡ true) × ((g.pins b).written ≤ q.written))
+      → LawfulBlock z (turned g b q owner d) (set vs id w) b
+      → ((c : ℕ) → c ≢ b → pins_on c w ≡ pins_on c v)
+      → ((c : ℕ) → c ≢ b → (o : Owned) → owned_at c v.owns ≡ Some o → (o' : Owned) × (owned_at c w.owns ≡ Some o'))
+      → weight z w ≡ weight z v → LawfulCeded z (put g.pins b q) (set vs id w) → Lawful z (turned g b q owner d) (set vs id w)
+  pin_turned_nameable on own nameable =
+      pin_turned on own (λ s m low is same current. nameable (ap (λ j. is_nameable (g.pins j).phase) (sym same) ∙ current.phase))
+
+  -- the block that changes is lawful if its state is
+  pub block_turned : b < z.blocks → q.readers + pins_on b v ≡ (g.pins b).readers + pins_on b w → q.written ≤ z.pages → q.generation < z.endurance
+      → (q.phase ≡ Free → q.written ≡ 0) → (is_still q.phase ≡ true → (p : ℕ) → q.written ≤ p → p < z.pages → IsBlank z (g.pages b p))
+      → (is_owned q.phase ≡ true → (u : View) × (o : Owned) × (get_elem? (set vs id w) owner ≡ some u) × (owned_at b u.owns ≡ Some o))
+      → LawfulBlock z (turned g b q owner d) (set vs id w) b
+  block_turned low readers written generation free rest owned =
+      let block = law.blocks b low in
+      let here : put g.pins b q b ≡ q = put_here g.pins b q in
+      record {
+        readers = (let e = ap (λ (p : PinWord). p.readers) here in let r = block.readers in let t = total_set (pins_on b) vs id v w at in omega arith);
+        written = subst (λ (p : PinWord). p.written ≤ z.pages) (sym here) written;
+        generation = subst (λ (p : PinWord). p.generation < z.endurance) (sym here) generation;
+        free = subst (λ (p : PinWord). p.phase ≡ Free → p.written ≡ 0) (sym here) free;
+        rest = subst (λ (p : PinWord). is_still p.phase ≡ true → (k : ℕ) → p.written ≤ k → k < z.pages → IsBlank z (g.pages b k)) (sym here) rest;
+        owner = subst (λ (x : PinWord × ℕ). is_owned x.0.phase ≡ true
+            → (u : View) × (o : Owned) × (get_elem? (set vs id w) x.1 ≡ some u) × (owned_at b u.owns ≡ Some o))
+            (λ i. (sym here i, sym (put_here g.owner b owner) i)) owned;
+      }
+
+-- ---- a block turns: it gets another state, and its seat has it, another entry of it, or no longer
+-- What the seat lists as programmed and erased is all that its player did, which is behind what it had done, while others' lists stay
+pub record IsListed (z : Numbers) (g g' : World) (id : ℕ) (v w : View) : Type 0 where
+  pub programmer : (m : MapWord) → IsProgrammed (g.pins m.block) m → g'.programmer m.block m.page m.generation ≡ g.programmer m.block m.page m.generation
+  pub eraser : (c n : ℕ) → 2 * n < age_of (g.pins c) → g'.eraser c n ≡ g.eraser c n
+  pub idle : is_player v.role ≡ false → (w.work ≡ None) × (w.programs ≡ []) × (w.erases ≡ [])
+  pub programs : (n : Name) → v.role ≡ Player n → Programs z g' n v.programs → Programs z g' n w.programs
+  pub erases : (n : Name) → v.role ≡ Player n → Erases z g' n v.erases → Erases z g' n w.erases
+  pub lists : (n : Name) → IsDealt g n → ListsOnward g g' id n
+  pub listed : (n : Name) → v.role ≡ Player n → (g.programs n ≡ v.programs) × (g.erases n ≡ v.erases)
+      → (g'.programs n ≡ w.programs) × (g'.erases n ≡ w.erases)
+
+-- Other blocks of the seat stay, this one is lawful if it is the seat's now, and at most one is drained or erased
+pub record IsOwning (z : Numbers) (g' : World) (id : ℕ) (v w : View) (b : ℕ) : Type 0 where
+  pub there : (c : ℕ) → c ≢ b → owned_at c w.owns ≡ owned_at c v.owns
+  pub here : (e : Owned) → owned_at b w.owns ≡ Some e → LawfulOwned z g' id w.work w.cleared w.wiped b e
+  pub opens : is_pass v.role ≡ true → (e : Owned) → owned_at b w.owns ≡ Some e → e.phase ≡ Open
+  pub owns_none : may_own v.role ≡ false → w.owns ≡ []
+  pub reclaims : ReclaimsOne w.owns
+
+-- The state q that comes after p has its readers, and its numbers are in range
+pub record IsState (z : Numbers) (p q : PinWord) : Type 0 where
+  pub readers : q.readers ≡ p.readers
+  pub written : q.written ≤ z.pages
+  pub generation : q.generation < z.endurance
+  pub free : q.phase ≡ Free → q.written ≡ 0
+
+-- What is being filled elsewhere stays so, and no more is cleared or wiped than was
+pub record IsNoMore (v w : View) : Type 0 where
+  pub filling : (c : ℕ) (e : Owned) → owned_at c v.owns ≡ Some e → (p : ℕ) → e.written ≤ p → IsFilling v.work c p → IsFilling w.work c p
+  pub cleared : w.cleared ≤ v.cleared
+  pub wiped : w.wiped ≤ v.wiped
+
+-- The state q of the block b, and what its seat has then, fit together: the new state is onward of the old one, which is nobody else's, and what
+-- a map word names of the block it may still name
+pub record IsTurn (z : Numbers) (g : World) (id : ℕ) (v w : View) (b : ℕ) (q : PinWord) (d : Deeds) : Type 0 where
+  pub onward : PinOnward (g.pins b) q
+  pub alone : g.owner b ≢ id → ¬ (is_owned (g.pins b).phase ≡ true)
+  pub state : IsState z (g.pins b) q
+  pub rest : is_still q.phase ≡ true → (p : ℕ) → q.written ≤ p → p < z.pages → IsBlank z (g.pages b p)
+  pub owner : is_owned q.phase ≡ true → (e : Owned) × (owned_at b w.owns ≡ Some e)
+  pub named : (s : ℕ) (m : MapWord) → s < z.sectors → g.map s ≡ Some m → m.block ≡ b → IsCurrent z g s m
+      → (q.generation ≡ (g.pins b).generation) × (is_nameable q.phase ≡ true) × ((g.pins b).written ≤ q.written)
+  pub listing : IsListed z g (turned g b q id d) id v w
+  pub owning : IsOwning z (turned g b q id d) id v w b
+  pub no_more : IsNoMore v w
+  pub work : (x : Work) → w.work ≡ Some x → LawfulWork z (turned g b q id d) w.owns x
+  pub source : (x : Source) → v.source ≡ Some x → LawfulSource z g v.owns v.cleared x → (x.page.block ≢ b) × (w.cleared ≡ v.cleared)
+
+-- a turn by which only the phase changes
+pub phase_onward : (p : PinWord) (f : Phase) → half_cycle p.phase ≤ half_cycle f → (0 < p.readers → is_intact p.phase ≡ true → is_intact f ≡ true)
+    → (is_intact f ≡ true → ¬ (p.phase ≡ Free) → is_intact p.phase ≡ true) → ¬ (f ≡ Free) → PinOnward p (record p { phase = f })
+phase_onward p f ages held was taken =
+    record {
+      generation = omega arith;
+      age = omega arith;
+      written = λ _. omega arith;
+      held = λ some is. (refl, held some is);
+      was = λ _ is not. was is not;
+      free = λ _ is. absurd (taken is);
+    }
+
+-- a turn by which nothing is programmed or erased
+pub none_listed : (z : Numbers) (g : World) (id : ℕ) (v w : View) (b : ℕ) (q : PinWord) → LawfulKind z v → (is_player v.role ≡ false → w.work ≡ None)
+    → w.programs ≡ v.programs → w.erases ≡ v.erases → IsListed z g (moved g b q id) id v w
+none_listed z g id v w b q kind idle programs erases =
+    record {
+      programmer = λ m _. refl;
+      eraser = λ c n _. refl;
+      idle = λ is. let i = kind.idle is in (idle is, programs ∙ i.2, erases ∙ i.3);
+      programs = λ n _ old. subst (λ l. Programs z (moved g b q id) n l) (sym programs) old;
+      erases = λ n _ old. subst (λ l. Erases z (moved g b q id) n l) (sym erases) old;
+      lists = λ n _. lists_stay g (moved g b q id) id n refl refl;
+      listed = λ n _ its. (its.0 ∙ sym programs, its.1 ∙ sym erases);
+    }
+
+-- a seat that gives a block up owns its others
+pub given_up : (z : Numbers) (g' : World) (id : ℕ) (v w : View) (b : ℕ) → LawfulKind z v → IsOwning z g' id v (record w { owns = without b v.owns }) b
+given_up z g' id v w b kind =
+    record {
+      there = λ c unlike. without_else b c v.owns unlike;
+      here = λ e is. absurd (entry_gone b e v.owns is);
+      opens = λ _ e is. absurd (entry_gone b e v.owns is);
+      owns_none = λ is. ap (λ l. without b l) (kind.owns_none is);
+      reclaims = one_without b v.owns kind.reclaims;
+    }
+
+-- and one that gets a block, or keeps it in another state, owns it and the others
+pub got : (z : Numbers) (g' : World) (id : ℕ) (v w : View) (o : Owned) → LawfulOwned z g' id w.work w.cleared w.wiped o.block o
+    → (is_pass v.role ≡ true → o.phase ≡ Open) → ¬ (may_own v.role ≡ false) → ReclaimsOne (with_owned o v.owns)
+    → IsOwning z g' id v (record w { owns = with_owned o v.owns }) o.block
+got z g' id v w o fresh opened owner reclaims =
+    record {
+      there = λ c unlike. with_else o c v.owns unlike;
+      here = λ e is. subst (λ (y : Owned). LawfulOwned z g' id w.work w.cleared w.wiped o.block y) (entry_set o e v.owns is) fresh;
+      opens = λ pass e is. sym (ap (λ (y : Owned). y.phase) (entry_set o e v.owns is)) ∙ opened pass;
+      owns_none = λ is. absurd (owner is);
+      reclaims = reclaims;
+    }
+
+module _ (z : Numbers) (g : World) (vs : List View) (id : ℕ) (v w : View) (b : ℕ) (q : PinWord) (d : Deeds) (law : Lawful z g vs)
+    (at : get_elem? vs id ≡ some v) where
+  -- the page that is being filled is in another block, if this one isn't open
+  pub work_else : ¬ ((g.pins b).phase ≡ Open) → ((c : ℕ) → c ≢ b → owned_at c w.owns ≡ owned_at c v.owns) → (x : Work) → v.work ≡ Some x
+      → LawfulWork z (turned g b q id d) w.owns x
+  work_else shut there x is =
+      let holds = (law.views id v at).holding in
+      let k = holds.work x is in
+      let unlike : x.page.block ≢ b =
+      λ same. shut (ap (λ j. (g.pins j).phase) (sym same) ∙ ((holds.owned x.page.block k.entry k.own).phase ∙ k.opened)) in
+      work_with k (there x.page.block unlike ∙ k.own) (λ _. refl)
+
+  abbrev pub turner : View
+  turner = record v {
+    taken = w.taken;
+    owns = w.owns;
+    work = w.work;
+    programs = w.programs;
+    erases = w.erases;
+    cleared = w.cleared;
+    wiped = w.wiped;
+    drains = w.drains;
+    ceded = w.ceded;
+  }
+
+  -- the rule after a turn
+  pub turns : b < z.blocks → LawfulCeded z (put g.pins b q) (set vs id turner) → IsTurn z g id v w b q d
+      → Lawful z (turned g b q id d) (set vs id turner)
+  turns low given t =
+      let h = law.views id v at in
+      let holds = h.holding in
+      let g' : World = turned g b q id d in
+      let on : Onward z g g' id id =
+      pin_turns z g id b q id d t.onward (λ other is. absurd (t.alone other is)) t.listing.programmer t.listing.eraser t.listing.lists in
+      let knows = knowledge_kept z g g' id id on v (λ c is below. counted vs law id v at c is below) h.knowledge in
+      let elsewhere : (c : ℕ) (e : Owned) → c ≢ b → owned_at c v.owns ≡ Some e → LawfulOwned z g' id w.work w.cleared w.wiped c e = λ c e unlike has.
+      let k = holds.owned c e has in
+      let fewer = t.no_more.cleared in
+      let less = t.no_more.wiped in
+      owned_else z g g' id v.work w.work w.cleared w.wiped c e (put_else g.pins b q c unlike) (put_else g.owner b id c unlike) (λ p i. refl)
+      (λ s m is _. inl is) (t.no_more.filling c e has)
+      (owned_with k (refl, refl, refl) refl k.rest (λ victim p s below. k.dead victim p s (omega arith))
+      (λ erasing p i below most under. k.clean erasing p i below most (omega arith))) in
+      let own : LawfulView z g' id turner = record {
+        kind = kind_with h.kind refl
+            (λ is c e has. dite (ℕ_discrete c b) (λ same. t.owning.opens is e (ap (λ j. owned_at j w.owns) (sym same) ∙ has))
+            (λ unlike. h.kind.opens is c e (sym (t.owning.there c unlike) ∙ has)))
+            (λ is. let n = t.listing.idle is in (n.0, (h.kind.idle is).1, n.1, n.2)) t.owning.owns_none t.owning.reclaims;
+        knowledge = knowledge_with turner knows refl knows.seen knows.pin knows.known
+            (λ n is. t.listing.programs n is (knows.programs n is)) (λ n is. t.listing.erases n is (knows.erases n is));
+        holding = holding_with holds refl refl holds.calls (λ n is. t.listing.listed n is (holds.lists n is))
+            (λ c e has. dite (ℕ_discrete c b)
+            (λ same. subst (λ j. LawfulOwned z g' id w.work w.cleared w.wiped j e) (sym same)
+            (t.owning.here e (ap (λ j. owned_at j w.owns) (sym same) ∙ has)))
+            (λ unlike. elsewhere c e unlike (sym (t.owning.there c unlike) ∙ has)))
+            t.work
+            (λ x is.
+            let k = holds.source x is in
+            let s = t.source x is k in
+            source_with k (t.owning.there x.page.block s.0 ∙ k.own) s.1 (λ _. refl));
+      } in
+      pin_turned z g vs id v turner b q id d law at on own t.named
+      (block_turned z g vs id v turner b q id d law at low (ap (λ n. n + pins_on b v) t.state.readers) t.state.written t.state.generation t.state.free t.rest
+      (λ is. let e = t.owner is in (turner, e.0, seat_set vs id v turner at, e.1)))
+      (λ c _. refl) (λ c unlike e is. (e, t.owning.there c unlike ∙ is)) refl given
+
+-- ---- take
+free_not : (f : Phase) → f ≡ Free → is_owned f ≡ true → ⊥
+free_not f free is = let e : is_owned f ≡ false = ap is_owned free in let no : true ≡ false = sym is ∙ e in absurd (cc)
+
+module _ (z : Numbers) (g : World) (vs : List View) (id : ℕ) (v : View) (b : ℕ) (law : Lawful z g vs) (at : get_elem? vs id ≡ some v)
+    (player : is_player v.role ≡ true) (low : b < z.blocks) where
+  abbrev pub newly_owned : Owned
+  newly_owned = record { block = b; phase = Open; generation = (g.pins b).generation; written = 0 }
+
+  abbrev pub taken_state : PinWord
+  taken_state = record (g.pins b) { phase = Open }
+
+  abbrev pub taker : View
+  taker = record v { taken = v.taken + 1; owns = with_owned newly_owned v.owns }
+
+  -- a block that was found free is the seat's
+  pub takes : (g.pins b).phase ≡ Free → Lawful z (moved g b taken_state id) (set vs id taker)
+  takes free =
+      let h = law.views id v at in
+      let block = law.blocks b low in
+      let fresh : LawfulOwned z (moved g b taken_state id) id v.work v.cleared v.wiped b newly_owned =
+      block_owned z g id b taken_state (deeds g) v.work v.cleared v.wiped newly_owned refl low refl (refl, refl, block.free free)
+      (λ _ p from below _. block.rest (ap is_still free) p (let e = block.free free in omega arith) below) (λ is. absurd (cc)) (λ is. absurd (cc)) in
+      turns z g vs id v taker b taken_state (deeds g) law at low
+      (ceded_owned z g.pins vs id v taker law.ceded at refl b taken_state refl refl refl
+      (inr (refl, (let e : rank (g.pins b).phase ≡ 0 = ap rank free in omega arith), omega arith)))
+      (record {
+        onward = phase_onward (g.pins b) Open (let e : half_cycle (g.pins b).phase ≡ 0 = ap half_cycle free in omega arith)
+            (λ _ intact. let no : true ≡ false = sym intact ∙ ap is_intact free in absurd (cc)) (λ _ not. absurd (not free)) (λ is. absurd (cc));
+        alone = λ _ is. free_not (g.pins b).phase free is;
+        state = record { readers = refl; written = block.written; generation = block.generation; free = λ is. absurd (cc) };
+        rest = λ is. absurd (cc);
+        owner = λ _. (newly_owned, with_here newly_owned v.owns);
+        named = λ s m _ _ same current. let no : true ≡ false =
+            sym (ap (λ j. is_nameable (g.pins j).phase) (sym same) ∙ current.phase) ∙ ap is_nameable free in absurd (cc);
+        listing = none_listed z g id v taker b taken_state h.kind (λ is. (h.kind.idle is).0) refl refl;
+        owning = got z (moved g b taken_state id) id v taker newly_owned fresh (λ _. refl)
+            (λ is. let no : true ≡ false = sym (player_may_own v.role player) ∙ is in absurd (cc)) (one_with_open newly_owned v.owns refl h.kind.reclaims);
+        no_more = record { filling = λ _ _ _ _ _ f. f; cleared = omega arith; wiped = omega arith };
+        work = work_else z g vs id v taker b taken_state (deeds g) law at (λ is. let no : Free ≡ Open = sym free ∙ is in absurd (cc))
+            (λ c unlike. with_else newly_owned c v.owns unlike);
+        source = λ x is k. (
+          (λ same.
+              let o = h.holding.owned x.page.block k.entry k.own in
+              free_not (g.pins b).phase free (ap (λ j. is_owned (g.pins j).phase) (sym same) ∙ (ap is_owned o.phase ∙ o.owned))),
+          refl,
+        );
+      })
+
+  -- and another one stays as it was
+  pub denied : Lawful z g (set vs id (record v { denied = v.denied ++ b ∷ [] }))
+  denied =
+      let h = law.views id v at in
+      still z g vs id v (record v { denied = v.denied ++ b ∷ [] }) law at
+      (record {
+        kind = kind_as h.kind refl refl (refl, refl, refl, refl);
+        knowledge = knowledge_as h.knowledge refl;
+        holding = holding_with h.holding refl refl h.holding.calls h.holding.lists h.holding.owned h.holding.work h.holding.source;
+      })
+      (λ c. refl) refl refl refl refl refl
 
 -- a seat with work is a player's
 pub worker : (z : Numbers) (v : View) (x : Work) → LawfulKind z v → v.work ≡ Some x → (n : Name) × (v.role ≡ Player n)
@@ -71,27 +439,15 @@ module _ (z : Numbers) (g : World) (vs : List View) (id : ℕ) (v : View) (o : O
     page_room = let w = (law.views id v at).holding.work x doing in let low = w.page in let e : x.page.page ≡ (next_page o).page =
         ap (λ (m : MapWord). m.page) page in omega arith
 
-    counts_onward : (n : Name) → v.role ≡ Player n → Onward z g (count_world n) id id
-    counts_onward n role =
-        let b = o.block in
-        let mine = entry in
-        pin_turns z g id b counted_state id (count_deeds n)
-        (record {
-          generation = omega arith;
-          age = omega arith;
-          written = λ _. omega arith;
-          held = λ _ intact. (refl, intact);
-          was = λ _ intact _. intact;
-          free = λ _ free. free;
-        })
-        (λ other _. absurd (other mine.owner))
-        (λ m done. put3_else g.programmer b o.written o.generation (Some (n, length v.programs)) m.block m.page m.generation (λ same.
+    -- it was programmed by nobody
+    not_done : (m : MapWord) → IsProgrammed (g.pins m.block) m → ¬ ((m.block ≡ o.block) × (m.page ≡ o.written) × (m.generation ≡ o.generation))
+    not_done m done same =
         let e1 = same.1 in
         let e2 = same.2 in
-        ⊎_elim (λ (older : m.generation < (g.pins b).generation). absurd (omega arith))
-        (λ (h : (m.generation ≡ (g.pins b).generation) × (m.page < (g.pins b).written)). let l = h.1 in absurd (omega arith))
-        (subst (λ c. IsProgrammed (g.pins c) m) same.0 done)))
-        (λ c k _. refl) (page_listed n role)
+        let mine = entry in
+        ⊎_elim (λ (older : m.generation < (g.pins o.block).generation). absurd (omega arith))
+        (λ (h : (m.generation ≡ (g.pins o.block).generation) × (m.page < (g.pins o.block).written)). let l = h.1 in absurd (omega arith))
+        (subst (λ c. IsProgrammed (g.pins c) m) same.0 done)
 
     -- the page is listed as this player's
     program_listed : (n : Name) → v.role ≡ Player n → (n' : Name) → v.role ≡ Player n' → Programs z (count_world n) n' v.programs
@@ -137,40 +493,40 @@ module _ (z : Numbers) (g : World) (vs : List View) (id : ℕ) (v : View) (o : O
     counts_page n role =
         let h = law.views id v at in
         let b = o.block in
-        let q = counted_state in
-        let kind = h.kind in
-        let holds = h.holding in
-        let mine = entry in
+        let block = law.blocks b own_low in
         let room = page_room in
-        let g' = count_world n in
-        let on = counts_onward n role in
-        let knows = knowledge_kept z g g' id id on v (λ c is below. counted vs law id v at c is below) h.knowledge in
-        let after : LawfulView z g' id counter = record {
-          kind = kind_with kind refl (λ is. each_with (λ c e. e.phase ≡ Open) more v.owns opened (λ c e _ owns. kind.opens is c e owns))
-              (λ is. let no : true ≡ false = sym (ap is_player role) ∙ is in absurd (cc))
-              (λ is. let no : true ≡ false = sym (ap may_own role) ∙ is in absurd (cc))
-              (one_with_open more v.owns opened kind.reclaims);
-          knowledge = knowledge_with counter knows refl knows.seen knows.pin knows.known
-              (λ n' role'. program_listed n role n' role' (knows.programs n' role')) knows.erases;
-          holding = holding_with holds refl refl holds.calls
-              (λ n' role'. subst (λ k. (listed n k ≡ counter.programs) × (g.erases k ≡ v.erases)) (player_same n n' (sym role ∙ role'))
-              (name_here g.programs n (v.programs ++ x.page ∷ []), (holds.lists n role).1))
-              (each_with (λ c e. LawfulOwned z g' id v.work v.cleared v.wiped c e) more v.owns (counted_block n) (λ c e unlike owns.
-              turned_else z g vs id v counter b q id (count_deeds n) law at v.work v.work v.cleared v.wiped c e unlike (λ p _ f. f) (holds.owned c e owns)))
-              (λ y is. subst (λ (y : Work). LawfulWork z g' (with_owned more v.owns) y) (some_same x y (sym doing ∙ is)) (counted_work n))
-              (λ y is.
-              let k = holds.source y is in
-              let unlike = blocks_apart v.owns o k.entry y.page.block own k.own (open_victim o k.entry opened k.victim) in
-              source_with k (with_else more y.page.block v.owns unlike ∙ k.own) refl (λ _. refl));
-        } in
-        pin_turned_nameable z g vs id v counter b q id (count_deeds n) law at on after
-        (λ named. (refl, named, omega arith))
-        (block_turned z g vs id v counter b q id (count_deeds n) law at own_low refl (omega arith) (law.blocks b own_low).generation
-        (λ is. let e : Open ≡ Free = sym is_open ∙ is in absurd (cc))
-        (λ is. let e : false ≡ true = sym (ap is_still is_open) ∙ is in absurd (cc))
-        (λ _. (counter, more, seat_set vs id v counter at, with_here more v.owns)))
-        (λ c _. refl) (λ c unlike e is. (e, with_else more c v.owns unlike ∙ is)) refl
-        (ceded_owned z g.pins vs id v counter law.ceded at refl b q refl refl (ap is_owned is_open) (inr (refl, omega arith, omega arith)))
+        let written_is = entry.written in
+        turns z g vs id v counter b counted_state (count_deeds n) law at own_low
+        (ceded_owned z g.pins vs id v counter law.ceded at refl b counted_state refl refl (ap is_owned is_open) (inr (refl, omega arith, omega arith)))
+        (record {
+          onward = stays_onward (g.pins b) counted_state refl refl (omega arith);
+          alone = λ other _. other entry.owner;
+          state = record {
+            readers = refl;
+            written = omega arith;
+            generation = block.generation;
+            free = λ is. let e : Open ≡ Free = sym is_open ∙ is in absurd (cc);
+          };
+          rest = λ is. let e : false ≡ true = sym (ap is_still is_open) ∙ is in absurd (cc);
+          owner = λ _. (more, with_here more v.owns);
+          named = λ s m _ _ same current. (refl, ap (λ j. is_nameable (g.pins j).phase) (sym same) ∙ current.phase, omega arith);
+          listing = record {
+            programmer = λ m done. put3_else g.programmer b o.written o.generation (Some (n, length v.programs)) m.block m.page m.generation
+                (not_done m done);
+            eraser = λ c k _. refl;
+            idle = λ is. let no : true ≡ false = sym (ap is_player role) ∙ is in absurd (cc);
+            programs = program_listed n role;
+            erases = λ _ _ old. old;
+            lists = page_listed n role;
+            listed = λ n' role' its. subst (λ k. (listed n k ≡ counter.programs) × (g.erases k ≡ v.erases)) (player_same n n' (sym role ∙ role'))
+                (name_here g.programs n (v.programs ++ x.page ∷ []), (h.holding.lists n role).1);
+          };
+          owning = got z (count_world n) id v counter more (counted_block n) (λ _. opened)
+              (λ is. let no : true ≡ false = sym (ap may_own role) ∙ is in absurd (cc)) (one_with_open more v.owns opened h.kind.reclaims);
+          no_more = record { filling = λ _ _ _ _ _ f. f; cleared = omega arith; wiped = omega arith };
+          work = λ y is. subst (λ (y : Work). LawfulWork z (count_world n) (with_owned more v.owns) y) (some_same x y (sym doing ∙ is)) (counted_work n);
+          source = λ y _ k. (blocks_apart v.owns o k.entry y.page.block own k.own (open_victim o k.entry opened k.victim), refl);
+        })
 
   -- ---- close
   abbrev pub closed_block : Owned
@@ -182,58 +538,33 @@ module _ (z : Numbers) (g : World) (vs : List View) (id : ℕ) (v : View) (o : O
   abbrev pub closed_state : PinWord
   closed_state = record (g.pins o.block) { phase = Closed }
 
-  abbrev pub close_world : World
-  close_world = moved g o.block closed_state id
-
-  pub closes : IsSettled v → Lawful z close_world (set vs id closer)
+  pub closes : IsSettled v → Lawful z (moved g o.block closed_state id) (set vs id closer)
   closes settled =
       let h = law.views id v at in
       let b = o.block in
-      let q = closed_state in
-      let kind = h.kind in
-      let holds = h.holding in
       let block = law.blocks b own_low in
-      let mine = entry in
-      let g' = close_world in
       let phase_is = is_open in
-      let on : Onward z g g' id id = pin_moves z g id b q id
-      (record {
-        generation = omega arith;
-        age = (let e : half_cycle (g.pins b).phase ≡ 0 = ap half_cycle phase_is in omega arith);
-        written = λ _. omega arith;
-        held = λ _ intact. (refl, refl);
-        was = λ _ _ _. ap is_intact phase_is;
-        free = λ _ is. absurd (cc);
-      })
-      (λ other _. absurd (other mine.owner)) in
-      let knows = knowledge_kept z g g' id id on v (λ c is below. counted vs law id v at c is below) h.knowledge in
-      let not_filling : (c p : ℕ) (e : Owned) → owned_at c v.owns ≡ Some e → e.written ≤ p → IsFilling v.work c p → ⊥ = λ c p e owns from f.
+      let not_filling : (c : ℕ) (e : Owned) → owned_at c v.owns ≡ Some e → (p : ℕ) → e.written ≤ p → IsFilling v.work c p → ⊥ = λ c e owns p from f.
       let P : ℕ → Type 0 = λ c. owned_at c v.owns ≡ Some e in
       let s = settled f.work e f.is (subst P (sym f.block) owns) in
       let l = f.page in absurd (omega arith) in
-      let after : LawfulView z g' id closer = record {
-        kind = kind_with kind refl
-            (λ is. each_without (λ c e. e.phase ≡ Open) b v.owns (λ c e _ owns. kind.opens is c e owns))
-            (λ is. let i = kind.idle is in (refl, i.1, i.2, i.3)) (λ is. ap (λ l. without b l) (kind.owns_none is))
-            (one_without b v.owns kind.reclaims);
-        knowledge = knowledge_as knows refl;
-        holding = holding_with holds refl refl holds.calls holds.lists
-            (each_without (λ c e. LawfulOwned z g' id None v.cleared v.wiped c e) b v.owns (λ c e unlike owns.
-            turned_else z g vs id v closer b q id (deeds g) law at v.work None v.cleared v.wiped c e unlike
-            (λ p from f. absurd (not_filling c p e owns from f)) (holds.owned c e owns)))
-            (λ y is. absurd (none_some y is))
-            (λ y is.
-            let k = holds.source y is in
-            let unlike = blocks_apart v.owns o k.entry y.page.block own k.own (open_victim o k.entry opened k.victim) in
-            source_with k (without_else b y.page.block v.owns unlike ∙ k.own) refl (λ _. refl));
-      } in
-      pin_turned_nameable z g vs id v closer b q id (deeds g) law at on after
-      (λ named. (refl, refl, omega arith))
-      (block_turned z g vs id v closer b q id (deeds g) law at own_low refl block.written block.generation (λ is. absurd (cc))
-      (λ _ p from below. let m = mine.written in mine.rest opened p (omega arith) below (λ f. not_filling b p o own (omega arith) f)) (λ is. absurd (cc)))
-      (λ c _. refl) (λ c unlike e is. (e, without_else b c v.owns unlike ∙ is)) refl
-      (ceded_last z g.pins vs id v closer law.ceded at refl b q own_low
+      turns z g vs id v closer b closed_state (deeds g) law at own_low
+      (ceded_last z g.pins vs id v closer law.ceded at refl b closed_state own_low
       (inr (refl, (let e : rank (g.pins b).phase ≡ 1 = ap rank phase_is in omega arith), omega arith))
-      closed_block (λ i. record { block = b; phase = Closed; generation = sym mine.generation i; written = sym mine.written i }) refl
+      closed_block (λ i. record { block = b; phase = Closed; generation = sym entry.generation i; written = sym entry.written i }) refl
       (sym (append-nil v.drains))
-      (may_own_else v.role (λ is. owns_none_else v.owns o own (kind.owns_none is))))
+      (may_own_else v.role (λ is. owns_none_else v.owns o own (h.kind.owns_none is))))
+      (record {
+        onward = phase_onward (g.pins b) Closed (let e : half_cycle (g.pins b).phase ≡ 0 = ap half_cycle phase_is in omega arith) (λ _ _. refl)
+            (λ _ _. ap is_intact phase_is) (λ is. absurd (cc));
+        alone = λ other _. other entry.owner;
+        state = record { readers = refl; written = block.written; generation = block.generation; free = λ is. absurd (cc) };
+        rest = λ _ p from below. let m = entry.written in entry.rest opened p (omega arith) below (λ f. not_filling b o own p (omega arith) f);
+        owner = λ is. absurd (cc);
+        named = λ s m _ _ _ _. (refl, refl, omega arith);
+        listing = none_listed z g id v closer b closed_state h.kind (λ _. refl) refl refl;
+        owning = given_up z (moved g o.block closed_state id) id v closer b h.kind;
+        no_more = record { filling = λ c e owns p from f. absurd (not_filling c e owns p from f); cleared = omega arith; wiped = omega arith };
+        work = λ y is. absurd (none_some y is);
+        source = λ y _ k. (blocks_apart v.owns o k.entry y.page.block own k.own (open_victim o k.entry opened k.victim), refl);
+      })

@@ -1,39 +1,37 @@
 -- Steps on page words: put and get.
-use Rattle.flash_rule.proofs.Words.{◌≡◌, ◌≢◌, ℕ, zero, suc, ◌*◌, ◌<◌, ◌≤◌, inl, inr, ⊎_elim, eq-eqb, ne_eqb, true, false, List, [], ◌∷◌, ◌++◌, Option}
-use Rattle.flash_rule.proofs.Words.{None, Some, length, set, sym, refl, ap, ◌∙◌, subst, arith, length-append, get_or, some, dite, ℕ_discrete}
-use Rattle.flash_rule.proofs.Words.{get_elem?, Numbers, MapWord, Open, Erasing, Pin, Owned, Pass, Broom, Role, Dealer, Player, Note, Gone, Clear}
-use Rattle.flash_rule.proofs.Words.{Accepted, Work, Carried, View, is_pass, is_player, owned_at, World, put_word, is_still, age_of, data_word}
-use Rattle.flash_rule.proofs.Words.{IsFilling, LawfulOwned, LawfulWork, LawfulView, Lawful, LawfulPin, Onward, next_page, words_in, ◌+◌}
-use Rattle.flash_rule.specs.Plays.{SettledBut, Spared}
+use Rattle.flash_rule.proofs.Words.{◌≡◌, ◌≢◌, ℕ, zero, suc, ◌*◌, ◌<◌, ◌≤◌, inl, inr, ⊎_elim, eq-eqb, ne_eqb, true, false, List, [], ◌∷◌, ◌++◌, Option, None}
+use Rattle.flash_rule.proofs.Words.{Some, length, set, sym, refl, ap, ◌∙◌, subst, arith, length-append, get_or, some, dite, ℕ_discrete, get_elem?, Numbers}
+use Rattle.flash_rule.proofs.Words.{MapWord, Open, Erasing, Pin, Owned, Pass, Broom, Role, Dealer, Player, Note, Gone, Clear, Accepted, Work, Carried, View}
+use Rattle.flash_rule.proofs.Words.{is_pass, is_player, owned_at, World, put_word, is_still, age_of, data_word, IsFilling, LawfulOwned, LawfulWork, LawfulView}
+use Rattle.flash_rule.proofs.Words.{Lawful, LawfulPin, Onward, next_page, words_in, ◌+◌, Begins-refl}
 use Rattle.flash_rule.proofs.Points.{eq_self}
-use Rattle.flash_rule.proofs.Owning.{some_same, blocks_apart, open_victim}
-use Rattle.flash_rule.proofs.Frames.{counted, knowledge_kept}
-use Rattle.flash_rule.proofs.Assembly.{assembled, block_kept, sector_kept}
+use Rattle.flash_rule.proofs.Owning.{some_same, blocks_apart, open_victim, holding_with, kind_with, knowledge_as, owned_with, source_with, put3, put3_here}
+use Rattle.flash_rule.proofs.Owning.{put3_else}
+use Rattle.flash_rule.proofs.Frames.{counted, knowledge_kept, assembled, block_kept, sector_kept}
 use Rattle.flash_rule.proofs.Ceding.{ceded_still}
-use Rattle.flash_rule.proofs.Still.{pass_of, intact_age, met, programs_once, onward_of}
-use Rattle.flash_rule.proofs.Keeping.{holding_with, kind_with, knowledge_as, owned_with, source_with}
+use Rattle.flash_rule.proofs.Still.{pass_of, intact_age, met, programs_once, onward_called}
+use Rattle.flash_rule.specs.Plays.{SettledBut, Spared}
+use Rattle.std.proofs.lemmas.List.{get_or_append_left, get_or_push}
 
 pub word_here : (f : ℕ → ℕ → ℕ → ℕ) (b p i x : ℕ) → put_word f b p i x b p i ≡ x
-word_here f b p i x = rw (eq_self b) (rw (eq_self p) (rw (eq_self i) refl))
+unfolding put3
+word_here f b p i x = put3_here f b p i x
 
 pub word_else : (f : ℕ → ℕ → ℕ → ℕ) (b p i x c q j : ℕ) → ¬ ((c ≡ b) × (q ≡ p) × (j ≡ i)) → put_word f b p i x c q j ≡ f c q j
-word_else f b p i x c q j apart =
-    dite (ℕ_discrete c b)
-    (λ k. dite (ℕ_discrete q p)
-    (λ l. dite (ℕ_discrete j i) (λ m. absurd (apart (k, l, m))) (λ m. rw (eq-eqb c b k) (rw (eq-eqb q p l) (rw (ne_eqb j i m) (λ t. f (sym k t) (sym l t) j)))))
-    (λ l. rw (eq-eqb c b k) (rw (ne_eqb q p l) (λ t. f (sym k t) q j))))
-    (λ k. rw (ne_eqb c b k) refl)
+unfolding put3
+word_else f b p i x c q j apart = put3_else f b p i x c q j apart
 
-get_front : (xs ys : List ℕ) (k : ℕ) → k < length xs → get_or (xs ++ ys) k 0 ≡ get_or xs k 0
-get_front [] ys k low = absurd (omega arith)
-get_front (x ∷ xs) ys zero low = refl
-get_front (x ∷ xs) ys (suc k) low = get_front xs ys k (omega arith)
+-- a block whose work is counted has no words in its next page
+pub words_none : (d : Option Work) (o : Owned) → ((x : Work) → d ≡ Some x → x.page.block ≡ o.block → x.page.page < o.written) → words_in d o ≡ []
+words_none None o counted = refl
+words_none (Some x) o counted =
+    dite (ℕ_discrete x.page.block o.block)
+    (λ here. let low = counted x refl here in
+    let other : x.page.page ≢ o.written = omega arith in rw (eq-eqb x.page.block o.block here) (rw (ne_eqb x.page.page o.written other) refl))
+    (λ else. rw (ne_eqb x.page.block o.block else) refl)
 
-get_end : (xs : List ℕ) (y k : ℕ) → k ≡ length xs → get_or (xs ++ y ∷ []) k 0 ≡ y
-get_end [] y zero is = refl
-get_end [] y (suc k) is = absurd (omega arith)
-get_end (x ∷ xs) y zero is = absurd (omega arith)
-get_end (x ∷ xs) y (suc k) is = get_end xs y k (omega arith)
+pub words_here : (o : Owned) (words : List ℕ) → words_in (Some (record { page = next_page o; words = words })) o ≡ words
+words_here o words = rw (eq_self o.block) (rw (eq_self o.written) refl)
 
 -- the words put so far into the next page stand in it
 words_stand : (z : Numbers) (g : World) (owns : List Owned) (doing : Option Work) (o : Owned) → ((w : Work) → doing ≡ Some w → LawfulWork z g owns w)
@@ -97,7 +95,7 @@ module _ (z : Numbers) (g : World) (vs : List View) (id : ℕ) (v : View) (o : O
   put_block : LawfulOwned z put_world id (Some put_work) v.cleared v.wiped o.block o
   put_block =
       let mine = entry in
-      owned_with mine refl refl
+      owned_with mine (refl, refl, refl) refl
       (λ is q from below not.
       let later : q ≢ (next_page o).page = λ same. not (record { work = put_work; is = refl; block = refl; page = sym same }) in
       λ j most. else_page o.block q j later ∙ mine.rest is q from below (λ f. filling_none q from later f) j most)
@@ -120,11 +118,11 @@ module _ (z : Numbers) (g : World) (vs : List View) (id : ℕ) (v : View) (o : O
         full = λ low. absurd (omega arith);
         stands = λ j low. dite (ℕ_discrete j put_at)
             (λ last. ap (λ k. put_word g.pages o.block p put_at x o.block p k) last
-            ∙ (word_here g.pages o.block p put_at x ∙ sym (get_end words x j last)))
+            ∙ (word_here g.pages o.block p put_at x ∙ sym (get_or_push words x 0 j (sym last))))
             (λ other.
             let within : j < length words = omega arith in
             word_else g.pages o.block p put_at x o.block p j (λ same. other same.2)
-            ∙ (words_stand z g v.owns v.work o (law.views id v at).holding.work j within ∙ sym (get_front words (x ∷ []) j within)));
+            ∙ (words_stand z g v.owns v.work o (law.views id v at).holding.work j within ∙ sym (get_or_append_left words (x ∷ []) 0 j within)));
       }
 
   pub puts_word : o.written < z.pages → put_at ≤ z.words → SettledBut v o.block → Lawful z put_world (set vs id putter)
@@ -132,10 +130,8 @@ module _ (z : Numbers) (g : World) (vs : List View) (id : ℕ) (v : View) (o : O
       let h = law.views id v at in
       let b = o.block in
       let g' = put_world in
-      let kind = h.kind in
-      let holds = h.holding in
       let mine = entry in
-      let on : Onward z g g' id id = onward_of z g id id g.map g'.pages g.badge g.carries
+      let on : Onward z g g' id id = onward_called z g id id g.history g.map g'.pages g.badge g.carries (Begins-refl g.history) (λ _ _. refl)
       (λ c other q j. else_block c q j (λ same. other (ap g.owner same ∙ mine.owner)))
       (λ c q j _ low. programmed_stays c q j low) (λ s m is. inl is) (λ n _ _. (refl, refl)) (λ n c is. inl is) in
       let knows = knowledge_kept z g g' id id on v (λ c is below. counted vs law id v at c is below) h.knowledge in
@@ -143,24 +139,24 @@ module _ (z : Numbers) (g : World) (vs : List View) (id : ℕ) (v : View) (o : O
       let s = settled f.work e f.is (subst (λ c. owned_at c v.owns ≡ Some e) (sym f.block) owns) (λ same. unlike (sym f.block ∙ same)) in
       let l = f.page in absurd (omega arith) in
       let after : LawfulView z g' id putter = record {
-        kind = kind_with kind refl kind.opens
+        kind = kind_with h.kind refl h.kind.opens
             (λ is. let no : true ≡ false = sym player ∙ is in absurd (cc))
-            kind.owns_none kind.reclaims;
+            h.kind.owns_none h.kind.reclaims;
         knowledge = knowledge_as knows refl;
-        holding = holding_with holds refl refl holds.calls holds.lists
+        holding = holding_with h.holding refl refl h.holding.calls h.holding.lists
             (λ c e owns. dite (ℕ_discrete c b)
             (λ same.
             let same_entry : o ≡ e = some_same o e (sym own ∙ subst (λ c. owned_at c v.owns ≡ Some e) same owns) in
             subst (λ (y : ℕ × Owned). LawfulOwned z g' id (Some put_work) v.cleared v.wiped y.0 y.1) (λ t. (sym same t, same_entry t)) put_block)
             (λ unlike.
-            let k = holds.owned c e owns in
-            owned_with k refl refl
+            let k = h.holding.owned c e owns in
+            owned_with k (refl, refl, refl) refl
             (λ is q from below _ j most. else_block c q j unlike ∙ k.rest is q from below (λ f. not_filling c q e owns unlike from f) j most)
             k.dead
             (λ is q j low most below. else_block c q j unlike ∙ k.clean is q j low most below)))
             (λ y is. subst (λ (y : Work). LawfulWork z g' v.owns y) (some_same put_work y is) (put_lawful room short))
             (λ y is.
-            let k = holds.source y is in
+            let k = h.holding.source y is in
             let unlike = blocks_apart v.owns o k.entry y.page.block own k.own (open_victim o k.entry opened k.victim) in
             source_with k k.own refl (λ j. else_block y.page.block y.page.page j unlike));
       } in

@@ -1,10 +1,10 @@
 -- Each word of the table has one place, so a change of one word changes the map, the pins or the pages at one point.
-use Rattle.flash_rule.proofs.Words.{◌≡◌, ◌≢◌, ℕ, zero, suc, ◌+◌, ◌*◌, ◌<◌, ◌≤◌, List, [], ◌∷◌, Option, set, sym, refl, ap, ◌∙◌, subst, arith}
-use Rattle.flash_rule.proofs.Words.{length-set, suc-mul, get_or, get_or-set_same, get_or-set_other, dite, dec_lt, Numbers, pin_index, page_index}
-use Rattle.flash_rule.proofs.Words.{pin_word, MapWord, PinWord, put, put_word, sector_word, Fits}
+use Rattle.flash_rule.proofs.Words.{◌≡◌, ◌≢◌, ℕ, zero, suc, ◌+◌, ◌*◌, ◌<◌, ◌≤◌, List, [], ◌∷◌, Option, set, sym, refl, ap, ◌∙◌, subst, arith, length-set}
+use Rattle.flash_rule.proofs.Words.{suc-mul, get_or, get_or-set_same, get_or-set_other, dite, dec_lt, Numbers, pin_index, page_index, pin_word, MapWord}
+use Rattle.flash_rule.proofs.Words.{PinWord, put, put_word, sector_word, Fits}
+use Rattle.flash_rule.proofs.Points.{put_all}
 use Rattle.std.proofs.Common.{mul-le-mul_right}
 use Rattle.geometry.specs.Limits.{table_words_of}
-use Rattle.flash_rule.proofs.Points.{put_all}
 
 -- rows of one length don't overlap
 row_apart : (x y n i j : ℕ) → x < y → i < n → ¬ (x * n + i ≡ y * n + j)

@@ -1,7 +1,8 @@
--- A function with one value replaced, numbers and names compared by test, and totals over a list of views.
-use Rattle.flash_rule.proofs.Words.{◌≡◌, ◌≢◌, ℕ, zero, suc, ◌+◌, eq-eqb, ne_eqb, ◌==◌, Bool, true, false, List, [], ◌∷◌, set, sym, refl, ap, ◌∙◌}
-use Rattle.flash_rule.proofs.Words.{subst, arith, dite, some, some-injective, some-ne-none, ℕ_discrete, get_elem?, View, Name, Pass, Broom, total}
-use Rattle.flash_rule.proofs.Words.{same_name, put, put_name}
+-- A function with one value replaced, numbers and names compared by test, totals over a list of views, and roles and phases by cases.
+use Rattle.flash_rule.proofs.Words.{◌≡◌, ◌≢◌, ℕ, zero, suc, ◌+◌, eq-eqb, ne_eqb, ◌==◌, Bool, true, false, List, [], ◌∷◌, set, sym, refl, ap, ◌∙◌, subst, arith}
+use Rattle.flash_rule.proofs.Words.{dite, some, some-injective, some-ne-none, ℕ_discrete, get_elem?, View, Name, Pass, Broom, total, same_name, put, put_name}
+use Rattle.flash_rule.proofs.Words.{◌⊎◌, inl, inr, Phase, Free, Open, Closed, Victim, Drained, Erasing, Retired, Role, Dealer, Player, Note, Gone, is_broom}
+use Rattle.flash_rule.proofs.Words.{is_player, is_pass, is_live_role, may_own, rank}
 
 pub eq_self : (n : ℕ) → (n == n) ≡ true
 eq_self n = eq-eqb n n refl
@@ -60,3 +61,85 @@ pub total_set : (f : View → ℕ) (vs : List View) (id : ℕ) (v w : View) → 
 total_set f [] id v w at = absurd (some-ne-none v (sym at))
 total_set f (x ∷ xs) zero v w at = let e : f x ≡ f v = ap f (some-injective x v at) in omega arith
 total_set f (x ∷ xs) (suc id) v w at = let r = total_set f xs id v w at in omega arith
+
+pub seat_set : (vs : List View) (id : ℕ) (v w : View) → get_elem? vs id ≡ some v → get_elem? (set vs id w) id ≡ some w
+seat_set [] id v w at = absurd (some-ne-none v (sym at))
+seat_set (x ∷ xs) zero v w at = refl
+seat_set (x ∷ xs) (suc id) v w at = seat_set xs id v w at
+
+-- ---- roles
+pub player_same : (n m : Name) → Player n ≡ Player m → n ≡ m
+player_same n m e = cc
+
+pub player_of : (r : Role) → is_player r ≡ true → (n : Name) × (r ≡ Player n)
+player_of (Player n) is = (n, refl)
+player_of Dealer is = absurd (cc)
+player_of Note is = absurd (cc)
+player_of Gone is = absurd (cc)
+
+pub idle_or_player : (r : Role) → (is_player r ≡ true) ⊎ (is_player r ≡ false)
+idle_or_player (Player n) = inl refl
+idle_or_player Dealer = inr refl
+idle_or_player Note = inr refl
+idle_or_player Gone = inr refl
+
+pub player_live : (r : Role) → is_player r ≡ true → is_live_role r ≡ true
+player_live r is = ap is_live_role (player_of r is).1
+
+pub player_may_own : (r : Role) → is_player r ≡ true → may_own r ≡ true
+player_may_own r is = ap may_own (player_of r is).1
+
+pub broom_of : (r : Role) → is_broom r ≡ true → (i : ℕ) × (r ≡ Player (Broom i))
+broom_of (Player (Pass t)) is = absurd (cc)
+broom_of (Player (Broom i)) is = (i, refl)
+broom_of Dealer is = absurd (cc)
+broom_of Note is = absurd (cc)
+broom_of Gone is = absurd (cc)
+
+pub broom_player : (r : Role) → is_broom r ≡ true → is_player r ≡ true
+broom_player r is = ap is_player (broom_of r is).1
+
+pub broom_live : (r : Role) → is_broom r ≡ true → is_live_role r ≡ true
+broom_live r is = ap is_live_role (broom_of r is).1
+
+pub broom_no_pass : (r : Role) → is_broom r ≡ true → is_pass r ≡ false
+broom_no_pass r is = ap is_pass (broom_of r is).1
+
+pub broom_may_own : (r : Role) → is_broom r ≡ true → may_own r ≡ true
+broom_may_own r is = ap may_own (broom_of r is).1
+
+pub may_own_else : (r : Role) → ¬ (may_own r ≡ false) → may_own r ≡ true
+may_own_else (Player n) owns = refl
+may_own_else Dealer owns = refl
+may_own_else Note owns = absurd (owns refl)
+may_own_else Gone owns = absurd (owns refl)
+
+pub owner_live : (r : Role) → ¬ (may_own r ≡ false) → is_live_role r ≡ true
+owner_live (Player n) owns = refl
+owner_live Dealer owns = refl
+owner_live Note owns = absurd (owns refl)
+owner_live Gone owns = absurd (owns refl)
+
+-- ---- phases
+pub phase_of : ℕ → Phase
+phase_of zero = Free
+phase_of (suc zero) = Open
+phase_of (suc (suc zero)) = Closed
+phase_of (suc (suc (suc zero))) = Victim
+phase_of (suc (suc (suc (suc zero)))) = Drained
+phase_of (suc (suc (suc (suc (suc zero))))) = Erasing
+phase_of (suc (suc (suc (suc (suc (suc n)))))) = Retired
+
+pub of_rank : (f : Phase) → phase_of (rank f) ≡ f
+unfolding phase_of
+of_rank Free = refl
+of_rank Open = refl
+of_rank Closed = refl
+of_rank Victim = refl
+of_rank Drained = refl
+of_rank Erasing = refl
+of_rank Retired = refl
+
+pub phase_or_not : (f e : Phase) → (f ≡ e) ⊎ (¬ (f ≡ e))
+phase_or_not f e =
+    dite (ℕ_discrete (rank f) (rank e)) (λ same. inl (sym (of_rank f) ∙ (ap phase_of same ∙ of_rank e))) (λ other. inr (λ is. other (ap rank is)))

@@ -1,19 +1,18 @@
 -- The readers' steps on a pin word: pin and unpin.
-use Rattle.flash_rule.proofs.Words.{◌≡◌, ◌≢◌, ℕ, ◌*◌, ◌+◌, ◌-◌, ◌%◌, ◌^◌, ◌<◌, ◌≤◌, ◌⊎◌, inl, inr, ⊎_elim, eq-eqb, ne_eqb, Bool, true, false, List}
-use Rattle.flash_rule.proofs.Words.{length, set, sym, refl, ap, ◌∙◌, subst, arith, length-set, get_or, get_or-set_same, get_or-set_other, some, none}
-use Rattle.flash_rule.proofs.Words.{dite, ℕ_discrete, get_elem?, step, keeps, Allows, Numbers, pin_word, pin_index, MapWord, PinWord, READER, Phase}
-use Rattle.flash_rule.proofs.Words.{Free, Open, Closed, Victim, Drained, Erasing, Retired, Owned, Pin, Clear, Candidate, Accepted, Stray, View}
-use Rattle.flash_rule.proofs.Words.{one_if, is_pass, pin_is_on, pins_on, sum_of, World, put, is_intact, half_cycle, age_of, Intact, IsCandidate}
-use Rattle.flash_rule.proofs.Words.{LawfulPin, LawfulOwned, LawfulView, Lawful, Onward, Ruled, Sitter, Pinned, IsOn, pin_told, unpin_told, ◌==◌}
+use Rattle.flash_rule.proofs.Words.{◌≡◌, ◌≢◌, ℕ, ◌*◌, ◌+◌, ◌-◌, ◌%◌, ◌^◌, ◌<◌, ◌≤◌, ◌⊎◌, inl, inr, ⊎_elim, eq-eqb, ne_eqb, Bool, true, false, List, length, set}
+use Rattle.flash_rule.proofs.Words.{sym, refl, ap, ◌∙◌, subst, arith, length-set, get_or, get_or-set_same, get_or-set_other, some, none, dite, ℕ_discrete}
+use Rattle.flash_rule.proofs.Words.{get_elem?, step, keeps, Allows, Numbers, pin_word, pin_index, MapWord, PinWord, READER, Phase, Free, Open, Closed, Victim}
+use Rattle.flash_rule.proofs.Words.{Drained, Erasing, Retired, Owned, Pin, Clear, Candidate, Accepted, Stray, View, one_if, is_pass, pin_is_on, pins_on, sum_of}
+use Rattle.flash_rule.proofs.Words.{World, put, is_intact, half_cycle, age_of, Intact, IsCandidate, LawfulPin, LawfulOwned, LawfulView, Lawful, Onward, Ruled}
+use Rattle.flash_rule.proofs.Words.{Sitter, Pinned, IsOn, pin_told, unpin_told, ◌==◌}
 use Rattle.flash_rule.proofs.Points.{put_here, put_all, eq_self}
-use Rattle.geometry.proofs.PinBits.{takes_off, reads}
-use Rattle.flash_rule.proofs.Frames.{counted, knowledge_kept}
-use Rattle.flash_rule.proofs.Assembly.{owner_kept, state_fits}
+use Rattle.flash_rule.proofs.Frames.{counted, knowledge_kept, owner_kept, state_fits}
 use Rattle.flash_rule.proofs.Ceding.{ceded_read}
-use Rattle.flash_rule.proofs.PinSteps.{deeds, moved, pin_moves, block_turned, pin_turned_nameable}
+use Rattle.flash_rule.proofs.OwnSteps.{deeds, moved, pin_moves, block_turned, pin_turned_nameable}
 use Rattle.flash_rule.proofs.Ruling.{ruled_as, ruled_plus}
-use Rattle.flash_rule.proofs.Still.{sum_set, ages_bounded, pass_numbers}
-use Rattle.flash_rule.proofs.Keeping.{holding_with, source_with, work_with, knowledge_with}
+use Rattle.flash_rule.proofs.Still.{stays_onward, sum_set, ages_bounded, pass_numbers}
+use Rattle.flash_rule.proofs.Owning.{owned_with, kind_reading, holding_with, source_with, work_with, knowledge_with}
+use Rattle.geometry.proofs.PinBits.{takes_off, reads}
 
 module _ (z : Numbers) (g : World) (vs : List View) (id : ℕ) (v : View) (b : ℕ) (readers : ℕ) (pin : Pin) (known : List ℕ) (law : Lawful z g vs)
     (at : get_elem? vs id ≡ some v) (pass : is_pass v.role ≡ true) (low : b < z.blocks) where
@@ -29,14 +28,7 @@ module _ (z : Numbers) (g : World) (vs : List View) (id : ℕ) (v : View) (b : �
   pub read_onward : Onward z g read_world id id
   read_onward =
       pin_moves z g id b read_state (g.owner b)
-      (record {
-        generation = omega arith;
-        age = omega arith;
-        written = λ _. omega arith;
-        held = λ _ intact. (refl, intact);
-        was = λ _ intact _. intact;
-        free = λ _ free. free;
-      })
+      (stays_onward (g.pins b) read_state refl refl (omega arith))
       (λ _ _. (refl, refl, refl, refl))
 
   -- an owned block, whoever reads it
@@ -47,19 +39,7 @@ module _ (z : Numbers) (g : World) (vs : List View) (id : ℕ) (v : View) (b : �
       put_all g.pins b read_state (λ j p. (p.phase ≡ (g.pins j).phase) × (p.generation ≡ (g.pins j).generation) × (p.written ≡ (g.pins j).written))
       (refl, refl, refl) (λ j _. (refl, refl, refl)) in
       let whose : put g.owner b (g.owner b) c ≡ g.owner c = put_all g.owner b (g.owner b) (λ j x. x ≡ g.owner j) refl (λ j _. refl) c in
-      let s = same c in
-      record {
-        block = h.block;
-        low = h.low;
-        owner = whose ∙ h.owner;
-        owned = h.owned;
-        phase = s.0 ∙ h.phase;
-        generation = s.1 ∙ h.generation;
-        written = s.2 ∙ h.written;
-        rest = h.rest;
-        dead = h.dead;
-        clean = h.clean;
-      }
+      owned_with h (same c) whose h.rest h.dead h.clean
 
   -- a pass's pin changes, and with it one block's readers
   pub reader_moves : length known ≡ z.blocks → LawfulPin z read_world known pin → ((c : ℕ) → c < z.blocks → get_or known c 0 ≤ age_of (g.pins c))
@@ -67,30 +47,18 @@ module _ (z : Numbers) (g : World) (vs : List View) (id : ℕ) (v : View) (b : �
       → ((c : ℕ) → c ≢ b → pins_on c reader ≡ pins_on c v) → Lawful z read_world (set vs id reader)
   reader_moves long lawful ages here there =
       let h = law.views id v at in
-      let kind = h.kind in
-      let holds = h.holding in
       let block = law.blocks b low in
       let g' = read_world in
       let q = read_state in
       let on = read_onward in
       let knows = knowledge_kept z g g' id id on v (λ c is below. counted vs law id v at c is below) h.knowledge in
       let own : LawfulView z g' id reader = record {
-        kind = record {
-          numbers = kind.numbers;
-          host = kind.host;
-          known = λ _. long;
-          opens = kind.opens;
-          unpinned = λ not. let no : true ≡ false =
-              sym pass ∙ not in absurd (cc);
-          idle = kind.idle;
-          owns_none = kind.owns_none;
-          reclaims = kind.reclaims;
-        };
+        kind = kind_reading reader h.kind pass long;
         knowledge = knowledge_with reader knows refl knows.seen lawful
             (λ c below. let a = (on.pins c below).age in let k = ages c below in omega arith) knows.programs knows.erases;
-        holding = holding_with holds refl refl holds.calls holds.lists (λ c o owns. owned_read c o (holds.owned c o owns))
-            (λ w is. let k = holds.work w is in work_with k k.own (λ _. refl))
-            (λ x is. let k = holds.source x is in source_with k k.own refl (λ _. refl));
+        holding = holding_with h.holding refl refl h.holding.calls h.holding.lists (λ c o owns. owned_read c o (h.holding.owned c o owns))
+            (λ w is. let k = h.holding.work w is in work_with k k.own (λ _. refl))
+            (λ x is. let k = h.holding.source x is in source_with k k.own refl (λ _. refl));
       } in
       pin_turned_nameable z g vs id v reader b q (g.owner b) (deeds g) law at on own
       (λ named. (refl, named, omega arith))

@@ -1,21 +1,19 @@
 -- Each step of a broom on a pin word, as the table asks for it: whatever the table is, the step keeps the rule and tells what it says.
-use Rattle.flash_rule.proofs.Words.{◌≡◌, ◌≢◌, ℕ, ◌+◌, ◌%◌, ◌^◌, ◌<◌, ◌≤◌, ⊎_elim, ◌==◌, eq-eqb, ne_eqb, true, List, [], ◌∷◌, ◌++◌, set, sym, refl, ap}
-use Rattle.flash_rule.proofs.Words.{◌∙◌, subst, arith, get_or, either, some, none, dite, ℕ_discrete, get_elem?, State, Act, Valid, step, keeps}
-use Rattle.flash_rule.proofs.Words.{stepped, carried_after, Allows, Numbers, pin_word, FitsPin, freed_added, kept_added, pin_index, PinWord, Open}
-use Rattle.flash_rule.proofs.Words.{Closed, Victim, Drained, Erasing, Retired, NEXT_PHASE, Owned, View, is_broom, without, with_owned, World, Fits}
-use Rattle.flash_rule.proofs.Words.{is_owned, freed_as, Lawful, Ruled, Sitter, CanClaim, Claimed, CanCondemn, Condemned, CanDrain, CanRenew}
-use Rattle.flash_rule.proofs.Words.{CanRetire, owned_as, cycle_of, claim_told, condemn_told, drain_told, freed_told, kept_told, retired_told}
-use Rattle.geometry.proofs.PinBits as bits
+use Rattle.flash_rule.proofs.Words.{◌≡◌, ◌≢◌, ℕ, ◌+◌, ◌%◌, ◌^◌, ◌<◌, ◌≤◌, ⊎_elim, ◌==◌, eq-eqb, ne_eqb, true, List, [], ◌∷◌, ◌++◌, set, sym, refl, ap, ◌∙◌}
+use Rattle.flash_rule.proofs.Words.{subst, arith, get_or, either, some, none, dite, ℕ_discrete, get_elem?, State, step, keeps, stepped, Allows, Numbers}
+use Rattle.flash_rule.proofs.Words.{pin_word, FitsPin, freed_added, kept_added, pin_index, PinWord, Open, Closed, Victim, Drained, Erasing, Retired, NEXT_PHASE}
+use Rattle.flash_rule.proofs.Words.{Owned, View, is_broom, without, with_owned, World, Fits, is_owned, freed_as, Lawful, Ruled, Sitter, CanClaim, Claimed}
+use Rattle.flash_rule.proofs.Words.{CanCondemn, Condemned, CanDrain, CanRenew, CanRetire, owned_as, cycle_of, claim_told, condemn_told, drain_told, freed_told}
+use Rattle.flash_rule.proofs.Words.{kept_told, retired_told}
+use Rattle.flash_rule.proofs.Points.{player_of, broom_player, broom_live, phase_or_not}
+use Rattle.flash_rule.proofs.Frames.{state_fits}
+use Rattle.flash_rule.proofs.OwnSteps.{Deeds, deeds, turned}
+use Rattle.flash_rule.proofs.Ruling.{Does, does, ruled_as, ruled_still, same_block, owner_adds}
+use Rattle.flash_rule.proofs.Reclaiming.{unowned, notes, claims, claimed_state, claimer, condemns, condemned_state, condemner, condemn_deeds, drains_block}
+use Rattle.flash_rule.proofs.Reclaiming.{drained_state, retires, retired_state, frees, freed_state, keeps_block, kept_state, erasing_low, erasing_written}
+use Rattle.flash_rule.proofs.Reclaiming.{is_erasing}
 use Rattle.flash_rule.specs.BroomPlays.{Loaded, state_told}
-use Rattle.flash_rule.proofs.Roles.{player_of, broom_player, broom_live, phase_or_not}
-use Rattle.flash_rule.proofs.Assembly.{state_fits}
-use Rattle.flash_rule.proofs.PinSteps.{Deeds, deeds, turned}
-use Rattle.flash_rule.proofs.Ruling.{ruled_as, ruled_plus, ruled_still, same_block, same_owned}
-use Rattle.flash_rule.proofs.Reclaiming.{unowned, notes, owner_numbers}
-use Rattle.flash_rule.proofs.ReclaimSteps.{claims, claimed_state, claimer, condemns, condemned_state, condemner, condemn_deeds, drains_block}
-use Rattle.flash_rule.proofs.ReclaimSteps.{drained_state, drainer}
-use Rattle.flash_rule.proofs.EraseSteps.{retires, retired_state, retirer, frees, freed_state, freer, keeps_block, kept_state, keeper, erasing_low}
-use Rattle.flash_rule.proofs.EraseSteps.{erasing_written, is_erasing}
+use Rattle.geometry.proofs.PinBits as bits
 
 -- what an exchange leaves
 exchanged : (n old new : ℕ) → n ≡ old → either (n == old) new n ≡ new
@@ -45,51 +43,24 @@ module _ (z : Numbers) (slots id : ℕ) (me : Sitter) where
       let within : p.written ≤ v.numbers.pages = let r = (law.blocks b low).written in
       let e : v.numbers.pages ≡ z.pages = ap (λ (y : Numbers). y.pages) numbers in omega arith in
       let noted : List (ℕ × ℕ) = v.loaded ++ (b, n) ∷ [] in
-      let answer : (w : View) → Lawful z g (set t.views id w) → Loaded v b n w
-      → (w : View) × (a : Act (Unit {0})) × Valid t.homes me.1 a × Ruled z (stepped t k n id me.1 w a)
-      × state_told (step slots k 0 0 none) me n (w, carried_after me.1 a) = λ w lawful told. (
-        w,
-        keeps,
-        tt,
-        ruled_still z id me t g fits b low w n refl lawful,
-        (refl, λ c _ is. subst (λ (j : ℕ). Loaded v j n w) (same_block z me numbers b c is) told),
+      let answer : (w : View) → Lawful z g (set t.views id w) → (p.phase ≡ Drained → p.readers ≡ 0 → w ≡ record v { loaded = noted })
+      → (p.phase ≡ Drained → 0 < p.readers → w ≡ record v { loaded = noted; busy = v.busy ++ b ∷ [] })
+      → (¬ (p.phase ≡ Drained) → w ≡ record v { loaded = noted; stale = v.stale ++ b ∷ [] })
+      → Does z id me t k n (state_told (step slots k 0 0 none) me n) = λ w lawful ready busy stale.
+      does z id me t k n (state_told (step slots k 0 0 none) me n) w (ruled_still z id me t g fits b low w n refl lawful) (
+        refl,
+        λ c _ is. subst (λ (j : ℕ). Loaded v j n w) (same_block z me numbers b c is)
+            (record { state = p; fits = fitting; young = young; within = within; found = found; ready = ready; busy = busy; stale = stale }),
       ) in
       ⊎_elim
       (λ (drained : p.phase ≡ Drained). dite (ℕ_discrete p.readers 0)
-      (λ none. answer (record v { loaded = noted }) (notes z g t.views id v law at noted v.lost v.busy v.stale)
-      (record {
-        state = p;
-        fits = fitting;
-        young = young;
-        within = within;
-        found = found;
-        ready = λ _ _. refl;
-        busy = λ _ some. absurd (omega arith);
-        stale = λ not. absurd (not drained);
-      }))
+      (λ none. answer (record v { loaded = noted }) (notes z g t.views id v law at noted v.lost v.busy v.stale) (λ _ _. refl)
+      (λ _ some. absurd (omega arith)) (λ not. absurd (not drained)))
       (λ some. answer (record v { loaded = noted; busy = v.busy ++ b ∷ [] }) (notes z g t.views id v law at noted v.lost (v.busy ++ b ∷ []) v.stale)
-      (record {
-        state = p;
-        fits = fitting;
-        young = young;
-        within = within;
-        found = found;
-        ready = λ _ none. absurd (some none);
-        busy = λ _ _. refl;
-        stale = λ not. absurd (not drained);
-      })))
+      (λ _ none. absurd (some none)) (λ _ _. refl) (λ not. absurd (not drained))))
       (λ (other : ¬ (p.phase ≡ Drained)).
       answer (record v { loaded = noted; stale = v.stale ++ b ∷ [] }) (notes z g t.views id v law at noted v.lost v.busy (v.stale ++ b ∷ []))
-      (record {
-        state = p;
-        fits = fitting;
-        young = young;
-        within = within;
-        found = found;
-        ready = λ drained _. absurd (other drained);
-        busy = λ drained _. absurd (other drained);
-        stale = λ _. refl;
-      }))
+      (λ drained _. absurd (other drained)) (λ drained _. absurd (other drained)) (λ _. refl))
       (phase_or_not p.phase Drained)
 
   -- ---- an exchange
@@ -186,95 +157,60 @@ module _ (z : Numbers) (slots id : ℕ) (me : Sitter) where
   -- the owner of a cleared victim gives it up
   pub drain_allowed : (o : Owned) → CanDrain me.0 o
       → Allows (Ruled z) slots id me (pin_index z o.block) (λ n. (n + NEXT_PHASE) % 2 ^ 64) (drain_told (step slots (pin_index z o.block) NEXT_PHASE 0 none) me)
-  drain_allowed o can t (g, fits, law) _ at _ =
-      let v : View = me.0 in
-      let h = law.views id v at in
-      let mine = h.holding.owned o.block o can.own in
-      let numbers = owner_numbers z v o h.kind can.own in
-      let w : View = drainer z g t.views id v o law at in
-      let sum = bits.next_phase (g.pins o.block) Victim Drained (mine.phase ∙ can.victim) refl in (
-        w,
-        keeps,
-        tt,
-        ruled_plus z id me t g fits o.block mine.low (drained_state z g t.views id v o law at) id (deeds g) w NEXT_PHASE sum
-            (drains_block z g t.views id v o law at can),
-        (
-          refl,
-          λ e can' is. ap (λ (y : Owned).
-              record v { owns = without y.block v.owns; drains = v.drains ++ cycle_of y ∷ []; ceded = v.ceded ++ record y { phase = Drained } ∷ [] })
-              (same_owned z me numbers o e can.own can'.own is),
-        ),
-      )
+  drain_allowed o can =
+      owner_adds z slots id me o NEXT_PHASE (CanDrain me.0) (λ e.
+      record me.0 {
+        owns = without e.block me.0.owns;
+        drains = me.0.drains ++ cycle_of e ∷ [];
+        ceded = me.0.ceded ++ record e { phase = Drained } ∷ [];
+      }) (λ e may. may.own) can
+      (λ g vs law at. (
+        drained_state z g vs id me.0 o law at,
+        bits.next_phase (g.pins o.block) Victim Drained (((law.views id me.0 at).holding.owned o.block o can.own).phase ∙ can.victim) refl,
+        drains_block z g vs id me.0 o law at can,
+      ))
 
   -- ---- free, keep, retire
   -- the eraser of a wiped block makes it free
   pub freed_allowed : (o : Owned) → CanRenew me.0 o
       → Allows (Ruled z) slots id me (pin_index z o.block) (λ n. (n + freed_added o.written) % 2 ^ 64)
       (freed_told (step slots (pin_index z o.block) (freed_added o.written) 0 none) me)
-  freed_allowed o can t (g, fits, law) _ at _ =
-      let v : View = me.0 in
-      let own = can.erasing.own in
-      let numbers = owner_numbers z v o (law.views id v at).kind own in
-      let low = erasing_low z g t.views id v o law at can.erasing in
-      let w : View = freer z g t.views id v o law at can.erasing in
-      let sum = ap (λ (y : ℕ). pin_word (g.pins o.block) + freed_added y) (sym (erasing_written z g t.views id v o law at can.erasing))
-      ∙ bits.frees (g.pins o.block) (state_fits z g t.views law o.block low) (is_erasing z g t.views id v o law at can.erasing) in (
-        w,
-        keeps,
-        tt,
-        ruled_plus z id me t g fits o.block low (freed_state z g t.views id v o law at can.erasing) id (deeds g) w (freed_added o.written) sum
-            (frees z g t.views id v o law at can.erasing can),
-        (
-          refl,
-          λ e can' is. ap (λ (y : Owned). record v { owns = without y.block v.owns; ceded = v.ceded ++ freed_as y ∷ [] })
-              (same_owned z me numbers o e own can'.erasing.own is),
-        ),
-      )
+  freed_allowed o can =
+      owner_adds z slots id me o (freed_added o.written) (CanRenew me.0)
+      (λ e. record me.0 { owns = without e.block me.0.owns; ceded = me.0.ceded ++ freed_as e ∷ [] }) (λ e may. may.erasing.own) can
+      (λ g vs law at. (
+        freed_state z g vs id me.0 o law at can.erasing,
+        ap (λ (y : ℕ). pin_word (g.pins o.block) + freed_added y) (sym (erasing_written z g vs id me.0 o law at can.erasing))
+            ∙ bits.frees (g.pins o.block) (state_fits z g vs law o.block (erasing_low z g vs id me.0 o law at can.erasing))
+            (is_erasing z g vs id me.0 o law at can.erasing),
+        frees z g vs id me.0 o law at can.erasing can,
+      ))
 
   -- or keeps it
   pub kept_allowed : (o : Owned) → CanRenew me.0 o
       → Allows (Ruled z) slots id me (pin_index z o.block) (λ n. (n + kept_added o.written) % 2 ^ 64)
       (kept_told (step slots (pin_index z o.block) (kept_added o.written) 0 none) me)
-  kept_allowed o can t (g, fits, law) _ at _ =
-      let v : View = me.0 in
-      let own = can.erasing.own in
-      let numbers = owner_numbers z v o (law.views id v at).kind own in
-      let low = erasing_low z g t.views id v o law at can.erasing in
-      let w : View = keeper z g t.views id v o law at can.erasing in
-      let sum = ap (λ (y : ℕ). pin_word (g.pins o.block) + kept_added y) (sym (erasing_written z g t.views id v o law at can.erasing))
-      ∙ bits.keeps (g.pins o.block) (state_fits z g t.views law o.block low) (is_erasing z g t.views id v o law at can.erasing) in (
-        w,
-        keeps,
-        tt,
-        ruled_plus z id me t g fits o.block low (kept_state z g t.views id v o law at can.erasing) id (deeds g) w (kept_added o.written) sum
-            (keeps_block z g t.views id v o law at can.erasing can),
-        (
-          refl,
-          λ e can' is. ap (λ (y : Owned).
-              record v { owns = with_owned (record { block = y.block; phase = Open; generation = y.generation + 1; written = 0 }) v.owns })
-              (same_owned z me numbers o e own can'.erasing.own is),
-        ),
-      )
+  kept_allowed o can =
+      owner_adds z slots id me o (kept_added o.written) (CanRenew me.0) (λ e.
+      record me.0 { owns = with_owned (record { block = e.block; phase = Open; generation = e.generation + 1; written = 0 }) me.0.owns })
+      (λ e may. may.erasing.own) can
+      (λ g vs law at. (
+        kept_state z g vs id me.0 o law at can.erasing,
+        ap (λ (y : ℕ). pin_word (g.pins o.block) + kept_added y) (sym (erasing_written z g vs id me.0 o law at can.erasing))
+            ∙ bits.keeps (g.pins o.block) (state_fits z g vs law o.block (erasing_low z g vs id me.0 o law at can.erasing))
+            (is_erasing z g vs id me.0 o law at can.erasing),
+        keeps_block z g vs id me.0 o law at can.erasing can,
+      ))
 
   -- or retires it
   pub retired_allowed : (o : Owned) → CanRetire me.0 o
       → Allows (Ruled z) slots id me (pin_index z o.block) (λ n. (n + NEXT_PHASE) % 2 ^ 64)
       (retired_told (step slots (pin_index z o.block) NEXT_PHASE 0 none) me)
-  retired_allowed o can t (g, fits, law) _ at _ =
-      let v : View = me.0 in
-      let erasing = can.erasing in
-      let numbers = owner_numbers z v o (law.views id v at).kind erasing.own in
-      let low = erasing_low z g t.views id v o law at erasing in
-      let w : View = retirer z g t.views id v o law at erasing in
-      let sum = bits.next_phase (g.pins o.block) Erasing Retired (is_erasing z g t.views id v o law at erasing) refl in (
-        w,
-        keeps,
-        tt,
-        ruled_plus z id me t g fits o.block low (retired_state z g t.views id v o law at erasing) id (deeds g) w NEXT_PHASE sum
-            (retires z g t.views id v o law at erasing),
-        (
-          refl,
-          λ e can' is. ap (λ (y : Owned). record v { owns = without y.block v.owns; ceded = v.ceded ++ record y { phase = Retired } ∷ [] })
-              (same_owned z me numbers o e erasing.own can'.erasing.own is),
-        ),
-      )
+  retired_allowed o can =
+      owner_adds z slots id me o NEXT_PHASE (CanRetire me.0)
+      (λ e. record me.0 { owns = without e.block me.0.owns; ceded = me.0.ceded ++ record e { phase = Retired } ∷ [] }) (λ e may. may.erasing.own) can
+      (λ g vs law at. (
+        retired_state z g vs id me.0 o law at can.erasing,
+        bits.next_phase (g.pins o.block) Erasing Retired (is_erasing z g vs id me.0 o law at can.erasing) refl,
+        retires z g vs id me.0 o law at can.erasing,
+      ))

@@ -1,27 +1,20 @@
--- A change of one pin word by which a seat gets a block to drain or erase, or is done with it: what the six steps have in common.
-use Rattle.flash_rule.proofs.Words.{◌≡◌, ◌≢◌, ℕ, ◌*◌, ◌<◌, ◌≤◌, inl, true, false, List, [], Option, None, Some, set, sym, refl, ap, ◌∙◌, subst, arith}
-use Rattle.flash_rule.proofs.Words.{some, dite, ℕ_discrete, get_elem?, Begins, Numbers, Begins-refl, MapWord, PinWord, Free, Open, Name, Player}
-use Rattle.flash_rule.proofs.Words.{Owned, Source, Cycle, View, is_pass, is_player, may_own, pins_on, owned_at, without, with_owned, World, put}
-use Rattle.flash_rule.proofs.Words.{is_owned, is_nameable, is_still, age_of, IsBlank, LawfulCeded, IsCurrent, Erases, ReclaimsOne, LawfulOwned}
-use Rattle.flash_rule.proofs.Words.{LawfulSource, LawfulKind, LawfulView, Lawful, IsDealt, PinOnward, Onward, ◌+◌}
-use Rattle.flash_rule.proofs.Roles.{owner_live}
-use Rattle.flash_rule.proofs.Points.{put_else}
-use Rattle.flash_rule.proofs.Owning.{owns_none_else, some_same, none_some, with_here, without_here, owned_else, without_else, with_else, one_without}
-use Rattle.flash_rule.proofs.Frames.{counted, knowledge_kept}
+-- A broom's steps on a pin word: what the six have in common; claim, condemn and drain; free, keep and retire.
+use Rattle.flash_rule.proofs.Words.{◌≡◌, ◌≢◌, ℕ, ◌*◌, ◌<◌, ◌≤◌, inl, true, false, List, [], Option, None, Some, set, sym, refl, ap, ◌∙◌, subst, arith, some}
+use Rattle.flash_rule.proofs.Words.{get_elem?, Begins, Numbers, Begins-refl, PinWord, Free, Open, Name, Player, Owned, Source, Cycle, View, is_pass, may_own}
+use Rattle.flash_rule.proofs.Words.{owned_at, without, with_owned, World, put, is_owned, is_nameable, is_still, age_of, IsBlank, Erases, LawfulOwned}
+use Rattle.flash_rule.proofs.Words.{LawfulSource, Lawful, PinOnward, ◌+◌, inr, ⊎_elim, ◌∷◌, ◌++◌, length, slice_get, Closed, Victim, Drained, Erasing, is_broom}
+use Rattle.flash_rule.proofs.Words.{put_name, is_intact, half_cycle, rank, owned_as, cycle_of, CanDrain, Retired, freed_as, IsErasing, CanRenew}
+use Rattle.flash_rule.proofs.Points.{owner_live, player_same, broom_player, broom_no_pass, broom_may_own, may_own_else, put_here, name_here, name_else}
+use Rattle.flash_rule.proofs.Points.{name_all}
+use Rattle.flash_rule.proofs.Owning.{owns_none_else, some_same, with_here, without_else, with_else, holding_with, kind_as, knowledge_as, one_at_rest, get_last}
+use Rattle.flash_rule.proofs.Owning.{put2, put2_here, put2_else, one_with_open, blocks_apart}
 use Rattle.flash_rule.proofs.Still.{still}
-use Rattle.flash_rule.proofs.PinSteps.{Deeds, deeds, turned, pin_turns, pin_turned, block_turned, seat_set}
-use Rattle.flash_rule.proofs.Keeping.{holding_with, kind_as, kind_with, knowledge_as, owned_with, source_with, work_with, knowledge_with}
-
--- ---- who owns a block has the table's numbers
-pub owner_numbers : (z : Numbers) (v : View) (o : Owned) → LawfulKind z v → owned_at o.block v.owns ≡ Some o → v.numbers ≡ z
-owner_numbers z v o kind own = kind.numbers (owner_live v.role (λ is. owns_none_else v.owns o own (kind.owns_none is)))
-
--- ---- the entry of a block that was set or given up
-pub entry_set : (o e : Owned) (owns : List Owned) → owned_at o.block (with_owned o owns) ≡ Some e → o ≡ e
-entry_set o e owns is = some_same o e (sym (with_here o owns) ∙ is)
-
-pub entry_gone : (b : ℕ) (e : Owned) (owns : List Owned) → ¬ (owned_at b (without b owns) ≡ Some e)
-entry_gone b e owns is = absurd (none_some e (sym (without_here b owns) ∙ is))
+use Rattle.flash_rule.proofs.OwnSteps.{IsState, phase_onward, Deeds, deeds, turned, block_owned, IsListed, turns, IsOwning, given_up, got, moved, none_listed}
+use Rattle.flash_rule.proofs.OwnSteps.{work_else, IsTurn}
+use Rattle.flash_rule.proofs.Ceding.{ceded_owned, ceded_last}
+use Rattle.flash_rule.proofs.Places.{row_within}
+use Rattle.flash_rule.specs.BroomPlays.{IsAtRest}
+use Rattle.std.proofs.lemmas.List.{append-nil}
 
 module _ (z : Numbers) (g : World) (vs : List View) (id : ℕ) (v : View) (law : Lawful z g vs) (at : get_elem? vs id ≡ some v) where
   -- a block in a phase without an owner isn't the seat's
@@ -38,14 +31,11 @@ module _ (z : Numbers) (g : World) (vs : List View) (id : ℕ) (v : View) (law :
       → Lawful z g (set vs id (record v { loaded = loaded; lost = lost; busy = busy; stale = stale }))
   notes loaded lost busy stale =
       let h = law.views id v at in
-      let kind = h.kind in
-      let knows = h.knowledge in
-      let holds = h.holding in
       still z g vs id v (record v { loaded = loaded; lost = lost; busy = busy; stale = stale }) law at
       (record {
-        kind = kind_as kind refl refl (refl, refl, refl, refl);
-        knowledge = knowledge_as knows refl;
-        holding = holding_with holds refl refl holds.calls holds.lists holds.owned holds.work holds.source;
+        kind = kind_as h.kind refl refl (refl, refl, refl, refl);
+        knowledge = knowledge_as h.knowledge refl;
+        holding = holding_with h.holding refl refl h.holding.calls h.holding.lists h.holding.owned h.holding.work h.holding.source;
       })
       (λ c. refl) refl refl refl refl refl
 
@@ -53,132 +43,355 @@ module _ (z : Numbers) (g : World) (vs : List View) (id : ℕ) (v : View) (law :
 abbrev pub erased_as : World → (ℕ → ℕ → Option (Name × ℕ)) → (Name → List Cycle) → Deeds
 erased_as g eraser erases = record (deeds g) { eraser = eraser; erases = erases }
 
--- What the seat lists as erased is all that its player did, which stands behind what it had done, while others' lists stay
-pub record IsListed (z : Numbers) (g g' : World) (id : ℕ) (v : View) (erases' : List Cycle) : Type 0 where
-  pub eraser : (c n : ℕ) → 2 * n < age_of (g.pins c) → g'.eraser c n ≡ g.eraser c n
-  pub idle : is_player v.role ≡ false → erases' ≡ []
-  pub erases : (n : Name) → v.role ≡ Player n → Erases z g' n v.erases → Erases z g' n erases'
-  pub lists : (n : Name) → IsDealt g n → Begins (g.erases n) (g'.erases n) × (¬ (g.seat n ≡ id) → g'.erases n ≡ g.erases n)
-  pub listed : (n : Name) → v.role ≡ Player n → g.erases n ≡ v.erases → g'.erases n ≡ erases'
+-- ---- what a seat at rest has
+module _ (z : Numbers) (g : World) (vs : List View) (id : ℕ) (v : View) (b : ℕ) (law : Lawful z g vs) (at : get_elem? vs id ≡ some v)
+    (broom : is_broom v.role ≡ true) (low : b < z.blocks) (rested : IsAtRest v) where
+  -- no source
+  no_source : (x : Source) → v.source ≡ Some x → ⊥
+  no_source x is =
+      let k = (law.views id v at).holding.source x is in
+      let no : Open ≡ Victim = sym (rested x.page.block k.entry k.own) ∙ k.victim in absurd (cc)
 
--- Other blocks of the seat stay, this one is lawful if it is the seat's now, and at most one is drained or erased
-pub record IsOwning (z : Numbers) (g' : World) (id : ℕ) (v : View) (b : ℕ) (owns' : List Owned) (cleared' wiped' : ℕ) : Type 0 where
-  pub there : (c : ℕ) → c ≢ b → owned_at c owns' ≡ owned_at c v.owns
-  pub here : (e : Owned) → owned_at b owns' ≡ Some e → LawfulOwned z g' id v.work cleared' wiped' b e
-  pub opens : is_pass v.role ≡ true → (e : Owned) → owned_at b owns' ≡ Some e → e.phase ≡ Open
-  pub owns_none : may_own v.role ≡ false → owns' ≡ []
-  pub reclaims : ReclaimsOne owns'
+  not_pass : is_pass v.role ≡ true → ⊥
+  not_pass is = let no : true ≡ false = sym is ∙ broom_no_pass v.role broom in absurd (cc)
 
--- The state q of the block b, and what its seat has then, fit together: the new state is onward of the old one, which is nobody else's and
--- not open; what a map word names of the block it may still name; and no more is cleared or wiped than was
-pub record IsTurn (z : Numbers) (g g' : World) (id : ℕ) (v : View) (b : ℕ) (q : PinWord) (owns' : List Owned) (erases' : List Cycle)
-    (cleared' wiped' : ℕ) : Type 0 where
-  pub onward : PinOnward (g.pins b) q
-  pub alone : g.owner b ≢ id → ¬ (is_owned (g.pins b).phase ≡ true)
-  pub shut : ¬ ((g.pins b).phase ≡ Open)
-  pub readers : q.readers ≡ (g.pins b).readers
-  pub written : q.written ≤ z.pages
-  pub generation : q.generation < z.endurance
-  pub free : q.phase ≡ Free → q.written ≡ 0
-  pub rest : is_still q.phase ≡ true → (p : ℕ) → q.written ≤ p → p < z.pages → IsBlank z (g.pages b p)
-  pub owner : is_owned q.phase ≡ true → (e : Owned) × (owned_at b owns' ≡ Some e)
-  pub named : (s : ℕ) (m : MapWord) → s < z.sectors → g.map s ≡ Some m → m.block ≡ b → IsCurrent z g s m
-      → (q.generation ≡ (g.pins b).generation) × (is_nameable q.phase ≡ true) × ((g.pins b).written ≤ q.written)
-  pub listing : IsListed z g g' id v erases'
-  pub owning : IsOwning z g' id v b owns' cleared' wiped'
-  pub cleared : cleared' ≤ v.cleared
-  pub wiped : wiped' ≤ v.wiped
-  pub source : (x : Source) → v.source ≡ Some x → LawfulSource z g v.owns v.cleared x → (x.page.block ≢ b) × (cleared' ≡ v.cleared)
+  owns_some : may_own v.role ≡ false → ⊥
+  owns_some is = let no : true ≡ false = sym (broom_may_own v.role broom) ∙ is in absurd (cc)
 
--- the table after a turn of the block b by which nothing is erased
-abbrev pub turned_block : World → ℕ → PinWord → ℕ → World
-turned_block g b q id = turned g b q id (erased_as g g.eraser g.erases)
+  -- ---- claim
+  abbrev pub claimed_block : Owned
+  claimed_block = owned_as b (g.pins b) Victim
 
--- then all lists of erases stay
-pub no_erase : (z : Numbers) (g : World) (id : ℕ) (v : View) (b : ℕ) (q : PinWord) → LawfulKind z v → IsListed z g (turned_block g b q id) id v v.erases
-no_erase z g id v b q kind =
-    record {
-      eraser = λ c n _. refl;
-      idle = λ is. (kind.idle is).3;
-      erases = λ n _ old. old;
-      lists = λ n _. (Begins-refl (g.erases n), λ _. refl);
-      listed = λ n _ its. its;
-    }
+  abbrev pub claimed_state : PinWord
+  claimed_state = record (g.pins b) { phase = Victim }
 
--- a seat that gives a block up owns its others
-pub given_up : (z : Numbers) (g' : World) (id : ℕ) (v : View) (b cleared wiped : ℕ) → LawfulKind z v → IsOwning z g' id v b (without b v.owns) cleared wiped
-given_up z g' id v b cleared wiped kind =
-    record {
-      there = λ c unlike. without_else b c v.owns unlike;
-      here = λ e is. absurd (entry_gone b e v.owns is);
-      opens = λ _ e is. absurd (entry_gone b e v.owns is);
-      owns_none = λ is. ap (λ l. without b l) (kind.owns_none is);
-      reclaims = one_without b v.owns kind.reclaims;
-    }
+  abbrev pub claimer : View
+  claimer = record v { owns = with_owned claimed_block v.owns; cleared = 0 }
 
--- and one that gets a block, or keeps it in another state, owns it and the others
-pub got : (z : Numbers) (g' : World) (id : ℕ) (v : View) (o : Owned) (cleared wiped : ℕ) → LawfulOwned z g' id v.work cleared wiped o.block o
-    → (is_pass v.role ≡ true → o.phase ≡ Open)
-    → ¬ (may_own v.role ≡ false) → ReclaimsOne (with_owned o v.owns) → IsOwning z g' id v o.block (with_owned o v.owns) cleared wiped
-got z g' id v o cleared wiped fresh opened owner reclaims =
-    record {
-      there = λ c unlike. with_else o c v.owns unlike;
-      here = λ e is. subst (λ (y : Owned). LawfulOwned z g' id v.work cleared wiped o.block y) (entry_set o e v.owns is) fresh;
-      opens = λ pass e is. sym (ap (λ (y : Owned). y.phase) (entry_set o e v.owns is)) ∙ opened pass;
-      owns_none = λ is. absurd (owner is);
-      reclaims = reclaims;
-    }
+  -- a closed block is the broom's victim
+  pub claims : (g.pins b).phase ≡ Closed → Lawful z (moved g b claimed_state id) (set vs id claimer)
+  claims closed =
+      let block = law.blocks b low in
+      let q : PinWord = claimed_state in
+      let fresh : LawfulOwned z (moved g b claimed_state id) id v.work 0 v.wiped b claimed_block =
+      block_owned z g id b q (deeds g) v.work 0 v.wiped claimed_block refl low refl (refl, refl, refl) (λ is. absurd (cc))
+      (λ _ p s below. absurd (omega arith)) (λ is. absurd (cc)) in
+      turns z g vs id v claimer b q (deeds g) law at low
+      (ceded_owned z g.pins vs id v claimer law.ceded at refl b q refl refl refl
+      (inr (refl, (let e : rank (g.pins b).phase ≡ 2 = ap rank closed in omega arith), omega arith)))
+      (record {
+        onward = phase_onward (g.pins b) Victim (let e : half_cycle (g.pins b).phase ≡ 0 = ap half_cycle closed in omega arith) (λ _ _. refl)
+            (λ _ _. ap is_intact closed) (λ is. absurd (cc));
+        alone = λ _ is. let no : true ≡ false = sym is ∙ ap is_owned closed in absurd (cc);
+        state = record { readers = refl; written = block.written; generation = block.generation; free = λ is. absurd (cc) };
+        rest = λ _. block.rest (ap is_still closed);
+        owner = λ _. (claimed_block, with_here claimed_block v.owns);
+        named = λ s m _ _ _ _. (refl, refl, omega arith);
+        listing = none_listed z g id v claimer b q (law.views id v at).kind (λ is. ((law.views id v at).kind.idle is).0) refl refl;
+        owning = got z (moved g b claimed_state id) id v claimer claimed_block fresh (λ is. absurd (not_pass is)) owns_some
+            (one_at_rest claimed_block v.owns rested);
+        no_more = record { filling = λ _ _ _ _ _ f. f; cleared = omega arith; wiped = omega arith };
+        work = work_else z g vs id v claimer b q (deeds g) law at (λ is. let no : Closed ≡ Open = sym closed ∙ is in absurd (cc))
+            (λ c unlike. with_else claimed_block c v.owns unlike);
+        source = λ x is _. absurd (no_source x is);
+      })
 
-module _ (z : Numbers) (g : World) (vs : List View) (id : ℕ) (v : View) (b : ℕ) (q : PinWord) (owns : List Owned) (erases : List Cycle)
-    (cleared wiped : ℕ) (drains : List Cycle) (ceded : List Owned) (eraser : ℕ → ℕ → Option (Name × ℕ)) (listed : Name → List Cycle)
-    (law : Lawful z g vs) (at : get_elem? vs id ≡ some v) (low : b < z.blocks) where
-  abbrev pub turner : View
-  turner = record v { owns = owns; erases = erases; cleared = cleared; wiped = wiped; drains = drains; ceded = ceded }
+  -- ---- condemn
+  abbrev pub condemned_block : Owned
+  condemned_block = owned_as b (g.pins b) Erasing
 
-  -- the rule after such a change
-  pub turns : LawfulCeded z (put g.pins b q) (set vs id turner)
-      → IsTurn z g (turned g b q id (erased_as g eraser listed)) id v b q owns erases cleared wiped
-      → Lawful z (turned g b q id (erased_as g eraser listed)) (set vs id turner)
-  turns given t =
+  abbrev pub condemned_state : PinWord
+  condemned_state = record (g.pins b) { phase = Erasing }
+
+  abbrev pub condemner : View
+  condemner = record v { owns = with_owned condemned_block v.owns; erases = v.erases ++ cycle_of condemned_block ∷ []; wiped = 0 }
+
+  abbrev pub listed : Name → ℕ → ℕ → Option (Name × ℕ)
+  listed n = put2 g.eraser b (g.pins b).generation (Some (n, length v.erases))
+
+  abbrev pub all_erases : Name → Name → List Cycle
+  all_erases n = put_name g.erases n (v.erases ++ cycle_of condemned_block ∷ [])
+
+  abbrev pub condemn_deeds : Name → Deeds
+  condemn_deeds n = erased_as g (listed n) (all_erases n)
+
+  abbrev pub condemn_world : Name → World
+  condemn_world n = turned g b condemned_state id (condemn_deeds n)
+
+  -- the erase is listed as this broom's
+  erase_listed : (n : Name) → v.role ≡ Player n → (n' : Name) → v.role ≡ Player n' → Erases z (condemn_world n) n' v.erases
+      → Erases z (condemn_world n) n' (v.erases ++ cycle_of condemned_block ∷ [])
+  erase_listed n role n' role' old k c is =
+      ⊎_elim (λ (was : slice_get v.erases k ≡ Some c). old k c was)
+      (λ (new : (k ≡ length v.erases) × (cycle_of condemned_block ≡ c)).
+      let q : PinWord = condemned_state in
+      let here : put g.pins b q b ≡ q = put_here g.pins b q in
+      let generation : ℕ = (g.pins b).generation in
+      let same_name : n ≡ n' = player_same n n' (sym role ∙ role') in
+      let older : 2 * generation < age_of (put g.pins b q b) = subst (λ (p : PinWord). 2 * generation < age_of p) (sym here) (omega arith) in
+      let whose : listed n b generation ≡ Some (n', k) = put2_here g.eraser b generation (Some (n, length v.erases)) ∙ λ i. Some (same_name i, sym new.0 i) in
+      subst (λ (c : Cycle). (c.block < z.blocks) × (2 * c.generation < age_of (put g.pins b q c.block))
+      × (listed n c.block c.generation ≡ Some (n', k))) new.1 (low, older, whose))
+      (get_last v.erases (cycle_of condemned_block) c k is)
+
+  erases_listed : (n : Name) → v.role ≡ Player n → (g.pins b).phase ≡ Drained → IsListed z g (condemn_world n) id v condemner
+  erases_listed n role drained =
+      let holds = (law.views id v at).holding in
+      let even : half_cycle (g.pins b).phase ≡ 0 = ap half_cycle drained in
+      record {
+        programmer = λ m _. refl;
+        eraser = λ c k older. put2_else g.eraser b (g.pins b).generation (Some (n, length v.erases)) c k (λ same.
+            let at_b : 2 * k < age_of (g.pins b) = subst (λ j. 2 * k < age_of (g.pins j)) same.0 older in
+            let e = same.1 in absurd (omega arith));
+        idle = λ is. let no : true ≡ false = sym (broom_player v.role broom) ∙ is in absurd (cc);
+        programs = λ _ _ old. old;
+        erases = erase_listed n role;
+        lists = λ m _. record {
+          programs = Begins-refl (g.programs m);
+          erases = name_all g.erases n condemner.erases (λ k l. Begins (g.erases k) l)
+              (cycle_of condemned_block ∷ [], ap (λ l. l ++ cycle_of condemned_block ∷ []) (holds.lists n role).1) (λ k _. Begins-refl (g.erases k)) m;
+          others = λ other. (refl, name_else g.erases n condemner.erases m (λ same. other (ap g.seat same ∙ (holds.name n role).0)));
+        };
+        listed = λ m role' its. (
+          its.0,
+          subst (λ (k : Name). all_erases n k ≡ condemner.erases) (player_same n m (sym role ∙ role')) (name_here g.erases n condemner.erases),
+        );
+      }
+
+  -- a drained block without readers is the broom's to erase
+  pub condemns : (n : Name) → v.role ≡ Player n → (g.pins b).phase ≡ Drained → (g.pins b).readers ≡ 0 → Lawful z (condemn_world n) (set vs id condemner)
+  condemns n role drained unread =
+      let block = law.blocks b low in
+      let q : PinWord = condemned_state in
+      let even : half_cycle (g.pins b).phase ≡ 0 = ap half_cycle drained in
+      let fresh : LawfulOwned z (condemn_world n) id v.work v.cleared 0 b condemned_block =
+      block_owned z g id b q (condemn_deeds n) v.work v.cleared 0 condemned_block refl low refl (refl, refl, refl) (λ is. absurd (cc))
+      (λ is. absurd (cc)) (λ _ p i _ _ below. absurd (omega arith)) in
+      turns z g vs id v condemner b q (condemn_deeds n) law at low
+      (ceded_owned z g.pins vs id v condemner law.ceded at refl b q refl refl refl
+      (inr (refl, (let e : rank (g.pins b).phase ≡ 4 = ap rank drained in omega arith), omega arith)))
+      (record {
+        onward = phase_onward (g.pins b) Erasing (omega arith) (λ some _. absurd (omega arith)) (λ is. absurd (cc)) (λ is. absurd (cc));
+        alone = λ _ is. let no : true ≡ false = sym is ∙ ap is_owned drained in absurd (cc);
+        state = record { readers = refl; written = block.written; generation = block.generation; free = λ is. absurd (cc) };
+        rest = λ is. absurd (cc);
+        owner = λ _. (condemned_block, with_here condemned_block v.owns);
+        named = λ s m _ _ same current. let no : true ≡ false =
+            sym (ap (λ j. is_nameable (g.pins j).phase) (sym same) ∙ current.phase) ∙ ap is_nameable drained in absurd (cc);
+        listing = erases_listed n role drained;
+        owning = got z (condemn_world n) id v condemner condemned_block fresh (λ is. absurd (not_pass is)) owns_some
+            (one_at_rest condemned_block v.owns rested);
+        no_more = record { filling = λ _ _ _ _ _ f. f; cleared = omega arith; wiped = omega arith };
+        work = work_else z g vs id v condemner b q (condemn_deeds n) law at (λ is. let no : Drained ≡ Open = sym drained ∙ is in absurd (cc))
+            (λ c unlike. with_else condemned_block c v.owns unlike);
+        source = λ x is _. absurd (no_source x is);
+      })
+
+-- ---- drain
+module _ (z : Numbers) (g : World) (vs : List View) (id : ℕ) (v : View) (o : Owned) (law : Lawful z g vs) (at : get_elem? vs id ≡ some v) where
+  abbrev pub drained_state : PinWord
+  drained_state = record (g.pins o.block) { phase = Drained }
+
+  abbrev pub drained_block : Owned
+  drained_block = record o { phase = Drained }
+
+  abbrev pub drainer : View
+  drainer = record v { owns = without o.block v.owns; drains = v.drains ++ cycle_of o ∷ []; ceded = v.ceded ++ drained_block ∷ [] }
+
+  -- a victim whose written pages are all cleared is drained, and nobody's
+  pub drains_block : CanDrain v o → Lawful z (moved g o.block drained_state id) (set vs id drainer)
+  drains_block can =
+      let b : ℕ = o.block in
       let h = law.views id v at in
-      let kind = h.kind in
-      let holds = h.holding in
-      let g' : World = turned g b q id (erased_as g eraser listed) in
-      let on : Onward z g g' id id =
-      pin_turns z g id b q id (erased_as g eraser listed) t.onward (λ other is. absurd (t.alone other is)) (λ m _. refl) t.listing.eraser
-      (λ n dealt. let l = t.listing.lists n dealt in record { programs = Begins-refl (g.programs n); erases = l.0; others = λ other. (refl, l.1 other) }) in
-      let knows = knowledge_kept z g g' id id on v (λ c is below. counted vs law id v at c is below) h.knowledge in
-      let elsewhere : (c : ℕ) (e : Owned) → c ≢ b → LawfulOwned z g id v.work v.cleared v.wiped c e → LawfulOwned z g' id v.work cleared wiped c e =
-      λ c e unlike k.
-      let fewer = t.cleared in
-      let less = t.wiped in
-      owned_else z g g' id v.work v.work cleared wiped c e (put_else g.pins b q c unlike) (put_else g.owner b id c unlike) (λ p i. refl)
-      (λ s m is _. inl is) (λ p _ f. f)
-      (owned_with k refl refl k.rest (λ victim p s below. k.dead victim p s (omega arith))
-      (λ erasing p i below most under. k.clean erasing p i below most (omega arith))) in
-      let own : LawfulView z g' id turner = record {
-        kind = kind_with kind refl
-            (λ is c e has. dite (ℕ_discrete c b) (λ same. t.owning.opens is e (ap (λ j. owned_at j owns) (sym same) ∙ has))
-            (λ unlike. kind.opens is c e (sym (t.owning.there c unlike) ∙ has)))
-            (λ is. let i = kind.idle is in (i.0, i.1, i.2, t.listing.idle is)) t.owning.owns_none t.owning.reclaims;
-        knowledge = knowledge_with turner knows refl knows.seen knows.pin knows.known knows.programs
-            (λ n is. t.listing.erases n is (knows.erases n is));
-        holding = holding_with holds refl refl holds.calls
-            (λ n is. ((holds.lists n is).0, t.listing.listed n is (holds.lists n is).1))
-            (λ c e has. dite (ℕ_discrete c b)
-            (λ same. subst (λ j. LawfulOwned z g' id v.work cleared wiped j e) (sym same) (t.owning.here e (ap (λ j. owned_at j owns) (sym same) ∙ has)))
-            (λ unlike. elsewhere c e unlike (holds.owned c e (sym (t.owning.there c unlike) ∙ has))))
-            (λ x is.
-            let k = holds.work x is in
-            let unlike : x.page.block ≢ b =
-            λ same. t.shut (ap (λ j. (g.pins j).phase) (sym same) ∙ ((holds.owned x.page.block k.entry k.own).phase ∙ k.opened)) in
-            work_with k (t.owning.there x.page.block unlike ∙ k.own) (λ _. refl))
-            (λ x is.
-            let k = holds.source x is in
-            let s = t.source x is k in
-            source_with k (t.owning.there x.page.block s.0 ∙ k.own) s.1 (λ _. refl));
-      } in
-      pin_turned z g vs id v turner b q id (erased_as g eraser listed) law at on own t.named
-      (block_turned z g vs id v turner b q id (erased_as g eraser listed) law at low (ap (λ n. n + pins_on b v) t.readers) t.written t.generation t.free
-      t.rest (λ is. let e = t.owner is in (turner, e.0, seat_set vs id v turner at, e.1)))
-      (λ c _. refl) (λ c unlike e is. (e, t.owning.there c unlike ∙ is)) refl given
+      let mine = h.holding.owned b o can.own in
+      let block = law.blocks b mine.low in
+      let victim : (g.pins b).phase ≡ Victim = mine.phase ∙ can.victim in
+      let written_is = mine.written in
+      let cleared = can.cleared in
+      turns z g vs id v drainer b drained_state (deeds g) law at mine.low
+      (ceded_last z g.pins vs id v drainer law.ceded at refl b drained_state mine.low
+      (inr (refl, (let e : rank (g.pins b).phase ≡ 3 = ap rank victim in omega arith), omega arith))
+      drained_block (λ i. record { block = b; phase = Drained; generation = sym mine.generation i; written = sym mine.written i }) refl refl
+      (may_own_else v.role (λ is. owns_none_else v.owns o can.own (h.kind.owns_none is))))
+      (record {
+        onward = phase_onward (g.pins b) Drained (let e : half_cycle (g.pins b).phase ≡ 0 = ap half_cycle victim in omega arith) (λ _ _. refl)
+            (λ _ _. ap is_intact victim) (λ is. absurd (cc));
+        alone = λ other _. other mine.owner;
+        state = record { readers = refl; written = block.written; generation = block.generation; free = λ is. absurd (cc) };
+        rest = λ _. block.rest (ap is_still victim);
+        owner = λ is. absurd (cc);
+        named = λ s m in_range is same current.
+            let page : m.page < (g.pins b).written = subst (λ j. m.page < (g.pins j).written) same current.written in
+            let generation : m.generation ≡ o.generation = sym current.same ∙ (ap (λ j. (g.pins j).generation) same ∙ mine.generation) in
+            absurd (mine.dead can.victim m.page s (omega arith) in_range
+            (is ∙ λ i. Some (record { generation = generation i; block = same i; page = m.page })));
+        listing = none_listed z g id v drainer b drained_state h.kind (λ is. (h.kind.idle is).0) refl refl;
+        owning = given_up z (moved g o.block drained_state id) id v drainer b h.kind;
+        no_more = record { filling = λ _ _ _ _ _ f. f; cleared = omega arith; wiped = omega arith };
+        work = work_else z g vs id v drainer b drained_state (deeds g) law at (λ is. let no : Victim ≡ Open = sym victim ∙ is in absurd (cc))
+            (λ c unlike. without_else b c v.owns unlike);
+        source = λ x is k. (
+          (λ same.
+              let P : ℕ → Type 0 = λ c. owned_at c v.owns ≡ Some k.entry in
+              let e : o ≡ k.entry = some_same o k.entry (sym can.own ∙ subst P same k.own) in
+              let w : o.written ≡ k.entry.written = ap (λ (y : Owned). y.written) e in
+              let p = k.page in
+              let r = k.written in absurd (omega arith)),
+          refl,
+        );
+      })
+
+module _ (z : Numbers) (g : World) (vs : List View) (id : ℕ) (v : View) (o : Owned) (law : Lawful z g vs) (at : get_elem? vs id ≡ some v)
+    (erasing : IsErasing v o) where
+  entry : LawfulOwned z g id v.work v.cleared v.wiped o.block o
+  entry = (law.views id v at).holding.owned o.block o erasing.own
+
+  pub erasing_low : o.block < z.blocks
+  erasing_low = entry.low
+
+  pub is_erasing : (g.pins o.block).phase ≡ Erasing
+  is_erasing = entry.phase ∙ erasing.erasing
+
+  pub erasing_written : (g.pins o.block).written ≡ o.written
+  erasing_written = entry.written
+
+  -- the block of a source is another one
+  source_else : (x : Source) → LawfulSource z g v.owns v.cleared x → x.page.block ≢ o.block
+  source_else x k = blocks_apart v.owns o k.entry x.page.block erasing.own k.own
+      (λ e. let no : Erasing ≡ Victim = sym erasing.erasing ∙ (e ∙ k.victim) in absurd (cc))
+
+  not_intact : is_intact (g.pins o.block).phase ≡ true → ⊥
+  not_intact is = let no : true ≡ false = sym is ∙ ap is_intact is_erasing in absurd (cc)
+
+  not_named : is_nameable (g.pins o.block).phase ≡ true → ⊥
+  not_named is = let no : true ≡ false = sym is ∙ ap is_nameable is_erasing in absurd (cc)
+
+  not_open : (g.pins o.block).phase ≡ Open → ⊥
+  not_open is = let no : Erasing ≡ Open = sym is_erasing ∙ is in absurd (cc)
+
+  eraser_numbers : v.numbers ≡ z
+  eraser_numbers = (law.views id v at).kind.numbers (owner_live v.role (λ is. owns_none_else v.owns o erasing.own ((law.views id v at).kind.owns_none is)))
+
+  eraser_owns : may_own v.role ≡ true
+  eraser_owns = may_own_else v.role (λ is. owns_none_else v.owns o erasing.own ((law.views id v at).kind.owns_none is))
+
+  -- a turn of the block: what is told of its new state is all that has to be shown
+  turn_with : (q : PinWord) (owns ceded : List Owned) → PinOnward (g.pins o.block) q → IsState z (g.pins o.block) q
+      → (is_still q.phase ≡ true → (p : ℕ) → q.written ≤ p → p < z.pages → IsBlank z (g.pages o.block p))
+      → (is_owned q.phase ≡ true → (e : Owned) × (owned_at o.block owns ≡ Some e))
+      → IsOwning z (moved g o.block q id) id v (record v { owns = owns; ceded = ceded }) o.block
+      → IsTurn z g id v (record v { owns = owns; ceded = ceded }) o.block q (deeds g)
+  turn_with q owns ceded onward state rest owner owning =
+      let kind = (law.views id v at).kind in
+      let w : View = record v { owns = owns; ceded = ceded } in
+      record {
+        onward = onward;
+        alone = λ other _. other entry.owner;
+        state = state;
+        rest = rest;
+        owner = owner;
+        named = λ s m _ _ same current. absurd (not_named (ap (λ j. is_nameable (g.pins j).phase) (sym same) ∙ current.phase));
+        listing = none_listed z g id v w o.block q kind (λ is. (kind.idle is).0) refl refl;
+        owning = owning;
+        no_more = record { filling = λ _ _ _ _ _ f. f; cleared = omega arith; wiped = omega arith };
+        work = work_else z g vs id v w o.block q (deeds g) law at not_open owning.there;
+        source = λ x _ k. (source_else x k, refl);
+      }
+
+  -- ---- retire
+  abbrev pub retired_state : PinWord
+  retired_state = record (g.pins o.block) { phase = Retired }
+
+  abbrev pub retired_block : Owned
+  retired_block = record o { phase = Retired }
+
+  abbrev pub retirer : View
+  retirer = record v { owns = without o.block v.owns; ceded = v.ceded ++ retired_block ∷ [] }
+
+  -- a block that is being erased retires
+  pub retires : Lawful z (moved g o.block retired_state id) (set vs id retirer)
+  retires =
+      let b : ℕ = o.block in
+      let h = law.views id v at in
+      let block = law.blocks b entry.low in
+      turns z g vs id v retirer b retired_state (deeds g) law at entry.low
+      (ceded_last z g.pins vs id v retirer law.ceded at refl b retired_state entry.low
+      (inr (refl, (let e : rank (g.pins b).phase ≡ 5 = ap rank is_erasing in omega arith), omega arith))
+      retired_block (λ i. record { block = b; phase = Retired; generation = sym entry.generation i; written = sym entry.written i }) refl
+      (sym (append-nil v.drains)) eraser_owns)
+      (turn_with retired_state (without b v.owns) (v.ceded ++ retired_block ∷ [])
+      (phase_onward (g.pins b) Retired (let e : half_cycle (g.pins b).phase ≡ 1 = ap half_cycle is_erasing in omega arith)
+      (λ _ is. absurd (not_intact is)) (λ is. absurd (cc)) (λ is. absurd (cc)))
+      (record { readers = refl; written = block.written; generation = block.generation; free = λ is. absurd (cc) }) (λ is. absurd (cc)) (λ is. absurd (cc))
+      (given_up z (moved g o.block retired_state id) id v retirer b h.kind))
+
+  -- ---- the next generation
+  -- all words of a wiped block are ones
+  all_blank : CanRenew v o → (p : ℕ) → p < z.pages → IsBlank z (g.pages o.block p)
+  all_blank can p below i most =
+      let clean = can.clean in
+      let words : v.numbers.pages * (v.numbers.words + 1) ≡ z.pages * (z.words + 1) = ap (λ (y : Numbers). y.pages * (y.words + 1)) eraser_numbers in
+      let within = row_within p z.pages (z.words + 1) i below (omega arith) in
+      entry.clean erasing.erasing p i below most (omega arith)
+
+  young : CanRenew v o → (g.pins o.block).generation + 1 < z.endurance
+  young can =
+      let a = can.another in
+      let same : v.numbers.endurance ≡ z.endurance = ap (λ (y : Numbers). y.endurance) eraser_numbers in
+      let e = entry.generation in omega arith
+
+  renewed : (q : PinWord) → q.generation ≡ (g.pins o.block).generation + 1 → PinOnward (g.pins o.block) q
+  renewed q next =
+      record {
+        generation = omega arith;
+        age = (let e : half_cycle (g.pins o.block).phase ≡ 1 = ap half_cycle is_erasing in omega arith);
+        written = λ same. absurd (omega arith);
+        held = λ _ is. absurd (not_intact is);
+        was = λ same. absurd (omega arith);
+        free = λ same. absurd (omega arith);
+      }
+
+  -- ---- free
+  abbrev pub freed_state : PinWord
+  freed_state = record (g.pins o.block) { phase = Free; written = 0; generation = (g.pins o.block).generation + 1 }
+
+  abbrev pub freer : View
+  freer = record v { owns = without o.block v.owns; ceded = v.ceded ++ freed_as o ∷ [] }
+
+  -- a wiped block is free in its next generation
+  pub frees : CanRenew v o → Lawful z (moved g o.block freed_state id) (set vs id freer)
+  frees can =
+      let b : ℕ = o.block in
+      let h = law.views id v at in
+      turns z g vs id v freer b freed_state (deeds g) law at entry.low
+      (ceded_last z g.pins vs id v freer law.ceded at refl b freed_state entry.low (inl (omega arith)) (freed_as o)
+      (λ i. record { block = b; phase = Free; generation = sym entry.generation i + 1; written = 0 }) refl (sym (append-nil v.drains)) eraser_owns)
+      (turn_with freed_state (without b v.owns) (v.ceded ++ freed_as o ∷ []) (renewed freed_state refl)
+      (record { readers = refl; written = omega arith; generation = young can; free = λ _. refl })
+      (λ _ p _ below. all_blank can p below) (λ is. absurd (cc)) (given_up z (moved g o.block freed_state id) id v freer b h.kind))
+
+  -- ---- keep
+  abbrev pub kept_block : Owned
+  kept_block = record { block = o.block; phase = Open; generation = o.generation + 1; written = 0 }
+
+  abbrev pub kept_state : PinWord
+  kept_state = record (g.pins o.block) { phase = Open; written = 0; generation = (g.pins o.block).generation + 1 }
+
+  abbrev pub keeper : View
+  keeper = record v { owns = with_owned kept_block v.owns }
+
+  -- a wiped block is its eraser's, open in its next generation
+  pub keeps_block : CanRenew v o → Lawful z (moved g o.block kept_state id) (set vs id keeper)
+  keeps_block can =
+      let b : ℕ = o.block in
+      let h = law.views id v at in
+      let fresh : LawfulOwned z (moved g o.block kept_state id) id v.work v.cleared v.wiped b kept_block =
+      block_owned z g id b kept_state (deeds g) v.work v.cleared v.wiped kept_block refl entry.low refl (refl, ap (λ k. k + 1) entry.generation, refl)
+      (λ _ p _ below _. all_blank can p below) (λ is. absurd (cc)) (λ is. absurd (cc)) in
+      turns z g vs id v keeper b kept_state (deeds g) law at entry.low
+      (ceded_owned z g.pins vs id v keeper law.ceded at refl b kept_state refl refl refl (inl (omega arith)))
+      (turn_with kept_state (with_owned kept_block v.owns) v.ceded (renewed kept_state refl)
+      (record { readers = refl; written = omega arith; generation = young can; free = λ is. absurd (cc) })
+      (λ is. absurd (cc)) (λ _. (kept_block, with_here kept_block v.owns))
+      (got z (moved g o.block kept_state id) id v keeper kept_block fresh (λ _. refl) (λ is. owns_none_else v.owns o erasing.own (h.kind.owns_none is))
+      (one_with_open kept_block v.owns refl h.kind.reclaims)))

@@ -1,11 +1,41 @@
--- A pin word after a step on it that keeps the rule, and the block that a step's place is of.
-use Rattle.flash_rule.proofs.Words.{◌≡◌, ℕ, ◌+◌, ◌%◌, ◌^◌, ◌<◌, Some, set, sym, ap, ◌∙◌, subst, arith, get_or, State, keeps, stepped, Numbers}
-use Rattle.flash_rule.proofs.Words.{pin_word, FitsPin, pin_index, PinWord, Owned, View, owned_at, World, Fits, put, Lawful, Ruled, Sitter, adds}
-use Rattle.flash_rule.proofs.Points.{put_here}
-use Rattle.flash_rule.proofs.Places.{fits_load, fits_pin, pin_within}
-use Rattle.flash_rule.proofs.Owning.{some_same}
-use Rattle.flash_rule.proofs.Assembly.{state_fits}
-use Rattle.flash_rule.proofs.PinSteps.{Deeds, turned}
+-- A word after a step on it that keeps the rule, and the block that a step's place is of.
+use Rattle.flash_rule.proofs.Words.{◌≡◌, ℕ, ◌+◌, ◌%◌, ◌^◌, ◌<◌, List, Option, Some, set, sym, refl, ap, ◌∙◌, subst, arith, get_or, get_elem?, some, State, Act}
+use Rattle.flash_rule.proofs.Words.{Valid, keeps, stepped, carried_after, Allows, Call, Numbers, pin_word, FitsPin, pin_index, MapWord, PinWord, Owned, View}
+use Rattle.flash_rule.proofs.Words.{owned_at, World, Fits, sector_word, put, LawfulKind, Lawful, Ruled, Sitter, adds}
+use Rattle.flash_rule.proofs.Points.{owner_live, put_here}
+use Rattle.flash_rule.proofs.Places.{fits_load, fits_map, fits_pin, pin_within}
+use Rattle.flash_rule.proofs.Owning.{some_same, owns_none_else}
+use Rattle.flash_rule.proofs.Frames.{state_fits}
+use Rattle.flash_rule.proofs.OwnSteps.{Deeds, deeds, turned}
+use Rattle.geometry.specs.Limits.{table_words_of}
+
+module _ (z : Numbers) (id : ℕ) (me : Sitter) (t : State (Unit {0}) View) where
+  -- what the table asks for a step that holds no slot
+  abbrev pub Does : ℕ → ℕ → (Sitter → Type 0) → Type 0
+  Does k new Tells =
+      (w : View) × (a : Act (Unit {0})) × Valid t.homes me.1 a × Ruled z (stepped t k new id me.1 w a) × Tells (w, carried_after me.1 a)
+
+  pub does : (k new : ℕ) (Tells : Sitter → Type 0) (w : View) → Ruled z (stepped t k new id me.1 w keeps) → Tells (w, me.1) → Does k new Tells
+  does k new Tells w ruled told = (w, keeps, tt, ruled, told)
+
+  module _ (g : World) (fits : Fits z g.map g.pins g.pages t.words) where
+    -- a word that stays
+    pub ruled_kept : (k : ℕ) (w : View) (new : ℕ) → k < table_words_of z.blocks z.pages z.words z.sectors → new ≡ get_or t.words k 0
+        → Lawful z g (set t.views id w) → Ruled z (stepped t k new id me.1 w keeps)
+    ruled_kept k w new within is lawful = (
+      g,
+      subst (λ y. Fits z g.map g.pins g.pages (set t.words k y)) (sym is) (fits_load z g.map g.pins g.pages t.words fits k within),
+      lawful,
+    )
+
+    -- a map word that names another page, or none, with the history that there is then
+    pub ruled_map : (s : ℕ) (m : Option MapWord) (history : List Call) (w : View) (new : ℕ) → s < z.sectors → new ≡ sector_word m
+        → Lawful z (record g { history = history; map = put g.map s m }) (set t.views id w) → Ruled z (stepped t s new id me.1 w keeps)
+    ruled_map s m history w new low is lawful = (
+      record g { history = history; map = put g.map s m },
+      subst (λ y. Fits z (put g.map s m) g.pins g.pages (set t.words s y)) (sym is) (fits_map z g.map g.pins g.pages t.words fits s m low),
+      lawful,
+    )
 
 module _ (z : Numbers) (id : ℕ) (me : Sitter) (t : State (Unit {0}) View) (g : World) (fits : Fits z g.map g.pins g.pages t.words) (b : ℕ)
     (low : b < z.blocks) where
@@ -31,12 +61,12 @@ module _ (z : Numbers) (id : ℕ) (me : Sitter) (t : State (Unit {0}) View) (g :
 
   -- it stays
   pub ruled_still : (w : View) (new : ℕ) → new ≡ word_of → Lawful z g (set t.views id w) → Ruled z (stepped t (pin_index z b) new id me.1 w keeps)
-  ruled_still w new is lawful = (
-    g,
-    subst (λ y. Fits z g.map g.pins g.pages (set t.words (pin_index z b) y)) (sym is)
-        (fits_load z g.map g.pins g.pages t.words fits (pin_index z b) (pin_within z b low)),
-    lawful,
-  )
+  ruled_still w new is lawful =
+      ruled_kept z id me t g fits (pin_index z b) w new (pin_within z b low) is lawful
+
+-- who owns a block has the table's numbers
+pub owner_numbers : (z : Numbers) (v : View) (o : Owned) → LawfulKind z v → owned_at o.block v.owns ≡ Some o → v.numbers ≡ z
+owner_numbers z v o kind own = kind.numbers (owner_live v.role (λ is. owns_none_else v.owns o own (kind.owns_none is)))
 
 module _ (z : Numbers) (me : Sitter) (numbers : me.0.numbers ≡ z) where
   pub same_block : (b c : ℕ) → pin_index z b ≡ pin_index me.0.numbers c → b ≡ c
@@ -45,3 +75,21 @@ module _ (z : Numbers) (me : Sitter) (numbers : me.0.numbers ≡ z) where
   pub same_owned : (o e : Owned) → owned_at o.block me.0.owns ≡ Some o → owned_at e.block me.0.owns ≡ Some e
       → pin_index z o.block ≡ pin_index me.0.numbers e.block → o ≡ e
   same_owned o e here there is = some_same o e (sym here ∙ (ap (λ c. owned_at c me.0.owns) (same_block o.block e.block is) ∙ there))
+
+-- a step by which an owner adds to its block's word, where its view after the step is told of each block of which it may be
+pub owner_adds : (z : Numbers) (slots id : ℕ) (me : Sitter) (o : Owned) (added : ℕ) (May : Owned → Type 0) (after : Owned → View)
+    → ((e : Owned) → May e → owned_at e.block me.0.owns ≡ Some e) → May o
+    → ((g : World) (vs : List View) → Lawful z g vs → get_elem? vs id ≡ some me.0
+    → (q : PinWord) × (pin_word (g.pins o.block) + added ≡ pin_word q) × Lawful z (turned g o.block q id (deeds g)) (set vs id (after o)))
+    → Allows (Ruled z) slots id me (pin_index z o.block) (λ n. (n + added) % 2 ^ 64)
+    (λ n w. (w.1 ≡ me.1) × ((e : Owned) → May e → pin_index z o.block ≡ pin_index me.0.numbers e.block → w.0 ≡ after e))
+owner_adds z slots id me o added May after own may steps t (g, fits, law) _ at _ =
+    let h = law.views id me.0 at in
+    let numbers = owner_numbers z me.0 o h.kind (own o may) in
+    let s = steps g t.views law at in (
+      after o,
+      keeps,
+      tt,
+      ruled_plus z id me t g fits o.block (h.holding.owned o.block o (own o may)).low s.0 id (deeds g) (after o) added s.1 s.2,
+      (refl, λ e may' is. ap after (same_owned z me numbers o e (own o may) (own e may') is)),
+    )

@@ -1,20 +1,17 @@
 -- Seats that are split off another and joined into one: passes dealt, and the moves of notes.
-use Rattle.flash_rule.proofs.Words.{◌≡◌, ◌≢◌, ℕ, zero, suc, ◌+◌, ◌-◌, ◌<◌, ◌≤◌, ◌⊎◌, inl, inr, ⊎_elim, true, List, [], ◌∷◌, ◌++◌, None, Some, length}
-use Rattle.flash_rule.proofs.Words.{set, replicate, sym, refl, ap, ◌∙◌, subst, arith, length-set, length-replicate, get_or, some, some-injective}
-use Rattle.flash_rule.proofs.Words.{some-ne-none, get_elem?, Splits, at_set, at_longer, Begins-refl, Numbers, PinWord, Name, Pass, Broom, Dealer}
-use Rattle.flash_rule.proofs.Words.{Player, Note, Owned, Pin, Clear, View, one_if, total, is_player, is_live_role, pin_is_on, pins_on, weight}
-use Rattle.flash_rule.proofs.Words.{role_weight, owned_at, AreOfHosts, calls_of, World, put_name, is_owned, is_still, is_nameable, LawfulCeded, held}
-use Rattle.flash_rule.proofs.Words.{Free, LawfulSector, LawfulBlock, LawfulView, Lawful, IsDealt, Onward, Ruled, LawfulHolding, LawfulKnowledge}
-use Rattle.flash_rule.proofs.Words.{LawfulOwned, age_of}
-use Rattle.flash_rule.specs.Seats.{newcomer, new_pass, dealt_pass}
-use Rattle.flash_rule.proofs.Roles.{player_same}
-use Rattle.flash_rule.proofs.Points.{total_set, name_here, name_else, name_all}
-use Rattle.flash_rule.proofs.Owning.{none_some, nothing}
+use Rattle.flash_rule.proofs.Words.{◌≡◌, ◌≢◌, ℕ, zero, suc, ◌+◌, ◌-◌, ◌<◌, ◌≤◌, ◌⊎◌, inl, inr, ⊎_elim, true, List, [], ◌∷◌, ◌++◌, None, Some, length, set, Role}
+use Rattle.flash_rule.proofs.Words.{replicate, sym, refl, ap, ◌∙◌, subst, arith, length-set, length-replicate, get_or, some, some-injective, some-ne-none, Bool}
+use Rattle.flash_rule.proofs.Words.{get_elem?, Splits, at_set, at_longer, Begins-refl, Numbers, PinWord, Name, Pass, Broom, Dealer, Player, Note, Owned, Pin}
+use Rattle.flash_rule.proofs.Words.{Clear, View, one_if, total, is_player, is_live_role, pin_is_on, pins_on, weight, role_weight, owned_at, AreOfHosts, Option}
+use Rattle.flash_rule.proofs.Words.{calls_of, World, put_name, is_owned, is_still, is_nameable, LawfulCeded, held, Free, LawfulSector, LawfulBlock, LawfulView}
+use Rattle.flash_rule.proofs.Words.{Lawful, IsDealt, Onward, Ruled, LawfulHolding, LawfulKnowledge, LawfulOwned, age_of, Carried, is_pass, Open, may_own, false}
+use Rattle.flash_rule.proofs.Words.{LawfulKind}
+use Rattle.flash_rule.proofs.Points.{player_same, total_set, name_here, name_else, name_all}
+use Rattle.flash_rule.proofs.Owning.{none_some, not_reclaimed, nothing, kind_as, knowledge_as, owned_as}
 use Rattle.flash_rule.proofs.Ceding.{ceded_split}
-use Rattle.flash_rule.proofs.Frames.{counted, others, knowledge_kept, lists_stay}
-use Rattle.flash_rule.proofs.Assembly.{owner_kept, sector_kept}
+use Rattle.flash_rule.proofs.Frames.{counted, others, knowledge_kept, lists_stay, owner_kept, sector_kept}
 use Rattle.flash_rule.proofs.Still.{pin_stays}
-use Rattle.flash_rule.proofs.Keeping.{kind_as, knowledge_as, owned_as}
+use Rattle.flash_rule.specs.Seats.{newcomer, new_pass, dealt_pass}
 
 at_end : {X : Type 0} (xs : List X) (x y : X) (j : ℕ) → get_elem? (xs ++ x ∷ []) j ≡ some y → (get_elem? xs j ≡ some y) ⊎ ((j ≡ length xs) × (x ≡ y))
 at_end [] x y zero e = inr (refl, some-injective x y e)
@@ -26,17 +23,9 @@ total_end : (f : View → ℕ) (vs : List View) (v : View) → total f (vs ++ v 
 total_end f [] v = omega arith
 total_end f (x ∷ vs) v = let r = total_end f vs v in omega arith
 
-seat_low : (vs : List View) (id : ℕ) (v : View) → get_elem? vs id ≡ some v → id < length vs
-seat_low [] id v at = absurd (some-ne-none v (sym at))
-seat_low (x ∷ vs) zero v at = omega arith
-seat_low (x ∷ vs) (suc id) v at = let r = seat_low vs id v at in omega arith
-
 -- ---- names
-pass_same : (t u : ℕ) → Player (Pass t) ≡ Player (Pass u) → t ≡ u
-pass_same t u e = cc
-
-broom_or_pass : (u t : ℕ) → Pass u ≡ Pass t → u ≡ t
-broom_or_pass u t e = cc
+passes_same : (t u : ℕ) → Pass t ≡ Pass u → t ≡ u
+passes_same t u e = cc
 
 alike : (n b c : ℕ) → get_or (replicate n c) b c ≡ c
 alike zero b c = refl
@@ -44,7 +33,7 @@ alike (suc n) zero c = refl
 alike (suc n) (suc b) c = alike n b c
 
 fresh_name : (g : World) (t : ℕ) → g.passes ≤ t → (m : Name) → IsDealt g m → ¬ (m ≡ Pass t)
-fresh_name g t high (Pass u) low e = let same : u ≡ t = broom_or_pass u t e in absurd (omega arith)
+fresh_name g t high (Pass u) low e = let same : u ≡ t = passes_same u t e in absurd (omega arith)
 fresh_name g t high (Broom j) low e = absurd (cc)
 
 dealt_more : (g g' : World) → g'.passes ≡ g.passes + 1 → g'.brooms ≡ g.brooms → (m : Name) → IsDealt g m → IsDealt g' m
@@ -128,6 +117,63 @@ module _ (z : Numbers) (g g' : World) (vs : List View) (id : ℕ) (v l r : View)
             (λ o is. (o, ap (λ (x : List Owned). owned_at b x) owns ∙ is)) in
             (k.0, k.1, at_longer (set vs id l) (r ∷ []) (g'.owner b) k.0 k.2, k.3)
 
+-- ---- a new seat, which has no pin, no work and no lists
+abbrev pub fresh : Numbers → Role → List ℕ → List Owned → Bool → Option Name → Option Carried → View
+fresh numbers role known owns whole guest copy =
+    record (newcomer numbers role) { known = known; owns = owns; whole = whole; guest = guest; copy = copy }
+
+-- its kind, if all its blocks are open
+pub kind_fresh : {z : Numbers} (numbers : Numbers) (role : Role) (known : List ℕ) (owns : List Owned) (whole : Bool) (guest : Option Name)
+    (copy : Option Carried) → (is_live_role role ≡ true → numbers ≡ z) → (is_pass role ≡ true → length known ≡ z.blocks)
+    → ((b : ℕ) (o : Owned) → owned_at b owns ≡ Some o → o.phase ≡ Open) → (may_own role ≡ false → owns ≡ [])
+    → ((n m : Name) → role ≡ Player n → guest ≡ Some m → whole ≡ true) → LawfulKind z (fresh numbers role known owns whole guest copy)
+kind_fresh numbers role known owns whole guest copy same long opened none host =
+    record {
+      numbers = same;
+      host = host;
+      known = long;
+      opens = λ _ b o is. opened b o is;
+      unpinned = λ _. refl;
+      idle = λ _. (refl, refl, refl, refl);
+      owns_none = none;
+      reclaims = λ b c o e is _ first. absurd (not_reclaimed o (opened b o is) first);
+    }
+
+-- it knows only ages that all blocks have reached
+pub knowledge_fresh : {z : Numbers} {g : World} (numbers : Numbers) (role : Role) (known : List ℕ) (owns : List Owned) (whole : Bool)
+    → ((b : ℕ) → b < z.blocks → get_or known b 0 ≤ age_of (g.pins b)) → LawfulKnowledge z g (fresh numbers role known owns whole None None)
+knowledge_fresh {z} {g} numbers role known owns whole ages =
+    record {
+      seen = (g.history, refl);
+      pin = tt;
+      known = ages;
+      programs = λ m is k x at. absurd (nothing k x at);
+      erases = λ m is k x at. absurd (nothing k x at);
+      copy = λ c is. absurd (none_some c is);
+      older = λ o c is. absurd (none_some o is);
+      out = λ m c d _ is. absurd (none_some c is);
+    }
+
+-- a seat without a name has no calls, no lists, no work and no badge of its own
+pub holding_unnamed : {z : Numbers} {g : World} {id : ℕ} (w : View) → ((m : Name) → ¬ (w.role ≡ Player m)) → (w.work ≡ None) × (w.source ≡ None)
+    → ((b : ℕ) (o : Owned) → owned_at b w.owns ≡ Some o → LawfulOwned z g id w.work w.cleared w.wiped b o)
+    → ((m : Name) → w.guest ≡ Some m → (g.badge m ≡ id) × IsDealt g m) → ((m : Name) → w.role ≡ Note → w.guest ≡ Some m → g.carries m ≡ w.copy)
+    → (w.role ≡ Dealer → (id ≡ 0) × (w.passes ≡ g.passes) × (w.brooms ≡ g.brooms)) → LawfulHolding z g id w
+holding_unnamed w nameless idle owned guest note dealer =
+    record {
+      name = λ m is. absurd (nameless m is);
+      calls = λ t is. absurd (nameless (Pass t) is);
+      lists = λ m is. absurd (nameless m is);
+      owned = owned;
+      work = λ x is. absurd (none_some x (sym idle.0 ∙ is));
+      source = λ x is. absurd (none_some x (sym idle.1 ∙ is));
+      whole = λ _ m is. absurd (nameless m is);
+      guest = guest;
+      note = note;
+      home = λ m is. absurd (nameless m is);
+      dealer = dealer;
+    }
+
 -- the table with one player more, which has the seat `new`
 abbrev pub dealt_world : World → Name → ℕ → ℕ → ℕ → (ℕ → ℕ) → World
 dealt_world g n new passes brooms owner =
@@ -172,37 +218,11 @@ module _ (z : Numbers) (g : World) (id new : ℕ) (n : Name) (passes brooms : �
       → ((b : ℕ) (o : Owned) → owned_at b w.owns ≡ Some o → LawfulOwned z after_deal id w.work w.cleared w.wiped b o)
       → (id ≡ 0) × (w.passes ≡ passes) × (w.brooms ≡ brooms) → LawfulHolding z after_deal id w
   dealer_holding w role idle guest owned counts =
-      let not_player : (m : Name) → w.role ≡ Player m → ⊥ = λ m is. let e : Dealer ≡ Player m = sym role ∙ is in absurd (cc) in
-      record {
-        name = λ m is. absurd (not_player m is);
-        calls = λ t is. absurd (not_player (Pass t) is);
-        lists = λ m is. absurd (not_player m is);
-        owned = owned;
-        work = λ x is. absurd (none_some x (sym idle.0 ∙ is));
-        source = λ x is. absurd (none_some x (sym idle.1 ∙ is));
-        whole = λ _ m is. absurd (not_player m is);
-        guest = λ m is. let k = guest m is in (name_else g.badge n new m (not_yet m k.1) ∙ k.0, still_dealt m k.1);
-        note = λ m is. let e : Dealer ≡ Note = sym role ∙ is in absurd (cc);
-        home = λ m is. absurd (not_player m is);
-        dealer = λ _. counts;
-      }
+      holding_unnamed w (λ m is. let e : Dealer ≡ Player m = sym role ∙ is in absurd (cc)) idle owned
+      (λ m is. let k = guest m is in (name_else g.badge n new m (not_yet m k.1) ∙ k.0, still_dealt m k.1))
+      (λ m is. let e : Dealer ≡ Note = sym role ∙ is in absurd (cc)) (λ _. counts)
 
-  -- the new player knows only ages that all blocks have reached
-  pub new_knowledge : (numbers : Numbers) (known : List ℕ) (owns : List Owned) → ((b : ℕ) → b < z.blocks → get_or known b 0 ≤ age_of (g.pins b))
-      → LawfulKnowledge z after_deal (record (newcomer numbers (Player n)) { known = known; owns = owns; whole = true })
-  new_knowledge numbers known owns ages =
-      record {
-        seen = (g.history, refl);
-        pin = tt;
-        known = ages;
-        programs = λ m is k x at. absurd (nothing k x at);
-        erases = λ m is k x at. absurd (nothing k x at);
-        copy = λ c is. absurd (none_some c is);
-        older = λ o c is. absurd (none_some o is);
-        out = λ m c d _ is. absurd (none_some c is);
-      }
-
-  -- and has its name, its badge, and the blocks that the dealer gave it
+  -- the new player has its name, its badge, and the blocks that the dealer gave it
   pub new_holding : (numbers : Numbers) (known : List ℕ) (owns : List Owned) → IsDealt after_deal n → ((t : ℕ) → n ≡ Pass t → calls_of t g.history ≡ [])
       → ((b : ℕ) (o : Owned) → owned_at b owns ≡ Some o → LawfulOwned z after_deal new None 0 0 b o)
       → LawfulHolding z after_deal new (record (newcomer numbers (Player n)) { known = known; owns = owns; whole = true })
@@ -223,17 +243,13 @@ module _ (z : Numbers) (g : World) (id new : ℕ) (n : Name) (passes brooms : �
         dealer = λ is. absurd (cc);
       }
 
-passes_same : (t u : ℕ) → Pass t ≡ Pass u → t ≡ u
-passes_same t u e = cc
-
 module _ (z : Numbers) (id : ℕ) (v : View) where
   -- DEAL. The dealer hands out the next pass
   pub deals_pass : v.role ≡ Dealer → v.passes < v.numbers.hosts → Splits (Ruled z) id v (dealt_pass v) (new_pass v)
   deals_pass role room s (g, fits, law) at =
       let vs = s.views in
       let h = law.views id v at in
-      let kind = h.kind in
-      let numbers : v.numbers ≡ z = kind.numbers (ap is_live_role role) in
+      let numbers : v.numbers ≡ z = h.kind.numbers (ap is_live_role role) in
       let hosts : v.numbers.hosts ≡ z.hosts = ap (λ (y : Numbers). y.hosts) numbers in
       let d = h.holding.dealer role in
       let passes_is = d.1 in
@@ -244,25 +260,18 @@ module _ (z : Numbers) (id : ℕ) (v : View) where
       let still_dealt : (m : Name) → IsDealt g m → IsDealt g' m = dealt_more g g' refl refl in
       let on : Onward z g g' id id = dealt_onward z g id new n (g.passes + 1) g.brooms g.owner not_yet still_dealt d.0 (λ b _. refl) in
       let knows = knowledge_kept z g g' id id on v (λ b is below. counted vs law id v at b is below) h.knowledge in
-      let idle = kind.idle (ap is_player role) in
+      let idle = h.kind.idle (ap is_player role) in
       let own : LawfulView z g' id (dealt_pass v) = record {
-        kind = kind_as kind refl refl (refl, refl, refl, refl);
+        kind = kind_as h.kind refl refl (refl, refl, refl, refl);
         knowledge = knowledge_as knows refl;
         holding = dealer_holding z g id new n (g.passes + 1) g.brooms g.owner not_yet still_dealt (dealt_pass v) role (idle.0, idle.1) h.holding.guest
             (λ b o is. owned_as (h.holding.owned b o is) refl refl refl refl) (d.0, ap (λ k. k + 1) d.1, d.2);
       } in
       let added : LawfulView z g' new (new_pass v) = record {
-        kind = record {
-          numbers = λ _. numbers;
-          host = λ k m is guest. absurd (none_some m guest);
-          known = λ _. length-replicate v.numbers.blocks 0 ∙ ap (λ (y : Numbers). y.blocks) numbers;
-          opens = λ _ b o is. absurd (none_some o is);
-          unpinned = λ is. absurd (cc);
-          idle = λ is. absurd (cc);
-          owns_none = λ is. absurd (cc);
-          reclaims = λ b c o e is. absurd (none_some o is);
-        };
-        knowledge = new_knowledge z g id new n (g.passes + 1) g.brooms g.owner not_yet still_dealt v.numbers (replicate v.numbers.blocks 0) []
+        kind = kind_fresh v.numbers (Player n) (replicate v.numbers.blocks 0) [] true None None (λ _. numbers)
+            (λ _. length-replicate v.numbers.blocks 0 ∙ ap (λ (y : Numbers). y.blocks) numbers) (λ b o is. absurd (none_some o is)) (λ _. refl)
+            (λ _ _ _ _. refl);
+        knowledge = knowledge_fresh v.numbers (Player n) (replicate v.numbers.blocks 0) [] true
             (λ b _. let e = alike v.numbers.blocks b 0 in omega arith);
         holding = new_holding z g id new n (g.passes + 1) g.brooms g.owner not_yet still_dealt v.numbers (replicate v.numbers.blocks 0) [] (omega arith)
             (λ t is. ap (λ k. calls_of k g.history) (sym (passes_same v.passes t is)) ∙ law.strangers v.passes (omega arith))

@@ -1,11 +1,22 @@
 -- Each kind of step of a pass, as the table asks for it: whatever the table is, the step keeps the rule and tells what it says.
-use Rattle.flash_rule.proofs.Words.{◌≡◌, ℕ, ◌+◌, ◌%◌, ◌^◌, ◌<◌, ◌≤◌, ◌==◌, eq-eqb, ne_eqb, ⊎_elim, true, List, [], ◌∷◌, ◌++◌, Option, None, Some}
-use Rattle.flash_rule.proofs.Words.{length, set, sym, refl, ap, ◌∙◌, subst, arith, get_or, some, none, get_elem?, Act, Valid, step, keeps, stepped}
-use Rattle.flash_rule.proofs.Words.{carried_after, Allows, set_again, dite, ℕ_discrete, either, Call, Write, WriteNew, Trim, Numbers, map_word}
-use Rattle.flash_rule.proofs.Words.{FitsMap, pin_word, pin_index, page_index, MapWord, PinWord, Free, Open, Closed, TAKEN, NEXT_PHASE, PAGE_WRITTEN}
-use Rattle.flash_rule.proofs.Words.{Owned, Accepted, Work, View, is_pass, is_player, owned_at, without, with_owned, World, Fits, is_owned}
-use Rattle.flash_rule.proofs.Words.{sector_word, Lawful, Ruled, Sitter, Looked, Placed, Took, CanPlace, CanCount, CanClose, words_in, next_page}
-use Rattle.flash_rule.proofs.Words.{take_told, count_told, close_told, is_unpinned, map_same}
+use Rattle.flash_rule.proofs.Words.{◌≡◌, ℕ, ◌+◌, ◌%◌, ◌^◌, ◌<◌, ◌≤◌, ◌==◌, eq-eqb, ne_eqb, ⊎_elim, true, List, [], ◌∷◌, ◌++◌, Option, None, Some, length, set}
+use Rattle.flash_rule.proofs.Words.{sym, refl, ap, ◌∙◌, subst, arith, get_or, some, none, get_elem?, step, keeps, stepped, Allows, set_again, dite, ℕ_discrete}
+use Rattle.flash_rule.proofs.Words.{either, Call, Write, WriteNew, Trim, Numbers, map_word, FitsMap, pin_word, pin_index, page_index, MapWord, PinWord, Free}
+use Rattle.flash_rule.proofs.Words.{Open, Closed, TAKEN, NEXT_PHASE, PAGE_WRITTEN, Owned, Accepted, Work, View, is_pass, is_player, owned_at, without}
+use Rattle.flash_rule.proofs.Words.{with_owned, World, is_owned, sector_word, Lawful, Ruled, Sitter, Looked, Placed, Took, CanPlace, CanCount, CanClose}
+use Rattle.flash_rule.proofs.Words.{words_in, next_page, take_told, count_told, close_told, is_unpinned}
+use Rattle.flash_rule.proofs.Points.{player_live, phase_or_not}
+use Rattle.flash_rule.proofs.Places.{fits_page, page_within, page_same}
+use Rattle.flash_rule.proofs.Owning.{some_same}
+use Rattle.flash_rule.proofs.Frames.{state_fits}
+use Rattle.flash_rule.proofs.Still.{look_empty, look_named, pass_of}
+use Rattle.flash_rule.proofs.OwnSteps.{deeds, takes, denied, taken_state, taker, counts_page, closes, worker, own_low, is_open, counter, count_deeds}
+use Rattle.flash_rule.proofs.OwnSteps.{counted_state, closed_state}
+use Rattle.flash_rule.proofs.Ruling.{Does, does, ruled_kept, ruled_map, ruled_as, ruled_plus, ruled_still, same_block, same_owned, owner_adds}
+use Rattle.flash_rule.proofs.PageSteps.{puts_word, putter, put_world, gets_accepted, spared}
+use Rattle.flash_rule.proofs.MapSteps.{placed, placer, place_world, pass_same, word_empty, word_named, trims, writes, writes_new, leaves}
+use Rattle.flash_rule.proofs.Values.{value_same}
+use Rattle.flash_rule.proofs.Reclaiming.{unowned}
 use Rattle.std.specs.Int.Bits.{bit_or}
 use Rattle.geometry.specs.Sectors.{was_of}
 use Rattle.geometry.specs.declared.answer.Was.{Was}
@@ -13,19 +24,6 @@ use Rattle.geometry.specs.declared.answer.Was.TheVariants.{Empty, Written}
 use Rattle.geometry.specs.declared.map_word.TheConstants.{UNMAPPED}
 use Rattle.flash_rule.specs.Plays.{CanPut, look_told, write_told, new_told, trim_told, put_told, get_told, Called}
 use Rattle.geometry.proofs.PinBits.{next_phase, counts, takes_free, takes_taken}
-use Rattle.flash_rule.proofs.Roles.{player_live, phase_or_not}
-use Rattle.flash_rule.proofs.Places.{fits_load, fits_map, fits_page, page_within, page_same}
-use Rattle.flash_rule.proofs.Owning.{some_same}
-use Rattle.flash_rule.proofs.Assembly.{state_fits}
-use Rattle.flash_rule.proofs.Still.{look_empty, look_named, pass_of}
-use Rattle.flash_rule.proofs.PinSteps.{deeds, takes, denied, taken_state, taker}
-use Rattle.flash_rule.proofs.Ruling.{ruled_as, ruled_plus, ruled_still, same_block, same_owned}
-use Rattle.flash_rule.proofs.OwnSteps.{counts_page, closes, worker, own_low, is_open, counter, count_deeds, counted_state, closer, closed_state}
-use Rattle.flash_rule.proofs.PageSteps.{puts_word, putter, put_world, gets_accepted, spared}
-use Rattle.flash_rule.proofs.MapSteps.{placed, placer, place_world, pass_same, word_empty, word_named}
-use Rattle.flash_rule.proofs.Calls.{trims, writes, writes_new, leaves}
-use Rattle.flash_rule.proofs.Values.{value_same}
-use Rattle.flash_rule.proofs.Reclaiming.{unowned}
 
 module _ (z : Numbers) (slots id : ℕ) (me : Sitter) where
   numbers_now : (g : World) (vs : List View) → Lawful z g vs → get_elem? vs id ≡ some me.0 → is_player me.0.role ≡ true → me.0.numbers ≡ z
@@ -43,31 +41,32 @@ module _ (z : Numbers) (slots id : ℕ) (me : Sitter) where
       → Allows (Ruled z) slots id me s (λ n. n) (look_told (step slots s 0 0 none) me)
   look_allowed s pass unpinned low t (g, fits, law) _ at _ =
       let h = look_any g t.views s law at pass unpinned low (g.map s) refl in
-      let found : get_or t.words s 0 ≡ sector_word (g.map s) = fits.sectors s low in (
-        h.0,
-        keeps,
-        tt,
-        (g, fits_load z g.map g.pins g.pages t.words fits s (omega arith), h.1),
-        (refl, subst (λ n. Looked me.0 s n h.0) (sym found) h.2),
-      )
+      let n : ℕ = get_or t.words s 0 in
+      let found : n ≡ sector_word (g.map s) = fits.sectors s low in
+      (h.0, keeps, tt, ruled_kept z id me t g fits s h.0 n (omega arith) refl h.1, (refl, subst (λ n. Looked me.0 s n h.0) (sym found) h.2))
 
   -- ---- place
   -- a pass trims a sector
   pub trim_allowed : (s : ℕ) → is_pass me.0.role ≡ true → s < z.sectors → Allows (Ruled z) slots id me s (λ _. 0) (trim_told (step slots s 0 0 none) me)
   trim_allowed s pass low t (g, fits, law) _ at _ =
       let is = pass_of me.0.role pass in
-      let by : ℕ = is.0 in
       let n : ℕ = get_or t.words s 0 in
-      let found : n ≡ sector_word (g.map s) = fits.sectors s low in
-      let w : View = placer z g t.views id me.0 by s (Trim by s) None law at is.1 refl in
-      let told : Placed me.0 (Trim by s) s n w = placed z g t.views id me.0 by s (Trim by s) None law at is.1 refl (law.sectors s low) n found in
-      let after : World = place_world z g t.views id me.0 by s (Trim by s) None law at is.1 refl in (
+      let w : View = placer z g t.views id me.0 is.0 s (Trim is.0 s) None law at is.1 refl in
+      let told : Placed me.0 (Trim is.0 s) s n w =
+      placed z g t.views id me.0 is.0 s (Trim is.0 s) None law at is.1 refl (law.sectors s low) n (fits.sectors s low) in (
         w,
         keeps,
         tt,
-        (after, fits_map z g.map g.pins g.pages t.words fits s None low, trims z g t.views id me.0 by s law at is.1 low),
-        (refl, λ u role. subst (λ (k : ℕ). Placed me.0 (Trim k s) s n w) (pass_same by u (sym is.1 ∙ role)) told),
+        ruled_map z id me t g fits s None (g.history ++ Trim is.0 s ∷ []) w 0 low refl (trims z g t.views id me.0 is.0 s law at is.1 low),
+        (refl, λ u role. subst (λ (k : ℕ). Placed me.0 (Trim k s) s n w) (pass_same is.0 u (sym is.1 ∙ role)) told),
       )
+
+  -- the page that was filled has one value
+  one_value : {s : ℕ} {m n : MapWord} {value other : List ℕ} → CanPlace me.0 s m value → CanPlace me.0 s n other → value ≡ other
+  one_value {value = value} {other = other} one two =
+      let works : one.work ≡ two.work = some_same one.work two.work (sym one.is ∙ two.is) in
+      value_same me.0.numbers value other one.whole two.whole
+      (λ i low. sym (one.words i low) ∙ (ap (λ (x : Work). get_or x.words i 0) works ∙ two.words i low))
 
   -- a pass writes a sector, whose new page it has filled and counted
   pub write_allowed : (s word : ℕ) (m : MapWord) (value : List ℕ) → is_pass me.0.role ≡ true → s < z.sectors → word ≡ map_word m → FitsMap m
@@ -75,32 +74,19 @@ module _ (z : Numbers) (slots id : ℕ) (me : Sitter) where
       → Allows (Ruled z) slots id me s (λ _. word) (write_told (step slots s word 0 none) me)
   write_allowed s word m value pass low packed fitting can t (g, fits, law) _ at _ =
       let is = pass_of me.0.role pass in
-      let by : ℕ = is.0 in
       let n : ℕ = get_or t.words s 0 in
-      let found : n ≡ sector_word (g.map s) = fits.sectors s low in
-      let w : View = placer z g t.views id me.0 by s (Write by s value) (Some m) law at is.1 refl in
-      let told : Placed me.0 (Write by s value) s n w =
-      placed z g t.views id me.0 by s (Write by s value) (Some m) law at is.1 refl (law.sectors s low) n found in
-      let after : World = place_world z g t.views id me.0 by s (Write by s value) (Some m) law at is.1 refl in (
+      let w : View = placer z g t.views id me.0 is.0 s (Write is.0 s value) (Some m) law at is.1 refl in
+      let told : Placed me.0 (Write is.0 s value) s n w =
+      placed z g t.views id me.0 is.0 s (Write is.0 s value) (Some m) law at is.1 refl (law.sectors s low) n (fits.sectors s low) in (
         w,
         keeps,
         tt,
-        (
-          after,
-          subst (λ x. Fits z after.map g.pins g.pages (set t.words s x)) (sym packed) (fits_map z g.map g.pins g.pages t.words fits s (Some m) low),
-          writes z g t.views id me.0 by s law at is.1 low m value can,
-        ),
+        ruled_map z id me t g fits s (Some m) (g.history ++ Write is.0 s value ∷ []) w word low packed
+            (writes z g t.views id me.0 is.0 s law at is.1 low m value can),
         (
           refl,
           λ u m' value' role first fitting' can'.
-              let same : m ≡ m' = map_same m m' fitting fitting' (sym packed ∙ first) in
-              let words : me.0.numbers.words ≡ z.words =
-              ap (λ (y : Numbers). y.words) (numbers_now g t.views law at (ap is_player (pass_of me.0.role pass).1)) in
-              let works : can.work ≡ can'.work = some_same can.work can'.work (sym can.is ∙ can'.is) in
-              let values : value ≡ value' =
-              value_same me.0.numbers value value' can.whole can'.whole
-              (λ i low. sym (can.words i low) ∙ (ap (λ (x : Work). get_or x.words i 0) works ∙ can'.words i low)) in
-              subst (λ (x : ℕ × List ℕ). Placed me.0 (Write x.0 s x.1) s n w) (λ i. (pass_same by u (sym is.1 ∙ role) i, values i)) told,
+              subst (λ (x : ℕ × List ℕ). Placed me.0 (Write x.0 s x.1) s n w) (λ i. (pass_same is.0 u (sym is.1 ∙ role) i, one_value can can' i)) told,
         ),
       )
 
@@ -110,57 +96,28 @@ module _ (z : Numbers) (slots id : ℕ) (me : Sitter) where
       → Allows (Ruled z) slots id me s (λ n. either (n == UNMAPPED) word n) (new_told (step slots s UNMAPPED word none) me)
   new_allowed s word m value pass low packed fitting can t (g, fits, law) _ at _ =
       let is = pass_of me.0.role pass in
-      let by : ℕ = is.0 in
       let n : ℕ = get_or t.words s 0 in
-      let f : ℕ → ℕ = λ n. either (n == UNMAPPED) word n in
+      let new : ℕ = either (n == UNMAPPED) word n in
       let found : n ≡ sector_word (g.map s) = fits.sectors s low in
-      let told : (x : Option MapWord)
-      → new_told (step slots s UNMAPPED word none) me n (placer z g t.views id me.0 by s (WriteNew by s value) x law at is.1 refl, me.1) = λ x. (
+      let answer : (x : Option MapWord) → new ≡ sector_word x
+      → Lawful z (place_world z g t.views id me.0 is.0 s (WriteNew is.0 s value) x law at is.1 refl)
+      (set t.views id (placer z g t.views id me.0 is.0 s (WriteNew is.0 s value) x law at is.1 refl))
+      → Does z id me t s new (new_told (step slots s UNMAPPED word none) me n) = λ x now lawful.
+      let w : View = placer z g t.views id me.0 is.0 s (WriteNew is.0 s value) x law at is.1 refl in
+      does z id me t s new (new_told (step slots s UNMAPPED word none) me n) w
+      (ruled_map z id me t g fits s x (g.history ++ WriteNew is.0 s value ∷ []) w new low now lawful) (
         refl,
         λ u m' value' role _ second fitting' can'.
-            let w : View = placer z g t.views id me.0 by s (WriteNew by s value) x law at is.1 refl in
-            let tells : Placed me.0 (WriteNew by s value) s n w =
-            placed z g t.views id me.0 by s (WriteNew by s value) x law at is.1 refl (law.sectors s low) n found in
-            let works : can.work ≡ can'.work = some_same can.work can'.work (sym can.is ∙ can'.is) in
-            let values : value ≡ value' =
-            value_same me.0.numbers value value' can.whole can'.whole
-            (λ i low. sym (can.words i low) ∙ (ap (λ (x : Work). get_or x.words i 0) works ∙ can'.words i low)) in
-            subst (λ (y : ℕ × List ℕ). Placed me.0 (WriteNew y.0 s y.1) s n w) (λ i. (pass_same by u (sym is.1 ∙ role) i, values i)) tells,
+            subst (λ (y : ℕ × List ℕ). Placed me.0 (WriteNew y.0 s y.1) s n w) (λ i. (pass_same is.0 u (sym is.1 ∙ role) i, one_value can can' i))
+            (placed z g t.views id me.0 is.0 s (WriteNew is.0 s value) x law at is.1 refl (law.sectors s low) n found),
       ) in
       dite (ℕ_discrete n UNMAPPED)
-      (λ empty.
-      let w : View = placer z g t.views id me.0 by s (WriteNew by s value) (Some m) law at is.1 refl in
-      let after : World = place_world z g t.views id me.0 by s (WriteNew by s value) (Some m) law at is.1 refl in
-      let now : f n ≡ map_word m = ap (λ b. either b word n) (eq-eqb n UNMAPPED empty) ∙ packed in
-      let answer : (w : View) × (a : Act (Unit {0})) × Valid t.homes me.1 a × Ruled z (stepped t s (f n) id me.1 w a)
-      × new_told (step slots s UNMAPPED word none) me n (w, carried_after me.1 a) = (
-        w,
-        keeps,
-        tt,
-        (
-          after,
-          subst (λ y. Fits z after.map g.pins g.pages (set t.words s y)) (sym now) (fits_map z g.map g.pins g.pages t.words fits s (Some m) low),
-          writes_new z g t.views id me.0 by s law at is.1 low m value (word_empty (g.map s) (sym found ∙ empty)) can,
-        ),
-        told (Some m),
-      ) in answer)
+      (λ empty. answer (Some m) (ap (λ b. either b word n) (eq-eqb n UNMAPPED empty) ∙ packed)
+      (writes_new z g t.views id me.0 is.0 s law at is.1 low m value (word_empty (g.map s) (sym found ∙ empty)) can))
       (λ other.
-      let w : View = placer z g t.views id me.0 by s (WriteNew by s value) (g.map s) law at is.1 refl in
-      let after : World = place_world z g t.views id me.0 by s (WriteNew by s value) (g.map s) law at is.1 refl in
       let named = word_named (g.map s) (λ e. other (found ∙ e)) in
-      let now : f n ≡ sector_word (g.map s) = ap (λ b. either b word n) (ne_eqb n UNMAPPED other) ∙ found in
-      let answer : (w : View) × (a : Act (Unit {0})) × Valid t.homes me.1 a × Ruled z (stepped t s (f n) id me.1 w a)
-      × new_told (step slots s UNMAPPED word none) me n (w, carried_after me.1 a) = (
-        w,
-        keeps,
-        tt,
-        (
-          after,
-          subst (λ y. Fits z after.map g.pins g.pages (set t.words s y)) (sym now) (fits_map z g.map g.pins g.pages t.words fits s (g.map s) low),
-          leaves z g t.views id me.0 by s law at is.1 low named.0 value named.1,
-        ),
-        told (g.map s),
-      ) in answer)
+      answer (g.map s) (ap (λ b. either b word n) (ne_eqb n UNMAPPED other) ∙ found)
+      (leaves z g t.views id me.0 is.0 s law at is.1 low named.0 value named.1))
 
   -- ---- take
   -- a pass or a broom sets the taking bit of a block
@@ -174,39 +131,27 @@ module _ (z : Numbers) (slots id : ℕ) (me : Sitter) where
       let numbers = numbers_now g t.views law at player in
       let young : p.generation < me.0.numbers.endurance = let r = (law.blocks b low).generation in let e : me.0.numbers.endurance ≡ z.endurance =
       ap (λ (y : Numbers). y.endurance) numbers in omega arith in
-      let answer : (w : View) → Ruled z (stepped t (pin_index z b) (bit_or n TAKEN) id me.1 w keeps) → Took me.0 b n w
-      → (w : View) × (a : Act (Unit {0})) × Valid t.homes me.1 a × Ruled z (stepped t (pin_index z b) (bit_or n TAKEN) id me.1 w a)
-      × take_told (step slots (pin_index z b) TAKEN 0 none) me n (w, carried_after me.1 a) = λ w ruled told.
-      (w, keeps, tt, ruled, (refl, λ c _ is. subst (λ (j : ℕ). Took me.0 j n w) (same_block z me numbers b c is) told)) in
+      let answer : (w : View) → Ruled z (stepped t (pin_index z b) (bit_or n TAKEN) id me.1 w keeps)
+      → (p.phase ≡ Free → (owned_at b me.0.owns ≡ None) × (w ≡ taker z g t.views id me.0 b law at player low))
+      → (¬ (p.phase ≡ Free) → w ≡ record me.0 { denied = me.0.denied ++ b ∷ [] })
+      → Does z id me t (pin_index z b) (bit_or n TAKEN) (take_told (step slots (pin_index z b) TAKEN 0 none) me n) = λ w ruled free denied.
+      does z id me t (pin_index z b) (bit_or n TAKEN) (take_told (step slots (pin_index z b) TAKEN 0 none) me n) w ruled (
+        refl,
+        λ c _ is. subst (λ (j : ℕ). Took me.0 j n w) (same_block z me numbers b c is)
+            (record { state = p; fits = fitting; young = young; found = found; fresh = λ is. (free is).0; free = λ is. (free is).1; denied = denied }),
+      ) in
       ⊎_elim
       (λ (free : p.phase ≡ Free).
       let w : View = taker z g t.views id me.0 b law at player low in
       answer w
       (ruled_as z id me t g fits b low (taken_state z g t.views id me.0 b law at player low) id (deeds g) w (bit_or n TAKEN)
       (ap (λ x. bit_or x TAKEN) found ∙ takes_free p fitting free) (takes z g t.views id me.0 b law at player low free))
-      (record {
-        state = p;
-        fits = fitting;
-        young = young;
-        found = found;
-        fresh = λ _. unowned z g t.views id me.0 law at b (ap is_owned free);
-        free = λ _. refl;
-        denied = λ not. absurd (not free);
-      }))
+      (λ _. (unowned z g t.views id me.0 law at b (ap is_owned free), refl)) (λ not. absurd (not free)))
       (λ (not : ¬ (p.phase ≡ Free)).
       let w : View = record me.0 { denied = me.0.denied ++ b ∷ [] } in
       answer w
       (ruled_still z id me t g fits b low w (bit_or n TAKEN) (ap (λ x. bit_or x TAKEN) found ∙ (takes_taken p fitting not ∙ sym found))
-      (denied z g t.views id me.0 b law at player low))
-      (record {
-        state = p;
-        fits = fitting;
-        young = young;
-        found = found;
-        fresh = λ free. absurd (not free);
-        free = λ free. absurd (not free);
-        denied = λ _. refl;
-      }))
+      (denied z g t.views id me.0 b law at player low)) (λ free. absurd (not free)) (λ _. refl))
       (phase_or_not p.phase Free)
 
   -- ---- put
@@ -278,22 +223,14 @@ module _ (z : Numbers) (slots id : ℕ) (me : Sitter) where
   -- the owner of an open block gives it up, with nothing uncounted
   pub close_allowed : (o : Owned) → me.0.numbers ≡ z → CanClose me.0 o
       → Allows (Ruled z) slots id me (pin_index z o.block) (λ n. (n + NEXT_PHASE) % 2 ^ 64) (close_told (step slots (pin_index z o.block) NEXT_PHASE 0 none) me)
-  close_allowed o numbers can t (g, fits, law) _ at _ =
-      let w : View = closer z g t.views id me.0 o law at can.own can.opened in
-      let sum = next_phase (g.pins o.block) Open Closed (is_open z g t.views id me.0 o law at can.own can.opened) refl in (
-        w,
-        keeps,
-        tt,
-        ruled_plus z id me t g fits o.block (own_low z g t.views id me.0 o law at can.own can.opened)
-            (closed_state z g t.views id me.0 o law at can.own can.opened) id (deeds g) w NEXT_PHASE sum
-            (closes z g t.views id me.0 o law at can.own can.opened can.settled),
-        (
-          refl,
-          λ o' can' is.
-              ap (λ (y : Owned). record me.0 { owns = without y.block me.0.owns; work = None; ceded = me.0.ceded ++ record y { phase = Closed } ∷ [] })
-              (same_owned z me numbers o o' can.own can'.own is),
-        ),
-      )
+  close_allowed o numbers can =
+      owner_adds z slots id me o NEXT_PHASE (CanClose me.0)
+      (λ e. record me.0 { owns = without e.block me.0.owns; work = None; ceded = me.0.ceded ++ record e { phase = Closed } ∷ [] }) (λ e may. may.own) can
+      (λ g vs law at. (
+        closed_state z g vs id me.0 o law at can.own can.opened,
+        next_phase (g.pins o.block) Open Closed (is_open z g vs id me.0 o law at can.own can.opened) refl,
+        closes z g vs id me.0 o law at can.own can.opened can.settled,
+      ))
 
 -- ---- get
 -- a pass reads the page of its accepted pin
@@ -307,11 +244,8 @@ get_allowed z slots id me m value i numbers pin block page low t (g, fits, law) 
       me.0,
       keeps,
       tt,
-      (
-        g,
-        fits_load z g.map g.pins g.pages t.words fits k (page_within z m.block m.page i block page (omega arith)),
-        subst (λ vs. Lawful z g vs) (sym (set_again t.views id me.0 at)) law,
-      ),
+      ruled_kept z id me t g fits k me.0 n (page_within z m.block m.page i block page (omega arith)) refl
+          (subst (λ vs. Lawful z g vs) (sym (set_again t.views id me.0 at)) law),
       (
         refl,
         λ m' value' i' pin' low' is.

@@ -1,45 +1,50 @@
 -- A step that changes no word: the looks of a pass.
-use Rattle.flash_rule.proofs.Words.{◌⊎◌, ◌≡◌, ◌≢◌, ℕ, zero, suc, ◌*◌, ◌+◌, ◌<◌, ◌≤◌, inl, true, false, List, [], ◌∷◌, Option, None, Some, length, set}
-use Rattle.flash_rule.proofs.Words.{sym, refl, ap, ◌∙◌, subst, arith, length-set, suc-mul, get_or, get_or-set_same, get_or-set_other, some, dite}
-use Rattle.flash_rule.proofs.Words.{ℕ_discrete, get_elem?, Begins, held, Numbers, Begins-refl, map_word, FitsMap, MapWord, PinWord, Phase, Free, Open}
-use Rattle.flash_rule.proofs.Words.{Closed, Victim, Drained, Erasing, Retired, Name, Pass, Broom, Role, Dealer, Player, Note, Gone, Pin, Clear}
-use Rattle.flash_rule.proofs.Words.{Candidate, Accepted, Stray, Cycle, Carried, View, one_if, is_pass, is_live_role, pin_is_on, pins_on, weight}
-use Rattle.flash_rule.proofs.Words.{owned_at, AreOfHosts, calls_of, sum_of, World, is_intact, is_nameable, age_of, half_cycle, IsCurrent, Programs}
-use Rattle.flash_rule.proofs.Words.{Erases, LawfulKind, LawfulKnowledge, LawfulPin, LawfulView, LawfulCopy, Lawful, IsValue, PinOnward, Onward}
-use Rattle.flash_rule.proofs.Words.{Looked, Met, is_unpinned}
-use Rattle.flash_rule.specs.Plays.{Disjoint, Once}
-use Rattle.flash_rule.proofs.Frames.{lists_stay}
-use Rattle.flash_rule.proofs.Assembly.{assembled, block_kept}
+use Rattle.flash_rule.proofs.Words.{◌⊎◌, ◌≡◌, ◌≢◌, ℕ, zero, suc, ◌*◌, ◌+◌, ◌<◌, ◌≤◌, inl, true, List, [], ◌∷◌, Option, None, Some, length, set, sym, refl, ap}
+use Rattle.flash_rule.proofs.Words.{◌∙◌, subst, arith, length-set, suc-mul, get_or, get_or-set_same, get_or-set_other, some, dite, ℕ_discrete, get_elem?, Call}
+use Rattle.flash_rule.proofs.Words.{Begins, held, Numbers, Begins-refl, map_word, FitsMap, MapWord, PinWord, Phase, Free, Open, Closed, Victim, Drained}
+use Rattle.flash_rule.proofs.Words.{Erasing, Retired, Name, Pass, Broom, Role, Dealer, Player, Note, Gone, Pin, Clear, Candidate, Accepted, Stray, Cycle}
+use Rattle.flash_rule.proofs.Words.{Carried, View, one_if, is_pass, is_live_role, pin_is_on, pins_on, weight, owned_at, AreOfHosts, calls_of, sum_of, World}
+use Rattle.flash_rule.proofs.Words.{is_intact, is_nameable, age_of, half_cycle, IsCurrent, Programs, Erases, LawfulKind, LawfulKnowledge, LawfulPin, LawfulView}
+use Rattle.flash_rule.proofs.Words.{LawfulCopy, Lawful, IsValue, PinOnward, Onward, Looked, Met, is_unpinned}
+use Rattle.flash_rule.proofs.Frames.{lists_stay, assembled, block_kept}
 use Rattle.flash_rule.proofs.Ceding.{ceded_still}
-use Rattle.flash_rule.proofs.Owning.{some_same}
-use Rattle.flash_rule.proofs.Keeping.{holding_with, knowledge_with}
+use Rattle.flash_rule.proofs.Owning.{kind_reading, some_same, holding_with, knowledge_with}
+use Rattle.flash_rule.specs.Plays.{Disjoint, Once}
+
+-- a state with the same phase and generation, whatever its readers, and no fewer pages written
+pub stays_onward : (p q : PinWord) → q.phase ≡ p.phase → q.generation ≡ p.generation → p.written ≤ q.written → PinOnward p q
+stays_onward p q phase generation written =
+    let half : half_cycle q.phase ≡ half_cycle p.phase = ap half_cycle phase in
+    record {
+      generation = omega arith;
+      age = omega arith;
+      written = λ _. written;
+      held = λ _ intact. (generation, ap is_intact phase ∙ intact);
+      was = λ _ intact _. ap is_intact (sym phase) ∙ intact;
+      free = λ _ free. sym phase ∙ free;
+    }
 
 pub pin_stays : (p : PinWord) → PinOnward p p
-pin_stays p = record {
-  generation = omega arith;
-  age = omega arith;
-  written = λ _. omega arith;
-  held = λ _ intact. (refl, intact);
-  was = λ _ intact _. intact;
-  free = λ _ free. free;
-}
+pin_stays p = stays_onward p p refl refl (omega arith)
 
--- the table with another map, other pages, and badges elsewhere
-abbrev pub with_words : World → (ℕ → Option MapWord) → (ℕ → ℕ → ℕ → ℕ) → (Name → ℕ) → (Name → Option Carried) → World
-with_words g map pages badge carries = record g { map = map; pages = pages; badge = badge; carries = carries }
+-- the table with a longer history, another map, other pages, and badges elsewhere
+abbrev pub with_words : World → List Call → (ℕ → Option MapWord) → (ℕ → ℕ → ℕ → ℕ) → (Name → ℕ) → (Name → Option Carried) → World
+with_words g history map pages badge carries = record g { history = history; map = map; pages = pages; badge = badge; carries = carries }
 
 -- a step that changes these alone, as the other seats see it
-pub onward_of : (z : Numbers) (g : World) (id other : ℕ) (map : ℕ → Option MapWord) (pages : ℕ → ℕ → ℕ → ℕ) (badge : Name → ℕ) (carries : Name → Option Carried)
+pub onward_called : (z : Numbers) (g : World) (id other : ℕ) (history : List Call) (map : ℕ → Option MapWord)
+    (pages : ℕ → ℕ → ℕ → ℕ) (badge : Name → ℕ) (carries : Name → Option Carried)
+    → Begins g.history history → ((t : ℕ) → ¬ (g.seat (Pass t) ≡ id) → calls_of t history ≡ calls_of t g.history)
     → ((b : ℕ) → ¬ (g.owner b ≡ id) → (p i : ℕ) → pages b p i ≡ g.pages b p i)
     → ((b p i : ℕ) → is_intact (g.pins b).phase ≡ true → p < (g.pins b).written → pages b p i ≡ g.pages b p i)
     → ((s : ℕ) (m : MapWord) → map s ≡ Some m → (g.map s ≡ Some m) ⊎ (g.owner m.block ≡ id))
     → ((n : Name) → ¬ (g.badge n ≡ id) → ¬ (g.badge n ≡ other) → (badge n ≡ g.badge n) × (carries n ≡ g.carries n))
     → ((n : Name) (c : Carried) → carries n ≡ Some c → (g.carries n ≡ Some c) ⊎ ((c.programs ≡ g.programs c.of) × (c.erases ≡ g.erases c.of)))
-    → Onward z g (with_words g map pages badge carries) id other
-onward_of z g id other map pages badge carries apart readable named badges carried =
+    → Onward z g (with_words g history map pages badge carries) id other
+onward_called z g id other history map pages badge carries grows calls apart readable named badges carried =
     record {
-      history = Begins-refl g.history;
-      calls = λ t _. refl;
+      history = grows;
+      calls = calls;
       seat = λ n dealt. (refl, dealt);
       pins = λ b _. pin_stays (g.pins b);
       owned = λ b _ whose _. record { owner = refl; phase = refl; generation = refl; written = refl; pages = apart b whose };
@@ -47,14 +52,15 @@ onward_of z g id other map pages badge carries apart readable named badges carri
       named = named;
       programmer = λ m _. refl;
       eraser = λ b n _. refl;
-      lists = λ n _. lists_stay g (with_words g map pages badge carries) id n refl refl;
+      lists = λ n _. lists_stay g (with_words g history map pages badge carries) id n refl refl;
       dealer = λ _. (refl, refl);
       badge = λ n _ mine its. badges n mine its;
       carries = carried;
     }
 
 pub all_stays : (z : Numbers) (g : World) (id other : ℕ) → Onward z g g id other
-all_stays z g id other = onward_of z g id other g.map g.pages g.badge g.carries (λ _ _ p i. refl) (λ b p i _ _. refl) (λ s m is. inl is)
+all_stays z g id other = onward_called z g id other g.history g.map g.pages g.badge g.carries (Begins-refl g.history) (λ _ _. refl)
+    (λ _ _ p i. refl) (λ b p i _ _. refl) (λ s m is. inl is)
     (λ n _ _. (refl, refl)) (λ n c is. inl is)
 
 -- a seat that keeps its blocks and its pinned block
@@ -218,23 +224,11 @@ module _ (z : Numbers) (g : World) (vs : List View) (id : ℕ) (v : View) (s : �
   looking_lawful pin known free lawful long ages =
       let h = law.views id v at in
       let w : View = looking pin known in
-      let kind = h.kind in
-      let knows = h.knowledge in
       let holds = h.holding in
       still z g vs id v w law at
       (record {
-        kind = record {
-          numbers = kind.numbers;
-          host = kind.host;
-          known = λ _. long;
-          opens = kind.opens;
-          unpinned = λ not. let no : true ≡ false =
-              sym pass ∙ not in absurd (cc);
-          idle = kind.idle;
-          owns_none = kind.owns_none;
-          reclaims = kind.reclaims;
-        };
-        knowledge = knowledge_with w knows refl (Begins-refl g.history) lawful ages knows.programs knows.erases;
+        kind = kind_reading w h.kind pass long;
+        knowledge = knowledge_with w h.knowledge refl (Begins-refl g.history) lawful ages h.knowledge.programs h.knowledge.erases;
         holding = holding_with holds refl refl (λ t is. let c = (holds.calls t is).0 in (c, c)) holds.lists holds.owned holds.work holds.source;
       })
       (λ b. no_pin pin free b ∙ sym (no_pin v.pin unpinned b)) refl refl refl refl refl

@@ -1,17 +1,15 @@
 -- A broom sets the next word of its erasing block to all ones.
-use Rattle.flash_rule.proofs.Words.{◌≡◌, ◌≢◌, ℕ, zero, suc, ◌+◌, ◌-◌, ◌*◌, ◌<◌, ◌≤◌, inl, true, false, List, Some, set, sym, refl, ap, ◌∙◌, subst}
-use Rattle.flash_rule.proofs.Words.{arith, suc-mul, some, dite, ℕ_discrete, dec_lt, get_elem?, Numbers, page_index, Open, Victim, Erasing, Name}
-use Rattle.flash_rule.proofs.Words.{Player, Owned, View, is_player, owned_at, World, put_word, is_intact, is_nameable, is_reclaimed, is_still}
-use Rattle.flash_rule.proofs.Words.{blank_word, LawfulOwned, LawfulView, Lawful, Onward, IsErasing, wiper}
-use Rattle.std.proofs.Math.Nat.{add-mul}
-use Rattle.flash_rule.proofs.Owning.{some_same}
-use Rattle.flash_rule.proofs.Frames.{counted, knowledge_kept}
+use Rattle.flash_rule.proofs.Words.{◌≡◌, ◌≢◌, ℕ, zero, suc, ◌+◌, ◌-◌, ◌*◌, ◌<◌, ◌≤◌, inl, true, false, List, Some, set, sym, refl, ap, ◌∙◌, subst, arith}
+use Rattle.flash_rule.proofs.Words.{suc-mul, some, dite, ℕ_discrete, dec_lt, get_elem?, Numbers, page_index, Open, Victim, Erasing, Name, Player, Owned, View}
+use Rattle.flash_rule.proofs.Words.{is_player, owned_at, World, put_word, is_intact, is_nameable, is_reclaimed, is_still, blank_word, LawfulOwned, LawfulView}
+use Rattle.flash_rule.proofs.Words.{Lawful, Onward, IsErasing, wiper, Begins-refl}
+use Rattle.flash_rule.proofs.Owning.{some_same, holding_with, kind_with, knowledge_as, owned_with, source_with, work_with}
+use Rattle.flash_rule.proofs.Frames.{counted, knowledge_kept, assembled, block_kept, sector_kept}
 use Rattle.flash_rule.proofs.Places.{row_same}
-use Rattle.flash_rule.proofs.Assembly.{assembled, block_kept, sector_kept}
 use Rattle.flash_rule.proofs.Ceding.{ceded_still}
-use Rattle.flash_rule.proofs.Still.{onward_of}
+use Rattle.flash_rule.proofs.Still.{onward_called}
 use Rattle.flash_rule.proofs.PageSteps.{word_here, word_else}
-use Rattle.flash_rule.proofs.Keeping.{holding_with, kind_with, knowledge_as, owned_with, source_with, work_with}
+use Rattle.std.proofs.Math.Nat.{add-mul}
 
 -- a place in rows of one length is one of some row
 pub row_of : (rows n k : ℕ) → k < rows * n → (p : ℕ) × (i : ℕ) × (p < rows) × (i < n) × (p * n + i ≡ k)
@@ -53,14 +51,14 @@ module _ (z : Numbers) (g : World) (vs : List View) (id : ℕ) (v : View) (n : N
 
   wipe_onward : Onward z g wipe_world id id
   wipe_onward =
-      onward_of z g id id g.map wipe_world.pages g.badge g.carries
+      onward_called z g id id g.history g.map wipe_world.pages g.badge g.carries (Begins-refl g.history) (λ _ _. refl)
       (λ c other q j. other_block c q j (λ same. other (ap g.owner same ∙ mine.owner)))
       (λ c q j intact _. other_block c q j (not_intact c intact)) (λ s m is. inl is) (λ n _ _. (refl, refl)) (λ n c is. inl is)
 
   -- one word more of the block is all ones
   wiped_more : LawfulOwned z wipe_world id v.work v.cleared (wiper v).wiped o.block o
   wiped_more =
-      owned_with mine refl refl
+      owned_with mine (refl, refl, refl) refl
       (λ opened. let e : Open ≡ Erasing = sym opened ∙ erasing.erasing in absurd (cc))
       mine.dead
       (λ is q j low most below. dite (ℕ_discrete (q * (z.words + 1) + j) v.wiped)
@@ -75,7 +73,7 @@ module _ (z : Numbers) (g : World) (vs : List View) (id : ℕ) (v : View) (n : N
   wiped_else c e unlike owns =
       let h = law.views id v at in
       let k = h.holding.owned c e owns in
-      owned_with k refl refl
+      owned_with k (refl, refl, refl) refl
       (λ opened q from below not j most. other_block c q j unlike ∙ k.rest opened q from below not j most)
       k.dead
       (λ is. absurd (unlike (h.kind.reclaims c o.block e o owns erasing.own (ap is_reclaimed is) (ap is_reclaimed erasing.erasing))))
@@ -83,19 +81,17 @@ module _ (z : Numbers) (g : World) (vs : List View) (id : ℕ) (v : View) (n : N
   wiper_lawful : LawfulView z wipe_world id (wiper v)
   wiper_lawful =
       let h = law.views id v at in
-      let kind = h.kind in
-      let holds = h.holding in
       let knows = knowledge_kept z g wipe_world id id wipe_onward v (λ c is below. counted vs law id v at c is below) h.knowledge in
       -- the blocks of its work and of its source are others
       let apart : (c : ℕ) (e : Owned) → owned_at c v.owns ≡ Some e → ¬ (e.phase ≡ Erasing) → c ≢ o.block = λ c e owns not same.
       let entry : e ≡ o = some_same e o (sym owns ∙ (ap (λ j. owned_at j v.owns) same ∙ erasing.own)) in
       not (ap (λ (y : Owned). y.phase) entry ∙ erasing.erasing) in
       record {
-        kind = kind_with kind refl kind.opens
+        kind = kind_with h.kind refl h.kind.opens
             (λ is. let no : true ≡ false = sym (ap is_player role) ∙ is in absurd (cc))
-            kind.owns_none kind.reclaims;
+            h.kind.owns_none h.kind.reclaims;
         knowledge = knowledge_as knows refl;
-        holding = holding_with holds refl refl holds.calls holds.lists
+        holding = holding_with h.holding refl refl h.holding.calls h.holding.lists
             (λ c e owns. dite (ℕ_discrete c o.block)
             (λ same.
             let entry : o ≡ e = some_same o e (sym erasing.own ∙ (ap (λ j. owned_at j v.owns) (sym same) ∙ owns)) in
@@ -103,11 +99,11 @@ module _ (z : Numbers) (g : World) (vs : List View) (id : ℕ) (v : View) (n : N
             subst P (λ t. (sym same t, entry t)) wiped_more)
             (λ unlike. wiped_else c e unlike owns))
             (λ w is.
-            let k = holds.work w is in
+            let k = h.holding.work w is in
             let unlike = apart w.page.block k.entry k.own (λ erased. let e : Open ≡ Erasing = sym k.opened ∙ erased in absurd (cc)) in
             work_with k k.own (λ j. other_block w.page.block w.page.page j unlike))
             (λ x is.
-            let k = holds.source x is in
+            let k = h.holding.source x is in
             let unlike = apart x.page.block k.entry k.own (λ erased. let e : Victim ≡ Erasing = sym k.victim ∙ erased in absurd (cc)) in
             source_with k k.own refl (λ j. other_block x.page.block x.page.page j unlike));
       }

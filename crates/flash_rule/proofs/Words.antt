@@ -1,7 +1,7 @@
 -- The words that the proofs of the rule have in common: each from the module that it is of.
-pub use Rattle.std.proofs.Common.{Bool, List, None, Option, Some, [], ap, arith, eq-eqb, false, inl, inr, length, length-append, length-set, ne_eqb}
-pub use Rattle.std.proofs.Common.{refl, replicate, set, slice_get, subst, suc, suc-mul, sym, true, zero, ℕ, ⊎_elim, ◌%◌, ◌*◌, ◌++◌, ◌+◌, ◌-◌, ◌<◌}
-pub use Rattle.std.proofs.Common.{◌==◌, ◌^◌, ◌∙◌, ◌∷◌, ◌≡◌, ◌≢◌, ◌≤◌, ◌⊎◌}
+pub use Rattle.std.proofs.Common.{Bool, List, None, Option, Some, [], ap, arith, eq-eqb, false, inl, inr, length, length-append, length-set, ne_eqb, refl}
+pub use Rattle.std.proofs.Common.{replicate, set, slice_get, subst, suc, suc-mul, sym, true, zero, ℕ, ⊎_elim, ◌%◌, ◌*◌, ◌++◌, ◌+◌, ◌-◌, ◌<◌, ◌==◌, ◌^◌, ◌∙◌}
+pub use Rattle.std.proofs.Common.{◌∷◌, ◌≡◌, ◌≢◌, ◌≤◌, ◌⊎◌}
 pub use mathlib.Core.Option.{none, some, some-injective, some-ne-none}
 pub use mathlib.Core.Logic.{dite}
 pub use native.Mathlib.Decide.{dec_lt, ℕ_discrete}
@@ -17,14 +17,14 @@ pub use Rattle.flash_rule.specs.declared.facts.Role.{Role}
 pub use Rattle.flash_rule.specs.declared.facts.Role.TheVariants.{Dealer, Gone, Note, Player}
 pub use Rattle.flash_rule.specs.declared.facts.Pin.TheVariants.{Accepted, Candidate, Clear, Stray}
 pub use Rattle.flash_rule.specs.declared.view.View.{View}
-pub use Rattle.flash_rule.specs.Views.{AreOfHosts, caller, calls_of, is_broom, is_live_role, is_pass, is_player, may_own, one_if, owned_at, pin_is_on}
-pub use Rattle.flash_rule.specs.Views.{pins_on, role_weight, same_name, sum_of, total, weight, with_owned, without}
-pub use Rattle.flash_rule.specs.World.{Fits, Intact, IsBlank, World, age_of, blank_word, data_word, half_cycle, is_intact, is_nameable, is_owned}
-pub use Rattle.flash_rule.specs.World.{is_reclaimed, is_still, put, put_name, put_word, sector_word}
+pub use Rattle.flash_rule.specs.Views.{AreOfHosts, caller, calls_of, is_broom, is_live_role, is_pass, is_player, may_own, one_if, owned_at, pin_is_on, pins_on}
+pub use Rattle.flash_rule.specs.Views.{role_weight, same_name, sum_of, total, weight, with_owned, without}
+pub use Rattle.flash_rule.specs.World.{Fits, Intact, IsBlank, World, age_of, blank_word, data_word, half_cycle, is_intact, is_nameable, is_owned, is_reclaimed}
+pub use Rattle.flash_rule.specs.World.{is_still, put, put_name, put_word, sector_word}
 pub use Rattle.flash_rule.specs.Ceded.{IsCeded, IsCededBy, IsReached, IsUnused, LawfulCeded, drained_of, entry_of, freed_as, rank}
-pub use Rattle.flash_rule.specs.Rule.{Erases, Grown, IsCandidate, IsCurrent, IsDealt, IsFilling, IsProgrammed, IsValue, Lawful, LawfulBlock}
-pub use Rattle.flash_rule.specs.Rule.{LawfulCopy, LawfulHolding, LawfulKind, LawfulKnowledge, LawfulOwned, LawfulPin, LawfulSector, LawfulSource}
-pub use Rattle.flash_rule.specs.Rule.{LawfulView, LawfulWork, Programs, ReclaimsOne}
+pub use Rattle.flash_rule.specs.Rule.{Erases, Grown, IsCandidate, IsCurrent, IsDealt, IsFilling, IsProgrammed, IsValue, Lawful, LawfulBlock, LawfulCopy}
+pub use Rattle.flash_rule.specs.Rule.{LawfulHolding, LawfulKind, LawfulKnowledge, LawfulOwned, LawfulPin, LawfulSector, LawfulSource, LawfulView, LawfulWork}
+pub use Rattle.flash_rule.specs.Rule.{Programs, ReclaimsOne}
 pub use Rattle.flash_rule.specs.Onward.{ListsOnward, Onward, PinOnward, Untouched}
 pub use Rattle.std.proofs.Math.ListN.{get_or}
 pub use prog.Atomic.{either}
@@ -33,11 +33,10 @@ pub use Rattle.geometry.specs.MapWords.{FitsMap, map_word}
 pub use Rattle.geometry.specs.TableOrder.{page_index, pin_index}
 pub use Rattle.flash_rule.specs.declared.facts.Source.{Source}
 pub use Rattle.flash_rule.specs.Seats.{Ruled, gone, spare, spares}
-pub use Rattle.flash_rule.specs.Plays.{CanClose, CanCount, CanPlace, IsOn, Looked, Met, Pinned, Placed, Sitter, Took, close_told, count_told}
-pub use Rattle.flash_rule.specs.Plays.{is_unpinned, next_page, pin_told, take_told, unpin_told, words_in}
-pub use Rattle.flash_rule.specs.BroomPlays.{CanClaim, CanCondemn, CanDrain, CanGetStamp, CanMove, CanRenew, CanRetire, Claimed, Condemned, GotStamp}
-pub use Rattle.flash_rule.specs.BroomPlays.{IsErasing, Moved, Named, claim_told, condemn_told, cycle_of, drain_told, freed_told, kept_told, owned_as}
-pub use Rattle.flash_rule.specs.BroomPlays.{retired_told, wiper}
+pub use Rattle.flash_rule.specs.Plays.{CanClose, CanCount, CanPlace, IsOn, Looked, Met, Pinned, Placed, Sitter, Took, close_told, count_told, is_unpinned}
+pub use Rattle.flash_rule.specs.Plays.{next_page, pin_told, take_told, unpin_told, words_in}
+pub use Rattle.flash_rule.specs.BroomPlays.{CanClaim, CanCondemn, CanDrain, CanGetStamp, CanMove, CanRenew, CanRetire, Claimed, Condemned, GotStamp, IsErasing}
+pub use Rattle.flash_rule.specs.BroomPlays.{Moved, Named, claim_told, condemn_told, cycle_of, drain_told, freed_told, kept_told, owned_as, retired_told, wiper}
 pub use Rattle.geometry.proofs.Histories.{Begins-refl}
 pub use Rattle.geometry.proofs.PinBits.{adds, map_same}
 pub use Rattle.geometry.specs.declared.pin_word.Phase.TheVariants.{Closed, Drained, Erasing, Free, Open, Retired, Victim}

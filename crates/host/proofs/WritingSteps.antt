@@ -17,7 +17,7 @@ use Rattle.flash_rule.specs.Views.{owned_at}
 use Rattle.flash_rule.specs.World.{data_word}
 use Rattle.flash_rule.specs.Plays.{CanPut, CanCount, IsSettled, SettledBut, words_in, next_page}
 use Rattle.flash_rule.proofs.Owning.{some_same}
-use Rattle.flash_rule.proofs.Points.{eq_self}
+use Rattle.flash_rule.proofs.PageSteps.{words_none, words_here}
 use Rattle.flash_table.specs.declared.flash.Flash.{Flash}
 use Rattle.flash_table.specs.declared.pass.Pass.{Pass}
 use Rattle.flash_table.specs.declared.pass.OpenBlock.{OpenBlock}
@@ -55,17 +55,6 @@ tried_more f v block p q h told pass =
     record { pass = pass; nothing = told.nothing; changed = told.changed ∙ (λ i. record (h.changed i) { denied = more i }) }
 
 -- ---- the words of a page
-words_none : (d : Option Work) (o : Owned) → ((x : Work) → d ≡ Some x → x.page.block ≡ o.block → x.page.page < o.written) → words_in d o ≡ []
-words_none None o counted = refl
-words_none (Some x) o counted =
-    dite (ℕ_discrete x.page.block o.block)
-    (λ here. let low = counted x refl here in
-    let other : x.page.page ≢ o.written = omega arith in rw (eq-eqb x.page.block o.block here) (rw (ne_eqb x.page.page o.written other) refl))
-    (λ else. rw (ne_eqb x.page.block o.block else) refl)
-
-words_here : (o : Owned) (words : List ℕ) → words_in (Some (record { page = next_page o; words = words })) o ≡ words
-words_here o words = rw (eq_self o.block) (rw (eq_self o.written) refl)
-
 pub owns_one : (p : Pass) (o : OpenBlock) → opened_of p ≡ Some o → (view_of p).owns ≡ owned_of o ∷ []
 owns_one p o is = p.owns ∙ ap owned_list is
 

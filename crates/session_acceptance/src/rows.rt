@@ -60,7 +60,8 @@ const PLAYED: [(&str, &str, &str); 12] = [
     (
         ONCE,
         "0,write,0,01\n0,write,1,02\n0,write,0,03\n0,write,1,04\n0,write,2,05\n0,write,0,06\n0,write,1,07\n0,read,1,\n",
-        "1,write,0,empty\n2,write,1,empty\n3,write,0,written\n4,write,1,written\n5,write,2,empty\n6,write,0,written\n7,write,1,worn\n8,read,1,0400000000000000\nend,6,0,1\n",
+        "1,write,0,empty\n2,write,1,empty\n3,write,0,written\n4,write,1,written\n5,write,2,empty\n6,write,0,written\n7,write,1,worn\n\
+         8,read,1,0400000000000000\nend,6,0,1\n",
     ),
     (
         FOUR,
@@ -70,7 +71,8 @@ const PLAYED: [(&str, &str, &str); 12] = [
     (
         TWO_LUNS,
         "0,write,0,01\n0,write,1,02\n0,write,1,03\n0,write,2,04\n0,write,2,05\n0,write,2,06\n0,write,1,07\n0,read,0,\n0,read,1,\n0,read,2,\n",
-        "1,write,0,empty\n2,write,1,empty\n3,write,1,written\n4,write,2,empty\n5,write,2,written\n6,write,2,written\n7,write,1,written\n8,read,0,0100000000000000\n9,read,1,0700000000000000\n10,read,2,0600000000000000\nend,7,1,1\n",
+        "1,write,0,empty\n2,write,1,empty\n3,write,1,written\n4,write,2,empty\n5,write,2,written\n6,write,2,written\n7,write,1,written\n\
+         8,read,0,0100000000000000\n9,read,1,0700000000000000\n10,read,2,0600000000000000\nend,7,1,1\n",
     ),
 ];
 

@@ -1,84 +1,23 @@
 //! Brooms that put drained blocks into the queue and erase those that they take from it, while two hosts make calls.
 use crate::calls::{Call, Done, EMPTY, FULL, WRITTEN};
 use crate::idle_actors::Who;
-use crate::playing_rows::{Device, Row, check_row};
+use crate::playing_rows::{Row, check_row};
+use crate::row_calls::{ONCE, ONE_BROOM, TWICE, TWO_BROOMS, drained, erased};
 use crate::schedule::{ExpectedCall, Step};
 use broom::{Drain, Erase};
 use std::test::Fail;
 
-const ONE_BROOM: Device = Device {
-    blocks: 5,
-    endurance: 10,
-    brooms: 1,
-};
+const DRAINS_ZERO: ExpectedCall = drained!(Call::DrainOne, 0, 0);
 
-const TWO_BROOMS: Device = Device {
-    blocks: 7,
-    endurance: 10,
-    brooms: 2,
-};
+const DRAINS_ONE: ExpectedCall = drained!(Call::DrainOne, 1, 0);
 
-// Each block may be erased once.
-const ONCE: Device = Device {
-    blocks: 5,
-    endurance: 1,
-    brooms: 1,
-};
+const DRAINS_TWO: ExpectedCall = drained!(Call::DrainOne, 2, 0);
 
-// Each block may be erased twice.
-const TWICE: Device = Device {
-    blocks: 5,
-    endurance: 2,
-    brooms: 1,
-};
+const ERASES_ZERO: ExpectedCall = erased!(Call::EraseOne, 0, false);
 
-const DRAINS_ZERO: ExpectedCall = (
-    Call::DrainOne,
-    Done::Drained(Drain::Drained {
-        block: 0,
-        copied: 0,
-    }),
-);
+const ERASES_ONE: ExpectedCall = erased!(Call::EraseOne, 1, false);
 
-const DRAINS_ONE: ExpectedCall = (
-    Call::DrainOne,
-    Done::Drained(Drain::Drained {
-        block: 1,
-        copied: 0,
-    }),
-);
-
-const DRAINS_TWO: ExpectedCall = (
-    Call::DrainOne,
-    Done::Drained(Drain::Drained {
-        block: 2,
-        copied: 0,
-    }),
-);
-
-const ERASES_ZERO: ExpectedCall = (
-    Call::EraseOne,
-    Done::Erased(Erase::Erased {
-        block: 0,
-        kept: false,
-    }),
-);
-
-const ERASES_ONE: ExpectedCall = (
-    Call::EraseOne,
-    Done::Erased(Erase::Erased {
-        block: 1,
-        kept: false,
-    }),
-);
-
-const ERASES_TWO: ExpectedCall = (
-    Call::EraseOne,
-    Done::Erased(Erase::Erased {
-        block: 2,
-        kept: false,
-    }),
-);
+const ERASES_TWO: ExpectedCall = erased!(Call::EraseOne, 2, false);
 
 const RETIRES_ZERO: ExpectedCall = (Call::EraseOne, Done::Erased(Erase::Retired { block: 0 }));
 
@@ -92,15 +31,24 @@ const PINNED: ExpectedCall = (Call::EraseOne, Done::Erased(Erase::Pinned));
 
 const STALE: ExpectedCall = (Call::EraseOne, Done::Erased(Erase::Stale));
 
+// A page of block 0 is held when the block is drained and can't be erased, and then these steps are made.
+macro_rules! held_and_drained {
+    ($($step:expr),* $(,)?) => {
+        [
+            Step::By(Who::A, (Call::Write(0, 1), EMPTY)),
+            Step::By(Who::A, (Call::Write(1, 2), EMPTY)),
+            Step::By(Who::B, (Call::Hold(0), Done::Holds(Some((0, 0))))),
+            Step::By(Who::A, (Call::Write(0, 3), WRITTEN)),
+            Step::By(Who::A, (Call::Write(1, 4), WRITTEN)),
+            Step::By(Who::First, DRAINS_ZERO),
+            Step::By(Who::First, PINNED),
+            $($step),*
+        ]
+    };
+}
+
 // The broom makes a `stand` with the hold.
-const PUTS_A_HELD_BLOCK_BACK: [Step; 14] = [
-    Step::By(Who::A, (Call::Write(0, 1), EMPTY)),
-    Step::By(Who::A, (Call::Write(1, 2), EMPTY)),
-    Step::By(Who::B, (Call::Hold(0), Done::Holds(Some((0, 0))))),
-    Step::By(Who::A, (Call::Write(0, 3), WRITTEN)),
-    Step::By(Who::A, (Call::Write(1, 4), WRITTEN)),
-    Step::By(Who::First, DRAINS_ZERO),
-    Step::By(Who::First, PINNED),
+const PUTS_A_HELD_BLOCK_BACK: [Step; 14] = held_and_drained![
     Step::Meet(Who::B, Who::First),
     Step::By(Who::B, (Call::Look, Done::Looked(1))),
     Step::By(Who::B, (Call::Release, Done::Released)),
@@ -113,14 +61,7 @@ const PUTS_A_HELD_BLOCK_BACK: [Step; 14] = [
     Step::By(Who::A, (Call::Hold(0), Done::Holds(Some((0, 1))))),
 ];
 
-const RETIRES_A_HELD_BLOCK: [Step; 14] = [
-    Step::By(Who::A, (Call::Write(0, 1), EMPTY)),
-    Step::By(Who::A, (Call::Write(1, 2), EMPTY)),
-    Step::By(Who::B, (Call::Hold(0), Done::Holds(Some((0, 0))))),
-    Step::By(Who::A, (Call::Write(0, 3), WRITTEN)),
-    Step::By(Who::A, (Call::Write(1, 4), WRITTEN)),
-    Step::By(Who::First, DRAINS_ZERO),
-    Step::By(Who::First, PINNED),
+const RETIRES_A_HELD_BLOCK: [Step; 14] = held_and_drained![
     Step::Meet(Who::B, Who::First),
     Step::By(Who::B, (Call::Look, Done::Looked(1))),
     Step::By(Who::B, (Call::Release, Done::Released)),
@@ -134,14 +75,7 @@ const RETIRES_A_HELD_BLOCK: [Step; 14] = [
 ];
 
 // Block 0 isn't erased, and the others wear out.
-const HOLDS_WHILE_OTHERS_WEAR_OUT: [Step; 46] = [
-    Step::By(Who::A, (Call::Write(0, 1), EMPTY)),
-    Step::By(Who::A, (Call::Write(1, 2), EMPTY)),
-    Step::By(Who::B, (Call::Hold(0), Done::Holds(Some((0, 0))))),
-    Step::By(Who::A, (Call::Write(0, 3), WRITTEN)),
-    Step::By(Who::A, (Call::Write(1, 4), WRITTEN)),
-    Step::By(Who::First, DRAINS_ZERO),
-    Step::By(Who::First, PINNED),
+const HOLDS_WHILE_OTHERS_WEAR_OUT: [Step; 46] = held_and_drained![
     Step::By(Who::First, PINNED),
     Step::Meet(Who::B, Who::First),
     Step::By(Who::B, (Call::Look, Done::Looked(1))),
@@ -183,21 +117,9 @@ const HOLDS_WHILE_OTHERS_WEAR_OUT: [Step; 46] = [
     Step::By(Who::A, (Call::Write(0, 13), WRITTEN)),
 ];
 
-const FREES_ZERO: ExpectedCall = (
-    Call::Erase(0),
-    Done::Erased(Erase::Erased {
-        block: 0,
-        kept: false,
-    }),
-);
+const FREES_ZERO: ExpectedCall = erased!(Call::Erase(0), 0, false);
 
-const FREES_ONE: ExpectedCall = (
-    Call::Erase(1),
-    Done::Erased(Erase::Erased {
-        block: 1,
-        kept: false,
-    }),
-);
+const FREES_ONE: ExpectedCall = erased!(Call::Erase(1), 1, false);
 
 // The second broom fills the queue, and erases the blocks that aren't in it.
 const SETS_A_BLOCK_ASIDE: [Step; 38] = [

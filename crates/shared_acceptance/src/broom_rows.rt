@@ -1,58 +1,23 @@
 //! Brooms that drain and erase blocks while two hosts make calls.
 use crate::calls::{Call, Done, EMPTY, WRITTEN};
 use crate::idle_actors::Who;
-use crate::playing_rows::{Device, Row, check_row};
+use crate::playing_rows::{Row, check_row};
+use crate::row_calls::{ONE_BROOM, TWO_BROOMS, drained, erased};
 use crate::schedule::{ExpectedCall, Step};
 use broom::{Drain, Erase};
 use flash_table::Point;
 use std::test::Fail;
 
-const ONE_BROOM: Device = Device {
-    blocks: 5,
-    endurance: 10,
-    brooms: 1,
-};
-
-const TWO_BROOMS: Device = Device {
-    blocks: 7,
-    endurance: 10,
-    brooms: 2,
-};
-
 // A drain of the first block that moved no page.
-const DRAINED: ExpectedCall = (
-    Call::Drain,
-    Done::Drained(Drain::Drained {
-        block: 0,
-        copied: 0,
-    }),
-);
+const DRAINED: ExpectedCall = drained!(Call::Drain, 0, 0);
 
 // A drain that moved a page.
-const MOVED: ExpectedCall = (
-    Call::Drain,
-    Done::Drained(Drain::Drained {
-        block: 0,
-        copied: 1,
-    }),
-);
+const MOVED: ExpectedCall = drained!(Call::Drain, 0, 1);
 
-const ERASED: ExpectedCall = (
-    Call::Erase(0),
-    Done::Erased(Erase::Erased {
-        block: 0,
-        kept: false,
-    }),
-);
+const ERASED: ExpectedCall = erased!(Call::Erase(0), 0, false);
 
 // The first block is erased by a broom that has copied into its spare, and is the next spare.
-const KEPT: ExpectedCall = (
-    Call::Erase(0),
-    Done::Erased(Erase::Erased {
-        block: 0,
-        kept: true,
-    }),
-);
+const KEPT: ExpectedCall = erased!(Call::Erase(0), 0, true);
 
 const PINNED: ExpectedCall = (Call::Erase(0), Done::Erased(Erase::Pinned));
 
@@ -168,26 +133,8 @@ const LOOKS_THREE_TIMES_BESIDE: [(Who, ExpectedCall); 8] = [
     (Who::First, ERASED),
     (Who::A, (Call::Write(0, 5), WRITTEN)),
     (Who::A, (Call::Write(1, 6), WRITTEN)),
-    (
-        Who::First,
-        (
-            Call::Drain,
-            Done::Drained(Drain::Drained {
-                block: 1,
-                copied: 0,
-            }),
-        ),
-    ),
-    (
-        Who::First,
-        (
-            Call::Erase(1),
-            Done::Erased(Erase::Erased {
-                block: 1,
-                kept: false,
-            }),
-        ),
-    ),
+    (Who::First, drained!(Call::Drain, 1, 0)),
+    (Who::First, erased!(Call::Erase(1), 1, false)),
 ];
 
 const DRAINS_BY_TWO: [Step; 6] = [
@@ -199,16 +146,7 @@ const DRAINS_BY_TWO: [Step; 6] = [
     Step::Meet(Who::First, Who::Second),
 ];
 
-const DRAINS_BY_TWO_BESIDE: [(Who, ExpectedCall); 1] = [(
-    Who::Second,
-    (
-        Call::Drain,
-        Done::Drained(Drain::Drained {
-            block: 1,
-            copied: 1,
-        }),
-    ),
-)];
+const DRAINS_BY_TWO_BESIDE: [(Who, ExpectedCall); 1] = [(Who::Second, drained!(Call::Drain, 1, 1))];
 
 const ERASES_BY_TWO: [Step; 8] = [
     Step::By(Who::A, (Call::Write(1, 1), EMPTY)),

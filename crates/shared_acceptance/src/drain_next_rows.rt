@@ -1,112 +1,33 @@
 //! Brooms that drain again with their last survey, and brooms that have lost their spare, while two hosts make calls.
 use crate::calls::{Call, Done, EMPTY, FULL, TRIMMED, WRITTEN};
 use crate::idle_actors::Who;
-use crate::playing_rows::{Device, Row, check_row};
+use crate::playing_rows::{Row, check_row};
+use crate::row_calls::{ONCE, ONE_BROOM, TWICE, TWO_BROOMS, drained, erased};
 use crate::schedule::{ExpectedCall, Step};
 use broom::{Drain, Erase};
 use std::test::Fail;
 
-const ONE_BROOM: Device = Device {
-    blocks: 5,
-    endurance: 10,
-    brooms: 1,
-};
+const DRAINS_ONE: ExpectedCall = drained!(Call::Drain, 1, 0);
 
-const TWO_BROOMS: Device = Device {
-    blocks: 7,
-    endurance: 10,
-    brooms: 2,
-};
-
-// Each block may be erased once.
-const ONCE: Device = Device {
-    blocks: 5,
-    endurance: 1,
-    brooms: 1,
-};
-
-// Each block may be erased twice.
-const TWICE: Device = Device {
-    blocks: 5,
-    endurance: 2,
-    brooms: 1,
-};
-
-const DRAINS_ONE: ExpectedCall = (
-    Call::Drain,
-    Done::Drained(Drain::Drained {
-        block: 1,
-        copied: 0,
-    }),
-);
-
-const DRAINS_NEXT_ZERO_BY_MOVES: ExpectedCall = (
-    Call::DrainNext,
-    Done::Drained(Drain::Drained {
-        block: 0,
-        copied: 1,
-    }),
-);
+const DRAINS_NEXT_ZERO_BY_MOVES: ExpectedCall = drained!(Call::DrainNext, 0, 1);
 
 const NO_SPARE_FOR_NEXT: ExpectedCall = (Call::DrainNext, Done::Drained(Drain::NoSpare));
 
-const DRAINS_NEXT_ZERO: ExpectedCall = (
-    Call::DrainNext,
-    Done::Drained(Drain::Drained {
-        block: 0,
-        copied: 0,
-    }),
-);
+const DRAINS_NEXT_ZERO: ExpectedCall = drained!(Call::DrainNext, 0, 0);
 
-const DRAINS_NEXT_TWO_BY_MOVES: ExpectedCall = (
-    Call::DrainNext,
-    Done::Drained(Drain::Drained {
-        block: 2,
-        copied: 1,
-    }),
-);
+const DRAINS_NEXT_TWO_BY_MOVES: ExpectedCall = drained!(Call::DrainNext, 2, 1);
 
-const KEEPS_ZERO: ExpectedCall = (
-    Call::Erase(0),
-    Done::Erased(Erase::Erased {
-        block: 0,
-        kept: true,
-    }),
-);
+const KEEPS_ZERO: ExpectedCall = erased!(Call::Erase(0), 0, true);
 
-const DRAINS_NEXT_TWO: ExpectedCall = (
-    Call::DrainNext,
-    Done::Drained(Drain::Drained {
-        block: 2,
-        copied: 0,
-    }),
-);
+const DRAINS_NEXT_TWO: ExpectedCall = drained!(Call::DrainNext, 2, 0);
 
-const DRAINS_ZERO_BY_MOVES: ExpectedCall = (
-    Call::Drain,
-    Done::Drained(Drain::Drained {
-        block: 0,
-        copied: 1,
-    }),
-);
+const DRAINS_ZERO_BY_MOVES: ExpectedCall = drained!(Call::Drain, 0, 1);
 
 const LOSES_NEXT: ExpectedCall = (Call::DrainNext, Done::Drained(Drain::Lost));
 
-const FREES_ZERO: ExpectedCall = (
-    Call::Erase(0),
-    Done::Erased(Erase::Erased {
-        block: 0,
-        kept: false,
-    }),
-);
+const FREES_ZERO: ExpectedCall = erased!(Call::Erase(0), 0, false);
 
-const FREES_ONE: ExpectedCall = (
-    Call::Erase(1),
-    Done::Erased(Erase::Erased {
-        block: 1,
-        kept: false,
-    }),
-);
+const FREES_ONE: ExpectedCall = erased!(Call::Erase(1), 1, false);
 
 const NOTHING_NEXT: ExpectedCall = (Call::DrainNext, Done::Drained(Drain::NothingToGain));
 
@@ -118,95 +39,56 @@ const RETIRES_ZERO: ExpectedCall = (Call::Erase(0), Done::Erased(Erase::Retired 
 
 const NO_SPARE: ExpectedCall = (Call::Drain, Done::Drained(Drain::NoSpare));
 
-const DRAINS_ONE_BY_MOVES: ExpectedCall = (
-    Call::Drain,
-    Done::Drained(Drain::Drained {
-        block: 1,
-        copied: 1,
-    }),
-);
+const DRAINS_ONE_BY_MOVES: ExpectedCall = drained!(Call::Drain, 1, 1);
 
 const RETIRES_ONE: ExpectedCall = (Call::Erase(1), Done::Erased(Erase::Retired { block: 1 }));
 
-const DRAINS_THREE_BY_MOVES: ExpectedCall = (
-    Call::Drain,
-    Done::Drained(Drain::Drained {
-        block: 3,
-        copied: 1,
-    }),
-);
+const DRAINS_THREE_BY_MOVES: ExpectedCall = drained!(Call::Drain, 3, 1);
 
 const RETIRES_THREE: ExpectedCall = (Call::Erase(3), Done::Erased(Erase::Retired { block: 3 }));
 
 const FINDS_NO_SPARE: ExpectedCall = (Call::Restock, Done::Restocked(false));
 
-const DRAINS_TWO_BY_MOVES: ExpectedCall = (
-    Call::Drain,
-    Done::Drained(Drain::Drained {
-        block: 2,
-        copied: 1,
-    }),
-);
+const DRAINS_TWO_BY_MOVES: ExpectedCall = drained!(Call::Drain, 2, 1);
 
-const KEEPS_TWO: ExpectedCall = (
-    Call::Erase(2),
-    Done::Erased(Erase::Erased {
-        block: 2,
-        kept: true,
-    }),
-);
+const KEEPS_TWO: ExpectedCall = erased!(Call::Erase(2), 2, true);
 
-const DRAINS_FOUR_BY_MOVES: ExpectedCall = (
-    Call::Drain,
-    Done::Drained(Drain::Drained {
-        block: 4,
-        copied: 1,
-    }),
-);
+const DRAINS_FOUR_BY_MOVES: ExpectedCall = drained!(Call::Drain, 4, 1);
 
-const FREES_FOUR: ExpectedCall = (
-    Call::Erase(4),
-    Done::Erased(Erase::Erased {
-        block: 4,
-        kept: false,
-    }),
-);
+const FREES_FOUR: ExpectedCall = erased!(Call::Erase(4), 4, false);
 
 const RETIRES_TWO: ExpectedCall = (Call::Erase(2), Done::Erased(Erase::Retired { block: 2 }));
 
-// In block 0 the page of sector 1 is live, in block 1 none, and in block 2 that of sector 0.
-const GOES_ON: [Step; 9] = [
-    Step::By(Who::A, (Call::Write(0, 1), EMPTY)),
-    Step::By(Who::A, (Call::Write(1, 2), EMPTY)),
-    Step::By(Who::A, (Call::Write(0, 3), WRITTEN)),
-    Step::By(Who::A, (Call::Write(0, 4), WRITTEN)),
-    Step::By(Who::A, (Call::Write(0, 5), WRITTEN)),
-    Step::By(Who::A, (Call::Write(0, 6), WRITTEN)),
+// A host fills blocks 0, 1 and 2, and then these steps are made. In block 0 the page of sector 1 is live, in block 1 none, and in block 2
+// that of sector 0.
+macro_rules! three_filled {
+    ($($step:expr),* $(,)?) => {
+        [
+            Step::By(Who::A, (Call::Write(0, 1), EMPTY)),
+            Step::By(Who::A, (Call::Write(1, 2), EMPTY)),
+            Step::By(Who::A, (Call::Write(0, 3), WRITTEN)),
+            Step::By(Who::A, (Call::Write(0, 4), WRITTEN)),
+            Step::By(Who::A, (Call::Write(0, 5), WRITTEN)),
+            Step::By(Who::A, (Call::Write(0, 6), WRITTEN)),
+            $($step),*
+        ]
+    };
+}
+
+const GOES_ON: [Step; 9] = three_filled![
     Step::By(Who::First, DRAINS_ONE),
     Step::By(Who::First, DRAINS_NEXT_ZERO_BY_MOVES),
     Step::By(Who::First, NO_SPARE_FOR_NEXT),
 ];
 
-const GOES_ON_PAST_A_TRIM: [Step; 10] = [
-    Step::By(Who::A, (Call::Write(0, 1), EMPTY)),
-    Step::By(Who::A, (Call::Write(1, 2), EMPTY)),
-    Step::By(Who::A, (Call::Write(0, 3), WRITTEN)),
-    Step::By(Who::A, (Call::Write(0, 4), WRITTEN)),
-    Step::By(Who::A, (Call::Write(0, 5), WRITTEN)),
-    Step::By(Who::A, (Call::Write(0, 6), WRITTEN)),
+const GOES_ON_PAST_A_TRIM: [Step; 10] = three_filled![
     Step::By(Who::First, DRAINS_ONE),
     Step::By(Who::A, (Call::Trim(1), TRIMMED)),
     Step::By(Who::First, DRAINS_NEXT_ZERO),
     Step::By(Who::First, DRAINS_NEXT_TWO_BY_MOVES),
 ];
 
-const GOES_ON_PAST_A_WRITE: [Step; 12] = [
-    Step::By(Who::A, (Call::Write(0, 1), EMPTY)),
-    Step::By(Who::A, (Call::Write(1, 2), EMPTY)),
-    Step::By(Who::A, (Call::Write(0, 3), WRITTEN)),
-    Step::By(Who::A, (Call::Write(0, 4), WRITTEN)),
-    Step::By(Who::A, (Call::Write(0, 5), WRITTEN)),
-    Step::By(Who::A, (Call::Write(0, 6), WRITTEN)),
+const GOES_ON_PAST_A_WRITE: [Step; 12] = three_filled![
     Step::By(Who::First, DRAINS_ONE),
     Step::By(Who::A, (Call::Write(0, 7), WRITTEN)),
     Step::By(Who::First, DRAINS_NEXT_ZERO_BY_MOVES),
@@ -215,13 +97,7 @@ const GOES_ON_PAST_A_WRITE: [Step; 12] = [
     Step::By(Who::First, DRAINS_NEXT_TWO),
 ];
 
-const LOSES_A_BLOCK: [Step; 11] = [
-    Step::By(Who::A, (Call::Write(0, 1), EMPTY)),
-    Step::By(Who::A, (Call::Write(1, 2), EMPTY)),
-    Step::By(Who::A, (Call::Write(0, 3), WRITTEN)),
-    Step::By(Who::A, (Call::Write(0, 4), WRITTEN)),
-    Step::By(Who::A, (Call::Write(0, 5), WRITTEN)),
-    Step::By(Who::A, (Call::Write(0, 6), WRITTEN)),
+const LOSES_A_BLOCK: [Step; 11] = three_filled![
     Step::By(Who::First, DRAINS_ONE),
     Step::By(Who::Second, DRAINS_ZERO_BY_MOVES),
     Step::By(Who::First, LOSES_NEXT),
@@ -230,26 +106,14 @@ const LOSES_A_BLOCK: [Step; 11] = [
 ];
 
 // The second broom drains a block that the first one has marked, and the first one erases it.
-const ERASES_BETWEEN: [Step; 10] = [
-    Step::By(Who::A, (Call::Write(0, 1), EMPTY)),
-    Step::By(Who::A, (Call::Write(1, 2), EMPTY)),
-    Step::By(Who::A, (Call::Write(0, 3), WRITTEN)),
-    Step::By(Who::A, (Call::Write(0, 4), WRITTEN)),
-    Step::By(Who::A, (Call::Write(0, 5), WRITTEN)),
-    Step::By(Who::A, (Call::Write(0, 6), WRITTEN)),
+const ERASES_BETWEEN: [Step; 10] = three_filled![
     Step::By(Who::First, DRAINS_ONE),
     Step::By(Who::Second, DRAINS_ZERO_BY_MOVES),
     Step::By(Who::First, FREES_ZERO),
     Step::By(Who::First, DRAINS_NEXT_TWO_BY_MOVES),
 ];
 
-const ERASES_ITS_OWN: [Step; 12] = [
-    Step::By(Who::A, (Call::Write(0, 1), EMPTY)),
-    Step::By(Who::A, (Call::Write(1, 2), EMPTY)),
-    Step::By(Who::A, (Call::Write(0, 3), WRITTEN)),
-    Step::By(Who::A, (Call::Write(0, 4), WRITTEN)),
-    Step::By(Who::A, (Call::Write(0, 5), WRITTEN)),
-    Step::By(Who::A, (Call::Write(0, 6), WRITTEN)),
+const ERASES_ITS_OWN: [Step; 12] = three_filled![
     Step::By(Who::First, DRAINS_ONE),
     Step::By(Who::First, FREES_ONE),
     Step::By(Who::A, (Call::Write(0, 7), WRITTEN)),
@@ -258,13 +122,7 @@ const ERASES_ITS_OWN: [Step; 12] = [
     Step::By(Who::First, NO_SPARE_FOR_NEXT),
 ];
 
-const HAS_NO_SURVEY: [Step; 14] = [
-    Step::By(Who::A, (Call::Write(0, 1), EMPTY)),
-    Step::By(Who::A, (Call::Write(1, 2), EMPTY)),
-    Step::By(Who::A, (Call::Write(0, 3), WRITTEN)),
-    Step::By(Who::A, (Call::Write(0, 4), WRITTEN)),
-    Step::By(Who::A, (Call::Write(0, 5), WRITTEN)),
-    Step::By(Who::A, (Call::Write(0, 6), WRITTEN)),
+const HAS_NO_SURVEY: [Step; 14] = three_filled![
     Step::By(Who::First, NOTHING_NEXT),
     Step::By(Who::First, DRAINS_ONE),
     Step::By(Who::A, (Call::Trim(0), TRIMMED)),

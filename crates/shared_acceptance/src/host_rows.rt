@@ -1,22 +1,11 @@
 //! Two hosts at a device, without a broom or with one that does nothing.
 use crate::calls::{Call, Done, EMPTY, FULL, TRIMMED, WRITTEN};
 use crate::idle_actors::Who;
-use crate::playing_rows::{Device, Row, check_row};
+use crate::playing_rows::{Row, check_row};
+use crate::row_calls::{NO_BROOM, ONE_BROOM};
 use crate::schedule::{ExpectedCall, Step};
 use flash_table::Point;
 use std::test::Fail;
-
-const NO_BROOM: Device = Device {
-    blocks: 5,
-    endurance: 10,
-    brooms: 0,
-};
-
-const ONE_BROOM: Device = Device {
-    blocks: 5,
-    endurance: 10,
-    brooms: 1,
-};
 
 const READS_THE_OTHERS: [Step; 2] = [
     Step::By(Who::A, (Call::Write(0, 1), EMPTY)),

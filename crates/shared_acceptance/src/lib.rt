@@ -60,6 +60,8 @@ mod random_schedules;
 #[cfg(test)]
 mod refusals;
 #[cfg(test)]
+mod row_calls;
+#[cfg(test)]
 mod schedule;
 #[cfg(test)]
 mod sizes;

@@ -41,11 +41,21 @@ only (c ∷ h) t u y apart both low one none =
     (λ (theirs : caller c ≡ u). let some : c ∷ calls_of u h ≡ [] = rw (eq-eqb (caller c) u theirs) at none in absurd (cc))
     (both (caller c) (All-head (λ x. caller x < 2) c h low))
 
+-- the first call is one host's, and then comes the one of the other
+first_of : (c : Call) (h : List Call) (a b : ℕ) (x y : Call) → ¬ (a ≡ b) → ((k : ℕ) → k < 2 → (k ≡ b) ⊎ (k ≡ a)) → All (λ c. caller c < 2) h
+    → caller c ≡ a → calls_of a (c ∷ h) ≡ x ∷ [] → calls_of b (c ∷ h) ≡ y ∷ [] → (c ≡ x) × (h ≡ y ∷ [])
+first_of c h a b x y apart both low mine one two =
+    let first : c ∷ calls_of a h ≡ x ∷ [] = rw (eq-eqb (caller c) a mine) at one in
+    let last : calls_of b h ≡ y ∷ [] = rw (ne_eqb (caller c) b (λ same. apart (sym mine ∙ same))) at two in
+    let is : c ≡ x = (cc) in
+    let no_more : calls_of a h ≡ [] = (cc) in
+    (is, only h b a y (λ e. apart (sym e)) both low last no_more)
+
 zero_or_one : (k : ℕ) → k < 2 → (k ≡ 0) ⊎ (k ≡ 1)
 zero_or_one k below = dite (ℕ_discrete k 0) (λ same. inl same) (λ other. inr (omega arith))
 
 one_or_zero : (k : ℕ) → k < 2 → (k ≡ 1) ⊎ (k ≡ 0)
-one_or_zero k below = dite (ℕ_discrete k 1) (λ same. inl same) (λ other. inr (omega arith))
+one_or_zero k below = ⊎_elim (λ (zero : k ≡ 0). inr zero) (λ (one : k ≡ 1). inl one) (zero_or_one k below)
 
 -- the calls of two hosts, one each, in one order or the other
 pub in_some_order : (h : List Call) (x y : Call) → All (λ c. caller c < 2) h → calls_of 0 h ≡ x ∷ [] → calls_of 1 h ≡ y ∷ []
@@ -54,22 +64,8 @@ in_some_order [] x y low one two = absurd (cc)
 in_some_order (c ∷ h) x y low one two =
     let rest = All-tail (λ z. caller z < 2) c h low in
     ⊎_elim
-    (λ (mine : caller c ≡ 0).
-    let other : ¬ (caller c ≡ 1) = λ same. omega arith in
-    let first : c ∷ calls_of 0 h ≡ x ∷ [] = rw (eq-eqb (caller c) 0 mine) at one in
-    let last : calls_of 1 h ≡ y ∷ [] = rw (ne_eqb (caller c) 1 other) at two in
-    let is : c ≡ x = (cc) in
-    let no_more : calls_of 0 h ≡ [] = (cc) in
-    let then_other : h ≡ y ∷ [] = only h 1 0 y (λ e. omega (arith, e)) one_or_zero rest last no_more in
-    inl (λ i. is i ∷ then_other i))
-    (λ (theirs : caller c ≡ 1).
-    let other : ¬ (caller c ≡ 0) = λ same. omega arith in
-    let first : c ∷ calls_of 1 h ≡ y ∷ [] = rw (eq-eqb (caller c) 1 theirs) at two in
-    let last : calls_of 0 h ≡ x ∷ [] = rw (ne_eqb (caller c) 0 other) at one in
-    let is : c ≡ y = (cc) in
-    let no_more : calls_of 1 h ≡ [] = (cc) in
-    let then_other : h ≡ x ∷ [] = only h 0 1 x (λ e. omega (arith, e)) zero_or_one rest last no_more in
-    inr (λ i. is i ∷ then_other i))
+    (λ (mine : caller c ≡ 0). let e = first_of c h 0 1 x y (λ e. omega (arith, e)) one_or_zero rest mine one two in inl (λ i. e.0 i ∷ e.1 i))
+    (λ (theirs : caller c ≡ 1). let e = first_of c h 1 0 y x (λ e. omega (arith, e)) zero_or_one rest theirs two one in inr (λ i. e.0 i ∷ e.1 i))
     (zero_or_one (caller c) (All-head (λ z. caller z < 2) c h low))
 
 -- a write to sector 0 by one host and a write to sector 1 by the other

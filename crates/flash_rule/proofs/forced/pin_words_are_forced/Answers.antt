@@ -1,5 +1,5 @@
-use Rattle.flash_rule.proofs.ForcedWords.{takes_forced, pins_forced, unpins_forced, counts_forced, closes_forced, claims_forced, drains_forced}
-use Rattle.flash_rule.proofs.ForcedWords.{condemns_forced, frees_forced, keeps_forced, retires_forced}
+use Rattle.flash_rule.proofs.Forcing.{takes_forced, pins_forced, unpins_forced, counts_forced, closes_forced, claims_forced, drains_forced}
+use Rattle.flash_rule.proofs.Forcing.{condemns_forced, frees_forced, keeps_forced, retires_forced}
 use Rattle.flash_rule.proofs.forced.pin_words_are_forced.Goals as goal
 
 pub returns-clause-takes : goal.returns-clause-takes

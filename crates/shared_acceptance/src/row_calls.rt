@@ -1,0 +1,63 @@
+//! What the rows of several files have in common: the devices on which they are played, and the expected calls of brooms.
+use crate::playing_rows::Device;
+
+pub(crate) const NO_BROOM: Device = Device {
+    blocks: 5,
+    endurance: 10,
+    brooms: 0,
+};
+
+pub(crate) const ONE_BROOM: Device = Device {
+    blocks: 5,
+    endurance: 10,
+    brooms: 1,
+};
+
+pub(crate) const TWO_BROOMS: Device = Device {
+    blocks: 7,
+    endurance: 10,
+    brooms: 2,
+};
+
+// Each block may be erased once.
+pub(crate) const ONCE: Device = Device {
+    blocks: 5,
+    endurance: 1,
+    brooms: 1,
+};
+
+// Each block may be erased twice.
+pub(crate) const TWICE: Device = Device {
+    blocks: 5,
+    endurance: 2,
+    brooms: 1,
+};
+
+// A call that drains this block, and copies so many of its pages.
+macro_rules! drained {
+    ($call:expr, $block:literal, $copied:literal) => {
+        (
+            $call,
+            Done::Drained(Drain::Drained {
+                block: $block,
+                copied: $copied,
+            }),
+        )
+    };
+}
+
+// A call that erases this block, and whether the broom keeps it.
+macro_rules! erased {
+    ($call:expr, $block:literal, $kept:literal) => {
+        (
+            $call,
+            Done::Erased(Erase::Erased {
+                block: $block,
+                kept: $kept,
+            }),
+        )
+    };
+}
+
+pub(crate) use drained;
+pub(crate) use erased;
