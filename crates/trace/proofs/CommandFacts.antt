@@ -4,14 +4,17 @@ use Rattle.std.proofs.Common.{refl, sym, subst, ap, ap₂, ◌∙◌, append_ass
 use Rattle.std.proofs.lemmas.List.{length-map, map-append, take-append-le, take_all}
 use Rattle.std.proofs.lemmas.List.Elements.{All-append, All-cons, All-nil}
 use Rattle.std.proofs.Math.Seq.{drop-append-add, drop-append_seam}
-use Rattle.std.specs.Prelude.{All, Some, slice_get, slice_index_or}
+use Rattle.std.specs.Prelude.{All, Ok, Some, slice_get, slice_index_or}
+use Rattle.geometry.specs.declared.geometry.Geometry.{Geometry}
+use Rattle.trace.proofs.RowFacts.{few_records}
 use Rattle.trace.specs.Digits.{IsData}
 use Rattle.trace.specs.Parsing.{page_len}
-use Rattle.trace.specs.Stored.{IsKept, command_at, digits_at, drafted, head_of, with_digits}
+use Rattle.trace.specs.Stored.{IsKept, command_at, digits_at, drafted, head_of, stored_in, with_digits}
+use Rattle.trace.specs.Trace.{AreCommands, checked, command_of, records_of}
 use Rattle.trace.specs.declared.commands.Command.{Command}
 use Rattle.trace.specs.declared.draft.Draft.{Draft}
-use Rattle.trace.specs.declared.draft.Head.{Head}
-use Rattle.trace.specs.declared.draft.Stored.{Stored}
+use Rattle.trace.specs.declared.stored.Head.{Head}
+use Rattle.trace.specs.declared.stored.Stored.{Stored}
 
 -- what a list holds at a place and after it, seen through a function
 pub drop-map_at : {A B : Type 0} (f : A → B) (xs : List A) (i : ℕ) (x : A) → i < length xs → x ≡ slice_index_or xs i x
@@ -128,5 +131,14 @@ module _ (text odd digits : List ℕ) (size : ℕ) (xs : List Stored) (s : Store
   }
 
 -- the number of the line behind the commands so far
-pub line_is : (text : List ℕ) (d : Draft) → length d.stored.items + 1 ≡ length (drafted text d) + 1
-line_is text d = ap (λ n. n + 1) (sym (length-map d.stored.items (command_at text d.odd.items d.page_bytes)))
+pub line_is : (text : List ℕ) (d : Draft) → length (stored_in d.stored) + 1 ≡ length (drafted text d) + 1
+line_is text d = ap (λ n. n + 1) (sym (length-map (stored_in d.stored) (command_at text d.odd.items d.page_bytes)))
+
+-- there are no more commands than bytes of their text
+pub few_commands : (geo : Geometry) (text : List ℕ) (d : Draft) → AreCommands (checked geo text) (drafted text d) → length (stored_in d.stored) ≤ length text
+few_commands geo text d h =
+    let few = few_records text in
+    let records = length-map (records_of text) (command_of geo) in
+    let commands : length (drafted text d) ≡ length (stored_in d.stored) = length-map (stored_in d.stored) (command_at text d.odd.items d.page_bytes) in
+    let same : length (checked geo text) ≡ length (drafted text d) = ap length h ∙ length-map (drafted text d) Ok in
+    omega arith

@@ -8,4 +8,5 @@ pub mod NumberFacts
 pub mod PageFacts
 pub mod RecordFacts
 pub mod RowFacts
+pub mod StoredFacts
 pub mod UsualFacts
