@@ -8,5 +8,4 @@ pub mod NumberFacts
 pub mod PageFacts
 pub mod RecordFacts
 pub mod RowFacts
-pub mod StoredFacts
 pub mod UsualFacts

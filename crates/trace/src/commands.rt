@@ -2,11 +2,11 @@ ghost use Rattle.std.specs.Prelude.{◌≡◌, ◌⊎◌, ◌+◌, ◌^◌, ◌=
 ghost use Rattle.std.specs.Iterator.{YieldsFirst, item_count};
 ghost use Rattle.trace.specs.Trace.{name_of};
 ghost use Rattle.trace.specs.Parsing.{page_len};
-ghost use Rattle.trace.specs.Stored.{AreKept, digits_at, drafted, stored_in};
+ghost use Rattle.trace.specs.Stored.{AreKept, digits_at, drafted, lent_as, stored_in};
 
 use crate::draft::Draft;
 use crate::page::Page;
-use crate::stored::{AllStored, Stored};
+use crate::stored::{AllStored, Lent};
 use std::marker::Model;
 
 /// The operation of a line of a trace.
@@ -109,7 +109,7 @@ impl Commands {
         ensures rest { drop i self.now ≡ result ∷ drop (i + 1) self.now }
     {
         let stored = self.stored.at(i);
-        let head = stored.head();
+        let head = stored.brief.head();
         let digits = digits_at(&self.text, &self.odd, &stored);
         Command {
             worker: u32::from(head.worker),
@@ -131,13 +131,13 @@ impl Commands {
 }
 
 // The digits of a command.
-fn digits_at<'a>(text: &'a [u8], odd: &'a [u8], stored: &Stored) -> &'a [u8]
-    requires within { stored.now.start + stored.now.digits ≤ length (text.now ++ odd.now) }
-    requires whole { (stored.now.start + stored.now.digits ≤ length text.now) ⊎ (length text.now ≤ stored.now.start) }
-    ensures { result.now ≡ digits_at text.now odd.now stored.now }
+fn digits_at<'a>(text: &'a [u8], odd: &'a [u8], stored: &Lent) -> &'a [u8]
+    requires within { stored.now.start + stored.now.brief.now.digits ≤ length (text.now ++ odd.now) }
+    requires whole { (stored.now.start + stored.now.brief.now.digits ≤ length text.now) ⊎ (length text.now ≤ stored.now.start) }
+    ensures { result.now ≡ digits_at text.now odd.now (lent_as stored.now) }
 {
     let start = stored.start;
-    let count = usize::from(stored.digits);
+    let count = usize::from(stored.brief.digits);
     if count <= text.len() && start <= text.len() - count {
         &text[start..start + count]
     } else {

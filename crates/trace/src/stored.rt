@@ -1,7 +1,7 @@
 // The commands of a text as they are kept: what each line says, and the place of its digits.
 
 ghost use Rattle.std.specs.Prelude.{◌≡◌, ◌+◌, ◌^◌, ◌<◌, ◌++◌, ◌∷◌, ◌==◌, [], length, slice_index_or, OnOk};
-ghost use Rattle.trace.specs.Stored.{head_of, stored_in, widened};
+ghost use Rattle.trace.specs.Stored.{head_of, lent_as, stored_in, widened};
 
 use crate::commands::Op;
 use std::alloc::{AllocError, Global};
@@ -17,30 +17,48 @@ pub(crate) struct Head {
     pub(crate) sector: u32,
 }
 
-/// A command, and the place of its digits: in the text, or after the text's end among those of fields with quotes. The sector is stored in two
-/// parts, so that no byte is wasted.
+/// What a line says, and how many digits it has, in eight bytes: so the sector is stored in two parts.
 #[derive(Clone, Copy)]
-pub(crate) struct Stored {
-    pub(crate) start: usize,
+pub(crate) struct Brief {
     pub(crate) digits: u16,
-    pub(crate) worker: u16,
+    worker: u16,
     sector_low: u16,
     sector_high: u8,
-    pub(crate) op: Op,
+    op: Op,
+}
+
+/// A command, and the place of its digits: in the text, or after the text's end among those of fields with quotes.
+#[derive(Clone, Copy)]
+pub(crate) struct Stored {
+    start: usize,
+    brief: Brief,
+}
+
+/// The same of a command whose place has four bytes.
+#[derive(Clone, Copy)]
+pub(crate) struct Near {
+    start: u32,
+    brief: Brief,
 }
 
 const _: () = prove!(size_of::<Stored>() == 16);
 
-impl Stored {
-    // A line whose digits are at a place.
-    pub(crate) fn new(head: Head, start: usize, digits: u16) -> Stored
+const _: () = prove!(size_of::<Near>() == 12);
+
+/// A command that is stored, without a copy.
+#[derive(Clone, Copy)]
+pub(crate) struct Lent<'a> {
+    pub(crate) start: usize,
+    pub(crate) brief: &'a Brief,
+}
+
+impl Brief {
+    fn new(head: Head, digits: u16) -> Brief
         requires { head.sector < 2 ^ 24 }
         ensures head { head_of result ≡ head }
-        ensures start { result.start ≡ start }
         ensures digits { result.digits ≡ digits }
     {
-        Stored {
-            start,
+        Brief {
             digits,
             worker: head.worker,
             sector_low: (head.sector % 65_536) as u16,
@@ -61,18 +79,20 @@ impl Stored {
     }
 }
 
-/// The same of a command whose place has four bytes.
-#[derive(Clone, Copy)]
-pub(crate) struct Near {
-    start: u32,
-    digits: u16,
-    worker: u16,
-    sector_low: u16,
-    sector_high: u8,
-    op: Op,
+impl Stored {
+    /// A line whose digits are at a place.
+    pub(crate) fn new(head: Head, start: usize, digits: u16) -> Stored
+        requires { head.sector < 2 ^ 24 }
+        ensures head { head_of result.brief ≡ head }
+        ensures start { result.start ≡ start }
+        ensures digits { result.brief.digits ≡ digits }
+    {
+        Stored {
+            start,
+            brief: Brief::new(head, digits),
+        }
+    }
 }
-
-const _: () = prove!(size_of::<Near>() == 12);
 
 impl Near {
     fn new(stored: Stored) -> Near
@@ -81,24 +101,7 @@ impl Near {
     {
         Near {
             start: stored.start as u32,
-            digits: stored.digits,
-            worker: stored.worker,
-            sector_low: stored.sector_low,
-            sector_high: stored.sector_high,
-            op: stored.op,
-        }
-    }
-
-    fn widened(self) -> Stored
-        ensures { result ≡ widened self }
-    {
-        Stored {
-            start: self.start as usize,
-            digits: self.digits,
-            worker: self.worker,
-            sector_low: self.sector_low,
-            sector_high: self.sector_high,
-            op: self.op,
+            brief: stored.brief,
         }
     }
 }
@@ -130,14 +133,23 @@ impl AllStored {
     }
 
     /// The one at an index, from 0.
-    pub(crate) fn at(&self, i: usize) -> Stored
+    #[inline(always)]
+    pub(crate) fn at(&self, i: usize) -> Lent<'_>
         requires { i < length (stored_in self.now) }
-        ensures { result ≡ slice_index_or (stored_in self.now) i result }
+        ensures { lent_as result ≡ slice_index_or (stored_in self.now) i (lent_as result) }
     {
         if i < self.near.len() {
-            self.near[i].widened()
+            let near = &self.near[i];
+            Lent {
+                start: near.start as usize,
+                brief: &near.brief,
+            }
         } else {
-            self.far[i - self.near.len()]
+            let far = &self.far[i - self.near.len()];
+            Lent {
+                start: far.start,
+                brief: &far.brief,
+            }
         }
     }
 
