@@ -4,14 +4,17 @@ use Rattle.std.proofs.Common.{refl, sym, subst, ap, ap₂, ◌∙◌, append_ass
 use Rattle.std.proofs.lemmas.List.{length-map, map-append, take-append-le, take_all}
 use Rattle.std.proofs.lemmas.List.Elements.{All-append, All-cons, All-nil}
 use Rattle.std.proofs.Math.Seq.{drop-append-add, drop-append_seam}
-use Rattle.std.specs.Prelude.{All, Some, slice_get, slice_index_or}
+use Rattle.std.specs.Prelude.{All, Ok, Some, slice_get, slice_index_or}
+use Rattle.geometry.specs.declared.geometry.Geometry.{Geometry}
+use Rattle.trace.proofs.RowFacts.{few_records}
 use Rattle.trace.specs.Digits.{IsData}
 use Rattle.trace.specs.Parsing.{page_len}
-use Rattle.trace.specs.Stored.{IsKept, command_at, digits_at, drafted, head_of, with_digits}
+use Rattle.trace.specs.Stored.{IsKept, command_at, digits_at, drafted, head_of, stored_in, with_digits}
+use Rattle.trace.specs.Trace.{AreCommands, checked, command_of, records_of}
 use Rattle.trace.specs.declared.commands.Command.{Command}
 use Rattle.trace.specs.declared.draft.Draft.{Draft}
-use Rattle.trace.specs.declared.draft.Head.{Head}
-use Rattle.trace.specs.declared.draft.Stored.{Stored}
+use Rattle.trace.specs.declared.stored.Head.{Head}
+use Rattle.trace.specs.declared.stored.Stored.{Stored}
 
 -- what a list holds at a place and after it, seen through a function
 pub drop-map_at : {A B : Type 0} (f : A → B) (xs : List A) (i : ℕ) (x : A) → i < length xs → x ≡ slice_index_or xs i x
@@ -33,28 +36,28 @@ part-append (suc start) count [] ys h = absurd (omega arith)
 part-append (suc start) count (x ∷ xs) ys h = part-append start count xs ys (omega arith)
 
 -- digits that stand in the text
-pub digits-text : (text odd : List ℕ) (s : Stored) → s.start + s.digits ≤ length text → digits_at text odd s ≡ take s.digits (drop s.start text)
-digits-text text odd s h = part-append s.start s.digits text odd h
+pub digits-text : (text odd : List ℕ) (s : Stored) → s.start + s.brief.digits ≤ length text → digits_at text odd s ≡ take s.brief.digits (drop s.start text)
+digits-text text odd s h = part-append s.start s.brief.digits text odd h
 
 -- digits that stand behind it
-pub digits-odd : (text odd : List ℕ) (s : Stored) → length text ≤ s.start → digits_at text odd s ≡ take s.digits (drop (s.start - length text) odd)
+pub digits-odd : (text odd : List ℕ) (s : Stored) → length text ≤ s.start → digits_at text odd s ≡ take s.brief.digits (drop (s.start - length text) odd)
 digits-odd text odd s h =
     let there : s.start ≡ length text + (s.start - length text) = omega arith in
-    ap (λ n. take s.digits (drop n (text ++ odd))) there ∙ ap (take s.digits) (drop-append-add text odd (s.start - length text))
+    ap (λ n. take s.brief.digits (drop n (text ++ odd))) there ∙ ap (take s.brief.digits) (drop-append-add text odd (s.start - length text))
 
 -- digits that are put behind the odd ones
-digits-new : (text odd digits : List ℕ) (s : Stored) → s.start ≡ length text + length odd → s.digits ≡ length digits → digits_at text (odd ++ digits) s ≡ digits
+digits-new : (text odd digits : List ℕ) (s : Stored) → s.start ≡ length text + length odd → s.brief.digits ≡ length digits → digits_at text (odd ++ digits) s ≡ digits
 digits-new text odd digits s start count =
     let seam : s.start ≡ length (text ++ odd) = omega (arith, start, length-append text odd) in
-    ap (λ l. take s.digits (drop s.start l)) (sym (append_assoc text odd digits))
+    ap (λ l. take s.brief.digits (drop s.start l)) (sym (append_assoc text odd digits))
     ∙ ap₂ (λ (n k : ℕ). take n (drop k ((text ++ odd) ++ digits))) count seam
     ∙ ap (take (length digits)) (drop-append_seam (text ++ odd) digits)
     ∙ take_all (length digits) digits (omega arith)
 
 -- a command stays where others' digits follow
-digits-append : (text odd more : List ℕ) (s : Stored) → s.start + s.digits ≤ length (text ++ odd) → digits_at text (odd ++ more) s ≡ digits_at text odd s
+digits-append : (text odd more : List ℕ) (s : Stored) → s.start + s.brief.digits ≤ length (text ++ odd) → digits_at text (odd ++ more) s ≡ digits_at text odd s
 digits-append text odd more s h =
-    ap (λ l. take s.digits (drop s.start l)) (sym (append_assoc text odd more)) ∙ part-append s.start s.digits (text ++ odd) more h
+    ap (λ l. take s.brief.digits (drop s.start l)) (sym (append_assoc text odd more)) ∙ part-append s.start s.brief.digits (text ++ odd) more h
 
 kept-append : (text odd more : List ℕ) (size : ℕ) (s : Stored) → IsKept text odd size s → IsKept text (odd ++ more) size s
 kept-append text odd more size s h =
@@ -62,7 +65,7 @@ kept-append text odd more size s h =
     record {
       within = omega (arith, h.within, length-append text odd, length-append text (odd ++ more), length-append odd more);
       whole = h.whole;
-      fits = subst (IsData (page_len s.op size)) (sym same) h.fits;
+      fits = subst (IsData (page_len s.brief.op size)) (sym same) h.fits;
     }
 
 all_kept-append : (text odd more : List ℕ) (size : ℕ) (xs : List Stored) → All (IsKept text odd size) xs → All (IsKept text (odd ++ more) size) xs
@@ -75,13 +78,13 @@ commands-append text odd more size [] h = refl
 commands-append text odd more size (x ∷ xs) h =
     let kept : IsKept text odd size x = h 0 x (omega arith) in
     let others : All (IsKept text odd size) xs = λ k d lt. h (suc k) d (omega arith) in
-    ap₂ (λ (c : Command) (cs : List Command). c ∷ cs) (ap (with_digits (head_of x) size) (digits-append text odd more x kept.within))
+    ap₂ (λ (c : Command) (cs : List Command). c ∷ cs) (ap (with_digits (head_of x.brief) size) (digits-append text odd more x kept.within))
     (commands-append text odd more size xs others)
 
 -- ---- one command more
 
-module _ (text odd : List ℕ) (size : ℕ) (xs : List Stored) (s : Stored) (head : Head) (is : head_of s ≡ head) where
-  op_is : s.op ≡ head.op
+module _ (text odd : List ℕ) (size : ℕ) (xs : List Stored) (s : Stored) (head : Head) (is : head_of s.brief ≡ head) where
+  op_is : s.brief.op ≡ head.op
   op_is = ap (λ (h : Head). h.op) is
 
   -- a command is added behind the others
@@ -95,16 +98,16 @@ module _ (text odd : List ℕ) (size : ℕ) (xs : List Stored) (s : Stored) (hea
   kept : All (IsKept text odd size) xs → IsKept text odd size s → All (IsKept text odd size) (xs ++ s ∷ [])
   kept before h = All-append (IsKept text odd size) xs (s ∷ []) before (All-cons (IsKept text odd size) s [] h (All-nil (IsKept text odd size)))
 
-  data_is : (digits : List ℕ) → digits_at text odd s ≡ digits → IsData (page_len head.op size) digits → IsData (page_len s.op size) (digits_at text odd s)
+  data_is : (digits : List ℕ) → digits_at text odd s ≡ digits → IsData (page_len head.op size) digits → IsData (page_len s.brief.op size) (digits_at text odd s)
   data_is digits e h = subst (λ o. IsData (page_len o size) (digits_at text odd s)) (sym op_is) (subst (IsData (page_len head.op size)) (sym e) h)
 
 -- one whose digits stand in the text
-module _ (text odd : List ℕ) (size : ℕ) (xs : List Stored) (s : Stored) (head : Head) (is : head_of s ≡ head) (within : s.start + s.digits ≤ length text) where
+module _ (text odd : List ℕ) (size : ℕ) (xs : List Stored) (s : Stored) (head : Head) (is : head_of s.brief ≡ head) (within : s.start + s.brief.digits ≤ length text) where
   pub push-commands : map (command_at text odd size) (xs ++ s ∷ []) ≡ map (command_at text odd size) xs
-      ++ with_digits head size (take s.digits (drop s.start text)) ∷ []
+      ++ with_digits head size (take s.brief.digits (drop s.start text)) ∷ []
   push-commands = pushed text odd size xs s head is _ (digits-text text odd s within)
 
-  pub push-kept : All (IsKept text odd size) xs → IsData (page_len head.op size) (take s.digits (drop s.start text)) → All (IsKept text odd size) (xs ++ s ∷ [])
+  pub push-kept : All (IsKept text odd size) xs → IsData (page_len head.op size) (take s.brief.digits (drop s.start text)) → All (IsKept text odd size) (xs ++ s ∷ [])
   push-kept before h = kept text odd size xs s head is before record {
     within = omega (arith, within, length-append text odd);
     whole = inl within;
@@ -112,8 +115,8 @@ module _ (text odd : List ℕ) (size : ℕ) (xs : List Stored) (s : Stored) (hea
   }
 
 -- one whose digits are put behind the odd ones
-module _ (text odd digits : List ℕ) (size : ℕ) (xs : List Stored) (s : Stored) (head : Head) (is : head_of s ≡ head)
-    (start : s.start ≡ length text + length odd) (count : s.digits ≡ length digits) where
+module _ (text odd digits : List ℕ) (size : ℕ) (xs : List Stored) (s : Stored) (head : Head) (is : head_of s.brief ≡ head)
+    (start : s.start ≡ length text + length odd) (count : s.brief.digits ≡ length digits) where
   pub push_odd-commands : All (IsKept text odd size) xs
       → map (command_at text (odd ++ digits) size) (xs ++ s ∷ []) ≡ map (command_at text odd size) xs ++ with_digits head size digits ∷ []
   push_odd-commands before =
@@ -128,5 +131,14 @@ module _ (text odd digits : List ℕ) (size : ℕ) (xs : List Stored) (s : Store
   }
 
 -- the number of the line behind the commands so far
-pub line_is : (text : List ℕ) (d : Draft) → length d.stored.items + 1 ≡ length (drafted text d) + 1
-line_is text d = ap (λ n. n + 1) (sym (length-map d.stored.items (command_at text d.odd.items d.page_bytes)))
+pub line_is : (text : List ℕ) (d : Draft) → length (stored_in d.stored) + 1 ≡ length (drafted text d) + 1
+line_is text d = ap (λ n. n + 1) (sym (length-map (stored_in d.stored) (command_at text d.odd.items d.page_bytes)))
+
+-- there are no more commands than bytes of their text
+pub few_commands : (geo : Geometry) (text : List ℕ) (d : Draft) → AreCommands (checked geo text) (drafted text d) → length (stored_in d.stored) ≤ length text
+few_commands geo text d h =
+    let few = few_records text in
+    let records = length-map (records_of text) (command_of geo) in
+    let commands : length (drafted text d) ≡ length (stored_in d.stored) = length-map (stored_in d.stored) (command_at text d.odd.items d.page_bytes) in
+    let same : length (checked geo text) ≡ length (drafted text d) = ap length h ∙ length-map (drafted text d) Ok in
+    omega arith

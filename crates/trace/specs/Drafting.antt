@@ -11,7 +11,7 @@ use Rattle.trace.specs.Trace.{command_of}
 use Rattle.trace.specs.declared.commands.Op.{Op}
 use Rattle.trace.specs.declared.cutting.Row.{Row}
 use Rattle.trace.specs.declared.draft.Draft.{Draft}
-use Rattle.trace.specs.declared.draft.Head.{Head}
+use Rattle.trace.specs.declared.stored.Head.{Head}
 use Rattle.trace.specs.declared.fault.TraceFaultKind.{TraceFaultKind}
 
 -- these digits make the page of an op, if a page has this size, and write no more than fits in it

@@ -2,10 +2,11 @@ ghost use Rattle.std.specs.Prelude.{◌≡◌, ◌⊎◌, ◌+◌, ◌^◌, ◌=
 ghost use Rattle.std.specs.Iterator.{YieldsFirst, item_count};
 ghost use Rattle.trace.specs.Trace.{name_of};
 ghost use Rattle.trace.specs.Parsing.{page_len};
-ghost use Rattle.trace.specs.Stored.{AreKept, digits_at, drafted};
+ghost use Rattle.trace.specs.Stored.{AreKept, digits_at, drafted, lent_as, stored_in};
 
-use crate::draft::{Draft, Stored};
+use crate::draft::Draft;
 use crate::page::Page;
+use crate::stored::{AllStored, Lent};
 use std::marker::Model;
 
 /// The operation of a line of a trace.
@@ -45,33 +46,34 @@ pub struct Command<'a> {
     pub page: Page<'a>,
 }
 
-/// The commands of a trace, in order. They keep its text, and a command takes 16 more bytes: the digits of a write stay in the text, and are
-/// decoded when its page is copied.
+/// The commands of a trace, in order. They keep its text, and a command takes 12 more bytes, or 16 from the first on whose digits begin after
+/// 4 GiB: the digits of a write stay in the text, and are decoded when its page is copied.
 #[derive(Drop)]
 pub struct Commands {
     text: Vec<u8>,
     odd: Vec<u8>,
     page_bytes: u16,
-    stored: Vec<Stored>,
+    stored: AllStored,
 }
 
 impl Model for Commands {
-    ghost use Rattle.std.specs.Prelude.{List, map, All};
+    ghost use Rattle.std.specs.Prelude.{List, map};
     ghost use Rattle.trace.specs.declared.commands.Command.{Command};
 
     ghost Value = { List Command };
 
-    ghost use Rattle.trace.specs.Stored.{command_at, IsKept};
+    ghost use Rattle.trace.specs.Stored.{command_at, IsWhole, stored_in};
 
-    ghost view = { λ a. map (command_at a.text.items a.odd.items a.page_bytes) a.stored.items };
+    ghost view = { λ a. map (command_at a.text.items a.odd.items a.page_bytes) (stored_in a.stored) };
 
-    ghost invariant = { λ a. All (IsKept a.text.items a.odd.items a.page_bytes) a.stored.items };
+    ghost invariant = { λ a. IsWhole a.text.items a.odd.items a.page_bytes (stored_in a.stored) };
 }
 
 impl Commands {
     // The commands of a text that was read to its end.
     pub(crate) fn new(text: Vec<u8>, draft: Draft) -> Commands
-        requires { AreKept text.items draft }
+        requires kept { AreKept text.items draft }
+        requires few { length (stored_in draft.stored) < 2 ^ 63 }
         ensures { result ≡ drafted text.items draft }
     {
         let Draft {
@@ -97,7 +99,7 @@ impl Commands {
     pub fn is_empty(&self) -> bool
         ensures { result ≡ (length self.now == 0) }
     {
-        self.stored.is_empty()
+        self.stored.len() == 0
     }
 
     /// The command at an index, from 0.
@@ -106,8 +108,8 @@ impl Commands {
         ensures at { slice_get self.now i ≡ Some result }
         ensures rest { drop i self.now ≡ result ∷ drop (i + 1) self.now }
     {
-        let stored = self.stored[i];
-        let head = stored.head();
+        let stored = self.stored.at(i);
+        let head = stored.brief.head();
         let digits = digits_at(&self.text, &self.odd, &stored);
         Command {
             worker: u32::from(head.worker),
@@ -129,13 +131,13 @@ impl Commands {
 }
 
 // The digits of a command.
-fn digits_at<'a>(text: &'a [u8], odd: &'a [u8], stored: &Stored) -> &'a [u8]
-    requires within { stored.now.start + stored.now.digits ≤ length (text.now ++ odd.now) }
-    requires whole { (stored.now.start + stored.now.digits ≤ length text.now) ⊎ (length text.now ≤ stored.now.start) }
-    ensures { result.now ≡ digits_at text.now odd.now stored.now }
+fn digits_at<'a>(text: &'a [u8], odd: &'a [u8], stored: &Lent) -> &'a [u8]
+    requires within { stored.now.start + stored.now.brief.now.digits ≤ length (text.now ++ odd.now) }
+    requires whole { (stored.now.start + stored.now.brief.now.digits ≤ length text.now) ⊎ (length text.now ≤ stored.now.start) }
+    ensures { result.now ≡ digits_at text.now odd.now (lent_as stored.now) }
 {
     let start = stored.start;
-    let count = usize::from(stored.digits);
+    let count = usize::from(stored.brief.digits);
     if count <= text.len() && start <= text.len() - count {
         &text[start..start + count]
     } else {

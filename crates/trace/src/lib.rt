@@ -14,6 +14,7 @@ mod named_file;
 mod page;
 mod parsing;
 mod rows;
+mod stored;
 mod usual;
 mod watched;
 

@@ -4,7 +4,7 @@ ghost use Rattle.geometry.specs.Geometry.{page_bytes_of};
 ghost use Rattle.trace.specs.Cutting.{StandsBefore, fields_of_row};
 ghost use Rattle.trace.specs.Drafting.{IsChecked, IsDraft, MakePage};
 ghost use Rattle.trace.specs.Parsing.{Adds, AreSoFar, RefusesBy, fault_at};
-ghost use Rattle.trace.specs.Stored.{AreKept, drafted};
+ghost use Rattle.trace.specs.Stored.{AreKept, drafted, stored_in};
 ghost use Rattle.trace.specs.Trace.{AreCommands, IsFirstFault, checked, command_of, commands_of, is_of_record};
 ghost use Rattle.trace.specs.Trace.{number_below, op_of, page_of, whole_fault, workers_of};
 ghost use Rattle.trace.specs.declared.fault.TraceFaultKind.TheVariants.{Memory};
@@ -12,10 +12,11 @@ ghost use Rattle.trace.specs.declared.fault.TraceFaultKind.TheVariants.{Memory};
 use crate::commands::{Commands, Op};
 use crate::cutting::{Cut, Row, next_cut};
 use crate::digits::are_pairs;
-use crate::draft::{Draft, Head};
+use crate::draft::Draft;
 use crate::fault::{TraceFault, TraceFaultKind};
 use crate::limits::MAX_DIGITS;
 use crate::rows::{next_record, records, row_of};
+use crate::stored::Head;
 use crate::usual::usual_line;
 use csv::ByteRecord;
 use geometry::{Geometry, LONE_WORKERS, WORD_BYTES};
@@ -105,8 +106,11 @@ fn add_usual_lines(
     ensures so_far { IfOk result (λ end. AreSoFar geometry.now text.now end (drafted text.now draft.new)) }
 {
     let mut at = from;
+    if !draft.are_near(text) {
+        return Ok(at);
+    }
     'lines: while let Some(line) = usual_line(text, at, geometry) {
-        draft.push(text, line.head, line.start, (line.end - line.start) as u16)?;
+        draft.push_near(text, line.head, line.start, (line.end - line.start) as u16)?;
         at = line.end;
     }
     Ok(at)
@@ -156,7 +160,7 @@ fn parse_rest(
 
 // The number of the record behind these commands.
 fn next_line(draft: &Draft) -> u64
-    ensures { result ≡ length draft.now.stored.items + 1 }
+    ensures { result ≡ length (stored_in draft.now.stored) + 1 }
 {
     draft.len() as u64 + 1
 }

@@ -7,9 +7,9 @@ ghost use Rattle.trace.specs.Usual.{IsNumber, IsOpName, IsUsual, IsUsualData, Is
 use crate::commands::Op;
 use crate::cutting::has;
 use crate::digits::digits_end;
-use crate::draft::Head;
 use crate::limits::MAX_DIGITS;
 use crate::parsing::{page_bytes, workers};
+use crate::stored::Head;
 use geometry::Geometry;
 
 /// A line of the usual form: what it says without its digits, and where these begin and end.

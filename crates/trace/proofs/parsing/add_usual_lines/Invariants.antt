@@ -1,4 +1,4 @@
-use Rattle.std.proofs.Common.{◌≤◌, ◌-◌, length}
+use Rattle.std.proofs.Common.{◌≡◌, ◌≤◌, ◌-◌, [], length}
 use Rattle.trace.specs.Drafting.{IsDraft}
 use Rattle.trace.specs.Parsing.{AreSoFar}
 use Rattle.trace.specs.Stored.{drafted}
@@ -10,6 +10,7 @@ invariant-lines l = record {
   low : l.from ≤ l.at;
   place : l.at ≤ length l.text;
   draft : IsDraft l.geometry l.text l.draft;
+  near : l.draft.stored.far.items ≡ [];
   so_far : AreSoFar l.geometry l.text l.at (drafted l.text l.draft);
 }
 

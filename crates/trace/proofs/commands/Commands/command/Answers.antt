@@ -1,6 +1,6 @@
 use Rattle.std.proofs.Common.{◌<◌, length, ap, add-one, arith}
 use Rattle.std.proofs.lemmas.List.{length-map}
-use Rattle.trace.specs.Stored.{command_at}
+use Rattle.trace.specs.Stored.{command_at, lent_as, stored_in}
 use Rattle.trace.proofs.CommandFacts.{drop-map_at, slice_get-map_at}
 use Rattle.trace.proofs.commands.Commands.command.Goals as goal
 
@@ -8,8 +8,9 @@ pub returns-clause-at : goal.returns-clause-at
 returns-clause-at c =
     let self = c.self.inside in
     let shown = command_at self.text.items self.odd.items self.page_bytes in
-    let here : c.args.i < length self.stored.items = omega (arith, length-map self.stored.items shown, ap length c.self.view_is) in
-    let place = slice_get-map_at shown self.stored.items c.args.i c.index.result.now here c.index.ensures in
+    let all = stored_in self.stored in
+    let here : c.args.i < length all = omega (arith, length-map all shown, ap length c.self.view_is) in
+    let place = slice_get-map_at shown all c.args.i (lent_as c.at-stored.result) here c.at-stored.ensures in
     rw (
       c.new.ensures,
       c.from.ensures,
@@ -25,8 +26,9 @@ pub returns-clause-rest : goal.returns-clause-rest
 returns-clause-rest c =
     let self = c.self.inside in
     let shown = command_at self.text.items self.odd.items self.page_bytes in
-    let here : c.args.i < length self.stored.items = omega (arith, length-map self.stored.items shown, ap length c.self.view_is) in
-    let place = drop-map_at shown self.stored.items c.args.i c.index.result.now here c.index.ensures in
+    let all = stored_in self.stored in
+    let here : c.args.i < length all = omega (arith, length-map all shown, ap length c.self.view_is) in
+    let place = drop-map_at shown all c.args.i (lent_as c.at-stored.result) here c.at-stored.ensures in
     rw (
       c.new.ensures,
       c.from.ensures,
