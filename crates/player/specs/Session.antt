@@ -27,7 +27,7 @@ use Rattle.runs.specs.Files.{LeavesLog}
 use Rattle.runs.specs.Outputs.{IsOutputByWorkers, IsOutputOf}
 use Rattle.runs.specs.Wear.{IsWearOf}
 use Rattle.runs.specs.declared.files.RunFiles.{RunFiles}
-use Rattle.player.specs.CommandLine.{AreOptionsOf, faults_given, numbers_given, rows_given}
+use Rattle.player.specs.CommandLine.{AreOptionsOf, faults_given, numbers_given}
 use Rattle.player.specs.Telling.{TellsEnding}
 use Rattle.player.specs.declared.command_line.Options.{Options}
 use Rattle.player.specs.declared.run_files.FileStop.{FileStop}
@@ -76,14 +76,14 @@ status_of (stop.File file why) = status_of_file why
 pub record IsDescribed (words : List Text) (geo : Geometry) : Type 0 where
   pub accepted : faults_given words ≡ []
   pub given : Options
-  pub told : AreOptionsOf (rows_given words) given
+  pub told : AreOptionsOf words given
   pub numbers : numbers_of geo ≡ numbers_given given
 
 -- clap finds no fault in the words, but they describe no device, for this reason
 pub record DescribesNone (words : List Text) (found : GeometryFault) : Type 0 where
   pub accepted : faults_given words ≡ []
   pub given : Options
-  pub told : AreOptionsOf (rows_given words) given
+  pub told : AreOptionsOf words given
   pub first : first_fault (numbers_given given) ≡ Some found
 
 -- the output of a run by this many workers, if its answers are wanted or not: with no worker it is that of one thread
