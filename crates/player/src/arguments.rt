@@ -11,33 +11,6 @@ use clap::builder::ValueParser;
 use clap::{Arg, ArgAction, ArgMatches, Command, Error};
 use std::alloc::{AllocError, Global};
 
-/// The options that the words of a command line set. The first word is the program's name.
-pub fn options<'a>(alloc: Global, words: &'a [&'a str]) -> Result<Options<'a>, Error>
-    ensures numbers { IfOk result (AreOptionsOf (map (λ w. w.now) words.entry.now)) }
-    ensures outcome { FailsBy (faults_given (map (λ w. w.now) words.entry.now)) result }
-{
-    let command = flashplay(alloc)?;
-    let matches = match command.try_get_matches_from(words) {
-        Ok(matches) => matches,
-        Err(error) => return Err(error),
-    };
-    Ok(Options {
-        luns: number(&matches, "luns", LUNS),
-        blocks: number(&matches, "blocks", BLOCKS),
-        pages: number(&matches, "pages", PAGES),
-        words: number(&matches, "words", WORDS),
-        sectors: number(&matches, "sectors", SECTORS),
-        endurance: number(&matches, "endurance", ENDURANCE),
-        workers: number(&matches, "workers", WORKERS),
-        brooms: number(&matches, "brooms", BROOMS),
-        patience: number(&matches, "patience", PATIENCE),
-        drains: number(&matches, "drains", DRAINS),
-        wear: matches.get_str("wear"),
-        collections: matches.get_str("collections"),
-        quiet: matches.get_flag("quiet"),
-    })
-}
-
 // An option of one whole number: its name, its default, the numbers that it takes, and its help.
 struct NumberOption {
     name: &'static str,
@@ -120,6 +93,33 @@ const NUMBERS: [NumberOption; 10] = [
         help: "Blocks that a broom drains by one survey, from 1 to 4096",
     },
 ];
+
+/// The options that the words of a command line set. The first word is the program's name.
+pub fn options<'a>(alloc: Global, words: &'a [&'a str]) -> Result<Options<'a>, Error>
+    ensures numbers { IfOk result (AreOptionsOf (map (λ w. w.now) words.entry.now)) }
+    ensures outcome { FailsBy (faults_given (map (λ w. w.now) words.entry.now)) result }
+{
+    let command = flashplay(alloc)?;
+    let matches = match command.try_get_matches_from(words) {
+        Ok(matches) => matches,
+        Err(error) => return Err(error),
+    };
+    Ok(Options {
+        luns: number(&matches, "luns", LUNS),
+        blocks: number(&matches, "blocks", BLOCKS),
+        pages: number(&matches, "pages", PAGES),
+        words: number(&matches, "words", WORDS),
+        sectors: number(&matches, "sectors", SECTORS),
+        endurance: number(&matches, "endurance", ENDURANCE),
+        workers: number(&matches, "workers", WORKERS),
+        brooms: number(&matches, "brooms", BROOMS),
+        patience: number(&matches, "patience", PATIENCE),
+        drains: number(&matches, "drains", DRAINS),
+        wear: matches.get_str("wear"),
+        collections: matches.get_str("collections"),
+        quiet: matches.get_flag("quiet"),
+    })
+}
 
 // The command line as clap knows it.
 fn flashplay<'a>(alloc: Global) -> Result<Command<'a>, AllocError>
