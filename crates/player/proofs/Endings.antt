@@ -135,9 +135,9 @@ from_run words geo device input output files (Err stop.Memory) never = absurd ne
 from_run words geo device input output files (Err (stop.File file file_stop.NotWithWorkers)) (shared, wear, asked, idle, same) =
     (wear, (record { geo = geo; device = device; asked = asked }, shared), idle, same)
 from_run words geo device input output files (Err (stop.File file file_stop.NotOpened)) (asked, idle, fails) =
-    (record { geo = geo; device = device; asked = asked }, idle, fails)
+    ((record { geo = geo; device = device; asked = asked }, fails), idle)
 from_run words geo device input output files (Err (stop.File file file_stop.NotItsOwn)) (asked, idle, fails) =
-    (record { geo = geo; device = device; asked = asked }, idle, fails)
+    ((record { geo = geo; device = device; asked = asked }, fails), idle)
 from_run words geo device input output files (Err (stop.File file file_stop.Failed)) (plays, lost) =
     record { answered = answered_on words geo device input output plays; lost = lost }
 
