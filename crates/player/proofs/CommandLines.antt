@@ -1,17 +1,18 @@
 -- What clap's clauses say of the program's own command line.
-use Rattle.std.proofs.Common.{◌≡◌, ◌+◌, ◌<◌, ℕ, Bool, true, false, List, Option, None, Some, refl, ap, ◌∙◌}
-use Rattle.std.proofs.Common.{subst, sym, inl, inr, fold, get_or, length, take, codes}
+use Rattle.std.proofs.Common.{◌≡◌, ◌+◌, ◌<◌, ◌≤◌, ◌^◌, ℕ, Bool, true, false, List, Option, None, Some, refl, ap, ◌∙◌}
+use Rattle.std.proofs.Common.{subst, sym, fold, get_or, length, take, codes}
 use Rattle.std.proofs.lemmas.List.Sums.{fold_more}
-use Rattle.std.specs.Prelude.{Result, Ok, Err, MatchOption, unwrap_or}
+use Rattle.std.specs.Prelude.{Result, Ok, unwrap_or}
 use Rattle.std.specs.Str.Parse.{ParsesUnsigned}
 use Rattle.clap.specs.Words.{App, FailsBy, HasMatchesOf, Text, fault_of, found_of, is_simple, is_simple_and_free, matches_of, rows_of}
 use Rattle.clap.specs.Matches.{ReadsOne, one_text}
 use Rattle.clap.specs.declared.parser.matches.Found.{Found}
+use Rattle.clap.proofs.CallerReads.{signed_reads}
 use Rattle.clap.proofs.WalkLemmas.{one_text-rows}
 use Rattle.clap.specs.declared.error.Error.{Error}
 use Rattle.clap.specs.declared.parser.matches.ArgMatches.{ArgMatches}
 use Rattle.clap.proofs.OnLiterals.{clap_on_literals}
-use Rattle.player.specs.CommandLine.{IsFlagOf, IsNumberIn, faults_given, flashplay, rows_given, with_number}
+use Rattle.player.specs.CommandLine.{IsAcceptedIn, IsFlagOf, IsNumberIn, IsNumberRead, faults_given, flashplay, rows_given, with_number}
 use Rattle.player.specs.declared.arguments.NumberOption.{NumberOption}
 
 flashplay_is_simple : is_simple flashplay ≡ true
@@ -41,20 +42,20 @@ unfolding faults_given
 faults_are app words r same fails =
     subst (λ (a : App). FailsBy (fault_of a words) r) same (fails (ap is_simple_and_free same ∙ flashplay_is_free))
 
--- what is read of a text
-pub number_in : {E : Type 0} (G : List ℕ → Result ℕ E → Type 0) → ((t : List ℕ) (r : Result ℕ E) → G t r → ParsesUnsigned 32 10 t r)
-    → (text : List ℕ) (default : ℕ) (read : Option ℕ) (number : ℕ) → ReadsOne G text read → number ≡ unwrap_or read default → IsNumberIn text default number
-number_in G parses text default (Some n) number reads is =
-    let p = parses text (Ok n) reads in
-    inl (p.0, is ∙ p.1)
-number_in G parses text default None number reads is = inr (parses text (Err reads.0) reads.1, is)
-
-pub number_of : {E : Type 0} (G : List ℕ → Result ℕ E → Type 0) → ((t : List ℕ) (r : Result ℕ E) → G t r → ParsesUnsigned 32 10 t r)
+-- what is read of an option's text, by what the text's parser gives
+pub number_read : {E : Type 0} (G : List ℕ → Result ℕ E → Type 0) → ((t : List ℕ) (r : Result ℕ E) → G t r → ParsesUnsigned 32 10 t r)
     → (found : Option (List ℕ)) (default : ℕ) (read : Option ℕ) (number : ℕ) → (found ≡ None → read ≡ None)
-    → ((t : List ℕ) → found ≡ Some t → ReadsOne G t read) → number ≡ unwrap_or read default
-    → MatchOption found (number ≡ default) (λ text. IsNumberIn text default number)
-number_of G parses None default read number none some is = is ∙ ap (λ r. unwrap_or r default) (none refl)
-number_of G parses (Some text) default read number none some is = number_in G parses text default read number (some text refl) is
+    → ((t : List ℕ) → found ≡ Some t → ReadsOne G t read) → number ≡ unwrap_or read default → IsNumberRead found default number
+number_read G parses None default read number none some is = is ∙ ap (λ r. unwrap_or r default) (none refl)
+number_read {E} G parses (Some text) default read number none some is = λ least most fits accepted. by least most fits accepted (some text refl)
+  where
+    by : (least most : ℕ) → most < 2 ^ 32 → IsAcceptedIn least most text → ReadsOne G text read → IsNumberIn least most text number
+    by least most fits (value, same, passes) reads =
+        let got = signed_reads E G 32 least most value read (subst (λ t. ReadsOne G t read) same reads) parses fits passes in
+        let is_some : read ≡ Some got.0 = got.1 in
+        let parsed : ParsesUnsigned {E = E} 32 10 text (Ok got.0) = parses text (Ok got.0) (subst (λ r. ReadsOne G text r) is_some reads) in
+        let same_number : number ≡ got.0 = is ∙ ap (λ r. unwrap_or r default) is_some in
+        (parsed.0.0, same_number ∙ parsed.1, subst (λ n. least ≤ n) (sym same_number) got.2, subst (λ n. n ≤ most) (sym same_number) got.3)
 
 -- a flag, by the rows of the matches
 pub flag_of : (found : Found) (name : Text) (is_set : Bool) → (one_text found name ≡ None → is_set ≡ false)

@@ -8,7 +8,6 @@ use Rattle.trace.specs.declared.named_file.OpenFault.TheVariants as open_fault
 use Rattle.answers.specs.Streams.{Passage, Stream}
 use Rattle.answers.specs.declared.delivery.OutputFailed.{OutputFailed}
 use Rattle.answers.specs.declared.fault.RunFault.{RunFault}
-use Rattle.answers.specs.declared.fault.RunFault.TheVariants as run
 use Rattle.clap.specs.Words.{HasKind, IsAmong, Kinds, Text, kind_of}
 use Rattle.clap.specs.declared.error.Error.{Error}
 use Rattle.clap.specs.declared.error.kind.ErrorKind.{ErrorKind}
@@ -23,7 +22,7 @@ use Rattle.player.specs.declared.run_files.RunFile.TheVariants as run_file
 use Rattle.player.specs.declared.stop.Stop.{Stop}
 use Rattle.player.specs.declared.stop.Stop.TheVariants as stop
 use Rattle.player.specs.Session.{Answered, AnswersClap, AreUntouched, AsksClap, EndsOn, Explains, Filing, Filings, IsDescribed, IsIdle, IsLogFor}
-use Rattle.player.specs.Session.{IsOpened, IsUntouched, LeavesFiles, LeavesLogBy, LosesFile, LosesOn, OpensFiles, PlaysOn, TellsFile, TellsFiles}
+use Rattle.player.specs.Session.{IsOpened, IsUntouched, LeavesFiles, LeavesLogBy, LosesFile, LosesOn, OpensFiles, PlaysOn, TellsFile}
 use Rattle.player.specs.Session.{name_given, outcome_of, stop_of_open}
 
 -- what two claims come to, by how a file was written
@@ -136,9 +135,9 @@ from_run words geo device input output files (Err stop.Memory) never = absurd ne
 from_run words geo device input output files (Err (stop.File file file_stop.NotWithWorkers)) (shared, wear, asked, idle, same) =
     (wear, (record { geo = geo; device = device; asked = asked }, shared), idle, same)
 from_run words geo device input output files (Err (stop.File file file_stop.NotOpened)) (asked, idle, fails) =
-    (record { geo = geo; device = device; asked = asked }, idle, fails)
+    ((record { geo = geo; device = device; asked = asked }, fails), idle)
 from_run words geo device input output files (Err (stop.File file file_stop.NotItsOwn)) (asked, idle, fails) =
-    (record { geo = geo; device = device; asked = asked }, idle, fails)
+    ((record { geo = geo; device = device; asked = asked }, fails), idle)
 from_run words geo device input output files (Err (stop.File file file_stop.Failed)) (plays, lost) =
     record { answered = answered_on words geo device input output plays; lost = lost }
 

@@ -1,5 +1,5 @@
 -- The words of a command line, one argument more.
-use Rattle.std.proofs.Common.{◌≡◌, ◌∙◌, ℕ, ◌+◌, ◌<◌, ◌≤◌, List, [], ◌∷◌, ◌++◌, Option, None, Some, length, map, take, refl, ap, subst, sym, inl, inr, arith}
+use Rattle.std.proofs.Common.{◌≡◌, ◌∙◌, ℕ, ◌+◌, List, [], ◌∷◌, ◌++◌, Option, None, Some, length, map, take, refl, ap, subst, sym, inl, inr}
 use Rattle.std.specs.Prelude.{IfOk, IfSome, IsOk, Result, Ok, Err, option_map, slice_get}
 use Rattle.std.specs.Str.{IsUtf8}
 use Rattle.player.specs.Arguments.{IsNoText}

@@ -27,7 +27,7 @@ use Rattle.runs.specs.Files.{LeavesLog}
 use Rattle.runs.specs.Outputs.{IsOutputByWorkers, IsOutputOf}
 use Rattle.runs.specs.Wear.{IsWearOf}
 use Rattle.runs.specs.declared.files.RunFiles.{RunFiles}
-use Rattle.player.specs.CommandLine.{AreOptionsOf, faults_given, numbers_given, rows_given}
+use Rattle.player.specs.CommandLine.{AreOptionsOf, faults_given, numbers_given}
 use Rattle.player.specs.Telling.{TellsEnding}
 use Rattle.player.specs.declared.command_line.Options.{Options}
 use Rattle.player.specs.declared.run_files.FileStop.{FileStop}
@@ -76,14 +76,14 @@ status_of (stop.File file why) = status_of_file why
 pub record IsDescribed (words : List Text) (geo : Geometry) : Type 0 where
   pub accepted : faults_given words ≡ []
   pub given : Options
-  pub told : AreOptionsOf (rows_given words) given
+  pub told : AreOptionsOf words given
   pub numbers : numbers_of geo ≡ numbers_given given
 
 -- clap finds no fault in the words, but they describe no device, for this reason
 pub record DescribesNone (words : List Text) (found : GeometryFault) : Type 0 where
   pub accepted : faults_given words ≡ []
   pub given : Options
-  pub told : AreOptionsOf (rows_given words) given
+  pub told : AreOptionsOf words given
   pub first : first_fault (numbers_given given) ≡ Some found
 
 -- the output of a run by this many workers, if its answers are wanted or not: with no worker it is that of one thread
@@ -157,15 +157,20 @@ AreUntouched files = IsUntouched files.wear × IsUntouched files.collections
 abbrev pub HasFailedToOpen : Passage → Type 0
 HasFailedToOpen stream = (stream.after.bytes ≡ stream.before.bytes) × (stream.after.failures ≢ stream.before.failures)
 
--- one of the files could not be opened, and the other is untouched
-abbrev pub FailsToOpen : RunFile → Filings → Type 0
-FailsToOpen run_file.Wear files = HasFailedToOpen files.wear.stream × IsUntouched files.collections
-FailsToOpen run_file.Collections files = HasFailedToOpen files.collections.stream × IsUntouched files.wear
-
 -- the name that the options give to a file, if they give one
 abbrev pub name_given : RunFile → Options → Option Text
 name_given run_file.Wear given = option_map (λ name. name.now) given.wear
 name_given run_file.Collections given = option_map (λ name. name.now) given.collections
+
+-- a file that the options name was opened by that name, and no byte of it changed
+abbrev pub IsOpened : Option Text → Filing → Type 0
+IsOpened asked file = MatchOption asked ⊤ (λ name. file.is_opened_as name) × IsUntouched file
+
+-- one of the files could not be opened: the wear, and the other is untouched, or the collections, after the wear was opened if the options name it
+abbrev pub FailsToOpen : RunFile → Options → Filings → Type 0
+FailsToOpen run_file.Wear given files = HasFailedToOpen files.wear.stream × IsUntouched files.collections
+FailsToOpen run_file.Collections given files =
+    HasFailedToOpen files.collections.stream × IsOpened (name_given run_file.Wear given) files.wear
 
 -- a file is written if the options name it: it was opened by that name, what was written to it is right for the bytes of the trace, and no
 -- call failed. Otherwise nothing is written
@@ -233,8 +238,8 @@ pub record PlaysOn (geo : Geometry) (given : Options) (input output : Passage) :
 abbrev pub LosesOn : RunFile → FileStop → Geometry → Options → Passage → Passage → Filings → Type 0
 LosesOn file file_stop.NotWithWorkers geo given input output files =
     (hosts_of geo ≢ 0) × (file ≡ run_file.Wear) × (is_some (name_given file given) ≡ true) × IsIdle input output × AreUntouched files
-LosesOn file file_stop.NotOpened geo given input output files = (is_some (name_given file given) ≡ true) × IsIdle input output × FailsToOpen file files
-LosesOn file file_stop.NotItsOwn geo given input output files = (is_some (name_given file given) ≡ true) × IsIdle input output × FailsToOpen file files
+LosesOn file file_stop.NotOpened geo given input output files = (is_some (name_given file given) ≡ true) × IsIdle input output × FailsToOpen file given files
+LosesOn file file_stop.NotItsOwn geo given input output files = (is_some (name_given file given) ≡ true) × IsIdle input output × FailsToOpen file given files
 LosesOn file file_stop.Failed geo given input output files =
     PlaysOn geo given input output × LosesOne file geo given input.before files
 
@@ -250,10 +255,6 @@ EndsOn (Err stop.Help) geo given input output files = ⊥
 EndsOn (Err stop.Memory) geo given input output files = ⊥
 EndsOn (Err (stop.File file why)) geo given input output files = LosesOn file why geo given input output files
 
--- a file that the options name was opened by that name, and no byte of it changed
-abbrev pub IsOpened : Option Text → Filing → Type 0
-IsOpened asked file = MatchOption asked ⊤ (λ name. file.is_opened_as name) × IsUntouched file
-
 -- the files that the options name were opened, or one of them was not
 abbrev pub OpensFiles : Result (Unit {0}) Stop → Options → Filings → Type 0
 OpensFiles (Ok _) given files = IsOpened (name_given run_file.Wear given) files.wear × IsOpened (name_given run_file.Collections given) files.collections
@@ -264,7 +265,7 @@ OpensFiles (Err (stop.Run found)) given files = ⊥
 OpensFiles (Err stop.Help) given files = ⊥
 OpensFiles (Err stop.Memory) given files = ⊥
 OpensFiles (Err (stop.File file why)) given files =
-    (fault : OpenFault) × (why ≡ stop_of_open fault) × (is_some (name_given file given) ≡ true) × FailsToOpen file files
+    (fault : OpenFault) × (why ≡ stop_of_open fault) × (is_some (name_given file given) ≡ true) × FailsToOpen file given files
 
 -- how a run ends by how its log and its wear were written: the first one that failed is reported
 abbrev pub outcome_of : Result (Unit {0}) OutputFailed → Result (Unit {0}) OutputFailed → Result (Unit {0}) Stop
@@ -303,8 +304,10 @@ pub record AppendsSome (output : Passage) : Type 0 where
 abbrev pub ExplainsFile : RunFile → FileStop → List Text → Passage → Passage → Filings → Type 0
 ExplainsFile file file_stop.NotWithWorkers words input output files =
     (file ≡ run_file.Wear) × ((named : NamesFile words file) × (hosts_of named.geo ≢ 0)) × IsIdle input output × AreUntouched files
-ExplainsFile file file_stop.NotOpened words input output files = NamesFile words file × IsIdle input output × FailsToOpen file files
-ExplainsFile file file_stop.NotItsOwn words input output files = NamesFile words file × IsIdle input output × FailsToOpen file files
+ExplainsFile file file_stop.NotOpened words input output files =
+    ((named : NamesFile words file) × FailsToOpen file named.device.given files) × IsIdle input output
+ExplainsFile file file_stop.NotItsOwn words input output files =
+    ((named : NamesFile words file) × FailsToOpen file named.device.given files) × IsIdle input output
 ExplainsFile file file_stop.Failed words input output files = Lost file words input output files
 
 -- clap finds a fault in the words, which asks neither for help nor for the version

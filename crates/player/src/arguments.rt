@@ -1,7 +1,7 @@
 ghost use Rattle.std.specs.Prelude.{◌≡◌, codes, map, false, Some, IfOk};
-ghost use Rattle.clap.specs.Words.{FailsBy, app_of, found_of, rows_of, rule_of};
-ghost use Rattle.player.specs.CommandLine.{AreOptionsOf, IsNumberOf, faults_given, file_rule, flag_rule, flashplay, named_rule};
-ghost use Rattle.player.specs.CommandLine.{number_rule, rows_given, versioned, with_numbers, with_threads};
+ghost use Rattle.clap.specs.Words.{FailsBy, app_of, found_of, one_of, rows_of, rule_of};
+ghost use Rattle.player.specs.CommandLine.{AreOptionsOf, IsNumberRead, faults_given, file_rule, flag_rule, flashplay, named_rule};
+ghost use Rattle.player.specs.CommandLine.{number_rule, versioned, with_numbers, with_threads};
 
 use crate::command_line::{
     BLOCKS, BROOMS, DRAINS, ENDURANCE, LUNS, Options, PAGES, PATIENCE, SECTORS, WORDS, WORKERS,
@@ -10,40 +10,6 @@ use crate::help::{HELP, VERSION};
 use clap::builder::ValueParser;
 use clap::{Arg, ArgAction, ArgMatches, Command, Error};
 use std::alloc::{AllocError, Global};
-
-/// The options that the words of a command line set. The first word is the program's name.
-pub fn options<'a>(alloc: Global, words: &'a [&'a str]) -> Result<Options<'a>, Error>
-    ensures numbers { IfOk result (AreOptionsOf (rows_given (map (λ w. w.now) words.entry.now))) }
-    ensures outcome { FailsBy (faults_given (map (λ w. w.now) words.entry.now)) result }
-{
-    let command = flashplay(alloc)?;
-    let matches = match command.try_get_matches_from(words) {
-        Ok(matches) => matches,
-        Err(error) => return Err(error),
-    };
-    Ok(options_in(&matches))
-}
-
-// The options that the matches give.
-fn options_in<'a>(matches: &ArgMatches<'a>) -> Options<'a>
-    ensures { AreOptionsOf (rows_of (found_of matches.now)) result }
-{
-    Options {
-        luns: number(matches, "luns", LUNS),
-        blocks: number(matches, "blocks", BLOCKS),
-        pages: number(matches, "pages", PAGES),
-        words: number(matches, "words", WORDS),
-        sectors: number(matches, "sectors", SECTORS),
-        endurance: number(matches, "endurance", ENDURANCE),
-        workers: number(matches, "workers", WORKERS),
-        brooms: number(matches, "brooms", BROOMS),
-        patience: number(matches, "patience", PATIENCE),
-        drains: number(matches, "drains", DRAINS),
-        wear: matches.get_str("wear"),
-        collections: matches.get_str("collections"),
-        quiet: matches.get_flag("quiet"),
-    }
-}
 
 // An option of one whole number: its name, its default, the numbers that it takes, and its help.
 struct NumberOption {
@@ -127,6 +93,33 @@ const NUMBERS: [NumberOption; 10] = [
         help: "Blocks that a broom drains by one survey, from 1 to 4096",
     },
 ];
+
+/// The options that the words of a command line set. The first word is the program's name.
+pub fn options<'a>(alloc: Global, words: &'a [&'a str]) -> Result<Options<'a>, Error>
+    ensures numbers { IfOk result (AreOptionsOf (map (λ w. w.now) words.entry.now)) }
+    ensures outcome { FailsBy (faults_given (map (λ w. w.now) words.entry.now)) result }
+{
+    let command = flashplay(alloc)?;
+    let matches = match command.try_get_matches_from(words) {
+        Ok(matches) => matches,
+        Err(error) => return Err(error),
+    };
+    Ok(Options {
+        luns: number(&matches, "luns", LUNS),
+        blocks: number(&matches, "blocks", BLOCKS),
+        pages: number(&matches, "pages", PAGES),
+        words: number(&matches, "words", WORDS),
+        sectors: number(&matches, "sectors", SECTORS),
+        endurance: number(&matches, "endurance", ENDURANCE),
+        workers: number(&matches, "workers", WORKERS),
+        brooms: number(&matches, "brooms", BROOMS),
+        patience: number(&matches, "patience", PATIENCE),
+        drains: number(&matches, "drains", DRAINS),
+        wear: matches.get_str("wear"),
+        collections: matches.get_str("collections"),
+        quiet: matches.get_flag("quiet"),
+    })
+}
 
 // The command line as clap knows it.
 fn flashplay<'a>(alloc: Global) -> Result<Command<'a>, AllocError>
@@ -215,7 +208,7 @@ fn named<'a>(alloc: Global, name: &'a str, value: &'a str, help: &'a str) -> Arg
 
 // The number that the matches give to an option.
 fn number(matches: &ArgMatches<'_>, name: &str, default: u32) -> u32
-    ensures { IsNumberOf (rows_of (found_of matches.now)) name.now default result }
+    ensures { IsNumberRead (one_of name.now (rows_of (found_of matches.now))) default result }
 {
     matches.get_one::<u32>(name).unwrap_or(default)
 }
