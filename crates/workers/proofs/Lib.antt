@@ -10,6 +10,7 @@ pub mod Dealt
 pub mod Openings
 pub mod Ended
 pub mod Collected
+pub mod Turning
 pub mod Counting
 pub mod Grown
 pub mod Programmed

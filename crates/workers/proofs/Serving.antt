@@ -1,5 +1,5 @@
 -- What the brooms of a run have done, from its start to its end.
-use Rattle.std.proofs.Common.{◌≡◌, ℕ, suc, ◌+◌, All, List, [], ◌∷◌, ◌++◌, Some, length, map, refl, sym, ap, ◌∙◌, subst, arith}
+use Rattle.std.proofs.Common.{◌≡◌, ℕ, suc, ◌+◌, All, List, [], ◌∷◌, Some, length, map, refl, sym, ap, ◌∙◌, subst, arith}
 use Rattle.std.specs.Prelude.{◌%◌, ◌^◌, slice_get}
 use Rattle.std.proofs.lemmas.List.Elements.{All-head, All-tail}
 use Rattle.geometry.specs.Geometry.{brooms_of}
@@ -12,14 +12,13 @@ use Rattle.broom.specs.Ready.{view_of_broom}
 use Rattle.volume.specs.declared.volume.Volume.{Volume}
 use Rattle.volume.specs.Brooms.{IsUnused}
 use Rattle.volume.specs.Volume.{flash_of}
-use Rattle.workers.specs.declared.broom_answer.BroomAnswer.{BroomAnswer}
 use Rattle.workers.specs.declared.collector.Collector.{Collector}
 use Rattle.workers.specs.declared.collector_end.CollectorEnd.{CollectorEnd}
 use Rattle.workers.specs.declared.tally.Tally.{Tally}
-use Rattle.workers.specs.Collecting.{HasCollected, HasCollectedBy, HaveCollected}
+use Rattle.workers.specs.Collecting.{HasCollected, HaveCollected}
 use Rattle.workers.specs.Folding.{HasFolded, HaveFolded}
 use Rattle.workers.specs.Growing.{GrowsBy, HasGrown}
-use Rattle.workers.specs.Served.{AllHaveServed, AreAtRunStart, HasCountedNone, HasDone, HasServed, HaveServed, IsAtRunStart, broom_of}
+use Rattle.workers.specs.Served.{AllHaveServed, AreAtRunStart, HasCountedNone, HasDone, HaveServed, IsAtRunStart, broom_of}
 use Rattle.workers.specs.Tallies.{added, total_of, wrapped}
 use Rattle.workers.proofs.Counting.{nothing_added}
 
@@ -47,10 +46,10 @@ done : (volume : Volume) (k : ℕ) (first last : Collector) (end : CollectorEnd)
 done volume k first last end begun collected folded =
     let v = first_broom (device (flash_of volume)) k in
     let w = view_of_broom last.broom in
-    let t = total_of collected.0 in
-    let grown : HasGrown v t w = subst (λ (x : View). HasGrown x t w) begun.unused.0 collected.1.grown in
+    let t = total_of collected.answers in
+    let grown : HasGrown v t w = subst (λ (x : View). HasGrown x t w) begun.unused.0 collected.collected.grown in
     let exact : last.tally ≡ wrapped t =
-    collected.1.exact (subst (λ (x : Tally). x ≡ wrapped x) (sym begun.tally) refl)
+    collected.collected.exact (subst (λ (x : Tally). x ≡ wrapped x) (sym begun.tally) refl)
     ∙ ap wrapped (ap (λ (x : Tally). added x t) begun.tally ∙ sym (nothing_added t)) in
     let tally : end.tally ≡ wrapped t = folded.tally ∙ exact in
     let m : ℕ = 2 ^ 64 in

@@ -1,7 +1,9 @@
 -- What a broom does while the workers of a round play: one call after another.
-use Rattle.std.specs.Prelude.{◌≡◌, ℕ, Bool, List, [], ◌∷◌}
+use Rattle.std.specs.Prelude.{◌≡◌, ◌||◌, ℕ, Bool, List, [], ◌∷◌}
 use Rattle.std.specs.Arc.{arc_value}
+use Rattle.std.specs.List.{list_any}
 use Rattle.erase_queue.specs.Queue.{limit_of}
+use Rattle.broom.specs.declared.answer.Drain.{Drain}
 use Rattle.broom.specs.declared.broom.Broom.{Broom}
 use Rattle.broom.specs.Handing.{DrainNextOneTold, DrainOneTold, EraseOneTold, HandsNothing}
 use Rattle.broom.specs.Ready.{view_of_broom}
@@ -13,6 +15,7 @@ use Rattle.workers.specs.declared.broom_answer.BroomAnswer.TheVariants as by
 use Rattle.workers.specs.declared.collector.Collector.{Collector}
 use Rattle.workers.specs.Growing.{GrowsBy, HasGrown}
 use Rattle.workers.specs.Tallies.{IsCounted, added, total_of, wrapped}
+use Rattle.workers.specs.Turns.{AreTurns, Follows, IsTurn, has_drained, has_gained}
 
 -- A restock had this result. It doesn't use the queue, and the broom keeps its last survey
 pub record HasRestocked (before : Broom) (given : Bool) (after : Broom) : Type 0 where
@@ -50,9 +53,25 @@ pub record HasCollectedBy (before : Collector) (answers : List BroomAnswer) (aft
   pub exact : before.tally ≡ wrapped before.tally → after.tally ≡ wrapped (added before.tally (total_of answers))
   pub grown : HasGrown (view_of_broom before.broom) (total_of answers) (view_of_broom after.broom)
 
--- the broom made some calls, and did nothing else
-abbrev pub HasCollected : Collector → Collector → Type 0
-HasCollected before after = (answers : List BroomAnswer) × HasCollectedBy before answers after
+-- What followed a drain with this result was done, and nothing else. It is known whether the drain or what followed it has gained something
+pub record HasFollowed (before : Collector) (given : Drain) (gained : Bool) (after : Collector) : Type 0 where
+  pub behind : List BroomAnswer
+  pub follows : Follows given behind
+  pub told : gained ≡ (has_drained given || list_any has_gained behind)
+  pub collected : HasCollectedBy before behind after
+
+-- The broom took one turn, within its limit of drains, and did nothing else. It is known whether it has gained something
+pub record HasTakenTurn (before : Collector) (gained : Bool) (after : Collector) : Type 0 where
+  pub answers : List BroomAnswer
+  pub turn : IsTurn before.drains answers
+  pub told : gained ≡ list_any has_gained answers
+  pub collected : HasCollectedBy before answers after
+
+-- The broom took some turns, one after another and each within its limit of drains, and did nothing else
+pub record HasCollected (before after : Collector) : Type 0 where
+  pub answers : List BroomAnswer
+  pub turns : AreTurns before.drains answers
+  pub collected : HasCollectedBy before answers after
 
 -- each broom did so, in order
 abbrev pub HaveCollected : List Collector → List Collector → Type 0

@@ -3,7 +3,6 @@ use Rattle.std.specs.Arc.{arc_value}
 use Rattle.std.proofs.lemmas.List.{length-map}
 use Rattle.geometry.specs.Geometry.{hosts_of}
 use Rattle.rounds.specs.declared.answer_list.Answers.{Answers}
-use Rattle.trace.specs.declared.commands.Command.{Command}
 use Rattle.volume.specs.declared.volume.Volume.{Volume}
 use Rattle.volume.specs.Volume.{flash_of}
 use Rattle.flash_table.specs.Flash.{geometry_of}

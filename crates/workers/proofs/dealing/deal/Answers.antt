@@ -1,7 +1,6 @@
-use Rattle.std.proofs.Common.{◌≡◌, ℕ, ◌<◌, All, List, Some, length, map, sym, ap, ◌∙◌, subst, arith}
-use Rattle.std.specs.Prelude.{slice_get, Vec}
+use Rattle.std.proofs.Common.{◌≡◌, ℕ, All, List, Some, length, sym, ap, ◌∙◌, subst, arith}
+use Rattle.std.specs.Prelude.{slice_get}
 use Rattle.std.specs.Arc.{arc_value}
-use Rattle.std.specs.Global.{Global}
 use Rattle.std.proofs.lemmas.List.{length-map}
 use Rattle.geometry.specs.Geometry.{hosts_of}
 use Rattle.geometry.specs.declared.geometry.Geometry.{Geometry}
@@ -18,7 +17,7 @@ use Rattle.workers.specs.declared.worker.Worker.{Worker}
 use Rattle.workers.specs.declared.collector.Collector.{Collector}
 use Rattle.workers.specs.Meetings.{IsAt}
 use Rattle.workers.specs.Runs.{AreManned, HasBegun}
-use Rattle.workers.specs.Served.{AreAtRunStart, HasCountedNone, broom_of}
+use Rattle.workers.specs.Served.{AreAtRunStart, HasCountedNone}
 use Rattle.workers.specs.Shares.{HasFitShare, IsOwner, with_commands, work_in}
 use Rattle.workers.proofs.Counting.{zero_plus}
 use Rattle.workers.proofs.Serving.{all_first}

@@ -1,11 +1,9 @@
-use Rattle.std.proofs.Common.{◌≡◌, length, refl, sym, ap, subst, arith}
+use Rattle.std.proofs.Common.{length, refl, sym, ap, subst, arith}
 use Rattle.std.proofs.lemmas.Grind.{common_steps}
-use Rattle.std.specs.Arc.{arc_value}
 use Rattle.broom.specs.declared.broom.Broom.{Broom}
 use Rattle.volume.specs.declared.volume.Volume.{Volume}
 use Rattle.volume.specs.Brooms.{IsBroomReady}
 use Rattle.volume.proofs.FreshBrooms.{taken}
-use Rattle.workers.specs.declared.collector.Collector.{Collector}
 use Rattle.workers.specs.Served.{HasCountedNone, broom_of}
 use Rattle.workers.specs.Shares.{IsOwner}
 use Rattle.workers.proofs.Dealt.{moved_in, pushed_all}

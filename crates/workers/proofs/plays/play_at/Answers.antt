@@ -1,11 +1,7 @@
-use Rattle.std.proofs.Common.{◌≡◌, ℕ, ◌+◌, ◌<◌, ◌≤◌, length, get_or, ◌∙◌, sym, ap, subst, arith}
-use Rattle.std.proofs.lemmas.Grind.{common_steps}
-use Rattle.flash_table.specs.Flash.{geometry_of, view_of}
-use Rattle.rounds.specs.Pages.{bytes_of}
-use Rattle.rounds.specs.Answers.{page_size_of, HasSpace}
-use Rattle.rounds.specs.declared.answer.Kind.TheVariants as kind
+use Rattle.std.proofs.Common.{◌≡◌, ◌<◌, length, ◌∙◌, sym, subst, arith}
+use Rattle.flash_table.specs.Flash.{geometry_of}
+use Rattle.rounds.specs.Answers.{page_size_of}
 use Rattle.trace.specs.declared.commands.Command.{Command}
-use Rattle.trace.specs.declared.commands.Op.TheVariants as op
 use Rattle.volume.specs.Volume.{flash_of}
 use Rattle.workers.specs.Playable.{IsLine, lines_at}
 use Rattle.workers.proofs.Lines.{line_there, count_lines, told_of_read}
