@@ -12,6 +12,7 @@ use Rattle.workers.specs.declared.collector.Collector.{Collector}
 use Rattle.workers.specs.Tallies.{added, answer_adds, total_of, wrapped}
 use Rattle.workers.proofs.Counting.{counted_none, counted_one, counted_then, exact_none, exact_one, exact_then, wrapped_sum}
 use Rattle.workers.proofs.Grown.{calls_grown}
+use Rattle.workers.proofs.Listed.{calls_listed}
 use Rattle.workers.specs.Collecting.{CallTold, HasMadeCalls, HasCollected, HasCollectedBy, HasTakenTurn, HaveCollected, limit_at}
 use Rattle.workers.specs.Turns.{AreTurns, IsTurn}
 
@@ -31,6 +32,7 @@ pub collected_one : (s t : Collector) (x : BroomAnswer) → arc_value t.volume �
     → t.tally ≡ wrapped (added s.tally (answer_adds x)) → HasCollectedBy s (x ∷ []) t
 collected_one s t x volume drains told tally =
     let calls = calls_one (limit_at s) s.broom t.broom x told in
+    let listed = calls_listed (limit_at s) s.broom t.broom (x ∷ []) calls in
     record {
       volume = volume;
       drains = drains;
@@ -38,6 +40,8 @@ collected_one s t x volume drains told tally =
       counted = counted_one s.tally t.tally x tally;
       exact = λ whole. exact_one s.tally t.tally x tally;
       grown = calls_grown (limit_at s) s.broom t.broom (x ∷ []) calls;
+      pinned = listed.0;
+      stale = listed.1;
     }
 
 collected_by_none : (s : Collector) → HasCollectedBy s [] s
@@ -48,6 +52,8 @@ collected_by_none s = record {
   counted = counted_none s.tally;
   exact = exact_none s.tally;
   grown = calls_grown (limit_at s) s.broom s.broom [] refl;
+  pinned = refl;
+  stale = refl;
 }
 
 -- calls with these answers, and then with those
@@ -56,6 +62,7 @@ collected_by_then s t u xs ys one two =
     let calls =
     calls_then (limit_at s) s.broom t.broom u.broom xs ys one.calls
     (subst (λ (v : Volume). HasMadeCalls (limit_of (queue_of v)) t.broom ys u.broom) one.volume two.calls) in
+    let listed = calls_listed (limit_at s) s.broom u.broom (xs ++ ys) calls in
     record {
       volume = two.volume ∙ one.volume;
       drains = two.drains ∙ one.drains;
@@ -65,6 +72,8 @@ collected_by_then s t u xs ys one two =
           let first = one.exact whole in
           exact_then s.tally t.tally u.tally xs ys one.counted two.counted first (two.exact (wrapped_sum s.tally t.tally (total_of xs) first));
       grown = calls_grown (limit_at s) s.broom u.broom (xs ++ ys) calls;
+      pinned = listed.0;
+      stale = listed.1;
     }
 
 turns_then : (n : ℕ) (xs ys : List BroomAnswer) → AreTurns n xs → AreTurns n ys → AreTurns n (xs ++ ys)

@@ -13,6 +13,7 @@ pub mod Collected
 pub mod Turning
 pub mod Counting
 pub mod Grown
+pub mod Listed
 pub mod Programmed
 pub mod Serving
 pub mod Line

@@ -144,8 +144,8 @@ returns-clause-first c =
     let unused : (i : ℕ) (b : Broom) → slice_get c.into_parts-volume.result.2.items i ≡ Some b → IsUnused (flash_of volume) i b =
     subst (λ (x : Volume × List Broom). (i : ℕ) (b : Broom) → slice_get x.1 i ≡ Some b → IsUnused (flash_of x.0) i b)
     (λ i. (sym parts.volume i, sym parts.brooms i)) c.in_ok-unseated.ensures.unused in
-    subst (AreAtRunStart volume 0) (sym c.in_ok-new.ensures.collectors)
-    (all_first volume 0 collectors
+    subst (AreAtRunStart volume c.args.drains 0) (sym c.in_ok-new.ensures.collectors)
+    (all_first volume c.args.drains 0 collectors
     (λ i b at. subst (λ (n : ℕ). IsUnused (flash_of volume) n b) (zero_plus i)
     (unused i b (subst (λ l. slice_get l i ≡ Some b) c.seat_collectors.ensures.brooms at)))
-    (subst (λ (v : Volume). All (HasCountedNone v) collectors) c.deref-2.ensures c.seat_collectors.ensures.none))
+    (subst (λ (v : Volume). All (HasCountedNone v c.args.drains) collectors) c.deref-2.ensures c.seat_collectors.ensures.none))

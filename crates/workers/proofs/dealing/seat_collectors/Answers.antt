@@ -38,7 +38,7 @@ loop-broom-preserved c =
     record {
       brooms = moved_in broom_of collectors more c.loop-broom.brooms.items c.pop_front.new.self.items c.args.brooms.items _ c.in-Some.broom pushed
           c.in-Some.ensures.items refl was.brooms;
-      none = pushed_all (HasCountedNone volume) collectors more _ pushed was.none (owner.0, c.new.ensures);
+      none = pushed_all (HasCountedNone volume c.args.drains) collectors more _ pushed was.none (owner.0, refl, c.new.ensures);
       ready = broom.1;
       owners = owner.1;
       count = omega arith;
