@@ -95,5 +95,5 @@ returns g c =
       commands = refl {A = List Command};
       places = refl {A = List ℕ};
       answers = subst P (λ i. (c.deref-3.ensures i, same i)) c.play_at.ensures.answered;
-      played = λ t role. subst (Q t) (λ i. (c.deref-3.ensures i, same i)) (c.play_at.ensures.told t role);
+      played = λ t role. subst (Q t) (λ i. (c.deref-3.ensures i, same i)) (c.play_at.ensures.played t role);
     }
