@@ -15,7 +15,7 @@ use crate::telling::tell;
 use answers::{OutputFailed, send};
 use clap::error::ErrorKind;
 use geometry::{DeviceNumbers, Geometry, GeometryFault};
-use runs::{RunFiles, Wanted, run_by_workers, run_with_files};
+use runs::{RunFiles, Wanted, WantedByWorkers, run_by_workers, run_with_files};
 use std::alloc::Global;
 use std::io::{Read, Write};
 use std::sync::Wait;
@@ -139,21 +139,23 @@ fn play_shared<T: Threads + Wait + Clock + Sync, R: Read, W: Write, F: NamedFile
         return Err(stop);
     }
     let answers = !given.quiet;
-    let wanted = given.collections.is_some();
+    let wanted = WantedByWorkers {
+        answers,
+        log: given.collections.is_some(),
+    };
     let (patience, drains) = (given.patience, given.drains);
     match run_by_workers(
         rt,
         alloc,
         reader,
         writer,
-        answers,
         wanted,
         &mut files.collections,
         geometry,
         patience,
         drains,
     ) {
-        Ok(log) => outcome(log, Ok(())),
+        Ok(played) => outcome(played.log, Ok(())),
         Err(fault) => Err(Stop::Run(fault)),
     }
 }

@@ -7,6 +7,7 @@ pub mod Brooms
 pub mod Delivering
 pub mod Texts
 pub mod Outputs
+pub mod ByWorkers
 -- Internal.
 pub mod Steps
 pub mod Logs

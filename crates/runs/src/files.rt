@@ -19,6 +19,15 @@ pub struct Wanted {
     pub wear: bool,
 }
 
+/// What a run by workers is to write. Workers write no wear.
+#[derive(Clone, Copy, Debug, PartialEq, Eq)]
+pub struct WantedByWorkers {
+    /// The answers. Without them the output is the last line.
+    pub answers: bool,
+    /// What each broom has done.
+    pub log: bool,
+}
+
 /// Whether each wanted file was written whole. `Ok` if it isn't wanted.
 #[derive(Clone, Copy, Debug, PartialEq, Eq)]
 pub struct Written {

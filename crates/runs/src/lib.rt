@@ -11,9 +11,11 @@ mod logged;
 mod many_threads;
 mod one_thread;
 mod perform;
+mod played_by_workers;
 mod wear;
 
 pub use delivery::Delivery;
-pub use files::{RunFiles, Wanted, Written};
+pub use files::{RunFiles, Wanted, WantedByWorkers, Written};
 pub use many_threads::{run_by_workers, run_shared};
 pub use one_thread::{run, run_with_files};
+pub use played_by_workers::PlayedByWorkers;

@@ -5,12 +5,15 @@ ghost use Rattle.trace.specs.Watched.{failures_of, inner_of};
 ghost use Rattle.answers.specs.Outcome.{ExplainsRun};
 ghost use Rattle.answers.specs.Streams.{Tells, over, stream_of};
 ghost use Rattle.runs.specs.Brooms.{IsBroomLogOf};
+ghost use Rattle.runs.specs.ByWorkers.{WasPlayed};
 ghost use Rattle.runs.specs.Files.{EndsFile};
 ghost use Rattle.runs.specs.Outputs.{IsOutputByWorkers};
 ghost use Rattle.runs.specs.Texts.{IsTextOf};
 
 use crate::broom_log::{log_room, tell_brooms_if};
 use crate::delivery::Delivery;
+use crate::files::WantedByWorkers;
+use crate::played_by_workers::PlayedByWorkers;
 use answers::{OutputFailed, RunFault, read_commands};
 use flash_table::{Gate, NoGate};
 use geometry::{Geometry, MAX_BROOMS, MAX_HOSTS};
@@ -53,14 +56,17 @@ pub fn run_shared<T: Threads + Wait + Clock + Sync, R: Read, W: Write, G: Gate +
     // A fault says what happened. Only a failed writer has taken bytes, and those are a beginning of a text.
     ensures why { IfErr result (ExplainsRun IsTextOf geometry.now (over R.remaining reader.old reader.new) (over W.contents writer.old writer.new)) }
 {
+    let wanted = WantedByWorkers {
+        answers: true,
+        log: false,
+    };
     let mut no_log = Watched::new(io::sink());
     match run_logged(
         rt,
         alloc,
         reader,
         writer,
-        true,
-        false,
+        wanted,
         &mut no_log,
         geometry,
         patience,
@@ -78,23 +84,25 @@ fn run_logged<T: Threads + Wait + Clock + Sync, R: Read, W: Write, V: Write, G: 
     alloc: Global,
     reader: &mut Watched<R>,
     writer: &mut Watched<W>,
-    answers: bool,
-    wanted: bool,
+    wanted: WantedByWorkers,
     file: &mut Watched<V>,
     geometry: &Geometry,
     patience: u32,
     drains: u32,
     gates: &mut [G],
-) -> Result<Result<(), OutputFailed>, RunFault>
+) -> Result<PlayedByWorkers, RunFault>
     requires hosts { 0 < hosts_of geometry.now }
     requires gates { length gates.old ≡ hosts_of geometry.now + brooms_of geometry.now }
     ensures end { OnOk result (IsAtEnd (R.remaining (inner_of reader.new))) }
-    ensures text { OnOk result (Tells (IsOutputByWorkers answers geometry.now) (stream_of R.remaining reader.old) (over W.contents writer.old writer.new)) }
+    ensures text { OnOk result (Tells (IsOutputByWorkers wanted.answers geometry.now) (stream_of R.remaining reader.old) (over W.contents writer.old writer.new)) }
     ensures reader_unfailed { OnOk result (failures_of reader.new ≡ failures_of reader.old) }
     ensures writer_unfailed { OnOk result (failures_of writer.new ≡ failures_of writer.old) }
-    ensures log { IfOk result (EndsFile wanted (IsBroomLogOf geometry.now) (stream_of R.remaining reader.old) (over V.contents file.old file.new)) }
+    ensures played { IfOk result
+        (WasPlayed geometry.now drains wanted (stream_of R.remaining reader.old) (over W.contents writer.old writer.new) (over V.contents file.old file.new)) }
+    ensures log { IfOk result
+        (λ run. EndsFile wanted.log (IsBroomLogOf geometry.now) (stream_of R.remaining reader.old) (over V.contents file.old file.new) run.log) }
     ensures why { IfErr result
-        (ExplainsRun (IsOutputByWorkers answers) geometry.now (over R.remaining reader.old reader.new) (over W.contents writer.old writer.new)) }
+        (ExplainsRun (IsOutputByWorkers wanted.answers) geometry.now (over R.remaining reader.old reader.new) (over W.contents writer.old writer.new)) }
     ensures no_log { OnErr result (stream_of V.contents file.new ≡ stream_of V.contents file.old) }
 {
     let commands = match read_commands(alloc, reader, geometry) {
@@ -104,7 +112,7 @@ fn run_logged<T: Threads + Wait + Clock + Sync, R: Read, W: Write, V: Write, G: 
     let Ok(delivery) = Delivery::new(alloc, geometry) else {
         return Err(RunFault::Memory);
     };
-    let Ok(log) = log_room(alloc, geometry, wanted) else {
+    let Ok(log) = log_room(alloc, geometry, wanted.log) else {
         return Err(RunFault::Memory);
     };
     let Ok(commands) = Arc::new(alloc, commands) else {
@@ -115,39 +123,46 @@ fn run_logged<T: Threads + Wait + Clock + Sync, R: Read, W: Write, V: Write, G: 
         Err(RoundFault::Memory) => return Err(RunFault::Memory),
         Err(RoundFault::Threads) => return Err(RunFault::Threads),
     };
-    match delivery.write_out(answers, &commands, &end.rows, writer) {
-        Ok(()) => Ok(tell_brooms_if(log, &end.brooms, file)),
+    match delivery.write_out(wanted.answers, &commands, &end.rows, writer) {
+        Ok(()) => {
+            let log = tell_brooms_if(log, &end.brooms, file);
+            Ok(PlayedByWorkers { commands, end, log })
+        }
         Err(OutputFailed) => Err(RunFault::Output),
     }
 }
 
 /// Plays a trace as `run_shared` does, with gates that do nothing, and then writes the log if it is wanted: what each broom has done. If the
-/// answers aren't wanted, the output is the last line alone. If the log fails, the output is complete.
+/// answers aren't wanted, the output is the last line alone. If the log fails, the output is complete. Returns what was played.
 #[allow(clippy::too_many_arguments)]
 pub fn run_by_workers<T: Threads + Wait + Clock + Sync, R: Read, W: Write, V: Write>(
     rt: &T,
     alloc: Global,
     reader: &mut Watched<R>,
     writer: &mut Watched<W>,
-    answers: bool,
-    wanted: bool,
+    wanted: WantedByWorkers,
     file: &mut Watched<V>,
     geometry: &Geometry,
     patience: u32,
     drains: u32,
-) -> Result<Result<(), OutputFailed>, RunFault>
+) -> Result<PlayedByWorkers, RunFault>
     requires { 0 < hosts_of geometry.now }
     ensures end { OnOk result (IsAtEnd (R.remaining (inner_of reader.new))) }
-    ensures text { OnOk result (Tells (IsOutputByWorkers answers geometry.now) (stream_of R.remaining reader.old) (over W.contents writer.old writer.new)) }
+    ensures text { OnOk result (Tells (IsOutputByWorkers wanted.answers geometry.now) (stream_of R.remaining reader.old) (over W.contents writer.old writer.new)) }
     ensures reader_unfailed { OnOk result (failures_of reader.new ≡ failures_of reader.old) }
     ensures writer_unfailed { OnOk result (failures_of writer.new ≡ failures_of writer.old) }
 
+    // Each line was played, also if its answer isn't wanted: these are the answers, and the output and the log are of the same run.
+    ensures played { IfOk result
+        (WasPlayed geometry.now drains wanted (stream_of R.remaining reader.old) (over W.contents writer.old writer.new) (over V.contents file.old file.new)) }
+
     // The log has the counts of each broom. If its writer failed, a beginning was written.
-    ensures log { IfOk result (EndsFile wanted (IsBroomLogOf geometry.now) (stream_of R.remaining reader.old) (over V.contents file.old file.new)) }
+    ensures log { IfOk result
+        (λ run. EndsFile wanted.log (IsBroomLogOf geometry.now) (stream_of R.remaining reader.old) (over V.contents file.old file.new) run.log) }
 
     // After a fault of the run no log was written.
     ensures why { IfErr result
-        (ExplainsRun (IsOutputByWorkers answers) geometry.now (over R.remaining reader.old reader.new) (over W.contents writer.old writer.new)) }
+        (ExplainsRun (IsOutputByWorkers wanted.answers) geometry.now (over R.remaining reader.old reader.new) (over W.contents writer.old writer.new)) }
     ensures no_log { OnErr result (stream_of V.contents file.new ≡ stream_of V.contents file.old) }
 {
     let mut gates = [NoGate; MAX_THREADS];
@@ -157,7 +172,6 @@ pub fn run_by_workers<T: Threads + Wait + Clock + Sync, R: Read, W: Write, V: Wr
         alloc,
         reader,
         writer,
-        answers,
         wanted,
         file,
         geometry,

@@ -9,7 +9,7 @@ use Rattle.flash_table.specs.declared.pass.Pass.{Pass}
 use Rattle.host.specs.Ready.{IsReady}
 use Rattle.trace.specs.declared.commands.Command.{Command}
 use Rattle.volume.specs.Volume.{flash_of}
-use Rattle.rounds.specs.Answers.{page_size_of, said_in, space_of, HasSpaceFor}
+use Rattle.rounds.specs.Answers.{page_size_of, said_in, HasSpaceFor}
 use Rattle.rounds.proofs.Spaces.{space_of-append}
 use Rattle.rounds.specs.declared.answer_list.Answers.{Answers}
 use Rattle.workers.specs.Playable.{HasAnswered, lines_at}

@@ -1,5 +1,7 @@
 -- A broom's calls, one after another and over rounds.
-use Rattle.std.proofs.Common.{◌≡◌, ℕ, suc, List, [], ◌∷◌, ◌++◌, length, refl, ap, ◌∙◌, subst}
+use Rattle.std.proofs.Common.{◌≡◌, ℕ, suc, List, [], ◌∷◌, ◌++◌, Bool, length, refl, sym, ap, ◌∙◌, subst, append-nil}
+use Rattle.std.proofs.lemmas.List.Concat.{flat_map-append}
+use Rattle.std.proofs.lemmas.List.Elements.{All-append, All-cons, All-nil}
 use Rattle.erase_queue.specs.Queue.{limit_of}
 use Rattle.broom.specs.declared.broom.Broom.{Broom}
 use Rattle.volume.specs.declared.volume.Volume.{Volume}
@@ -10,7 +12,9 @@ use Rattle.workers.specs.declared.collector.Collector.{Collector}
 use Rattle.workers.specs.Tallies.{added, answer_adds, total_of, wrapped}
 use Rattle.workers.proofs.Counting.{counted_none, counted_one, counted_then, exact_none, exact_one, exact_then, wrapped_sum}
 use Rattle.workers.proofs.Grown.{calls_grown}
-use Rattle.workers.specs.Collecting.{CallTold, HasMadeCalls, HasCollected, HasCollectedBy, HaveCollected, limit_at}
+use Rattle.workers.proofs.Listed.{calls_listed}
+use Rattle.workers.specs.Collecting.{CallTold, HasMadeCalls, HasCollected, HasCollectedBy, HasTakenTurn, HaveCollected, limit_at}
+use Rattle.workers.specs.Turns.{AreTurns, IsTurn}
 
 -- one call
 pub calls_one : (limit : ℕ) (a b : Broom) (x : BroomAnswer) → CallTold limit a x b → HasMadeCalls limit a (x ∷ []) b
@@ -28,6 +32,7 @@ pub collected_one : (s t : Collector) (x : BroomAnswer) → arc_value t.volume �
     → t.tally ≡ wrapped (added s.tally (answer_adds x)) → HasCollectedBy s (x ∷ []) t
 collected_one s t x volume drains told tally =
     let calls = calls_one (limit_at s) s.broom t.broom x told in
+    let listed = calls_listed (limit_at s) s.broom t.broom (x ∷ []) calls in
     record {
       volume = volume;
       drains = drains;
@@ -35,47 +40,72 @@ collected_one s t x volume drains told tally =
       counted = counted_one s.tally t.tally x tally;
       exact = λ whole. exact_one s.tally t.tally x tally;
       grown = calls_grown (limit_at s) s.broom t.broom (x ∷ []) calls;
+      pinned = listed.0;
+      stale = listed.1;
     }
 
-pub collected_none : (s : Collector) → HasCollected s s
-collected_none s = (
-  [],
-  record {
-    volume = refl;
-    drains = refl;
-    calls = refl;
-    counted = counted_none s.tally;
-    exact = exact_none s.tally;
-    grown = calls_grown (limit_at s) s.broom s.broom [] refl;
-  },
-)
-
-pub collected_then : (s t u : Collector) → HasCollected s t → HasCollected t u → HasCollected s u
-collected_then s t u one two =
-    let answers = one.0 ++ two.0 in
-    let calls =
-    calls_then (limit_at s) s.broom t.broom u.broom one.0 two.0 one.1.calls
-    (subst (λ (v : Volume). HasMadeCalls (limit_of (queue_of v)) t.broom two.0 u.broom) one.1.volume two.1.calls) in (
-      answers,
-      record {
-        volume = two.1.volume ∙ one.1.volume;
-        drains = two.1.drains ∙ one.1.drains;
-        calls = calls;
-        counted = counted_then s.tally t.tally u.tally one.0 two.0 one.1.counted two.1.counted;
-        exact = λ whole.
-            let first = one.1.exact whole in
-            exact_then s.tally t.tally u.tally one.0 two.0 one.1.counted two.1.counted first (two.1.exact (wrapped_sum s.tally t.tally (total_of one.0) first));
-        grown = calls_grown (limit_at s) s.broom u.broom answers calls;
-      },
-    )
+collected_by_none : (s : Collector) → HasCollectedBy s [] s
+collected_by_none s = record {
+  volume = refl;
+  drains = refl;
+  calls = refl;
+  counted = counted_none s.tally;
+  exact = exact_none s.tally;
+  grown = calls_grown (limit_at s) s.broom s.broom [] refl;
+  pinned = refl;
+  stale = refl;
+}
 
 -- calls with these answers, and then with those
-pub collected_by_then : (s t u : Collector) (xs ys : List BroomAnswer) → HasCollectedBy s xs t → HasCollectedBy t ys u → HasCollected s u
-collected_by_then s t u xs ys one two = collected_then s t u (xs, one) (ys, two)
+pub collected_by_then : (s t u : Collector) (xs ys : List BroomAnswer) → HasCollectedBy s xs t → HasCollectedBy t ys u → HasCollectedBy s (xs ++ ys) u
+collected_by_then s t u xs ys one two =
+    let calls =
+    calls_then (limit_at s) s.broom t.broom u.broom xs ys one.calls
+    (subst (λ (v : Volume). HasMadeCalls (limit_of (queue_of v)) t.broom ys u.broom) one.volume two.calls) in
+    let listed = calls_listed (limit_at s) s.broom u.broom (xs ++ ys) calls in
+    record {
+      volume = two.volume ∙ one.volume;
+      drains = two.drains ∙ one.drains;
+      calls = calls;
+      counted = counted_then s.tally t.tally u.tally xs ys one.counted two.counted;
+      exact = λ whole.
+          let first = one.exact whole in
+          exact_then s.tally t.tally u.tally xs ys one.counted two.counted first (two.exact (wrapped_sum s.tally t.tally (total_of xs) first));
+      grown = calls_grown (limit_at s) s.broom u.broom (xs ++ ys) calls;
+      pinned = listed.0;
+      stale = listed.1;
+    }
 
--- some calls, and then those with these answers
-pub collected_more : (s t u : Collector) (answers : List BroomAnswer) → HasCollected s t → HasCollectedBy t answers u → HasCollected s u
-collected_more s t u answers one more = collected_then s t u one (answers, more)
+turns_then : (n : ℕ) (xs ys : List BroomAnswer) → AreTurns n xs → AreTurns n ys → AreTurns n (xs ++ ys)
+turns_then n xs ys one two = record {
+  turns = one.turns ++ two.turns;
+  each = All-append (IsTurn n) one.turns two.turns one.each two.each;
+  are = (λ i. one.are i ++ two.are i) ∙ sym (flat_map-append (λ turn. turn) one.turns two.turns);
+}
+
+pub collected_none : (s : Collector) → HasCollected s s
+collected_none s = record { answers = []; turns = record { turns = []; each = All-nil (IsTurn s.drains); are = refl }; collected = collected_by_none s }
+
+pub collected_then : (s t u : Collector) → HasCollected s t → HasCollected t u → HasCollected s u
+collected_then s t u one two = record {
+  answers = one.answers ++ two.answers;
+  turns = turns_then s.drains one.answers two.answers one.turns (subst (λ (n : ℕ). AreTurns n two.answers) one.collected.drains two.turns);
+  collected = collected_by_then s t u one.answers two.answers one.collected two.collected;
+}
+
+-- some turns, and then another one
+pub collected_turn : (s t u : Collector) (gained : Bool) → HasCollected s t → HasTakenTurn t gained u → HasCollected s u
+collected_turn s t u gained before turn =
+    collected_then s t u before
+    record {
+      answers = turn.answers;
+      turns = record {
+        turns = turn.answers ∷ [];
+        each = All-cons (IsTurn t.drains) turn.answers [] turn.turn (All-nil (IsTurn t.drains));
+        are = sym (append-nil turn.answers);
+      };
+      collected = turn.collected;
+    }
 
 pub all_collected_none : (xs : List Collector) → HaveCollected xs xs
 all_collected_none [] = tt

@@ -1,7 +1,7 @@
 -- The front part of a row, before an end.
-use Rattle.std.proofs.Common.{◌≡◌, ℕ, ◌+◌, ◌-◌, ◌<◌, ◌≤◌, All, false, true, List, ◌++◌, get_or, length, take}
-use Rattle.std.proofs.Common.{drop, map, refl, sym, ap, ◌∙◌, arith, add-zero, length-append}
-use Rattle.std.specs.List.{prefix_len, slice_range, take_while, drop-map}
+use Rattle.std.proofs.Common.{◌≡◌, ℕ, ◌+◌, ◌-◌, ◌<◌, ◌≤◌, All, List, ◌++◌, get_or, length, take}
+use Rattle.std.proofs.Common.{drop, sym, ap, ◌∙◌, arith, add-zero, length-append}
+use Rattle.std.specs.List.{prefix_len, take_while, drop-map}
 use Rattle.std.proofs.Math.Seq.{take-append_seam}
 use Rattle.std.proofs.lemmas.Bool.{lt-ltb, le-ltb}
 use Rattle.std.proofs.lemmas.List.{take-map, length-drop, get_or-drop, get_or_append_left, get_or-append-add}

@@ -1,5 +1,5 @@
 -- What a broom's view grows by with each call.
-use Rattle.std.proofs.Common.{◌≡◌, ℕ, ◌+◌, List, [], ◌∷◌, ◌++◌, length, ◌⊎◌, inl, inr, Bool, true, false, refl, sym}
+use Rattle.std.proofs.Common.{◌≡◌, ℕ, ◌+◌, List, [], ◌∷◌, ◌++◌, ◌⊎◌, inl, inr, Bool, true, false, refl, sym}
 use Rattle.std.proofs.Common.{ap, ◌∙◌, subst, append-nil, append_assoc, add-zero, arith}
 use Rattle.std.proofs.lemmas.List.{length-append}
 use Rattle.flash_rule.specs.declared.facts.Cycle.{Cycle}

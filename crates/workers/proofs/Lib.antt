@@ -10,8 +10,10 @@ pub mod Dealt
 pub mod Openings
 pub mod Ended
 pub mod Collected
+pub mod Turning
 pub mod Counting
 pub mod Grown
+pub mod Listed
 pub mod Programmed
 pub mod Serving
 pub mod Line

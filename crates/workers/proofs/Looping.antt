@@ -25,7 +25,6 @@ use Rattle.volume.specs.declared.volume.Volume.{Volume}
 use Rattle.volume.specs.Closing.{HasLooked}
 use Rattle.volume.specs.Volume.{flash_of}
 use Rattle.rounds.specs.Answers.{said_in}
-use Rattle.rounds.specs.declared.answer_list.Answers.{Answers}
 use Rattle.rounds.specs.Meetings.{AreTied, HaveMet}
 use Rattle.rounds.specs.Merging.{is_meet, lines_for, line_count, rows_after, rounds_of}
 use Rattle.rounds.specs.Plans.{places_from, places_for, meetings_from}

@@ -5,19 +5,17 @@ use Rattle.std.proofs.lemmas.List.{drop_all, get_or-map, get_or_default, length-
 use Rattle.std.proofs.lemmas.List.Elements.{All-head, All-tail}
 use mathlib.Core.Logic.{dite}
 use native.Mathlib.Decide.{ℕ_discrete}
-use Rattle.geometry.specs.Geometry.{hosts_of}
 use Rattle.flash_rule.specs.declared.facts.Name.TheVariants.{Pass as APass}
 use Rattle.flash_rule.specs.declared.facts.Role.TheVariants.{Player}
 use Rattle.flash_rule.specs.declared.view.View.{View}
 use Rattle.flash_table.specs.declared.pass.Pass.{Pass}
-use Rattle.flash_table.specs.Flash.{view_of, geometry_of}
+use Rattle.flash_table.specs.Flash.{view_of}
 use Rattle.trace.specs.declared.commands.Command.{Command}
 use Rattle.rounds.specs.Lines.{Said}
 use Rattle.volume.specs.declared.volume.Volume.{Volume}
-use Rattle.volume.specs.Volume.{flash_of}
 use Rattle.workers.specs.declared.round_limits.RoundLimits.{RoundLimits}
 use Rattle.workers.specs.declared.worker.Worker.{Worker}
-use Rattle.workers.specs.Meetings.{AreSeated, IsAt, Rest, passes_of, rest_of}
+use Rattle.workers.specs.Meetings.{AreSeated, Rest, passes_of, rest_of}
 use Rattle.workers.specs.Workers.{HasPlayed, IsIdle, answered, round_lines}
 use Rattle.workers.specs.Tasks.{HavePlayed}
 use Rattle.rounds.specs.Playing.{Played}

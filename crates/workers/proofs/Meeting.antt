@@ -11,8 +11,6 @@ use Rattle.flash_table.specs.declared.pass.Pass.{Pass}
 use Rattle.flash_table.specs.Flash.{view_of, device, geometry_of, first_view}
 use Rattle.host.specs.Ready.{IsReady}
 use Rattle.host.specs.Told.{MetTold}
-use Rattle.trace.specs.declared.commands.Command.{Command}
-use Rattle.rounds.specs.Lines.{Said}
 use Rattle.volume.specs.declared.volume.Volume.{Volume}
 use Rattle.volume.specs.Closing.{HasLooked}
 use Rattle.volume.specs.Gathering.{MetEach}

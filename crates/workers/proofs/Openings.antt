@@ -1,7 +1,6 @@
 -- How a run begins: each worker has its lines, and has played none.
-use Rattle.std.proofs.Common.{◌≡◌, ℕ, ◌<◌, All, Bool, true, false, List, [], map, length, get_or, refl, sym, ap, ◌∙◌, subst, arith, append-nil, zero-add}
+use Rattle.std.proofs.Common.{◌≡◌, ℕ, ◌<◌, All, true, false, List, [], map, length, get_or, refl, sym, ap, ◌∙◌, subst, arith, append-nil, zero-add}
 use Rattle.std.specs.Prelude.{Vec, ◌==◌, ◌&&◌, not, if◌then◌else◌}
-use Rattle.std.specs.Arc.{arc_value}
 use Rattle.std.specs.Global.{Global}
 use Rattle.std.specs.List.{range_with_len}
 use Rattle.std.specs.Prelude.{slice_get, Some}
@@ -13,8 +12,6 @@ use Rattle.std.proofs.lemmas.Option.{slice_get-get_or}
 use Rattle.std.proofs.lemmas.Simd.{map-map}
 use Rattle.geometry.specs.Geometry.{hosts_of, sectors_of}
 use Rattle.geometry.specs.declared.geometry.Geometry.{Geometry}
-use Rattle.flash_rule.specs.declared.facts.Name.TheVariants.{Pass as APass}
-use Rattle.flash_rule.specs.declared.facts.Role.TheVariants.{Player}
 use Rattle.flash_rule.specs.declared.view.View.{View}
 use Rattle.flash_table.specs.declared.pass.Pass.{Pass}
 use Rattle.flash_table.specs.Flash.{view_of, device, geometry_of, first_view}
@@ -30,8 +27,8 @@ use Rattle.rounds.specs.Merging.{is_meet, is_line_of, lines_for}
 use Rattle.rounds.specs.Plans.{ends_of, items_of, places_for}
 use Rattle.workers.specs.declared.worker.Worker.{Worker}
 use Rattle.workers.specs.Dealing.{AreDoable}
-use Rattle.workers.specs.Meetings.{AreSeated, IsAt, passes_of, views_of}
-use Rattle.workers.specs.Runs.{AreManned, HasBegun, IsDealt}
+use Rattle.workers.specs.Meetings.{IsAt, passes_of, views_of}
+use Rattle.workers.specs.Runs.{AreManned, HasBegun}
 use Rattle.workers.specs.Shares.{HasPlayedNone, rows_for, with_commands, work_of}
 use Rattle.workers.proofs.Looping.{some_worker}
 use Rattle.workers.proofs.Walking.{lines_there, places_low}

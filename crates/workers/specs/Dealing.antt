@@ -1,7 +1,6 @@
 -- What the workers of a run receive: the device, a pass each, and a share of the trace.
 use Rattle.std.specs.Prelude.{◌≡◌, ℕ, ◌<◌, All, List, [], Some, length, slice_get}
 use Rattle.std.proofs.Props.{props}
-use Rattle.std.specs.Arc.{arc_value}
 use Rattle.geometry.specs.Geometry.{brooms_of, hosts_of, page_bytes_of}
 use Rattle.geometry.specs.declared.geometry.Geometry.{Geometry}
 use Rattle.flash_table.specs.declared.pass.Pass.{Pass}

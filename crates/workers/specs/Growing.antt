@@ -7,6 +7,14 @@ use Rattle.workers.specs.declared.tally.Tally.{Tally}
 abbrev pub GrowsBy : {X : Type 0} → ℕ → List X → List X → Type 0
 GrowsBy {X} n before after = (more : List X) × (after ≡ before ++ more) × (length more ≡ n)
 
+-- the blocks that a view lists as busy: drained ones that could not be condemned
+abbrev pub busy_in : View → List ℕ
+busy_in v = v.busy
+
+-- the blocks that a view lists as stale: ones that weren't drained
+abbrev pub stale_in : View → List ℕ
+stale_in v = v.stale
+
 -- The view of the same role has grown by what was counted: by that many blocks drained, pages moved, pages programmed, blocks erased and
 -- claims lost
 pub record HasGrown (v : View) (count : Tally) (w : View) : Type 0 where

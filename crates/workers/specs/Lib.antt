@@ -5,6 +5,7 @@ pub mod Meetings
 pub mod Runs
 pub mod Commands
 pub mod Tallies
+pub mod Turns
 pub mod Growing
 pub mod Collecting
 pub mod Folding

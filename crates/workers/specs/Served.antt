@@ -15,28 +15,36 @@ use Rattle.volume.specs.Volume.{flash_of}
 use Rattle.workers.specs.declared.collector.Collector.{Collector}
 use Rattle.workers.specs.declared.collector_end.CollectorEnd.{CollectorEnd}
 use Rattle.workers.specs.declared.tally.Tally.{Tally}
-use Rattle.workers.specs.Collecting.{HasCollected}
+use Rattle.workers.specs.Collecting.{HasCollected, limit_at, listed_by_erases}
 use Rattle.workers.specs.Folding.{HasFolded}
+use Rattle.workers.specs.Growing.{busy_in, stale_in}
 use Rattle.workers.specs.Tallies.{nothing_done}
 
 -- the broom of a collector
 abbrev pub broom_of : Collector → Broom
 broom_of s = s.broom
 
--- a collector is at this device, and nothing is counted
-abbrev pub HasCountedNone : Volume → Collector → Type 0
-HasCountedNone volume s = (arc_value s.volume ≡ volume) × (s.tally ≡ nothing_done)
+-- a collector is at this device, with this limit of drains by one survey, and nothing is counted
+abbrev pub HasCountedNone : Volume → ℕ → Collector → Type 0
+HasCountedNone volume drains s = (arc_value s.volume ≡ volume) × (s.drains ≡ drains) × (s.tally ≡ nothing_done)
 
--- A collector at the start of a run: its broom is the one of this number of an unused device, and nothing is counted
-pub record IsAtRunStart (volume : Volume) (k : ℕ) (s : Collector) : Type 0 where
+-- A collector at the start of a run, with this limit of drains by one survey: its broom is the one of this number of an unused device, and
+-- nothing is counted
+pub record IsAtRunStart (volume : Volume) (drains k : ℕ) (s : Collector) : Type 0 where
   pub volume_is : arc_value s.volume ≡ volume
   pub unused : IsUnused (flash_of volume) k s.broom
+  pub limit : s.drains ≡ drains
   pub tally : s.tally ≡ nothing_done
 
 -- each collector is, and their numbers go on from this one
-abbrev pub AreAtRunStart : Volume → ℕ → List Collector → Type 0
-AreAtRunStart volume k [] = Unit {0}
-AreAtRunStart volume k (s ∷ collectors) = IsAtRunStart volume k s × AreAtRunStart volume (k + 1) collectors
+abbrev pub AreAtRunStart : Volume → ℕ → ℕ → List Collector → Type 0
+AreAtRunStart volume drains k [] = Unit {0}
+AreAtRunStart volume drains k (s ∷ collectors) = IsAtRunStart volume drains k s × AreAtRunStart volume drains (k + 1) collectors
+
+-- by how many entries a list of a broom's view has grown in the erases among its calls
+abbrev pub listed_in : (View → List ℕ) → (before after : Collector) → HasCollected before after → ℕ
+listed_in list_of before after collected =
+    listed_by_erases list_of (limit_at before) before.broom collected.answers after.broom collected.collected.calls
 
 -- The broom of this number knows to have done what was counted, modulo 2 ^ 64: so many blocks drained, pages moved, pages programmed, blocks
 -- erased and claims lost
@@ -48,24 +56,31 @@ pub record HasDone (k : ℕ) (count : Tally) (v : View) : Type 0 where
   pub erased : count.erased ≡ length v.erases % 2 ^ 64
   pub lost : count.lost ≡ length v.lost % 2 ^ 64
 
--- The broom of this number of a device of this geometry began with nothing done, made some calls that were counted, and was folded. The
--- count is what it knows to have done
-pub record HasServed (geo : Geometry) (k : ℕ) (end : CollectorEnd) : Type 0 where
+-- What was counted is what the erases among a broom's calls found, modulo 2 ^ 64: so many pinned blocks as they listed as busy, and so many
+-- stale ones as they listed as stale
+pub record HasListed (count : Tally) (before after : Collector) (collected : HasCollected before after) : Type 0 where
+  pub pinned : count.pinned ≡ listed_in busy_in before after collected % 2 ^ 64
+  pub stale : count.stale ≡ listed_in stale_in before after collected % 2 ^ 64
+
+-- The broom of this number of a device of this geometry began with nothing done, took some turns within this limit of drains by one survey,
+-- whose calls were counted, and was folded. The count is what it knows to have done, and what its erases found
+pub record HasServed (geo : Geometry) (drains k : ℕ) (end : CollectorEnd) : Type 0 where
   pub volume : Volume
   pub geometry : geometry_of (flash_of volume) ≡ geo
   pub first : Collector
-  pub begun : IsAtRunStart volume k first
+  pub begun : IsAtRunStart volume drains k first
   pub last : Collector
   pub collected : HasCollected first last
   pub folded : HasFolded last end
   pub done : HasDone k end.tally (folded_view end.folded)
+  pub found : HasListed end.tally first last collected
 
 -- each broom did so, and their numbers go on from this one
-abbrev pub HaveServed : Geometry → ℕ → List CollectorEnd → Type 0
-HaveServed geo k [] = Unit {0}
-HaveServed geo k (end ∷ ends) = HasServed geo k end × HaveServed geo (k + 1) ends
+abbrev pub HaveServed : Geometry → ℕ → ℕ → List CollectorEnd → Type 0
+HaveServed geo drains k [] = Unit {0}
+HaveServed geo drains k (end ∷ ends) = HasServed geo drains k end × HaveServed geo drains (k + 1) ends
 
 -- all brooms of a device of this geometry did, in the order of their numbers
-pub record AllHaveServed (geo : Geometry) (ends : List CollectorEnd) : Type 0 where
+pub record AllHaveServed (geo : Geometry) (drains : ℕ) (ends : List CollectorEnd) : Type 0 where
   pub count : length ends ≡ brooms_of geo
-  pub each : HaveServed geo 0 ends
+  pub each : HaveServed geo drains 0 ends

@@ -1,7 +1,8 @@
 //! What a broom does while the workers of a round play.
-ghost use Rattle.std.specs.Prelude.{ℕ, [], ◌∷◌};
+ghost use Rattle.std.specs.Prelude.{◌≡◌, ◌||◌, ℕ, [], ◌∷◌};
 ghost use Rattle.workers.specs.declared.broom_answer.BroomAnswer.TheVariants as by;
-ghost use Rattle.workers.specs.Collecting.{HasCollected, HasCollectedBy};
+ghost use Rattle.workers.specs.Collecting.{HasCollected, HasCollectedBy, HasFollowed, HasTakenTurn};
+ghost use Rattle.workers.specs.Turns as turns;
 
 use crate::broom_answer::BroomAnswer;
 use crate::collector::Collector;
@@ -20,7 +21,9 @@ const LONGEST_SLEEP: u64 = 1_000;
 
 const SECTORS_A_MICROSECOND: u64 = 10;
 
-fn has_drained(drain: Drain) -> bool {
+fn has_drained(drain: Drain) -> bool
+    ensures { result ≡ turns.has_drained drain }
+{
     match drain {
         Drain::Drained { .. } => true,
         Drain::NothingToGain | Drain::NoSpare | Drain::Lost | Drain::QueueFull => false,
@@ -28,18 +31,29 @@ fn has_drained(drain: Drain) -> bool {
 }
 
 // Whether no other drain by the same survey can follow.
-fn is_last(drain: Drain) -> bool {
+fn is_last(drain: Drain) -> bool
+    ensures { result ≡ turns.is_last drain }
+{
     match drain {
         Drain::NothingToGain | Drain::NoSpare => true,
         Drain::Drained { .. } | Drain::Lost | Drain::QueueFull => false,
     }
 }
 
-fn has_erased(erase: Erase) -> bool {
+fn has_erased(erase: Erase) -> bool
+    ensures { result ≡ turns.has_erased erase }
+{
     match erase {
         Erase::Erased { .. } | Erase::Retired { .. } => true,
         Erase::Pinned | Erase::Stale | Erase::QueueEmpty => false,
     }
+}
+
+// Whether a drain or the erase that followed it gained something.
+fn have_gained(drain: Drain, erase: Erase) -> bool
+    ensures { result ≡ (turns.has_drained drain || turns.has_erased erase) }
+{
+    has_drained(drain) || has_erased(erase)
 }
 
 impl Collector {
@@ -85,26 +99,26 @@ impl Collector {
         has_spare
     }
 
-    // What follows a drain: an erase, and a restock if neither left a spare. Returns whether anything was gained.
+    // What follows a drain: an erase, and a restock if the drain found no spare. Returns whether the drain or these gained anything.
     fn follow<G: Gate>(&mut self, drain: Drain, rt: &impl Wait, gate: &mut G) -> bool
-        ensures { HasCollected self.old self.new }
+        ensures { HasFollowed self.old drain result self.new }
     {
         let erase = self.erase(rt, gate);
-        let gained = has_drained(drain) || has_erased(erase);
+        let gained = have_gained(drain, erase);
         if drain == Drain::NoSpare {
             return self.restock() || gained;
         }
         gained
     }
 
-    // A drain by a new survey, and drains by that one as long as it gives some, each with an erase. The answer is whether anything was
+    // A drain by a new survey, and drains by that one as long as it gives some, each with what follows it. Returns whether anything was
     // gained.
     fn turn<G: Gate>(&mut self, rt: &impl Wait, stop: &AtomicBool, gate: &mut G) -> bool
-        ensures { HasCollected self.old self.new }
+        ensures { HasTakenTurn self.old result self.new }
     {
         let mut drain = self.drain(rt, gate);
         let mut gained = self.follow(drain, rt, gate);
-        for _ in 1..self.drains {
+        for made in 1..self.drains {
             if is_last(drain) || stop.load(Ordering::SeqCst) {
                 break;
             }

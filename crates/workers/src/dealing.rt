@@ -103,7 +103,7 @@ fn seat_collectors(
     requires room { length brooms.items ≤ vec_capacity collectors.old }
     ensures count { length collectors.new.items ≡ length brooms.items }
     ensures brooms { map broom_of collectors.new.items ≡ brooms.items }
-    ensures none { All (HasCountedNone volume.now) collectors.new.items }
+    ensures none { All (HasCountedNone volume.now drains) collectors.new.items }
 {
     let mut brooms = VecDeque::from_vec(brooms);
     let mut owners = VecDeque::from_vec(owners);
@@ -136,7 +136,7 @@ pub(crate) fn deal(
     ensures begun { IfOk result (λ r. HasBegun (arc_value r.0) (arc_value commands.now) (ends_of (arc_value commands.now)) r.1.workers.items) }
     ensures manned { IfOk result (λ r. AreManned (arc_value r.0) r.1.workers.items) }
     ensures collectors { IfOk result (λ r. length r.1.collectors.items ≡ brooms_of geometry.now) }
-    ensures first { IfOk result (λ r. AreAtRunStart (arc_value r.0) 0 r.1.collectors.items) }
+    ensures first { IfOk result (λ r. AreAtRunStart (arc_value r.0) drains 0 r.1.collectors.items) }
 {
     let hosts = geometry.hosts() as usize;
     let brooms = geometry.brooms() as usize;

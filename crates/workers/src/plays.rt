@@ -49,7 +49,7 @@ fn write_patiently<G: Gate>(
     requires pass { IsReady (flash_of volume.now) pass.old }
     requires sector { sector < sectors_of (geometry_of (flash_of volume.now)) }
     requires page { length bytes.now ≡ page_bytes_of (geometry_of (flash_of volume.now)) }
-    ensures told { HasPlayedLine patience pass.old op.Write sector bytes.now result bytes.now pass.new }
+    ensures played { HasPlayedLine patience pass.old op.Write sector bytes.now result bytes.now pass.new }
     ensures pass { IsReady (flash_of volume.now) pass.new }
 {
     for tried in 0..patience {
@@ -73,7 +73,7 @@ fn write_new_patiently<G: Gate>(
     requires pass { IsReady (flash_of volume.now) pass.old }
     requires sector { sector < sectors_of (geometry_of (flash_of volume.now)) }
     requires page { length bytes.now ≡ page_bytes_of (geometry_of (flash_of volume.now)) }
-    ensures told { HasPlayedLine patience pass.old op.New sector bytes.now result bytes.now pass.new }
+    ensures played { HasPlayedLine patience pass.old op.New sector bytes.now result bytes.now pass.new }
     ensures pass { IsReady (flash_of volume.now) pass.new }
 {
     for refused in 0..patience {
@@ -99,7 +99,7 @@ fn play_line<G: Gate>(
     requires pass { IsReady (flash_of volume.now) pass.old }
     requires line { IsLine (geometry_of (flash_of volume.now)) line.now }
     requires page { length page.old ≡ page_bytes_of (geometry_of (flash_of volume.now)) }
-    ensures told { HasPlayedLine patience pass.old line.now.op line.now.sector line.now.page result page.new pass.new }
+    ensures played { HasPlayedLine patience pass.old line.now.op line.now.sector line.now.page result page.new pass.new }
     ensures pass { IsReady (flash_of volume.now) pass.new }
 {
     match line.op {
@@ -131,7 +131,7 @@ pub fn play<G: Gate>(
     requires lines { All (IsLine (geometry_of (flash_of volume.now))) lines.now }
     requires count { length answers.old ≡ length lines.now }
     requires pages { All (HasPage (geometry_of (flash_of volume.now))) answers.old }
-    ensures told { HasPlayedLines patience pass.old lines.now (map said answers.new) pass.new }
+    ensures played { HasPlayedLines patience pass.old lines.now (map said answers.new) pass.new }
     ensures pages { All (HasPage (geometry_of (flash_of volume.now))) answers.new }
     ensures pass { IsReady (flash_of volume.now) pass.new }
 {
@@ -159,7 +159,7 @@ pub fn play_at<G: Gate>(
     requires buffer { length buffer.old ≡ page_bytes_of (geometry_of (flash_of volume.now)) }
     requires page { page_size_of answers.old ≡ page_bytes_of (geometry_of (flash_of volume.now)) }
     requires space { HasSpaceFor answers.old (lines_at commands.now places.now) }
-    ensures told { HasPlayedLines patience pass.old (lines_at commands.now places.now) (added answers.old answers.new) pass.new }
+    ensures played { HasPlayedLines patience pass.old (lines_at commands.now places.now) (added answers.old answers.new) pass.new }
     ensures answered { HasAnswered (lines_at commands.now places.now) answers.old answers.new }
     ensures pass { IsReady (flash_of volume.now) pass.new }
 {

@@ -35,13 +35,13 @@ returns-in-Ok g c =
     let mid = c.open_files.new.files in
     let new = record mid { collections = c.run_by_workers.new.file } in
     let files = filings g.F.NamedFile.opened_as g.F.Write.contents old new in
-    let log = file_ended (λ n. n.now) given.collections c.is_some-wanted.result (IsLogFor geo) start
+    let log = file_ended (λ n. n.now) given.collections c.is_some-2.result (IsLogFor geo) start
     (IsOpenedAs g.F.NamedFile.opened_as g.F.Write.contents old.collections)
-    (stream old.collections) (stream mid.collections) (stream new.collections) c.in-Ok.log opens.1 c.is_some-wanted.ensures
-    (shared_log geo c.is_some-wanted.result start (over g.F.Write.contents mid.collections new.collections) c.in-Ok.log c.requires told.log) in
+    (stream old.collections) (stream mid.collections) (stream new.collections) c.in-Ok.played.log opens.1 c.is_some-2.ensures
+    (shared_log geo c.is_some-2.result start (over g.F.Write.contents mid.collections new.collections) c.in-Ok.played.log c.requires told.log) in
     let wear = unnamed (λ n. n.now) given.wear (IsWearOf geo) start files.wear (sym c.is_some.ensures ∙ c.if-is_some.false) opens.0.1 in
     subst (λ (r : Result (Unit {0}) Stop). EndsOn r geo given input output files) (sym c.outcome.ensures)
-    (run_ended c.in-Ok.log (Ok tt) geo given input output files
+    (run_ended c.in-Ok.played.log (Ok tt) geo given input output files
     (record {
       end = told.end;
       text = shared_text (hosts_of geo) (not given.quiet) geo start output c.requires told.text;
@@ -64,7 +64,7 @@ returns-in-Err-run_by_workers g c =
       shared_why given geo fault
           (over g.R.Read.remaining c.args.reader.now c.run_by_workers.new.reader)
           (over g.W.Write.contents c.args.writer.now c.run_by_workers.new.writer) c.requires told.why,
-      files_left fault c.is_some-wanted.result geo given start (filings g.F.NamedFile.opened_as g.F.Write.contents c.args.files.now new)
-          (stream mid.wear) (stream mid.collections) opens.0.1 opens.1.1 c.is_some-wanted.ensures refl
-          (shared_left (hosts_of geo) geo fault c.is_some-wanted.result start (over g.F.Write.contents mid.collections new.collections) c.requires told.no_log),
+      files_left fault c.is_some-2.result geo given start (filings g.F.NamedFile.opened_as g.F.Write.contents c.args.files.now new)
+          (stream mid.wear) (stream mid.collections) opens.0.1 opens.1.1 c.is_some-2.ensures refl
+          (shared_left (hosts_of geo) geo fault c.is_some-2.result start (over g.F.Write.contents mid.collections new.collections) c.requires told.no_log),
     )

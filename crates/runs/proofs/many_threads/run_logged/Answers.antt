@@ -1,4 +1,4 @@
-use Rattle.std.proofs.Common.{◌≡◌, ◌∙◌, refl, subst, sym, arith}
+use Rattle.std.proofs.Common.{◌≡◌, ◌∙◌, Bool, List, refl, subst, sym, arith}
 use Rattle.std.proofs.lemmas.Grind.{common_steps}
 use Rattle.std.proofs.lemmas.List.{reverse-reverse}
 use Rattle.std.specs.List.{All}
@@ -8,7 +8,11 @@ use Rattle.rounds.specs.Rows.{answers_by}
 use Rattle.geometry.specs.Geometry.{page_bytes_of}
 use Rattle.rounds.specs.Answers.{page_size_of}
 use Rattle.runs.specs.Delivering.{digits_in}
-use Rattle.answers.specs.Streams.{over, stream_of}
+use Rattle.answers.specs.Streams.{Sends, over, stream_of}
+use Rattle.rounds.specs.declared.answer_list.Answers.{Answers}
+use Rattle.trace.specs.declared.commands.Command.{Command}
+use Rattle.workers.specs.declared.collector_end.CollectorEnd.{CollectorEnd}
+use Rattle.runs.specs.Outputs.{written_by_workers}
 use Rattle.runs.specs.Brooms.{IsBroomLogOf, brooms_text}
 use Rattle.runs.specs.Files.{EndsText}
 use Rattle.workers.specs.Served.{AllHaveServed}
@@ -41,7 +45,7 @@ returns-in-Ok-write_out-clause-text g c =
     let kept : c.deref-2.result.now ≡ c.in-Ok-play_commands.end.rows.items = grind (arith, common_steps, reverse-reverse) in
     let played = renamed geo commands _ c.deref-2.result.now _ c.deref.ensures kept c.in-Ok-play_commands.ensures.played in
     let meaning = renamed_meaning geo commands _ input (c.deref.ensures ∙ c.in-Ok-new-2.ensures.ok) c.in-Ok.ensures.commands in
-    text_sent geo commands (answers_by c.deref-2.result.now) played c.args.answers input _ _ meaning c.in-Ok-write_out.ensures.sent
+    text_sent geo commands (answers_by c.deref-2.result.now) played c.args.wanted.answers input _ _ meaning c.in-Ok-write_out.ensures.sent
 
 pub returns-in-Err-write_out-clause-why : goal.returns-in-Err-write_out-clause-why
 returns-in-Err-write_out-clause-why g c =
@@ -53,7 +57,7 @@ returns-in-Err-write_out-clause-why g c =
     let meaning = renamed_meaning geo commands _ input (c.deref.ensures ∙ c.in-Ok-new-2.ensures.ok) c.in-Ok.ensures.commands in (
       record { end = c.in-Ok.ensures.end; unfailed = c.in-Ok.ensures.unfailed; meaning = some_meaning geo commands input meaning },
       c.in-Err-write_out.ensures.failed,
-      part_sent geo commands (answers_by c.deref-2.result.now) played c.args.answers input _ _ meaning c.in-Err-write_out.ensures.part,
+      part_sent geo commands (answers_by c.deref-2.result.now) played c.args.wanted.answers input _ _ meaning c.in-Err-write_out.ensures.part,
     )
 
 pub play_commands-requires-clause-playable : goal.play_commands-requires-clause-playable
@@ -75,9 +79,28 @@ pub returns-in-Ok-write_out-clause-log : goal.returns-in-Ok-write_out-clause-log
 returns-in-Ok-write_out-clause-log g c =
     let geo = c.args.geometry.now in
     let input = stream_of g.R.Read.remaining c.args.reader.now in
-    let file = over g.V.Write.contents c.args.file.now c.tell_brooms_if.new.file in
+    let file = over g.V.Write.contents c.args.file.now c.tell_brooms_if-log.new.file in
     let ends = c.deref-in-Ok-write_out.result.now in
-    let served = subst (AllHaveServed geo) (sym c.deref-in-Ok-write_out.ensures.value) c.in-Ok-play_commands.ensures.brooms in
-    ends_file c.args.wanted (IsBroomLogOf geo) input file (brooms_text ends) c.tell_brooms_if.result
-    (brooms_right geo input.bytes c.in-Ok.commands ends c.in-Ok.ensures.commands served)
-    (subst (λ w. EndsText w (brooms_text ends) file c.tell_brooms_if.result) c.in-Ok-log_room.ensures.wanted c.tell_brooms_if.ensures)
+    let served = subst (AllHaveServed geo c.args.drains) (sym c.deref-in-Ok-write_out.ensures.value) c.in-Ok-play_commands.ensures.brooms in
+    ends_file c.args.wanted.log (IsBroomLogOf geo) input file (brooms_text ends) c.tell_brooms_if-log.result
+    (brooms_right geo input.bytes c.in-Ok.commands c.args.drains ends c.in-Ok.ensures.commands served)
+    (subst (λ w. EndsText w (brooms_text ends) file c.tell_brooms_if-log.result) c.in-Ok-log_room.ensures.wanted c.tell_brooms_if-log.ensures)
+
+pub returns-in-Ok-write_out-clause-played : goal.returns-in-Ok-write_out-clause-played
+returns-in-Ok-write_out-clause-played g c =
+    let geo = c.args.geometry.now in
+    let input = g.R.Read.remaining (inner_of c.args.reader.now) in
+    let file = over g.V.Write.contents c.args.file.now c.tell_brooms_if-log.new.file in
+    let output = over g.W.Write.contents c.args.writer.now c.write_out.new.writer in
+    let ends = c.in-Ok-play_commands.end.brooms.items in
+    let kept : c.deref-2.result.now ≡ c.in-Ok-play_commands.end.rows.items = grind (arith, common_steps, reverse-reverse) in
+    record {
+      meaning = renamed_meaning geo _ _ input c.in-Ok-new-2.ensures.ok c.in-Ok.ensures.commands;
+      workers = c.in-Ok-play_commands.ensures.rows;
+      played = c.in-Ok-play_commands.ensures.played;
+      written = subst (λ (x : List Command × List Answers). Sends output (written_by_workers c.args.wanted.answers x.0 (answers_by x.1)))
+          (λ i. (c.deref.ensures i, kept i)) c.in-Ok-write_out.ensures.sent;
+      served = c.in-Ok-play_commands.ensures.brooms;
+      log = subst (λ (x : Bool × List CollectorEnd). EndsText x.0 (brooms_text x.1) file c.tell_brooms_if-log.result)
+          (λ i. (c.in-Ok-log_room.ensures.wanted i, c.deref-in-Ok-write_out.ensures.value i)) c.tell_brooms_if-log.ensures;
+    }

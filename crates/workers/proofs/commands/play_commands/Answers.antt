@@ -3,7 +3,6 @@ use Rattle.std.specs.Arc.{arc_value}
 use Rattle.std.proofs.lemmas.List.{length-map}
 use Rattle.geometry.specs.Geometry.{hosts_of}
 use Rattle.rounds.specs.declared.answer_list.Answers.{Answers}
-use Rattle.trace.specs.declared.commands.Command.{Command}
 use Rattle.volume.specs.declared.volume.Volume.{Volume}
 use Rattle.volume.specs.Volume.{flash_of}
 use Rattle.flash_table.specs.Flash.{geometry_of}
@@ -54,8 +53,8 @@ returns-clause-brooms g c =
     let volume = c.deref-2.result.now in
     let before = c.in_ok-volume.team.collectors.items in
     let after = c.in_ok-team.team.collectors.items in
-    all_served volume c.args.geometry.now before after c.fold_collectors.new.ends.items
+    all_served volume c.args.geometry.now c.args.drains before after c.fold_collectors.new.ends.items
     (ap (λ (v : Volume). geometry_of (flash_of v)) c.deref-2.ensures ∙ c.in_ok-volume.ensures.geometry)
     (collected_long before after c.in_ok-team.ensures.collected ∙ c.in_ok-volume.ensures.collectors)
-    (subst (λ (v : Volume). AreAtRunStart v 0 before) (sym c.deref-2.ensures) c.in_ok-volume.ensures.first) c.in_ok-team.ensures.collected
+    (subst (λ (v : Volume). AreAtRunStart v c.args.drains 0 before) (sym c.deref-2.ensures) c.in_ok-volume.ensures.first) c.in_ok-team.ensures.collected
     c.fold_collectors.ensures

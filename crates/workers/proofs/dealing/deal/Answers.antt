@@ -1,7 +1,6 @@
-use Rattle.std.proofs.Common.{◌≡◌, ℕ, ◌<◌, All, List, Some, length, map, sym, ap, ◌∙◌, subst, arith}
-use Rattle.std.specs.Prelude.{slice_get, Vec}
+use Rattle.std.proofs.Common.{◌≡◌, ℕ, All, List, Some, length, sym, ap, ◌∙◌, subst, arith}
+use Rattle.std.specs.Prelude.{slice_get}
 use Rattle.std.specs.Arc.{arc_value}
-use Rattle.std.specs.Global.{Global}
 use Rattle.std.proofs.lemmas.List.{length-map}
 use Rattle.geometry.specs.Geometry.{hosts_of}
 use Rattle.geometry.specs.declared.geometry.Geometry.{Geometry}
@@ -18,7 +17,7 @@ use Rattle.workers.specs.declared.worker.Worker.{Worker}
 use Rattle.workers.specs.declared.collector.Collector.{Collector}
 use Rattle.workers.specs.Meetings.{IsAt}
 use Rattle.workers.specs.Runs.{AreManned, HasBegun}
-use Rattle.workers.specs.Served.{AreAtRunStart, HasCountedNone, broom_of}
+use Rattle.workers.specs.Served.{AreAtRunStart, HasCountedNone}
 use Rattle.workers.specs.Shares.{HasFitShare, IsOwner, with_commands, work_in}
 use Rattle.workers.proofs.Counting.{zero_plus}
 use Rattle.workers.proofs.Serving.{all_first}
@@ -145,8 +144,8 @@ returns-clause-first c =
     let unused : (i : ℕ) (b : Broom) → slice_get c.into_parts-volume.result.2.items i ≡ Some b → IsUnused (flash_of volume) i b =
     subst (λ (x : Volume × List Broom). (i : ℕ) (b : Broom) → slice_get x.1 i ≡ Some b → IsUnused (flash_of x.0) i b)
     (λ i. (sym parts.volume i, sym parts.brooms i)) c.in_ok-unseated.ensures.unused in
-    subst (AreAtRunStart volume 0) (sym c.in_ok-new.ensures.collectors)
-    (all_first volume 0 collectors
+    subst (AreAtRunStart volume c.args.drains 0) (sym c.in_ok-new.ensures.collectors)
+    (all_first volume c.args.drains 0 collectors
     (λ i b at. subst (λ (n : ℕ). IsUnused (flash_of volume) n b) (zero_plus i)
     (unused i b (subst (λ l. slice_get l i ≡ Some b) c.seat_collectors.ensures.brooms at)))
-    (subst (λ (v : Volume). All (HasCountedNone v) collectors) c.deref-2.ensures c.seat_collectors.ensures.none))
+    (subst (λ (v : Volume). All (HasCountedNone v c.args.drains) collectors) c.deref-2.ensures c.seat_collectors.ensures.none))

@@ -1,11 +1,9 @@
-use Rattle.std.proofs.Common.{◌≡◌, length, refl, sym, ap, subst, arith}
+use Rattle.std.proofs.Common.{length, refl, sym, ap, subst, arith}
 use Rattle.std.proofs.lemmas.Grind.{common_steps}
-use Rattle.std.specs.Arc.{arc_value}
 use Rattle.broom.specs.declared.broom.Broom.{Broom}
 use Rattle.volume.specs.declared.volume.Volume.{Volume}
 use Rattle.volume.specs.Brooms.{IsBroomReady}
 use Rattle.volume.proofs.FreshBrooms.{taken}
-use Rattle.workers.specs.declared.collector.Collector.{Collector}
 use Rattle.workers.specs.Served.{HasCountedNone, broom_of}
 use Rattle.workers.specs.Shares.{IsOwner}
 use Rattle.workers.proofs.Dealt.{moved_in, pushed_all}
@@ -40,7 +38,7 @@ loop-broom-preserved c =
     record {
       brooms = moved_in broom_of collectors more c.loop-broom.brooms.items c.pop_front.new.self.items c.args.brooms.items _ c.in-Some.broom pushed
           c.in-Some.ensures.items refl was.brooms;
-      none = pushed_all (HasCountedNone volume) collectors more _ pushed was.none (owner.0, c.new.ensures);
+      none = pushed_all (HasCountedNone volume c.args.drains) collectors more _ pushed was.none (owner.0, refl, c.new.ensures);
       ready = broom.1;
       owners = owner.1;
       count = omega arith;

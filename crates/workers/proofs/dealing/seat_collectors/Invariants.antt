@@ -7,7 +7,7 @@ use Rattle.workers.proofs.dealing.seat_collectors.Given as goal
 abbrev pub invariant-loop-broom : goal.invariant-loop-broom
 invariant-loop-broom l = record {
   brooms : map broom_of l.collectors.items ++ l.brooms.items ≡ l.fn.brooms.items;
-  none : All (HasCountedNone l.volume) l.collectors.items;
+  none : All (HasCountedNone l.volume l.drains) l.collectors.items;
   ready : All (IsBroomReady l.volume) l.brooms.items;
   owners : All (IsOwner l.volume) l.owners.items;
   count : length l.owners.items ≡ length l.brooms.items;

@@ -1,7 +1,5 @@
-use Rattle.std.proofs.Common.{◌≡◌, All, length, sym, ap, ◌∙◌, subst, arith}
+use Rattle.std.proofs.Common.{length, sym, ap, ◌∙◌, subst, arith}
 use Rattle.std.proofs.lemmas.Grind.{common_steps}
-use Rattle.std.specs.Arc.{arc_value}
-use Rattle.std.proofs.lemmas.List.{length_push}
 use Rattle.flash_table.specs.declared.pass.Pass.{Pass}
 use Rattle.flash_table.specs.Flash.{geometry_of}
 use Rattle.host.specs.Ready.{IsReady}

@@ -25,14 +25,14 @@ loop-i-preserved g c =
       playing_lent c.args.volume.now c.args.patience c.args.pass.now c.loop-i.pass c.play_line-answer.new.pass c.args.lines.now c.loop-i.i answers a
           c.play_line-answer.result c.deref_mut.result.now page c.index-lines-i.result
           c.loop-i.invariant.0 c.loop-i.invariant.1 c.loop-i-test.true c.index-lines-i.is c.play_line-answer.ensures.pass c.deref_mut.ensures.value
-          c.play_line-answer.auto.page c.play_line-answer.ensures.told,
+          c.play_line-answer.auto.page c.play_line-answer.ensures.played,
       length-set answers c.loop-i.i next ∙ c.loop-i.invariant.1,
       All-set (HasPage (geometry_of (flash_of c.args.volume.now))) answers c.loop-i.i next
           (lent_page c.args.volume.now a c.deref_mut.result.now page c.deref_mut.ensures.value c.play_line-answer.auto.page has) c.loop-i.invariant.2,
     )
 
-pub returns-clause-told : goal.returns-clause-told
-returns-clause-told g c =
+pub returns-clause-played : goal.returns-clause-played
+returns-clause-played g c =
     let answers = c.loop-i.answers in
     let past = c.loop-i-test.false in
     let all : map said (take c.loop-i.i answers) ≡ map said answers = ap (map said) (take_all c.loop-i.i answers (omega (arith, c.loop-i.invariant.1))) in

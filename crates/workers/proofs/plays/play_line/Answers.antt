@@ -11,8 +11,8 @@ use Rattle.workers.specs.Line.{PlayedLine}
 use Rattle.workers.proofs.Line.{read_line, trim_line}
 use Rattle.workers.proofs.plays.play_line.Goals as goal
 
-pub returns-in-Read-clause-told : goal.returns-in-Read-clause-told
-returns-in-Read-clause-told g c t role =
+pub returns-in-Read-clause-played : goal.returns-in-Read-clause-played
+returns-in-Read-clause-played g c t role =
     let v = view_of c.args.pass.now in
     let w = view_of c.read_gated.new.pass in
     let line = c.args.line.now in
@@ -24,26 +24,26 @@ returns-in-Read-clause-told g c t role =
     subst (λ (o : Op). PlayedLine t c.args.patience v o line.sector line.page c.found.result c.read_gated.new.out (is_full c.found.result) w)
     (sym c.in-Read.is) played
 
-pub returns-in-Write-clause-told : goal.returns-in-Write-clause-told
-returns-in-Write-clause-told g c t role =
+pub returns-in-Write-clause-played : goal.returns-in-Write-clause-played
+returns-in-Write-clause-played g c t role =
     let line = c.args.line.now in
     let kind = c.write_patiently.result in
     let bytes = c.copy_into.new.out in
     let P : Op × List ℕ → Type 0 =
     λ x. PlayedLine t c.args.patience (view_of c.args.pass.now) x.0 line.sector x.1 kind bytes (is_full kind) (view_of c.write_patiently.new.pass) in
-    subst P (λ i. (sym c.in-Write.is i, c.copy_into.ensures i)) (c.write_patiently.ensures.told t role)
+    subst P (λ i. (sym c.in-Write.is i, c.copy_into.ensures i)) (c.write_patiently.ensures.played t role)
 
-pub returns-in-New-clause-told : goal.returns-in-New-clause-told
-returns-in-New-clause-told g c t role =
+pub returns-in-New-clause-played : goal.returns-in-New-clause-played
+returns-in-New-clause-played g c t role =
     let line = c.args.line.now in
     let kind = c.write_new_patiently.result in
     let bytes = c.copy_into-in-New.new.out in
     let P : Op × List ℕ → Type 0 =
     λ x. PlayedLine t c.args.patience (view_of c.args.pass.now) x.0 line.sector x.1 kind bytes (is_full kind) (view_of c.write_new_patiently.new.pass) in
-    subst P (λ i. (sym c.in-New.is i, c.copy_into-in-New.ensures i)) (c.write_new_patiently.ensures.told t role)
+    subst P (λ i. (sym c.in-New.is i, c.copy_into-in-New.ensures i)) (c.write_new_patiently.ensures.played t role)
 
-pub returns-in-Trim-clause-told : goal.returns-in-Trim-clause-told
-returns-in-Trim-clause-told g c t role =
+pub returns-in-Trim-clause-played : goal.returns-in-Trim-clause-played
+returns-in-Trim-clause-played g c t role =
     let line = c.args.line.now in
     let kind = c.of_was.result in
     let played = trim_line t c.args.patience (view_of c.args.pass.now) line.sector line.page c.args.page.now c.trim.result kind

@@ -6,8 +6,8 @@ use Rattle.trace.specs.declared.commands.Op.TheVariants as op
 use Rattle.workers.proofs.Line.{a_write, waited_none, waited_more, full_line, write_line}
 use Rattle.workers.proofs.plays.write_patiently.Goals as goal
 
-pub returns-in-Ok-clause-told : goal.returns-in-Ok-clause-told
-returns-in-Ok-clause-told g c t role =
+pub returns-in-Ok-clause-played : goal.returns-in-Ok-clause-played
+returns-in-Ok-clause-played g c t role =
     let waited = c.loop-tried.invariant.1 in
     let now = ap (λ (v : View). v.role) waited.changed ∙ role in
     write_line op.Write Write a_write t c.args.patience c.loop-tried.tried (view_of c.args.pass.now) (view_of c.loop-tried.pass)
@@ -25,7 +25,7 @@ loop-tried-preserved g c = (
   (let low = c.loop-tried-test.true in omega arith),
 )
 
-pub returns-clause-told : goal.returns-clause-told
-returns-clause-told g c t role =
+pub returns-clause-played : goal.returns-clause-played
+returns-clause-played g c t role =
     full_line op.Write Write a_write t c.args.patience c.loop-tried.tried (view_of c.args.pass.now) c.args.sector c.args.bytes.now c.args.bytes.now
     (view_of c.loop-tried.pass) (let past = c.loop-tried-test.false in let few = c.loop-tried.invariant.2 in omega arith) c.loop-tried.invariant.1

@@ -1,5 +1,3 @@
-use Rattle.std.proofs.Common.{ℕ, arith}
-use Rattle.workers.specs.declared.worker.Worker.{Worker}
 use Rattle.workers.proofs.Manned.{idle_more}
 use Rattle.workers.proofs.runs.have_no_line.Goals as goal
 

@@ -1,5 +1,4 @@
-use Rattle.std.proofs.Common.{All, List, sym, subst}
-use Rattle.workers.specs.declared.worker.Worker.{Worker}
+use Rattle.std.proofs.Common.{All, subst}
 use Rattle.workers.specs.Workers.{IsIdle}
 use Rattle.workers.proofs.Manned.{idles_played}
 use Rattle.workers.proofs.Collected.{all_collected_none}

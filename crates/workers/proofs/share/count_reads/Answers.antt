@@ -1,5 +1,5 @@
-use Rattle.std.proofs.Common.{◌≡◌, ℕ, suc, ◌+◌, ◌*◌, ◌<◌, ◌≤◌, ◌++◌, [], ◌∷◌, Bool, true, false, List, get_or, length}
-use Rattle.std.proofs.Common.{map, take, sym, refl, ap, ◌∙◌, subst, arith, add-zero, mul-suc}
+use Rattle.std.proofs.Common.{◌≡◌, ℕ, suc, ◌+◌, ◌*◌, ◌<◌, ◌++◌, [], ◌∷◌, List, get_or, length}
+use Rattle.std.proofs.Common.{take, sym, refl, ap, ◌∙◌, arith, add-zero, mul-suc}
 use Rattle.std.proofs.lemmas.List.{map_push, take_more}
 use Rattle.std.proofs.lemmas.Option.{get_or_from_slice_get}
 use Rattle.trace.specs.declared.commands.Command.{Command}

@@ -1,11 +1,10 @@
-use Rattle.std.proofs.Common.{◌≡◌, ℕ, ◌++◌, All, List, length, map, sym, ap, ◌∙◌, subst, arith}
+use Rattle.std.proofs.Common.{ℕ, ◌++◌, All, length, map, sym, ap, subst, arith}
 use Rattle.std.specs.Prelude.{Vec}
 use Rattle.std.specs.Arc.{arc_value}
 use Rattle.std.specs.Global.{Global}
 use Rattle.std.proofs.lemmas.List.Elements.{All-nil}
 use Rattle.volume.proofs.FreshBrooms.{taken}
 use Rattle.rounds.specs.Plans.{items_of}
-use Rattle.workers.specs.declared.share.Share.{Share}
 use Rattle.workers.specs.Dealing.{AreDoable}
 use Rattle.workers.specs.Shares.{HasFitShare, work_in, with_commands}
 use Rattle.workers.proofs.Dealt.{moved, pushed_all}

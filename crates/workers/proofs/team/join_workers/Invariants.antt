@@ -1,4 +1,4 @@
-use Rattle.std.proofs.Common.{◌≡◌, ◌+◌, ◌≤◌, ◌++◌, List, deque_capacity, deque_len, length, map}
+use Rattle.std.proofs.Common.{◌≡◌, ◌+◌, ◌++◌, List, deque_capacity, deque_len, map}
 use Rattle.workers.specs.declared.worker.Worker.{Worker}
 use Rattle.workers.specs.Tasks.{asked, WerePlayed}
 use Rattle.workers.proofs.team.join_workers.Given as goal

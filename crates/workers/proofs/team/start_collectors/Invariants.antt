@@ -1,4 +1,4 @@
-use Rattle.std.proofs.Common.{◌≡◌, ◌+◌, ◌≤◌, ◌++◌, deque_capacity, deque_len, length, map}
+use Rattle.std.proofs.Common.{◌≡◌, ◌+◌, ◌++◌, deque_capacity, deque_len, length, map}
 use Rattle.workers.specs.BroomThreads.{given_to}
 use Rattle.workers.proofs.team.start_collectors.Given as goal
 

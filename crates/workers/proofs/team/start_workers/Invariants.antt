@@ -1,4 +1,4 @@
-use Rattle.std.proofs.Common.{◌≡◌, ◌+◌, ◌≤◌, ◌++◌, deque_capacity, deque_len, length, map}
+use Rattle.std.proofs.Common.{◌≡◌, ◌+◌, ◌++◌, deque_capacity, deque_len, length, map}
 use Rattle.workers.specs.Tasks.{asked, with_limits}
 use Rattle.workers.proofs.team.start_workers.Given as goal
 

@@ -1,17 +1,29 @@
-use Rattle.std.proofs.Common.{[], ◌∷◌}
-use Rattle.workers.specs.declared.broom_answer.BroomAnswer.TheVariants as by
-use Rattle.workers.proofs.Collected.{collected_then}
+use Rattle.std.proofs.Common.{◌≡◌, ◌∙◌, sym, ap, arith}
+use Rattle.std.specs.Prelude.{◌||◌}
+use Rattle.workers.proofs.Turning.{first_drain, next_drain, turn_done}
+use Rattle.workers.proofs.collector.Collector.turn.Goals.{then-follow, else-follow}
 use Rattle.workers.proofs.collector.Collector.turn.Goals as goal
 
-pub loop-init : goal.loop-init
-loop-init g c = collected_then c.args.self.now c.drain-drain.new.self c.follow-gained.new.self
-    (by.Drain c.drain-drain.result c.drain-drain.ensures.0 ∷ [], c.drain-drain.ensures.1) c.follow-gained.ensures
+pub loop-made-init : goal.loop-made-init
+loop-made-init g c =
+    first_drain c.args.self.now c.drain-drain.new.self c.follow-gained.new.self c.drain-drain.result c.drain-drain.ensures.0
+    c.follow-gained.result c.drain-drain.ensures.1 c.follow-gained.ensures
 
-pub loop-preserved : goal.loop-preserved
-loop-preserved g c =
-    let from = c.loop.self in
-    let drained = c.drain_next-drain.new.self in
-    let to = c.follow.new.self in
-    collected_then c.args.self.now from to c.loop.invariant
-    (collected_then from drained to (by.DrainNext c.drain_next-drain.result c.drain_next-drain.ensures.0 ∷ [], c.drain_next-drain.ensures.1)
-    c.follow.ensures)
+pub loop-made-preserved : goal.loop-made-preserved
+loop-made-preserved g c =
+    let now : c.if-follow.gained ≡ (c.follow.result || c.loop-made.gained) =
+    elim c.if-follow.branch [
+      | then-follow w ↦ w.gained-is ∙ (w.if-follow.true ∙ ap (λ b. b || c.loop-made.gained) (sym w.if-follow.true))
+      | else-follow w ↦ w.gained-is ∙ ap (λ b. b || c.loop-made.gained) (sym w.if-follow.false)
+    ] in
+    let drains = c.follow-gained.ensures.collected.drains ∙ c.drain-drain.ensures.1.drains in
+    let low = c.loop-made-test.true in
+    next_drain c.args.self.now c.loop-made.self c.drain_next-drain.new.self c.follow.new.self c.loop-made.made c.loop-made.drain c.drain_next-drain.result
+    c.drain_next-drain.ensures.0 c.loop-made.gained c.follow.result c.if-follow.gained c.loop-made.invariant
+    (sym c.is_last.ensures ∙ c.if-is_last.false) (omega (arith, drains, low)) c.drain_next-drain.ensures.1 c.follow.ensures now
+
+pub returns-after-loop-made : goal.returns-after-loop-made
+returns-after-loop-made g c = turn_done c.args.self.now c.loop-made.self c.loop-made.made c.loop-made.drain c.loop-made.gained c.loop-made.invariant
+
+pub returns-then-is_last : goal.returns-then-is_last
+returns-then-is_last g c = turn_done c.args.self.now c.loop-made.self c.loop-made.made c.loop-made.drain c.loop-made.gained c.loop-made.invariant

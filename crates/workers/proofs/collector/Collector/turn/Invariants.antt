@@ -1,5 +1,5 @@
-use Rattle.workers.specs.Collecting.{HasCollected}
+use Rattle.workers.proofs.Turning.{TurnSoFar}
 use Rattle.workers.proofs.collector.Collector.turn.Given as goal
 
-abbrev pub invariant-loop : goal.invariant-loop
-invariant-loop g l = HasCollected l.fn.self l.self
+abbrev pub invariant-loop-made : goal.invariant-loop-made
+invariant-loop-made g l = TurnSoFar l.fn.self l.made l.drain l.gained l.self

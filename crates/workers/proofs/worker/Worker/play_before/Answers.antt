@@ -8,7 +8,6 @@ use Rattle.geometry.specs.Geometry.{page_bytes_of}
 use Rattle.host.specs.Ready.{IsReady}
 use Rattle.trace.specs.declared.commands.Command.{Command}
 use Rattle.rounds.specs.Answers.{HasSpaceFor}
-use Rattle.rounds.specs.declared.answer_list.Answers.{Answers}
 use Rattle.rounds.specs.Playing.{Played}
 use Rattle.workers.specs.Playable.{IsLine, HasAnswered, added, lines_at}
 use Rattle.volume.specs.declared.volume.Volume.{Volume}
@@ -96,5 +95,5 @@ returns g c =
       commands = refl {A = List Command};
       places = refl {A = List ℕ};
       answers = subst P (λ i. (c.deref-3.ensures i, same i)) c.play_at.ensures.answered;
-      played = λ t role. subst (Q t) (λ i. (c.deref-3.ensures i, same i)) (c.play_at.ensures.told t role);
+      played = λ t role. subst (Q t) (λ i. (c.deref-3.ensures i, same i)) (c.play_at.ensures.played t role);
     }

@@ -1,0 +1,36 @@
+-- What a run by workers has played, and what it has written of that.
+use Rattle.std.specs.Prelude.{◌≡◌, ℕ, List, IfSome, Ok, length}
+use Rattle.std.specs.Arc.{arc_value}
+use Rattle.geometry.specs.Geometry.{hosts_of}
+use Rattle.geometry.specs.declared.geometry.Geometry.{Geometry}
+use Rattle.trace.specs.Trace.{commands_of}
+use Rattle.trace.specs.declared.commands.Command.{Command}
+use Rattle.answers.specs.Streams.{Passage, Sends, Stream}
+use Rattle.rounds.specs.Lines.{Said}
+use Rattle.rounds.specs.Rows.{answers_by}
+use Rattle.workers.specs.Commands.{ArePlayed}
+use Rattle.workers.specs.Served.{AllHaveServed}
+use Rattle.runs.specs.Brooms.{brooms_text}
+use Rattle.runs.specs.Files.{EndsText}
+use Rattle.runs.specs.Outputs.{written_by_workers}
+use Rattle.runs.specs.declared.files.WantedByWorkers.{WantedByWorkers}
+use Rattle.runs.specs.declared.played_by_workers.PlayedByWorkers.{PlayedByWorkers}
+
+-- the commands that a run has played
+abbrev pub commands_played : PlayedByWorkers → List Command
+commands_played run = arc_value run.commands
+
+-- the answers of each of its workers
+abbrev pub answers_played : PlayedByWorkers → ℕ → List Said
+answers_played run = answers_by run.end.rows.items
+
+-- The commands that the input's bytes mean were played on a device of this geometry, with a list of answers for each worker and within this limit
+-- of drains by one survey. The output that is wanted of these commands and answers was written, and the log, if it is wanted, of the
+-- brooms of the same run
+pub record WasPlayed (geo : Geometry) (drains : ℕ) (wanted : WantedByWorkers) (input : Stream) (output file : Passage) (run : PlayedByWorkers) : Type 0 where
+  pub meaning : IfSome input.bytes (λ bytes. commands_of bytes geo ≡ Ok (commands_played run))
+  pub workers : length run.end.rows.items ≡ hosts_of geo
+  pub played : ArePlayed geo (commands_played run) (answers_played run)
+  pub written : Sends output (written_by_workers wanted.answers (commands_played run) (answers_played run))
+  pub served : AllHaveServed geo drains run.end.brooms.items
+  pub log : EndsText wanted.log (brooms_text run.end.brooms.items) file run.log
