@@ -7,3 +7,5 @@ pub mod One
 pub mod Shared
 pub mod Holding
 pub mod Opening
+-- Internal: what laws name.
+pub mod Small

@@ -5,6 +5,7 @@ mod codes;
 mod handle;
 mod holder_calls;
 mod host_calls;
+mod laws;
 mod layer;
 mod one;
 mod opening;

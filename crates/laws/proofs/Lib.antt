@@ -5,3 +5,4 @@ pub mod SurveyRows
 pub mod Statuses
 pub mod ReadBehind
 pub mod NoCommands
+pub mod Decimals

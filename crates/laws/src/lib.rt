@@ -4,24 +4,57 @@
 
 mod arrays;
 mod brooms;
+mod dies;
 mod histories;
 mod hosts;
+mod limits;
 mod lines;
+mod players;
+mod plays;
 mod queues;
+mod reports;
+mod rules;
 mod sessions;
 mod steps;
+mod stocks;
+mod stores;
+mod streams;
+mod tables;
 mod tallies;
 mod texts;
+mod volumes;
 
 pub use arrays::an_array_after_calls;
 pub use brooms::{
     a_drain_and_its_survey, a_survey_and_its_victim, an_erase_of_a_block, marks_of_a_survey,
 };
+pub use dies::{a_die_after_a_command, bytes_of_a_die, pages_of_a_block};
 pub use histories::{beginnings_of_histories, calls_of_hosts, lists_of_players};
 pub use hosts::{meetings_of_players, writes_of_hosts};
+pub use limits::{
+    faults_of_numbers, numbers_within_limits, pages_and_states_of_devices, words_of_tables,
+};
 pub use lines::{answers_of_rounds, answers_of_sectors, rounds_of_a_trace, tries_of_a_write};
+pub use players::{lines_and_answers_of_workers, workers_of_a_round};
+pub use plays::{moves_of_brooms, steps_of_brooms, steps_of_passes};
 pub use queues::{numbers_in_a_queue, numbers_put_and_taken};
+pub use reports::{names_of_faults, stops_of_a_run, texts_of_a_stock};
+pub use rules::{sights_of_a_queue, views_of_a_table};
 pub use sessions::ends_of_a_session;
 pub use steps::{calls_of_brooms, holds_and_erases, steps_of_an_array};
+pub use stocks::{
+    calls_of_a_stock, collections_of_a_stock, counts_of_a_stock, pages_left_in_a_stock,
+    roles_of_blocks,
+};
+pub use stores::{commands_on_a_store, maps_of_a_store, rooms_of_a_store};
+pub use streams::{
+    commands_and_faults_of_a_trace, ends_of_a_file, lines_of_reports, texts_sent_to_a_writer,
+    words_of_a_command_line,
+};
+pub use tables::{
+    blocks_of_a_seat, erases_of_a_seat, pins_and_victims_of_a_seat, seats_of_a_device,
+    words_of_an_open_block,
+};
 pub use tallies::{counts_of_calls, what_a_broom_has_done};
 pub use texts::{logs_of_a_trace, texts_of_a_trace};
+pub use volumes::{brooms_between_calls, closes_of_a_volume, holds_of_pages};

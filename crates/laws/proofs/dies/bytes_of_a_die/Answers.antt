@@ -1,0 +1,49 @@
+use Rattle.std.proofs.Common.{◌≡◌, ◌<◌, ◌≤◌, ◌+◌, ◌*◌, ℕ, zero, suc, [], ◌∷◌, refl, sym, ap, arith}
+use Rattle.std.proofs.lemmas.Bool.{false≢true}
+use Rattle.die.specs.Slots.{slot}
+use Rattle.std.specs.Prelude.{◌≢◌, slice_index}
+use Rattle.laws.proofs.dies.bytes_of_a_die.Goals as goal
+
+others_stay : (k : ℕ) → k ≢ 1 → (k + 1) * 1 ≤ 2 → slot 1 (1 ∷ 3 ∷ []) k ≡ slot 1 (1 ∷ 2 ∷ []) k
+unfolding slot
+others_stay zero apart low = refl
+others_stay (suc zero) apart low = absurd (apart refl)
+others_stay (suc (suc k)) apart low = absurd (omega (arith, low))
+
+pub returns-clause-slots : goal.returns-clause-slots
+unfolding slot
+returns-clause-slots c = (refl, refl)
+
+pub returns-clause-puts : goal.returns-clause-puts
+unfolding slot
+returns-clause-puts c = record { size = refl; changed = refl; others = others_stay }
+
+pub returns-clause-elsewhere : goal.returns-clause-elsewhere
+unfolding slot
+returns-clause-elsewhere c h =
+    let e : 4 ≡ 1 = ap (λ l. slice_index l 0) (h.others 0 (λ (e : 0 ≡ 1). omega (arith, e)) (omega arith)) in absurd (omega (arith, e))
+
+pub returns-clause-not_there : goal.returns-clause-not_there
+unfolding slot
+returns-clause-not_there c h = let e : 4 ≡ 3 = ap (λ l. slice_index l 0) h.changed in absurd (omega (arith, e))
+
+pub returns-clause-longer : goal.returns-clause-longer
+returns-clause-longer c h = let e : 3 ≡ 2 = h.size in absurd (omega (arith, e))
+
+pub returns-clause-unused : goal.returns-clause-unused
+returns-clause-unused c = refl
+
+pub returns-clause-sound : goal.returns-clause-sound
+returns-clause-sound c = (
+  record { within = omega arith; erased = omega arith; usable = λ e. omega arith },
+  record { within = omega arith; erased = omega arith; usable = λ e. absurd (false≢true (sym e)) },
+)
+
+pub returns-clause-overfull : goal.returns-clause-overfull
+returns-clause-overfull c h = let e : 3 ≤ 2 = h.within in omega (arith, e)
+
+pub returns-clause-erased : goal.returns-clause-erased
+returns-clause-erased c h = let e : 4 ≤ 3 = h.erased in omega (arith, e)
+
+pub returns-clause-worn : goal.returns-clause-worn
+returns-clause-worn c h = let e : 3 < 3 = h.usable refl in omega (arith, e)

@@ -1,0 +1,112 @@
+//! Laws of what the calls of passes and brooms record at a volume.
+ghost use Rattle.std.specs.Prelude.{◌≡◌, ◌<◌, ℕ, List, [], ◌∷◌, ◌++◌, Some, None, Ok, Err, true, length};
+ghost use Rattle.broom.specs.Handing.{DrainOneTold, EraseOneTold, HandsNothing, IsBelow, IsQueued, LeftAt, TurnTold, aside_of, place_of};
+ghost use Rattle.broom.specs.Meeting as broom;
+ghost use Rattle.broom.specs.Ready.{HasNoMarks, IsSameSeat, blocks_of_broom, marks_of, view_of_broom};
+ghost use Rattle.broom.specs.declared.answer.Drain.TheVariants as drain;
+ghost use Rattle.broom.specs.declared.answer.Erase.TheVariants as erase;
+ghost use Rattle.broom.specs.declared.broom.Broom.{Broom};
+ghost use Rattle.erase_queue.specs.Queue.{empties_of, limit_of};
+ghost use Rattle.erase_queue.specs.declared.pass.QueuePass.{QueuePass};
+ghost use Rattle.erase_queue.specs.declared.queue.EraseQueue.{EraseQueue};
+ghost use Rattle.flash_rule.specs.Views.{calls_of};
+ghost use Rattle.flash_rule.specs.declared.carried.Carried.{Carried};
+ghost use Rattle.flash_rule.specs.declared.facts.Name.TheVariants as name;
+ghost use Rattle.flash_rule.specs.declared.facts.Pin.TheVariants as pin;
+ghost use Rattle.flash_rule.specs.declared.facts.Role.TheVariants as seat;
+ghost use Rattle.flash_rule.specs.declared.view.View.{View};
+ghost use Rattle.flash_table.specs.Flash.{broom_view, device, own_blocks, view_of};
+ghost use Rattle.flash_table.specs.Steps.{HasNumber};
+ghost use Rattle.flash_table.specs.declared.broom_seat.BroomSeat.{BroomSeat};
+ghost use Rattle.flash_table.specs.declared.flash.Flash.{Flash};
+ghost use Rattle.flash_table.specs.declared.pass.Pass.{Pass};
+ghost use Rattle.geometry.specs.Geometry.{blocks_of, pages_of, sectors_of};
+ghost use Rattle.geometry.specs.History.{Call, Begins, WriteNew, after, held};
+ghost use Rattle.geometry.specs.Limits.{Numbers};
+ghost use Rattle.geometry.specs.Sectors.{Sector};
+ghost use Rattle.geometry.specs.declared.answer.Was.TheVariants as was;
+ghost use Rattle.geometry.specs.declared.answer.Was.{Was};
+ghost use Rattle.geometry.specs.declared.map_word.MapWord.{MapWord};
+ghost use Rattle.host.specs.Holding.{Found, Holds, IsSpared, addr_of, page_in, page_of, pass_of};
+ghost use Rattle.host.specs.Told.{WroteNew, was_found};
+ghost use Rattle.host.specs.declared.holding.Held.{Held};
+ghost use Rattle.host.specs.declared.holding.Holding.TheVariants as holding;
+ghost use Rattle.host.specs.declared.writing_new.NewFault.TheVariants as new_fault;
+ghost use Rattle.uses.specs.Standing.{HasNoErase};
+ghost use Rattle.volume.specs.Brooms as volume_brooms;
+ghost use Rattle.volume.specs.Closing.{AreAll, AreFinal, AreRead, HasLeft, HaveLooked, IsFinal, last_view, sectors_left};
+ghost use Rattle.volume.specs.Correct.{Does, Read, Replaced, Trim};
+ghost use Rattle.volume.specs.Undisturbed.{IsUndisturbed};
+ghost use Rattle.volume.specs.declared.closing.Closed.{Closed};
+ghost use Rattle.volume.specs.declared.volume.Volume.{Volume};
+ghost use Rattle.geometry.specs.Geometry.{blocks_of};
+ghost use Rattle.flash_table.specs.Flash.{geometry_of};
+ghost use Rattle.laws.specs.Blocks.{at};
+ghost use Rattle.laws.specs.Brooms.{a_page};
+ghost use Rattle.laws.specs.Hosts.{FilledOne};
+ghost use Rattle.geometry.specs.History as call;
+ghost use Rattle.std.specs.Prelude.{slice_index_or};
+
+/// What a hold of a page says.
+pub fn holds_of_pages()
+    ensures address { addr_of (a_page 1 2 3) ≡ at 2 3 }
+    ensures pages { (page_in (at 2 3) 1 ≡ a_page 1 2 3) × (broom.page_in (at 2 3) 1 ≡ a_page 1 2 3) }
+    ensures spared { (h : Held) (c : Carried) → IsSpared h → (view_of (pass_of h)).copy ≡ Some c → HasNoErase c.erases (page_of h) }
+    ensures found_held { (f : Flash) (v : View) (h : Held) → Found f v 3 (holding.Held h) → (x : List ℕ) × Holds f h x
+        × (held (sectors_of (geometry_of f)) (view_of (pass_of h)).seen 3 ≡ Some x) }
+    ensures found_none { (f : Flash) (v : View) (p : Pass) (x : List ℕ) → held (sectors_of (geometry_of f)) (view_of p).seen 3 ≡ Some x
+        → ¬ Found f v 3 (holding.Empty p) }
+    ensures undisturbed { (f : Flash) (h k : Held) (x : List ℕ) → IsUndisturbed f h None k → Holds f h x → (page_of k ≡ page_of h) × Holds f k x }
+    ensures no_erase { (f : Flash) (h k : Held) (c : Carried) (x : List ℕ) → IsUndisturbed f h (Some c) k → Holds f h x → HasNoErase c.erases (page_of k) }
+    ensures new_found { (was_found {X = ℕ} (Ok 0) ≡ Some was.Empty) × (was_found {X = ℕ} (Err new_fault.Written) ≡ Some was.Written)
+        × (was_found {X = ℕ} (Err new_fault.NoBlock) ≡ None) }
+    ensures new_mine { (v w : View) (t s : ℕ) (x : List ℕ) (a : Was) → WroteNew v t s x a w → (w.mine ≡ v.mine ++ WriteNew t s x ∷ []) × FilledOne v w }
+    ensures pinned { (f : Flash) (p : Pass) (m : MapWord) (x : List ℕ) → broom.IsPinned f p m x → ((view_of p).pin ≡ pin.Accepted m x)
+        × (m.block < blocks_of (geometry_of f)) × (m.page < pages_of (geometry_of f)) }
+    ensures unpinned { (f : Flash) (p : Pass) (m : MapWord) (x : List ℕ) → (view_of p).pin ≡ pin.Clear → ¬ broom.IsPinned f p m x }
+{}
+
+/// What a broom between two calls is, and what a turn leaves.
+pub fn brooms_between_calls()
+    ensures marks { (b : Broom) → (marks_of b ≡ [] → HasNoMarks b) × (marks_of b ≡ true ∷ [] → ¬ HasNoMarks b) }
+    ensures same_seat { (s t : BroomSeat) → IsSameSeat s t → (broom_view t ≡ broom_view s) × (own_blocks t ≡ own_blocks s) }
+    ensures seat_itself { (s : BroomSeat) → IsSameSeat s s }
+    ensures below { IsBelow 3 (drain.Drained 2 9) × IsBelow 3 drain.Lost × (¬ IsBelow 3 (drain.Drained 3 0)) }
+    ensures queued { (q : EraseQueue) (b : Broom) → aside_of b ≡ Some (limit_of q) → ¬ IsQueued q b }
+    ensures hands_nothing { (b d : Broom) → HandsNothing b d → (place_of d ≡ place_of b) × (aside_of d ≡ aside_of b) }
+    ensures turn_full { (b d : Broom) → aside_of b ≡ None → ¬ DrainOneTold 9 b drain.QueueFull d }
+    ensures turn_aside { (b d : Broom) → DrainOneTold 9 b drain.QueueFull d → view_of_broom d ≡ view_of_broom b }
+    ensures turn_next { (b d : Broom) → TurnTold (λ x a y. view_of_broom y ≡ view_of_broom x) 9 b drain.NothingToGain d → aside_of d ≡ None }
+    ensures erase_empty { (b d : Broom) → EraseOneTold 9 b erase.QueueEmpty d → (aside_of b ≡ None) × (view_of_broom d ≡ view_of_broom b) }
+    ensures erase_set_aside { (b d : Broom) (k : ℕ) → aside_of b ≡ Some k → ¬ EraseOneTold 9 b erase.QueueEmpty d }
+    ensures left { (b : Broom) → aside_of b ≡ None → LeftAt 9 b (place_of b) }
+    ensures left_none { (b : Broom) (p : QueuePass) → aside_of b ≡ None → LeftAt 9 b p → p ≡ place_of b }
+    ensures new_broom { (f : Flash) (q : EraseQueue) (b : Broom) → volume_brooms.IsFresh f q b → (aside_of b ≡ None) × HasNoMarks b
+        × (empties_of (place_of b) ≡ 0) }
+    ensures unused { (f : Flash) (b : Broom) → volume_brooms.IsUnused f 2 b → ((view_of_broom b).role ≡ seat.Player (name.Broom 2))
+        × ((blocks_of_broom b).destination ≡ None) }
+{}
+
+/// What the sectors are with which a device is closed, and what its passes have done then.
+pub fn closes_of_a_volume()
+    ensures all { (p : Pass) → (view_of p).role ≡ seat.Player (name.Pass 0) → AreAll 1 (p ∷ []) }
+    ensures missing { ¬ AreAll 1 [] }
+    ensures last { (z : Numbers) (p : Pass) (last : List Call) (s : List Sector) → (h : AreFinal z (p ∷ []) last s) → (s ≡ after z.sectors h.history)
+        × Begins h.history last × Begins (view_of p).seen h.history }
+    ensures last_own { (z : Numbers) (p : Pass) (last : List Call) (s : List Sector) → (view_of p).role ≡ seat.Player (name.Pass 2)
+        → (h : AreFinal z (p ∷ []) last s) → calls_of 2 h.history ≡ (view_of p).mine }
+    ensures is_last { (f : Flash) (p : Pass) (d : Closed) → (h : IsFinal f (p ∷ []) d) → (sectors_left d ≡ after (device f).sectors h.history)
+        × Begins h.history (last_view d).seen }
+    ensures read { (z : Numbers) (p : Pass) (last : List Call) (s : List Sector) → z.sectors ≡ 2 → (h : AreRead z (p ∷ []) last s) → (length s ≡ 2)
+        × Begins (view_of p).seen (h.history 1) × Begins (h.history 0) (h.history 1) }
+    ensures read_each { (z : Numbers) (p : Pass) (last : List Call) (s : List Sector) → z.sectors ≡ 2 → (h : AreRead z (p ∷ []) last s)
+        → (slice_index_or s 1 None ≡ held z.sectors (h.history 1) 1) × Begins (h.history 1) last }
+    ensures left { (v w : View) → v.owns ≡ [] → HasLeft v w → (w.owns ≡ []) × (w.work ≡ None) × (w.ceded ≡ v.ceded ++ []) × Begins v.seen w.seen }
+    ensures left_mine { (v w : View) → HasLeft v w → (w.mine ≡ v.mine) × (w.programs ≡ v.programs) × (w.taken ≡ v.taken) }
+    ensures looked { (p q : Pass) → HaveLooked (p ∷ []) (q ∷ []) → ((view_of q).mine ≡ (view_of p).mine) × ((view_of q).owns ≡ (view_of p).owns)
+        × Begins (view_of p).seen (view_of q).seen }
+    ensures lost_one { (p : Pass) → ¬ HaveLooked (p ∷ []) [] }
+    ensures does { (x : Volume) (p q : Pass) → HasNumber 2 p → Does x p (Trim 3) (Replaced was.Empty) q
+        → ((view_of q).mine ≡ (view_of p).mine ++ call.Trim 2 3 ∷ []) × (calls_of 2 (view_of q).seen ≡ (view_of q).mine) }
+    ensures does_other { (x : Volume) (p q : Pass) → HasNumber 2 p → ¬ Does x p (Read 3) (Replaced was.Empty) q }
+{}
