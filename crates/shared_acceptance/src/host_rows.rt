@@ -12,15 +12,24 @@ const READS_THE_OTHERS: [Step; 2] = [
     Step::By(Who::B, (Call::Read(0), Done::Read(Some(1), 1))),
 ];
 
-const FILLS_ALL: [Step; 15] = [
-    Step::By(Who::A, (Call::Write(1, 1), EMPTY)),
-    Step::By(Who::A, (Call::Write(0, 2), EMPTY)),
-    Step::By(Who::A, (Call::Write(1, 3), WRITTEN)),
-    Step::By(Who::A, (Call::Write(0, 4), WRITTEN)),
-    Step::By(Who::A, (Call::Write(1, 5), WRITTEN)),
-    Step::By(Who::A, (Call::Write(0, 6), WRITTEN)),
-    Step::By(Who::A, (Call::Write(1, 7), WRITTEN)),
-    Step::By(Who::A, (Call::Write(0, 8), WRITTEN)),
+// A host fills blocks 0 to 3, and then these steps are made.
+macro_rules! four_filled {
+    ($($step:expr),* $(,)?) => {
+        [
+            Step::By(Who::A, (Call::Write(1, 1), EMPTY)),
+            Step::By(Who::A, (Call::Write(0, 2), EMPTY)),
+            Step::By(Who::A, (Call::Write(1, 3), WRITTEN)),
+            Step::By(Who::A, (Call::Write(0, 4), WRITTEN)),
+            Step::By(Who::A, (Call::Write(1, 5), WRITTEN)),
+            Step::By(Who::A, (Call::Write(0, 6), WRITTEN)),
+            Step::By(Who::A, (Call::Write(1, 7), WRITTEN)),
+            Step::By(Who::A, (Call::Write(0, 8), WRITTEN)),
+            $($step),*
+        ]
+    };
+}
+
+const FILLS_ALL: [Step; 15] = four_filled![
     Step::By(Who::A, (Call::Write(1, 9), WRITTEN)),
     Step::By(Who::A, (Call::Write(0, 10), WRITTEN)),
     Step::By(Who::A, (Call::Write(0, 11), FULL)),
@@ -30,15 +39,7 @@ const FILLS_ALL: [Step; 15] = [
     Step::By(Who::A, (Call::Read(0), Done::Read(None, 1))),
 ];
 
-const LEAVES_THE_SPARE: [Step; 12] = [
-    Step::By(Who::A, (Call::Write(1, 1), EMPTY)),
-    Step::By(Who::A, (Call::Write(0, 2), EMPTY)),
-    Step::By(Who::A, (Call::Write(1, 3), WRITTEN)),
-    Step::By(Who::A, (Call::Write(0, 4), WRITTEN)),
-    Step::By(Who::A, (Call::Write(1, 5), WRITTEN)),
-    Step::By(Who::A, (Call::Write(0, 6), WRITTEN)),
-    Step::By(Who::A, (Call::Write(1, 7), WRITTEN)),
-    Step::By(Who::A, (Call::Write(0, 8), WRITTEN)),
+const LEAVES_THE_SPARE: [Step; 12] = four_filled![
     Step::By(Who::A, (Call::Write(0, 9), FULL)),
     Step::By(Who::A, (Call::Read(0), Done::Read(Some(8), 1))),
     Step::By(Who::A, (Call::Read(1), Done::Read(Some(7), 1))),

@@ -1,37 +1,28 @@
 //! What the rows of several files have in common: the devices on which they are played, and the expected calls of brooms.
 use crate::playing_rows::Device;
 
-pub(crate) const NO_BROOM: Device = Device {
-    blocks: 5,
-    endurance: 10,
-    brooms: 0,
-};
+// A device with so many blocks and brooms, whose blocks may be erased so often.
+macro_rules! device {
+    (blocks $blocks:literal, endurance $endurance:literal, brooms $brooms:literal) => {
+        Device {
+            blocks: $blocks,
+            endurance: $endurance,
+            brooms: $brooms,
+        }
+    };
+}
 
-pub(crate) const ONE_BROOM: Device = Device {
-    blocks: 5,
-    endurance: 10,
-    brooms: 1,
-};
+pub(crate) const NO_BROOM: Device = device!(blocks 5, endurance 10, brooms 0);
 
-pub(crate) const TWO_BROOMS: Device = Device {
-    blocks: 7,
-    endurance: 10,
-    brooms: 2,
-};
+pub(crate) const ONE_BROOM: Device = device!(blocks 5, endurance 10, brooms 1);
+
+pub(crate) const TWO_BROOMS: Device = device!(blocks 7, endurance 10, brooms 2);
 
 // Each block may be erased once.
-pub(crate) const ONCE: Device = Device {
-    blocks: 5,
-    endurance: 1,
-    brooms: 1,
-};
+pub(crate) const ONCE: Device = device!(blocks 5, endurance 1, brooms 1);
 
 // Each block may be erased twice.
-pub(crate) const TWICE: Device = Device {
-    blocks: 5,
-    endurance: 2,
-    brooms: 1,
-};
+pub(crate) const TWICE: Device = device!(blocks 5, endurance 2, brooms 1);
 
 // A call that drains this block, and copies so many of its pages.
 macro_rules! drained {
