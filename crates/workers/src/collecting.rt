@@ -118,7 +118,7 @@ impl Collector {
     {
         let mut drain = self.drain(rt, gate);
         let mut gained = self.follow(drain, rt, gate);
-        for made in 1..self.drains {
+        for _made in 1..self.drains {
             if is_last(drain) || stop.load(Ordering::SeqCst) {
                 break;
             }

@@ -2,4 +2,4 @@ use Rattle.workers.proofs.Turning.{TurnSoFar}
 use Rattle.workers.proofs.collector.Collector.turn.Given as goal
 
 abbrev pub invariant-loop-made : goal.invariant-loop-made
-invariant-loop-made g l = TurnSoFar l.fn.self l.made l.drain l.gained l.self
+invariant-loop-made g l = TurnSoFar l.fn.self l._made l.drain l.gained l.self
