@@ -48,7 +48,8 @@ pub kept : (name : Text) (row : Row) (rows : List Row) (rules : List Rule) → f
 kept name row rows [] found = found
 kept name row rows (r ∷ rs) found =
     kept name row (with_default rows r) rs
-    (ap (find (is_row name)) (adds rows r) ∙ find-append (is_row name) rows (added rows r) ∙ ap (λ (o : Option Row). option_or o (find (is_row name) (added rows r))) found)
+    (ap (find (is_row name)) (adds rows r) ∙ find-append (is_row name) rows (added rows r)
+        ∙ ap (λ (o : Option Row). option_or o (find (is_row name) (added rows r))) found)
 
 none_has : (name : Text) (rows : List Row) → find (is_row name) rows ≡ None → has_row name rows ≡ false
 none_has name [] none = refl
@@ -80,10 +81,12 @@ pub defaulted : (name text : Text) (rows : List Row) (rules : List Rule) (rule :
     → find (λ (r : Rule). bytes_eq r.id name) rules ≡ Some rule → rule.defaults ≡ text ∷ []
     → find (is_row name) (fold with_default rows rules) ≡ Some (default_row rule text)
 defaulted name text rows [] rule none found defaults = cc
-defaulted name text rows (r ∷ rs) rule none found defaults = by (bytes_eq r.id name) refl found (λ none_yet rest. defaulted name text (with_default rows r) rs rule none_yet rest defaults)
+defaulted name text rows (r ∷ rs) rule none found defaults = by (bytes_eq r.id name) refl found
+    (λ none_yet rest. defaulted name text (with_default rows r) rs rule none_yet rest defaults)
   where
     next : find (is_row name) (with_default rows r) ≡ find (is_row name) (added rows r)
-    next = ap (find (is_row name)) (adds rows r) ∙ find-append (is_row name) rows (added rows r) ∙ ap (λ (o : Option Row). option_or o (find (is_row name) (added rows r))) none
+    next = ap (find (is_row name)) (adds rows r) ∙ find-append (is_row name) rows (added rows r)
+        ∙ ap (λ (o : Option Row). option_or o (find (is_row name) (added rows r))) none
 
     by : (b : Bool) → bytes_eq r.id name ≡ b → cond b (Some r) (find (λ (x : Rule). bytes_eq x.id name) rs) ≡ Some rule
         → (find (is_row name) (with_default rows r) ≡ None → find (λ (x : Rule). bytes_eq x.id name) rs ≡ Some rule

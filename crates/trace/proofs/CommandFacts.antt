@@ -46,7 +46,8 @@ digits-odd text odd s h =
     ap (λ n. take s.brief.digits (drop n (text ++ odd))) there ∙ ap (take s.brief.digits) (drop-append-add text odd (s.start - length text))
 
 -- digits that are put behind the odd ones
-digits-new : (text odd digits : List ℕ) (s : Stored) → s.start ≡ length text + length odd → s.brief.digits ≡ length digits → digits_at text (odd ++ digits) s ≡ digits
+digits-new : (text odd digits : List ℕ) (s : Stored) → s.start ≡ length text + length odd → s.brief.digits ≡ length digits
+    → digits_at text (odd ++ digits) s ≡ digits
 digits-new text odd digits s start count =
     let seam : s.start ≡ length (text ++ odd) = omega (arith, start, length-append text odd) in
     ap (λ l. take s.brief.digits (drop s.start l)) (sym (append_assoc text odd digits))
@@ -102,12 +103,14 @@ module _ (text odd : List ℕ) (size : ℕ) (xs : List Stored) (s : Stored) (hea
   data_is digits e h = subst (λ o. IsData (page_len o size) (digits_at text odd s)) (sym op_is) (subst (IsData (page_len head.op size)) (sym e) h)
 
 -- one whose digits stand in the text
-module _ (text odd : List ℕ) (size : ℕ) (xs : List Stored) (s : Stored) (head : Head) (is : head_of s.brief ≡ head) (within : s.start + s.brief.digits ≤ length text) where
+module _ (text odd : List ℕ) (size : ℕ) (xs : List Stored) (s : Stored) (head : Head) (is : head_of s.brief ≡ head)
+    (within : s.start + s.brief.digits ≤ length text) where
   pub push-commands : map (command_at text odd size) (xs ++ s ∷ []) ≡ map (command_at text odd size) xs
       ++ with_digits head size (take s.brief.digits (drop s.start text)) ∷ []
   push-commands = pushed text odd size xs s head is _ (digits-text text odd s within)
 
-  pub push-kept : All (IsKept text odd size) xs → IsData (page_len head.op size) (take s.brief.digits (drop s.start text)) → All (IsKept text odd size) (xs ++ s ∷ [])
+  pub push-kept : All (IsKept text odd size) xs → IsData (page_len head.op size) (take s.brief.digits (drop s.start text))
+      → All (IsKept text odd size) (xs ++ s ∷ [])
   push-kept before h = kept text odd size xs s head is before record {
     within = omega (arith, within, length-append text odd);
     whole = inl within;

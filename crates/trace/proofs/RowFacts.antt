@@ -3,7 +3,8 @@ use Rattle.std.proofs.Common.{Bor, ◌≡◌, ℕ, zero, suc, ◌+◌, ◌<◌, 
 use Rattle.std.proofs.Common.{Some, None, Result, Ok, Err, refl, ap, subst, ◌∙◌, add-one, arith, inl}
 use Rattle.std.specs.Prelude.{◌==◌, ◌||◌, IfOk, OnOk, IsSome, MatchBool, option_map, slice_index_or, if◌then◌else◌}
 use Rattle.csv.specs.Machine.{Read, ends_at_end, field_after, fields_after, in_field, is_end, next_record, start_field, start_record, step}
-use Rattle.csv.specs.Reading.{NextIs, pending_of, ReadRecord, ReadsNext, Ready, default_config, is_bom, reader_trim, records_from, records_next, strip_bom, took_first}
+use Rattle.csv.specs.Reading.{NextIs, pending_of, ReadRecord, ReadsNext, Ready, default_config, is_bom, reader_trim}
+use Rattle.csv.specs.Reading.{records_from, records_next, strip_bom, took_first}
 use Rattle.csv.specs.Records.{field_at}
 use Rattle.csv.specs.declared.parser.Action.{Action}
 use Rattle.csv.specs.declared.parser.State.{State}

@@ -30,7 +30,12 @@ all_first volume drains k [] unused idle = tt
 all_first volume drains k (s ∷ ss) unused idle =
     let here = All-head (HasCountedNone volume drains) s ss idle in
     let none : k + 0 ≡ k = omega arith in (
-      record { volume_is = here.0; unused = subst (λ (n : ℕ). IsUnused (flash_of volume) n s.broom) none (unused 0 s.broom refl); limit = here.1; tally = here.2 },
+      record {
+        volume_is = here.0;
+        unused = subst (λ (n : ℕ). IsUnused (flash_of volume) n s.broom) none (unused 0 s.broom refl);
+        limit = here.1;
+        tally = here.2;
+      },
       all_first volume drains (k + 1) ss
           (λ i b at. let on : k + suc i ≡ (k + 1) + i = omega arith in subst (λ (n : ℕ). IsUnused (flash_of volume) n b) on (unused (suc i) b at))
           (All-tail (HasCountedNone volume drains) s ss idle),
@@ -85,7 +90,8 @@ found volume drains k first last end begun collected folded =
       stale = ap (λ (x : Tally). x.stale) tally ∙ ap (λ (n : ℕ). n % m) collected.collected.stale;
     }
 
-served : (volume : Volume) (geo : Geometry) (drains k : ℕ) (before after : List Collector) (ends : List CollectorEnd) → geometry_of (flash_of volume) ≡ geo
+served : (volume : Volume) (geo : Geometry) (drains k : ℕ) (before after : List Collector) (ends : List CollectorEnd)
+    → geometry_of (flash_of volume) ≡ geo
     → AreAtRunStart volume drains k before → HaveCollected before after
     → HaveFolded after ends → HaveServed geo drains k ends
 served volume geo drains k [] [] [] same begun collected folded = tt
@@ -114,7 +120,8 @@ folded_long [] (end ∷ ends) folded = absurd folded
 folded_long (s ∷ after) [] folded = absurd folded
 folded_long (s ∷ after) (end ∷ ends) folded = ap suc (folded_long after ends folded.1)
 
-pub all_served : (volume : Volume) (geo : Geometry) (drains : ℕ) (before after : List Collector) (ends : List CollectorEnd) → geometry_of (flash_of volume) ≡ geo
+pub all_served : (volume : Volume) (geo : Geometry) (drains : ℕ) (before after : List Collector) (ends : List CollectorEnd)
+    → geometry_of (flash_of volume) ≡ geo
     → length after ≡ brooms_of geo → AreAtRunStart volume drains 0 before
     → HaveCollected before after → HaveFolded after ends → AllHaveServed geo drains ends
 all_served volume geo drains before after ends same count begun collected folded =

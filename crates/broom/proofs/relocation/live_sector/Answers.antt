@@ -70,7 +70,8 @@ sweeping c x h =
     let look = c.broom_look-named.ensures in
     sweeps_on c.args.flash.now (pages_of (geometry_of c.args.flash.now)) c.args.seat.now c.broom_look-named.new.broom x h look.broom
     (look.blocks ∙ c.get_stamp-stamp.ensures.blocks)
-    (ap (λ (z : View). z.work) look.named.changed ∙ ap (λ (z : View). z.work) e) (look_callers w y c.get_stamp-stamp.result c.broom_look-named.result look.named)
+    (ap (λ (z : View). z.work) look.named.changed ∙ ap (λ (z : View). z.work) e)
+    (look_callers w y c.get_stamp-stamp.result c.broom_look-named.result look.named)
 
 pub returns-then-found-clause-told : goal.returns-then-found-clause-told
 returns-then-found-clause-told c =

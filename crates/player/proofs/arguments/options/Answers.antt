@@ -23,11 +23,14 @@ returns-clause-numbers c =
       blocks = option_is command m parsed same words rows 1 (codes "blocks") (codes "64") 64 0 4294967295 c.number-2.result blocks_stands c.number-2.ensures;
       pages = option_is command m parsed same words rows 2 (codes "pages") (codes "64") 64 0 4294967295 c.number-3.result pages_stands c.number-3.ensures;
       words = option_is command m parsed same words rows 3 (codes "words") (codes "64") 64 0 4294967295 c.number-4.result words_stands c.number-4.ensures;
-      sectors = option_is command m parsed same words rows 4 (codes "sectors") (codes "3072") 3072 0 4294967295 c.number-5.result sectors_stands c.number-5.ensures;
-      endurance = option_is command m parsed same words rows 5 (codes "endurance") (codes "1000") 1000 0 4294967295 c.number-6.result endurance_stands c.number-6.ensures;
+      sectors = option_is command m parsed same words rows 4 (codes "sectors") (codes "3072") 3072 0 4294967295
+          c.number-5.result sectors_stands c.number-5.ensures;
+      endurance = option_is command m parsed same words rows 5 (codes "endurance") (codes "1000") 1000 0 4294967295
+          c.number-6.result endurance_stands c.number-6.ensures;
       workers = option_is command m parsed same words rows 6 (codes "workers") (codes "0") 0 0 4294967295 c.number-7.result workers_stands c.number-7.ensures;
       brooms = option_is command m parsed same words rows 7 (codes "brooms") (codes "0") 0 0 4294967295 c.number-8.result brooms_stands c.number-8.ensures;
-      patience = option_is command m parsed same words rows 8 (codes "patience") (codes "1000000") 1000000 1 1000000000 c.number-9.result patience_stands c.number-9.ensures;
+      patience = option_is command m parsed same words rows 8 (codes "patience") (codes "1000000") 1000000 1 1000000000
+          c.number-9.result patience_stands c.number-9.ensures;
       drains = option_is command m parsed same words rows 9 (codes "drains") (codes "1") 1 1 4096 c.number-10.result drains_stands c.number-10.ensures;
       wear = c.get_str.ensures ∙ first_value-rows (found_of m) (codes "wear") ∙ ap (first_of (codes "wear")) rows;
       collections = c.get_str-2.ensures ∙ first_value-rows (found_of m) (codes "collections") ∙ ap (first_of (codes "collections")) rows;
