@@ -27,7 +27,7 @@ pub fn collections_of_a_stock()
         → collection_due g half_live ≡ Some (record { victim = 0; copied = 1; copybacks = 0; erases = 1; retired = false }) }
     ensures last_erase { (g : Geometry) → HasTwoBlocks g 1 1
         → collection_due g half_live ≡ Some (record { victim = 0; copied = 1; copybacks = 1; erases = 1; retired = true }) }
-    ensures none_made { (g : Geometry) (s : Stock) → collection_between g (stock_with []) (stock_with []) ≡ None }
+    ensures none_made { (g : Geometry) → collection_between g (stock_with []) (stock_with []) ≡ None }
     ensures made { (g : Geometry) → HasTwoBlocks g 1 5
         → collection_between g half_live half_moved ≡ Some (record { victim = 0; copied = 1; copybacks = 1; erases = 1; retired = false }) }
 {}
@@ -72,7 +72,7 @@ pub fn counts_of_a_stock()
         × (was_found {X = ℕ} (Err one_fault.Written) ≡ was.Written) }
 {}
 
-/// What a call does to a stock of two blocks, each of one page.
+/// What a call does to a stock of one or two blocks.
 pub fn calls_of_a_stock()
     ensures opening { opening_of 2 ≡ stock_with (block_with role.Free [] ∷ block_with role.Spare [] ∷ []) }
     ensures opens { (x : List ℕ)

@@ -29,7 +29,7 @@ returns-clause-last_erase c g two = simp (two.blocks, two.luns, two.endurance)
 
 pub returns-clause-none_made : goal.returns-clause-none_made
 unfolding collection_between
-returns-clause-none_made c g s = refl
+returns-clause-none_made c g = refl
 
 pub returns-clause-made : goal.returns-clause-made
 unfolding collection_between
