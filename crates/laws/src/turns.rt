@@ -1,0 +1,55 @@
+//! Laws of what brooms do in a round, and of what a run by workers returns and writes.
+ghost use Rattle.std.specs.Prelude.{◌≡◌, ℕ, Bool, List, [], ◌∷◌, true, false, length};
+ghost use Rattle.answers.specs.Answers.{end_text};
+ghost use Rattle.answers.specs.Streams.{Passage, Sends, Stream};
+ghost use Rattle.broom.specs.declared.answer.Drain.{Drain};
+ghost use Rattle.broom.specs.declared.answer.Drain.TheVariants as drain;
+ghost use Rattle.broom.specs.declared.answer.Erase.{Erase};
+ghost use Rattle.geometry.specs.Geometry.{brooms_of, hosts_of, sectors_of};
+ghost use Rattle.geometry.specs.declared.geometry.Geometry.{Geometry};
+ghost use Rattle.rounds.specs.Lines.{Said};
+ghost use Rattle.rounds.specs.Rows.{AreAtOneHistory};
+ghost use Rattle.runs.specs.ByWorkers.{WasPlayed, answers_played, commands_played};
+ghost use Rattle.runs.specs.Delivering.{text_of};
+ghost use Rattle.runs.specs.Outputs.{written_by_workers};
+ghost use Rattle.runs.specs.declared.files.WantedByWorkers.{WantedByWorkers};
+ghost use Rattle.runs.specs.declared.played_by_workers.PlayedByWorkers.{PlayedByWorkers};
+ghost use Rattle.trace.specs.declared.commands.Command.{Command};
+ghost use Rattle.workers.specs.Collecting.{HasCollected, HaveCollected};
+ghost use Rattle.workers.specs.Turns.{Follows};
+ghost use Rattle.workers.specs.declared.broom_answer.BroomAnswer.TheVariants as by;
+ghost use Rattle.workers.specs.declared.collector.Collector.{Collector};
+
+/// What the brooms of a round have done: each its own calls, and none is lost or made up.
+pub fn brooms_of_a_round()
+    ensures none { HaveCollected [] [] }
+    ensures each { (s t : Collector) → HaveCollected (s ∷ []) (t ∷ []) → HasCollected s t }
+    ensures lost { (s : Collector) → ¬ HaveCollected (s ∷ []) [] }
+    ensures made_up { (s : Collector) → ¬ HaveCollected [] (s ∷ []) }
+{}
+
+/// What follows a drain: an erase, and a restock exactly if the drain found no spare.
+pub fn calls_behind_a_drain()
+    ensures erased { (e : Erase) → Follows drain.NothingToGain (by.Erase e ∷ []) }
+    ensures restocked { (e : Erase) (found : Bool) → Follows drain.NoSpare (by.Erase e ∷ by.Restock found ∷ []) }
+    ensures not_restocked { (e : Erase) → ¬ Follows drain.NoSpare (by.Erase e ∷ []) }
+    ensures needless { (e : Erase) (found : Bool) → ¬ Follows drain.NothingToGain (by.Erase e ∷ by.Restock found ∷ []) }
+{}
+
+/// What a run by workers writes of its answers: all of them, or only the last line.
+pub fn outputs_by_workers()
+    ensures whole { (commands : List Command) (rows : ℕ → List Said) → written_by_workers true commands rows ≡ text_of commands rows }
+    ensures quiet { (commands : List Command) (rows : ℕ → List Said) → written_by_workers false commands rows ≡ end_text }
+{}
+
+/// What a run by workers returns: answers for each worker at one history, and the ends of all its brooms.
+pub fn a_run_by_workers()
+    ensures workers { (geo : Geometry) (n : ℕ) (w : WantedByWorkers) (i : Stream) (o f : Passage) (run : PlayedByWorkers)
+        → ¬ (length run.end.rows.items ≡ hosts_of geo) → ¬ WasPlayed geo n w i o f run }
+    ensures brooms { (geo : Geometry) (n : ℕ) (w : WantedByWorkers) (i : Stream) (o f : Passage) (run : PlayedByWorkers)
+        → ¬ (length run.end.brooms.items ≡ brooms_of geo) → ¬ WasPlayed geo n w i o f run }
+    ensures played { (geo : Geometry) (n : ℕ) (w : WantedByWorkers) (i : Stream) (o f : Passage) (run : PlayedByWorkers)
+        → WasPlayed geo n w i o f run → AreAtOneHistory (sectors_of geo) (hosts_of geo) (commands_played run) (answers_played run) }
+    ensures quiet { (geo : Geometry) (n : ℕ) (w : WantedByWorkers) (i : Stream) (o f : Passage) (run : PlayedByWorkers)
+        → w.answers ≡ false → WasPlayed geo n w i o f run → Sends o end_text }
+{}
