@@ -133,7 +133,7 @@ accepted c m p same k name default worth least most stands text found = by (matc
     of_entry y got value =
         let simple : all_simple (shape_of c).rules ≡ true = ap (λ (a : App). all_simple a.top.rules) same in
         let no_groups : groups_of p.built ≡ [] = (p.from.same_groups (simple_groups c simple)).1
-            ∙ (plain_fields c (ap (λ (a : App). a.top.is_plain) same)).groups in
+        ∙ (plain_fields c (ap (λ (a : App). a.top.is_plain) same)).groups in
         entry_accepted name least most p.built got.0 text no_groups stands.named (parser_kept c m p same k name default worth least most stands)
         ((bytes_eq-Decides got.0.0.now name).0 got.2) got.3
         (subst (λ (z : MatchedArg). option_map (λ v. read_as z.reading v.now) (slice_get z.vals.items 0) ≡ Some text) (sym got.1) value)
@@ -174,7 +174,7 @@ option_is c m p same words rows k name default worth least most number stands re
         → MatchOption (option_and_then row_text (find (is_row name) (rows_named words))) (number ≡ worth) (λ text. IsNumberIn least most text number)
     by (Some row) is =
         let found : find (is_row name) (rows_of (found_of m)) ≡ Some row =
-            ap (find (is_row name)) given ∙ kept name row (rows_named words) (built flashplay).top.rules is in
+        ap (find (is_row name)) given ∙ kept name row (rows_named words) (built flashplay).top.rules is in
         subst (λ (f : Option Row). MatchOption (option_and_then row_text f) (number ≡ worth) (λ text. IsNumberIn least most text number)) (sym is)
         (in_limits row (row_text row) found refl)
     by None is =

@@ -49,7 +49,7 @@ kept name row rows [] found = found
 kept name row rows (r ∷ rs) found =
     kept name row (with_default rows r) rs
     (ap (find (is_row name)) (adds rows r) ∙ find-append (is_row name) rows (added rows r)
-        ∙ ap (λ (o : Option Row). option_or o (find (is_row name) (added rows r))) found)
+    ∙ ap (λ (o : Option Row). option_or o (find (is_row name) (added rows r))) found)
 
 none_has : (name : Text) (rows : List Row) → find (is_row name) rows ≡ None → has_row name rows ≡ false
 none_has name [] none = refl
