@@ -1,6 +1,7 @@
 //! Laws of what C sees of a device. Each function has no code: its clauses say where a definition holds and where it doesn't, and what a code or a
 //! report is on small values.
 ghost use Rattle.std.specs.Prelude.{◌≡◌, ℕ, List, [], ◌∷◌, Some, None, true, false};
+ghost use Rattle.std_heap.specs.declared.Global.{Global};
 ghost use Rattle.ftl_one.specs.declared.one_ftl.OneFtl.{OneFtl};
 ghost use Rattle.ftl_one.specs.Stock.{Stock, Block, opening, next};
 ghost use Rattle.ftl_one.specs.Laws.{block_at};
@@ -33,6 +34,7 @@ ghost use Rattle.exports.specs.Codes.{was_code};
 ghost use Rattle.exports.specs.Handles.{seat_of};
 ghost use Rattle.exports.specs.Holding.{HoldCalled, HolderCalled, ReleaseCalled, hold_code, copy_code, copied, word_code, word_read, page_report, if_holder};
 ghost use Rattle.exports.specs.Holds.{held_value};
+ghost use Rattle.exports.specs.Heaps.{heap};
 ghost use Rattle.exports.specs.Kept.{SaysWhetherOpen};
 ghost use Rattle.exports.specs.One.{Closed, Open, Other, State, Machine, machine_of, state_by, on_state, code_on, filled_on, refused, taken, was_at};
 ghost use Rattle.exports.specs.One.{write_on, write_new_on, trim_on, read_on, buffer_on, totals_on, reported, block_on, report_on, open_code, IsFreshIn};
@@ -42,7 +44,8 @@ ghost use Rattle.exports.specs.Shared.{read_code, read_buffer, look_code, write_
 ghost use Rattle.exports.specs.Shared.{got_by, written_by, was_by, drain_by, erase_by, stocked_by, numbers_code, numbers_report};
 ghost use Rattle.exports.specs.Small.{IsSmall, zeros};
 
-/// What a call leaves of a handle: a closed one is closed, and an open one is open, with a seat of which the call says something.
+/// What a call leaves of a handle: a closed one is closed, and an open one is open, with a seat of which the call says something. There is one heap
+/// in which seats are.
 pub fn calls_of_handles()
     ensures closed { OnHandle None (λ x y. ⊥) None }
     ensures stays_closed { (y : Seat) → ¬ OnHandle None (λ x y. x ≡ x) (Some y) }
@@ -51,6 +54,7 @@ pub fn calls_of_handles()
     ensures untold { (x y : Seat) → ¬ OnHandle (Some x) (λ x y. ⊥) (Some y) }
     ensures by_none { on_handle {X = ℕ} None 8 (λ x. 9) ≡ 8 }
     ensures by_seat { on_handle {X = ℕ} (Some seat.Away) 8 (λ x. 9) ≡ 9 }
+    ensures one_heap { (h : Global) → h ≡ heap }
     ensures said { SaysWhetherOpen 1 (Some seat.Away) × SaysWhetherOpen 0 None }
     ensures unsaid { (¬ SaysWhetherOpen 1 None) × (¬ SaysWhetherOpen 0 (Some seat.Away)) }
     ensures is_closed { (h : Handle) → seat_of h ≡ None → IsClosed h }
