@@ -6,7 +6,8 @@ use Rattle.std.proofs.lemmas.List.Edits.{take-paste}
 use Rattle.std.specs.List.{copy_within}
 
 -- bytes in the middle are moved to the front
-pub moved_front : (xs : List ℕ) (used count : ℕ) → count ≤ used → used ≤ length xs → take (used - count) (copy_within xs count used 0) ≡ drop count (take used xs)
+pub moved_front : (xs : List ℕ) (used count : ℕ) → count ≤ used → used ≤ length xs
+    → take (used - count) (copy_within xs count used 0) ≡ drop count (take used xs)
 moved_front xs used count few fits =
     let left = used - count in
     let same : left ≡ 0 + left = omega arith in

@@ -1,4 +1,4 @@
-use Rattle.std.proofs.Common.{subst, arith, ap, drop, length, take, ◌∙◌, ◌+◌, ◌≤◌, ◌≡◌}
+use Rattle.std.proofs.Common.{subst, arith, ap, drop, length, take}
 use Rattle.std.proofs.lemmas.Bool.Decides.{nat_tests}
 use Rattle.std.proofs.lemmas.List.{drop-drop, length-drop, take_rest}
 use Rattle.std.specs.Io.KnownBytes.{Appends}

@@ -1,4 +1,4 @@
-use Rattle.std.proofs.Common.{◌≡◌, refl}
+use Rattle.std.proofs.Common.{refl}
 use Rattle.answers.proofs.laws.texts_of_a_buffer.Goals as goal
 
 pub returns-clause-short : goal.returns-clause-short

@@ -1,4 +1,4 @@
-use Rattle.std.proofs.Common.{◌≡◌, ◌-◌, take, ap, ◌∙◌, arith, rules}
+use Rattle.std.proofs.Common.{◌-◌, take, ap, ◌∙◌, rules}
 use Rattle.std.proofs.lemmas.List.{with_items_is, places}
 use Rattle.std.specs.List.{copy_within}
 use Rattle.answers.proofs.Waiting.{moved_front}
