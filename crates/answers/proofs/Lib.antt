@@ -5,3 +5,4 @@ pub mod Places
 pub mod Playable
 pub mod Readings
 pub mod Texts
+pub mod Waiting

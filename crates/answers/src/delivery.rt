@@ -1,7 +1,7 @@
-ghost use Rattle.std.specs.Prelude.{◌≡◌, ◌≢◌, OnOk, OnErr};
+ghost use Rattle.std.specs.Prelude.{◌≡◌, ◌≢◌, ◌≤◌, drop, length, OnOk, OnErr};
 ghost use Rattle.std.specs.Io.KnownBytes.{Appends};
 ghost use Rattle.trace.specs.Watched.{failures_of, inner_of};
-ghost use Rattle.answers.specs.Delivery.{AppendsBeginning};
+ghost use Rattle.answers.specs.Delivery.{AppendsBeginning, IsUnderWay};
 
 use std::io::Write;
 use trace::Watched;
@@ -17,15 +17,29 @@ pub fn send<W: Write>(writer: &mut Watched<W>, bytes: &[u8]) -> Result<(), Outpu
     ensures part { OnErr result (AppendsBeginning (W.contents (inner_of writer.old)) (W.contents (inner_of writer.new)) bytes.now) }
     ensures failed { OnErr result (failures_of writer.new ≢ failures_of writer.old) }
 {
-    let mut rest = bytes;
-    while !rest.is_empty() {
-        let Ok(taken) = writer.write(rest) else {
-            return Err(OutputFailed);
+    if send_some(writer, bytes) == bytes.len() {
+        Ok(())
+    } else {
+        Err(OutputFailed)
+    }
+}
+
+/// Writes these bytes until all are written or a call fails, and returns how many were written.
+pub(crate) fn send_some<W: Write>(writer: &mut Watched<W>, bytes: &[u8]) -> usize
+    ensures within { result ≤ length bytes.now }
+    ensures moved { IsUnderWay (W.contents (inner_of writer.old)) (W.contents (inner_of writer.new)) (drop result bytes.now) bytes.now }
+    ensures unfailed { result ≡ length bytes.now → failures_of writer.new ≡ failures_of writer.old }
+    ensures failed { result ≢ length bytes.now → failures_of writer.new ≢ failures_of writer.old }
+{
+    let mut sent = 0;
+    while sent < bytes.len() {
+        let Ok(taken) = writer.write(&bytes[sent..]) else {
+            return sent;
         };
         if taken == 0 {
-            return Err(OutputFailed);
+            return sent;
         }
-        rest = &rest[taken..];
+        sent += taken;
     }
-    Ok(())
+    sent
 }

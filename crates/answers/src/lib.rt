@@ -5,6 +5,7 @@ mod broom_line;
 mod delivery;
 mod encoding;
 mod fault;
+mod laws;
 mod line;
 mod lines;
 mod numbering;

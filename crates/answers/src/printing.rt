@@ -1,4 +1,4 @@
-ghost use Rattle.std.specs.Prelude.{◌≡◌, ◌≢◌, ◌*◌, ◌≤◌, [], ◌++◌, length, IfOk, OnOk, OnErr};
+ghost use Rattle.std.specs.Prelude.{◌≡◌, ◌≢◌, ◌*◌, ◌-◌, ◌≤◌, [], ◌++◌, drop, length, IfOk, OnOk, OnErr};
 ghost use Rattle.std.specs.Io.KnownBytes.{Appends};
 ghost use Rattle.geometry.specs.Geometry.{page_bytes_of};
 ghost use Rattle.hex.specs.Hex.{encode_lower};
@@ -11,7 +11,7 @@ ghost use Rattle.answers.specs.declared.line.TheConstants.{PIECE_BYTES};
 ghost use Rattle.answers.specs.declared.reply.Reply.TheVariants as replies;
 
 use crate::broom_line::BroomLine;
-use crate::delivery::{OutputFailed, send};
+use crate::delivery::{OutputFailed, send_some};
 use crate::line::{
     LINE_BYTES, PIECE_BYTES, put_broom, put_broom_names, put_collection, put_collection_names,
     put_end, put_line, put_totals, put_wear, put_wear_names,
@@ -149,7 +149,7 @@ impl Lines {
         self.used = put_broom(&mut self.buffer, self.used, it);
     }
 
-    /// Writes the lines that wait.
+    /// Writes the lines that wait. After a failure those bytes wait that the writer has not taken, so another call can continue.
     pub fn hand_on<W: Write>(&mut self, writer: &mut Watched<W>) -> Result<(), OutputFailed>
         ensures sent { OnOk result (Appends (W.contents (inner_of writer.old)) (W.contents (inner_of writer.new)) (waiting_of self.old)) }
         ensures empty { OnOk result (waiting_of self.new ≡ []) }
@@ -157,10 +157,27 @@ impl Lines {
         ensures unfailed { OnOk result (failures_of writer.new ≡ failures_of writer.old) }
         ensures part { OnErr result (AppendsBeginning (W.contents (inner_of writer.old)) (W.contents (inner_of writer.new)) (waiting_of self.old)) }
         ensures failed { OnErr result (failures_of writer.new ≢ failures_of writer.old) }
+        ensures kept { OnErr result
+            (IsUnderWay (W.contents (inner_of writer.old)) (W.contents (inner_of writer.new)) (waiting_of self.new) (waiting_of self.old)) }
     {
-        send(writer, &self.buffer[..self.used])?;
-        self.used = 0;
-        Ok(())
+        let sent = send_some(writer, &self.buffer[..self.used]);
+        self.remove_front(sent);
+        if self.used == 0 {
+            Ok(())
+        } else {
+            Err(OutputFailed)
+        }
+    }
+
+    // Removes the first bytes of those that wait.
+    fn remove_front(&mut self, count: usize)
+        requires { count ≤ length (waiting_of self.old) }
+        ensures waiting { waiting_of self.new ≡ drop count (waiting_of self.old) }
+        ensures left { self.new.used ≡ self.old.used - count }
+        ensures page { page_digits_of self.new ≡ page_digits_of self.old }
+    {
+        self.buffer.as_mut_slice().copy_within(count..self.used, 0);
+        self.used -= count;
     }
 
     /// Writes the lines that wait if there are many, so that there is room for another line.
@@ -172,6 +189,8 @@ impl Lines {
         ensures unfailed { OnOk result (failures_of writer.new ≡ failures_of writer.old) }
         ensures part { OnErr result (AppendsBeginning (W.contents (inner_of writer.old)) (W.contents (inner_of writer.new)) (waiting_of self.old)) }
         ensures failed { OnErr result (failures_of writer.new ≢ failures_of writer.old) }
+        ensures kept { OnErr result
+            (IsUnderWay (W.contents (inner_of writer.old)) (W.contents (inner_of writer.new)) (waiting_of self.new) (waiting_of self.old)) }
     {
         if self.used < PIECE_BYTES {
             return Ok(());

@@ -4,5 +4,6 @@ pub mod OneRead
 pub mod SurveyRows
 pub mod Statuses
 pub mod ReadBehind
+pub mod Loads
 pub mod NoCommands
 pub mod Decimals

@@ -22,6 +22,7 @@ mod streams;
 mod tables;
 mod tallies;
 mod texts;
+mod traces;
 mod turns;
 mod volumes;
 
@@ -58,5 +59,8 @@ pub use tables::{
 };
 pub use tallies::{counts_of_calls, what_a_broom_has_done};
 pub use texts::{logs_of_a_trace, texts_of_a_trace};
+pub use traces::{
+    answers_of_commands, faults_of_a_run, faults_of_a_trace, loads_of_a_trace, records_of_a_trace,
+};
 pub use turns::{a_run_by_workers, brooms_of_a_round, calls_behind_a_drain, outputs_by_workers};
 pub use volumes::{brooms_between_calls, closes_of_a_volume, holds_of_pages};

@@ -6,6 +6,7 @@ mod delivering;
 mod delivery;
 mod desk;
 mod files;
+mod laws;
 mod log;
 mod logged;
 mod many_threads;

@@ -4,13 +4,10 @@ use Rattle.std.proofs.Common.{refl, sym, subst, ap, ap₂, ◌∙◌, append_ass
 use Rattle.std.proofs.lemmas.List.{length-map, map-append, take-append-le, take_all}
 use Rattle.std.proofs.lemmas.List.Elements.{All-append, All-cons, All-nil}
 use Rattle.std.proofs.Math.Seq.{drop-append-add, drop-append_seam}
-use Rattle.std.specs.Prelude.{All, Ok, Some, slice_get, slice_index_or}
-use Rattle.geometry.specs.declared.geometry.Geometry.{Geometry}
-use Rattle.trace.proofs.RowFacts.{few_records}
+use Rattle.std.specs.Prelude.{All, Some, slice_get, slice_index_or}
 use Rattle.trace.specs.Digits.{IsData}
 use Rattle.trace.specs.Parsing.{page_len}
 use Rattle.trace.specs.Stored.{IsKept, command_at, digits_at, drafted, head_of, stored_in, with_digits}
-use Rattle.trace.specs.Trace.{AreCommands, checked, command_of, records_of}
 use Rattle.trace.specs.declared.commands.Command.{Command}
 use Rattle.trace.specs.declared.draft.Draft.{Draft}
 use Rattle.trace.specs.declared.stored.Head.{Head}
@@ -136,12 +133,3 @@ module _ (text odd digits : List ℕ) (size : ℕ) (xs : List Stored) (s : Store
 -- the number of the line behind the commands so far
 pub line_is : (text : List ℕ) (d : Draft) → length (stored_in d.stored) + 1 ≡ length (drafted text d) + 1
 line_is text d = ap (λ n. n + 1) (sym (length-map (stored_in d.stored) (command_at text d.odd.items d.page_bytes)))
-
--- there are no more commands than bytes of their text
-pub few_commands : (geo : Geometry) (text : List ℕ) (d : Draft) → AreCommands (checked geo text) (drafted text d) → length (stored_in d.stored) ≤ length text
-few_commands geo text d h =
-    let few = few_records text in
-    let records = length-map (records_of text) (command_of geo) in
-    let commands : length (drafted text d) ≡ length (stored_in d.stored) = length-map (stored_in d.stored) (command_at text d.odd.items d.page_bytes) in
-    let same : length (checked geo text) ≡ length (drafted text d) = ap length h ∙ length-map (drafted text d) Ok in
-    omega arith

@@ -3,6 +3,7 @@ pub mod CommandFacts
 pub mod CutFacts
 pub mod DigitFacts
 pub mod LaneFacts
+pub mod LawFacts
 pub mod LoadFacts
 pub mod NumberFacts
 pub mod PageFacts

@@ -1,10 +1,10 @@
 -- How the records of a text are read one by one.
-use Rattle.std.proofs.Common.{Bor, ◌≡◌, ℕ, zero, suc, ◌+◌, ◌<◌, ◌≤◌, Bool, true, false, List, [], ◌∷◌, ◌++◌, length, Option}
+use Rattle.std.proofs.Common.{Bor, ◌≡◌, ℕ, zero, suc, ◌+◌, ◌<◌, Bool, true, false, List, [], ◌∷◌, ◌++◌, length, Option}
 use Rattle.std.proofs.Common.{Some, None, Result, Ok, Err, refl, ap, subst, ◌∙◌, add-one, arith, inl}
 use Rattle.std.specs.Prelude.{◌==◌, ◌||◌, IfOk, OnOk, IsSome, MatchBool, option_map, slice_index_or, if◌then◌else◌}
 use Rattle.csv.specs.Machine.{Read, ends_at_end, field_after, fields_after, in_field, is_end, next_record, start_field, start_record, step}
-use Rattle.csv.specs.Reading.{NextIs, pending_of, ReadRecord, ReadsNext, Ready, default_config, is_bom, reader_trim}
-use Rattle.csv.specs.Reading.{records_from, records_next, strip_bom, took_first}
+use Rattle.csv.specs.Reading.{NextIs, pending_of, ReadRecord, ReadsNext, Ready, default_config, reader_trim}
+use Rattle.csv.specs.Reading.{records_from, records_next, took_first}
 use Rattle.csv.specs.Records.{field_at}
 use Rattle.csv.specs.declared.parser.Action.{Action}
 use Rattle.csv.specs.declared.parser.State.{State}
@@ -12,7 +12,6 @@ use Rattle.csv.specs.declared.parser.State.TheVariants as st
 use Rattle.csv.specs.declared.reader.Reader.{Reader}
 use Rattle.csv.specs.declared.reader.Trim.TheVariants as trim
 use Rattle.trace.specs.Rows.{IsReading, TakesNext, records_after, unread}
-use Rattle.trace.specs.Trace.{records_of}
 
 -- a field that is there
 pub field_at-some : (fields : List (List ℕ)) (i : ℕ) → i < length fields → IsSome (field_at fields i)
@@ -145,39 +144,6 @@ after-some s bytes p e q =
   where
     e' : ends_at_end p.1 ≡ false
     e' = (leaves_less s bytes p e q).between
-
--- there are no more than bytes
-few_rounds : (n : ℕ) (s : State) (bytes : List ℕ) → ends_at_end s ≡ false → length (records_from default_config n s bytes) ≤ length bytes
-unfolding records_from
-few_rounds zero s bytes e = omega arith
-few_rounds (suc n) s bytes e = by (next_record default_config s [] [] bytes) refl (few_rounds n)
-  where
-    by : (o : Option Read) → next_record default_config s [] [] bytes ≡ o
-        → ((t : State) (rest : List ℕ) → ends_at_end t ≡ false → length (records_from default_config n t rest) ≤ length rest)
-        → length (records_next (records_from default_config n) (next_record default_config s [] [] bytes)) ≤ length bytes
-    by None q more = rw q (omega arith)
-    by (Some p) q more =
-        let l = leaves_less s bytes p e q in
-        let fewer = more p.1 p.2 l.between in
-        let less = l.bytes in
-        rw q (omega arith)
-
-unmarked_no_longer : (bytes : List ℕ) → length (strip_bom bytes) ≤ length bytes
-unfolding strip_bom
-unmarked_no_longer [] = omega arith
-unmarked_no_longer (a ∷ []) = omega arith
-unmarked_no_longer (a ∷ b ∷ []) = omega arith
-unmarked_no_longer (a ∷ b ∷ c ∷ rest) = by (is_bom a b c) refl
-  where
-    by : (d : Bool) → is_bom a b c ≡ d → length (strip_bom (a ∷ b ∷ c ∷ rest)) ≤ length (a ∷ b ∷ c ∷ rest)
-    by true e = rw e (omega arith)
-    by false e = rw e (omega arith)
-
-pub few_records : (text : List ℕ) → length (records_of text) ≤ length text
-few_records text =
-    let few = few_rounds (length (strip_bom text) + 1) st.StartRecord (strip_bom text) refl in
-    let shorter = unmarked_no_longer text in
-    omega arith
 
 -- ---- the steps of a reader
 

@@ -14,3 +14,5 @@ pub mod Parsing
 pub mod Rows
 pub mod Stored
 pub mod Usual
+-- Internal: what laws name.
+pub mod Laws

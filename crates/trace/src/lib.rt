@@ -8,6 +8,7 @@ mod digits;
 mod draft;
 mod fault;
 mod lanes;
+mod laws;
 mod limits;
 mod loading;
 mod named_file;

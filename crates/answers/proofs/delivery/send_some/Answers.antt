@@ -1,0 +1,25 @@
+use Rattle.std.proofs.Common.{subst, arith, ap, drop, length, take}
+use Rattle.std.proofs.lemmas.Bool.Decides.{nat_tests}
+use Rattle.std.proofs.lemmas.List.{drop-drop, length-drop, take_rest}
+use Rattle.std.specs.Io.KnownBytes.{Appends}
+use Rattle.trace.specs.Watched.{inner_of}
+use Rattle.answers.specs.Delivery.{IsUnderWay}
+use Rattle.answers.proofs.Deliveries.{IsUnderWay-take}
+use Rattle.answers.proofs.delivery.send_some.Goals as goal
+
+pub loop-sent-preserved : goal.loop-sent-preserved
+loop-sent-preserved g c =
+    let was = g.W.Write.contents (inner_of c.args.writer.now) in
+    let now = g.W.Write.contents (inner_of c.write.new.self) in
+    let bytes = c.args.bytes.now in
+    let sent = c.loop-sent.sent in
+    let taken = c.in-Ok.taken in
+    let before = g.W.Write.contents (inner_of c.loop-sent.writer) in
+    let piece = take_rest bytes sent in
+    record {
+      within = omega (arith, c.in-Ok.ensures.bound, c.loop-sent.invariant.within, ap length piece, length-drop sent bytes);
+      moved = subst (λ waiting. IsUnderWay was now waiting bytes) (drop-drop taken sent bytes)
+          (IsUnderWay-take was before now (drop sent bytes) bytes taken c.loop-sent.invariant.moved
+          (subst (λ rest. Appends before now (take taken rest)) piece c.in-Ok.ensures.bytes));
+      unfailed = grind (arith, nat_tests, c.in-Ok.ensures.count, c.loop-sent.invariant.unfailed);
+    }
