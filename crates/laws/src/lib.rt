@@ -42,7 +42,7 @@ pub use plays::{moves_of_brooms, steps_of_brooms, steps_of_passes};
 pub use queues::{numbers_in_a_queue, numbers_put_and_taken};
 pub use reports::{names_of_faults, stops_of_a_run, texts_of_a_stock};
 pub use rules::{sights_of_a_queue, views_of_a_table};
-pub use sessions::ends_of_a_session;
+pub use sessions::{ends_of_a_session, files_of_a_session, refusals_of_files};
 pub use steps::{calls_of_brooms, holds_and_erases, steps_of_an_array};
 pub use stocks::{
     calls_of_a_stock, collections_of_a_stock, counts_of_a_stock, pages_left_in_a_stock,

@@ -2,12 +2,13 @@ ghost use Rattle.std.specs.Prelude.{◌≡◌, ℕ, List, [], Ok};
 ghost use Rattle.answers.specs.Answers.{broom_names, collection_names, end_text, totals_text};
 ghost use Rattle.geometry.specs.Geometry.{brooms_of};
 ghost use Rattle.geometry.specs.declared.geometry.Geometry.{Geometry};
-ghost use Rattle.runs.specs.Brooms.{IsBroomLogOf};
+ghost use Rattle.runs.specs.Brooms.{IsBroomLogOf, brooms_text};
 ghost use Rattle.runs.specs.Collections.{IsLogOf};
 ghost use Rattle.runs.specs.Playing.{IsTextOf};
 ghost use Rattle.runs.specs.Texts.{IsTextOf as IsSharedTextOf};
 ghost use Rattle.runs.specs.Wear.{IsWearOf};
 ghost use Rattle.trace.specs.Trace.{commands_of};
+ghost use Rattle.workers.specs.Served.{AllHaveServed};
 
 /// A trace has one text by one thread, and that of a trace without commands is known.
 pub fn texts_of_a_trace()
@@ -16,10 +17,14 @@ pub fn texts_of_a_trace()
     ensures shared { (geo : Geometry) (bytes text : List ℕ) → commands_of bytes geo ≡ Ok [] → IsSharedTextOf geo bytes text → text ≡ end_text }
 {}
 
-/// A trace has one log of collections and one wear, and the logs of a run without commands or brooms have only their names.
+/// A trace has one log of collections and one wear, and the logs of a run without commands or brooms have only their names. The brooms of a log
+/// have kept within its limit of drains by one survey.
 pub fn logs_of_a_trace()
     ensures log { (geo : Geometry) (bytes text other : List ℕ) → IsLogOf geo bytes text → IsLogOf geo bytes other → text ≡ other }
     ensures wear { (geo : Geometry) (bytes text other : List ℕ) → IsWearOf geo bytes text → IsWearOf geo bytes other → text ≡ other }
     ensures no_line { (geo : Geometry) (bytes text : List ℕ) → commands_of bytes geo ≡ Ok [] → IsLogOf geo bytes text → text ≡ collection_names }
-    ensures no_broom { (geo : Geometry) (bytes text : List ℕ) → brooms_of geo ≡ 0 → IsBroomLogOf geo bytes text → text ≡ broom_names }
+    ensures no_broom { (geo : Geometry) (drains : ℕ) (bytes text : List ℕ) → brooms_of geo ≡ 0 → IsBroomLogOf drains geo bytes text
+        → text ≡ broom_names }
+    ensures limit { (geo : Geometry) (drains : ℕ) (bytes text : List ℕ) (log : IsBroomLogOf drains geo bytes text) → AllHaveServed geo drains log.ends
+        × (text ≡ brooms_text log.ends) }
 {}

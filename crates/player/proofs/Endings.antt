@@ -22,7 +22,7 @@ use Rattle.player.specs.declared.run_files.RunFile.TheVariants as run_file
 use Rattle.player.specs.declared.stop.Stop.{Stop}
 use Rattle.player.specs.declared.stop.Stop.TheVariants as stop
 use Rattle.player.specs.Session.{Answered, AnswersClap, AreUntouched, AsksClap, EndsOn, Explains, Filing, Filings, IsDescribed, IsIdle, IsLogFor}
-use Rattle.player.specs.Session.{IsOpened, IsUntouched, LeavesFiles, LeavesLogBy, LosesFile, LosesOn, OpensFiles, PlaysOn, TellsFile}
+use Rattle.player.specs.Session.{FailsToOpen, IsOpened, IsUntouched, LeavesFiles, LeavesLogBy, LosesFile, LosesOn, OpensFiles, PlaysOn, TellsFile}
 use Rattle.player.specs.Session.{name_given, outcome_of, stop_of_open}
 
 -- what two claims come to, by how a file was written
@@ -34,15 +34,14 @@ is_some_map : {X Y : Type 0} (f : X → Y) (o : Option X) → is_some o ≡ is_s
 is_some_map f None = refl
 is_some_map f (Some x) = refl
 
-by_end : (asked : Option Text) (IsTextOf : List ℕ → List ℕ → Type 0) (input : Stream) (is_opened_as : Text → Type 0) (old new : Stream)
-    (r : Result (Unit {0}) OutputFailed)
-    → MatchOption asked ⊤ (λ name. is_opened_as name) → EndsFile (is_some asked) IsTextOf input (record { before = old; after = new }) r
-    → ByEnd r (TellsFile asked IsTextOf input (record { is_opened_as = is_opened_as; stream = record { before = old; after = new } }))
-    (LosesFile asked IsTextOf input (record { is_opened_as = is_opened_as; stream = record { before = old; after = new } }))
-by_end None IsTextOf input is_opened_as old new (Ok _) opened same = same
-by_end None IsTextOf input is_opened_as old new (Err _) opened never = absurd never
-by_end (Some name) IsTextOf input is_opened_as old new (Ok _) opened (unfailed, tells) = (opened, unfailed, tells)
-by_end (Some name) IsTextOf input is_opened_as old new (Err _) opened (failed, part) = (opened, failed, part)
+by_end : (asked : Option Text) (IsTextOf : List ℕ → List ℕ → Type 0) (input : Stream) (file : Filing) (r : Result (Unit {0}) OutputFailed)
+    → MatchOption asked ⊤ (λ name. file.is_opened_as name)
+    → EndsFile (is_some asked) IsTextOf input (record { before = file.stream.before; after = file.stream.after }) r
+    → ByEnd r (TellsFile asked IsTextOf input file) (LosesFile asked IsTextOf input file)
+by_end None IsTextOf input file (Ok _) opened same = same
+by_end None IsTextOf input file (Err _) opened never = absurd never
+by_end (Some name) IsTextOf input file (Ok _) opened (unfailed, tells) = (opened, unfailed, tells)
+by_end (Some name) IsTextOf input file (Err _) opened (failed, part) = (opened, failed, part)
 
 -- a file that was opened by its name
 pub opened_some : {X : Type 0} (f : X → Text) (o : Option X) (x : X) (file : Filing) → o ≡ Some x → file.is_opened_as (f x) → IsUntouched file
@@ -50,22 +49,21 @@ pub opened_some : {X : Type 0} (f : X → Text) (o : Option X) (x : X) (file : F
 opened_some {X} f o x file is opened same = (subst (λ (q : Option X). MatchOption (option_map f q) ⊤ (λ name. file.is_opened_as name)) (sym is) opened, same)
 
 -- a file that was opened, and then written where it is named
-pub file_ended : {X : Type 0} (f : X → Text) (o : Option X) (wanted : Bool) (IsTextOf : List ℕ → List ℕ → Type 0) (input : Stream)
-    (is_opened_as : Text → Type 0) (old mid new : Stream) (r : Result (Unit {0}) OutputFailed)
-    → IsOpened (option_map f o) (record { is_opened_as = is_opened_as; stream = record { before = old; after = mid } }) → wanted ≡ is_some o
-    → EndsFile wanted IsTextOf input (record { before = mid; after = new }) r
-    → ByEnd r (TellsFile (option_map f o) IsTextOf input (record { is_opened_as = is_opened_as; stream = record { before = old; after = new } }))
-    (LosesFile (option_map f o) IsTextOf input (record { is_opened_as = is_opened_as; stream = record { before = old; after = new } }))
-file_ended f o wanted IsTextOf input is_opened_as old mid new r (opened, same) asked ends =
-    by_end (option_map f o) IsTextOf input is_opened_as old new r opened
-    (subst (λ (s : Stream). EndsFile (is_some (option_map f o)) IsTextOf input (record { before = s; after = new }) r) same
-    (subst (λ w. EndsFile w IsTextOf input (record { before = mid; after = new }) r) (asked ∙ is_some_map f o) ends))
+pub file_ended : {X : Type 0} (f : X → Text) (o : Option X) (wanted : Bool) (IsTextOf : List ℕ → List ℕ → Type 0) (input : Stream) (file : Filing)
+    (mid : Stream) (r : Result (Unit {0}) OutputFailed)
+    → IsOpened (option_map f o) (record file { stream = record { before = file.stream.before; after = mid } }) → wanted ≡ is_some o
+    → EndsFile wanted IsTextOf input (record { before = mid; after = file.stream.after }) r
+    → ByEnd r (TellsFile (option_map f o) IsTextOf input file) (LosesFile (option_map f o) IsTextOf input file)
+file_ended f o wanted IsTextOf input file mid r (opened, same) asked ends =
+    by_end (option_map f o) IsTextOf input file r opened
+    (subst (λ (s : Stream). EndsFile (is_some (option_map f o)) IsTextOf input (record { before = s; after = file.stream.after }) r) same
+    (subst (λ w. EndsFile w IsTextOf input (record { before = mid; after = file.stream.after }) r) (asked ∙ is_some_map f o) ends))
 
 -- a run ends by how its log and its wear were written
 pub run_ended : (c w : Result (Unit {0}) OutputFailed) (geo : Geometry) (given : Options) (input output : Passage) (files : Filings)
     → PlaysOn geo given input output
-    → ByEnd c (TellsFile (name_given run_file.Collections given) (IsLogFor geo) input.before files.collections)
-    (LosesFile (name_given run_file.Collections given) (IsLogFor geo) input.before files.collections)
+    → ByEnd c (TellsFile (name_given run_file.Collections given) (IsLogFor given geo) input.before files.collections)
+    (LosesFile (name_given run_file.Collections given) (IsLogFor given geo) input.before files.collections)
     → ByEnd w (TellsFile (name_given run_file.Wear given) (IsWearOf geo) input.before files.wear)
     (LosesFile (name_given run_file.Wear given) (IsWearOf geo) input.before files.wear)
     → EndsOn (outcome_of c w) geo given input output files
@@ -104,11 +102,11 @@ not_opened (stop.Run found) geo given input output files never idle = absurd nev
 not_opened stop.Help geo given input output files never idle = absurd never
 not_opened stop.Memory geo given input output files never idle = absurd never
 not_opened (stop.File file why) geo given input output files (fault, is, asked, fails) idle =
-    subst (λ (w : FileStop). LosesOn file w geo given input output files) (sym is) (by fault)
+    subst (λ (w : FileStop). LosesOn file w geo given input output files) (sym is) (by fault fails)
   where
-    by : (f : OpenFault) → LosesOn file (stop_of_open f) geo given input output files
-    by open_fault.Refused = (asked, idle, fails)
-    by open_fault.InUse = (asked, idle, fails)
+    by : (f : OpenFault) → FailsToOpen file f given files → LosesOn file (stop_of_open f) geo given input output files
+    by open_fault.Refused failed = (asked, idle, failed)
+    by open_fault.InUse failed = (asked, idle, failed)
 
 -- what was played on the described device is the answer of the session
 abbrev answered_on : (words : List Text) (geo : Geometry) (device : IsDescribed words geo) (input output : Passage)

@@ -50,22 +50,22 @@ shared_why given geo run.Output input output some (reads, failed, part) =
     (reads, failed, shared_part (hosts_of geo) (not given.quiet) geo input.before output some part)
 
 -- and so is the log
-pub one_log : (geo : Geometry) (wanted : Bool) (input : Stream) (file : Passage) (r : Result (Unit {0}) OutputFailed) → hosts_of geo ≡ 0
-    → EndsFile wanted (IsLogOf geo) input file r → EndsFile wanted (IsLogFor geo) input file r
-one_log geo wanted input file r none ends = subst (λ h. EndsFile wanted (IsLogBy h geo) input file r) (sym none) ends
+pub one_log : (given : Options) (geo : Geometry) (wanted : Bool) (input : Stream) (file : Passage) (r : Result (Unit {0}) OutputFailed) → hosts_of geo ≡ 0
+    → EndsFile wanted (IsLogOf geo) input file r → EndsFile wanted (IsLogFor given geo) input file r
+one_log given geo wanted input file r none ends = subst (λ h. EndsFile wanted (IsLogBy h given.drains geo) input file r) (sym none) ends
 
 pub one_left : (geo : Geometry) (fault : RunFault) (wanted : Bool) (input : Stream) (file : Passage) → hosts_of geo ≡ 0
     → LeavesLog fault wanted geo input file → LeavesLogBy (hosts_of geo) fault wanted geo input file
 one_left geo fault wanted input file none left = subst (λ h. LeavesLogBy h fault wanted geo input file) (sym none) left
 
-shared_end : (hosts : ℕ) (geo : Geometry) (wanted : Bool) (input : Stream) (file : Passage) (r : Result (Unit {0}) OutputFailed) → hosts ≢ 0
-    → EndsFile wanted (IsBroomLogOf geo) input file r → EndsFile wanted (IsLogBy hosts geo) input file r
-shared_end zero geo wanted input file r some ends = absurd (some refl)
-shared_end (suc others) geo wanted input file r some ends = ends
+shared_end : (hosts drains : ℕ) (geo : Geometry) (wanted : Bool) (input : Stream) (file : Passage) (r : Result (Unit {0}) OutputFailed) → hosts ≢ 0
+    → EndsFile wanted (IsBroomLogOf drains geo) input file r → EndsFile wanted (IsLogBy hosts drains geo) input file r
+shared_end zero drains geo wanted input file r some ends = absurd (some refl)
+shared_end (suc others) drains geo wanted input file r some ends = ends
 
-pub shared_log : (geo : Geometry) (wanted : Bool) (input : Stream) (file : Passage) (r : Result (Unit {0}) OutputFailed) → hosts_of geo ≢ 0
-    → EndsFile wanted (IsBroomLogOf geo) input file r → EndsFile wanted (IsLogFor geo) input file r
-shared_log geo wanted input file r some ends = shared_end (hosts_of geo) geo wanted input file r some ends
+pub shared_log : (given : Options) (geo : Geometry) (wanted : Bool) (input : Stream) (file : Passage) (r : Result (Unit {0}) OutputFailed) → hosts_of geo ≢ 0
+    → EndsFile wanted (IsBroomLogOf given.drains geo) input file r → EndsFile wanted (IsLogFor given geo) input file r
+shared_log given geo wanted input file r some ends = shared_end (hosts_of geo) given.drains geo wanted input file r some ends
 
 pub shared_left : (hosts : ℕ) (geo : Geometry) (fault : RunFault) (wanted : Bool) (input : Stream) (file : Passage) → hosts ≢ 0
     → file.after ≡ file.before → LeavesLogBy hosts fault wanted geo input file

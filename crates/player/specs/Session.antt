@@ -95,14 +95,15 @@ IsTextBy (suc others) answers geo bytes text = IsOutputByWorkers answers geo byt
 abbrev pub IsTextFor : Options → Geometry → List ℕ → List ℕ → Type 0
 IsTextFor given geo bytes text = IsTextBy (hosts_of geo) (not given.quiet) geo bytes text
 
--- the log of a run by this many workers: with no worker it lists the collections, and otherwise what each broom has done
-abbrev pub IsLogBy : ℕ → Geometry → List ℕ → List ℕ → Type 0
-IsLogBy zero geo bytes text = IsLogOf geo bytes text
-IsLogBy (suc others) geo bytes text = IsBroomLogOf geo bytes text
+-- the log of a run by this many workers: with no worker it lists the collections, and otherwise what each broom has done within this limit of
+-- drains by one survey
+abbrev pub IsLogBy : ℕ → ℕ → Geometry → List ℕ → List ℕ → Type 0
+IsLogBy zero drains geo bytes text = IsLogOf geo bytes text
+IsLogBy (suc others) drains geo bytes text = IsBroomLogOf drains geo bytes text
 
--- the log of a run on this device, by a worker for each of its hosts
-abbrev pub IsLogFor : Geometry → List ℕ → List ℕ → Type 0
-IsLogFor geo bytes text = IsLogBy (hosts_of geo) geo bytes text
+-- the log of a run on this device, by a worker for each of its hosts, with the drains by one survey that the options give
+abbrev pub IsLogFor : Options → Geometry → List ℕ → List ℕ → Type 0
+IsLogFor given geo bytes text = IsLogBy (hosts_of geo) given.drains geo bytes text
 
 -- what a run by this many workers that stopped leaves in the file of its log: by workers nothing
 abbrev pub LeavesLogBy : ℕ → RunFault → Bool → Geometry → Stream → Passage → Type 0
@@ -124,9 +125,14 @@ pub record IsOpenedAs {F : Type 0} (name_in : F → Option Text) (contents : F �
   pub named : IfSome (name_in (inner_of opened)) (λ known. known ≡ name)
   pub untouched : stream_of contents opened ≡ stream_of contents old
 
--- What a clause sees of a file over a session: by which name it was opened, and its stream before and after
+-- a file was not opened for this reason, if the reason is known
+abbrev pub IsRefusedAs : {F : Type 0} → (F → Option OpenFault) → Watched F → OpenFault → Type 0
+IsRefusedAs fault_in new fault = IfSome (fault_in (inner_of new)) (λ known. known ≡ fault)
+
+-- What a clause sees of a file over a session: by which name it was opened, why it was not, and its stream before and after
 pub record Filing : Type 1 where
   pub is_opened_as : Text → Type 0
+  pub is_refused_as : OpenFault → Type 0
   pub stream : Passage
 
 -- What a clause sees of the files that a run writes in addition to its answers
@@ -134,15 +140,19 @@ pub record Filings : Type 1 where
   pub wear : Filing
   pub collections : Filing
 
--- a file over a session, with the functions that give its name and its bytes
-abbrev pub filing : {F : Type 0} → (F → Option Text) → (F → Option (List ℕ)) → Watched F → Watched F → Filing
-filing name_in contents old new = record { is_opened_as = IsOpenedAs name_in contents old; stream = over contents old new }
+-- a file over a session, with the functions that give its name, why it was not opened, and its bytes
+abbrev pub filing : {F : Type 0} → (F → Option Text) → (F → Option OpenFault) → (F → Option (List ℕ)) → Watched F → Watched F → Filing
+filing name_in fault_in contents old new = record {
+  is_opened_as = IsOpenedAs name_in contents old;
+  is_refused_as = IsRefusedAs fault_in new;
+  stream = over contents old new;
+}
 
 -- the files of a run over a session
-abbrev pub filings : {F : Type 0} → (F → Option Text) → (F → Option (List ℕ)) → RunFiles F → RunFiles F → Filings
-filings name_in contents old new = record {
-  wear = filing name_in contents old.wear new.wear;
-  collections = filing name_in contents old.collections new.collections;
+abbrev pub filings : {F : Type 0} → (F → Option Text) → (F → Option OpenFault) → (F → Option (List ℕ)) → RunFiles F → RunFiles F → Filings
+filings name_in fault_in contents old new = record {
+  wear = filing name_in fault_in contents old.wear new.wear;
+  collections = filing name_in fault_in contents old.collections new.collections;
 }
 
 -- nothing was written to a file, and no call of it failed
@@ -153,9 +163,10 @@ IsUntouched file = file.stream.after ≡ file.stream.before
 abbrev pub AreUntouched : Filings → Type 0
 AreUntouched files = IsUntouched files.wear × IsUntouched files.collections
 
--- nothing was written to a file, but a call of it failed
-abbrev pub HasFailedToOpen : Passage → Type 0
-HasFailedToOpen stream = (stream.after.bytes ≡ stream.before.bytes) × (stream.after.failures ≢ stream.before.failures)
+-- a file was not opened, for this reason: nothing was written to it, but a call of it failed
+abbrev pub HasFailedToOpen : OpenFault → Filing → Type 0
+HasFailedToOpen fault file =
+    file.is_refused_as fault × (file.stream.after.bytes ≡ file.stream.before.bytes) × (file.stream.after.failures ≢ file.stream.before.failures)
 
 -- the name that the options give to a file, if they give one
 abbrev pub name_given : RunFile → Options → Option Text
@@ -166,11 +177,12 @@ name_given run_file.Collections given = option_map (λ name. name.now) given.col
 abbrev pub IsOpened : Option Text → Filing → Type 0
 IsOpened asked file = MatchOption asked ⊤ (λ name. file.is_opened_as name) × IsUntouched file
 
--- one of the files could not be opened: the wear, and the other is untouched, or the collections, after the wear was opened if the options name it
-abbrev pub FailsToOpen : RunFile → Options → Filings → Type 0
-FailsToOpen run_file.Wear given files = HasFailedToOpen files.wear.stream × IsUntouched files.collections
-FailsToOpen run_file.Collections given files =
-    HasFailedToOpen files.collections.stream × IsOpened (name_given run_file.Wear given) files.wear
+-- one of the files was not opened, for this reason: the wear, and the other is untouched, or the collections, after the wear was opened if the
+-- options name it
+abbrev pub FailsToOpen : RunFile → OpenFault → Options → Filings → Type 0
+FailsToOpen run_file.Wear fault given files = HasFailedToOpen fault files.wear × IsUntouched files.collections
+FailsToOpen run_file.Collections fault given files =
+    HasFailedToOpen fault files.collections × IsOpened (name_given run_file.Wear given) files.wear
 
 -- a file is written if the options name it: it was opened by that name, what was written to it is right for the bytes of the trace, and no
 -- call failed. Otherwise nothing is written
@@ -189,15 +201,15 @@ LosesFile asked IsTextOf input file =
 -- what the brooms have done
 pub record TellsFiles (geo : Geometry) (given : Options) (input : Stream) (files : Filings) : Type 0 where
   pub wear : TellsFile (name_given run_file.Wear given) (IsWearOf geo) input files.wear
-  pub collections : TellsFile (name_given run_file.Collections given) (IsLogFor geo) input files.collections
+  pub collections : TellsFile (name_given run_file.Collections given) (IsLogFor given geo) input files.collections
 
 -- this file failed as it was written. If both did it is the log, which is written first
 abbrev pub LosesOne : RunFile → Geometry → Options → Stream → Filings → Type 0
 LosesOne run_file.Wear geo given input files =
     LosesFile (name_given run_file.Wear given) (IsWearOf geo) input files.wear
-    × TellsFile (name_given run_file.Collections given) (IsLogFor geo) input files.collections
+    × TellsFile (name_given run_file.Collections given) (IsLogFor given geo) input files.collections
 LosesOne run_file.Collections geo given input files =
-    LosesFile (name_given run_file.Collections given) (IsLogFor geo) input files.collections
+    LosesFile (name_given run_file.Collections given) (IsLogFor given geo) input files.collections
     × (TellsFile (name_given run_file.Wear given) (IsWearOf geo) input files.wear
     ⊎ LosesFile (name_given run_file.Wear given) (IsWearOf geo) input files.wear)
 
@@ -238,8 +250,10 @@ pub record PlaysOn (geo : Geometry) (given : Options) (input output : Passage) :
 abbrev pub LosesOn : RunFile → FileStop → Geometry → Options → Passage → Passage → Filings → Type 0
 LosesOn file file_stop.NotWithWorkers geo given input output files =
     (hosts_of geo ≢ 0) × (file ≡ run_file.Wear) × (is_some (name_given file given) ≡ true) × IsIdle input output × AreUntouched files
-LosesOn file file_stop.NotOpened geo given input output files = (is_some (name_given file given) ≡ true) × IsIdle input output × FailsToOpen file given files
-LosesOn file file_stop.NotItsOwn geo given input output files = (is_some (name_given file given) ≡ true) × IsIdle input output × FailsToOpen file given files
+LosesOn file file_stop.NotOpened geo given input output files =
+    (is_some (name_given file given) ≡ true) × IsIdle input output × FailsToOpen file open_fault.Refused given files
+LosesOn file file_stop.NotItsOwn geo given input output files =
+    (is_some (name_given file given) ≡ true) × IsIdle input output × FailsToOpen file open_fault.InUse given files
 LosesOn file file_stop.Failed geo given input output files =
     PlaysOn geo given input output × LosesOne file geo given input.before files
 
@@ -265,7 +279,7 @@ OpensFiles (Err (stop.Run found)) given files = ⊥
 OpensFiles (Err stop.Help) given files = ⊥
 OpensFiles (Err stop.Memory) given files = ⊥
 OpensFiles (Err (stop.File file why)) given files =
-    (fault : OpenFault) × (why ≡ stop_of_open fault) × (is_some (name_given file given) ≡ true) × FailsToOpen file given files
+    (fault : OpenFault) × (why ≡ stop_of_open fault) × (is_some (name_given file given) ≡ true) × FailsToOpen file fault given files
 
 -- how a run ends by how its log and its wear were written: the first one that failed is reported
 abbrev pub outcome_of : Result (Unit {0}) OutputFailed → Result (Unit {0}) OutputFailed → Result (Unit {0}) Stop
@@ -300,14 +314,15 @@ pub record AppendsSome (output : Passage) : Type 0 where
   pub part : SendsBeginning output text
   pub failed : output.after.failures ≢ output.before.failures
 
--- why a file of a run was not written: it is the wear and workers are asked for, it was not opened, or it failed as it was written
+-- why a file of a run was not written: it is the wear and workers are asked for, the system did not open it, it is in use by the run, or it failed
+-- as it was written
 abbrev pub ExplainsFile : RunFile → FileStop → List Text → Passage → Passage → Filings → Type 0
 ExplainsFile file file_stop.NotWithWorkers words input output files =
     (file ≡ run_file.Wear) × ((named : NamesFile words file) × (hosts_of named.geo ≢ 0)) × IsIdle input output × AreUntouched files
 ExplainsFile file file_stop.NotOpened words input output files =
-    ((named : NamesFile words file) × FailsToOpen file named.device.given files) × IsIdle input output
+    ((named : NamesFile words file) × FailsToOpen file open_fault.Refused named.device.given files) × IsIdle input output
 ExplainsFile file file_stop.NotItsOwn words input output files =
-    ((named : NamesFile words file) × FailsToOpen file named.device.given files) × IsIdle input output
+    ((named : NamesFile words file) × FailsToOpen file open_fault.InUse named.device.given files) × IsIdle input output
 ExplainsFile file file_stop.Failed words input output files = Lost file words input output files
 
 -- clap finds a fault in the words, which asks neither for help nor for the version

@@ -47,7 +47,7 @@ pub fn session<'a, T: Threads + Wait + Clock + Sync, R: Read, W: Write, E: Write
         (over R.remaining reader.old reader.new)
         (over W.contents writer.old writer.new)
         (over E.contents errors.old errors.new)
-        (filings F.opened_as F.contents files.old files.new) }
+        (filings F.opened_as F.refused_as F.contents files.old files.new) }
 
     // A session that ends well writes nothing there.
     ensures quiet { result ≡ 0 → stream_of E.contents errors.new ≡ stream_of E.contents errors.old }
@@ -70,7 +70,7 @@ fn attempt<'a, T: Threads + Wait + Clock + Sync, R: Read, W: Write, F: NamedFile
     ensures { Explains result (map (λ w. w.now) words.entry.now)
         (over R.remaining reader.old reader.new)
         (over W.contents writer.old writer.new)
-        (filings F.opened_as F.contents files.old files.new) }
+        (filings F.opened_as F.refused_as F.contents files.old files.new) }
 {
     let given = match options(alloc, words) {
         Ok(given) => given,
@@ -99,7 +99,7 @@ fn play_alone<R: Read, W: Write, F: NamedFile>(
     ensures { EndsOn result geometry.now given.entry
         (over R.remaining reader.old reader.new)
         (over W.contents writer.old writer.new)
-        (filings F.opened_as F.contents files.old files.new) }
+        (filings F.opened_as F.refused_as F.contents files.old files.new) }
 {
     if let Err(stop) = open_files(given, files) {
         return Err(stop);
@@ -130,7 +130,7 @@ fn play_shared<T: Threads + Wait + Clock + Sync, R: Read, W: Write, F: NamedFile
     ensures { EndsOn result geometry.now given.entry
         (over R.remaining reader.old reader.new)
         (over W.contents writer.old writer.new)
-        (filings F.opened_as F.contents files.old files.new) }
+        (filings F.opened_as F.refused_as F.contents files.old files.new) }
 {
     if given.wear.is_some() {
         return Err(Stop::File(RunFile::Wear, FileStop::NotWithWorkers));
@@ -162,7 +162,7 @@ fn play_shared<T: Threads + Wait + Clock + Sync, R: Read, W: Write, F: NamedFile
 
 // Opens the files that the options name.
 fn open_files<F: NamedFile>(given: Options<'_>, files: &mut RunFiles<F>) -> Result<(), Stop>
-    ensures { OpensFiles result given.entry (filings F.opened_as F.contents files.old files.new) }
+    ensures { OpensFiles result given.entry (filings F.opened_as F.refused_as F.contents files.old files.new) }
 {
     if let Err(why) = open_file(given.wear, &mut files.wear) {
         return Err(Stop::File(RunFile::Wear, why));
@@ -175,10 +175,10 @@ fn open_files<F: NamedFile>(given: Options<'_>, files: &mut RunFiles<F>) -> Resu
 
 // Opens a file, if it is named.
 fn open_file<F: NamedFile>(name: Option<&str>, file: &mut Watched<F>) -> Result<(), FileStop>
-    ensures opened { OnOk result (IsOpened (option_map (λ n. n.now) name.entry) (filing F.opened_as F.contents file.old file.new)) }
-    ensures why { IfErr result (λ why. (fault : OpenFault) × (why ≡ stop_of_open fault)) }
+    ensures opened { OnOk result (IsOpened (option_map (λ n. n.now) name.entry) (filing F.opened_as F.refused_as F.contents file.old file.new)) }
     ensures asked { OnErr result (is_some (option_map (λ n. n.now) name.entry) ≡ true) }
-    ensures unopened { OnErr result (HasFailedToOpen (over F.contents file.old file.new)) }
+    ensures unopened { IfErr result (λ why. (fault : OpenFault) × (why ≡ stop_of_open fault)
+        × HasFailedToOpen fault (filing F.opened_as F.refused_as F.contents file.old file.new)) }
 {
     let Some(name) = name else {
         return Ok(());

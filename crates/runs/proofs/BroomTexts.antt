@@ -52,7 +52,7 @@ brooms_turn ends n end old new newer waiting later last low is under moved adds 
 -- the log of the commands that the bytes mean
 pub brooms_right : (geo : Geometry) (input : Option (List ℕ)) (commands : List Command) (drains : ℕ) (ends : List CollectorEnd)
     → IfSome input (λ bytes. commands_of bytes geo ≡ Ok commands) → AllHaveServed geo drains ends
-    → IfSome input (λ bytes. IsBroomLogOf geo bytes (brooms_text ends))
+    → IfSome input (λ bytes. IsBroomLogOf drains geo bytes (brooms_text ends))
 brooms_right geo None commands drains ends means served = tt
 brooms_right geo (Some bytes) commands drains ends means served =
-    record { commands = commands; meaning = means; ends = ends; drains = drains; served = served; log = refl }
+    record { commands = commands; meaning = means; ends = ends; served = served; log = refl }

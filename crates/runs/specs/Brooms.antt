@@ -43,12 +43,11 @@ brooms_before ends n = broom_names ++ flat_map (line_of_broom ends) (range_with_
 abbrev pub brooms_text : List CollectorEnd → List ℕ
 brooms_text ends = brooms_before ends (length ends)
 
--- The log of a run by workers of the commands that these bytes mean: each line has the counts of the broom of its number, which are what
--- that broom knows to have done, within some limit of drains by one survey
-pub record IsBroomLogOf (geo : Geometry) (bytes text : List ℕ) : Type 0 where
+-- The log of a run by workers of the commands that these bytes mean, with this limit of drains by one survey: each line has the counts of the
+-- broom of its number, which are what that broom knows to have done within the limit
+pub record IsBroomLogOf (drains : ℕ) (geo : Geometry) (bytes text : List ℕ) : Type 0 where
   pub commands : List Command
   pub meaning : commands_of bytes geo ≡ Ok commands
   pub ends : List CollectorEnd
-  pub drains : ℕ
   pub served : AllHaveServed geo drains ends
   pub log : text ≡ brooms_text ends

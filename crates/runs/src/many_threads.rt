@@ -101,7 +101,7 @@ fn run_logged<T: Threads + Wait + Clock + Sync, R: Read, W: Write, V: Write, G: 
     ensures played { IfOk result
         (WasPlayed geometry.now drains wanted (stream_of R.remaining reader.old) (over W.contents writer.old writer.new) (over V.contents file.old file.new)) }
     ensures log { IfOk result
-        (λ run. EndsFile wanted.log (IsBroomLogOf geometry.now) (stream_of R.remaining reader.old) (over V.contents file.old file.new) run.log) }
+        (λ run. EndsFile wanted.log (IsBroomLogOf drains geometry.now) (stream_of R.remaining reader.old) (over V.contents file.old file.new) run.log) }
     ensures why { IfErr result
         (ExplainsRun (IsOutputByWorkers wanted.answers) geometry.now (over R.remaining reader.old reader.new) (over W.contents writer.old writer.new)) }
     ensures no_log { OnErr result (stream_of V.contents file.new ≡ stream_of V.contents file.old) }
@@ -158,9 +158,9 @@ pub fn run_by_workers<T: Threads + Wait + Clock + Sync, R: Read, W: Write, V: Wr
     ensures played { IfOk result
         (WasPlayed geometry.now drains wanted (stream_of R.remaining reader.old) (over W.contents writer.old writer.new) (over V.contents file.old file.new)) }
 
-    // The log has the counts of each broom. If its writer failed, a beginning was written.
+    // The log has the counts of each broom, within this limit of drains by one survey. If its writer failed, a beginning was written.
     ensures log { IfOk result
-        (λ run. EndsFile wanted.log (IsBroomLogOf geometry.now) (stream_of R.remaining reader.old) (over V.contents file.old file.new) run.log) }
+        (λ run. EndsFile wanted.log (IsBroomLogOf drains geometry.now) (stream_of R.remaining reader.old) (over V.contents file.old file.new) run.log) }
 
     // After a fault of the run no log was written.
     ensures why { IfErr result

@@ -34,7 +34,7 @@ fn files_are_written_whole_in_pieces_of_any_size(rt: HostRuntime) -> Result<(), 
 }
 
 // Arguments of files that take no byte or can't be opened; the status, the output, what is reported, and what the files hold.
-const REFUSED: [(&str, u8, &str, &str, &str, &str); 7] = [
+const REFUSED: [(&str, u8, &str, &str, &str, &str); 9] = [
     (
         "--wear=wear.csv",
         1,
@@ -65,6 +65,22 @@ const REFUSED: [(&str, u8, &str, &str, &str, &str); 7] = [
         1,
         "",
         "collections: not opened\n",
+        "wear.csv\n",
+        "",
+    ),
+    (
+        "--wear=in-use --collections=log.csv",
+        2,
+        "",
+        "wear: not a file of its own\n",
+        "",
+        "",
+    ),
+    (
+        "--wear=wear.csv --collections=in-use",
+        2,
+        "",
+        "collections: not a file of its own\n",
         "wear.csv\n",
         "",
     ),

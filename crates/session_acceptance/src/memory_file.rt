@@ -9,20 +9,35 @@ pub(crate) struct MemoryFile {
     pub text: Vec<u8>,
     /// How many bytes it takes at each write.
     pub most: usize,
+    /// Why it could not be opened.
+    pub refusal: Option<OpenFault>,
+}
+
+impl MemoryFile {
+    // Takes a name, if it isn't one of the two that can't be opened.
+    fn take_name(&mut self, name: &str) -> Result<(), OpenFault> {
+        if name == "refused" {
+            return Err(OpenFault::Refused);
+        }
+        if name == "in-use" {
+            return Err(OpenFault::InUse);
+        }
+        for part in [name.as_bytes(), b"\n".as_slice()] {
+            if self.text.extend_from_slice(part).is_err() {
+                return Err(OpenFault::Refused);
+            }
+        }
+        Ok(())
+    }
 }
 
 impl NamedFile for MemoryFile {
+    ghost refused_as = { λ file. file.refusal };
+
     fn open(&mut self, name: &str) -> Result<(), OpenFault> {
-        if name == "refused" || self.text.extend_from_slice(name.as_bytes()).is_err() {
-            return Err(OpenFault::Refused);
-        }
-        if name == "in use" {
-            return Err(OpenFault::InUse);
-        }
-        match self.text.extend_from_slice(b"\n") {
-            Ok(()) => Ok(()),
-            Err(_) => Err(OpenFault::Refused),
-        }
+        let result = self.take_name(name);
+        self.refusal = result.err();
+        result
     }
 }
 

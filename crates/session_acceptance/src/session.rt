@@ -31,6 +31,7 @@ fn file(alloc: Global, most: usize) -> Watched<MemoryFile> {
     Watched::new(MemoryFile {
         text: Vec::new(alloc),
         most,
+        refusal: None,
     })
 }
 

@@ -1,4 +1,4 @@
-ghost use Rattle.std.specs.Prelude.{◌≡◌, IfSome, OnOk};
+ghost use Rattle.std.specs.Prelude.{◌≡◌, IfErr, IfSome, OnOk};
 ghost use Rattle.std.specs.Io.{ReadsAtMost, WritesAtMost};
 ghost use Rattle.std.specs.Io.KnownBytes.{Keeps, ReadConsumes, WriteAppends};
 ghost use Rattle.trace.specs.Watched.{after_call, after_write, failures_of, inner_of, one_more};
@@ -101,9 +101,12 @@ impl<W: Write> Write for Watched<W> {
 impl<F: NamedFile> NamedFile for Watched<F> {
     ghost opened_as = { λ w. F.opened_as (inner_of w) };
 
+    ghost refused_as = { λ w. F.refused_as (inner_of w) };
+
     fn open(&mut self, name: &str) -> Result<(), OpenFault>
         ensures bytes { F.contents (inner_of self.new) ≡ F.contents (inner_of self.old) }
         ensures opened { OnOk result (IfSome (F.opened_as (inner_of self.new)) (λ known. known ≡ name.now)) }
+        ensures refused { IfErr result (λ fault. IfSome (F.refused_as (inner_of self.new)) (λ known. known ≡ fault)) }
         ensures count { failures_of self.new ≡ after_call (failures_of self.old) result }
     {
         let result = self.inner.open(name);

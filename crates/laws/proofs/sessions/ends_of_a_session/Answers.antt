@@ -53,19 +53,19 @@ no_other s (Ok done) status = omega (arith, status)
 no_other s (Err why) status = let h = of_stop why in omega (arith, status, h.few)
 
 pub returns-clause-quiet : goal.returns-clause-quiet
-returns-clause-quiet c words i o e (n, b, x, y, h) = (well h.ending words i o e (filings n b x y) h.status_is h.why h.told).0
+returns-clause-quiet c words i o e (n, r, b, x, y, h) = (well h.ending words i o e (filings n r b x y) h.status_is h.why h.told).0
 
 pub returns-clause-well : goal.returns-clause-well
-returns-clause-well c words i o e (n, b, x, y, h) = (well h.ending words i o e (filings n b x y) h.status_is h.why h.told).1
+returns-clause-well c words i o e (n, r, b, x, y, h) = (well h.ending words i o e (filings n r b x y) h.status_is h.why h.told).1
 
 pub returns-clause-words : goal.returns-clause-words
-returns-clause-words c words i o e (n, b, x, y, h) = by_words h.ending words i o (filings n b x y) h.status_is h.why
+returns-clause-words c words i o e (n, r, b, x, y, h) = by_words h.ending words i o (filings n r b x y) h.status_is h.why
 
 pub returns-clause-trace : goal.returns-clause-trace
-returns-clause-trace c words i o e (n, b, x, y, h) = by_trace h.ending words i o (filings n b x y) h.status_is h.why
+returns-clause-trace c words i o e (n, r, b, x, y, h) = by_trace h.ending words i o (filings n r b x y) h.status_is h.why
 
 pub returns-clause-told : goal.returns-clause-told
 returns-clause-told c e h unfailed = h.whole unfailed
 
 pub returns-clause-other : goal.returns-clause-other
-returns-clause-other c s words i o e (n, b, x, y, h) = no_other s h.ending h.status_is
+returns-clause-other c s words i o e (n, r, b, x, y, h) = no_other s h.ending h.status_is

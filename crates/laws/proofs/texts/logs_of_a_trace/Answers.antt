@@ -25,8 +25,11 @@ returns-clause-wear c geo bytes text other a b =
     a.wear ∙ (ap (λ (cs : List Command). wear_text geo (stock_before geo cs (length cs))) same ∙ sym b.wear)
 
 pub returns-clause-no_broom : goal.returns-clause-no_broom
-returns-clause-no_broom c geo bytes text none h = h.log ∙ ap brooms_text (none_in h.ends (h.served.count ∙ none))
+returns-clause-no_broom c geo drains bytes text none h = h.log ∙ ap brooms_text (none_in h.ends (h.served.count ∙ none))
 
 pub returns-clause-no_line : goal.returns-clause-no_line
 returns-clause-no_line c geo bytes text none h =
     h.log ∙ (ap (log_text geo) (none_meant (commands_of bytes geo) h.commands none h.meaning) ∙ append-nil collection_names)
+
+pub returns-clause-limit : goal.returns-clause-limit
+returns-clause-limit c geo drains bytes text log = (log.served, log.log)

@@ -10,7 +10,7 @@ returns-in-0 g c =
     (record { accepted = c.in-Ok.ensures.outcome; given = c.in-Ok.given; told = c.in-Ok.ensures.numbers; numbers = c.in-Ok-device.ensures.numbers })
     (over g.R.Read.remaining c.args.reader.now c.play_alone.new.reader)
     (over g.W.Write.contents c.args.writer.now c.play_alone.new.writer)
-    (filings g.F.NamedFile.opened_as g.F.Write.contents c.args.files.now c.play_alone.new.files)
+    (filings g.F.NamedFile.opened_as g.F.NamedFile.refused_as g.F.Write.contents c.args.files.now c.play_alone.new.files)
     c.play_alone.result c.play_alone.ensures
 
 pub returns-in_default : goal.returns-in_default
@@ -19,7 +19,7 @@ returns-in_default g c =
     (record { accepted = c.in-Ok.ensures.outcome; given = c.in-Ok.given; told = c.in-Ok.ensures.numbers; numbers = c.in-Ok-device.ensures.numbers })
     (over g.R.Read.remaining c.args.reader.now c.play_shared.new.reader)
     (over g.W.Write.contents c.args.writer.now c.play_shared.new.writer)
-    (filings g.F.NamedFile.opened_as g.F.Write.contents c.args.files.now c.play_shared.new.files)
+    (filings g.F.NamedFile.opened_as g.F.NamedFile.refused_as g.F.Write.contents c.args.files.now c.play_shared.new.files)
     c.play_shared.result c.play_shared.ensures
 
 pub returns-in-Err-device : goal.returns-in-Err-device
@@ -34,5 +34,5 @@ returns-in-Err g c =
     from_refusal _ c.in-Err.error
     (over g.R.Read.remaining c.args.reader.now c.args.reader.now)
     (over g.W.Write.contents c.args.writer.now c.refuse.new.writer)
-    (filings g.F.NamedFile.opened_as g.F.Write.contents c.args.files.now c.args.files.now)
+    (filings g.F.NamedFile.opened_as g.F.NamedFile.refused_as g.F.Write.contents c.args.files.now c.args.files.now)
     c.in-Err.ensures.outcome refl (refl, refl) c.refuse.result c.refuse.ensures

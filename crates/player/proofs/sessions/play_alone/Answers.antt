@@ -2,7 +2,7 @@ use Rattle.std.proofs.Common.{refl, subst, sym}
 use Rattle.std.specs.Prelude.{Result}
 use Rattle.answers.specs.Streams.{over, stream_of}
 use Rattle.runs.specs.Wear.{IsWearOf}
-use Rattle.player.specs.Session.{EndsOn, IsLogFor, IsOpenedAs, filings}
+use Rattle.player.specs.Session.{EndsOn, IsLogFor, filings}
 use Rattle.player.specs.declared.stop.Stop.{Stop}
 use Rattle.player.proofs.Endings.{file_ended, files_left, not_opened, run_ended}
 use Rattle.player.proofs.RunTexts.{one_left, one_log, one_text, one_why}
@@ -13,7 +13,7 @@ returns-in-Err g c =
     not_opened c.in-Err.stop c.args.geometry.now c.args.given
     (over g.R.Read.remaining c.args.reader.now c.args.reader.now)
     (over g.W.Write.contents c.args.writer.now c.args.writer.now)
-    (filings g.F.NamedFile.opened_as g.F.Write.contents c.args.files.now c.open_files.new.files)
+    (filings g.F.NamedFile.opened_as g.F.NamedFile.refused_as g.F.Write.contents c.args.files.now c.open_files.new.files)
     c.in-Err.ensures (refl, refl)
 
 pub returns-in-Ok : goal.returns-in-Ok
@@ -25,17 +25,16 @@ returns-in-Ok g c =
     let start = stream_of g.R.Read.remaining c.args.reader.now in
     let input = over g.R.Read.remaining c.args.reader.now c.run_with_files.new.reader in
     let output = over g.W.Write.contents c.args.writer.now c.run_with_files.new.writer in
-    let files = filings g.F.NamedFile.opened_as g.F.Write.contents c.args.files.now c.run_with_files.new.files in
+    let files = filings g.F.NamedFile.opened_as g.F.NamedFile.refused_as g.F.Write.contents c.args.files.now c.run_with_files.new.files in
     let stream = stream_of g.F.Write.contents in
-    let old = c.args.files.now in
     let mid = c.open_files.new.files in
     let new = c.run_with_files.new.files in
-    let log = file_ended (λ n. n.now) given.collections c.is_some.result (IsLogFor geo) start
-    (IsOpenedAs g.F.NamedFile.opened_as g.F.Write.contents old.collections)
-    (stream old.collections) (stream mid.collections) (stream new.collections) c.in-Ok.written.collections opens.1 c.is_some.ensures
-    (one_log geo c.is_some.result start (over g.F.Write.contents mid.collections new.collections) c.in-Ok.written.collections c.requires told.collections) in
-    let wear = file_ended (λ n. n.now) given.wear c.is_some-2.result (IsWearOf geo) start (IsOpenedAs g.F.NamedFile.opened_as g.F.Write.contents old.wear)
-    (stream old.wear) (stream mid.wear) (stream new.wear) c.in-Ok.written.wear opens.0 c.is_some-2.ensures told.wear in
+    let log = file_ended (λ n. n.now) given.collections c.is_some.result (IsLogFor given geo) start files.collections (stream mid.collections)
+    c.in-Ok.written.collections opens.1 c.is_some.ensures
+    (one_log given geo c.is_some.result start (over g.F.Write.contents mid.collections new.collections) c.in-Ok.written.collections c.requires
+    told.collections) in
+    let wear = file_ended (λ n. n.now) given.wear c.is_some-2.result (IsWearOf geo) start files.wear (stream mid.wear)
+    c.in-Ok.written.wear opens.0 c.is_some-2.ensures told.wear in
     subst (λ (r : Result (Unit {0}) Stop). EndsOn r geo given input output files) (sym c.outcome.ensures)
     (run_ended c.in-Ok.written.collections c.in-Ok.written.wear geo given input output files
     (record {
@@ -60,7 +59,7 @@ returns-in-Err-run_with_files g c =
           (over g.W.Write.contents c.args.writer.now c.run_with_files.new.writer)
           c.requires told.why,
       files_left fault c.is_some.result geo given (stream_of g.R.Read.remaining c.args.reader.now)
-          (filings g.F.NamedFile.opened_as g.F.Write.contents c.args.files.now c.run_with_files.new.files)
+          (filings g.F.NamedFile.opened_as g.F.NamedFile.refused_as g.F.Write.contents c.args.files.now c.run_with_files.new.files)
           (stream mid.wear) (stream mid.collections) opens.0.1 opens.1.1 c.is_some.ensures told.no_wear
           (one_left geo fault c.is_some.result (stream_of g.R.Read.remaining c.args.reader.now)
           (over g.F.Write.contents mid.collections c.run_with_files.new.files.collections) c.requires told.log_left),

@@ -3,7 +3,7 @@ use Rattle.std.specs.Prelude.{Ok, Result, not}
 use Rattle.answers.specs.Streams.{over, stream_of}
 use Rattle.geometry.specs.Geometry.{hosts_of}
 use Rattle.runs.specs.Wear.{IsWearOf}
-use Rattle.player.specs.Session.{EndsOn, IsLogFor, IsOpenedAs, filings}
+use Rattle.player.specs.Session.{EndsOn, IsLogFor, filings}
 use Rattle.player.specs.declared.stop.Stop.{Stop}
 use Rattle.player.proofs.Endings.{file_ended, files_left, is_named, not_opened, run_ended, unnamed}
 use Rattle.player.proofs.RunTexts.{shared_left, shared_log, shared_text, shared_why}
@@ -18,7 +18,7 @@ returns-in-Err g c =
     not_opened c.in-Err.stop c.args.geometry.now c.args.given
     (over g.R.Read.remaining c.args.reader.now c.args.reader.now)
     (over g.W.Write.contents c.args.writer.now c.args.writer.now)
-    (filings g.F.NamedFile.opened_as g.F.Write.contents c.args.files.now c.open_files.new.files)
+    (filings g.F.NamedFile.opened_as g.F.NamedFile.refused_as g.F.Write.contents c.args.files.now c.open_files.new.files)
     c.in-Err.ensures (refl, refl)
 
 pub returns-in-Ok : goal.returns-in-Ok
@@ -31,14 +31,12 @@ returns-in-Ok g c =
     let input = over g.R.Read.remaining c.args.reader.now c.run_by_workers.new.reader in
     let output = over g.W.Write.contents c.args.writer.now c.run_by_workers.new.writer in
     let stream = stream_of g.F.Write.contents in
-    let old = c.args.files.now in
     let mid = c.open_files.new.files in
     let new = record mid { collections = c.run_by_workers.new.file } in
-    let files = filings g.F.NamedFile.opened_as g.F.Write.contents old new in
-    let log = file_ended (λ n. n.now) given.collections c.is_some-2.result (IsLogFor geo) start
-    (IsOpenedAs g.F.NamedFile.opened_as g.F.Write.contents old.collections)
-    (stream old.collections) (stream mid.collections) (stream new.collections) c.in-Ok.played.log opens.1 c.is_some-2.ensures
-    (shared_log geo c.is_some-2.result start (over g.F.Write.contents mid.collections new.collections) c.in-Ok.played.log c.requires told.log) in
+    let files = filings g.F.NamedFile.opened_as g.F.NamedFile.refused_as g.F.Write.contents c.args.files.now new in
+    let log = file_ended (λ n. n.now) given.collections c.is_some-2.result (IsLogFor given geo) start files.collections (stream mid.collections)
+    c.in-Ok.played.log opens.1 c.is_some-2.ensures
+    (shared_log given geo c.is_some-2.result start (over g.F.Write.contents mid.collections new.collections) c.in-Ok.played.log c.requires told.log) in
     let wear = unnamed (λ n. n.now) given.wear (IsWearOf geo) start files.wear (sym c.is_some.ensures ∙ c.if-is_some.false) opens.0.1 in
     subst (λ (r : Result (Unit {0}) Stop). EndsOn r geo given input output files) (sym c.outcome.ensures)
     (run_ended c.in-Ok.played.log (Ok tt) geo given input output files
@@ -64,7 +62,7 @@ returns-in-Err-run_by_workers g c =
       shared_why given geo fault
           (over g.R.Read.remaining c.args.reader.now c.run_by_workers.new.reader)
           (over g.W.Write.contents c.args.writer.now c.run_by_workers.new.writer) c.requires told.why,
-      files_left fault c.is_some-2.result geo given start (filings g.F.NamedFile.opened_as g.F.Write.contents c.args.files.now new)
+      files_left fault c.is_some-2.result geo given start (filings g.F.NamedFile.opened_as g.F.NamedFile.refused_as g.F.Write.contents c.args.files.now new)
           (stream mid.wear) (stream mid.collections) opens.0.1 opens.1.1 c.is_some-2.ensures refl
           (shared_left (hosts_of geo) geo fault c.is_some-2.result start (over g.F.Write.contents mid.collections new.collections) c.requires told.no_log),
     )

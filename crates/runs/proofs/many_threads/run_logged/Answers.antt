@@ -82,7 +82,7 @@ returns-in-Ok-write_out-clause-log g c =
     let file = over g.V.Write.contents c.args.file.now c.tell_brooms_if-log.new.file in
     let ends = c.deref-in-Ok-write_out.result.now in
     let served = subst (AllHaveServed geo c.args.drains) (sym c.deref-in-Ok-write_out.ensures.value) c.in-Ok-play_commands.ensures.brooms in
-    ends_file c.args.wanted.log (IsBroomLogOf geo) input file (brooms_text ends) c.tell_brooms_if-log.result
+    ends_file c.args.wanted.log (IsBroomLogOf c.args.drains geo) input file (brooms_text ends) c.tell_brooms_if-log.result
     (brooms_right geo input.bytes c.in-Ok.commands c.args.drains ends c.in-Ok.ensures.commands served)
     (subst (λ w. EndsText w (brooms_text ends) file c.tell_brooms_if-log.result) c.in-Ok-log_room.ensures.wanted c.tell_brooms_if-log.ensures)
 
