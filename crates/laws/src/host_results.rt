@@ -47,8 +47,8 @@ pub fn results_of_hosts()
     ensures wrote { (v : View) (x : List ℕ) → v.owns ≡ [] → v.seen ≡ [] → v.numbers.sectors ≡ 1 → v.numbers.pages ≡ 2 → 3 < v.numbers.blocks
         → Wrote v 2 0 x was.Empty (record v { seen = Write 2 0 x ∷ []; mine = v.mine ++ Write 2 0 x ∷ []; programs = v.programs ++ a_page 1 3 0 ∷ [];
             owns = an_owned 3 phase.Open 1 1 ∷ []; taken = v.taken + 1; denied = v.denied ++ range_with_len 0 3 }) }
-    ensures found_empty { (f : Flash) (v : View) (p : Pass) → IsReady f p → held (sectors_of (geometry_of f)) (view_of p).seen 3 ≡ None → Searched v 1 (view_of p)
-        → Found f v 3 (holding.Empty p) }
+    ensures found_empty { (f : Flash) (v : View) (p : Pass) → IsReady f p → held (sectors_of (geometry_of f)) (view_of p).seen 3 ≡ None
+        → Searched v 1 (view_of p) → Found f v 3 (holding.Empty p) }
     ensures found_held { (f : Flash) (v : View) (h : Held) (x : List ℕ) → Holds f h x
         → held (sectors_of (geometry_of f)) (view_of (pass_of h)).seen 3 ≡ Some x → Searched v 2 (view_of (pass_of h)) → Found f v 3 (holding.Held h) }
     ensures undisturbed { (f : Flash) (h : Held) → IsUndisturbed f h None h }

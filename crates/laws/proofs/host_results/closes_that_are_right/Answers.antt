@@ -1,15 +1,12 @@
 use Rattle.std.proofs.Common.{◌≡◌, ◌<◌, ℕ, zero, suc, None, Some, [], ◌∷◌, refl, sym, ap, ◌∙◌, subst, append-nil, arith}
 use Rattle.std.proofs.lemmas.List.Elements.{All-nil}
 use Rattle.std.specs.Prelude.{slice_get}
-use Rattle.flash_rule.specs.Views.{caller, calls_of}
-use Rattle.flash_rule.specs.declared.facts.Name.TheVariants as name
-use Rattle.flash_rule.specs.declared.facts.Role.TheVariants as seat
-use Rattle.flash_rule.specs.declared.view.View.{View}
+use Rattle.flash_rule.specs.Views.{caller}
 use Rattle.flash_table.specs.Flash.{view_of}
 use Rattle.flash_table.specs.declared.pass.Pass.{Pass}
 use Rattle.geometry.specs.History.{Begins, Call, held}
 use Rattle.geometry.specs.Sectors.{sector_at}
-use Rattle.volume.specs.Closing.{HasLooked, IsIn}
+use Rattle.volume.specs.Closing.{HasLooked}
 use Rattle.laws.proofs.host_results.closes_that_are_right.Goals as goal
 
 -- a list of one pass has no other

@@ -1,4 +1,4 @@
-use Rattle.std.proofs.Common.{◌≡◌, ◌+◌, ◌*◌, ℕ, [], ◌∷◌, refl, sym, ap, ◌∙◌, subst, append-nil, arith}
+use Rattle.std.proofs.Common.{◌≡◌, ◌*◌, ℕ, [], ◌∷◌, refl, sym, ap, ◌∙◌, subst, append-nil, arith}
 use Rattle.flash_rule.specs.Views.{sum_of}
 use Rattle.flash_rule.specs.declared.facts.Owned.{Owned}
 use Rattle.geometry.specs.History.{was as was_at}
