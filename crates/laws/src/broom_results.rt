@@ -42,11 +42,15 @@ pub fn calls_that_gain_nothing()
 pub fn results_of_an_erase()
     ensures stale { (x y : Broom) (p : PinWord) → FitsPin p → p.phase ≡ phase.Closed
         → view_of_broom y ≡ record (view_of_broom x) {
-            loaded = (view_of_broom x).loaded ++ (3, pin_word p) ∷ []; stale = (view_of_broom x).stale ++ 3 ∷ [] }
+          loaded = (view_of_broom x).loaded ++ (3, pin_word p) ∷ [];
+          stale = (view_of_broom x).stale ++ 3 ∷ [];
+        }
         → blocks_of_broom y ≡ blocks_of_broom x → EraseTold x 3 erase.Stale y }
     ensures pinned { (x y : Broom) (p : PinWord) → FitsPin p → p.phase ≡ phase.Drained
         → view_of_broom y ≡ record (view_of_broom x) {
-            loaded = (view_of_broom x).loaded ++ (3, pin_word p) ∷ []; busy = (view_of_broom x).busy ++ 3 ∷ [] }
+          loaded = (view_of_broom x).loaded ++ (3, pin_word p) ∷ [];
+          busy = (view_of_broom x).busy ++ 3 ∷ [];
+        }
         → blocks_of_broom y ≡ blocks_of_broom x → EraseTold x 3 erase.Pinned y }
     ensures kept { (x y : Broom) (p : PinWord)
         → DidErase (view_of_broom x) 3 p (owned_of (renewed 3 p) ∷ (view_of_broom x).owns) (view_of_broom x).ceded (view_of_broom y)

@@ -45,8 +45,14 @@ pub fn results_of_hosts()
         → Searched v 13 (record v { looks = v.looks + 13; known = 6 ∷ 6 ∷ [] }) }
     ensures refused { (v : View) → v.owns ≡ [] → Refused v (record v { denied = v.denied ++ range_with_len 0 v.numbers.blocks }) }
     ensures wrote { (v : View) (x : List ℕ) → v.owns ≡ [] → v.seen ≡ [] → v.numbers.sectors ≡ 1 → v.numbers.pages ≡ 2 → 3 < v.numbers.blocks
-        → Wrote v 2 0 x was.Empty (record v { seen = Write 2 0 x ∷ []; mine = v.mine ++ Write 2 0 x ∷ []; programs = v.programs ++ a_page 1 3 0 ∷ [];
-            owns = an_owned 3 phase.Open 1 1 ∷ []; taken = v.taken + 1; denied = v.denied ++ range_with_len 0 3 }) }
+        → Wrote v 2 0 x was.Empty (record v {
+          seen = Write 2 0 x ∷ [];
+          mine = v.mine ++ Write 2 0 x ∷ [];
+          programs = v.programs ++ a_page 1 3 0 ∷ [];
+          owns = an_owned 3 phase.Open 1 1 ∷ [];
+          taken = v.taken + 1;
+          denied = v.denied ++ range_with_len 0 3;
+        }) }
     ensures found_empty { (f : Flash) (v : View) (p : Pass) → IsReady f p → held (sectors_of (geometry_of f)) (view_of p).seen 3 ≡ None
         → Searched v 1 (view_of p) → Found f v 3 (holding.Empty p) }
     ensures found_held { (f : Flash) (v : View) (h : Held) (x : List ℕ) → Holds f h x

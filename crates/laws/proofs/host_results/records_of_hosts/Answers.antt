@@ -11,8 +11,7 @@ pub returns-clause-full : goal.returns-clause-full
 returns-clause-full c v w t s x a h two owns =
     let went = h.continued (an_owned 3 phase.Open 1 1) owns in
     let is : h.page ≡ a_page 1 3 1 = went.0 in
-    let full : h.page.page + 1 ≡ v.numbers.pages = ap (λ (m : MapWord). m.page + 1) is ∙ sym two in
-    (
+    let full : h.page.page + 1 ≡ v.numbers.pages = ap (λ (m : MapWord). m.page + 1) is ∙ sym two in (
       h.programmed ∙ ap (λ (m : MapWord). v.programs ++ m ∷ []) is,
       went.1,
       h.closed full,
@@ -22,8 +21,7 @@ returns-clause-full c v w t s x a h two owns =
 pub returns-clause-begun : goal.returns-clause-begun
 returns-clause-begun c v w t s x a h two none =
     let start = h.begun none in
-    let left : h.page.page + 1 < v.numbers.pages = omega (arith, start.0, two) in
-    (
+    let left : h.page.page + 1 < v.numbers.pages = omega (arith, start.0, two) in (
       start.0,
       start.1,
       start.2,

@@ -20,7 +20,7 @@ pub returns-clause-beyond : goal.returns-clause-beyond
 returns-clause-beyond c v p ends five h = omega (arith, five, h.sectors 0 (read 0) (omega arith))
 
 pub returns-clause-other_lines : goal.returns-clause-other_lines
-returns-clause-other_lines c v p ends none h = 
+returns-clause-other_lines c v p ends none h =
     let one : p.places.items ≡ 0 ∷ [] = (h.dealt 0 p (omega arith)).places in omega (arith, ap length none, ap length one)
 
 pub returns-clause-played_before : goal.returns-clause-played_before
