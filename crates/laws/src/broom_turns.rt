@@ -43,6 +43,7 @@ pub fn turns_of_a_broom()
     ensures no_survey { (e : Erase) → ¬ IsTurn 2 (by.DrainNext drain.Lost 0 ∷ by.Erase e ∷ []) }
     ensures no_call { (n : ℕ) → ¬ IsTurn n [] }
     ensures no_turn { AreTurns 1 [] }
+    ensures no_drain { (n : ℕ) (e : Erase) → ¬ AreTurns n (by.Erase e ∷ []) }
     ensures each { (e : Erase) → AreTurns 1 (by.Drain drain.Lost 0 ∷ by.Erase e ∷ by.Drain drain.Lost 0 ∷ by.Erase e ∷ []) }
 {}
 
@@ -54,11 +55,12 @@ pub fn collections_that_are_done()
     ensures folded { (s : Collector) (e : CollectorEnd) → e.tally ≡ s.tally
         → folded_view e.folded ≡ closed_broom (view_of_broom s.broom) (blocks_of_broom s.broom) → LeftAt (limit_at s) s.broom (folded_place e.folded)
         → HaveFolded (s ∷ []) (e ∷ []) }
-    ensures done { (v : View) (x : Cycle) → v.role ≡ seat.Player (name.Broom 2) → v.drains ≡ x ∷ [] → v.moves ≡ 2 ^ 64 + 3 → v.programs ≡ [] → v.erases ≡ []
-        → v.lost ≡ 7 ∷ 7 ∷ [] → HasDone 2 (record nothing_done { drained = 1; moved = 3; lost = 2 }) v }
+    ensures done { (v : View) (x : Cycle) → v.role ≡ seat.Player (name.Broom 2) → v.drains ≡ x ∷ [] → v.moves ≡ 2 ^ 64 + 2 ^ 63 → v.programs ≡ [] → v.erases ≡ []
+        → v.lost ≡ 7 ∷ 7 ∷ [] → HasDone 2 (record nothing_done { drained = 1; moved = 2 ^ 63; lost = 2 }) v }
     ensures no_broom { (g : Geometry) → brooms_of g ≡ 0 → AllHaveServed g 4 [] }
     ensures one_broom { (g : Geometry) (e : CollectorEnd) → brooms_of g ≡ 1 → HasServed g 4 0 e → AllHaveServed g 4 (e ∷ []) }
     ensures served { (g : Geometry) (e : CollectorEnd) → AllHaveServed g 4 (e ∷ []) → HasServed g 4 0 e × (brooms_of g ≡ 1) }
+    ensures second { (g : Geometry) (e f : CollectorEnd) → AllHaveServed g 4 (e ∷ f ∷ []) → HasServed g 4 1 f }
     ensures missing { (g : Geometry) → brooms_of g ≡ 1 → ¬ AllHaveServed g 4 [] }
     ensures number { (g : Geometry) (e : CollectorEnd) → HasServed g 4 3 e → (folded_view e.folded).role ≡ seat.Player (name.Broom 3) }
 {}

@@ -34,6 +34,9 @@ returns-clause-one_broom c g e one h = record { count = sym one; each = (h, tt) 
 pub returns-clause-served : goal.returns-clause-served
 returns-clause-served c g e h = (h.each.0, sym h.count)
 
+pub returns-clause-second : goal.returns-clause-second
+returns-clause-second c g e f h = h.each.1.0
+
 pub returns-clause-missing : goal.returns-clause-missing
 returns-clause-missing c g one h = omega (arith, one, h.count)
 

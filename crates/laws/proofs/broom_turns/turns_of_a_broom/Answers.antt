@@ -1,6 +1,6 @@
-use Rattle.std.proofs.Common.{◌≡◌, ◌≤◌, ◌++◌, ℕ, Bool, true, false, List, [], ◌∷◌, length, refl, sym, ap, ◌∙◌, append-nil, arith}
+use Rattle.std.proofs.Common.{◌≡◌, ◌≤◌, ◌++◌, ℕ, Bool, true, false, All, List, [], ◌∷◌, length, refl, sym, ap, ◌∙◌, append_assoc, append-nil, arith}
 use Rattle.std.specs.List.{flat_map}
-use Rattle.std.proofs.lemmas.List.Elements.{All-cons, All-nil}
+use Rattle.std.proofs.lemmas.List.Elements.{All-cons, All-head, All-nil}
 use Rattle.broom.specs.declared.answer.Drain.{Drain}
 use Rattle.broom.specs.declared.answer.Drain.TheVariants as drain
 use Rattle.broom.specs.declared.answer.Erase.{Erase}
@@ -114,3 +114,16 @@ returns-clause-each c e =
       each = All-cons (IsTurn 1) turn (turn ∷ []) (one_turn e) (All-cons (IsTurn 1) turn [] (one_turn e) (All-nil (IsTurn 1)));
       are = refl;
     }
+
+-- turns begin with a drain by a new survey
+no_erase_first : (n : ℕ) (e : Erase) (turns : List (List BroomAnswer)) → All (IsTurn n) turns → by.Erase e ∷ [] ≡ flat_map (λ turn. turn) turns → ⊥
+no_erase_first n e [] each are = absurd (cc)
+no_erase_first n e (turn ∷ turns) each are =
+    let first = All-head (IsTurn n) turn turns each in
+    let begins : by.Erase e ∷ [] ≡ by_new_survey first.first ++ (flat_map by_last_survey first.others ++ flat_map (λ t. t) turns) =
+    are ∙ (ap (λ l. l ++ flat_map (λ t. t) turns) first.are
+    ∙ append_assoc (by_new_survey first.first) (flat_map by_last_survey first.others) (flat_map (λ t. t) turns)) in
+    absurd (cc)
+
+pub returns-clause-no_drain : goal.returns-clause-no_drain
+returns-clause-no_drain c n e h = no_erase_first n e h.turns h.each h.are
