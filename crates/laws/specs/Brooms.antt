@@ -7,6 +7,7 @@ use Rattle.geometry.specs.declared.pin_word.Phase.TheVariants as phase
 use Rattle.geometry.specs.declared.pin_word.PinWord.{PinWord}
 use Rattle.flash_rule.specs.declared.facts.Cycle.{Cycle}
 use Rattle.flash_rule.specs.declared.view.View.{View}
+use Rattle.broom.specs.declared.answer.Drain.{Drain}
 use Rattle.broom.specs.declared.answer.Drain.TheVariants as drain
 use Rattle.broom.specs.declared.answer.Erase.TheVariants as erase
 use Rattle.broom.specs.declared.broom.Broom.{Broom}
@@ -93,3 +94,7 @@ some_calls =
 -- what they add
 abbrev pub some_counts : Tally
 some_counts = record { drained = 2; moved = 2; programmed = 3; erased = 3; kept = 1; retired = 1; lost = 1; pinned = 1; stale = 2; gainless = 1 }
+
+-- the answers of two drains with these results, each with an erase that finds nothing behind it: one by a new survey, and one by that survey
+abbrev pub two_drains : Drain → Drain → List BroomAnswer
+two_drains first second = by.Drain first 1 ∷ by.Erase erase.QueueEmpty ∷ by.DrainNext second 0 ∷ by.Erase erase.QueueEmpty ∷ []

@@ -3,12 +3,16 @@
 #![tactic(auto)]
 
 mod arrays;
+mod broom_results;
+mod broom_turns;
 mod brooms;
 mod dies;
 mod histories;
+mod host_results;
 mod hosts;
 mod limits;
 mod lines;
+mod played_rounds;
 mod players;
 mod plays;
 mod queues;
@@ -27,16 +31,22 @@ mod turns;
 mod volumes;
 
 pub use arrays::an_array_after_calls;
+pub use broom_results::{
+    calls_that_gain_nothing, records_of_brooms, results_of_an_erase, turns_with_a_queue,
+};
+pub use broom_turns::{brooms_of_a_run, collections_that_are_done, turns_of_a_broom};
 pub use brooms::{
     a_drain_and_its_survey, a_survey_and_its_victim, an_erase_of_a_block, marks_of_a_survey,
 };
 pub use dies::{a_die_after_a_command, bytes_of_a_die, pages_of_a_block};
 pub use histories::{beginnings_of_histories, calls_of_hosts, lists_of_players};
+pub use host_results::{closes_that_are_right, records_of_hosts, results_of_hosts};
 pub use hosts::{meetings_of_players, writes_of_hosts};
 pub use limits::{
     faults_of_numbers, numbers_within_limits, pages_and_states_of_devices, words_of_tables,
 };
 pub use lines::{answers_of_rounds, answers_of_sectors, rounds_of_a_trace, tries_of_a_write};
+pub use played_rounds::{lines_that_are_played, rounds_that_are_played, runs_of_workers};
 pub use players::{lines_and_answers_of_workers, workers_of_a_round};
 pub use plays::{moves_of_brooms, steps_of_brooms, steps_of_passes};
 pub use queues::{numbers_in_a_queue, numbers_put_and_taken};

@@ -1,0 +1,129 @@
+use Rattle.std.proofs.Common.{◌≡◌, ◌≤◌, ◌++◌, ℕ, Bool, true, false, All, List, [], ◌∷◌, length, refl, sym, ap, ◌∙◌, append_assoc, append-nil, arith}
+use Rattle.std.specs.List.{flat_map}
+use Rattle.std.proofs.lemmas.List.Elements.{All-cons, All-head, All-nil}
+use Rattle.broom.specs.declared.answer.Drain.{Drain}
+use Rattle.broom.specs.declared.answer.Drain.TheVariants as drain
+use Rattle.broom.specs.declared.answer.Erase.{Erase}
+use Rattle.broom.specs.declared.answer.Erase.TheVariants as erase
+use Rattle.workers.specs.Turns.{Follows, GoesOn, IsTurn, TurnDrain, by_last_survey, by_new_survey, found_no_spare, is_last}
+use Rattle.workers.specs.declared.broom_answer.BroomAnswer.{BroomAnswer}
+use Rattle.workers.specs.declared.broom_answer.BroomAnswer.TheVariants as by
+use Rattle.laws.specs.Brooms.{two_drains}
+use Rattle.laws.proofs.broom_turns.turns_of_a_broom.Goals as goal
+
+-- a drain that has found a spare, and the erase behind it
+abbrev with_erase : (given : Drain) (programmed : ℕ) (e : Erase) → found_no_spare given ≡ false → TurnDrain
+with_erase given programmed e found =
+    record {
+      given = given;
+      programmed = programmed;
+      behind = by.Erase e ∷ [];
+      follows = record { erased = e; spareless = λ none. let wrong : false ≡ true = sym found ∙ none in absurd (cc); other = λ other. refl };
+    }
+
+-- at most two calls follow a drain
+few_behind : (given : Drain) (answers : List BroomAnswer) → Follows given answers → length answers ≤ 2
+few_behind given answers h = each (found_no_spare given) refl
+  where
+    each : (none : Bool) → found_no_spare given ≡ none → length answers ≤ 2
+    each true is = omega (arith, ap length (h.spareless is).1)
+    each false is = omega (arith, ap length (h.other is))
+
+-- four calls aren't one drain with what follows it
+not_one : (first : TurnDrain) (answers : List BroomAnswer) → length answers ≡ 4 → answers ≡ by_new_survey first ++ [] → ⊥
+not_one first answers four are =
+    omega (arith, few_behind first.given first.behind first.follows, four, ap length are, ap length (append-nil (by_new_survey first)))
+
+no_more : (first : TurnDrain) (others : List TurnDrain) (answers : List BroomAnswer) → length others ≤ 0 → length answers ≡ 4
+    → answers ≡ by_new_survey first ++ flat_map by_last_survey others → ⊥
+no_more first [] answers few four are = not_one first answers four are
+no_more first (d ∷ others) answers few four are = omega (arith, few)
+
+-- the result of the drain by a new survey with which calls begin
+first_given : List BroomAnswer → Drain
+first_given [] = drain.Lost
+first_given (by.Drain given programmed ∷ answers) = given
+first_given (by.DrainNext given programmed ∷ answers) = drain.Lost
+first_given (by.Erase given ∷ answers) = drain.Lost
+first_given (by.Restock given ∷ answers) = drain.Lost
+
+none_behind : (first : TurnDrain) (others : List TurnDrain) → GoesOn first others
+    → two_drains drain.NothingToGain drain.Lost ≡ by_new_survey first ++ flat_map by_last_survey others → ⊥
+unfolding first_given
+none_behind first [] on are = not_one first (two_drains drain.NothingToGain drain.Lost) refl are
+none_behind first (d ∷ others) on are =
+    let is : drain.NothingToGain ≡ first.given = ap first_given are in
+    let wrong : true ≡ false = ap is_last is ∙ on.0 in
+    absurd (cc)
+
+pub returns-clause-one_drain : goal.returns-clause-one_drain
+returns-clause-one_drain c e =
+    record { first = with_erase drain.NothingToGain 0 e refl; others = []; few = omega arith; on = tt; are = refl }
+
+pub returns-clause-no_limit : goal.returns-clause-no_limit
+returns-clause-no_limit c e =
+    record { first = with_erase drain.NothingToGain 0 e refl; others = []; few = omega arith; on = tt; are = refl }
+
+pub returns-clause-two : goal.returns-clause-two
+returns-clause-two c =
+    record {
+      first = with_erase (drain.Drained 3 1) 1 erase.QueueEmpty refl;
+      others = with_erase drain.Lost 0 erase.QueueEmpty refl ∷ [];
+      few = omega arith;
+      on = (refl, tt);
+      are = refl;
+    }
+
+pub returns-clause-too_many : goal.returns-clause-too_many
+returns-clause-too_many c h = no_more h.first h.others (two_drains (drain.Drained 3 1) drain.Lost) h.few refl h.are
+
+pub returns-clause-behind_last : goal.returns-clause-behind_last
+returns-clause-behind_last c h = none_behind h.first h.others h.on h.are
+
+pub returns-clause-behind_full : goal.returns-clause-behind_full
+returns-clause-behind_full c =
+    record {
+      first = with_erase drain.QueueFull 1 erase.QueueEmpty refl;
+      others = with_erase drain.NothingToGain 0 erase.QueueEmpty refl ∷ [];
+      few = omega arith;
+      on = (refl, tt);
+      are = refl;
+    }
+
+pub returns-clause-no_survey : goal.returns-clause-no_survey
+returns-clause-no_survey c e h =
+    let are : by.DrainNext drain.Lost 0 ∷ by.Erase e ∷ [] ≡ by_new_survey h.first ++ flat_map by_last_survey h.others = h.are in
+    absurd (cc)
+
+pub returns-clause-no_call : goal.returns-clause-no_call
+returns-clause-no_call c n h =
+    let are : [] ≡ by_new_survey h.first ++ flat_map by_last_survey h.others = h.are in
+    absurd (cc)
+
+pub returns-clause-no_turn : goal.returns-clause-no_turn
+returns-clause-no_turn c = record { turns = []; each = All-nil (IsTurn 1); are = refl }
+
+one_turn : (e : Erase) → IsTurn 1 (by.Drain drain.Lost 0 ∷ by.Erase e ∷ [])
+one_turn e = record { first = with_erase drain.Lost 0 e refl; others = []; few = omega arith; on = tt; are = refl }
+
+pub returns-clause-each : goal.returns-clause-each
+returns-clause-each c e =
+    let turn = by.Drain drain.Lost 0 ∷ by.Erase e ∷ [] in
+    record {
+      turns = turn ∷ turn ∷ [];
+      each = All-cons (IsTurn 1) turn (turn ∷ []) (one_turn e) (All-cons (IsTurn 1) turn [] (one_turn e) (All-nil (IsTurn 1)));
+      are = refl;
+    }
+
+-- turns begin with a drain by a new survey
+no_erase_first : (n : ℕ) (e : Erase) (turns : List (List BroomAnswer)) → All (IsTurn n) turns → by.Erase e ∷ [] ≡ flat_map (λ turn. turn) turns → ⊥
+no_erase_first n e [] each are = absurd (cc)
+no_erase_first n e (turn ∷ turns) each are =
+    let first = All-head (IsTurn n) turn turns each in
+    let begins : by.Erase e ∷ [] ≡ by_new_survey first.first ++ (flat_map by_last_survey first.others ++ flat_map (λ t. t) turns) =
+    are ∙ (ap (λ l. l ++ flat_map (λ t. t) turns) first.are
+    ∙ append_assoc (by_new_survey first.first) (flat_map by_last_survey first.others) (flat_map (λ t. t) turns)) in
+    absurd (cc)
+
+pub returns-clause-no_drain : goal.returns-clause-no_drain
+returns-clause-no_drain c n e h = no_erase_first n e h.turns h.each h.are
