@@ -55,7 +55,8 @@ pub fn collections_that_are_done()
     ensures folded { (s : Collector) (e : CollectorEnd) → e.tally ≡ s.tally
         → folded_view e.folded ≡ closed_broom (view_of_broom s.broom) (blocks_of_broom s.broom) → LeftAt (limit_at s) s.broom (folded_place e.folded)
         → HaveFolded (s ∷ []) (e ∷ []) }
-    ensures done { (v : View) (x : Cycle) → v.role ≡ seat.Player (name.Broom 2) → v.drains ≡ x ∷ [] → v.moves ≡ 2 ^ 64 + 2 ^ 63 → v.programs ≡ [] → v.erases ≡ []
+    ensures done { (v : View) (x : Cycle) → v.role ≡ seat.Player (name.Broom 2) → v.drains ≡ x ∷ [] → v.moves ≡ 2 ^ 64 + 2 ^ 63 → v.programs ≡ []
+        → v.erases ≡ []
         → v.lost ≡ 7 ∷ 7 ∷ [] → HasDone 2 (record nothing_done { drained = 1; moved = 2 ^ 63; lost = 2 }) v }
     ensures no_broom { (g : Geometry) → brooms_of g ≡ 0 → AllHaveServed g 4 [] }
     ensures one_broom { (g : Geometry) (e : CollectorEnd) → brooms_of g ≡ 1 → HasServed g 4 0 e → AllHaveServed g 4 (e ∷ []) }
