@@ -7,7 +7,7 @@ use Rattle.laws.proofs.sessions.files_of_a_session.Goals as goal
 unwritten : stream 0 (2 ∷ []) ≡ stream 0 [] → ⊥
 unwritten e = let k : 1 ≡ 0 = ap (λ (s : Stream). length (unwrap_or s.bytes [])) e in omega (arith, k)
 
-other_name : 98 ∷ [] ≡ 97 ∷ [] → ⊥
+other_name : ◌≡◌ {A = List ℕ} (98 ∷ []) (97 ∷ []) → ⊥
 other_name e = let k : 98 ≡ 97 = ap (λ (s : List ℕ). get_or s 0 0) e in omega (arith, k)
 
 pub returns-clause-unnamed : goal.returns-clause-unnamed
