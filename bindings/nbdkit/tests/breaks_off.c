@@ -77,8 +77,8 @@ static int renew(struct connection *connection, uint32_t round) {
     return in_flight;
 }
 
-// Sends no more, whatever is in flight, and reads all that the server still sends: if its answers found no reader, nbdkit 1.32 would end by an
-// assertion of its own.
+// Sends no more, whatever is in flight, and reads all that the server still sends: if its answers find no reader, nbdkit 1.32 often ends by an
+// assertion of its own; it may end so in any case.
 static int break_off(struct connection *connection, uint32_t round) {
     static char heard[65536];
     int requests = 0, socket = nbd_aio_get_fd(connection->nbd);

@@ -8,7 +8,7 @@ import time
 
 import faults
 import files
-from running import HERE, Server, copying, fio, kibibytes, loaded, want
+from running import HERE, Failure, Server, copying, failing, fio, kibibytes, loaded, want
 
 ZIPF = {"norandommap": 1, "random_distribution": "zipf:0.9"}
 UNALIGNED = {"bsrange": "512-20k", "bs_unaligned": 1, "blockalign": 512, "serialize_overlap": 1}
@@ -192,19 +192,36 @@ def handles(shop):
     return "; ".join(told)
 
 
+# nbdkit 1.32 may end so if a connection breaks while two of its answers wait, whatever the plugin is.
+NBDKIT_ENDED = "raw_send_socket: Assertion `sock >= 0' failed"
+
+
 def broken_clients(shop, brooms=1):
     """Connections are shut down in mid-write, over and over, while a client checks a half of its own. What they wrote to the other
-    half is old or new, page by page."""
-    server = Server(shop, *AGED, f"brooms={brooms}")
+    half is old or new, page by page. If nbdkit ends by an assertion of its own, the same is done again on another server."""
+    told, ended = [], 0
+    while len(told) < shop.scaled(1, 3):
+        server = Server(shop, *AGED, f"brooms={brooms}")
+        try:
+            told.append(broken_off(shop, server, 100 * (len(told) + ended)))
+        except Failure:
+            ended += 1
+            if NBDKIT_ENDED not in server.log.read_text() or ended > 20:
+                raise
+            shop.end_all()
+    return "; ".join([*told, *([f"nbdkit ended by its own assertion on {ended} other servers"] if ended else [])])
+
+
+def broken_off(shop, server, seed):
     age(shop, server)
     half = kibibytes(shop, server) // 2
     own = shop.start(["fio", "--name=own", "--thread", "--ioengine=nbd", f"--uri={server.uri}", "--rw=randwrite", "--bs=4k", "--numjobs=4", f"--size={half // 4}k",
-                      f"--offset_increment={half // 4}k", "--iodepth=16", f"--io_size={shop.scaled(60, 150)}m", "--norandommap", "--random_distribution=zipf:0.9",
+                      f"--offset_increment={half // 4}k", "--iodepth=16", "--io_size=60m", "--norandommap", "--random_distribution=zipf:0.9",
                       "--serialize_overlap=1", "--verify=crc32c", "--verify_fatal=1"], shop.folder / "own")
     rounds = beside = 0
     with copying(server, "broken clients"):
-        while rounds < shop.scaled(2, 8) or own.poll() is None:
-            told = shop.run([shop.client("breaks_off"), server.uri, half * 1024, half * 1024, rounds], 120)
+        while rounds < 2 or own.poll() is None:
+            told = shop.run([shop.client("breaks_off"), server.uri, half * 1024, half * 1024, seed + rounds], 120)
             rounds += 1
             beside += own.poll() is None
         want(own.wait(60) == 0, (shop.folder / "own").read_text()[-2000:])
@@ -283,7 +300,8 @@ def sanitized(shop, kind):
         while load.poll() is None:
             server.counts()
             time.sleep(0.1)
-        want(load.returncode == 0, (shop.folder / "load").read_text()[-2000:])
+        printed = (shop.folder / "load").read_text()
+        want(load.returncode == 0, failing(printed[:-2000]) + printed[-2000:])
     with loaded(shop, server, "6m", "2m"), copying(server, "the others"):
         shop.run([shop.client("overlap"), server.uri, shop.scaled(1000, 20_000)])
         shop.run(["qemu-io", "-f", "raw", "-c", "discard 10000 3M", "-c", "write -z 100 9999", "-c", "write -z -u 5000 1M", "-c", "map", server.uri])

@@ -31,7 +31,7 @@ def slowness():
 
 def failing(printed):
     """The lines that say that something failed."""
-    return "".join(line for line in printed.splitlines(keepends=True) if re.search("fail|mismatch", line, re.I))[:1000]
+    return "".join(line for line in printed.splitlines(keepends=True) if re.search("fail|mismatch|error", line, re.I))[:1000]
 
 
 class Failure(Exception):
