@@ -1,0 +1,10 @@
+pub mod Cells
+pub mod Moments
+pub mod Done
+pub mod Counts
+pub mod Collects
+pub mod Spares
+pub mod Scans
+pub mod Frees
+pub mod Promises
+pub mod Noting

@@ -1,0 +1,9 @@
+use Rattle.std.proofs.Common.{◌≡◌, ℕ, length, ◌<◌, take, slice_index_or}
+use Rattle.durable.specs.Collecting.{live_in}
+use Rattle.durable.proofs.counting.counts_of.Given as goal
+
+abbrev pub invariant-loop-s : goal.invariant-loop-s
+invariant-loop-s l = record {
+  size : length l.counts.items ≡ l.blocks;
+  counted : (b : ℕ) → b < length l.counts.items → slice_index_or l.counts.items b 0 ≡ live_in b (take l.s l.map);
+}

@@ -1,0 +1,11 @@
+use Rattle.durable.proofs.Promises.{is_safe, survives_cut, survives_idle_cut}
+use Rattle.durable.proofs.memory.Core.next.Goals as goal
+
+pub returns-clause-safe : goal.returns-clause-safe
+returns-clause-safe c = is_safe c.args.self.now c.choose.result c.choose.ensures.next
+
+pub returns-clause-cut : goal.returns-clause-cut
+returns-clause-cut c = survives_cut c.args.self.now c.args.sector c.choose.result c.requires c.choose.ensures.next
+
+pub returns-clause-idle : goal.returns-clause-idle
+returns-clause-idle c = survives_idle_cut c.args.self.now

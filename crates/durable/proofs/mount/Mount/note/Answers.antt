@@ -1,0 +1,34 @@
+use Rattle.std.proofs.Common.{refl, arith, ◌≡◌, ◌+◌, ◌<◌, ◌^◌, ◌∙◌, sym, subst, ℕ, length, IfSome}
+use Rattle.std.proofs.lemmas.Bool.{false≢true}
+use Rattle.geometry.specs.declared.page_addr.PageAddr.{PageAddr}
+use Rattle.durable.specs.Device.{device_in}
+use Rattle.durable.specs.Mounting.{IsStampOf}
+use Rattle.durable.proofs.Noting.{of_next, fits_device}
+use Rattle.durable.proofs.Scans.{noted, finds_wrap}
+use Rattle.durable.proofs.mount.Mount.note.Goals as goal
+
+pub returns-then-self-clause-notes : goal.returns-then-self-clause-notes
+returns-then-self-clause-notes c f finds stamp =
+    let mount = c.args.self.now in
+    let at : PageAddr = record { block = mount.block; page = mount.page } in
+    noted f mount.pages mount.block mount.page mount.found.items mount.next_number at c.args.stamp c.take.new.found.items c.take.new.next_number refl refl
+    c.take.ensures.found c.take.ensures.number finds (of_next mount.read_blocks at (λ at. IsStampOf f at.block at.page c.args.stamp) c.requires stamp)
+
+pub returns-else-self-clause-notes : goal.returns-else-self-clause-notes
+returns-else-self-clause-notes c f finds stamp =
+    let mount = c.args.self.now in
+    let at : PageAddr = record { block = mount.block; page = mount.page } in
+    let full : mount.page + 1 ≡ mount.pages = omega (arith, c.if-self.false, mount.page_within) in
+    finds_wrap f mount.pages mount.block mount.page c.take.new.found.items c.take.new.next_number full
+    (noted f mount.pages mount.block mount.page mount.found.items mount.next_number at c.args.stamp c.take.new.found.items c.take.new.next_number refl refl
+    c.take.ensures.found c.take.ensures.number finds (of_next mount.read_blocks at (λ at. IsStampOf f at.block at.page c.args.stamp) c.requires stamp))
+
+pub returns-then-not-is_of_device-clause-accepts : goal.returns-then-not-is_of_device-clause-accepts
+returns-then-not-is_of_device-clause-accepts c f written stamp =
+    let mount = c.args.self.now in
+    let at : PageAddr = record { block = mount.block; page = mount.page } in
+    let is = of_next mount.read_blocks at (λ at. IsStampOf f at.block at.page c.args.stamp) c.requires stamp in
+    let size : c.len.result ≡ length mount.found.items = omega (arith, c.len.ensures, mount.found.ok) in
+    absurd (false≢true (sym c.if-not-is_of_device.true ∙ c.is_of_device.ensures.accepts
+    (subst (λ (n : ℕ). IfSome c.args.stamp (λ s. (s.sector < n) × (s.number + 1 < 2 ^ 64))) (sym size)
+    (fits_device f (device_in mount) mount.block mount.page c.args.stamp written is))))

@@ -1,0 +1,39 @@
+-- What the public calls keep of the promise.
+use Rattle.std.specs.Prelude.{ℕ, List, ◌∷◌}
+use Rattle.geometry.specs.Sectors.{Sector}
+use Rattle.durable.specs.Updates.{Update}
+use Rattle.durable.specs.Flash.{Flash}
+use Rattle.durable.specs.Commands.{Completes, CutLeaves, IsAllowed, updates_with}
+use Rattle.durable.specs.Device.{device_of, device_in, NamesOn}
+use Rattle.durable.specs.Mounting.{Finds}
+use Rattle.durable.specs.Promise.{IsReadable, IsRecoverable, IsConsistent}
+use Rattle.durable.specs.declared.command.Command.{Command}
+use Rattle.durable.specs.declared.memory.Core.{Core}
+use Rattle.durable.specs.declared.mount.Mount.{Mount}
+
+-- the command may be given to the flash: it names what lies on the device, and programs only an erased page
+abbrev pub IsSafe : Core → Command → Type 0
+IsSafe core command = (f : Flash) (acked begun : List Update) → IsConsistent f core acked begun → NamesOn (device_of core) command × IsAllowed f command
+
+-- whatever a power cut inside the command leaves can be mounted, with the update begun
+abbrev pub SurvivesCut : Core → ℕ → Command → Type 0
+SurvivesCut core s command = (f t : Flash) (value : Sector) (acked begun : List Update) → IsConsistent f core acked begun
+    → CutLeaves command s value f t → IsRecoverable t (device_of core) acked (record { sector = s; value = value } ∷ begun)
+
+-- a power cut between two commands leaves a flash that can be mounted
+abbrev pub SurvivesIdleCut : Core → Type 0
+SurvivesIdleCut core = (f : Flash) (acked begun : List Update) → IsConsistent f core acked begun → IsRecoverable f (device_of core) acked begun
+
+-- after the command has succeeded, flash and layer are consistent again; its program acknowledges the update
+abbrev pub Acknowledges : Core → ℕ → Command → Core → Type 0
+Acknowledges old s command new = (f t : Flash) (value : Sector) (acked begun : List Update) → IsConsistent f old acked begun → Completes command s value f t
+    → let update : Update = record { sector = s; value = value } in IsConsistent t new (updates_with command update acked) (updates_with command update begun)
+
+-- the stamps that were noted are those of the flash's pages, block by block
+abbrev pub HasNoted : Flash → Mount → Type 0
+HasNoted f mount = Finds f mount.pages mount.block mount.page mount.found.items mount.next_number
+
+-- the layer that a mount gives is consistent with the flash, and keeps each acknowledged update
+abbrev pub Remounts : Mount → Core → Type 0
+Remounts mount core = (f : Flash) (acked begun : List Update) → HasNoted f mount → IsReadable f (device_in mount) acked begun
+    → IsConsistent f core acked begun

@@ -1,0 +1,53 @@
+-- The sizes of a device, and what lies on it.
+use Rattle.std.specs.Prelude.{◌≡◌, ◌<◌, ◌+◌, ◌^◌, ℕ, length, Option}
+use Rattle.geometry.specs.Sectors.{Sector}
+use Rattle.geometry.specs.declared.page_addr.PageAddr.{PageAddr}
+use Rattle.durable.specs.Flash.{Version, Flash}
+use Rattle.durable.specs.declared.command.Command.{Command}
+use Rattle.durable.specs.declared.command.Command.TheVariants.{Program, Copy, Erase, Refused}
+use Rattle.durable.specs.declared.memory.Core.{Core}
+use Rattle.durable.specs.declared.mount.Mount.{Mount}
+
+-- how many blocks a device has in use, how many are read: those, and bad ones and a reserve after them; how many pages a block has, and how many
+-- sectors are stored
+pub record Device : Type 0 where
+  pub blocks : ℕ
+  pub read_blocks : ℕ
+  pub pages : ℕ
+  pub sectors : ℕ
+
+-- the device that the layer runs on
+abbrev pub device_of : Core → Device
+device_of core = record { blocks = core.blocks; read_blocks = core.read_blocks; pages = core.pages; sectors = length core.map.items }
+
+-- the device that is mounted
+abbrev pub device_in : Mount → Device
+device_in mount = record { blocks = mount.blocks; read_blocks = mount.read_blocks; pages = mount.pages; sectors = length mount.found.items }
+
+-- the number of the next version
+abbrev pub next_number_of : Core → ℕ
+next_number_of core = core.next_number
+
+-- the page to be programmed next, if a block is open
+abbrev pub next_page_of : Core → Option PageAddr
+next_page_of core = core.next_page
+
+-- the page is in a block that is in use
+abbrev pub LiesOn : Device → PageAddr → Type 0
+LiesOn device at = (at.block < device.blocks) × (at.page < device.pages)
+
+-- the page is in a block that is read
+abbrev pub IsReadOn : Device → PageAddr → Type 0
+IsReadOn device at = (at.block < device.read_blocks) × (at.page < device.pages)
+
+-- the command programs a page and erases a block that is in use, and copies one that is read
+abbrev pub NamesOn : Device → Command → Type 0
+NamesOn device (Program at n) = LiesOn device at
+NamesOn device (Copy k from to) = IsReadOn device from × LiesOn device to
+NamesOn device (Erase b) = b < device.blocks
+NamesOn device Refused = Unit {0}
+
+-- each version is in a page that is read, of one of its sectors, and has a number below the greatest
+abbrev pub IsWrittenOn : Device → Flash → Type 0
+IsWrittenOn device f = (b p s m : ℕ) (v : Sector) → f b p ≡ Version s m v
+    → (b < device.read_blocks) × (p < device.pages) × (s < device.sectors) × (m + 1 < 2 ^ 64)

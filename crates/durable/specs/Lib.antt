@@ -1,0 +1,17 @@
+-- What public contracts rest on.
+pub mod Updates
+pub mod Flash
+pub mod Commands
+pub mod Device
+pub mod Promise
+pub mod Calls
+pub mod Failures
+pub mod Runs
+pub mod Faults
+-- How the layer chooses its commands, and what a mount has found: internal.
+pub mod Collecting
+pub mod Memory
+pub mod Choice
+pub mod Spare
+pub mod Candidates
+pub mod Mounting

@@ -1,0 +1,56 @@
+-- What a mount has found, up to a page.
+use Rattle.std.specs.Prelude.{◌≡◌, ◌≢◌, ◌⊎◌, ◌<◌, ◌≤◌, ◌+◌, ℕ, if◌then◌else◌, nat_lt, List, length, Option, None, Some, slice_index_or}
+use Rattle.geometry.specs.Sectors.{Sector}
+use Rattle.geometry.specs.declared.page_addr.PageAddr.{PageAddr}
+use Rattle.durable.specs.declared.found.Stamp.{Stamp}
+use Rattle.durable.specs.declared.found.Candidate.{Candidate}
+use Rattle.durable.specs.Flash.{Version, Flash}
+use Rattle.durable.specs.declared.mount.Mount.{Mount}
+
+-- this page, if it lies on a device with so many blocks
+abbrev pub page_on : ℕ → PageAddr → Option PageAddr
+page_on blocks at = if nat_lt at.block blocks then Some at else None
+
+-- the page whose stamp has to be noted next
+abbrev pub next_in : Mount → Option PageAddr
+next_in mount = page_on mount.read_blocks (record { block = mount.block; page = mount.page })
+
+-- the page after that one: the next in its block, or the first of the next block
+abbrev pub after_in : Mount → Option PageAddr
+after_in mount =
+    if nat_lt (mount.page + 1) mount.pages then page_on mount.read_blocks (record { block = mount.block; page = mount.page + 1 })
+    else page_on mount.read_blocks (record { block = mount.block + 1; page = 0 })
+
+-- the page comes before page p of block b
+abbrev pub IsRead : ℕ → ℕ → ℕ → ℕ → ℕ → Type 0
+IsRead pages b p c q = (q < pages) × ((c < b) ⊎ ((c ≡ b) × (q < p)))
+
+-- the page has a version with this stamp, or none
+abbrev pub IsStampOf : Flash → ℕ → ℕ → Option Stamp → Type 0
+IsStampOf f b p None = (s m : ℕ) (v : Sector) → f b p ≢ Version s m v
+IsStampOf f b p (Some stamp) = (v : Sector) × (f b p ≡ Version stamp.sector stamp.number v)
+
+-- the page that was found has the greatest number of the sector among those that were read
+abbrev pub IsBest : Flash → ℕ → ℕ → ℕ → ℕ → Option Candidate → Type 0
+IsBest f pages b p s None = (c q m : ℕ) (v : Sector) → IsRead pages b p c q → f c q ≢ Version s m v
+IsBest f pages b p s (Some x) =
+    ((v : Sector) × (f x.at.block x.at.page ≡ Version s x.number v))
+    × ((c q m : ℕ) (v : Sector) → IsRead pages b p c q → f c q ≡ Version s m v → m ≤ x.number)
+    × ((t : PageAddr) → x.twin ≡ Some t → (v : Sector) × (f t.block t.page ≡ Version s x.number v))
+
+-- the last block in which the version was found
+abbrev pub last_block : PageAddr → Option PageAddr → ℕ
+last_block at None = at.block
+last_block at (Some twin) = twin.block
+
+-- each page with the version that was found is in its first block, its last one, or between
+abbrev pub IsSpan : Flash → ℕ → ℕ → ℕ → ℕ → Option Candidate → Type 0
+IsSpan f pages b p s None = Unit {0}
+IsSpan f pages b p s (Some x) =
+    (x.at.block ≤ b) × ((c q : ℕ) (v : Sector) → IsRead pages b p c q → f c q ≡ Version s x.number v → (x.at.block ≤ c) × (c ≤ last_block x.at x.twin))
+
+-- what was found before page p of block b
+pub record Finds (f : Flash) (pages b p : ℕ) (found : List (Option Candidate)) (next : ℕ) : Type 0 where
+  pub best : (s : ℕ) → s < length found → IsBest f pages b p s (slice_index_or found s None)
+  pub numbers : (c q s m : ℕ) (v : Sector) → IsRead pages b p c q → f c q ≡ Version s m v → m < next
+  pub spans : (s : ℕ) → s < length found → IsSpan f pages b p s (slice_index_or found s None)

@@ -1,0 +1,55 @@
+-- Whole runs: commands that succeed, commands that fail, and power cuts inside a command or between two. A mount follows each failure and each cut.
+use Rattle.std.specs.Prelude.{◌≡◌, List, [], ◌∷◌}
+use Rattle.durable.specs.Updates.{Update}
+use Rattle.durable.specs.Flash.{Flash, IsErased}
+use Rattle.durable.specs.Commands.{Completes, CutLeaves, updates_with}
+use Rattle.durable.specs.Device.{device_of, device_in}
+use Rattle.durable.specs.Failures.{IsRenumbered, IsSameFlashOf}
+use Rattle.durable.specs.Calls.{SurvivesCut, Acknowledges, HasNoted, Remounts}
+use Rattle.durable.specs.declared.command.Command.{Command}
+use Rattle.durable.specs.declared.memory.Core.{Core}
+use Rattle.durable.specs.declared.mount.Mount.{Mount}
+
+-- a command for an update succeeds; or it fails; or a power cut falls inside it; or one falls between two commands
+pub data Event : Type 0 where
+  Completed : (update : Update) (command : Command) → Event
+  Failed : (update : Update) (command : Command) → Event
+  CutInside : (update : Update) (command : Command) → Event
+  CutBetween : Event
+
+-- a mount of this flash gave the layer: it is what `Mount::finish` ensures of one that has noted the flash's stamps
+abbrev pub IsMountedFrom : Flash → Core → Type 0
+IsMountedFrom f core = (mount : Mount) × HasNoted f mount × (device_of core ≡ device_in mount) × Remounts mount core
+
+-- what an event does to the flash and to the layer. The commands are those of `Core::next`, and what they leave is what `Core::done`
+-- and `Mount::finish` ensure. A command that fails leaves what a power cut inside it may leave; the blocks are numbered anew then
+abbrev pub Happens : Event → Flash → Core → Flash → Core → Type 0
+Happens (Completed update command) f old t new =
+    Completes command update.sector update.value f t × Acknowledges old update.sector command new × (device_of new ≡ device_of old)
+Happens (Failed update command) f old t new =
+    (left : Flash) × SurvivesCut old update.sector command × CutLeaves command update.sector update.value f left
+    × IsRenumbered left t (device_of old).read_blocks × IsMountedFrom t new × IsSameFlashOf (device_of old) (device_of new)
+Happens (CutInside update command) f old t new =
+    SurvivesCut old update.sector command × CutLeaves command update.sector update.value f t × IsMountedFrom t new × (device_of new ≡ device_of old)
+Happens CutBetween f old t new = (t ≡ f) × IsMountedFrom t new × (device_of new ≡ device_of old)
+
+-- a run from the first mount of an erased flash, its newest event first
+abbrev pub Runs : List Event → Flash → Core → Type 0
+Runs [] f core = IsErased f × IsMountedFrom f core
+Runs (event ∷ events) t new = (f : Flash) × (old : Core) × Runs events f old × Happens event f old t new
+
+-- the updates whose program has succeeded, the newest first
+abbrev pub acknowledged_in : List Event → List Update
+acknowledged_in [] = []
+acknowledged_in (Completed update command ∷ events) = updates_with command update (acknowledged_in events)
+acknowledged_in (Failed update command ∷ events) = acknowledged_in events
+acknowledged_in (CutInside update command ∷ events) = acknowledged_in events
+acknowledged_in (CutBetween ∷ events) = acknowledged_in events
+
+-- the updates that may have reached the flash: those, and each whose command failed or was cut
+abbrev pub begun_in : List Event → List Update
+begun_in [] = []
+begun_in (Completed update command ∷ events) = updates_with command update (begun_in events)
+begun_in (Failed update command ∷ events) = update ∷ begun_in events
+begun_in (CutInside update command ∷ events) = update ∷ begun_in events
+begun_in (CutBetween ∷ events) = begun_in events

@@ -1,0 +1,27 @@
+-- What a mount needs of the flash to have a free block.
+use Rattle.std.specs.Prelude.{◌≡◌, ◌≢◌, ◌⊎◌, ◌<◌, ℕ, List, length, Option, None, Some}
+use Rattle.geometry.specs.Sectors.{Sector}
+use Rattle.geometry.specs.declared.page_addr.PageAddr.{PageAddr}
+use Rattle.durable.specs.Flash.{Version, Flash, HoldsNewest}
+use Rattle.durable.specs.declared.memory.Core.{Core}
+use Rattle.durable.specs.Collecting.{IsFree}
+use Rattle.durable.specs.Memory.{map_entry}
+
+-- each newest version in the block is in another block too
+abbrev pub IsDuplicated : Flash → ℕ → ℕ → Type 0
+IsDuplicated f sectors b = (s p : ℕ) (v : Sector) → s < sectors → HoldsNewest f s v b p
+    → (d : ℕ) × (q : ℕ) × (w : Sector) × (d ≢ b) × HoldsNewest f s w d q
+
+-- a mount can free some block, since all of its newest versions are elsewhere too
+abbrev pub CanFree : Flash → ℕ → ℕ → Type 0
+CanFree f blocks sectors = (b : ℕ) × (b < blocks) × IsDuplicated f sectors b
+
+-- a block is free, beside the open one; or the open one has only copies
+abbrev pub IsSparedAt : Flash → List (Option PageAddr) → ℕ → Option PageAddr → Type 0
+IsSparedAt f map blocks None = (b : ℕ) × (b < blocks) × IsFree map b
+IsSparedAt f map blocks (Some to) = ((b : ℕ) × (b < blocks) × (b ≢ to.block) × IsFree map b) ⊎ ((to.block < blocks) × IsDuplicated f (length map) to.block)
+
+-- whatever a power cut leaves, a mount can free a block: the map misses no version, and a block is spared
+pub record LeavesSpare (f : Flash) (core : Core) : Type 0 where
+  pub known : (s d q m : ℕ) (v : Sector) → s < length core.map.items → map_entry core s ≡ None → f d q ≢ Version s m v
+  pub spared : IsSparedAt f core.map.items core.blocks core.next_page

@@ -1,0 +1,22 @@
+-- The array of sectors and the updates that change it. It knows no page, block or number.
+use Rattle.std.specs.Prelude.{◌≡◌, ◌⊎◌, ℕ, List, [], ◌∷◌, None, if◌then◌else◌, ◌==◌}
+use Rattle.geometry.specs.Sectors.{Sector}
+
+-- an update: a sector, and what it holds from then on, which for a trim is nothing
+pub record Update : Type 0 where
+  pub sector : ℕ
+  pub value : Sector
+
+-- the array with one sector changed
+abbrev pub changed : (ℕ → Sector) → ℕ → Sector → ℕ → Sector
+changed array s value k = if k == s then value else array k
+
+-- the array after these updates, the newest first; before the first one all sectors are empty
+abbrev pub array_after : List Update → ℕ → Sector
+array_after [] k = None
+array_after (update ∷ earlier) k = changed (array_after earlier) update.sector update.value k
+
+-- the first list is the second with some updates left out, in the same order
+abbrev pub IsSubsequence : List Update → List Update → Type 0
+IsSubsequence some [] = some ≡ []
+IsSubsequence some (update ∷ all) = IsSubsequence some all ⊎ ((rest : List Update) × (some ≡ update ∷ rest) × IsSubsequence rest all)

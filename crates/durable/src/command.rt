@@ -1,0 +1,27 @@
+ghost use Rattle.std.specs.Prelude.{◌≡◌};
+
+use geometry::PageAddr;
+
+/// What the flash has to do next for a call.
+#[derive(Clone, Copy, Debug, PartialEq, Eq)]
+pub enum Command {
+    /// Program the page with the sector's new value, and a stamp with this number. The call is acknowledged after it.
+    Program(PageAddr, u64),
+    /// Copy the sector's page, from the first address to the second, with its stamp: ONFI 4.0, Copyback.
+    Copy(u32, PageAddr, PageAddr),
+    /// Erase the block.
+    Erase(u32),
+    /// The numbers have run out.
+    Refused,
+}
+
+impl Command {
+    ghost use Rattle.durable.specs.Commands.{is_program};
+
+    /// Whether the call is acknowledged after it.
+    pub fn is_last(self) -> bool
+        ensures { result ≡ is_program self }
+    {
+        matches!(self, Command::Program(..))
+    }
+}

@@ -1,0 +1,272 @@
+//! Laws of the definitions: each function has no code, and its clauses say on small values where a definition holds and where not.
+ghost use Rattle.std.specs.Prelude.{◌≡◌, ◌≢◌, ◌⊎◌, ◌<◌, ◌+◌, ◌-◌, ◌^◌, ℕ, List, [], ◌∷◌, None, Some, true, false, length, codes};
+ghost use Rattle.geometry.specs.Sectors.{Sector};
+ghost use Rattle.geometry.specs.declared.page_addr.PageAddr.{PageAddr as Addr};
+ghost use Rattle.durable.specs.Candidates.{IsEntryOf, IsFreeable, found_with, number_above};
+ghost use Rattle.durable.specs.Calls.{Acknowledges, HasNoted, IsSafe, Remounts, SurvivesCut, SurvivesIdleCut};
+ghost use Rattle.durable.specs.Choice.{IsNext, Spends, StaysOpen, left, number_after};
+ghost use Rattle.durable.specs.Collecting.{AreLiveCounts, CanCollect, HasCapacity, IsFree, IsPageOn, live_in};
+ghost use Rattle.durable.specs.Commands.{Completes, CutLeaves, IsAllowed, is_program, updates_with};
+ghost use Rattle.durable.specs.Device.{Device, IsReadOn, IsWrittenOn, NamesOn, device_in, device_of, next_number_of, next_page_of};
+ghost use Rattle.durable.specs.Failures.{HasVersionlessBlock, HoldsNoVersion, IsRenumbered, IsSameFlashOf};
+ghost use Rattle.durable.specs.Faults.{mount_fault_text};
+ghost use Rattle.durable.specs.Flash.{Erased, Flash, HoldsNewest, IsErased, RecoversSector, SetsPage, Torn, Version};
+ghost use Rattle.durable.specs.Memory.{IsMappedTo, map_entry};
+ghost use Rattle.durable.specs.Mounting.{IsStampOf, next_in, after_in};
+ghost use Rattle.durable.specs.Promise.{IsConsistent, IsReadable, IsRecoverable, KeepsAcknowledged};
+ghost use Rattle.durable.specs.Runs.{Completed, CutBetween, CutInside, Event, Failed, IsMountedFrom, Runs, acknowledged_in, begun_in};
+ghost use Rattle.durable.specs.Updates.{IsSubsequence, Update, array_after, changed};
+ghost use Rattle.durable.specs.declared.command.Command.TheVariants as command;
+ghost use Rattle.durable.specs.declared.fault.MountFault.TheVariants.{NoFreeBlock};
+ghost use Rattle.durable.specs.declared.memory.Core.{Core as Layer};
+ghost use Rattle.durable.specs.declared.mount.Mount.{Mount as Reading};
+
+/// What the array holds after updates, the newest first.
+pub fn arrays()
+    ensures new { array_after [] 0 ≡ None }
+    ensures newest { (v w : Sector) → array_after (record { sector = 0; value = v } ∷ record { sector = 0; value = w } ∷ []) 0 ≡ v }
+    ensures other { (v w : Sector) → array_after (record { sector = 1; value = v } ∷ record { sector = 0; value = w } ∷ []) 0 ≡ w }
+    ensures all { (u v : Update) → IsSubsequence (u ∷ v ∷ []) (u ∷ v ∷ []) }
+    ensures some { (u v : Update) → IsSubsequence (v ∷ []) (u ∷ v ∷ []) }
+    ensures more { (u : Update) → ¬ IsSubsequence (u ∷ []) [] }
+    ensures order { (u v : Update) → u ≢ v → ¬ IsSubsequence (u ∷ v ∷ []) (v ∷ u ∷ []) }
+{}
+
+/// What is read of a sector with two versions, and of one with none.
+pub fn versions_of_a_sector()
+    ensures newest { (f : Flash) (v w : Sector) → f 0 0 ≡ Version 7 1 v → f 1 1 ≡ Version 7 2 w → ¬ HoldsNewest f 7 v 0 0 }
+    ensures other { (f : Flash) (v w : Sector) → f 0 0 ≡ Version 7 1 v → ¬ HoldsNewest f 8 v 0 0 }
+    ensures value { (f : Flash) (v w : Sector) → v ≢ w → f 0 0 ≡ Version 7 1 v → ¬ HoldsNewest f 7 w 0 0 }
+    ensures torn { (f : Flash) (v : Sector) → f 0 0 ≡ Torn → ¬ HoldsNewest f 7 v 0 0 }
+    ensures erased { (f : Flash) → IsErased f → RecoversSector f 7 None }
+    ensures none { (f : Flash) (bytes : List ℕ) → IsErased f → ¬ RecoversSector f 7 (Some bytes) }
+    ensures lost { (f : Flash) (bytes : List ℕ) → HoldsNewest f 7 (Some bytes) 0 0 → ¬ RecoversSector f 7 None }
+{}
+
+/// What commands leave, and a power cut inside them.
+pub fn commands()
+    ensures programs { (f t : Flash) (v : Sector) → Completes (command.Program (record { block = 1; page = 2 }) 5) 7 v f t → t 1 2 ≡ Version 7 5 v }
+    ensures other_page { (f t : Flash) (v : Sector) → Completes (command.Program (record { block = 1; page = 2 }) 5) 7 v f t → t 1 3 ≡ f 1 3 }
+    ensures copies { (f t : Flash) (v : Sector)
+        → Completes (command.Copy 7 (record { block = 0; page = 4 }) (record { block = 1; page = 2 })) 7 v f t → t 1 2 ≡ f 0 4 }
+    ensures erases { (f t : Flash) (v : Sector) → Completes (command.Erase 1) 7 v f t → t 1 3 ≡ Erased }
+    ensures other_block { (f t : Flash) (v : Sector) → Completes (command.Erase 1) 7 v f t → t 0 3 ≡ f 0 3 }
+    ensures torn { (f t : Flash) (v : Sector) → SetsPage f t 1 2 Torn → CutLeaves (command.Program (record { block = 1; page = 2 }) 5) 7 v f t }
+    ensures whole { (f t : Flash) (v : Sector) → SetsPage f t 1 2 (Version 7 5 v)
+        → CutLeaves (command.Program (record { block = 1; page = 2 }) 5) 7 v f t }
+    ensures torn_copy { (f t : Flash) (v : Sector) → SetsPage f t 1 2 Torn
+        → CutLeaves (command.Copy 7 (record { block = 0; page = 4 }) (record { block = 1; page = 2 })) 7 v f t }
+    ensures whole_copy { (f t : Flash) (v : Sector) → SetsPage f t 1 2 (f 0 4)
+        → CutLeaves (command.Copy 7 (record { block = 0; page = 4 }) (record { block = 1; page = 2 })) 7 v f t }
+    ensures part { (f t : Flash) (v : Sector) → SetsPage f t 1 3 Torn → CutLeaves (command.Erase 1) 7 v f t }
+    ensures erased_part { (f t : Flash) (v : Sector) → SetsPage f t 1 3 Erased → CutLeaves (command.Erase 1) 7 v f t }
+    ensures nothing { (f : Flash) (v : Sector) → CutLeaves (command.Program (record { block = 1; page = 2 }) 5) 7 v f f }
+    ensures no_other { (f t : Flash) (v : Sector) → f 1 3 ≢ t 1 3 → ¬ CutLeaves (command.Program (record { block = 1; page = 2 }) 5) 7 v f t }
+    ensures no_value { (f t : Flash) (v w : Sector) → v ≢ w → f 1 2 ≡ Erased → t 1 2 ≡ Version 7 5 w
+        → ¬ CutLeaves (command.Program (record { block = 1; page = 2 }) 5) 7 v f t }
+    ensures no_new { (f t : Flash) (v : Sector) → f 1 3 ≡ Torn → t 1 3 ≡ Version 7 5 v → ¬ CutLeaves (command.Erase 1) 7 v f t }
+    ensures no_beside { (f t : Flash) (v : Sector) → f 0 3 ≡ Version 7 5 v → t 0 3 ≡ Torn → ¬ CutLeaves (command.Erase 1) 7 v f t }
+    ensures last { is_program (command.Program (record { block = 1; page = 2 }) 5) ≡ true }
+    ensures not_last { is_program (command.Erase 1) ≡ false }
+    ensures added { (u : Update) → updates_with (command.Program (record { block = 1; page = 2 }) 5) u [] ≡ u ∷ [] }
+    ensures not_added { (u : Update) → updates_with (command.Copy 7 (record { block = 0; page = 4 }) (record { block = 1; page = 2 })) u [] ≡ [] }
+    ensures over { (f : Flash) → f 1 2 ≡ Torn → ¬ IsAllowed f (command.Program (record { block = 1; page = 2 }) 5) }
+    ensures copied_over { (f : Flash) → f 1 2 ≡ Torn
+        → ¬ IsAllowed f (command.Copy 7 (record { block = 0; page = 4 }) (record { block = 1; page = 2 })) }
+{}
+
+/// What lies on a device of 3 blocks of 4 pages for 8 sectors, and what doesn't.
+pub fn devices()
+    ensures fits { HasCapacity 7 3 4 }
+    ensures full { ¬ HasCapacity 8 3 4 }
+    ensures no_blocks { ¬ HasCapacity 0 0 4 }
+    ensures no_pages { ¬ HasCapacity 0 3 0 }
+    ensures block { (f : Flash) (v : Sector) → f 3 0 ≡ Version 7 1 v → ¬ IsWrittenOn (record { blocks = 3; read_blocks = 3; pages = 4; sectors = 8 }) f }
+    ensures page { (f : Flash) (v : Sector) → f 2 4 ≡ Version 7 1 v → ¬ IsWrittenOn (record { blocks = 3; read_blocks = 3; pages = 4; sectors = 8 }) f }
+    ensures sector { (f : Flash) (v : Sector) → f 2 3 ≡ Version 8 1 v → ¬ IsWrittenOn (record { blocks = 3; read_blocks = 3; pages = 4; sectors = 8 }) f }
+    ensures number { (f : Flash) (v : Sector) → f 2 3 ≡ Version 7 (2 ^ 64 - 1) v
+        → ¬ IsWrittenOn (record { blocks = 3; read_blocks = 3; pages = 4; sectors = 8 }) f }
+    ensures erased { (f : Flash) → IsErased f → IsWrittenOn (record { blocks = 3; read_blocks = 3; pages = 4; sectors = 8 }) f }
+    ensures program { ¬ NamesOn (record { blocks = 3; read_blocks = 3; pages = 4; sectors = 8 }) (command.Program (record { block = 3; page = 0 }) 1) }
+    ensures last_page { ¬ NamesOn (record { blocks = 3; read_blocks = 3; pages = 4; sectors = 8 }) (command.Program (record { block = 0; page = 4 }) 1) }
+    ensures erase { ¬ NamesOn (record { blocks = 3; read_blocks = 3; pages = 4; sectors = 8 }) (command.Erase 3) }
+    ensures source { ¬ NamesOn (record { blocks = 3; read_blocks = 3; pages = 4; sectors = 8 })
+        (command.Copy 7 (record { block = 3; page = 0 }) (record { block = 0; page = 0 })) }
+    ensures target { ¬ NamesOn (record { blocks = 3; read_blocks = 3; pages = 4; sectors = 8 })
+        (command.Copy 7 (record { block = 0; page = 0 }) (record { block = 0; page = 4 })) }
+    ensures spare { ¬ NamesOn (record { blocks = 3; read_blocks = 5; pages = 4; sectors = 8 }) (command.Program (record { block = 3; page = 0 }) 1) }
+    ensures spare_erased { ¬ NamesOn (record { blocks = 3; read_blocks = 5; pages = 4; sectors = 8 }) (command.Erase 4) }
+    ensures spare_target { ¬ NamesOn (record { blocks = 3; read_blocks = 5; pages = 4; sectors = 8 })
+        (command.Copy 7 (record { block = 0; page = 0 }) (record { block = 3; page = 0 })) }
+    ensures bad_source { NamesOn (record { blocks = 3; read_blocks = 5; pages = 4; sectors = 8 })
+        (command.Copy 7 (record { block = 4; page = 0 }) (record { block = 2; page = 0 })) }
+    ensures bad_read { IsReadOn (record { blocks = 3; read_blocks = 5; pages = 4; sectors = 8 }) (record { block = 4; page = 3 }) }
+    ensures open { IsPageOn 3 4 (Some (record { block = 2; page = 3 })) }
+    ensures closed { IsPageOn 3 4 None }
+    ensures beyond { ¬ IsPageOn 3 4 (Some (record { block = 3; page = 3 })) }
+    ensures past { ¬ IsPageOn 3 4 (Some (record { block = 2; page = 4 })) }
+{}
+
+/// Live pages, and room to collect on 3 blocks of 4 pages.
+pub fn rooms()
+    ensures counted { live_in 2 (Some (record { block = 2; page = 0 }) ∷ None ∷ Some (record { block = 1; page = 0 })
+        ∷ Some (record { block = 2; page = 3 }) ∷ []) ≡ 2 }
+    ensures counts { AreLiveCounts (0 ∷ 1 ∷ []) (Some (record { block = 1; page = 0 }) ∷ None ∷ []) }
+    ensures other_count { ¬ AreLiveCounts (0 ∷ 2 ∷ []) (Some (record { block = 1; page = 0 }) ∷ None ∷ []) }
+    ensures free { IsFree (Some (record { block = 2; page = 0 }) ∷ None ∷ []) 1 }
+    ensures used { ¬ IsFree (None ∷ Some (record { block = 2; page = 0 }) ∷ []) 2 }
+    ensures spare { CanCollect (Some (record { block = 2; page = 0 }) ∷ []) 3 4 None }
+    ensures no_block { ¬ CanCollect [] 0 4 None }
+    ensures all_live { ¬ CanCollect (Some (record { block = 0; page = 0 }) ∷ []) 1 4 None }
+    ensures alone { ¬ CanCollect [] 1 4 (Some (record { block = 0; page = 0 })) }
+    ensures at_end { ¬ CanCollect (Some (record { block = 1; page = 0 }) ∷ []) 2 4 (Some (record { block = 0; page = 3 })) }
+    ensures before_end { CanCollect (Some (record { block = 1; page = 0 }) ∷ []) 2 4 (Some (record { block = 0; page = 2 })) }
+{}
+
+/// Which command comes next, and what it takes of a call.
+pub fn next_commands()
+    ensures number { (core : Layer) (at : Addr) → IsNext core (command.Program at 5) → next_number_of core ≡ 5 }
+    ensures page { (core : Layer) (at : Addr) → IsNext core (command.Program at 5) → next_page_of core ≡ Some at }
+    ensures last_number { (core : Layer) (at : Addr) → ¬ IsNext core (command.Program at (2 ^ 64 - 1)) }
+    ensures spare { (core : Layer) → core.blocks ≡ 1 → ¬ IsNext core (command.Program (record { block = 0; page = 1 }) 5) }
+    ensures open { (core : Layer) (at : Addr) → next_page_of core ≡ Some at → ¬ IsNext core (command.Erase 0) }
+    ensures erase { (core : Layer) → IsNext core (command.Erase 2) → IsFree core.map.items 2 }
+    ensures source { (core : Layer) (from to : Addr) → IsNext core (command.Copy 7 from to) → map_entry core 7 ≡ Some from }
+    ensures target { (core : Layer) (from to : Addr) → IsNext core (command.Copy 7 from to) → next_page_of core ≡ Some to }
+    ensures fewest { (core : Layer) (from to : Addr) → IsNext core (command.Copy 7 from to) → to.block ≡ 0 → 1 < core.blocks
+        → live_in 1 core.map.items + 1 ≡ live_in from.block core.map.items → ⊥ }
+    ensures opened { (core : Layer) → next_page_of core ≡ None → left core ≡ core.pages + 1 }
+    ensures part { (core : Layer) → core.pages ≡ 4 → next_page_of core ≡ Some (record { block = 1; page = 3 }) → left core ≡ 1 }
+    ensures first { Spends (command.Erase 0) 4 5 4 }
+    ensures twice { ¬ Spends (command.Erase 0) 4 4 4 }
+    ensures copy { ¬ Spends (command.Copy 7 (record { block = 1; page = 0 }) (record { block = 0; page = 0 })) 4 4 4 }
+    ensures copy_first { ¬ Spends (command.Copy 7 (record { block = 1; page = 0 }) (record { block = 0; page = 0 })) 4 5 4 }
+    ensures program { ¬ Spends (command.Program (record { block = 1; page = 0 }) 5) 4 0 0 }
+    ensures refused { ¬ Spends command.Refused 4 5 4 }
+    ensures counted { number_after (command.Program (record { block = 1; page = 0 }) 5) 3 ≡ 6 }
+    ensures same { number_after (command.Erase 1) 3 ≡ 3 }
+    ensures goes_on { (at : Addr) → StaysOpen (command.Program (record { block = 1; page = 0 }) 5) 4 (Some at) → at ≡ record { block = 1; page = 1 } }
+    ensures copied { (at : Addr) → StaysOpen (command.Copy 7 (record { block = 1; page = 0 }) (record { block = 2; page = 0 })) 4 (Some at)
+        → at ≡ record { block = 2; page = 1 } }
+    ensures begins { ¬ StaysOpen (command.Erase 1) 4 None }
+    ensures ends { StaysOpen (command.Program (record { block = 1; page = 3 }) 5) 4 None }
+{}
+
+/// The order in which stamps are noted, and what is kept of them.
+pub fn stamps()
+    ensures erased { (f : Flash) → f 1 2 ≡ Erased → IsStampOf f 1 2 None }
+    ensures torn { (f : Flash) → f 1 2 ≡ Torn → IsStampOf f 1 2 None }
+    ensures version { (f : Flash) (v : Sector) → f 1 2 ≡ Version 7 5 v → ¬ IsStampOf f 1 2 None }
+    ensures stamp { (f : Flash) (v : Sector) → f 1 2 ≡ Version 7 5 v → IsStampOf f 1 2 (Some (record { sector = 7; number = 5 })) }
+    ensures other { (f : Flash) (v : Sector) → f 1 2 ≡ Version 7 5 v → ¬ IsStampOf f 1 2 (Some (record { sector = 8; number = 5 })) }
+    ensures number { (f : Flash) (v : Sector) → f 1 2 ≡ Version 7 5 v → ¬ IsStampOf f 1 2 (Some (record { sector = 7; number = 6 })) }
+    ensures not_torn { (f : Flash) → f 1 2 ≡ Torn → ¬ IsStampOf f 1 2 (Some (record { sector = 7; number = 5 })) }
+    ensures here { (mount : Reading) → mount.read_blocks ≡ 3 → mount.block ≡ 2 → mount.page ≡ 1 → next_in mount ≡ Some (record { block = 2; page = 1 }) }
+    ensures end { (mount : Reading) → mount.read_blocks ≡ 3 → mount.block ≡ 3 → next_in mount ≡ None }
+    ensures after { (mount : Reading) → mount.read_blocks ≡ 3 → mount.pages ≡ 4 → mount.block ≡ 2 → mount.page ≡ 1
+        → after_in mount ≡ Some (record { block = 2; page = 2 }) }
+    ensures block { (mount : Reading) → mount.read_blocks ≡ 3 → mount.pages ≡ 4 → mount.block ≡ 1 → mount.page ≡ 3
+        → after_in mount ≡ Some (record { block = 2; page = 0 }) }
+    ensures last { (mount : Reading) → mount.read_blocks ≡ 3 → mount.pages ≡ 4 → mount.block ≡ 2 → mount.page ≡ 3 → after_in mount ≡ None }
+    ensures above { number_above 5 (Some (record { sector = 7; number = 5 })) ≡ 6 }
+    ensures below { number_above 9 (Some (record { sector = 7; number = 5 })) ≡ 9 }
+    ensures no_stamp { number_above 5 None ≡ 5 }
+{}
+
+/// What a mount finds of sectors, and which block it can free.
+pub fn candidates()
+    ensures none { ¬ IsEntryOf None (Some (record { block = 1; page = 0 })) }
+    ensures found { IsEntryOf (Some (record { at = record { block = 1; page = 0 }; number = 5; twin = None })) (Some (record { block = 1; page = 0 })) }
+    ensures other { ¬ IsEntryOf (Some (record { at = record { block = 1; page = 0 }; number = 5; twin = None })) (Some (record { block = 2; page = 0 })) }
+    ensures lost { ¬ IsEntryOf (Some (record { at = record { block = 1; page = 0 }; number = 5; twin = None })) None }
+    ensures newer { found_with (Some (record { at = record { block = 1; page = 0 }; number = 5; twin = None }) ∷ []) (record { block = 2; page = 3 })
+        (Some (record { sector = 0; number = 6 })) ≡ Some (record { at = record { block = 2; page = 3 }; number = 6; twin = None }) ∷ [] }
+    ensures older { found_with (Some (record { at = record { block = 1; page = 0 }; number = 5; twin = None }) ∷ []) (record { block = 2; page = 3 })
+        (Some (record { sector = 0; number = 4 })) ≡ Some (record { at = record { block = 1; page = 0 }; number = 5; twin = None }) ∷ [] }
+    ensures twin { found_with (Some (record { at = record { block = 1; page = 0 }; number = 5; twin = None }) ∷ []) (record { block = 2; page = 3 })
+        (Some (record { sector = 0; number = 5 }))
+        ≡ Some (record { at = record { block = 1; page = 0 }; number = 5; twin = Some (record { block = 2; page = 3 }) }) ∷ [] }
+    ensures empty { IsFreeable [] 1 }
+    ensures alone { ¬ IsFreeable (Some (record { at = record { block = 1; page = 0 }; number = 5; twin = None }) ∷ []) 1 }
+    ensures elsewhere { IsFreeable (Some (record { at = record { block = 1; page = 0 }; number = 5; twin = None }) ∷ []) 2 }
+    ensures same_block { ¬ IsFreeable (Some (record { at = record { block = 1; page = 0 }; number = 5; twin = Some (record { block = 1; page = 2 }) }) ∷ []) 1 }
+    ensures text { mount_fault_text NoFreeBlock ≡ codes "no block can be freed" }
+{}
+
+/// What the promise says of an erased flash, and of one with a version that nobody began.
+pub fn promises()
+    ensures nothing { (f : Flash) → IsErased f → KeepsAcknowledged f 8 [] [] }
+    ensures lost { (f : Flash) (bytes : List ℕ) → IsErased f
+        → ¬ KeepsAcknowledged f 8 (record { sector = 7; value = Some bytes } ∷ []) (record { sector = 7; value = Some bytes } ∷ []) }
+    ensures not_begun { (f : Flash) (bytes : List ℕ) → HoldsNewest f 7 (Some bytes) 0 0 → ¬ KeepsAcknowledged f 8 [] [] }
+    ensures keeps { (f : Flash) (device : Device) (acked begun : List Update) → IsRecoverable f device acked begun
+        → KeepsAcknowledged f device.sectors acked begun }
+    ensures written { (f : Flash) (device : Device) (acked begun : List Update) → IsRecoverable f device acked begun → IsWrittenOn device f }
+    ensures frees { (f : Flash) (acked begun : List Update) → ¬ IsRecoverable f (record { blocks = 0; read_blocks = 0; pages = 4; sectors = 8 }) acked begun }
+    ensures number { (f : Flash) (core : Layer) (v : Sector) (acked begun : List Update) → IsConsistent f core acked begun → f 0 0 ≡ Version 7 5 v
+        → 5 < next_number_of core }
+    ensures open { (f : Flash) (core : Layer) (acked begun : List Update) → IsConsistent f core acked begun
+        → next_page_of core ≡ Some (record { block = 1; page = 2 }) → f 1 3 ≡ Erased }
+    ensures on_device { (f : Flash) (core : Layer) (v : Sector) (acked begun : List Update) → IsConsistent f core acked begun → f 3 0 ≡ Version 7 5 v
+        → 3 < (device_of core).read_blocks }
+    ensures safe { (f : Flash) (core : Layer) (acked begun : List Update) → IsConsistent f core acked begun
+        → IsSafe core (command.Program (record { block = 1; page = 2 }) 5) → f 1 2 ≡ Erased }
+    ensures off_device { (f : Flash) (core : Layer) (acked begun : List Update) → IsConsistent f core acked begun → core.blocks ≡ 3
+        → ¬ IsSafe core (command.Erase 3) }
+    ensures cut { (f : Flash) (core : Layer) (acked begun : List Update) → IsConsistent f core acked begun → SurvivesCut core 7 command.Refused
+        → IsRecoverable f (device_of core) acked (record { sector = 7; value = None } ∷ begun) }
+    ensures idle { (f : Flash) (core : Layer) (acked begun : List Update) → IsConsistent f core acked begun → SurvivesIdleCut core
+        → IsRecoverable f (device_of core) acked begun }
+    ensures refused { (f : Flash) (old new : Layer) (acked begun : List Update) → IsConsistent f old acked begun → Acknowledges old 7 command.Refused new
+        → IsConsistent f new acked begun }
+    ensures programmed { (f t : Flash) (v : Sector) (old new : Layer) (acked begun : List Update) → IsConsistent f old acked begun
+        → Acknowledges old 7 (command.Program (record { block = 1; page = 2 }) 5) new → Completes (command.Program (record { block = 1; page = 2 }) 5) 7 v f t
+        → IsConsistent t new (record { sector = 7; value = v } ∷ acked) (record { sector = 7; value = v } ∷ begun) }
+    ensures noted { (f : Flash) (mount : Reading) (v : Sector) → HasNoted f mount → f 0 0 ≡ Version 7 5 v → 0 < mount.block → 5 < mount.next_number }
+    ensures remounts { (f : Flash) (mount : Reading) (core : Layer) (acked begun : List Update) → Remounts mount core → HasNoted f mount
+        → IsReadable f (device_in mount) acked begun → IsConsistent f core acked begun }
+{}
+
+/// Blocks that are numbered anew, and blocks without versions.
+pub fn failures()
+    ensures same { (f : Flash) → IsRenumbered f f 3 }
+    ensures lost { (f t : Flash) (v : Sector) → f 0 1 ≡ Version 7 5 v → IsErased t → ¬ IsRenumbered f t 3 }
+    ensures grown { (f t : Flash) (v : Sector) → IsErased f → t 0 1 ≡ Version 7 5 v → ¬ IsRenumbered f t 3 }
+    ensures within { (f t : Flash) (anew : IsRenumbered f t 3) → anew.to 2 < 3 }
+    ensures blank { (f : Flash) → IsErased f → HasVersionlessBlock f (record { blocks = 3; read_blocks = 5; pages = 4; sectors = 8 }) }
+    ensures torn { (f : Flash) → ((p : ℕ) → f 1 p ≡ Torn) → HoldsNoVersion f 1 }
+    ensures version { (f : Flash) (v : Sector) → f 1 2 ≡ Version 7 5 v → ¬ HoldsNoVersion f 1 }
+    ensures not_used { (f : Flash) → ¬ HasVersionlessBlock f (record { blocks = 0; read_blocks = 5; pages = 4; sectors = 8 }) }
+    ensures fewer { IsSameFlashOf
+        (record { blocks = 5; read_blocks = 5; pages = 4; sectors = 8 }) (record { blocks = 4; read_blocks = 5; pages = 4; sectors = 8 }) }
+    ensures unread { ¬ IsSameFlashOf
+        (record { blocks = 4; read_blocks = 5; pages = 4; sectors = 8 }) (record { blocks = 4; read_blocks = 4; pages = 4; sectors = 8 }) }
+    ensures other_pages { ¬ IsSameFlashOf
+        (record { blocks = 4; read_blocks = 5; pages = 4; sectors = 8 }) (record { blocks = 4; read_blocks = 5; pages = 3; sectors = 8 }) }
+    ensures other_sectors { ¬ IsSameFlashOf
+        (record { blocks = 4; read_blocks = 5; pages = 4; sectors = 8 }) (record { blocks = 4; read_blocks = 5; pages = 4; sectors = 7 }) }
+{}
+
+/// Which updates of a run are acknowledged, and which were begun.
+pub fn runs()
+    ensures acknowledged { (u : Update) → acknowledged_in (Completed u (command.Program (record { block = 1; page = 2 }) 5) ∷ []) ≡ u ∷ [] }
+    ensures not_yet { (u : Update) → acknowledged_in (Completed u (command.Erase 1) ∷ []) ≡ [] }
+    ensures cut { (u : Update) → acknowledged_in (CutInside u (command.Program (record { block = 1; page = 2 }) 5) ∷ []) ≡ [] }
+    ensures begun { (u : Update) → begun_in (CutInside u (command.Erase 1) ∷ []) ≡ u ∷ [] }
+    ensures failed { (u : Update) → acknowledged_in (Failed u (command.Program (record { block = 1; page = 2 }) 5) ∷ []) ≡ [] }
+    ensures failed_begun { (u : Update) → begun_in (Failed u (command.Erase 1) ∷ []) ≡ u ∷ [] }
+    ensures completed { (u : Update) → begun_in (Completed u (command.Program (record { block = 1; page = 2 }) 5) ∷ CutBetween ∷ []) ≡ u ∷ [] }
+    ensures erased { (f : Flash) (core : Layer) → Runs [] f core → IsErased f }
+    ensures inside { (events : List Event) (f t : Flash) (old new : Layer) (u : Update) → Runs events f old
+        → SurvivesCut old u.sector (command.Erase 1) → CutLeaves (command.Erase 1) u.sector u.value f t → IsMountedFrom t new
+        → device_of new ≡ device_of old → Runs (CutInside u (command.Erase 1) ∷ events) t new }
+    ensures numbered_anew { (events : List Event) (f left t : Flash) (old new : Layer) (u : Update) → Runs events f old
+        → SurvivesCut old u.sector (command.Erase 1) → CutLeaves (command.Erase 1) u.sector u.value f left → IsRenumbered left t (device_of old).read_blocks
+        → IsMountedFrom t new → IsSameFlashOf (device_of old) (device_of new) → Runs (Failed u (command.Erase 1) ∷ events) t new }
+    ensures idle { (events : List Event) (f : Flash) (old new : Layer) → Runs events f old → IsMountedFrom f new → device_of new ≡ device_of old
+        → Runs (CutBetween ∷ events) f new }
+    ensures done { (events : List Event) (f t : Flash) (old new : Layer) (u : Update) → Runs events f old
+        → Completes (command.Erase 1) u.sector u.value f t → Acknowledges old u.sector (command.Erase 1) new → device_of new ≡ device_of old
+        → Runs (Completed u (command.Erase 1) ∷ events) t new }
+    ensures between { (t : Flash) (new : Layer) → Runs (CutBetween ∷ []) t new → (b p : ℕ) → t b p ≡ Erased }
+{}

@@ -1,0 +1,116 @@
+ghost use Rattle.std.specs.Prelude.{◌≡◌, ◌≢◌, ◌<◌, ◌+◌, ◌^◌, ℕ, List, length, Some, None, IfSome};
+ghost use Rattle.durable.specs.Collecting.{IsFree, live_in};
+
+use crate::command::Command;
+use crate::counting::remap;
+use crate::memory::Core;
+use crate::search::{fewest, page_after, source};
+use geometry::PageAddr;
+
+impl Core {
+    ghost use Rattle.durable.specs.Flash.{Flash};
+    ghost use Rattle.durable.specs.Updates.{Update, array_after};
+    ghost use Rattle.durable.specs.Device.{device_of, next_page_of, next_number_of};
+    ghost use Rattle.durable.specs.Memory.{IsMappedTo};
+    ghost use Rattle.durable.specs.Choice.{IsNext, StaysOpen, Spends, left, number_after};
+    ghost use Rattle.durable.specs.Promise.{IsConsistent};
+    ghost use Rattle.durable.specs.Calls.{IsSafe, SurvivesCut, SurvivesIdleCut, Acknowledges};
+    ghost use Rattle.durable.specs.declared.command.Command.TheVariants.{Refused};
+
+    /// How many sectors the device has.
+    pub fn sectors(&self) -> u32
+        ensures { result ≡ (device_of self.now).sectors }
+    {
+        self.map.len() as u32
+    }
+
+    /// The page with the sector's value, or with its trim; none for a sector that was never written.
+    pub fn page(&self, sector: u32) -> Option<PageAddr>
+        requires { sector < (device_of self.now).sectors }
+        ensures { (f : Flash) (acked begun : List Update) (consistent : IsConsistent f self.now acked begun)
+            → IsMappedTo f sector (array_after consistent.updates sector) result }
+    {
+        self.map[sector as usize]
+    }
+
+    /// The command that comes next for a write or trim of the sector. It depends on nothing but the layer's memory.
+    pub fn next(&self, sector: u32) -> Command
+        requires { sector < (device_of self.now).sectors }
+        ensures next { IsNext self.now result }
+        ensures safe { IsSafe self.now result }
+        ensures cut { SurvivesCut self.now sector result }
+        ensures idle { SurvivesIdleCut self.now }
+
+        // It is refused only if the numbers have run out.
+        ensures progress { next_number_of self.now + 1 < 2 ^ 64 → result ≢ Refused }
+    {
+        self.choose()
+    }
+
+    /// The command that came next has succeeded.
+    pub fn done(&mut self, sector: u32, command: Command)
+        requires sector { sector < (device_of self.old).sectors }
+        requires next { IsNext self.old command }
+        ensures device { device_of self.new ≡ device_of self.old }
+        ensures acknowledges { Acknowledges self.old sector command self.new }
+        ensures number { next_number_of self.new ≡ number_after command (next_number_of self.old) }
+
+        // Each command but the program brings the call nearer to its end.
+        ensures spends { Spends command (device_of self.old).pages (left self.old) (left self.new) }
+        ensures open { StaysOpen command (device_of self.old).pages (next_page_of self.new) }
+    {
+        match command {
+            Command::Program(at, number) => {
+                remap(&mut self.map, &mut self.counts, sector, at);
+                self.next_number = number + 1;
+                self.next_page = page_after(at, self.pages);
+            }
+            Command::Copy(sector, _, to) => {
+                remap(&mut self.map, &mut self.counts, sector, to);
+                self.hand = sector;
+                self.next_page = page_after(to, self.pages);
+            }
+            Command::Erase(block) => self.next_page = Some(PageAddr { block, page: 0 }),
+            Command::Refused => {}
+        }
+    }
+
+    // The command that comes next, whatever the sector is.
+    fn choose(&self) -> Command
+        ensures next { IsNext self.now result }
+        ensures progress { next_number_of self.now + 1 < 2 ^ 64 → result ≢ Refused }
+    {
+        match self.next_page {
+            Some(to) => {
+                if self.free_beside(to.block).is_some() {
+                    if self.next_number >= u64::MAX {
+                        return Command::Refused;
+                    }
+                    return Command::Program(to, self.next_number);
+                }
+                let victim = fewest(&self.counts, self.blocks, to.block);
+                match source(&self.map, victim, self.hand as usize) {
+                    Some((sector, from)) => Command::Copy(sector, from, to),
+                    None => Command::Refused,
+                }
+            }
+            None => match self.free_beside(self.blocks) {
+                Some(block) => Command::Erase(block),
+                None => Command::Refused,
+            },
+        }
+    }
+
+    // A free block, beside one.
+    fn free_beside(&self, avoided: u32) -> Option<u32>
+        ensures free { IfSome result (λ b. IsFree self.now.map.items b × (b < self.now.blocks) × (b ≢ avoided)) }
+        ensures none { result ≡ None → (b : ℕ) → b < self.now.blocks → b ≢ avoided → 0 < live_in b self.now.map.items }
+    {
+        for block in 0..self.blocks {
+            if block != avoided && self.counts[block as usize] == 0 {
+                return Some(block);
+            }
+        }
+        None
+    }
+}

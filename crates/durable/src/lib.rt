@@ -1,0 +1,26 @@
+//! The core of a page-mapped flash translation layer for one thread that survives power cuts: it
+//! says which command the flash gets next, and does no input or output itself.
+#![tactic(auto)]
+
+mod candidates;
+mod command;
+mod counting;
+mod fault;
+mod found;
+mod laws;
+mod layer;
+mod memory;
+mod mount;
+mod mounting;
+mod rehearsal;
+mod runs;
+mod search;
+
+pub use command::Command;
+pub use fault::MountFault;
+pub use found::Stamp;
+pub use geometry::PageAddr;
+pub use memory::Core;
+pub use mount::Mount;
+pub use rehearsal::Cost;
+pub use runs::{keeps_acknowledged, survives_failures};

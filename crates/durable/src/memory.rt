@@ -1,0 +1,28 @@
+ghost use Rattle.std.specs.Prelude.{◌≡◌, ◌<◌, ◌≤◌, ◌^◌, length};
+ghost use Rattle.durable.specs.Collecting.{AreLiveCounts, HasCapacity, CanCollect, IsPageOn};
+
+use geometry::PageAddr;
+
+/// What the layer knows of a flash: where each sector is, the page to be programmed next, and the next version's number.
+#[derive(Drop)]
+pub struct Core {
+    // How many blocks are in use, and how many are read.
+    pub(crate) blocks: u32,
+    pub(crate) read_blocks: u32,
+    pub(crate) pages: u32,
+    pub(crate) map: Vec<Option<PageAddr>>,
+    // How many live pages each block has.
+    pub(crate) counts: Vec<u32>,
+    // The sector at which the next search for a page of the victim starts.
+    pub(crate) hand: u32,
+    // None: no block is open.
+    pub(crate) next_page: Option<PageAddr>,
+    pub(crate) next_number: u64,
+    pub ghost on_device: { IsPageOn blocks pages next_page },
+    pub ghost all_read: { blocks ≤ read_blocks },
+    pub ghost counts_sized: { length counts.items ≡ blocks },
+    pub ghost counted: { AreLiveCounts counts.items map.items },
+    pub ghost few_sectors: { length map.items < 2 ^ 32 },
+    pub ghost has_capacity: { HasCapacity (length map.items) blocks pages },
+    pub ghost can_collect: { CanCollect map.items blocks pages next_page },
+}

@@ -1,0 +1,135 @@
+ghost use Rattle.std.specs.Prelude.{◌≡◌, ◌≢◌, ◌⊎◌, ◌<◌, ◌≤◌, ◌+◌, ◌-◌, ◌*◌, ℕ, List, length, Ok, Err, Some, None, IfOk, OnOk, OnErr, IfSome};
+ghost use Rattle.durable.specs.Flash.{Flash};
+
+use crate::candidates::{entries_of, freeable, is_of_device, take};
+use crate::counting::counts_of;
+use crate::fault::MountFault;
+use crate::found::Stamp;
+use crate::memory::Core;
+use crate::mount::Mount;
+use geometry::PageAddr;
+use std::alloc::Global;
+
+impl Mount {
+    ghost use Rattle.durable.specs.Updates.{Update};
+    ghost use Rattle.durable.specs.Device.{device_of, device_in, IsWrittenOn};
+    ghost use Rattle.durable.specs.Collecting.{HasCapacity};
+    ghost use Rattle.durable.specs.Mounting.{IsStampOf, next_in, after_in};
+    ghost use Rattle.durable.specs.Promise.{IsRecoverable};
+    ghost use Rattle.durable.specs.Calls.{HasNoted, Remounts};
+    ghost use Rattle.durable.specs.declared.fault.MountFault.TheVariants.{TooManySectors, ForeignStamp, NoFreeBlock, OutOfMemory};
+
+    /// A mount that has noted nothing, of a device whose blocks are all in use.
+    pub fn begin(alloc: Global, blocks: u32, pages: u32, sectors: u32) -> Result<Mount, MountFault>
+        ensures device { IfOk result (λ mount. device_in mount ≡ record { blocks = blocks; read_blocks = blocks; pages = pages; sectors = sectors }) }
+        ensures first { IfOk result (λ mount. next_in mount ≡ Some (record { block = 0; page = 0 })) }
+        ensures notes { IfOk result (λ mount. (f : Flash) → HasNoted f mount) }
+        ensures refused { HasCapacity sectors blocks pages → result ≢ Err TooManySectors }
+        ensures capacity { OnOk result (HasCapacity sectors blocks pages) }
+        ensures cause { OnErr result ((result ≡ Err TooManySectors) ⊎ (result ≡ Err OutOfMemory)) }
+    {
+        Mount::begin_over(alloc, blocks, blocks, pages, sectors)
+    }
+
+    /// The same, where more blocks are read than are in use: bad ones and a reserve, with the numbers after those.
+    pub fn begin_over(
+        alloc: Global,
+        read_blocks: u32,
+        blocks: u32,
+        pages: u32,
+        sectors: u32,
+    ) -> Result<Mount, MountFault>
+        requires { blocks ≤ read_blocks }
+        ensures device { IfOk result (λ mount. device_in mount ≡ record { blocks = blocks; read_blocks = read_blocks; pages = pages; sectors = sectors }) }
+        ensures first { IfOk result (λ mount. next_in mount ≡ Some (record { block = 0; page = 0 })) }
+        ensures notes { IfOk result (λ mount. (f : Flash) → HasNoted f mount) }
+        ensures refused { HasCapacity sectors blocks pages → result ≢ Err TooManySectors }
+        ensures capacity { OnOk result (HasCapacity sectors blocks pages) }
+        ensures cause { OnErr result ((result ≡ Err TooManySectors) ⊎ (result ≡ Err OutOfMemory)) }
+    {
+        if blocks == 0 || u64::from(sectors) >= u64::from(blocks - 1) * u64::from(pages) {
+            return Err(MountFault::TooManySectors);
+        }
+        let Ok(found) = vec![in alloc; None; sectors as usize] else {
+            return Err(MountFault::OutOfMemory);
+        };
+        Ok(Mount {
+            blocks,
+            read_blocks,
+            pages,
+            found,
+            next_number: 0,
+            block: 0,
+            page: 0,
+        })
+    }
+
+    /// The page whose stamp has to be noted next, or none after the last.
+    pub fn next_page(&self) -> Option<PageAddr>
+        ensures { result ≡ next_in self.now }
+    {
+        (self.block < self.read_blocks).then_some(PageAddr {
+            block: self.block,
+            page: self.page,
+        })
+    }
+
+    /// Takes the stamp of the next page, or none for a page that has no version: an erased or a torn one.
+    pub fn note(&mut self, stamp: Option<Stamp>) -> Result<(), MountFault>
+        requires { next_in self.old ≢ None }
+        ensures device { device_in self.new ≡ device_in self.old }
+        ensures next { OnOk result (next_in self.new ≡ after_in self.old) }
+        ensures notes { OnOk result ((f : Flash) → HasNoted f self.old
+            → IfSome (next_in self.old) (λ at. IsStampOf f at.block at.page stamp) → HasNoted f self.new) }
+        ensures accepts { (f : Flash) → IsWrittenOn (device_in self.old) f
+            → IfSome (next_in self.old) (λ at. IsStampOf f at.block at.page stamp) → result ≡ Ok tt }
+        ensures cause { OnErr result (result ≡ Err ForeignStamp) }
+        ensures same { OnErr result (self.new ≡ self.old) }
+    {
+        if !is_of_device(stamp, self.found.len()) {
+            return Err(MountFault::ForeignStamp);
+        }
+        let at = PageAddr {
+            block: self.block,
+            page: self.page,
+        };
+        take(&mut self.found, &mut self.next_number, at, stamp);
+        if self.page + 1 < self.pages {
+            self.page += 1;
+        } else {
+            self.page = 0;
+            self.block += 1;
+        }
+        Ok(())
+    }
+
+    /// The layer, once the stamp of every page was noted.
+    pub fn finish(self, alloc: Global) -> Result<Core, MountFault>
+        requires { next_in self ≡ None }
+        ensures device { IfOk result (λ core. device_of core ≡ device_in self) }
+        ensures remounts { IfOk result (Remounts self) }
+        ensures frees { (f : Flash) (acked begun : List Update) → HasNoted f self → IsRecoverable f (device_in self) acked begun → result ≢ Err NoFreeBlock }
+        ensures cause { OnErr result ((result ≡ Err NoFreeBlock) ⊎ (result ≡ Err OutOfMemory)) }
+    {
+        let avoided = freeable(&self.found, self.blocks);
+        if avoided >= self.blocks {
+            return Err(MountFault::NoFreeBlock);
+        }
+        let Ok(map) = entries_of(alloc, &self.found, avoided) else {
+            return Err(MountFault::OutOfMemory);
+        };
+        let Ok(counts) = counts_of(alloc, &map, self.blocks) else {
+            return Err(MountFault::OutOfMemory);
+        };
+        Ok(Core {
+            blocks: self.blocks,
+            read_blocks: self.read_blocks,
+            pages: self.pages,
+            map,
+            counts,
+            hand: 0,
+            next_page: None,
+            next_number: self.next_number,
+        })
+    }
+}

@@ -1,0 +1,40 @@
+ghost use Rattle.std.specs.Prelude.{◌≡◌, ◌<◌, ◌≤◌, ◌+◌, ◌^◌};
+
+use crate::command::Command;
+use crate::memory::Core;
+
+/// What a call costs before its program.
+#[derive(Clone, Copy, Debug, PartialEq, Eq)]
+pub struct Cost {
+    pub erases: u64,
+    pub copies: u64,
+}
+
+impl Core {
+    ghost use Rattle.durable.specs.Device.{device_of, next_number_of};
+
+    /// A whole call in memory, as if each command succeeded. It costs at most one erase, a copy fewer than a block has pages, and one program.
+    pub fn rehearse(&mut self, sector: u32) -> Cost
+        requires sector { sector < (device_of self.old).sectors }
+        requires number { next_number_of self.old + 1 < 2 ^ 64 }
+        ensures erases { result.erases ≤ 1 }
+        ensures copies { result.copies + 1 ≤ (device_of self.old).pages }
+        ensures device { device_of self.new ≡ device_of self.old }
+        ensures number { next_number_of self.new ≡ next_number_of self.old + 1 }
+    {
+        let mut cost = Cost {
+            erases: 0,
+            copies: 0,
+        };
+        loop {
+            let command = self.next(sector);
+            self.done(sector, command);
+            match command {
+                Command::Program(..) => return cost,
+                Command::Copy(..) => cost.copies += 1,
+                Command::Erase(_) => cost.erases += 1,
+                Command::Refused => {}
+            }
+        }
+    }
+}

@@ -1,0 +1,33 @@
+ghost use Rattle.std.specs.Prelude.{◌≡◌, ◌<◌, ◌≤◌, ℕ, List, []};
+ghost use Rattle.durable.specs.Flash.{Flash, IsErased};
+ghost use Rattle.durable.specs.Device.{Device, device_of, NamesOn};
+ghost use Rattle.durable.specs.Commands.{CutLeaves};
+ghost use Rattle.durable.specs.Failures.{IsRenumbered, HasVersionlessBlock, IsSameFlashOf};
+ghost use Rattle.geometry.specs.Sectors.{Sector};
+ghost use Rattle.durable.specs.Updates.{Update};
+ghost use Rattle.durable.specs.declared.command.Command.{Command as Next};
+ghost use Rattle.durable.specs.declared.memory.Core.{Core as Layer};
+ghost use Rattle.durable.specs.Promise.{KeepsAcknowledged, IsReadable, IsRecoverable, IsConsistent};
+ghost use Rattle.durable.specs.Runs.{Event, Runs, acknowledged_in, begun_in};
+
+/// After any run of commands with any number of power cuts, each inside a command or between two, and with any number of commands that fail, a mount
+/// reads every acknowledged update.
+/// It computes nothing: its clauses are the theorem.
+pub fn keeps_acknowledged()
+    ensures new { (f : Flash) (device : Device) → IsErased f → 0 < device.blocks → IsRecoverable f device [] [] }
+    ensures keeps { (events : List Event) (f : Flash) (layer : Layer) → Runs events f layer
+        → KeepsAcknowledged f (device_of layer).sectors (acknowledged_in events) (begun_in events) }
+    ensures consistent { (events : List Event) (f : Flash) (layer : Layer) → Runs events f layer
+        → IsConsistent f layer (acknowledged_in events) (begun_in events) }
+{}
+
+/// What a command that fails leaves can be mounted, if the blocks are numbered so that one without versions comes in use: one in reserve, since no
+/// command changes a block that isn't in use. It computes nothing: its clauses are the theorem.
+pub fn survives_failures()
+    ensures untouched { (f t : Flash) (device : Device) (command : Next) (s : ℕ) (value : Sector) → NamesOn device command → CutLeaves command s value f t
+        → (b p : ℕ) → device.blocks ≤ b → t b p ≡ f b p }
+    ensures renumbered { (f t : Flash) (old new : Device) (acked begun : List Update) → IsReadable f old acked begun
+        → IsRenumbered f t old.read_blocks → IsSameFlashOf old new → IsReadable t new acked begun }
+    ensures recoverable { (f : Flash) (device : Device) (acked begun : List Update) → IsReadable f device acked begun → HasVersionlessBlock f device
+        → IsRecoverable f device acked begun }
+{}

@@ -1,0 +1,71 @@
+ghost use Rattle.std.specs.Prelude.{◌≡◌, ◌≢◌, ◌<◌, ◌≤◌, ◌+◌, ◌^◌, ℕ, length, None, Some, IfSome, slice_index_or};
+ghost use Rattle.geometry.specs.declared.page_addr.PageAddr.{PageAddr as Addr};
+ghost use Rattle.durable.specs.Collecting.{IsFree};
+
+use geometry::PageAddr;
+
+/// The page after this one, if the block has one.
+pub fn page_after(at: PageAddr, pages: u32) -> Option<PageAddr>
+    requires { at.page < pages }
+    ensures next { IfSome result (λ to. (to.block ≡ at.block) × (to.page ≡ at.page + 1) × (to.page < pages)) }
+    ensures last { result ≡ None → at.page + 1 ≡ pages }
+    ensures exact { at.page + 1 < pages → result ≡ Some (record { block = at.block; page = at.page + 1 }) }
+{
+    let page = at.page + 1;
+    (page < pages).then_some(PageAddr {
+        block: at.block,
+        page,
+    })
+}
+
+/// The block with the fewest live pages, beside one.
+pub fn fewest(counts: &[u32], blocks: u32, avoided: u32) -> u32
+    requires { length counts.now ≡ blocks }
+    ensures { (b : ℕ) → b < length counts.now → b ≢ avoided
+        → (result < length counts.now) × (result ≢ avoided) × (slice_index_or counts.now result 0 ≤ slice_index_or counts.now b 0) }
+{
+    let mut best = avoided;
+    let mut least = 0;
+    for block in 0..blocks {
+        let count = counts[block as usize];
+        if block != avoided && (best == avoided || count < least) {
+            least = count;
+            best = block;
+        }
+    }
+    best
+}
+
+/// A sector that is mapped to a block, and its page: the first from a sector on, or otherwise the first before it.
+pub fn source(map: &[Option<PageAddr>], block: u32, from: usize) -> Option<(u32, PageAddr)>
+    requires { length map.now < 2 ^ 32 }
+    ensures found { IfSome result (λ found. (found.0 < length map.now) × (slice_index_or map.now found.0 None ≡ Some found.1) × (found.1.block ≡ block)) }
+    ensures none { result ≡ None → IsFree map.now block }
+{
+    let from = from.min(map.len());
+    match source_between(map, block, from, map.len()) {
+        Some(found) => Some(found),
+        None => source_between(map, block, 0, from),
+    }
+}
+
+fn source_between(
+    map: &[Option<PageAddr>],
+    block: u32,
+    from: usize,
+    to: usize,
+) -> Option<(u32, PageAddr)>
+    requires few { length map.now < 2 ^ 32 }
+    requires within { to ≤ length map.now }
+    ensures found { IfSome result (λ found. (found.0 < length map.now) × (slice_index_or map.now found.0 None ≡ Some found.1) × (found.1.block ≡ block)) }
+    ensures none { result ≡ None → (s : ℕ) (at : Addr) → from ≤ s → s < to → slice_index_or map.now s None ≡ Some at → at.block ≢ block }
+{
+    for s in from..to {
+        if let Some(at) = map[s] {
+            if at.block == block {
+                return Some((s as u32, at));
+            }
+        }
+    }
+    None
+}

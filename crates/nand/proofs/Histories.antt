@@ -1,0 +1,96 @@
+-- What a list of calls leaves.
+use Rattle.std.proofs.Common.{◌≡◌, ◌⊎◌, ◌∙◌, inl, inr, ◌+◌, ◌<◌, ℕ, zero, suc, Bool, false, List, [], ◌∷◌, ◌++◌, length, Result, Ok, Err, IfOk, IfErr}
+use Rattle.std.proofs.Common.{get_or, set, refl, sym, ap, subst, arith}
+use Rattle.durable.specs.Flash.{Flash}
+use Rattle.durable.specs.Promise.{IsRecoverable}
+use Rattle.durable.specs.Updates.{Update}
+use Rattle.nand.specs.declared.failure.Failure.{Failure}
+use Rattle.nand.specs.declared.flash.Shape.{Shape}
+use Rattle.nand.specs.declared.history.Change.{Change}
+use Rattle.nand.specs.declared.layer.Durable.{Durable}
+use Rattle.nand.specs.declared.layer.NotOpened.{NotOpened}
+use Rattle.nand.specs.Histories.{Makes, Leads, update_by}
+use Rattle.nand.specs.Opened.{CanOpen, Fails, IsOpenLayer, device_on, layer_sectors}
+
+module _ {N : Type 0} (flash : N → Flash) (shape : N → Shape) (update : Update) (before : List Update) where
+  abbrev pub LeavesOpen : Bool → Durable N → Type 0
+  LeavesOpen acknowledged layer = (after : List Update) × Makes acknowledged update before after × IsOpenLayer flash shape layer after
+
+  abbrev pub LeavesChip : Bool → ℕ → NotOpened N → Type 0
+  LeavesChip acknowledged sectors refused =
+      (after : List Update) × Makes acknowledged update before after × CanOpen flash shape refused.nand sectors after
+
+  -- the chip is opened after a call that was cut short
+  pub opens : (nand : N) (sectors : ℕ) (result : Result (Durable N) (NotOpened N))
+      → CanOpen flash shape nand sectors before ⊎ CanOpen flash shape nand sectors (update ∷ before)
+      → ((updates : List Update) → CanOpen flash shape nand sectors updates → IfOk result (λ layer. IsOpenLayer flash shape layer updates))
+      → IfOk result (LeavesOpen false)
+  opens nand sectors (Err refused) left again = tt
+  opens nand sectors (Ok layer) (inl left) again = (before, inl refl, again before left)
+  opens nand sectors (Ok layer) (inr left) again = (update ∷ before, inr refl, again (update ∷ before) left)
+
+  -- or it comes back
+  same_chip : (nand back : N) (sectors : ℕ) (updates : List Update) → flash back ≡ flash nand → shape back ≡ shape nand
+      → CanOpen flash shape nand sectors updates → CanOpen flash shape back sectors updates
+  same_chip nand back sectors updates same sized is =
+      subst (λ (f : Flash). IsRecoverable f (device_on (shape back) sectors) updates updates) (sym same)
+      (subst (λ (s : Shape). IsRecoverable (flash nand) (device_on s sectors) updates updates) (sym sized) is)
+
+  pub comes_back : (nand : N) (sectors : ℕ) (result : Result (Durable N) (NotOpened N))
+      → CanOpen flash shape nand sectors before ⊎ CanOpen flash shape nand sectors (update ∷ before)
+      → IfErr result (λ refused. (flash refused.nand ≡ flash nand) × (shape refused.nand ≡ shape nand))
+      → IfErr result (LeavesChip false sectors)
+  comes_back nand sectors (Ok layer) left back = tt
+  comes_back nand sectors (Err refused) (inl left) back = (before, inl refl, same_chip nand refused.nand sectors before back.0 back.1 left)
+  comes_back nand sectors (Err refused) (inr left) back =
+      (update ∷ before, inr refl, same_chip nand refused.nand sectors (update ∷ before) back.0 back.1 left)
+
+-- what a failed call leaves can be opened, for as many sectors
+pub reopens : {N : Type 0} (flash : N → Flash) (shape : N → Shape) (old new : Durable N) (nand : N) (update : Update) (updates : List Update)
+    (cause : Failure) (sectors : ℕ) → sectors ≡ layer_sectors old → nand ≡ new.nand → Fails flash shape old new update updates cause
+    → CanOpen flash shape nand sectors updates ⊎ CanOpen flash shape nand sectors (update ∷ updates)
+reopens {N} flash shape old new nand update updates cause sectors size chip fails =
+    subst (λ (x : N). CanOpen flash shape x sectors updates ⊎ CanOpen flash shape x sectors (update ∷ updates)) (sym chip)
+    (subst (λ (n : ℕ). CanOpen flash shape new.nand n updates ⊎ CanOpen flash shape new.nand n (update ∷ updates)) (sym size) fails.reopens)
+
+-- the last outcome is set
+pub set_last : (outcomes : List Bool) (old new : Bool) (n : ℕ) → length outcomes ≡ n → set (outcomes ++ old ∷ []) n new ≡ outcomes ++ new ∷ []
+set_last [] old new zero is = refl
+set_last [] old new (suc n) is = absurd (omega (arith, is))
+set_last (x ∷ outcomes) old new zero is = absurd (omega (arith, is))
+set_last (x ∷ outcomes) old new (suc n) is = ap (λ (rest : List Bool). x ∷ rest) (set_last outcomes old new n (omega (arith, is)))
+
+-- one call more was made
+one_more : (calls : List Change) (outcomes : List Bool) (n : ℕ) (call : Change) (acknowledged : Bool) (before middle after : List Update)
+    → Leads calls outcomes before middle → length outcomes ≡ n → n < length calls → call ≡ get_or calls n call
+    → Makes acknowledged (update_by call) middle after → Leads calls (outcomes ++ acknowledged ∷ []) before after
+one_more [] outcomes n call acknowledged before middle after leads same lt is follows = absurd (omega (arith, lt))
+one_more (first ∷ calls) [] zero call acknowledged before middle after leads same lt is follows = (
+  after,
+  subst (λ (x : Change). Makes acknowledged (update_by x) before after) is
+      (subst (λ (us : List Update). Makes acknowledged (update_by call) us after) leads follows),
+  refl,
+)
+one_more (first ∷ calls) [] (suc n) call acknowledged before middle after leads same lt is follows = absurd (omega (arith, same))
+one_more (first ∷ calls) (outcome ∷ outcomes) zero call acknowledged before middle after leads same lt is follows = absurd (omega (arith, same))
+one_more (first ∷ calls) (outcome ∷ outcomes) (suc n) call acknowledged before middle after leads same lt is follows =
+    (leads.0, leads.1, one_more calls outcomes n call acknowledged leads.0 middle after leads.2 (omega (arith, same)) (omega (arith, lt)) is follows)
+
+-- the same where its outcome was put behind the others, and then set
+pub leads_more : (calls : List Change) (outcomes pushed : List Bool) (n : ℕ) (call : Change) (acknowledged : Bool) (before middle after : List Update)
+    → Leads calls outcomes before middle → pushed ≡ outcomes ++ false ∷ [] → length outcomes ≡ n → n < length calls → call ≡ get_or calls n call
+    → Makes acknowledged (update_by call) middle after → Leads calls (set pushed n acknowledged) before after
+leads_more calls outcomes pushed n call acknowledged before middle after leads put same lt is follows =
+    subst (λ (os : List Bool). Leads calls os before after)
+    (sym (ap (λ (os : List Bool). set os n acknowledged) put ∙ set_last outcomes false acknowledged n same))
+    (one_more calls outcomes n call acknowledged before middle after leads same lt is follows)
+
+longer : (outcomes : List Bool) (last : Bool) → length (outcomes ++ last ∷ []) ≡ length outcomes + 1
+longer [] last = refl
+longer (x ∷ outcomes) last = omega (arith, longer outcomes last)
+
+pub one_longer : (outcomes pushed : List Bool) (n : ℕ) (acknowledged : Bool) → pushed ≡ outcomes ++ false ∷ [] → length outcomes ≡ n
+    → length (set pushed n acknowledged) ≡ n + 1
+one_longer outcomes pushed n acknowledged put same =
+    ap length (ap (λ (os : List Bool). set os n acknowledged) put ∙ set_last outcomes false acknowledged n same)
+    ∙ (longer outcomes acknowledged ∙ ap (λ (k : ℕ). k + 1) same)

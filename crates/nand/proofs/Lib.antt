@@ -1,0 +1,7 @@
+pub mod Subsequences
+pub mod Histories
+pub mod Steps
+pub mod Mounted
+pub mod Readings
+pub mod Pages
+pub mod Chips

@@ -1,0 +1,118 @@
+-- What a mount reads, and that it comes to its end.
+use Rattle.std.proofs.Common.{◌≡◌, ◌≢◌, ◌⊎◌, inl, inr, ⊎_elim, ◌+◌, ◌-◌, ◌*◌, ◌<◌, ◌≤◌, ◌∙◌, ℕ, zero, suc, Option, Some, None, refl, sym, ap, subst, arith}
+use Rattle.std.proofs.lemmas.Bool.{cases_lt}
+use Rattle.std.proofs.lemmas.Bool.Decides.{nat_tests}
+use Rattle.geometry.specs.Sectors.{Sector}
+use Rattle.geometry.specs.declared.page_addr.PageAddr.{PageAddr}
+use Rattle.durable.specs.Flash.{Flash, PageContents, Erased, Torn, Version}
+use Rattle.durable.specs.Device.{Device, device_in}
+use Rattle.durable.specs.Mounting.{IsStampOf, page_on, next_in, after_in}
+use Rattle.durable.specs.Collecting.{HasCapacity}
+use Rattle.durable.specs.declared.fault.MountFault.TheVariants as mount_fault
+use Rattle.durable.specs.declared.mount.Mount.{Mount}
+use Rattle.durable.proofs.Cells.{erased_holds_none, torn_holds_none}
+use Rattle.nand.specs.declared.failure.OpenFailure.{OpenFailure}
+use Rattle.nand.specs.declared.failure.OpenFailure.TheVariants as why
+use Rattle.nand.specs.declared.flash.Reading.{Reading}
+use Rattle.nand.specs.declared.flash.Reading.TheVariants as outcome
+use Rattle.nand.specs.Nand.{ReadsStamp, IsNoVersion, noted_of}
+
+-- a page that is read as no version is none
+none_noted : (f : Flash) (b p : ℕ) (reading : Reading) → IsNoVersion reading → ((s m : ℕ) (v : Sector) → f b p ≡ Version s m v → ⊥)
+    → IsStampOf f b p (noted_of reading)
+none_noted f b p (outcome.Version stamp) none holds = absurd none
+none_noted f b p outcome.Erased none holds = holds
+none_noted f b p outcome.Unreadable none holds = holds
+
+noted_at : (f : Flash) (b p : ℕ) (page : PageContents) → f b p ≡ page → (reading : Reading) → ReadsStamp page reading → IsStampOf f b p (noted_of reading)
+noted_at f b p (Version s n v) is reading reads = subst (λ (x : Reading). IsStampOf f b p (noted_of x)) (sym reads) (v, is)
+noted_at f b p Erased is reading reads = none_noted f b p reading reads (λ s m v e. erased_holds_none s m v (sym is ∙ e))
+noted_at f b p Torn is reading reads = none_noted f b p reading reads (λ s m v e. torn_holds_none s m v (sym is ∙ e))
+
+-- the stamp that is noted is the page's
+pub noted : (f : Flash) (b p : ℕ) (reading : Reading) → ReadsStamp (f b p) reading → IsStampOf f b p (noted_of reading)
+noted f b p reading reads = noted_at f b p (f b p) refl reading reads
+
+-- how many pages are still to be read, from this one on
+abbrev pub unread : ℕ → ℕ → Option PageAddr → ℕ
+unread blocks pages None = 0
+unread blocks pages (Some at) = (blocks - at.block) * pages - at.page
+
+abbrev pub to_read : Mount → ℕ
+to_read mount = unread mount.read_blocks mount.pages (next_in mount)
+
+one_block : (blocks block pages : ℕ) → block < blocks → (blocks - block) * pages ≡ (blocks - (block + 1)) * pages + pages
+one_block blocks block pages lt = ap (λ (k : ℕ). k * pages) {x = blocks - block} {y = (blocks - (block + 1)) + 1} (omega arith) ∙ grind arith
+
+unread_there : (blocks pages : ℕ) (at : PageAddr) → unread blocks pages (page_on blocks at) ≤ (blocks - at.block) * pages - at.page
+unread_there blocks pages at = ⊎_elim
+    (λ under. let is : page_on blocks at ≡ Some at = grind (arith, nat_tests) in omega (arith, ap (unread blocks pages) is))
+    (λ past. let is : page_on blocks at ≡ None = grind (arith, nat_tests) in omega (arith, ap (unread blocks pages) is))
+    (cases_lt at.block blocks)
+
+-- the next page leaves fewer
+pub fewer : (mount : Mount) → mount.block < mount.read_blocks
+    → unread mount.read_blocks mount.pages (after_in mount) < (mount.read_blocks - mount.block) * mount.pages - mount.page
+fewer mount lt = ⊎_elim
+    (λ within.
+    let next : PageAddr = record { block = mount.block; page = mount.page + 1 } in
+    let is : after_in mount ≡ page_on mount.read_blocks next = grind (arith, nat_tests) in
+    omega (
+      arith,
+      ap (unread mount.read_blocks mount.pages) is,
+      unread_there mount.read_blocks mount.pages next,
+      within,
+      one_block mount.read_blocks mount.block
+          mount.pages lt,
+    ))
+    (λ past.
+    let next : PageAddr = record { block = mount.block + 1; page = 0 } in
+    let is : after_in mount ≡ page_on mount.read_blocks next = grind (arith, nat_tests) in
+    omega (
+      arith,
+      ap (unread mount.read_blocks mount.pages) is,
+      unread_there mount.read_blocks mount.pages next,
+      mount.page_within,
+      one_block mount.read_blocks mount.block
+          mount.pages lt,
+    ))
+    (cases_lt (mount.page + 1) mount.pages)
+
+-- the page that comes next is the mount's, and lies on the device
+some_same : (a b : PageAddr) → Some a ≡ Some b → a ≡ b
+some_same a b e = cc e
+
+none_some : (a : PageAddr) → None ≢ Some a
+none_some a e = cc e
+
+pub next_is : (mount : Mount) (at : PageAddr) → next_in mount ≡ Some at
+    → (mount.block < mount.read_blocks) × (at ≡ record { block = mount.block; page = mount.page })
+next_is mount at is = ⊎_elim
+    (λ under.
+    let here : PageAddr = record { block = mount.block; page = mount.page } in
+    let there : next_in mount ≡ Some here = grind (arith, nat_tests) in
+    (under, some_same at here (sym is ∙ there)))
+    (λ past. let none : next_in mount ≡ None = grind (arith, nat_tests) in absurd (none_some at (sym none ∙ is)))
+    (cases_lt mount.block mount.read_blocks)
+
+pub falls : (old new : Mount) (at : PageAddr) → next_in old ≡ Some at → device_in new ≡ device_in old → next_in new ≡ after_in old → to_read new < to_read old
+falls old new at is device next =
+    let here = next_is old at is in
+    let now : to_read new ≡ unread old.read_blocks old.pages (after_in old) =
+    ap (λ (d : Device). unread d.read_blocks d.pages (next_in new)) device ∙ ap (unread old.read_blocks old.pages) next in
+    let was : to_read old ≡ (old.read_blocks - old.block) * old.pages - old.page = ap (unread old.read_blocks old.pages) (is ∙ ap Some here.1) in
+    omega (arith, now, was, fewer old here.0)
+
+-- a device with room has blocks
+pub has_blocks : (sectors blocks pages : ℕ) → HasCapacity sectors blocks pages → 0 < blocks
+has_blocks sectors zero pages capacity = absurd (omega (arith, capacity))
+has_blocks sectors (suc blocks) pages capacity = omega arith
+
+-- what is left where the chip's flash is no cause
+pub remaining_causes : (cause : OpenFailure) → cause ≢ why.Refused mount_fault.TooManySectors → cause ≢ why.Refused mount_fault.ForeignStamp
+    → cause ≢ why.Refused mount_fault.NoFreeBlock → (cause ≡ why.PowerGone) ⊎ (cause ≡ why.Refused mount_fault.OutOfMemory)
+remaining_causes why.PowerGone room foreign free = inl refl
+remaining_causes (why.Refused mount_fault.TooManySectors) room foreign free = absurd (room refl)
+remaining_causes (why.Refused mount_fault.ForeignStamp) room foreign free = absurd (foreign refl)
+remaining_causes (why.Refused mount_fault.NoFreeBlock) room foreign free = absurd (free refl)
+remaining_causes (why.Refused mount_fault.OutOfMemory) room foreign free = inr refl

@@ -1,0 +1,191 @@
+-- The commands of one call.
+use Rattle.std.proofs.Common.{◌≡◌, ◌≢◌, ◌⊎◌, ◌∙◌, inl, inr, ⊎_elim, ◌<◌, ℕ, true, false, List, ◌∷◌, None, Some, Result, Ok, Err, OnOk, IfErr, sym, refl}
+use Rattle.std.proofs.Common.{ap, subst, arith}
+use Rattle.std.proofs.lemmas.Bool.{cases_eq, false≢true}
+use Rattle.std.proofs.lemmas.Bool.Decides.{nat_tests}
+use Rattle.geometry.specs.Sectors.{Sector, was_of}
+use Rattle.geometry.specs.declared.answer.Was.TheVariants as was
+use Rattle.durable.specs.declared.command.Command.{Command}
+use Rattle.durable.specs.declared.command.Command.TheVariants.{Program, Copy, Erase, Refused}
+use Rattle.durable.specs.declared.memory.Core.{Core}
+use Rattle.durable.specs.Choice.{Spends, number_after}
+use Rattle.durable.specs.Commands.{is_program, updates_with}
+use Rattle.durable.specs.Device.{Device, device_of}
+use Rattle.durable.specs.Flash.{Flash, Recovers}
+use Rattle.durable.specs.Promise.{IsConsistent, IsRecoverable, KeepsAcknowledged}
+use Rattle.durable.specs.Memory.{Represents}
+use Rattle.durable.specs.Updates.{Update, array_after, changed}
+use Rattle.durable.proofs.Promises.{survives_idle_cut}
+use Rattle.nand.specs.declared.failure.Failure.{Failure}
+use Rattle.nand.specs.declared.failure.Failure.TheVariants as failure
+use Rattle.nand.specs.declared.flash.Fault.{Fault}
+use Rattle.nand.specs.declared.flash.Fault.TheVariants as fault
+use Rattle.nand.specs.declared.flash.Shape.{Shape}
+use Rattle.nand.specs.declared.layer.Durable.{Durable}
+use Rattle.nand.specs.Opened.{CanOpen, Fails, IsOpenLayer, IsRefusal, IsTrueCause, device_on, failure_of, layer_sectors, number_of, update_of}
+use Rattle.nand.proofs.Subsequences.{all_of, between_next, between_same}
+
+-- the program adds its update, and no other command does
+pub adds : (m : Command) (update : Update) (was : List Update) → is_program m ≡ true → updates_with m update was ≡ update ∷ was
+adds (Program at n) update was is = refl
+adds (Copy k from to) update was is = absurd (false≢true is)
+adds (Erase b) update was is = absurd (false≢true is)
+adds Refused update was is = absurd (false≢true is)
+
+pub keeps : (m : Command) (update : Update) (was : List Update) → is_program m ≡ false → updates_with m update was ≡ was
+keeps (Program at n) update was is = absurd (false≢true (sym is))
+keeps (Copy k from to) update was is = refl
+keeps (Erase b) update was is = refl
+keeps Refused update was is = refl
+
+-- a command that is not the program takes no number, and the call is nearer to its end
+pub same_number : (m : Command) (n : ℕ) → is_program m ≡ false → number_after m n ≡ n
+same_number (Program at k) n is = absurd (false≢true (sym is))
+same_number (Copy k from to) n is = refl
+same_number (Erase b) n is = refl
+same_number Refused n is = refl
+
+pub nearer : (m : Command) (pages old new : ℕ) → Spends m pages old new → is_program m ≡ false → m ≢ Refused → new < old
+nearer (Program at k) pages old new spends is goes = absurd (false≢true (sym is))
+nearer (Copy k from to) pages old new spends is goes = omega (arith, spends.1)
+nearer (Erase b) pages old new spends is goes = omega (arith, spends.0, spends.1)
+nearer Refused pages old new spends is goes = absurd (goes refl)
+
+-- the updates that a flash keeps, told exactly
+exact : (f : Flash) (sectors : ℕ) (updates found : List Update) → found ≡ updates → Recovers f sectors (array_after found)
+    → KeepsAcknowledged f sectors updates updates
+exact f sectors updates found is recovers = subst (λ (us : List Update). KeepsAcknowledged f sectors us us) is
+    (record { updates = found; includes = all_of found; included = all_of found; recovers = recovers })
+
+-- what a power cut inside an update leaves has the array from before it, or the one from after it
+pub before_or_after : (f : Flash) (device : Device) (update : Update) (updates : List Update) → IsRecoverable f device updates (update ∷ updates)
+    → IsRecoverable f device updates updates ⊎ IsRecoverable f device (update ∷ updates) (update ∷ updates)
+before_or_after f device update updates is = ⊎_elim
+    (λ before. inl (record {
+      keeps = exact f device.sectors updates is.keeps.updates before is.keeps.recovers;
+      written = is.written;
+      spare = is.spare;
+    }))
+    (λ after. inr (record {
+      keeps = exact f device.sectors (update ∷ updates) is.keeps.updates after is.keeps.recovers;
+      written = is.written;
+      spare = is.spare;
+    }))
+    (between_next update updates is.keeps.updates is.keeps.includes is.keeps.included)
+
+-- an open layer's map is that of the array after its updates
+pub array_is : (f : Flash) (core : Core) (updates : List Update) (is : IsConsistent f core updates updates) (s : ℕ)
+    → array_after is.updates s ≡ array_after updates s
+array_is f core updates is s = ap (λ (us : List Update). array_after us s) (between_same updates is.updates is.includes is.included)
+
+-- the device is the chip's as before
+pub moved : (old new : Core) (a b : Shape) → device_of new ≡ device_of old → device_of old ≡ device_on a (device_of old).sectors → b ≡ a
+    → device_of new ≡ device_on b (device_of new).sectors
+moved old new a b same is chip = same ∙ (is ∙ (ap (λ (x : Shape). device_on x (device_of old).sectors) (sym chip)
+    ∙ ap (λ (d : Device). device_on b d.sectors) (sym same)))
+
+-- a power cut between two calls
+pub left_open : {N : Type 0} (flash : N → Flash) (shape : N → Shape) (layer : Durable N) (updates : List Update) → IsOpenLayer flash shape layer updates
+    → CanOpen flash shape layer.nand (layer_sectors layer) updates
+left_open {N} flash shape layer updates is = subst (λ (d : Device). IsRecoverable (flash layer.nand) d updates updates) is.device
+    (survives_idle_cut layer.core (flash layer.nand) updates updates is.consistent)
+
+-- an update that failed before its first command
+pub fails_open : {N : Type 0} (flash : N → Flash) (shape : N → Shape) (old new : Durable N) (update : Update) (updates : List Update) (cause : Failure)
+    → IsOpenLayer flash shape new updates → layer_sectors new ≡ layer_sectors old → cause ≢ failure.Lost
+    → Fails flash shape old new update updates cause
+fails_open {N} flash shape old new update updates cause is sectors readable = record {
+  reopens = inl (subst (λ (n : ℕ). CanOpen flash shape new.nand n updates) sectors (left_open flash shape new updates is));
+  refused = λ _. is;
+  stays = inl is;
+  readable = readable;
+}
+
+-- an update that failed after something that changed nothing
+pub fails_after : {N : Type 0} (flash : N → Flash) (shape : N → Shape) (old mid new : Durable N) (update : Update) (updates : List Update)
+    (cause : Failure) → layer_sectors mid ≡ layer_sectors old → Fails flash shape mid new update updates cause
+    → Fails flash shape old new update updates cause
+fails_after {N} flash shape old mid new update updates cause sectors fails = record {
+  reopens = subst (λ (n : ℕ). CanOpen flash shape new.nand n updates ⊎ CanOpen flash shape new.nand n (update ∷ updates)) sectors fails.reopens;
+  refused = fails.refused;
+  stays = fails.stays;
+  readable = fails.readable;
+}
+
+pub if_fails_after : {N : Type 0} (flash : N → Flash) (shape : N → Shape) (old mid new : Durable N) (update : Update) (updates : List Update)
+    (result : Result (Unit {0}) Failure) → layer_sectors mid ≡ layer_sectors old → IfErr result (Fails flash shape mid new update updates)
+    → IfErr result (Fails flash shape old new update updates)
+if_fails_after {N} flash shape old mid new update updates (Ok v) sectors fails = tt
+if_fails_after {N} flash shape old mid new update updates (Err cause) sectors fails =
+    fails_after flash shape old mid new update updates cause sectors fails
+
+-- a cause that is true of a layer, after something that changed nothing
+pub true_after : {N : Type 0} (faults : N → Fault → ℕ) (old mid new : Durable N) (cause : Failure) → mid.mounted ≡ old.mounted
+    → number_of mid ≡ number_of old → ((c : Fault) → faults mid.nand c ≡ faults old.nand c) → IsTrueCause faults mid new cause
+    → IsTrueCause faults old new cause
+true_after {N} faults old mid new failure.PowerGone mounted number same is = λ e. is (e ∙ sym (same fault.PowerGone))
+true_after {N} faults old mid new failure.Failed mounted number same is = λ e. is (e ∙ sym (same fault.Failed))
+true_after {N} faults old mid new failure.Closed mounted number same is = sym mounted ∙ is
+true_after {N} faults old mid new failure.NoNumber mounted number same is = omega (arith, number, is)
+true_after {N} faults old mid new failure.Written mounted number same is = tt
+true_after {N} faults old mid new failure.Lost mounted number same is = tt
+
+pub if_true_after : {N : Type 0} (faults : N → Fault → ℕ) (old mid new : Durable N) (result : Result (Unit {0}) Failure) → mid.mounted ≡ old.mounted
+    → number_of mid ≡ number_of old → ((c : Fault) → faults mid.nand c ≡ faults old.nand c) → IfErr result (IsTrueCause faults mid new)
+    → IfErr result (IsTrueCause faults old new)
+if_true_after {N} faults old mid new (Ok v) mounted number same is = tt
+if_true_after {N} faults old mid new (Err cause) mounted number same is = true_after faults old mid new cause mounted number same is
+
+-- what a call returns at a fault is its true cause
+pub true_fault : {N : Type 0} (faults : N → Fault → ℕ) (old new : Durable N) (cause : Fault) → faults new.nand cause ≢ faults old.nand cause
+    → IsTrueCause faults old new (failure_of cause)
+true_fault {N} faults old new fault.Failed is = is
+true_fault {N} faults old new fault.PowerGone is = is
+
+pub not_lost : {T : Type 0} (cause : Failure) → ◌≡◌ {A = Result T Failure} (Err cause) (Err failure.PowerGone) → cause ≢ failure.Lost
+not_lost {T} cause is lost = cc (is, lost)
+
+-- a fault is no refusal, and no page that can't be read
+pub no_refusal : (cause : Fault) (told : Failure) → told ≡ failure_of cause → IsRefusal told → ⊥
+no_refusal fault.Failed told is refused = subst IsRefusal is refused
+no_refusal fault.PowerGone told is refused = subst IsRefusal is refused
+
+pub is_readable : (cause : Fault) (told : Failure) → told ≡ failure_of cause → told ≢ failure.Lost
+is_readable fault.Failed told is e = cc (is, e)
+is_readable fault.PowerGone told is e = cc (is, e)
+
+pub on_ok : {T E P : Type 0} (r : Result T E) → P → OnOk r P
+on_ok (Ok v) h = h
+on_ok (Err e) h = tt
+
+-- a trim of an empty sector changes nothing
+no_value : (value : Sector) → was_of value ≡ was.Empty → value ≡ None
+no_value None is = refl
+no_value (Some bytes) is = absurd (cc is)
+
+trimmed_at : (array : ℕ → Sector) (s : ℕ) → array s ≡ None → (k : ℕ) → changed array s None k ≡ array k
+trimmed_at array s empty k = ⊎_elim
+    (λ here. grind (arith, nat_tests, here, empty))
+    (λ differs. grind (arith, nat_tests))
+    (cases_eq k s)
+
+pub trims_nothing : {N : Type 0} (flash : N → Flash) (shape : N → Shape) (layer : Durable N) (s : ℕ) (updates : List Update)
+    → IsOpenLayer flash shape layer updates → was_of (array_after updates s) ≡ was.Empty → IsOpenLayer flash shape layer (update_of s None ∷ updates)
+trims_nothing {N} flash shape layer s updates is empty =
+    let more = update_of s None ∷ updates in
+    let f = flash layer.nand in
+    let same : array_after is.consistent.updates ≡ array_after more = λ i k.
+    (array_is f layer.core updates is.consistent k
+    ∙ sym (trimmed_at (array_after updates) s (no_value (array_after updates s) empty) k)) i in
+    record {
+      mounted = is.mounted;
+      device = is.device;
+      consistent = record {
+        updates = more;
+        includes = all_of more;
+        included = all_of more;
+        represents = subst (λ (array : ℕ → Sector). Represents f layer.core array) same is.consistent.represents;
+        written = is.consistent.written;
+        spare = is.consistent.spare;
+      };
+    }

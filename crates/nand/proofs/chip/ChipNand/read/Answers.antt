@@ -1,0 +1,19 @@
+use Rattle.std.proofs.Common.{◌∙◌, ap, subst, arith}
+use Rattle.durable.specs.Flash.{Flash}
+use Rattle.nand.specs.declared.flash.Fault.TheVariants as fault
+use Rattle.nand.specs.Cells.{flash_in}
+use Rattle.nand.specs.Nand.{ReadsStamp, ReadsMain}
+use Rattle.nand.proofs.chip.ChipNand.read.Goals as goal
+
+pub returns-then-copy_main-clause-stamp : goal.returns-then-copy_main-clause-stamp
+returns-then-copy_main-clause-stamp c =
+    subst (λ (f : Flash). ReadsStamp (f c.args.at.block c.args.at.page) c.peek.result)
+    (ap flash_in c.deref-then-copy_main.ensures.value ∙ c.look.ensures.flash) c.peek.ensures
+
+pub returns-then-copy_main-clause-main : goal.returns-then-copy_main-clause-main
+returns-then-copy_main-clause-main c =
+    subst (λ (f : Flash). ReadsMain (f c.args.at.block c.args.at.page) c.copy_main.new.out) (ap flash_in c.deref.ensures.value ∙ c.look.ensures.flash)
+    (c.copy_main.ensures c.if-copy_main.true)
+
+pub returns-else-copy_main-clause-cause : goal.returns-else-copy_main-clause-cause
+returns-else-copy_main-clause-cause c = (tt, λ e. omega (arith, c.in-Ok.ensures.cause.0 fault.PowerGone, e))

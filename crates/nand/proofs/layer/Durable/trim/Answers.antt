@@ -1,0 +1,33 @@
+use Rattle.std.proofs.Common.{◌∙◌, None, sym}
+use Rattle.nand.specs.Opened.{update_of}
+use Rattle.nand.proofs.Steps.{fails_after, fails_open, not_lost, trims_nothing, true_after}
+use Rattle.nand.proofs.layer.Durable.trim.Goals as goal
+
+pub returns-in-Ok-Empty-clause-was : goal.returns-in-Ok-Empty-clause-was
+returns-in-Ok-Empty-clause-was g c updates is = sym c.in-Ok-Empty.field-0-is ∙ c.in-Ok-Empty.ensures.gives updates is
+
+pub returns-in-Ok-Empty-clause-acknowledged : goal.returns-in-Ok-Empty-clause-acknowledged
+returns-in-Ok-Empty-clause-acknowledged g c updates is =
+    trims_nothing g.N.Nand.flash g.N.Nand.shape c.was.new.self c.args.sector updates (c.was.ensures.open updates is)
+    (sym (c.in-Ok-Empty.ensures.gives updates is) ∙ c.in-Ok-Empty.field-0-is)
+
+pub returns-in-Ok-clause-was : goal.returns-in-Ok-clause-was
+returns-in-Ok-clause-was g c updates is = sym c.in-Ok-Written.field-0-is ∙ c.in-Ok-Written.ensures.gives updates is
+
+pub returns-in-Ok-clause-acknowledged : goal.returns-in-Ok-clause-acknowledged
+returns-in-Ok-clause-acknowledged g c updates is = c.in-Ok.ensures.acknowledged updates (c.was.ensures.open updates is)
+
+pub returns-in-Err-update-clause-fails : goal.returns-in-Err-update-clause-fails
+returns-in-Err-update-clause-fails g c updates is =
+    fails_after g.N.Nand.flash g.N.Nand.shape c.args.self.now c.was.new.self c.update.new.self (update_of c.args.sector None) updates
+    c.in-Err-update.failure c.was.ensures.device.sectors (c.in-Err-update.ensures.fails updates (c.was.ensures.open updates is))
+
+pub returns-in-Err-update-clause-cause : goal.returns-in-Err-update-clause-cause
+returns-in-Err-update-clause-cause g c =
+    true_after g.N.Nand.faults c.args.self.now c.was.new.self c.update.new.self c.in-Err-update.failure c.was.ensures.mounted
+    c.was.ensures.number c.in-Ok-Written.ensures.faults c.in-Err-update.ensures.cause
+
+pub returns-in-Err-clause-fails : goal.returns-in-Err-clause-fails
+returns-in-Err-clause-fails g c updates is =
+    fails_open g.N.Nand.flash g.N.Nand.shape c.args.self.now c.was.new.self (update_of c.args.sector None) updates c.in-Err.failure
+    (c.was.ensures.open updates is) c.was.ensures.device.sectors (not_lost c.in-Err.failure (c.in-Err.ensures.only updates is))

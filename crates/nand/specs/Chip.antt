@@ -1,0 +1,95 @@
+-- A modelled chip.
+use Rattle.std.specs.Prelude.{◌≡◌, ◌≢◌, ◌⊎◌, ◌==◌, ◌+◌, ◌%◌, ◌^◌, ℕ, Bool, true, false, List, Option, None, Some, Result, Ok, Err, OnOk, OnErr, if◌then◌else◌}
+use Rattle.geometry.specs.declared.page_addr.PageAddr.{PageAddr}
+use Rattle.durable.specs.Flash.{PageContents, Torn, Flash, SetsPage}
+use Rattle.durable.specs.Commands.{IsSameFlash}
+use Rattle.nand.specs.declared.chip.Chip.{Chip}
+use Rattle.nand.specs.declared.chip.Cut.{Cut}
+use Rattle.nand.specs.declared.chip.Cut.TheVariants as cut
+use Rattle.nand.specs.declared.chip.Fate.{Fate}
+use Rattle.nand.specs.declared.chip.Fate.TheVariants as fate
+use Rattle.nand.specs.declared.flash.Fault.{Fault}
+use Rattle.nand.specs.declared.flash.Fault.TheVariants as fault
+use Rattle.nand.specs.declared.flash.Shape.{Shape}
+use Rattle.nand.specs.Cells.{flash_in}
+
+-- what the chip's pages hold
+abbrev pub chip_flash : Chip → Flash
+chip_flash chip = flash_in chip.blocks.items
+
+-- how large the chip is
+abbrev pub chip_shape : Chip → Shape
+chip_shape chip = chip.shape
+
+-- how many calls have ended with a fault, modulo 2^64
+abbrev pub chip_faults : Chip → Fault → ℕ
+chip_faults chip fault.Failed = chip.failures
+chip_faults chip fault.PowerGone = chip.cuts
+
+-- of each block, whether it is marked bad
+abbrev pub chip_bad : Chip → List Bool
+chip_bad chip = chip.bad.items
+
+-- how often each block was erased, modulo 2^64
+abbrev pub chip_erases : Chip → List ℕ
+chip_erases chip = chip.erases.items
+
+-- nothing that a reader sees has changed
+pub record HasSame (old new : Chip) : Type 0 where
+  pub flash : chip_flash new ≡ chip_flash old
+  pub shape : chip_shape new ≡ chip_shape old
+  pub bad : chip_bad new ≡ chip_bad old
+  pub erases : chip_erases new ≡ chip_erases old
+  pub failures : new.failures ≡ old.failures
+  pub cuts : new.cuts ≡ old.cuts
+
+-- a page is filled, or the command left nothing of it, a torn page, or all of it
+abbrev pub Sets : {T : Type 0} → Result T Fault → Flash → Flash → PageAddr → PageContents → Type 0
+Sets {T} result f t at contents =
+    OnOk result (SetsPage f t at.block at.page contents)
+    × OnErr result (IsSameFlash f t ⊎ SetsPage f t at.block at.page Torn ⊎ SetsPage f t at.block at.page contents)
+
+-- whether the chip has power, how many commands it was given, and in which the power goes and which one fails
+pub record Schedule : Type 0 where
+  pub powered : Bool
+  pub commands : ℕ
+  pub cut : Option (ℕ × Cut)
+  pub failing : Option ℕ
+
+-- the schedule of a chip
+abbrev pub schedule_of : Chip → Schedule
+schedule_of chip = record { powered = chip.powered; commands = chip.commands; cut = chip.cut; failing = chip.failing }
+
+-- the cut that falls in this command
+abbrev pub cut_in : Option (ℕ × Cut) → ℕ → Option Cut
+cut_in None n = None
+cut_in (Some at) n = if at.0 == n then Some at.1 else None
+
+-- whether this command is the one that fails
+abbrev pub fails_in : Option ℕ → ℕ → Bool
+fails_in None n = false
+fails_in (Some at) n = at == n
+
+-- what comes of a command in which this cut falls, or none, and which fails or doesn't
+abbrev pub fate_with : Option Cut → Bool → Fate
+fate_with (Some cut) fails = fate.Cut cut
+fate_with None fails = if fails then fate.Fails else fate.Done
+
+-- what comes of the next command: nothing without power; the cut that falls in it; or its failure
+abbrev pub coming : Schedule → Fate
+coming s = if s.powered then fate_with (cut_in s.cut s.commands) (fails_in s.failing s.commands) else fate.Cut cut.Nothing
+
+-- the schedule after a command in which this cut falls, or none: a cut takes the power away, and falls once
+abbrev pub schedule_with : Schedule → Option Cut → Schedule
+schedule_with s (Some cut) = record { powered = false; commands = (s.commands + 1) % 2 ^ 64; cut = None; failing = s.failing }
+schedule_with s None = record { powered = true; commands = (s.commands + 1) % 2 ^ 64; cut = s.cut; failing = s.failing }
+
+-- the schedule after the next command: without power nothing is counted
+abbrev pub after_command : Schedule → Schedule
+after_command s = if s.powered then schedule_with s (cut_in s.cut s.commands) else s
+
+-- how a command ends of which this comes. A lack of memory is told as a failure
+abbrev pub Ends : Fate → Result (Unit {0}) Fault → Type 0
+Ends fate.Done result = result ≢ Err fault.PowerGone
+Ends fate.Fails result = result ≡ Err fault.Failed
+Ends (fate.Cut cut) result = result ≢ Ok tt

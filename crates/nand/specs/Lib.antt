@@ -1,0 +1,5 @@
+pub mod Nand
+pub mod Opened
+pub mod Cells
+pub mod Chip
+pub mod Histories

@@ -1,0 +1,58 @@
+-- What a read may say of a page, and what a command leaves.
+use Rattle.std.specs.Prelude.{◌≡◌, ◌≢◌, ℕ, Bool, true, false, List, Option, None, Some, Result, Err, OnOk, OnErr, if◌then◌else◌}
+use Rattle.geometry.specs.Sectors.{Sector}
+use Rattle.durable.specs.declared.command.Command.{Command}
+use Rattle.durable.specs.declared.found.Stamp.{Stamp as Noted}
+use Rattle.durable.specs.Flash.{Flash, PageContents, Erased, Torn, Version}
+use Rattle.durable.specs.Commands.{IsAllowed, Completes, CutLeaves}
+use Rattle.nand.specs.declared.flash.Fault.{Fault}
+use Rattle.nand.specs.declared.flash.Fault.TheVariants as fault
+use Rattle.nand.specs.declared.flash.PowerGone.{PowerGone}
+use Rattle.nand.specs.declared.flash.Reading.{Reading}
+use Rattle.nand.specs.declared.flash.Reading.TheVariants as outcome
+
+-- the value of a version: none after a trim, and otherwise its page's main bytes
+abbrev pub value_with : Bool → List ℕ → Sector
+value_with trimmed main = if trimmed then None else Some main
+
+-- whether a version is a trim
+abbrev pub is_trim : Sector → Bool
+is_trim None = true
+is_trim (Some bytes) = false
+
+-- the stamp that a mount notes of a page that was read so
+abbrev pub noted_of : Reading → Option Noted
+noted_of (outcome.Version stamp) = Some (record { sector = stamp.sector; number = stamp.number })
+noted_of outcome.Erased = None
+noted_of outcome.Unreadable = None
+
+-- the read found no version
+abbrev pub IsNoVersion : Reading → Type 0
+IsNoVersion (outcome.Version stamp) = ⊥
+IsNoVersion outcome.Erased = Unit {0}
+IsNoVersion outcome.Unreadable = Unit {0}
+
+-- a version is read with its stamp, and an erased or torn page isn't read as a version
+abbrev pub ReadsStamp : PageContents → Reading → Type 0
+ReadsStamp (Version s n value) reading = reading ≡ outcome.Version (record { sector = s; number = n; trimmed = is_trim value })
+ReadsStamp Erased reading = IsNoVersion reading
+ReadsStamp Torn reading = IsNoVersion reading
+
+-- a version with a value is read with its main bytes
+abbrev pub ReadsMain : PageContents → List ℕ → Type 0
+ReadsMain (Version s n (Some bytes)) main = main ≡ bytes
+ReadsMain (Version s n None) main = Unit {0}
+ReadsMain Erased main = Unit {0}
+ReadsMain Torn main = Unit {0}
+
+-- a command that is allowed is done if it succeeds, and otherwise it leaves what a power cut inside it may leave
+abbrev pub Performs : {T : Type 0} → Command → ℕ → Sector → Result T Fault → Flash → Flash → Type 0
+Performs {T} m s value result f t = IsAllowed f m → OnOk result (Completes m s value f t) × OnErr result (CutLeaves m s value f t)
+
+-- success leaves the counts of faults as they were, and a fault changes its count. A count may wrap
+abbrev pub CountsFault : {T : Type 0} → (Fault → ℕ) → (Fault → ℕ) → Result T Fault → Type 0
+CountsFault {T} before now result = OnOk result ((cause : Fault) → now cause ≡ before cause) × ((cause : Fault) → result ≡ Err cause → now cause ≢ before cause)
+
+-- the same of a call that fails only if the power is gone
+abbrev pub CountsCut : {T : Type 0} → (Fault → ℕ) → (Fault → ℕ) → Result T PowerGone → Type 0
+CountsCut {T} before now result = OnOk result ((cause : Fault) → now cause ≡ before cause) × OnErr result (now fault.PowerGone ≢ before fault.PowerGone)

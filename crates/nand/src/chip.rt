@@ -1,0 +1,379 @@
+ghost use Rattle.std.specs.Prelude.{◌≡◌, length};
+
+use crate::cells::{Page, copied, copy_main, erase, lose, peek, put};
+use crate::flash::{Fault, Nand, PowerGone, Reading, Shape, Stamp};
+use geometry::PageAddr;
+use std::alloc::{AllocError, Global};
+
+/// What a power cut leaves of a command.
+#[derive(Clone, Copy, Debug, PartialEq, Eq)]
+pub enum Cut {
+    Nothing,
+    /// A torn page. Of an erase a part: bit 2i of the mask says that page i is lost, and bit 2i + 1 that it is erased then.
+    Part(u64),
+    Whole,
+}
+
+/// What comes of a command.
+#[derive(Clone, Copy, Debug, PartialEq, Eq)]
+enum Fate {
+    Done,
+    Fails,
+    Cut(Cut),
+}
+
+/// A modelled chip in memory, by the rules of ONFI 4.0. Its power goes, and its commands fail, where the caller says.
+#[derive(Drop)]
+pub struct Chip {
+    alloc: Global,
+    shape: Shape,
+    blocks: Vec<Vec<Page>>,
+    bad: Vec<bool>,
+    // How often each block was erased, modulo 2^64.
+    erases: Vec<u64>,
+    powered: bool,
+    // How many programs, copies and erases it was given, modulo 2^64.
+    commands: u64,
+    cut: Option<(u64, Cut)>,
+    failing: Option<u64>,
+    // How many calls have ended so, modulo 2^64.
+    cuts: u64,
+    failures: u64,
+    // How many programs broke the order of a block's pages, or named a programmed page.
+    violations: u64,
+    pub ghost bad_sized: { length bad.items ≡ shape.blocks },
+    pub ghost erases_sized: { length erases.items ≡ shape.blocks },
+}
+
+impl Chip {
+    ghost use Rattle.std.specs.Prelude.{◌⊎◌, ◌-◌, ◌^◌, ℕ, true, false, None, Some, slice_index_or, IfOk, Err};
+    ghost use Rattle.durable.specs.Commands.{IsSameFlash};
+    ghost use Rattle.durable.specs.Flash.{IsErased, SetsPage, Torn};
+    ghost use Rattle.nand.specs.Cells.{contents_of};
+    ghost use Rattle.nand.specs.Chip.{after_command, chip_bad, chip_erases, chip_faults, chip_flash, chip_shape, coming, schedule_of, Ends, HasSame, Sets};
+    ghost use Rattle.nand.specs.Nand.{CountsFault, CountsCut};
+    ghost use Rattle.nand.specs.declared.flash.Fault.TheVariants as fault;
+
+    /// A chip whose pages are all erased, with power.
+    pub fn new(alloc: Global, shape: Shape) -> Result<Chip, AllocError>
+        ensures shape { IfOk result (λ chip. chip_shape chip ≡ shape) }
+        ensures bad { IfOk result (λ chip. (b : ℕ) → slice_index_or (chip_bad chip) b false ≡ false) }
+        ensures erases { IfOk result (λ chip. (b : ℕ) → slice_index_or (chip_erases chip) b 0 ≡ 0) }
+        ensures schedule { IfOk result (λ chip. schedule_of chip ≡ record { powered = true; commands = 0; cut = None; failing = None }) }
+    {
+        let mut blocks = Vec::new(alloc);
+        for _ in 0..shape.blocks {
+            let mut pages = Vec::new(alloc);
+            for _ in 0..shape.pages {
+                pages.push(Page::Erased)?;
+            }
+            blocks.push(pages)?;
+        }
+        Ok(Chip {
+            alloc,
+            shape,
+            blocks,
+            bad: vec![in alloc; false; shape.blocks as usize]?,
+            erases: vec![in alloc; 0; shape.blocks as usize]?,
+            powered: true,
+            commands: 0,
+            cut: None,
+            failing: None,
+            cuts: 0,
+            failures: 0,
+            violations: 0,
+        })
+    }
+
+    /// Gives the chip power again.
+    pub fn power_on(&mut self)
+        ensures schedule { schedule_of self.new ≡ record { powered = true; commands = self.old.commands; cut = self.old.cut; failing = self.old.failing } }
+        ensures same { HasSame self.old self.new }
+    {
+        self.powered = true;
+    }
+
+    /// Lets the power go in the command with this number, or before the calls after it.
+    pub fn cut_at(&mut self, command: u64, cut: Cut)
+        ensures schedule { schedule_of self.new
+            ≡ record { powered = self.old.powered; commands = self.old.commands; cut = Some (command, cut); failing = self.old.failing } }
+        ensures same { HasSame self.old self.new }
+    {
+        self.cut = Some((command, cut));
+    }
+
+    /// Lets the command with this number fail.
+    pub fn fail_at(&mut self, command: u64)
+        ensures schedule { schedule_of self.new
+            ≡ record { powered = self.old.powered; commands = self.old.commands; cut = self.old.cut; failing = Some command } }
+        ensures same { HasSame self.old self.new }
+    {
+        self.failing = Some(command);
+    }
+
+    /// Makes a page unreadable, as a charge that has leaked away does.
+    pub fn lose_page(&mut self, at: PageAddr)
+        ensures loses { IsSameFlash (chip_flash self.old) (chip_flash self.new) ⊎ SetsPage (chip_flash self.old) (chip_flash self.new) at.block at.page Torn }
+        ensures shape { chip_shape self.new ≡ chip_shape self.old }
+        ensures bad { chip_bad self.new ≡ chip_bad self.old }
+        ensures schedule { schedule_of self.new ≡ schedule_of self.old }
+    {
+        put(&mut self.blocks, at, Page::Torn);
+    }
+
+    /// How often the block was erased, modulo 2^64; none if there is no such block.
+    pub fn erases(&self, block: u32) -> u64
+        ensures { result ≡ slice_index_or (chip_erases self.now) block 0 }
+    {
+        self.erases.get(block as usize).copied().unwrap_or(0)
+    }
+
+    /// How many programs, copies and erases the chip was given, modulo 2^64.
+    pub fn commands(&self) -> u64
+        ensures { result ≡ (schedule_of self.now).commands }
+    {
+        self.commands
+    }
+
+    /// How many programs broke ONFI's rules. They fail.
+    pub fn violations(&self) -> u64 {
+        self.violations
+    }
+
+    // What comes of the next command.
+    fn fate(&mut self) -> Fate
+        ensures fate { result ≡ coming (schedule_of self.old) }
+        ensures schedule { schedule_of self.new ≡ after_command (schedule_of self.old) }
+        ensures same { HasSame self.old self.new }
+    {
+        if !self.powered {
+            return Fate::Cut(Cut::Nothing);
+        }
+        let command = self.commands;
+        self.commands = command.wrapping_add(1);
+        if let Some((number, cut)) = self.cut {
+            if number == command {
+                self.powered = false;
+                self.cut = None;
+                return Fate::Cut(cut);
+            }
+        }
+        if self.failing == Some(command) {
+            return Fate::Fails;
+        }
+        Fate::Done
+    }
+
+    // Whether the page is erased and the one before it is not: ONFI 4.0, Page Program.
+    fn is_next(&self, at: PageAddr) -> bool {
+        let erased = matches!(peek(&self.blocks, at), Reading::Erased);
+        if at.page == 0 {
+            return erased;
+        }
+        let before = PageAddr {
+            block: at.block,
+            page: at.page - 1,
+        };
+        erased && !matches!(peek(&self.blocks, before), Reading::Erased)
+    }
+
+    // Fills a page by a command.
+    fn fill(&mut self, at: PageAddr, page: Page) -> Result<(), Fault>
+        ensures sets { Sets result (chip_flash self.old) (chip_flash self.new) at (contents_of page) }
+        ensures ends { Ends (coming (schedule_of self.old)) result }
+        ensures bad { chip_bad self.new ≡ chip_bad self.old }
+        ensures shape { chip_shape self.new ≡ chip_shape self.old }
+        ensures cause { CountsFault (chip_faults self.old) (chip_faults self.new) result }
+    {
+        let next = self.is_next(at);
+        match self.fate() {
+            Fate::Done => {
+                if !next {
+                    self.violations = self.violations.wrapping_add(1);
+                    return self.failed();
+                }
+                if put(&mut self.blocks, at, page) {
+                    return Ok(());
+                }
+                self.failed()
+            }
+            Fate::Fails => {
+                put(&mut self.blocks, at, Page::Torn);
+                self.failed()
+            }
+            Fate::Cut(Cut::Nothing) => self.cut_off(),
+            Fate::Cut(Cut::Part(_)) => {
+                put(&mut self.blocks, at, Page::Torn);
+                self.cut_off()
+            }
+            Fate::Cut(Cut::Whole) => {
+                put(&mut self.blocks, at, page);
+                self.cut_off()
+            }
+        }
+    }
+
+    // Ends a command that fails.
+    fn failed(&mut self) -> Result<(), Fault>
+        ensures failed { result ≡ Err fault.Failed }
+        ensures cause { CountsFault (chip_faults self.old) (chip_faults self.new) result }
+        ensures flash { chip_flash self.new ≡ chip_flash self.old }
+        ensures shape { chip_shape self.new ≡ chip_shape self.old }
+        ensures bad { chip_bad self.new ≡ chip_bad self.old }
+    {
+        self.failures = self.failures.wrapping_add(1);
+        Err(Fault::Failed)
+    }
+
+    // Ends a command in which the power goes.
+    fn cut_off(&mut self) -> Result<(), Fault>
+        ensures gone { result ≡ Err fault.PowerGone }
+        ensures cause { CountsFault (chip_faults self.old) (chip_faults self.new) result }
+        ensures flash { chip_flash self.new ≡ chip_flash self.old }
+        ensures shape { chip_shape self.new ≡ chip_shape self.old }
+        ensures bad { chip_bad self.new ≡ chip_bad self.old }
+    {
+        self.cuts = self.cuts.wrapping_add(1);
+        Err(Fault::PowerGone)
+    }
+
+    // A read, which fails only without power.
+    fn look(&mut self) -> Result<(), PowerGone>
+        ensures cause { CountsCut (chip_faults self.old) (chip_faults self.new) result }
+        ensures flash { chip_flash self.new ≡ chip_flash self.old }
+        ensures shape { chip_shape self.new ≡ chip_shape self.old }
+        ensures bad { chip_bad self.new ≡ chip_bad self.old }
+    {
+        if self.powered {
+            return Ok(());
+        }
+        self.cuts = self.cuts.wrapping_add(1);
+        Err(PowerGone)
+    }
+}
+
+impl Nand for Chip {
+    ghost use Rattle.std.specs.Prelude.{◌+◌, ◌%◌, ◌^◌, None, OnOk, slice_index_or, slice_set};
+    ghost use Rattle.durable.specs.declared.command.Command.TheVariants as command;
+    ghost use Rattle.nand.specs.Chip.{chip_bad, chip_erases, chip_faults, chip_flash, chip_shape, coming, schedule_of, Ends};
+    ghost use Rattle.nand.specs.Nand.{CountsFault, Performs, value_with};
+
+    ghost flash = { chip_flash };
+
+    ghost shape = { chip_shape };
+
+    ghost bad = { chip_bad };
+
+    ghost faults = { chip_faults };
+
+    fn shape(&self) -> Shape {
+        self.shape
+    }
+
+    fn is_bad(&mut self, block: u32) -> Result<bool, PowerGone> {
+        match self.look() {
+            Ok(()) => Ok(self.bad.get(block as usize).copied().unwrap_or(false)),
+            Err(PowerGone) => Err(PowerGone),
+        }
+    }
+
+    fn mark_bad(&mut self, block: u32) -> Result<(), PowerGone> {
+        match self.look() {
+            Ok(()) => {
+                if (block as usize) < self.bad.len() {
+                    self.bad[block as usize] = true;
+                }
+                Ok(())
+            }
+            Err(PowerGone) => Err(PowerGone),
+        }
+    }
+
+    fn stamp(&mut self, at: PageAddr) -> Result<Reading, PowerGone> {
+        match self.look() {
+            Ok(()) => Ok(peek(&self.blocks, at)),
+            Err(PowerGone) => Err(PowerGone),
+        }
+    }
+
+    fn read(&mut self, at: PageAddr, out: &mut [u8]) -> Result<Reading, PowerGone> {
+        match self.look() {
+            Ok(()) => {
+                if copy_main(&self.blocks, at, out) {
+                    return Ok(peek(&self.blocks, at));
+                }
+                self.cuts = self.cuts.wrapping_add(1);
+                Err(PowerGone)
+            }
+            Err(PowerGone) => Err(PowerGone),
+        }
+    }
+
+    fn program(&mut self, at: PageAddr, stamp: Stamp, main: &[u8]) -> Result<(), Fault>
+        ensures does { Performs (command.Program at stamp.number) stamp.sector (value_with stamp.trimmed main.now) result
+            (chip_flash self.old) (chip_flash self.new) }
+        ensures shape { chip_shape self.new ≡ chip_shape self.old }
+        ensures bad { chip_bad self.new ≡ chip_bad self.old }
+        ensures cause { CountsFault (chip_faults self.old) (chip_faults self.new) result }
+        ensures ends { Ends (coming (schedule_of self.old)) result }
+    {
+        let Ok(main) = main.to_vec(self.alloc) else {
+            return self.failed();
+        };
+        self.fill(at, Page::Version(stamp, main))
+    }
+
+    fn copyback(&mut self, from: PageAddr, to: PageAddr) -> Result<(), Fault>
+        ensures does { Performs (command.Copy 0 from to) 0 None result (chip_flash self.old) (chip_flash self.new) }
+        ensures shape { chip_shape self.new ≡ chip_shape self.old }
+        ensures bad { chip_bad self.new ≡ chip_bad self.old }
+        ensures cause { CountsFault (chip_faults self.old) (chip_faults self.new) result }
+        ensures ends { Ends (coming (schedule_of self.old)) result }
+    {
+        let Some(page) = copied(self.alloc, &self.blocks, from) else {
+            return self.failed();
+        };
+        self.fill(to, page)
+    }
+
+    fn erase(&mut self, block: u32) -> Result<(), Fault>
+        ensures does { Performs (command.Erase block) 0 None result (chip_flash self.old) (chip_flash self.new) }
+        ensures shape { chip_shape self.new ≡ chip_shape self.old }
+        ensures bad { chip_bad self.new ≡ chip_bad self.old }
+        ensures cause { CountsFault (chip_faults self.old) (chip_faults self.new) result }
+        ensures ends { Ends (coming (schedule_of self.old)) result }
+        ensures counted { OnOk result (chip_erases self.new
+            ≡ slice_set (chip_erases self.old) block ((slice_index_or (chip_erases self.old) block 0 + 1) % 2 ^ 64)) }
+    {
+        match self.fate() {
+            Fate::Done => {
+                if block as usize >= self.erases.len() {
+                    return self.failed();
+                }
+                if erase(&mut self.blocks, block) {
+                    let count = self.erases[block as usize];
+                    self.erases[block as usize] = count.wrapping_add(1);
+                    return Ok(());
+                }
+                self.failed()
+            }
+            Fate::Fails => {
+                lose(&mut self.blocks, block, 0x7777_7777_7777_7777);
+                self.failed()
+            }
+            Fate::Cut(Cut::Nothing) => self.cut_off(),
+            Fate::Cut(Cut::Part(mask)) => {
+                lose(&mut self.blocks, block, mask);
+                self.cut_off()
+            }
+            Fate::Cut(Cut::Whole) => {
+                lose(&mut self.blocks, block, u64::MAX);
+                self.cut_off()
+            }
+        }
+    }
+
+    fn sync(&mut self) -> Result<(), PowerGone> {
+        self.look()
+    }
+}

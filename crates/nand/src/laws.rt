@@ -1,0 +1,225 @@
+//! Laws of the definitions: each function has no code, and its clauses say on small values where a definition holds and where not.
+ghost use Rattle.std.specs.Prelude.{◌≡◌, ◌≢◌, ◌<◌, ◌-◌, ◌^◌, ℕ, List, [], ◌∷◌, None, Some, Ok, Err, Vec, true, false};
+ghost use Rattle.std.specs.declared.alloc.Global.{Global as OnHeap};
+ghost use Rattle.geometry.specs.Sectors.{Sector};
+ghost use Rattle.geometry.specs.declared.answer.Got.TheVariants as got;
+ghost use Rattle.durable.specs.Device.{device_of, next_number_of};
+ghost use Rattle.durable.specs.Flash.{Erased, Flash, IsErased, SetsPage, Torn, Version};
+ghost use Rattle.durable.specs.Promise.{KeepsAcknowledged};
+ghost use Rattle.durable.specs.Updates.{Update};
+ghost use Rattle.durable.specs.declared.command.Command.TheVariants as command;
+ghost use Rattle.nand.specs.Cells.{IsWiped, contents_of, flash_in};
+ghost use Rattle.nand.specs.Chip.{Ends, HasSame, after_command, chip_bad, chip_erases, chip_faults, chip_flash, chip_shape, coming, schedule_of};
+ghost use Rattle.nand.specs.Histories.{Makes, IsFor, Leads, update_by};
+ghost use Rattle.nand.specs.Nand.{CountsCut, CountsFault, Performs, ReadsMain, ReadsStamp, noted_of, value_with};
+ghost use Rattle.nand.specs.Opened.{CanOpen, Fails, IsClosed, IsOpenLayer, IsRefusal, IsSameDevice, IsTrueCause, ReadsSector};
+ghost use Rattle.nand.specs.Opened.{device_on, failure_of, layer_sectors, number_of, update_of};
+ghost use Rattle.nand.specs.declared.chip.Chip.{Chip as Modelled};
+ghost use Rattle.nand.specs.declared.chip.Cut.TheVariants as cut;
+ghost use Rattle.nand.specs.declared.chip.Fate.TheVariants as fate;
+ghost use Rattle.nand.specs.declared.cells.Page.{Page as Cell};
+ghost use Rattle.nand.specs.declared.cells.Page.TheVariants as page;
+ghost use Rattle.nand.specs.declared.failure.Failure.TheVariants as failure;
+ghost use Rattle.nand.specs.declared.flash.Fault.{Fault as Cause};
+ghost use Rattle.nand.specs.declared.flash.Fault.TheVariants as fault;
+ghost use Rattle.nand.specs.declared.flash.PowerGone.{PowerGone as NoPower};
+ghost use Rattle.nand.specs.declared.flash.Reading.TheVariants as outcome;
+ghost use Rattle.nand.specs.declared.flash.Shape.{Shape as Numbers};
+ghost use Rattle.nand.specs.declared.history.Change.{Change as Call};
+ghost use Rattle.nand.specs.declared.history.Change.TheVariants.{Trim, Write};
+ghost use Rattle.nand.specs.declared.layer.Durable.{Durable as Layer};
+
+/// What reads may say of pages.
+pub fn readings()
+    ensures value { value_with false (5 ∷ []) ≡ Some (5 ∷ []) }
+    ensures trim { value_with true (5 ∷ []) ≡ None }
+    ensures version { ReadsStamp (Version 7 3 (Some (5 ∷ []))) (outcome.Version (record { sector = 7; number = 3; trimmed = false })) }
+    ensures trimmed { ReadsStamp (Version 7 3 None) (outcome.Version (record { sector = 7; number = 3; trimmed = true })) }
+    ensures sector { ¬ ReadsStamp (Version 7 3 None) (outcome.Version (record { sector = 8; number = 3; trimmed = true })) }
+    ensures number { ¬ ReadsStamp (Version 7 3 None) (outcome.Version (record { sector = 7; number = 4; trimmed = true })) }
+    ensures not_trimmed { ¬ ReadsStamp (Version 7 3 None) (outcome.Version (record { sector = 7; number = 3; trimmed = false })) }
+    ensures data { ¬ ReadsStamp (Version 7 3 (Some (5 ∷ []))) (outcome.Version (record { sector = 7; number = 3; trimmed = true })) }
+    ensures missed { ¬ ReadsStamp (Version 7 3 None) outcome.Erased }
+    ensures unread { ¬ ReadsStamp (Version 7 3 None) outcome.Unreadable }
+    ensures torn { ReadsStamp Torn outcome.Unreadable }
+    ensures torn_erased { ReadsStamp Torn outcome.Erased }
+    ensures torn_version { ¬ ReadsStamp Torn (outcome.Version (record { sector = 7; number = 3; trimmed = true })) }
+    ensures erased { ReadsStamp Erased outcome.Erased }
+    ensures erased_unread { ReadsStamp Erased outcome.Unreadable }
+    ensures erased_version { ¬ ReadsStamp Erased (outcome.Version (record { sector = 7; number = 3; trimmed = true })) }
+    ensures main { ReadsMain (Version 7 3 (Some (5 ∷ []))) (5 ∷ []) }
+    ensures other_main { ¬ ReadsMain (Version 7 3 (Some (5 ∷ []))) (6 ∷ []) }
+    ensures no_main { ReadsMain (Version 7 3 None) (6 ∷ []) }
+    ensures torn_main { ReadsMain Torn (6 ∷ []) }
+    ensures erased_main { ReadsMain Erased (6 ∷ []) }
+    ensures noted { noted_of (outcome.Version (record { sector = 7; number = 3; trimmed = true })) ≡ Some (record { sector = 7; number = 3 }) }
+    ensures not_noted { noted_of outcome.Unreadable ≡ None }
+    ensures none_noted { noted_of outcome.Erased ≡ None }
+    ensures empty { ReadsSector None got.Empty (6 ∷ []) }
+    ensures empty_data { ¬ ReadsSector None got.Data (6 ∷ []) }
+    ensures bytes { ReadsSector (Some (5 ∷ [])) got.Data (5 ∷ []) }
+    ensures other_bytes { ¬ ReadsSector (Some (5 ∷ [])) got.Data (6 ∷ []) }
+    ensures lost { ¬ ReadsSector (Some (5 ∷ [])) got.Empty (5 ∷ []) }
+{}
+
+/// What a command leaves, and which counts a call changes.
+pub fn outcomes()
+    ensures done { (f t : Flash) → Performs {T = ℕ} (command.Program (record { block = 1; page = 2 }) 5) 7 None (Ok 0) f t → f 1 2 ≡ Erased
+        → t 1 2 ≡ Version 7 5 None }
+    ensures programmed { (f t : Flash) → f 1 2 ≡ Torn
+        → Performs {T = ℕ} (command.Program (record { block = 1; page = 2 }) 5) 7 None (Ok 0) f t }
+    ensures failed { (f : Flash) → Performs {T = ℕ} (command.Program (record { block = 1; page = 2 }) 5) 7 None (Err fault.Failed) f f }
+    ensures cut { (f : Flash) → Performs {T = ℕ} (command.Program (record { block = 1; page = 2 }) 5) 7 None (Err fault.PowerGone) f f }
+    ensures not_done { (f : Flash) → f 1 2 ≡ Erased
+        → ¬ Performs {T = ℕ} (command.Program (record { block = 1; page = 2 }) 5) 7 None (Ok 0) f f }
+    ensures torn { (f t : Flash) → SetsPage f t 1 2 Torn
+        → Performs {T = ℕ} (command.Program (record { block = 1; page = 2 }) 5) 7 None (Err fault.Failed) f t }
+    ensures other { (f t : Flash) → f 1 2 ≡ Erased → t 0 0 ≢ f 0 0
+        → ¬ Performs {T = ℕ} (command.Program (record { block = 1; page = 2 }) 5) 7 None (Err fault.Failed) f t }
+    ensures same { (count : Cause → ℕ) → CountsFault {T = ℕ} count count (Ok 0) }
+    ensures success { (old new : Cause → ℕ) → new fault.Failed ≢ old fault.Failed → ¬ CountsFault {T = ℕ} old new (Ok 0) }
+    ensures same_cut { (old new : Cause → ℕ) → new fault.PowerGone ≢ old fault.PowerGone → ¬ CountsFault {T = ℕ} old new (Ok 0) }
+    ensures wraps { (old new : Cause → ℕ) → new fault.Failed ≢ old fault.Failed → CountsFault {T = ℕ} old new (Err fault.Failed) }
+    ensures counted { (old new : Cause → ℕ) → CountsFault {T = ℕ} old new (Err fault.Failed) → new fault.Failed ≢ old fault.Failed }
+    ensures counts { (old new : Cause → ℕ) → CountsFault {T = ℕ} old new (Err fault.PowerGone) → new fault.PowerGone ≢ old fault.PowerGone }
+    ensures not_power { (old new : Cause → ℕ) → new fault.Failed ≢ old fault.Failed → new fault.PowerGone ≡ old fault.PowerGone
+        → ¬ CountsFault {T = ℕ} old new (Err fault.PowerGone) }
+    ensures same_cuts { (count : Cause → ℕ) → CountsCut {T = ℕ} count count (Ok 0) }
+    ensures no_cut { (old new : Cause → ℕ) → new fault.Failed ≢ old fault.Failed → ¬ CountsCut {T = ℕ} old new (Ok 0) }
+    ensures no_power { (old new : Cause → ℕ) → new fault.PowerGone ≢ old fault.PowerGone → ¬ CountsCut {T = ℕ} old new (Ok 0) }
+    ensures power { (count : Cause → ℕ) (gone : NoPower) → ¬ CountsCut {T = ℕ} count count (Err gone) }
+    ensures gone { (old new : Cause → ℕ) (gone : NoPower) → new fault.PowerGone ≢ old fault.PowerGone → CountsCut {T = ℕ} old new (Err gone) }
+{}
+
+/// What a modelled chip holds and counts.
+pub fn modelled()
+    ensures erased { contents_of page.Erased ≡ Erased }
+    ensures torn { contents_of page.Torn ≡ Torn }
+    ensures none { (b p : ℕ) → flash_in [] b p ≡ Erased }
+    ensures page { (pages : Vec Cell OnHeap) → pages.items ≡ page.Erased ∷ page.Torn ∷ [] → flash_in (pages ∷ []) 0 1 ≡ Torn }
+    ensures beyond { (pages : Vec Cell OnHeap) → pages.items ≡ page.Torn ∷ [] → flash_in (pages ∷ []) 0 1 ≡ Erased }
+    ensures chip { (chip : Modelled) (pages : Vec Cell OnHeap) → chip.blocks.items ≡ pages ∷ []
+        → pages.items ≡ page.Torn ∷ [] → chip_flash chip 0 0 ≡ Torn }
+    ensures shape { (chip : Modelled) → chip.shape.pages ≡ 4 → (chip_shape chip).pages ≡ 4 }
+    ensures version { (main : Vec ℕ OnHeap) → main.items ≡ 5 ∷ []
+        → contents_of (page.Version (record { sector = 7; number = 3; trimmed = false }) main) ≡ Version 7 3 (Some (5 ∷ [])) }
+    ensures trim { (main : Vec ℕ OnHeap) → contents_of (page.Version (record { sector = 7; number = 3; trimmed = true }) main) ≡ Version 7 3 None }
+    ensures wiped { (f t : Flash) → IsWiped f t 1 → t 1 3 ≡ Erased }
+    ensures other { (f t : Flash) → IsWiped f t 1 → t 0 3 ≡ f 0 3 }
+    ensures clean { (f : Flash) → IsErased f → IsWiped f f 1 }
+    ensures not_wiped { (f : Flash) → f 1 3 ≡ Torn → ¬ IsWiped f f 1 }
+    ensures failures { (chip : Modelled) → chip.failures ≡ 2 → chip_faults chip fault.Failed ≡ 2 }
+    ensures cuts { (chip : Modelled) → chip.cuts ≡ 3 → chip_faults chip fault.PowerGone ≡ 3 }
+{}
+
+/// What comes of a modelled chip's commands.
+pub fn schedules()
+    ensures off { coming (record { powered = false; commands = 3; cut = None; failing = None }) ≡ fate.Cut cut.Nothing }
+    ensures done { coming (record { powered = true; commands = 3; cut = Some (4, cut.Whole); failing = Some 5 }) ≡ fate.Done }
+    ensures cut { coming (record { powered = true; commands = 4; cut = Some (4, cut.Whole); failing = Some 4 }) ≡ fate.Cut cut.Whole }
+    ensures fails { coming (record { powered = true; commands = 5; cut = Some (4, cut.Whole); failing = Some 5 }) ≡ fate.Fails }
+    ensures counts { after_command (record { powered = true; commands = 3; cut = Some (4, cut.Whole); failing = Some 5 })
+        ≡ record { powered = true; commands = 4; cut = Some (4, cut.Whole); failing = Some 5 } }
+    ensures wraps { (after_command (record { powered = true; commands = 2 ^ 64 - 1; cut = None; failing = None })).commands ≡ 0 }
+    ensures falls { after_command (record { powered = true; commands = 4; cut = Some (4, cut.Whole); failing = Some 5 })
+        ≡ record { powered = false; commands = 5; cut = None; failing = Some 5 } }
+    ensures stays_off { after_command (record { powered = false; commands = 4; cut = Some (4, cut.Whole); failing = None })
+        ≡ record { powered = false; commands = 4; cut = Some (4, cut.Whole); failing = None } }
+    ensures lost { ¬ Ends (fate.Cut cut.Whole) (Ok tt) }
+    ensures gone { Ends (fate.Cut cut.Whole) (Err fault.PowerGone) }
+    ensures no_cut { ¬ Ends fate.Done (Err fault.PowerGone) }
+    ensures memory { Ends fate.Done (Err fault.Failed) }
+    ensures succeeds { Ends fate.Done (Ok tt) }
+    ensures failed { Ends fate.Fails (Err fault.Failed) }
+    ensures not_failed { ¬ Ends fate.Fails (Ok tt) }
+    ensures not_gone { ¬ Ends fate.Fails (Err fault.PowerGone) }
+    ensures same_page { (old new : Modelled) → HasSame old new → chip_flash old 0 0 ≡ Torn → chip_flash new 0 0 ≡ Torn }
+    ensures same_shape { (old new : Modelled) → HasSame old new → (chip_shape old).pages ≡ 4 → (chip_shape new).pages ≡ 4 }
+    ensures same_bad { (old new : Modelled) → HasSame old new → chip_bad old ≡ true ∷ [] → chip_bad new ≡ true ∷ [] }
+    ensures same_erases { (old new : Modelled) → HasSame old new → chip_erases old ≡ 3 ∷ [] → chip_erases new ≡ 3 ∷ [] }
+    ensures same_failures { (old new : Modelled) → HasSame old new → chip_faults new fault.Failed ≡ chip_faults old fault.Failed }
+    ensures same_cuts { (old new : Modelled) → HasSame old new → chip_faults new fault.PowerGone ≡ chip_faults old fault.PowerGone }
+    ensures bad { (chip : Modelled) → chip.bad.items ≡ true ∷ [] → chip_bad chip ≡ true ∷ [] }
+    ensures erases { (chip : Modelled) → chip.erases.items ≡ 3 ∷ [] → chip_erases chip ≡ 3 ∷ [] }
+    ensures powered { (chip : Modelled) → chip.powered ≡ true → (schedule_of chip).powered ≡ true }
+    ensures commands { (chip : Modelled) → chip.commands ≡ 3 → (schedule_of chip).commands ≡ 3 }
+    ensures at { (chip : Modelled) → chip.cut ≡ Some (4, cut.Whole) → (schedule_of chip).cut ≡ Some (4, cut.Whole) }
+    ensures failing { (chip : Modelled) → chip.failing ≡ Some 5 → (schedule_of chip).failing ≡ Some 5 }
+{}
+
+/// Which failures may come, and what they leave.
+pub fn failures()
+    ensures failed { failure_of fault.Failed ≡ failure.Failed }
+    ensures gone { failure_of fault.PowerGone ≡ failure.PowerGone }
+    ensures no_number { IsRefusal failure.NoNumber }
+    ensures is_written { IsRefusal failure.Written }
+    ensures no_power { ¬ IsRefusal failure.PowerGone }
+    ensures no_command { ¬ IsRefusal failure.Failed }
+    ensures is_closed { ¬ IsRefusal failure.Closed }
+    ensures is_lost { ¬ IsRefusal failure.Lost }
+{}
+
+/// An open layer on a modelled chip, and a chip that can be opened.
+pub fn opened()
+    ensures blocks { (shape : Numbers) → shape.blocks ≡ 3 → ((device_on shape 8).blocks ≡ 3) × ((device_on shape 8).read_blocks ≡ 3) }
+    ensures pages { (shape : Numbers) → shape.pages ≡ 4 → (device_on shape 8).pages ≡ 4 }
+    ensures sectors { (shape : Numbers) → (device_on shape 8).sectors ≡ 8 }
+    ensures sector { (update_of 7 None).sector ≡ 7 }
+    ensures value { (update_of 7 (Some (5 ∷ []))).value ≡ Some (5 ∷ []) }
+    ensures size { (layer : Layer Modelled) → (device_of layer.core).sectors ≡ 8 → layer_sectors layer ≡ 8 }
+    ensures number { (layer : Layer Modelled) → next_number_of layer.core ≡ 5 → number_of layer ≡ 5 }
+    ensures is_closed { (layer : Layer Modelled) → layer.mounted ≡ false → IsClosed layer }
+    ensures closed { (layer : Layer Modelled) (updates : List Update) → IsClosed layer → ¬ IsOpenLayer chip_flash chip_shape layer updates }
+    ensures other_chip { (layer : Layer Modelled) (updates : List Update) → (chip_shape layer.nand).blocks ≡ 3 → (device_of layer.core).blocks ≡ 4
+        → ¬ IsOpenLayer chip_flash chip_shape layer updates }
+    ensures numbered { (layer : Layer Modelled) (v : Sector) (updates : List Update) → IsOpenLayer chip_flash chip_shape layer updates
+        → chip_flash layer.nand 0 0 ≡ Version 7 5 v → 5 < next_number_of layer.core }
+    ensures keeps { (chip : Modelled) (updates : List Update) → CanOpen chip_flash chip_shape chip 8 updates
+        → KeepsAcknowledged (chip_flash chip) 8 updates updates }
+    ensures erased { (chip : Modelled) → IsErased (chip_flash chip) → 0 < (chip_shape chip).blocks → CanOpen chip_flash chip_shape chip 8 [] }
+    ensures on_chip { (chip : Modelled) (v : Sector) (updates : List Update) → CanOpen chip_flash chip_shape chip 8 updates
+        → chip_flash chip 3 0 ≡ Version 7 5 v → 3 < (chip_shape chip).blocks }
+    ensures no_sector { (chip : Modelled) (v : Sector) (updates : List Update) → chip_flash chip 3 0 ≡ Version 8 5 v
+        → ¬ CanOpen chip_flash chip_shape chip 8 updates }
+{}
+
+/// How updates fail, and which causes are true.
+pub fn failing()
+    ensures power { (old new : Layer Modelled) → chip_faults old.nand fault.PowerGone ≡ 2 → chip_faults new.nand fault.PowerGone ≡ 2
+        → ¬ IsTrueCause chip_faults old new failure.PowerGone }
+    ensures failed { (old new : Layer Modelled) → chip_faults old.nand fault.Failed ≡ 2 → chip_faults new.nand fault.Failed ≡ 2
+        → ¬ IsTrueCause chip_faults old new failure.Failed }
+    ensures open { (old new : Layer Modelled) → old.mounted ≡ true → ¬ IsTrueCause chip_faults old new failure.Closed }
+    ensures number { (old new : Layer Modelled) → number_of old ≡ 5 → ¬ IsTrueCause chip_faults old new failure.NoNumber }
+    ensures last_number { (old new : Layer Modelled) → number_of old ≡ 2 ^ 64 - 1 → IsTrueCause chip_faults old new failure.NoNumber }
+    ensures sectors { (old new : Layer Modelled) → layer_sectors old ≡ 8 → layer_sectors new ≡ 7 → ¬ IsSameDevice chip_shape old new }
+    ensures chip { (old new : Layer Modelled) → (chip_shape old.nand).pages ≡ 4 → (chip_shape new.nand).pages ≡ 5 → ¬ IsSameDevice chip_shape old new }
+    ensures lost { (old new : Layer Modelled) (u : Update) (updates : List Update) → ¬ Fails chip_flash chip_shape old new u updates failure.Lost }
+    ensures written { (old new : Layer Modelled) (u : Update) (updates : List Update) → new.mounted ≡ false
+        → ¬ Fails chip_flash chip_shape old new u updates failure.Written }
+    ensures stays { (old new : Layer Modelled) (u : Update) (updates : List Update) → Fails chip_flash chip_shape old new u updates failure.PowerGone
+        → new.mounted ≡ true → (device_of new.core).blocks ≡ (chip_shape new.nand).blocks }
+    ensures reopens { (old new : Layer Modelled) (u : Update) (updates : List Update) (v : Sector) → chip_flash new.nand 3 0 ≡ Version 8 5 v
+        → layer_sectors old ≡ 8 → ¬ Fails chip_flash chip_shape old new u updates failure.PowerGone }
+{}
+
+/// What calls leave that were acknowledged or cut short.
+pub fn histories()
+    ensures write { (bytes : Vec ℕ OnHeap) → bytes.items ≡ 5 ∷ [] → update_by (Write 7 bytes) ≡ record { sector = 7; value = Some (5 ∷ []) } }
+    ensures trim { update_by (Trim 7) ≡ record { sector = 7; value = None } }
+    ensures fits { (bytes : Vec ℕ OnHeap) → bytes.items ≡ 5 ∷ [] → IsFor 8 1 (Write 7 bytes) }
+    ensures beyond { (bytes : Vec ℕ OnHeap) → ¬ IsFor 8 1 (Write 8 bytes) }
+    ensures short { (bytes : Vec ℕ OnHeap) → bytes.items ≡ [] → ¬ IsFor 8 1 (Write 7 bytes) }
+    ensures last { IsFor 8 1 (Trim 7) }
+    ensures past { ¬ IsFor 8 1 (Trim 8) }
+    ensures done { (u v : Update) → Makes true u (v ∷ []) (u ∷ v ∷ []) }
+    ensures lost { (u : Update) → ¬ Makes true u [] [] }
+    ensures before { (u : Update) → Makes false u [] [] }
+    ensures after { (u : Update) → Makes false u [] (u ∷ []) }
+    ensures other { (u v : Update) → u ≢ v → ¬ Makes false u [] (v ∷ []) }
+    ensures in_order { (a b : Call) (u : Update) → Leads (a ∷ b ∷ []) (true ∷ true ∷ []) (u ∷ []) (update_by b ∷ update_by a ∷ u ∷ []) }
+    ensures only { (a b : Call) (updates : List Update) → Leads (a ∷ b ∷ []) (true ∷ true ∷ []) [] updates → updates ≡ update_by b ∷ update_by a ∷ [] }
+    ensures not_made { (a b : Call) (updates : List Update) → Leads (a ∷ b ∷ []) (true ∷ []) [] updates → updates ≡ update_by a ∷ [] }
+    ensures cut { (a b : Call) → Leads (a ∷ b ∷ []) (false ∷ true ∷ []) [] (update_by b ∷ []) }
+    ensures too_many { (updates : List Update) → ¬ Leads [] (true ∷ []) [] updates }
+{}

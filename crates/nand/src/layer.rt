@@ -1,0 +1,318 @@
+ghost use Rattle.std.specs.Prelude.{◌≡◌, ◌≢◌, ◌⊎◌, ◌<◌, ℕ, Bool, false, List, ◌∷◌, [], length};
+ghost use Rattle.std.specs.Prelude.{None, Some, Ok, Err, OnOk, OnErr, IfOk, IfErr, if◌then◌else◌};
+ghost use Rattle.geometry.specs.Sectors.{was_of};
+ghost use Rattle.geometry.specs.declared.answer.Was.TheVariants as was;
+ghost use Rattle.durable.specs.Collecting.{HasCapacity};
+ghost use Rattle.durable.specs.Updates.{Update, array_after};
+ghost use Rattle.durable.specs.declared.fault.MountFault.TheVariants as mount_fault;
+ghost use Rattle.nand.specs.Nand.{Performs, CountsFault, value_with};
+ghost use Rattle.durable.specs.Device.{IsWrittenOn};
+ghost use Rattle.durable.specs.Flash.{IsErased};
+ghost use Rattle.nand.specs.Opened.{CanOpen, Fails, IsClosed, IsOpenLayer, IsSameDevice, IsTrueCause, ReadsSector};
+ghost use Rattle.nand.specs.Opened.{device_on, layer_sectors, number_of, update_of};
+ghost use Rattle.nand.specs.declared.failure.Failure.TheVariants as failure;
+ghost use Rattle.nand.specs.declared.failure.OpenFailure.TheVariants as why;
+ghost use Rattle.nand.specs.declared.flash.Reading.TheVariants as outcome;
+ghost use Rattle.nand.specs.declared.flash.Fault.{Fault as Cause};
+ghost use Rattle.nand.specs.declared.flash.Fault.TheVariants as fault;
+
+use crate::failure::{Failure, OpenFailure};
+use crate::flash::{Fault, Nand, PowerGone, Reading, Stamp};
+use crate::mounting::mount;
+use durable::{Command, Core};
+use geometry::{Got, Was};
+use std::alloc::Global;
+
+/// A page-mapped layer over a chip. It survives power cuts.
+#[derive(Drop)]
+pub struct Durable<N: Nand> {
+    nand: N,
+    core: Core,
+    // No command has failed since the chip was opened.
+    mounted: bool,
+}
+
+/// A chip that was not opened, and why.
+#[derive(Drop)]
+pub struct NotOpened<N> {
+    pub nand: N,
+    pub why: OpenFailure,
+}
+
+// What a sector is, by what its page was read as.
+fn found(reading: Reading, sector: u32) -> Result<Was, Failure>
+    ensures version { (n : ℕ) (t : Bool) → reading ≡ outcome.Version (record { sector = sector; number = n; trimmed = t })
+        → result ≡ Ok (if t then was.Empty else was.Written) }
+    ensures lost { OnErr result (result ≡ Err failure.Lost) }
+{
+    match reading {
+        Reading::Version(stamp) => {
+            if stamp.sector != sector {
+                return Err(Failure::Lost);
+            }
+            Ok(if stamp.trimmed {
+                Was::Empty
+            } else {
+                Was::Written
+            })
+        }
+        Reading::Erased | Reading::Unreadable => Err(Failure::Lost),
+    }
+}
+
+// Has the chip do a command.
+fn perform<N: Nand>(
+    nand: &mut N,
+    command: Command,
+    sector: u32,
+    trimmed: bool,
+    main: &[u8],
+) -> Result<(), Fault>
+    requires { trimmed ≡ false → length main.now ≡ (N.shape nand.old).page_bytes }
+    ensures does { Performs command sector (value_with trimmed main.now) result (N.flash nand.old) (N.flash nand.new) }
+    ensures shape { N.shape nand.new ≡ N.shape nand.old }
+    ensures cause { CountsFault (N.faults nand.old) (N.faults nand.new) result }
+{
+    match command {
+        Command::Program(at, number) => {
+            let stamp = Stamp {
+                sector,
+                number,
+                trimmed,
+            };
+            nand.program(at, stamp, main)
+        }
+        Command::Copy(_, from, to) => nand.copyback(from, to),
+        Command::Erase(block) => nand.erase(block),
+        Command::Refused => Ok(()),
+    }
+}
+
+impl<N: Nand> Durable<N> {
+    /// Opens a chip: reads each page's stamp. A chip that was never written is an empty device. A chip that isn't opened comes back.
+    pub fn open(alloc: Global, nand: N, sectors: u32) -> Result<Durable<N>, NotOpened<N>>
+        ensures open { (updates : List Update) → CanOpen N.flash N.shape nand sectors updates
+            → IfOk result (λ layer. IsOpenLayer N.flash N.shape layer updates) }
+        ensures new { IsErased (N.flash nand) → IfOk result (λ layer. IsOpenLayer N.flash N.shape layer []) }
+        ensures chip { IfOk result (λ layer. (N.flash layer.nand ≡ N.flash nand) × (N.shape layer.nand ≡ N.shape nand) × (layer_sectors layer ≡ sectors)) }
+        ensures capacity { OnOk result (HasCapacity sectors (N.shape nand).blocks (N.shape nand).pages) }
+        ensures back { IfErr result (λ refused. (N.flash refused.nand ≡ N.flash nand) × (N.shape refused.nand ≡ N.shape nand)) }
+
+        // It is refused only if the sectors are too many, if the flash is none that this layer leaves, or without memory or power.
+        ensures room { HasCapacity sectors (N.shape nand).blocks (N.shape nand).pages
+            → IfErr result (λ refused. refused.why ≢ why.Refused mount_fault.TooManySectors) }
+        ensures foreign { IsWrittenOn (device_on (N.shape nand) sectors) (N.flash nand)
+            → IfErr result (λ refused. refused.why ≢ why.Refused mount_fault.ForeignStamp) }
+        ensures frees { (updates : List Update) → CanOpen N.flash N.shape nand sectors updates
+            → IfErr result (λ refused. refused.why ≢ why.Refused mount_fault.NoFreeBlock) }
+        ensures begins { IsErased (N.flash nand) → HasCapacity sectors (N.shape nand).blocks (N.shape nand).pages
+            → IfErr result (λ refused. (refused.why ≡ why.PowerGone) ⊎ (refused.why ≡ why.Refused mount_fault.OutOfMemory)) }
+        ensures power { IfErr result (λ refused. refused.why ≡ why.PowerGone → N.faults refused.nand fault.PowerGone ≢ N.faults nand fault.PowerGone) }
+    {
+        let mut nand = nand;
+        match mount(alloc, &mut nand, sectors) {
+            Ok(core) => Ok(Durable {
+                nand,
+                core,
+                mounted: true,
+            }),
+            Err(why) => Err(NotOpened { nand, why }),
+        }
+    }
+
+    /// Gives the chip back.
+    pub fn into_nand(self) -> N
+        ensures chip { result ≡ self.nand }
+        ensures left { (updates : List Update) → IsOpenLayer N.flash N.shape self updates → CanOpen N.flash N.shape result (layer_sectors self) updates }
+    {
+        self.nand
+    }
+
+    /// How many sectors the layer has.
+    pub fn sectors(&self) -> u32
+        ensures { result ≡ layer_sectors self.now }
+    {
+        self.core.sectors()
+    }
+
+    /// How many bytes a page has, and so a sector.
+    pub fn page_bytes(&self) -> usize
+        ensures { result ≡ (N.shape self.now.nand).page_bytes }
+    {
+        self.nand.shape().page_bytes
+    }
+
+    /// Reads a sector into `out`, a buffer of one page. If the sector is empty, any bytes may be in `out`.
+    pub fn read(&mut self, sector: u32, out: &mut [u8]) -> Result<Got, Failure>
+        requires sector { sector < layer_sectors self.old }
+        requires page { length out.old ≡ (N.shape self.old.nand).page_bytes }
+        ensures gives { (updates : List Update) → IsOpenLayer N.flash N.shape self.old updates
+            → IfOk result (λ got. ReadsSector (array_after updates sector) got out.new) }
+
+        // It changes nothing, and fails only without power.
+        ensures open { (updates : List Update) → IsOpenLayer N.flash N.shape self.old updates → IsOpenLayer N.flash N.shape self.new updates }
+        ensures only { (updates : List Update) → IsOpenLayer N.flash N.shape self.old updates → OnErr result (result ≡ Err failure.PowerGone) }
+        ensures cause { IfErr result (IsTrueCause N.faults self.old self.new) }
+        ensures closed { IsClosed self.old → result ≡ Err failure.Closed }
+        ensures flash { N.flash self.new.nand ≡ N.flash self.old.nand }
+        ensures device { IsSameDevice N.shape self.old self.new }
+    {
+        if !self.mounted {
+            return Err(Failure::Closed);
+        }
+        let Some(at) = self.core.page(sector) else {
+            return Ok(Got::Empty);
+        };
+        match self.nand.read(at, out) {
+            Ok(reading) => match found(reading, sector) {
+                Ok(Was::Empty) => Ok(Got::Empty),
+                Ok(Was::Written) => Ok(Got::Data),
+                Err(failure) => Err(failure),
+            },
+            Err(PowerGone) => Err(Failure::PowerGone),
+        }
+    }
+
+    /// Writes a sector. At `Ok` the flash holds it.
+    pub fn write(&mut self, sector: u32, bytes: &[u8]) -> Result<(), Failure>
+        requires sector { sector < layer_sectors self.old }
+        requires page { length bytes.now ≡ (N.shape self.old.nand).page_bytes }
+        ensures acknowledged { (updates : List Update) → IsOpenLayer N.flash N.shape self.old updates
+            → OnOk result (IsOpenLayer N.flash N.shape self.new (update_of sector (Some bytes.now) ∷ updates)) }
+
+        // It fails only if the chip does, or if the numbers have run out.
+        ensures fails { (updates : List Update) → IsOpenLayer N.flash N.shape self.old updates
+            → IfErr result (Fails N.flash N.shape self.old self.new (update_of sector (Some bytes.now)) updates) }
+        ensures cause { IfErr result (IsTrueCause N.faults self.old self.new) }
+        ensures closed { IsClosed self.old → result ≡ Err failure.Closed }
+        ensures device { IsSameDevice N.shape self.old self.new }
+        ensures overwrites { result ≢ Err failure.Written }
+    {
+        self.update(sector, false, bytes)
+    }
+
+    /// Writes a sector if it is empty.
+    pub fn write_new(&mut self, sector: u32, bytes: &[u8]) -> Result<(), Failure>
+        requires sector { sector < layer_sectors self.old }
+        requires page { length bytes.now ≡ (N.shape self.old.nand).page_bytes }
+        ensures acknowledged { (updates : List Update) → IsOpenLayer N.flash N.shape self.old updates
+            → OnOk result (IsOpenLayer N.flash N.shape self.new (update_of sector (Some bytes.now) ∷ updates)) }
+        ensures empty { (updates : List Update) → IsOpenLayer N.flash N.shape self.old updates
+            → OnOk result (was_of (array_after updates sector) ≡ was.Empty) }
+
+        // It fails only if the sector is written, if the chip fails, or if the numbers have run out.
+        ensures written { (updates : List Update) → IsOpenLayer N.flash N.shape self.old updates
+            → result ≡ Err failure.Written → was_of (array_after updates sector) ≡ was.Written }
+        ensures fails { (updates : List Update) → IsOpenLayer N.flash N.shape self.old updates
+            → IfErr result (Fails N.flash N.shape self.old self.new (update_of sector (Some bytes.now)) updates) }
+        ensures cause { IfErr result (IsTrueCause N.faults self.old self.new) }
+        ensures closed { IsClosed self.old → result ≡ Err failure.Closed }
+        ensures device { IsSameDevice N.shape self.old self.new }
+    {
+        match self.was(sector) {
+            Ok(Was::Empty) => self.update(sector, false, bytes),
+            Ok(Was::Written) => Err(Failure::Written),
+            Err(failure) => Err(failure),
+        }
+    }
+
+    /// Empties a sector, and returns what it was. If it was empty, nothing is programmed.
+    pub fn trim(&mut self, sector: u32) -> Result<Was, Failure>
+        requires { sector < layer_sectors self.old }
+        ensures was { (updates : List Update) → IsOpenLayer N.flash N.shape self.old updates → IfOk result (λ had. had ≡ was_of (array_after updates sector)) }
+        ensures acknowledged { (updates : List Update) → IsOpenLayer N.flash N.shape self.old updates
+            → OnOk result (IsOpenLayer N.flash N.shape self.new (update_of sector None ∷ updates)) }
+        ensures nothing { result ≡ Ok was.Empty → N.flash self.new.nand ≡ N.flash self.old.nand }
+
+        // It fails only if the chip does, or if the numbers have run out.
+        ensures fails { (updates : List Update) → IsOpenLayer N.flash N.shape self.old updates
+            → IfErr result (Fails N.flash N.shape self.old self.new (update_of sector None) updates) }
+        ensures cause { IfErr result (IsTrueCause N.faults self.old self.new) }
+        ensures closed { IsClosed self.old → result ≡ Err failure.Closed }
+        ensures device { IsSameDevice N.shape self.old self.new }
+        ensures trims { result ≢ Err failure.Written }
+    {
+        match self.was(sector) {
+            Ok(Was::Empty) => Ok(Was::Empty),
+            Ok(Was::Written) => match self.update(sector, true, &[]) {
+                Ok(()) => Ok(Was::Written),
+                Err(failure) => Err(failure),
+            },
+            Err(failure) => Err(failure),
+        }
+    }
+
+    /// Returns once what was acknowledged is durable.
+    pub fn flush(&mut self) -> Result<(), Failure>
+        ensures open { (updates : List Update) → IsOpenLayer N.flash N.shape self.old updates → IsOpenLayer N.flash N.shape self.new updates }
+        ensures only { OnErr result (result ≡ Err failure.PowerGone) }
+        ensures cause { IfErr result (IsTrueCause N.faults self.old self.new) }
+        ensures flash { N.flash self.new.nand ≡ N.flash self.old.nand }
+        ensures device { IsSameDevice N.shape self.old self.new }
+    {
+        match self.nand.sync() {
+            Ok(()) => Ok(()),
+            Err(PowerGone) => Err(Failure::PowerGone),
+        }
+    }
+
+    // Whether a sector is empty or written.
+    fn was(&mut self, sector: u32) -> Result<Was, Failure>
+        requires { sector < layer_sectors self.old }
+        ensures gives { (updates : List Update) → IsOpenLayer N.flash N.shape self.old updates
+            → IfOk result (λ had. had ≡ was_of (array_after updates sector)) }
+        ensures open { (updates : List Update) → IsOpenLayer N.flash N.shape self.old updates → IsOpenLayer N.flash N.shape self.new updates }
+        ensures only { (updates : List Update) → IsOpenLayer N.flash N.shape self.old updates → OnErr result (result ≡ Err failure.PowerGone) }
+        ensures cause { IfErr result (IsTrueCause N.faults self.old self.new) }
+        ensures failed { (result ≢ Err failure.Failed) × (result ≢ Err failure.NoNumber) × (result ≢ Err failure.Written) }
+        ensures closed { IsClosed self.old → result ≡ Err failure.Closed }
+        ensures mounted { self.new.mounted ≡ self.old.mounted }
+        ensures faults { OnOk result ((cause : Cause) → N.faults self.new.nand cause ≡ N.faults self.old.nand cause) }
+        ensures number { number_of self.new ≡ number_of self.old }
+        ensures flash { N.flash self.new.nand ≡ N.flash self.old.nand }
+        ensures device { IsSameDevice N.shape self.old self.new }
+    {
+        if !self.mounted {
+            return Err(Failure::Closed);
+        }
+        let Some(at) = self.core.page(sector) else {
+            return Ok(Was::Empty);
+        };
+        match self.nand.stamp(at) {
+            Ok(reading) => found(reading, sector),
+            Err(PowerGone) => Err(Failure::PowerGone),
+        }
+    }
+
+    // Gives a sector a new version.
+    fn update(&mut self, sector: u32, trimmed: bool, main: &[u8]) -> Result<(), Failure>
+        requires sector { sector < layer_sectors self.old }
+        requires page { trimmed ≡ false → length main.now ≡ (N.shape self.old.nand).page_bytes }
+        ensures acknowledged { (updates : List Update) → IsOpenLayer N.flash N.shape self.old updates
+            → OnOk result (IsOpenLayer N.flash N.shape self.new (update_of sector (value_with trimmed main.now) ∷ updates)) }
+        ensures fails { (updates : List Update) → IsOpenLayer N.flash N.shape self.old updates
+            → IfErr result (Fails N.flash N.shape self.old self.new (update_of sector (value_with trimmed main.now)) updates) }
+        ensures cause { IfErr result (IsTrueCause N.faults self.old self.new) }
+        ensures closed { IsClosed self.old → result ≡ Err failure.Closed }
+        ensures device { IsSameDevice N.shape self.old self.new }
+        ensures overwrites { result ≢ Err failure.Written }
+    {
+        if !self.mounted {
+            return Err(Failure::Closed);
+        }
+        loop {
+            let command = self.core.next(sector);
+            if matches!(command, Command::Refused) {
+                return Err(Failure::NoNumber);
+            }
+            if let Err(fault) = perform(&mut self.nand, command, sector, trimmed, main) {
+                self.mounted = false;
+                return Err(fault.into());
+            }
+            self.core.done(sector, command);
+            if command.is_last() {
+                return Ok(());
+            }
+        }
+    }
+}

@@ -1,0 +1,29 @@
+use Rattle.std.proofs.Common.{ℕ, ◌+◌, ◌-◌, arith, length-set}
+use Rattle.std.proofs.lemmas.Grind.{common_steps}
+use Rattle.victims.proofs.Sorting.{starts_within, raised}
+use Rattle.victims.proofs.bucket_queue.BucketQueue.raise.Goals as goal
+
+pub move_to-requires-clause-to : goal.move_to-requires-clause-to
+move_to-requires-clause-to c =
+    let q = c.args.self.now in
+    let key : ℕ = c.index.result.now + 1 in
+    grind (arith, common_steps, starts_within _ _ _ q.in_order key, q.in_order.behind key c.args.item)
+
+pub invariant_of-self-clause-in_order : goal.invariant_of-self-clause-in_order
+invariant_of-self-clause-in_order c =
+    let q = c.args.self.now in
+    let old = q.sorted.places.items in
+    let new = c.move_to.new.self.places.items in
+    let step = raised q.keys.items q.sorted.order.items old new q.starts.items c.args.item q.sorted.inverse q.in_order c.requires.item in
+    step c.move_to.ensures.length _ _ (grind (arith, common_steps)) (grind (
+      arith,
+      common_steps,
+      q.in_order.behind (c.index.result.now + 1) c.args.item,
+    )) (grind (arith, common_steps)) c.move_to.ensures.moved
+
+pub invariant_of-self-clause-narrow : goal.invariant_of-self-clause-narrow
+invariant_of-self-clause-narrow c = omega (
+  arith,
+  c.args.self.now.narrow,
+  length-set c.args.self.now.starts.items (c.index.result.now + 1) (c.index-2.result.now - 1),
+)
