@@ -1,0 +1,126 @@
+-- What a call of C returns, and what it leaves: by what the handle has.
+use Rattle.std.specs.Prelude.{◌≡◌, ◌≢◌, ◌<◌, ℕ, Bool, nat_le, ◌==◌, List, Option, None, Some, IfSome, if◌then◌else◌}
+use Rattle.geometry.specs.declared.page_addr.PageAddr.{PageAddr}
+use Rattle.durable.specs.Flash.{Flash}
+use Rattle.durable.specs.Updates.{Update, array_after}
+use Rattle.durable.specs.Device.{Device, device_of, device_in, next_page_of, next_number_of, IsWrittenOn}
+use Rattle.durable.specs.Memory.{IsMappedTo}
+use Rattle.durable.specs.Mounting.{IsStampOf, next_in, after_in}
+use Rattle.durable.specs.Choice.{IsNext, Spends, StaysOpen, left, number_after}
+use Rattle.durable.specs.Promise.{IsRecoverable, IsConsistent}
+use Rattle.durable.specs.Calls.{IsSafe, SurvivesCut, SurvivesIdleCut, Acknowledges, HasNoted, Remounts}
+use Rattle.durable.specs.declared.command.Command.{Command}
+use Rattle.durable.specs.declared.command.Command.TheVariants.{Refused}
+use Rattle.durable.specs.declared.found.Stamp.{Stamp}
+use Rattle.durable.specs.declared.mount.Mount.{Mount}
+use Rattle.durable_exports.specs.declared.layer.Layer.{Layer}
+use Rattle.durable_exports.specs.declared.reports.CommandReport.{CommandReport}
+use Rattle.durable_exports.specs.declared.seat.Seat.{Seat}
+use Rattle.durable_exports.specs.declared.seat.Seat.TheVariants.{Mounting, Mounted}
+use Rattle.durable_exports.specs.Reports.{report_of, no_totals, totals_with}
+
+-- the device of a layer
+abbrev pub layer_device : Layer → Device
+layer_device l = device_of l.core
+
+-- the code of a call for a mount: 2 for a closed handle, and 9 for a layer
+abbrev pub code_of_mount : Option Seat → (Mount → ℕ) → ℕ
+code_of_mount None code = 2
+code_of_mount (Some (Mounting m)) code = code m
+code_of_mount (Some (Mounted l)) code = 9
+
+-- the code of a call for a layer: 2 for a closed handle, and 9 for a mount under way
+abbrev pub code_of_layer : Option Seat → (Layer → ℕ) → ℕ
+code_of_layer None code = 2
+code_of_layer (Some (Mounting m)) code = 9
+code_of_layer (Some (Mounted l)) code = code l
+
+-- this holds of the mount under way, if there is one
+abbrev pub OfMount : Option Seat → (Mount → Type 0) → Type 0
+OfMount None says = Unit {0}
+OfMount (Some (Mounting m)) says = says m
+OfMount (Some (Mounted l)) says = Unit {0}
+
+-- this holds of the layer, if there is one
+abbrev pub OfLayer : Option Seat → (Layer → Type 0) → Type 0
+OfLayer None says = Unit {0}
+OfLayer (Some (Mounting m)) says = Unit {0}
+OfLayer (Some (Mounted l)) says = says l
+
+-- there is a mount under way, and this holds of it
+abbrev pub HasMount : Option Seat → (Mount → Type 0) → Type 0
+HasMount None says = ⊥
+HasMount (Some (Mounting m)) says = says m
+HasMount (Some (Mounted l)) says = ⊥
+
+-- there is a layer, and this holds of it
+abbrev pub HasLayer : Option Seat → (Layer → Type 0) → Type 0
+HasLayer None says = ⊥
+HasLayer (Some (Mounting m)) says = ⊥
+HasLayer (Some (Mounted l)) says = says l
+
+-- the code of an open: whether the handle is closed, then whether the sectors have room, and then whether there is memory, which no state says
+abbrev pub begin_code : Option Seat → Bool → Bool → ℕ
+begin_code None has_room no_memory = if has_room then (if no_memory then 6 else 0) else 109
+begin_code (Some x) has_room no_memory = 8
+
+-- the code of a note, by whether a page is left to be noted and whether its stamp is of the device
+abbrev pub note_code : Option PageAddr → Bool → ℕ
+note_code None foreign = 32
+note_code (Some at) foreign = if foreign then 30 else 0
+
+-- the code of a finish, by whether a page is left to be noted, and how it went
+abbrev pub finish_code : Option PageAddr → ℕ → ℕ
+finish_code None went = went
+finish_code (Some at) went = 32
+
+-- a mount as it begins: of this device, with the first page to be noted
+abbrev pub IsBegun : Device → Mount → Type 0
+IsBegun device m = (device_in m ≡ device) × (next_in m ≡ Some (record { block = 0; page = 0 })) × ((f : Flash) → HasNoted f m)
+
+-- a note that returns this code takes a stamp of the flash's next page, where all versions are of the device
+abbrev pub Accepts : Option Stamp → ℕ → Mount → Type 0
+Accepts stamp code m = (f : Flash) → IsWrittenOn (device_in m) f → IfSome (next_in m) (λ at. IsStampOf f at.block at.page stamp) → code ≢ 30
+
+-- a mount after the next page's stamp was noted
+abbrev pub IsNoted : Option Stamp → Mount → Mount → Type 0
+IsNoted stamp m after =
+    (device_in after ≡ device_in m) × (next_in after ≡ after_in m)
+    × ((f : Flash) → HasNoted f m → IfSome (next_in m) (λ at. IsStampOf f at.block at.page stamp) → HasNoted f after)
+
+-- a finish that returns this code frees a block where the flash that was noted can be mounted
+abbrev pub FreesBlock : ℕ → Mount → Type 0
+FreesBlock code m = (f : Flash) (acked begun : List Update) → HasNoted f m → IsRecoverable f (device_in m) acked begun → code ≢ 7
+
+-- a layer that a mount gave: it is consistent with the flash, and has done nothing yet
+abbrev pub IsMounted : Mount → Layer → Type 0
+IsMounted m l = (layer_device l ≡ device_in m) × Remounts m l.core × (l.totals ≡ no_totals)
+
+-- the code of a call for a sector of a layer
+abbrev pub sector_code : ℕ → ℕ → Layer → ℕ
+sector_code s code l = if nat_le (layer_device l).sectors s then 3 else code
+
+-- the page that was found has the newest version of the sector, if the device has the sector
+abbrev pub IsNewestPageOf : ℕ → Option PageAddr → Layer → Type 0
+IsNewestPageOf s page l = s < (layer_device l).sectors → (f : Flash) (acked begun : List Update) (consistent : IsConsistent f l.core acked begun)
+    → IsMappedTo f s (array_after consistent.updates s) page
+
+-- the report is of the command that comes next for the sector: it may be given to the flash, and a power cut inside it or before it loses nothing
+abbrev pub IsCommandFor : ℕ → CommandReport → Layer → Type 0
+IsCommandFor s out l =
+    (command : Command) × (out ≡ report_of s command) × (command ≢ Refused)
+    × IsNext l.core command × IsSafe l.core command × SurvivesCut l.core s command × SurvivesIdleCut l.core
+
+-- the command of this report has succeeded for the sector
+abbrev pub IsDone : ℕ → CommandReport → Layer → Layer → Type 0
+IsDone s did l after =
+    (command : Command) × (did ≡ report_of s command) × IsNext l.core command
+    × (layer_device after ≡ layer_device l) × Acknowledges l.core s command after.core
+    × (next_number_of after.core ≡ number_after command (next_number_of l.core))
+    × Spends command (layer_device l).pages (left l.core) (left after.core)
+    × StaysOpen command (layer_device l).pages (next_page_of after.core)
+    × (after.totals ≡ totals_with command l.totals)
+
+-- the stamp that a note passes, if the page has a version
+abbrev pub stamp_of : ℕ → ℕ → ℕ → Option Stamp
+stamp_of has_version s n = if has_version == 0 then None else Some (record { sector = s; number = n })

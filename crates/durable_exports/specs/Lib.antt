@@ -1,0 +1,6 @@
+-- What public contracts rest on.
+pub mod Calls
+pub mod Reports
+pub mod Handles
+pub mod Kept
+pub mod Heaps

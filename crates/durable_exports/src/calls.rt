@@ -1,0 +1,296 @@
+//! The calls of C. Each but the close takes the seat out of its handle, and puts it back.
+ghost use Rattle.std.specs.Prelude.{◌≡◌, ◌≢◌, ◌<◌, ◌≤◌, ◌+◌, ◌-◌, ◌*◌, ◌^◌, ◌&&◌, Some, None, nat_eq, nat_le, nat_lt, if◌then◌else◌, ◌==◌};
+ghost use Rattle.durable.specs.Device.{next_number_of};
+ghost use Rattle.durable.specs.Mounting.{next_in};
+ghost use Rattle.durable_exports.specs.Handles.{seat_of};
+ghost use Rattle.durable_exports.specs.Reports.{found_page};
+ghost use Rattle.durable_exports.specs.Calls.{code_of_mount, code_of_layer, OfMount, OfLayer, HasMount, HasLayer, begin_code, note_code};
+ghost use Rattle.durable_exports.specs.Calls.{finish_code, FreesBlock, Accepts, IsBegun, IsNoted, IsMounted};
+ghost use Rattle.durable_exports.specs.Calls.{sector_code, IsNewestPageOf, IsCommandFor, IsDone, stamp_of};
+
+use crate::codes::{
+    ALREADY_OPEN, CLOSED, DONE, NO_BLOCK, NO_MEMORY, OUT_OF_ORDER, TOO_FEW_BLOCKS, WRONG_KIND,
+};
+use crate::handle::Handle;
+use crate::layer::Layer;
+use crate::mounts;
+use crate::reports::{CommandReport, PlaceReport, Totals};
+use crate::seat::Seat;
+use durable::{Mount, MountFault, Stamp};
+use std::alloc::Global;
+
+/// Begins the mount of a device with these numbers, whose blocks are all in use.
+#[unsafe(no_mangle)]
+pub extern "C" fn mintlintel_core_open(
+    alloc: Global,
+    handle: &mut Handle,
+    blocks: u32,
+    pages: u32,
+    sectors: u32,
+) -> u32
+    ensures code { result ≡ begin_code (seat_of handle.old) (nat_lt sectors ((blocks - 1) * pages)) (nat_eq result 6) }
+    ensures begun { result ≡ 0 → HasMount (seat_of handle.new)
+        (IsBegun (record { blocks = blocks; read_blocks = blocks; pages = pages; sectors = sectors })) }
+    ensures same { result ≢ 0 → seat_of handle.new ≡ seat_of handle.old }
+{
+    open(alloc, handle, blocks, blocks, pages, sectors)
+}
+
+/// The same of a device that has bad blocks and a reserve, with numbers after those in use: they are read and not used.
+#[unsafe(no_mangle)]
+pub extern "C" fn mintlintel_core_open_over(
+    alloc: Global,
+    handle: &mut Handle,
+    read_blocks: u32,
+    blocks: u32,
+    pages: u32,
+    sectors: u32,
+) -> u32
+    ensures code { result ≡ begin_code (seat_of handle.old) (nat_le blocks read_blocks && nat_lt sectors ((blocks - 1) * pages)) (nat_eq result 6) }
+    ensures begun { result ≡ 0 → HasMount (seat_of handle.new)
+        (IsBegun (record { blocks = blocks; read_blocks = read_blocks; pages = pages; sectors = sectors })) }
+    ensures same { result ≢ 0 → seat_of handle.new ≡ seat_of handle.old }
+{
+    if blocks > read_blocks {
+        return if handle.is_open() {
+            ALREADY_OPEN
+        } else {
+            TOO_FEW_BLOCKS
+        };
+    }
+    open(alloc, handle, read_blocks, blocks, pages, sectors)
+}
+
+fn open(
+    alloc: Global,
+    handle: &mut Handle,
+    read_blocks: u32,
+    blocks: u32,
+    pages: u32,
+    sectors: u32,
+) -> u32
+    requires { blocks ≤ read_blocks }
+    ensures code { result ≡ begin_code (seat_of handle.old) (nat_lt sectors ((blocks - 1) * pages)) (nat_eq result 6) }
+    ensures begun { result ≡ 0 → HasMount (seat_of handle.new)
+        (IsBegun (record { blocks = blocks; read_blocks = read_blocks; pages = pages; sectors = sectors })) }
+    ensures same { result ≢ 0 → seat_of handle.new ≡ seat_of handle.old }
+{
+    if handle.is_open() {
+        return ALREADY_OPEN;
+    }
+    if !has_capacity(blocks, pages, sectors) {
+        return TOO_FEW_BLOCKS;
+    }
+    let Ok(mount) = Mount::begin_over(alloc, read_blocks, blocks, pages, sectors) else {
+        return NO_MEMORY;
+    };
+    if handle.fill(alloc, Seat::Mounting(mount)) {
+        DONE
+    } else {
+        NO_MEMORY
+    }
+}
+
+// Whether the sectors fit in all blocks but one, with a page to spare.
+fn has_capacity(blocks: u32, pages: u32, sectors: u32) -> bool
+    ensures { result ≡ nat_lt sectors ((blocks - 1) * pages) }
+{
+    blocks > 0 && u64::from(sectors) < u64::from(blocks - 1) * u64::from(pages)
+}
+
+/// Notes the stamp of the next page: its sector and number if the page has a version, and otherwise nothing.
+#[unsafe(no_mangle)]
+pub extern "C" fn mintlintel_core_note(
+    alloc: Global,
+    handle: &mut Handle,
+    has_version: u32,
+    sector: u32,
+    number: u64,
+) -> u32
+    ensures code { result ≡ code_of_mount (seat_of handle.old) (λ m. note_code (next_in m) (nat_eq result 30)) }
+    ensures accepts { OfMount (seat_of handle.old) (Accepts (stamp_of has_version sector number) result) }
+    ensures noted { result ≡ 0 → OfMount (seat_of handle.old)
+        (λ m. HasMount (seat_of handle.new) (IsNoted (stamp_of has_version sector number) m)) }
+    ensures same { result ≢ 0 → seat_of handle.new ≡ seat_of handle.old }
+{
+    let Some(mut seat) = handle.take(alloc) else {
+        return CLOSED;
+    };
+    let stamp = if has_version == 0 {
+        None
+    } else {
+        Some(Stamp { sector, number })
+    };
+    let code = note(&mut seat, stamp);
+    handle.put(seat);
+    code
+}
+
+fn note(seat: &mut Seat, stamp: Option<Stamp>) -> u32
+    ensures code { result ≡ code_of_mount (Some seat.old) (λ m. note_code (next_in m) (nat_eq result 30)) }
+    ensures accepts { OfMount (Some seat.old) (Accepts stamp result) }
+    ensures noted { result ≡ 0 → OfMount (Some seat.old) (λ m. HasMount (Some seat.new) (IsNoted stamp m)) }
+    ensures same { result ≢ 0 → seat.new ≡ seat.old }
+{
+    match seat {
+        Seat::Mounting(mount) => mounts::note(mount, stamp),
+        Seat::Mounted(_) => WRONG_KIND,
+    }
+}
+
+/// Mounts the layer, once every page was noted. If that fails, the handle is closed.
+#[unsafe(no_mangle)]
+pub extern "C" fn mintlintel_core_finish(alloc: Global, handle: &mut Handle) -> u32
+    ensures code { result ≡ code_of_mount (seat_of handle.old)
+        (λ m. finish_code (next_in m) (if result == 0 then 0 else (if result == 6 then 6 else 7))) }
+    ensures frees { OfMount (seat_of handle.old) (FreesBlock result) }
+    ensures mounted { result ≡ 0 → OfMount (seat_of handle.old) (λ m. HasLayer (seat_of handle.new) (IsMounted m)) }
+    ensures memory { result ≡ 6 → seat_of handle.new ≡ None }
+    ensures block { result ≡ 7 → seat_of handle.new ≡ None }
+    ensures same { result ≢ 0 → result ≢ 6 → result ≢ 7 → seat_of handle.new ≡ seat_of handle.old }
+{
+    let Some(seat) = handle.take(alloc) else {
+        return CLOSED;
+    };
+    match &*seat {
+        Seat::Mounting(mount) => {
+            if mount.next_page().is_some() {
+                handle.put(seat);
+                return OUT_OF_ORDER;
+            }
+        }
+        Seat::Mounted(_) => {
+            handle.put(seat);
+            return WRONG_KIND;
+        }
+    }
+    let Seat::Mounting(mount) = Box::into_inner(seat) else {
+        return WRONG_KIND;
+    };
+    match mount.finish(alloc) {
+        Ok(core) => {
+            if handle.fill(alloc, Seat::Mounted(Layer::new(core))) {
+                DONE
+            } else {
+                NO_MEMORY
+            }
+        }
+        Err(MountFault::NoFreeBlock) => NO_BLOCK,
+        Err(_) => NO_MEMORY,
+    }
+}
+
+/// The page with the newest version of a sector: 1 with its place, or 0 if no page has one.
+#[unsafe(no_mangle)]
+pub extern "C" fn mintlintel_core_page(
+    alloc: Global,
+    handle: &mut Handle,
+    sector: u32,
+    out: &mut PlaceReport,
+) -> u32
+    ensures code { result ≡ code_of_layer (seat_of handle.old) (sector_code sector (if result == 1 then 1 else 0)) }
+    ensures page { OfLayer (seat_of handle.old) (IsNewestPageOf sector (found_page result out.new)) }
+    ensures report { result ≢ 1 → out.new ≡ out.old }
+    ensures same { seat_of handle.new ≡ seat_of handle.old }
+{
+    let Some(seat) = handle.take(alloc) else {
+        return CLOSED;
+    };
+    let code = page(&seat, sector, out);
+    handle.put(seat);
+    code
+}
+
+fn page(seat: &Seat, sector: u32, out: &mut PlaceReport) -> u32
+    ensures code { result ≡ code_of_layer (Some seat.now) (sector_code sector (if result == 1 then 1 else 0)) }
+    ensures page { OfLayer (Some seat.now) (IsNewestPageOf sector (found_page result out.new)) }
+    ensures report { result ≢ 1 → out.new ≡ out.old }
+{
+    match seat {
+        Seat::Mounted(layer) => layer.page(sector, out),
+        Seat::Mounting(_) => WRONG_KIND,
+    }
+}
+
+/// The command that comes next for a write or trim of a sector.
+#[unsafe(no_mangle)]
+pub extern "C" fn mintlintel_core_next(
+    alloc: Global,
+    handle: &mut Handle,
+    sector: u32,
+    out: &mut CommandReport,
+) -> u32
+    ensures code { result ≡ code_of_layer (seat_of handle.old) (sector_code sector (if result == 31 then 31 else 0)) }
+    ensures progress { OfLayer (seat_of handle.old) (λ l. next_number_of l.core + 1 < 2 ^ 64 → result ≢ 31) }
+    ensures command { result ≡ 0 → OfLayer (seat_of handle.old) (IsCommandFor sector out.new) }
+    ensures report { result ≢ 0 → out.new ≡ out.old }
+    ensures same { seat_of handle.new ≡ seat_of handle.old }
+{
+    let Some(seat) = handle.take(alloc) else {
+        return CLOSED;
+    };
+    let code = match &*seat {
+        Seat::Mounted(layer) => layer.next(sector, out),
+        Seat::Mounting(_) => WRONG_KIND,
+    };
+    handle.put(seat);
+    code
+}
+
+/// The command that comes next for a sector has succeeded.
+#[unsafe(no_mangle)]
+pub extern "C" fn mintlintel_core_done(
+    alloc: Global,
+    handle: &mut Handle,
+    sector: u32,
+    command: &mut CommandReport,
+) -> u32
+    ensures code { result ≡ code_of_layer (seat_of handle.old) (sector_code sector (if result == 32 then 32 else 0)) }
+    ensures done { result ≡ 0 → OfLayer (seat_of handle.old) (λ l. HasLayer (seat_of handle.new) (IsDone sector command.old l)) }
+    ensures same { result ≢ 0 → seat_of handle.new ≡ seat_of handle.old }
+    ensures report { command.new ≡ command.old }
+{
+    let Some(mut seat) = handle.take(alloc) else {
+        return CLOSED;
+    };
+    let code = match &mut *seat {
+        Seat::Mounted(layer) => layer.done(sector, *command),
+        Seat::Mounting(_) => WRONG_KIND,
+    };
+    handle.put(seat);
+    code
+}
+
+/// What has succeeded since the mount.
+#[unsafe(no_mangle)]
+pub extern "C" fn mintlintel_core_counts(
+    alloc: Global,
+    handle: &mut Handle,
+    out: &mut Totals,
+) -> u32
+    ensures code { result ≡ code_of_layer (seat_of handle.old) (λ _. 0) }
+    ensures totals { OfLayer (seat_of handle.old) (λ l. out.new ≡ l.totals) }
+    ensures report { result ≢ 0 → out.new ≡ out.old }
+    ensures same { seat_of handle.new ≡ seat_of handle.old }
+{
+    let Some(seat) = handle.take(alloc) else {
+        return CLOSED;
+    };
+    let code = match &*seat {
+        Seat::Mounted(layer) => {
+            *out = layer.totals;
+            DONE
+        }
+        Seat::Mounting(_) => WRONG_KIND,
+    };
+    handle.put(seat);
+    code
+}
+
+/// Closes a handle. One that is closed stays so.
+#[unsafe(no_mangle)]
+pub extern "C" fn mintlintel_core_close(alloc: Global, handle: &mut Handle)
+    ensures { seat_of handle.new ≡ None }
+{
+    let _seat = handle.take(alloc);
+}

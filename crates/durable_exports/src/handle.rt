@@ -1,0 +1,81 @@
+//! What C holds: two words, the first a slot, the second 1 if there is a seat in it.
+ghost use Rattle.std.specs.Prelude.{◌≡◌};
+ghost use Rattle.durable_exports.specs.Kept.{SaysIfOpen};
+
+use crate::pointed::Pointed;
+use crate::seat::Seat;
+use crate::slot::Slot;
+use std::alloc::Global;
+use std::mem;
+
+/// A handle: closed, which is all zero bytes, or open, with a seat.
+#[repr(C)]
+pub struct Handle {
+    slot: Slot,
+    is_open: u64,
+    ghost known: { SaysIfOpen is_open slot.seat },
+}
+
+// This may be called only of a type whose values may go to another thread: the call in `fill` shows it of a handle.
+fn may_go<T: Send>(_value: &T) {}
+
+impl Handle {
+    ghost use Rattle.std.specs.Prelude.{Option, Some, None, option_map, is_some, true, false};
+    ghost use Rattle.durable_exports.specs.Kept.{in_box};
+    ghost use Rattle.durable_exports.specs.Handles.{seat_of};
+
+    /// Whether the handle is open.
+    pub(crate) fn is_open(&self) -> bool
+        ensures { result ≡ is_some (seat_of self.now) }
+    {
+        self.is_open > 0
+    }
+
+    /// Takes the seat out, and leaves the handle closed.
+    pub(crate) fn take(&mut self, alloc: Global) -> Option<Box<Seat, Global>>
+        ensures seat { option_map in_box result ≡ seat_of self.old }
+        ensures closed { seat_of self.new ≡ None }
+    {
+        let Handle { slot, is_open } = mem::replace(
+            self,
+            Handle {
+                slot: Slot::empty(),
+                is_open: 0,
+            },
+        );
+        if is_open == 0 {
+            slot.end();
+            return None;
+        }
+        Some(slot.into_box(alloc))
+    }
+
+    /// Puts a seat into a closed handle.
+    pub(crate) fn put(&mut self, seat: Box<Seat, Global>)
+        requires { seat_of self.old ≡ None }
+        ensures { seat_of self.new ≡ Some seat.value }
+    {
+        let Handle { slot, is_open: _ } = mem::replace(
+            self,
+            Handle {
+                slot: Slot::filled(Pointed::to(seat)),
+                is_open: 1,
+            },
+        );
+        slot.end();
+    }
+
+    /// Puts a seat into a closed handle. If there is no memory for it, the seat is dropped, and the handle stays closed.
+    pub(crate) fn fill(&mut self, alloc: Global, seat: Seat) -> bool
+        requires { seat_of self.old ≡ None }
+        ensures filled { result ≡ true → seat_of self.new ≡ Some seat }
+        ensures closed { result ≡ false → seat_of self.new ≡ None }
+    {
+        may_go(self);
+        let Ok(seat) = Box::new(alloc, seat) else {
+            return false;
+        };
+        self.put(seat);
+        true
+    }
+}

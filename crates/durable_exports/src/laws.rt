@@ -1,0 +1,111 @@
+//! Laws of what C sees of a handle. Each function has no code: its clauses say where a definition holds and where it doesn't, and what a code or a report
+//! is on small values.
+ghost use Rattle.std.specs.Prelude.{◌≡◌, ◌-◌, ◌^◌, ℕ, List, Some, None, true, false};
+ghost use Rattle.std_heap.specs.declared.Global.{Global};
+ghost use Rattle.geometry.specs.declared.page_addr.PageAddr.{PageAddr as Addr};
+ghost use Rattle.durable.specs.Flash.{Flash};
+ghost use Rattle.durable.specs.Updates.{Update};
+ghost use Rattle.durable.specs.Device.{Device, device_in};
+ghost use Rattle.durable.specs.Mounting.{next_in, after_in};
+ghost use Rattle.durable.specs.Promise.{IsRecoverable};
+ghost use Rattle.durable.specs.Calls.{HasNoted, Remounts};
+ghost use Rattle.durable.specs.declared.command.Command.{Command as Next};
+ghost use Rattle.durable.specs.declared.command.Command.TheVariants as command;
+ghost use Rattle.durable.specs.declared.found.Stamp.{Stamp};
+ghost use Rattle.durable.specs.declared.mount.Mount.{Mount};
+ghost use Rattle.durable_exports.specs.declared.handle.Handle.{Handle};
+ghost use Rattle.durable_exports.specs.declared.layer.Layer.{Layer};
+ghost use Rattle.durable_exports.specs.declared.reports.CommandReport.{CommandReport};
+ghost use Rattle.durable_exports.specs.declared.reports.PlaceReport.{PlaceReport};
+ghost use Rattle.durable_exports.specs.declared.seat.Seat.{Seat};
+ghost use Rattle.durable_exports.specs.declared.seat.Seat.TheVariants.{Mounting, Mounted};
+ghost use Rattle.durable_exports.specs.Heaps.{the_heap};
+ghost use Rattle.durable_exports.specs.Handles.{seat_of};
+ghost use Rattle.durable_exports.specs.Kept.{SaysIfOpen};
+ghost use Rattle.durable_exports.specs.Reports.{found_page, place_of, page_at, report_of, one_more, no_totals, totals_with};
+ghost use Rattle.durable_exports.specs.Calls.{layer_device, code_of_mount, code_of_layer, OfMount, OfLayer, HasMount, HasLayer};
+ghost use Rattle.durable_exports.specs.Calls.{begin_code, note_code, finish_code, sector_code, stamp_of};
+ghost use Rattle.durable_exports.specs.Calls.{Accepts, FreesBlock, IsBegun, IsNoted, IsMounted, IsNewestPageOf, IsCommandFor, IsDone};
+
+/// The code of a call, by what the handle has.
+pub fn codes()
+    ensures no_mount { code_of_mount None (λ _. 0) ≡ 2 }
+    ensures mount { (m : Mount) → code_of_mount (Some (Mounting m)) (λ _. 7) ≡ 7 }
+    ensures not_a_mount { (l : Layer) → code_of_mount (Some (Mounted l)) (λ _. 0) ≡ 9 }
+    ensures no_layer { code_of_layer None (λ _. 0) ≡ 2 }
+    ensures layer { (l : Layer) → code_of_layer (Some (Mounted l)) (λ _. 7) ≡ 7 }
+    ensures not_a_layer { (m : Mount) → code_of_layer (Some (Mounting m)) (λ _. 0) ≡ 9 }
+    ensures open_already { (x : Seat) → begin_code (Some x) true false ≡ 8 }
+    ensures full { begin_code None false true ≡ 109 }
+    ensures no_memory { begin_code None true true ≡ 6 }
+    ensures begun { begin_code None true false ≡ 0 }
+    ensures all_noted { note_code None false ≡ 32 }
+    ensures foreign { (at : Addr) → note_code (Some at) true ≡ 30 }
+    ensures noted { (at : Addr) → note_code (Some at) false ≡ 0 }
+    ensures finished { finish_code None 7 ≡ 7 }
+    ensures too_early { (at : Addr) → finish_code (Some at) 7 ≡ 32 }
+    ensures no_sector { (l : Layer) → (layer_device l).sectors ≡ 8 → sector_code 8 0 l ≡ 3 }
+    ensures sector { (l : Layer) → (layer_device l).sectors ≡ 8 → sector_code 7 5 l ≡ 5 }
+{}
+
+/// What is said of a mount or a layer, by what the handle has.
+pub fn handles()
+    ensures nothing { OfMount None (λ _. ⊥) × OfLayer None (λ _. ⊥) }
+    ensures other_layer { (l : Layer) → OfMount (Some (Mounted l)) (λ _. ⊥) }
+    ensures other_mount { (m : Mount) → OfLayer (Some (Mounting m)) (λ _. ⊥) }
+    ensures of_mount { (m : Mount) → OfMount (Some (Mounting m)) (λ n. n ≡ m) }
+    ensures of_layer { (l : Layer) → OfLayer (Some (Mounted l)) (λ k. k ≡ l) }
+    ensures says_of_mount { (m : Mount) → ¬ OfMount (Some (Mounting m)) (λ _. ⊥) }
+    ensures says_of_layer { (l : Layer) → ¬ OfLayer (Some (Mounted l)) (λ _. ⊥) }
+    ensures closed { (¬ HasMount None (λ m. m ≡ m)) × (¬ HasLayer None (λ l. l ≡ l)) }
+    ensures no_mount { (l : Layer) → ¬ HasMount (Some (Mounted l)) (λ m. m ≡ m) }
+    ensures no_layer { (m : Mount) → ¬ HasLayer (Some (Mounting m)) (λ l. l ≡ l) }
+    ensures has_mount { (m : Mount) → HasMount (Some (Mounting m)) (λ n. n ≡ m) }
+    ensures has_layer { (l : Layer) → HasLayer (Some (Mounted l)) (λ k. k ≡ l) }
+    ensures one_heap { (h : Global) → h ≡ the_heap }
+    ensures said { (x : Seat) → SaysIfOpen 1 (Some x) × SaysIfOpen 0 None }
+    ensures unsaid { (x : Seat) → (¬ SaysIfOpen 1 None) × (¬ SaysIfOpen 0 (Some x)) }
+    ensures seat { (h : Handle) (x y : Seat) → seat_of h ≡ Some x → seat_of h ≡ Some y → x ≡ y }
+{}
+
+/// Stamps, pages, commands and totals, as C passes and sees them.
+pub fn reports()
+    ensures no_stamp { stamp_of 0 7 5 ≡ None }
+    ensures stamp { stamp_of 1 7 5 ≡ Some (record { sector = 7; number = 5 }) }
+    ensures other { stamp_of 2 7 5 ≡ Some (record { sector = 7; number = 5 }) }
+    ensures no_page { (at : PlaceReport) → found_page 0 at ≡ None }
+    ensures page { found_page 1 (record { block = 1; page = 2 }) ≡ Some (record { block = 1; page = 2 }) }
+    ensures same_place { page_at (place_of (record { block = 1; page = 2 })) ≡ record { block = 1; page = 2 } }
+    ensures program { report_of 7 (command.Program (record { block = 1; page = 2 }) 5)
+        ≡ record { kind = 1; sector = 7; from_block = 0; from_page = 0; block = 1; page = 2; number = 5 } }
+    ensures copy { report_of 7 (command.Copy 6 (record { block = 1; page = 2 }) (record { block = 3; page = 4 }))
+        ≡ record { kind = 2; sector = 6; from_block = 1; from_page = 2; block = 3; page = 4; number = 0 } }
+    ensures erase { report_of 7 (command.Erase 4)
+        ≡ record { kind = 3; sector = 0; from_block = 0; from_page = 0; block = 4; page = 0; number = 0 } }
+    ensures none { (report_of 7 command.Refused).kind ≡ 0 }
+    ensures counted { one_more 4 ≡ 5 }
+    ensures greatest { one_more (2 ^ 64 - 1) ≡ 2 ^ 64 - 1 }
+    ensures programs { totals_with (command.Program (record { block = 1; page = 2 }) 5) no_totals ≡ record { programs = 1; copies = 0; erases = 0 } }
+    ensures copies { totals_with (command.Copy 6 (record { block = 1; page = 2 }) (record { block = 3; page = 4 })) no_totals
+        ≡ record { programs = 0; copies = 1; erases = 0 } }
+    ensures erases { totals_with (command.Erase 4) no_totals ≡ record { programs = 0; copies = 0; erases = 1 } }
+    ensures refused { totals_with command.Refused no_totals ≡ no_totals }
+{}
+
+/// What a call leaves of a mount, and of a layer.
+pub fn calls()
+    ensures begun { (device : Device) (m : Mount) → IsBegun device m → device_in m ≡ device }
+    ensures first { (device : Device) (m : Mount) → IsBegun device m → next_in m ≡ Some (record { block = 0; page = 0 }) }
+    ensures unread { (device : Device) (m : Mount) (f : Flash) → IsBegun device m → HasNoted f m }
+    ensures next { (stamp : Stamp) (m n : Mount) → IsNoted (Some stamp) m n → next_in n ≡ after_in m }
+    ensures same_device { (m n : Mount) → IsNoted None m n → device_in n ≡ device_in m }
+    ensures taken { (stamp : Stamp) (m : Mount) → Accepts (Some stamp) 0 m }
+    ensures free { (m : Mount) → FreesBlock 0 m }
+    ensures stuck { (f : Flash) (m : Mount) (acked begun : List Update) → HasNoted f m → IsRecoverable f (device_in m) acked begun → ¬ FreesBlock 7 m }
+    ensures mounted { (m : Mount) (l : Layer) → IsMounted m l → Remounts m l.core }
+    ensures idle { (m : Mount) (l : Layer) → IsMounted m l → l.totals ≡ no_totals }
+    ensures sizes { (m : Mount) (l : Layer) → IsMounted m l → layer_device l ≡ device_in m }
+    ensures beyond { (l : Layer) → (layer_device l).sectors ≡ 8 → IsNewestPageOf 8 None l }
+    ensures told { (out : CommandReport) (l : Layer) → IsCommandFor 7 out l → (c : Next) × (out ≡ report_of 7 c) }
+    ensures done { (did : CommandReport) (l k : Layer) → IsDone 7 did l k → (c : Next) × (did ≡ report_of 7 c) × (k.totals ≡ totals_with c l.totals) }
+{}

@@ -1,0 +1,87 @@
+//! The layer behind a handle.
+ghost use Rattle.std.specs.Prelude.{◌≡◌};
+
+use crate::codes::{DONE, NO_NUMBER, NO_SECTOR, OUT_OF_ORDER, WRITTEN};
+use crate::reports::{self, CommandReport, PlaceReport, Totals};
+use durable::{Command, Core};
+
+/// The core, and what has succeeded since the mount.
+#[derive(Drop)]
+pub struct Layer {
+    pub(crate) core: Core,
+    pub(crate) totals: Totals,
+}
+
+impl Layer {
+    ghost use Rattle.std.specs.Prelude.{◌≢◌, ◌<◌, ◌+◌, ◌^◌, ◌==◌, if◌then◌else◌};
+    ghost use Rattle.durable.specs.Device.{next_number_of};
+    ghost use Rattle.durable_exports.specs.Reports.{no_totals, found_page};
+    ghost use Rattle.durable_exports.specs.Calls.{sector_code, IsNewestPageOf, IsCommandFor, IsDone};
+
+    /// A layer that was just mounted.
+    pub(crate) fn new(core: Core) -> Layer
+        ensures core { result.core ≡ core }
+        ensures totals { result.totals ≡ no_totals }
+    {
+        Layer {
+            core,
+            totals: Totals {
+                programs: 0,
+                copies: 0,
+                erases: 0,
+            },
+        }
+    }
+
+    // The page of a sector.
+    pub(crate) fn page(&self, sector: u32, out: &mut PlaceReport) -> u32
+        ensures code { result ≡ sector_code sector (if result == 1 then 1 else 0) self.now }
+        ensures page { IsNewestPageOf sector (found_page result out.new) self.now }
+        ensures same { result ≢ 1 → out.new ≡ out.old }
+    {
+        if sector >= self.core.sectors() {
+            return NO_SECTOR;
+        }
+        let Some(at) = self.core.page(sector) else {
+            return DONE;
+        };
+        *out = reports::place(at);
+        WRITTEN
+    }
+
+    // The command that comes next for a sector.
+    pub(crate) fn next(&self, sector: u32, out: &mut CommandReport) -> u32
+        ensures code { result ≡ sector_code sector (if result == 31 then 31 else 0) self.now }
+        ensures progress { next_number_of self.now.core + 1 < 2 ^ 64 → result ≢ 31 }
+        ensures command { result ≡ 0 → IsCommandFor sector out.new self.now }
+        ensures same { result ≢ 0 → out.new ≡ out.old }
+    {
+        if sector >= self.core.sectors() {
+            return NO_SECTOR;
+        }
+        let command = self.core.next(sector);
+        if command == Command::Refused {
+            return NO_NUMBER;
+        }
+        *out = reports::report(sector, command);
+        DONE
+    }
+
+    // Takes the success of the command that comes next for a sector.
+    pub(crate) fn done(&mut self, sector: u32, did: CommandReport) -> u32
+        ensures code { result ≡ sector_code sector (if result == 32 then 32 else 0) self.old }
+        ensures done { result ≡ 0 → IsDone sector did self.old self.new }
+        ensures same { result ≢ 0 → self.new ≡ self.old }
+    {
+        if sector >= self.core.sectors() {
+            return NO_SECTOR;
+        }
+        let command = self.core.next(sector);
+        if did != reports::report(sector, command) {
+            return OUT_OF_ORDER;
+        }
+        self.core.done(sector, command);
+        self.totals = self.totals.with(command);
+        DONE
+    }
+}

@@ -1,0 +1,25 @@
+//! The calls of C for a device that survives power cuts. Each says what the flash has to do next, and none does it.
+#![tactic(auto)]
+
+mod calls;
+mod check;
+mod codes;
+mod handle;
+mod laws;
+mod layer;
+mod mounts;
+mod pointed;
+mod reports;
+mod seat;
+mod slot;
+
+pub use calls::{
+    mintlintel_core_close, mintlintel_core_counts, mintlintel_core_done, mintlintel_core_finish,
+    mintlintel_core_next, mintlintel_core_note, mintlintel_core_open, mintlintel_core_open_over,
+    mintlintel_core_page,
+};
+pub use check::mintlintel_crc32c;
+pub use handle::Handle;
+pub use layer::Layer;
+pub use reports::{CommandReport, PlaceReport, Totals};
+pub use seat::Seat;

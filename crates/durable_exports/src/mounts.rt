@@ -1,0 +1,23 @@
+//! A mount under way behind a handle.
+ghost use Rattle.std.specs.Prelude.{◌≡◌, ◌≢◌, Option, Some, None, IfSome, nat_eq};
+ghost use Rattle.durable.specs.Mounting.{next_in};
+ghost use Rattle.durable_exports.specs.Calls.{note_code, Accepts, IsNoted};
+
+use crate::codes::{DONE, OTHER_DEVICE, OUT_OF_ORDER};
+use durable::{Mount, Stamp};
+
+// Notes the next page's stamp.
+pub(crate) fn note(mount: &mut Mount, stamp: Option<Stamp>) -> u32
+    ensures code { result ≡ note_code (next_in mount.old) (nat_eq result 30) }
+    ensures accepts { Accepts stamp result mount.old }
+    ensures noted { result ≡ 0 → IsNoted stamp mount.old mount.new }
+    ensures same { result ≢ 0 → mount.new ≡ mount.old }
+{
+    if mount.next_page().is_none() {
+        return OUT_OF_ORDER;
+    }
+    match mount.note(stamp) {
+        Ok(()) => DONE,
+        Err(_) => OTHER_DEVICE,
+    }
+}
