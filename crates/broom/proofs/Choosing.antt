@@ -12,6 +12,9 @@ use Rattle.geometry.specs.History.{Call, Begins}
 use Rattle.geometry.specs.Limits.{Numbers}
 use Rattle.geometry.specs.declared.pin_word.PinWord.{PinWord}
 use Rattle.geometry.proofs.Histories.{Begins-refl}
+use Rattle.flash_rule.specs.declared.facts.Name.{Name}
+use Rattle.flash_rule.specs.declared.facts.Source.{Source}
+use Rattle.flash_rule.specs.declared.facts.Work.{Work}
 use Rattle.flash_rule.specs.declared.view.View.{View}
 use Rattle.flash_rule.specs.Views.{AreOfHosts}
 use Rattle.flash_table.specs.declared.flash.Flash.{Flash}
@@ -24,29 +27,25 @@ use Rattle.broom.specs.Ready.{IsInRange, IsRested, IsReady, view_of_broom}
 use Rattle.broom.specs.Told.{Surveyed, GainedNothing, LeftSurvey, GainsNothingNext, IsNext, next_of}
 use Rattle.broom.specs.Surveying.{StatesLoaded, PagesCounted, Chosen, ChoseNone, Chooses}
 
--- a broom rests again where only such fields of its view have changed as a survey or a lost claim sets
+-- what being at rest says of a view, but for what was seen
+abbrev pub rest_of : View → Option Work × (Option Source × (Bool × Option Name))
+rest_of v = (v.work, (v.source, (v.whole, v.guest)))
+
+-- a broom rests again where nothing of that has changed
 pub rested_again : (f : Flash) (s t : BroomSeat) → IsRested f s → IsBroomOf f t → own_blocks t ≡ own_blocks s
-    → broom_view t ≡ record (broom_view s) {
-      seen = (broom_view t).seen;
-      loaded = (broom_view t).loaded;
-      named = (broom_view t).named;
-      busy = (broom_view t).busy;
-      stale = (broom_view t).stale;
-      lost = (broom_view t).lost;
-    }
-    → AreOfHosts (broom_view t).numbers (broom_view t).seen → IsRested f t
-rested_again f s t h seat blocks changed callers =
+    → rest_of (broom_view t) ≡ rest_of (broom_view s) → AreOfHosts (broom_view t).numbers (broom_view t).seen → IsRested f t
+rested_again f s t h seat blocks same callers =
     record {
       seat = seat;
       destination = λ o is. h.destination o (ap (λ (x : BroomBlocks). x.destination) (sym blocks) ∙ is);
       spare = λ o is. h.spare o (ap (λ (x : BroomBlocks). x.spare) (sym blocks) ∙ is);
       filed = λ w is.
-          let t = h.filed w (ap (λ (v : View). v.work) (sym changed) ∙ is) in (t.0, ap (λ (x : BroomBlocks). x.destination) blocks ∙ t.1, t.2, t.3);
+          let t = h.filed w (sym (λ i. (same i).0) ∙ is) in (t.0, ap (λ (x : BroomBlocks). x.destination) blocks ∙ t.1, t.2, t.3);
       reclaiming = ap (λ (x : BroomBlocks). x.reclaiming) blocks ∙ h.reclaiming;
-      source = ap (λ (v : View). v.source) changed ∙ h.source;
+      source = (λ i. (same i).1.0) ∙ h.source;
       callers = callers;
-      whole = ap (λ (v : View). v.whole) changed ∙ h.whole;
-      alone = ap (λ (v : View). v.guest) changed ∙ h.alone;
+      whole = (λ i. (same i).1.1.0) ∙ h.whole;
+      alone = (λ i. (same i).1.1.1) ∙ h.alone;
     }
 
 -- a marked place is within the list of marks
@@ -178,9 +177,7 @@ module _ (f : Flash) (before after : Broom) (s : BroomSeat) (states : List PinWo
 
   pub rested_surveyed : IsRested f before.seat → IsBroomOf f after.seat → own_blocks after.seat ≡ own_blocks before.seat → IsRested f after.seat
   rested_surveyed h now blocks =
-      let all = changed in
-      rested_again f before.seat after.seat h now blocks
-      (all ∙ (λ i. record v { seen = w.seen; loaded = w.loaded; named = (sym all i).named; busy = w.busy; stale = w.stale; lost = (sym all i).lost })) callers
+      rested_again f before.seat after.seat h now blocks (ap rest_of changed) callers
 
 -- the block to be drained next is one of the device
 pub next_low : (f : Flash) (b : Broom) (victim : ℕ) → IsReady f b → Some victim ≡ next_of b → victim < blocks_of (geometry_of f)
@@ -192,14 +189,4 @@ next_low f b victim h is = let low =
 pub rested_lost : (f : Flash) (s t : BroomSeat) (b : ℕ) → IsRested f s → IsBroomOf f t → own_blocks t ≡ own_blocks s
     → broom_view t ≡ record (broom_view s) { lost = (broom_view s).lost ++ b ∷ [] } → IsRested f t
 rested_lost f s t b h seat blocks lost =
-    let e = sym lost in
-    rested_again f s t h seat blocks
-    (lost ∙ (λ i. record (broom_view s) {
-      seen = (e i).seen;
-      loaded = (e i).loaded;
-      named = (e i).named;
-      busy = (e i).busy;
-      stale = (e i).stale;
-      lost = (e i).lost;
-    }))
-    (subst (λ (v : View). AreOfHosts v.numbers v.seen) e h.callers)
+    rested_again f s t h seat blocks (ap rest_of lost) (subst (λ (v : View). AreOfHosts v.numbers v.seen) (sym lost) h.callers)

@@ -13,7 +13,9 @@ pub mod Drains
 pub mod Wiping
 pub mod Renewing
 pub mod Sparing
+pub mod StateCounts
 pub mod Tying
 pub mod Keeping
 pub mod Turning
 pub mod PagesLeft
+pub mod DeadBlocks

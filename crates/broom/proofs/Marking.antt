@@ -1,12 +1,14 @@
 -- The marks of a broom: what it loaded last of each block, and which steps leave the marks true.
 use Rattle.std.proofs.Common.{◌≡◌, ℕ, zero, suc, ◌<◌, ◌==◌, Bool, true, false, List, [], ◌∷◌, ◌++◌, length, map, Option, None, Some}
 use Rattle.std.proofs.Common.{slice_get, sym, refl, ap, ◌∙◌, subst, arith, append_assoc, set, get_or, replicate}
+use Rattle.std.proofs.lemmas.Option.{get_or_from_slice_get, slice_get-get_or, slice_get_read}
 use Rattle.std.proofs.lemmas.List.{get_or-map, length-map, get_or-set_same, get_or-set_other, get_or-replicate, length-replicate}
 use mathlib.Core.Logic.{dite}
 use native.Mathlib.Decide.{ℕ_discrete}
 use Rattle.geometry.specs.Greedy.{IsClosed}
 use Rattle.geometry.specs.Limits.{Numbers}
-use Rattle.geometry.specs.PinWords.{pin_word}
+use Rattle.geometry.specs.PinWords.{FitsPin, pin_word}
+use Rattle.geometry.proofs.PinBits.{pin_same}
 use Rattle.geometry.specs.declared.pin_word.Phase.{Phase}
 use Rattle.geometry.specs.declared.pin_word.Phase.TheVariants.{Free, Open, Closed, Victim, Drained, Erasing, Retired}
 use Rattle.geometry.specs.declared.pin_word.PinWord.{PinWord}
@@ -154,3 +156,26 @@ no_marks n k is =
 
 pub none_marked : (z : Numbers) (v : View) (states : List PinWord) (n : ℕ) → AreMarked z v states (replicate n false)
 none_marked z v states n k d is = absurd (no_marks n k is)
+
+-- the same state of a block as the one that is kept may be loaded again
+pub marks_reloaded : (z : Numbers) (states : List PinWord) (v w : View) (marks : List Bool) (b : ℕ) (p : PinWord) → slice_get states b ≡ Some p
+    → w.loaded ≡ v.loaded ++ (b, pin_word p) ∷ [] → AreMarked z v states marks → AreMarked z w states marks
+marks_reloaded z states v w marks b p kept more were k d is =
+    let h = were k d is in
+    let last : last_of k w.loaded ≡ Some (pin_word (get_or states k d)) =
+    dite (ℕ_discrete b k) (λ same. subst (λ j. last_of j w.loaded ≡ Some (pin_word (get_or states j d))) same here)
+    (λ apart. ap (last_of k) more ∙ (last_of-other k b (pin_word p) v.loaded apart ∙ h.last)) in
+    record { range = h.range; closed = h.closed; last = last } where
+      here : last_of b w.loaded ≡ Some (pin_word (get_or states b d))
+      here = ap (last_of b) more
+          ∙ (last_of-at b (pin_word p) v.loaded [] (λ j x there. absurd (cc)) ∙ ap (λ q. Some (pin_word q)) (sym (get_or_from_slice_get states b p d kept)))
+
+-- the mark of a block, as it was read
+pub mark_read : (marks : List Bool) (n b : ℕ) (mark : Bool) → length marks ≡ n → b < n → mark ≡ get_or marks b mark → get_or marks b false ≡ mark
+mark_read marks n b mark long low is = get_or_from_slice_get marks b mark false (slice_get_read marks n b mark (sym long) low is)
+
+-- a marked block whose kept state has this state's word has this state
+pub same_state : (z : Numbers) (v : View) (states : List PinWord) (marks : List Bool) (b : ℕ) (q p : PinWord) → AreMarked z v states marks → IsClosed marks b
+    → b < length states → q ≡ get_or states b q → FitsPin p → pin_word q ≡ pin_word p → slice_get states b ≡ Some p
+same_state z v states marks b q p were is low read fits words =
+    let h = were b q is in slice_get-get_or states b q low ∙ ap Some (pin_same (get_or states b q) p h.range.fits fits (ap pin_word (sym read) ∙ words))

@@ -33,7 +33,7 @@ use Rattle.broom.specs.declared.answer.Erase.TheVariants as erase
 use Rattle.broom.specs.Ready.{IsRested, HasRoom, view_of_broom, blocks_of_broom}
 use Rattle.broom.specs.Erasing.{DidErase, DidKeep, DidFree, DidRetire, EraseTold, renewed}
 use Rattle.broom.specs.Renewing.{Kept, Freed}
-use Rattle.broom.proofs.Choosing.{rested_again}
+use Rattle.broom.proofs.Choosing.{rest_of, rested_again}
 
 -- ---- what the broom owns
 -- the last block of a row isn't among the others
@@ -121,16 +121,7 @@ loaded_changed v m w b p fits drained unread load is = let first = loaded_unread
 pub rested_loaded : (f : Flash) (s t : BroomSeat) → IsRested f s → IsBroomOf f t → own_blocks t ≡ own_blocks s
     → (loaded : List (ℕ × ℕ)) (busy stale : List ℕ) → broom_view t ≡ record (broom_view s) { loaded = loaded; busy = busy; stale = stale } → IsRested f t
 rested_loaded f s t h seat blocks loaded busy stale is =
-    let v : View = broom_view s in
-    let kept = is ∙ (λ i. record v {
-      seen = (sym is i).seen;
-      loaded = (sym is i).loaded;
-      named = (sym is i).named;
-      busy = (sym is i).busy;
-      stale = (sym is i).stale;
-      lost = (sym is i).lost;
-    }) in
-    rested_again f s t h seat blocks kept (subst (λ (x : View). AreOfHosts x.numbers x.seen) (sym is) h.callers)
+    rested_again f s t h seat blocks (ap rest_of is) (subst (λ (x : View). AreOfHosts x.numbers x.seen) (sym is) h.callers)
 
 -- a load, a condemn and the wiping of all words, one after the other
 pub was_wiped : (f : Flash) (s l m t : BroomSeat) (b : ℕ) (p : PinWord) → IsRested f s → FitsPin p → p.phase ≡ Drained → p.readers ≡ 0

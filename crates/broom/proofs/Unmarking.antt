@@ -30,3 +30,18 @@ ready_unmarked f r after b n h block rested kept marks loaded =
       ranking = subst Q (λ i. ((sym kept i).counts.items, sym marks i, (sym kept i).ranking))
           (ranks_fewer r.counts.items r.closed.items fewer r.ranking long (still_marked r.closed.items b low) h.ranking);
     }
+
+-- and so is one that loads a block's state, and whose marks are still true
+pub ready_loaded : (f : Flash) (r after : Broom) → IsReady f r → IsRested f after.seat → after ≡ record r { seat = after.seat }
+    → AreMarked (device f) (view_of_broom after) r.states.items r.closed.items → IsReady f after
+ready_loaded f r after h rested kept marks =
+    let P : List PinWord × List Bool → Type 0 = λ x. AreMarked (device f) (view_of_broom after) x.0 x.1 in
+    let Q : List ℕ × List Bool × Ranking → Type 0 = λ x. Ranks x.0 x.1 x.2 in
+    record {
+      rested = rested;
+      states = ap (λ (x : Broom). length x.states.items) kept ∙ h.states;
+      counts = ap (λ (x : Broom). length x.counts.items) kept ∙ h.counts;
+      closed = ap (λ (x : Broom). length x.closed.items) kept ∙ h.closed;
+      marks = subst P (λ i. ((sym kept i).states.items, (sym kept i).closed.items)) marks;
+      ranking = subst Q (λ i. ((sym kept i).counts.items, (sym kept i).closed.items, (sym kept i).ranking)) h.ranking;
+    }

@@ -50,8 +50,7 @@ abbrev pub count_if : Bool → ℕ
 count_if true = 1
 count_if false = 0
 
--- the looks at the victim's pages: for each page the sector that its stamp names, with the map word found there, or nothing if the stamp
--- names no sector
+-- the looks at the victim's pages: for each page a sector with the map word found there, or nothing if there was no look
 abbrev pub looks_in : List (Option (ℕ × ℕ)) → List (ℕ × ℕ)
 looks_in [] = []
 looks_in (None ∷ finds) = looks_in finds
@@ -78,8 +77,8 @@ pub record Programmed (pages : ℕ) (v : View) (x : BroomBlocks) (copies : List 
   pub filled : (k : Work) → ¬ (copies ≡ []) → w.work ≡ Some k → (earlier : List MapWord) × (copies ≡ earlier ++ k.page ∷ [])
   pub filling : (o : OpenBlock) → ¬ (copies ≡ []) → y.destination ≡ Some o → (k : Work) × (w.work ≡ Some k)
 
--- A victim was emptied: each of its written pages was visited, in order, with a look for each one whose stamp names a sector. For each live
--- page one was programmed, and for no other; this many of them were moved
+-- A victim was emptied: for each of its written pages, in order, a look was made or none. As many pages were programmed as the looks found
+-- live, and at most as many were moved. Whether a page without a look had no sector is not said
 pub record Emptied (pages : ℕ) (victim : ReclaimedBlock) (v : View) (x : BroomBlocks) (copied : ℕ) (w : View) (y : BroomBlocks) : Type 0 where
   pub finds : List (Option (ℕ × ℕ))
   pub visited : length finds ≡ victim.written

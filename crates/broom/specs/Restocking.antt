@@ -1,5 +1,5 @@
 -- What a restock records in what its broom knows, before and after.
-use Rattle.std.specs.Prelude.{◌≡◌, ℕ, ◌+◌, ◌<◌, ◌⊎◌, [], ◌∷◌, ◌++◌, Bool, None, Some, MatchBool}
+use Rattle.std.specs.Prelude.{◌≡◌, ℕ, ◌+◌, ◌<◌, ◌⊎◌, ◌∷◌, ◌++◌, Bool, None, Some, MatchBool}
 use Rattle.std.specs.List.{range_with_len}
 use Rattle.flash_rule.specs.declared.view.View.{View}
 use Rattle.flash_table.specs.declared.broom_seat.BroomBlocks.{BroomBlocks}

@@ -38,7 +38,7 @@ fn row<T: Copy>(alloc: Global, places: usize, value: T) -> Result<Vec<T>, AllocE
 }
 
 impl Broom {
-    ghost use Rattle.std.specs.Prelude.{None};
+    ghost use Rattle.std.specs.Prelude.{None, is_some};
     ghost use Rattle.broom.specs.Ready.{HasNoMarks, IsRested, IsReady, IsSameSeat, view_of_broom, blocks_of_broom};
     ghost use Rattle.broom.specs.Handing.{place_of, aside_of};
 
@@ -80,5 +80,12 @@ impl Broom {
             place,
             aside: None,
         })
+    }
+
+    /// Whether the broom has a block to copy to.
+    pub fn has_spare(&self) -> bool
+        ensures { result ≡ is_some (blocks_of_broom self.now).spare }
+    {
+        self.seat.blocks().spare.is_some()
     }
 }

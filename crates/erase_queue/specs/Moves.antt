@@ -25,18 +25,18 @@ pub record DidTake (v : Sight) (x : ℕ) (w : Sight) : Type 0 where
   pub low : x < v.limit
   pub changed : w ≡ record v { puts = puts; takes = place + 1; own_takes = v.own_takes ++ place ∷ [] }
 
--- At one moment exactly these numbers were in the queue: they are the last ones of the list of all puts, and the others were taken. The
--- list begins with the puts that the pass had seen, and no fewer were taken than it knew
+-- Exactly these numbers may have been in the queue at one moment, by what the pass had seen: they are the last ones of the list of all
+-- puts, and the others were taken. The list begins with the puts that the pass had seen, and no fewer were taken than it knew
 pub record Stand (v : Sight) (items : List ℕ) : Type 0 where
   pub done : List ℕ
   pub seen : Begins v.puts (done ++ items)
   pub takes : v.takes ≤ length done
   pub low : AreBelow v.limit (done ++ items)
 
--- at one moment this many numbers were in the queue
+-- this many numbers may have been in the queue at one moment, by what the pass had seen
 abbrev pub StoodSome : Sight → ℕ → Type 0
 StoodSome v n = (items : List ℕ) × (length items ≡ n) × Stand v items
 
--- At one moment this many numbers were in the queue, and the pass has done nothing
+-- This many numbers may have been in the queue at one moment, by what the pass had seen, and the pass has done nothing
 abbrev pub FoundFull : Sight → ℕ → Sight → Type 0
 FoundFull v limit w = (w ≡ v) × StoodSome v limit

@@ -47,7 +47,8 @@ pub record WasPut (p : QueuePass) (block : ℕ) (q : QueuePass) : Type 0 where
   pub fulls : fulls_of q ≡ fulls_of p
   pub empties : empties_of q ≡ empties_of p
 
--- The queue was full at one moment, with this many numbers, and that was counted. The pass has done nothing
+-- As far as the pass can know after one load, the queue held this many numbers, and was full; that was counted. The pass has done nothing.
+-- Some queue that the rule allows beside what the pass has seen is full: the clause doesn't say that this one was
 pub record WasFull (limit : ℕ) (p q : QueuePass) : Type 0 where
   pub stood : StoodSome (sight_of p) limit
   pub same : sight_of q ≡ sight_of p
@@ -60,7 +61,8 @@ pub record WasTaken (p : QueuePass) (block : ℕ) (q : QueuePass) : Type 0 where
   pub fulls : fulls_of q ≡ fulls_of p
   pub empties : empties_of q ≡ empties_of p
 
--- The queue was empty at one moment, and that was counted. The pass has done nothing
+-- As far as the pass can know after one load, the queue was empty; that was counted. The pass has done nothing. Some queue that the rule
+-- allows beside what the pass has seen is empty: the clause doesn't say that this one was
 pub record WasEmpty (p q : QueuePass) : Type 0 where
   pub stood : StoodSome (sight_of p) 0
   pub same : sight_of q ≡ sight_of p

@@ -4,6 +4,9 @@ use Rattle.flash_rule.proofs.Words.{◌≡◌, ℕ, ◌+◌, ◌*◌, ◌<◌, �
 use Rattle.flash_rule.proofs.Words.{ℕ_discrete, either, step, keeps, stepped, Allows, set_again, Numbers, map_word, page_index, MapWord, Owned, Source, View}
 use Rattle.flash_rule.proofs.Words.{is_player, owned_at, World, Fits, sector_word, blank_word, Lawful, Ruled, Sitter, Named, CanGetStamp, GotStamp, CanMove}
 use Rattle.flash_rule.proofs.Words.{Moved, wiper}
+use Rattle.flash_rule.proofs.Words.{CanInspect, PinWord, Inspected, is_broom, pin_word, inspect_told}
+use Rattle.flash_rule.proofs.Inspecting.{same_end, inspects}
+use Rattle.geometry.proofs.PinBits.{pin_same}
 use Rattle.flash_rule.proofs.Points.{player_of}
 use Rattle.flash_rule.proofs.Owning.{some_same}
 use Rattle.flash_rule.proofs.Places.{fits_page, page_within, page_same}
@@ -26,6 +29,29 @@ module _ (z : Numbers) (slots id : ℕ) (me : Sitter) where
         tt,
         ruled_kept z id me t g fits s h.0 (get_or t.words s 0) (omega arith) refl h.1,
         (refl, subst (λ n. Named me.0 s n h.0) (sym found) h.2),
+      )
+
+  -- ---- inspection
+  -- a broom looks at the next sector of its inspection
+  pub inspect_allowed : (b s : ℕ) (p : PinWord) → is_broom me.0.role ≡ true → CanInspect me.0 b p s → s < z.sectors
+      → Allows (Ruled z) slots id me s (λ n. n) (inspect_told (step slots s 0 0 none) me)
+  inspect_allowed b s p broom can low t (g, fits, law) _ at _ =
+      let h = inspects z g t.views id me.0 law at broom b p s can low in
+      let found : get_or t.words s 0 ≡ sector_word (g.map s) = fits.sectors s low in
+      let told : Inspected me.0 b p.generation s (get_or t.words s 0) h.0 = subst (λ n. Inspected me.0 b p.generation s n h.0) (sym found) h.2 in (
+        h.0,
+        keeps,
+        tt,
+        ruled_kept z id me t g fits s h.0 (get_or t.words s 0) (omega arith) refl h.1,
+        (
+          refl,
+          λ c q can'.
+              let last : (b, pin_word p) ≡ (c, pin_word q) = same_end can.earlier can'.earlier (b, pin_word p) (c, pin_word q)
+              (sym can.loaded ∙ can'.loaded) in
+              let same : p ≡ q = pin_same p q can.fits can'.fits (ap (λ (x : ℕ × ℕ). x.1) last) in
+              let P : ℕ × PinWord → Type 0 = λ x. Inspected me.0 x.0 x.1.generation s (get_or t.words s 0) h.0 in
+              subst P (λ i. ((last i).0, same i)) told,
+        ),
       )
 
   -- ---- get

@@ -373,8 +373,12 @@ module _ (z : Numbers) (g : World) (vs : List View) (id : ℕ) (v : View) (n : N
     move_onward =
         onward_called z g id id g.history exchanged_world.map g.pages g.badge g.carries (Begins-refl g.history) (λ _ _. refl)
         (λ _ _ p i. refl) (λ b p i _ _. refl)
-        (λ s m is. put_all g.map x.stamp (Some copy) (λ j y. y ≡ Some m → (g.map j ≡ Some m) ⊎ (g.owner m.block ≡ id))
-        (λ is. inr (ap (λ (y : MapWord). g.owner y.block) (sym (some_same copy m is)) ∙ the_copy.0)) (λ j _ is. inl is) s is)
+        (λ s m is. put_all g.map x.stamp (Some copy) (λ j y. y ≡ Some m → (g.map j ≡ Some m) ⊎ ((g.owner m.block ≡ id) × ((g.pins m.block).phase ≡ Open)))
+        (λ is. inr (
+          ap (λ (y : MapWord). g.owner y.block) (sym (some_same copy m is)) ∙ the_copy.0,
+          ap (λ (y : MapWord). (g.pins y.block).phase) (sym (some_same copy m is)) ∙ the_copy.1,
+        ))
+        (λ j _ is. inl is) s is)
         (λ n _ _. (refl, refl)) (λ n c is. inl is)
 
     -- the copy is in no victim

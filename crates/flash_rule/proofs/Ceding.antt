@@ -1,6 +1,6 @@
 -- The blocks given up, over each kind of change: none given up and the blocks onward, one given up by the seat that steps, a seat split, and a note joined.
 use Rattle.flash_rule.proofs.Words.{◌≡◌, ◌≢◌, ℕ, zero, suc, ◌<◌, ◌≤◌, ◌⊎◌, inl, inr, ⊎_elim, Bool, true, false, List, [], ◌∷◌, ◌++◌, Some, length, set}
-use Rattle.flash_rule.proofs.Words.{slice_get, sym, refl, ap, ◌∙◌, subst, arith, if◌then◌else◌, some, some-injective, some-ne-none, dite, ℕ_discrete, get_elem?}
+use Rattle.flash_rule.proofs.Words.{slice_get, sym, refl, ap, ◌∙◌, subst, arith, if◌then◌else◌, some, some-injective, dite, ℕ_discrete, get_elem?}
 use Rattle.flash_rule.proofs.Words.{at_set, set_else, at_longer, Numbers, PinWord, Owned, Cycle, View, may_own, put, is_owned, rank, entry_of, IsReached}
 use Rattle.flash_rule.proofs.Words.{IsUnused, IsCededBy, IsCeded, drained_of, LawfulCeded}
 use Rattle.flash_rule.proofs.Points.{put_here, put_all, seat_set}

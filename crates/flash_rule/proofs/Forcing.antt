@@ -3,7 +3,8 @@ use Rattle.flash_rule.proofs.Words.{◌≡◌, ◌≢◌, ℕ, zero, suc, ◌<�
 use Rattle.flash_rule.proofs.Words.{get_or, get_or-set_same, some, get_elem?, Allows, at_set, set_else, Numbers, pin_word, pin_index, PinWord, Owned, Pin, View}
 use Rattle.flash_rule.proofs.Words.{one_if, pin_is_on, pins_on, owned_at, World, is_owned, rank, entry_of, IsReached, IsUnused, IsCededBy, IsCeded, Lawful}
 use Rattle.flash_rule.proofs.Words.{Ruled, Sitter, Forces, ◌+◌, ◌^◌, ◌-◌, [], ◌∷◌, ◌++◌, Some, subst, none, dite, ℕ_discrete, step, freed_added, kept_added}
-use Rattle.flash_rule.proofs.Words.{MapWord, Free, Open, READER, PAGE_WRITTEN, NEXT_PHASE, TAKEN, is_broom, is_player, with_owned, Intact, LawfulKind, Took}
+use Rattle.flash_rule.proofs.Words.{MapWord, Free, Open, READER, PAGE_WRITTEN, NEXT_PHASE, TAKEN, is_broom, is_player, with_owned, Intact, LawfulKind}
+use Rattle.flash_rule.proofs.Words.{Took, Tested, test_told}
 use Rattle.flash_rule.proofs.Words.{Pinned, take_told, pin_told, unpin_told, count_told, close_told, claim_told, drain_told, condemn_told, freed_told}
 use Rattle.flash_rule.proofs.Words.{kept_told, retired_told}
 use Rattle.flash_rule.proofs.Points.{phase_of, of_rank, total_set, player_live, broom_live, phase_or_not, seat_set}
@@ -11,11 +12,12 @@ use Rattle.flash_rule.proofs.Places.{pin_within}
 use Rattle.flash_rule.proofs.OwnSteps.{worker}
 use Rattle.flash_rule.proofs.Ruling.{owner_numbers}
 use Rattle.flash_rule.proofs.Still.{pass_numbers}
-use Rattle.flash_rule.proofs.Steps.{take_allowed, count_allowed, close_allowed}
+use Rattle.flash_rule.proofs.Steps.{test_allowed, take_allowed, count_allowed, close_allowed}
 use Rattle.flash_rule.proofs.ReaderSteps.{intact_or_not, pin_allowed, unpin_allowed}
 use Rattle.flash_rule.proofs.ReclaimAllowed.{claim_allowed, condemn_allowed, drain_allowed, freed_allowed, kept_allowed, retired_allowed}
 use Rattle.std.proofs.Common.{bit_or}
-use Rattle.flash_rule.specs.Forced.{plus, to_next_phase, TakeSets, PinAdds, UnpinTakesOff, CountAdds, CloseAdds, ClaimExchanges, DrainAdds, CondemnExchanges}
+use Rattle.flash_rule.specs.Forced.{plus, to_next_phase, TestLeaves, TakeSets, PinAdds, UnpinTakesOff, CountAdds, CloseAdds, ClaimExchanges}
+use Rattle.flash_rule.specs.Forced.{DrainAdds, CondemnExchanges}
 use Rattle.flash_rule.specs.Forced.{FreeAdds, KeepAdds, RetireAdds}
 use Rattle.geometry.proofs.PinBits as bits
 
@@ -138,6 +140,16 @@ forced z slots id me b f told low fixes allowed other also t sits =
 both : (u v w : View) → v ≡ u → w ≡ u → Alike v w
 both u v w e f = alike_same v w (e ∙ sym f)
 
+-- what a load before a take fixes: the seat owns, gave up and has pinned what it did before, whatever it found
+tested_alike : (v : View) (b n : ℕ) (w : View) → Tested v b n w → Alike w v
+tested_alike v b n w h =
+    ⊎_elim
+    (λ (free : h.state.phase ≡ Free). alike_same w v (h.free free))
+    (λ (not : ¬ (h.state.phase ≡ Free)).
+    let e = h.denied not in
+    record { owns = ap (λ (x : View). x.owns) e; ceded = ap (λ (x : View). x.ceded) e; pin = ap (λ (x : View). x.pin) e })
+    (phase_or_not h.state.phase Free)
+
 -- what a take and a pin fix, in the state that they found
 took_alike : (v : View) (b n : ℕ) (w u : View) → Took v b n w → Took v b n u → Alike w u
 took_alike v b n w u one two =
@@ -195,6 +207,17 @@ module _ (z : Numbers) (slots id : ℕ) (me : Sitter) (b : ℕ) (f : ℕ → ℕ
       (λ _ at n w u one two. alike_same w.0 u.0 (fixes at n w u one two)) allowed
 
 -- ---- the laws
+pub tests_forced : TestLeaves
+tests_forced z slots id me x y b player low =
+    forced_at z slots id me b (λ n. n) (test_told (step slots (pin_index z b) x y none) me)
+    (λ g vs law at. ((law.views id me.0 at).kind.numbers (player_live me.0.role player), low))
+    (λ numbers at n w u one two.
+    let below : b < me.0.numbers.blocks = subst (λ (n : Numbers). b < n.blocks) (sym numbers) low in
+    let h = tested_alike me.0 b n w.0 (one.1 b below at) in
+    let k = tested_alike me.0 b n u.0 (two.1 b below at) in
+    record { owns = h.owns ∙ sym k.owns; ceded = h.ceded ∙ sym k.ceded; pin = h.pin ∙ sym k.pin })
+    (λ _. test_allowed z slots id me b player low)
+
 pub takes_forced : TakeSets
 takes_forced z slots id me x y b player low =
     forced_at z slots id me b (λ n. bit_or n TAKEN) (take_told (step slots (pin_index z b) x y none) me)

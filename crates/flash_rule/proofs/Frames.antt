@@ -6,6 +6,7 @@ use Rattle.flash_rule.proofs.Words.{IsProgrammed, Programs, Erases, IsCandidate,
 use Rattle.flash_rule.proofs.Words.{LawfulSource, LawfulHolding, LawfulView, Lawful, PinOnward, Untouched, ListsOnward, Onward, ◌≢◌, ◌-◌, Bool, false, set}
 use Rattle.flash_rule.proofs.Words.{at_set, set_else, held, FitsPin, Broom, Dealer, Player, Note, Gone, is_pass, weight, role_weight, owned_at, AreOfHosts}
 use Rattle.flash_rule.proofs.Words.{calls_of, is_nameable, is_still, LawfulCeded, IsCurrent, LawfulSector, LawfulBlock, LawfulKind}
+use Rattle.flash_rule.proofs.Words.{LawfulLoads, LawfulInspection, Inspection, WasShut, is_shut, Open}
 use Rattle.flash_rule.proofs.Points.{eq_self, total_set, seat_set}
 use Rattle.flash_rule.proofs.Owning.{owned_with, source_with, work_with}
 use Rattle.std.proofs.lemmas.List.{append-nil}
@@ -18,6 +19,19 @@ programmed_onward {p} {q} m on (inr here) =
     dite (ℕ_discrete q.generation p.generation)
     (λ same. let w = on.written same in inr (here.0 ∙ sym same, omega arith))
     (λ apart. let h = on.generation in let e = here.0 in inl (omega arith))
+
+-- a block that was closed in a generation isn't opened again in it
+pub shut_onward : {p q : PinWord} (generation : ℕ) → PinOnward p q → WasShut generation p → WasShut generation q
+shut_onward {p} {q} generation on (inl older) = let h = on.generation in inl (omega arith)
+shut_onward {p} {q} generation on (inr here) =
+    dite (ℕ_discrete q.generation p.generation)
+    (λ same. inr (same ∙ here.0, on.shut same here.1))
+    (λ apart. let h = on.generation in let e = here.0 in inl (omega arith))
+
+-- so it isn't open in it
+pub shut_not_open : (p : PinWord) (generation : ℕ) → WasShut generation p → p.generation ≡ generation → ¬ (p.phase ≡ Open)
+shut_not_open p generation (inl older) same opened = absurd (omega arith)
+shut_not_open p generation (inr here) same opened = let no : true ≡ false = sym here.1 ∙ ap is_shut opened in absurd (cc)
 
 -- a list begins those that are the same
 pub begins_same : {X : Type 0} (k l : List X) → l ≡ k → Begins k l
@@ -98,6 +112,24 @@ module _ (z : Numbers) (g g' : World) (id other : ℕ) (on : Onward z g g' id ot
   pin_kept known (Accepted m value) counted h = accepted_kept m value (counted m.block (eq_self m.block) h.block) h
   pin_kept known (Stray b) counted h = h
 
+  loads_kept : (loaded : List (ℕ × ℕ)) → LawfulLoads z g loaded → LawfulLoads z g' loaded
+  loads_kept loaded h k b p is fits closed low = shut_onward p.generation (on.pins b low) (h k b p is fits closed low)
+
+  inspection_kept : (x : Inspection) → LawfulInspection z g x → LawfulInspection z g' x
+  inspection_kept x h =
+      let pin = on.pins x.block h.low in
+      record {
+        low = h.low;
+        shut = shut_onward x.generation pin h.shut;
+        dead = λ same s p below low named.
+            let rises = pin.generation in
+            let was : (g.pins x.block).generation ≡ x.generation =
+            ⊎_elim (λ (older : x.generation < (g.pins x.block).generation). absurd (omega arith)) (λ here. here.0) h.shut in
+            ⊎_elim (λ (there : g.map s ≡ _). h.dead was s p below low there)
+            (λ (mine : (g.owner x.block ≡ id) × ((g.pins x.block).phase ≡ Open)).
+            shut_not_open (g.pins x.block) x.generation h.shut was mine.1) (on.named s _ named);
+      }
+
   pub copy_kept : (role : Role) (c : Carried) → LawfulCopy z g role c → LawfulCopy z g' role c
   copy_kept role c h =
       let lists = on.lists c.of h.dealt in
@@ -128,6 +160,8 @@ module _ (z : Numbers) (g g' : World) (id other : ℕ) (on : Onward z g g' id ot
         known = λ b low. let k = h.known b low in let a = (on.pins b low).age in omega arith;
         programs = λ n is. programs_kept n v.programs (h.programs n is);
         erases = λ n is. erases_kept n v.erases (h.erases n is);
+        loads = loads_kept v.loaded h.loads;
+        inspection = λ x is. inspection_kept x (h.inspection x is);
         copy = λ c is. copy_kept v.role c (h.copy c is);
         older = h.older;
         out = λ n c d whose is there same.
@@ -145,7 +179,8 @@ module _ (z : Numbers) (g g' : World) (id other : ℕ) (on : Onward z g g' id ot
         owned_with h (same.phase, same.generation, same.written) same.owner
         (λ opened p from below other i most. same.pages p i ∙ h.rest opened p from below (λ f. other f) i most)
         (λ victim p s cleared low named.
-        ⊎_elim (λ (was : g.map s ≡ _). h.dead victim p s cleared low was) (λ (mine : g.owner b ≡ id). apart (sym h.owner ∙ mine)) (on.named s _ named))
+        ⊎_elim (λ (was : g.map s ≡ _). h.dead victim p s cleared low was)
+        (λ (mine : (g.owner b ≡ id) × ((g.pins b).phase ≡ Open)). apart (sym h.owner ∙ mine.0)) (on.named s _ named))
         (λ erasing p i low most below. same.pages p i ∙ h.clean erasing p i low most below)
 
     pub work_kept : (v : View) (w : Work) → LawfulHolding z g at v → LawfulWork z g v.owns w → LawfulWork z g' v.owns w

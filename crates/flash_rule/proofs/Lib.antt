@@ -17,6 +17,7 @@ pub mod Notes
 pub mod BroomSteps
 pub mod Wiping
 pub mod ReaderSteps
+pub mod Inspecting
 pub mod Reclaiming
 pub mod ReclaimAllowed
 pub mod Steps

@@ -4,9 +4,9 @@ use Rattle.flash_rule.proofs.Words.{arith, some, dite, ℕ_discrete, get_elem?, 
 use Rattle.flash_rule.proofs.Words.{View, is_pass, AreOfHosts, calls_of, caller, World, put, sector_word, LawfulSector, LawfulView, Lawful, Onward, Placed, ◌≤◌}
 use Rattle.flash_rule.proofs.Words.{inr, get_or, Write, WriteNew, Trim, Name, Owned, is_live_role, owned_at, is_nameable, IsCurrent, IsValue, CanPlace}
 use Rattle.flash_rule.proofs.Points.{put_else, put_all, put_here}
-use Rattle.flash_rule.proofs.Frames.{counted, knowledge_kept, lists_stay, assembled, block_kept, sector_kept}
+use Rattle.flash_rule.proofs.Frames.{counted, knowledge_kept, assembled, block_kept, sector_kept}
 use Rattle.flash_rule.proofs.Ceding.{ceded_still}
-use Rattle.flash_rule.proofs.Still.{pin_stays, pass_numbers, onward_called}
+use Rattle.flash_rule.proofs.Still.{pass_numbers, onward_called}
 use Rattle.flash_rule.proofs.Owning.{kind_as, owned_with, work_with, knowledge_with, some_same, none_some}
 use Rattle.std.proofs.lemmas.List.Elements.{All-push}
 use Rattle.geometry.proofs.Histories.{Begins-push, held_written, held_trimmed, held_new, after_refused, held_by_write, held_by_new, held_by_trim}
@@ -56,7 +56,7 @@ module _ (z : Numbers) (g : World) (vs : List View) (id : ℕ) (v : View) (t s :
   is_a_pass : is_pass v.role ≡ true
   is_a_pass = ap is_pass role
 
-  pub places : ((n : MapWord) → m ≡ Some n → (g.map s ≡ Some n) ⊎ (g.owner n.block ≡ id))
+  pub places : ((n : MapWord) → m ≡ Some n → (g.map s ≡ Some n) ⊎ ((g.owner n.block ≡ id) × ((g.pins n.block).phase ≡ Open)))
       → ((other : ℕ) → other ≢ s → held z.sectors (g.history ++ c ∷ []) other ≡ held z.sectors g.history other)
       → LawfulSector z place_world s → Lawful z place_world (set vs id placer)
   places mine others here =
@@ -66,7 +66,8 @@ module _ (z : Numbers) (g : World) (vs : List View) (id : ℕ) (v : View) (t s :
       let on : Onward z g g' id id = onward_called z g id id (g.history ++ c ∷ []) g'.map g.pages g.badge g.carries (Begins-push g.history c)
       (λ u other. calls_else u g.history c (λ same. other (ap (λ k. g.seat (Pass k)) (sym same ∙ by_me) ∙ named.0)))
       (λ _ _ p i. refl) (λ b p i _ _. refl)
-      (λ u n is. put_all g.map s m (λ j x. x ≡ Some n → (g.map j ≡ Some n) ⊎ (g.owner n.block ≡ id)) (mine n) (λ j _ is. inl is) u is)
+      (λ u n is. put_all g.map s m (λ j x. x ≡ Some n → (g.map j ≡ Some n) ⊎ ((g.owner n.block ≡ id) × ((g.pins n.block).phase ≡ Open)))
+      (mine n) (λ j _ is. inl is) u is)
       (λ n _ _. (refl, refl)) (λ n c is. inl is) in
       let knows = knowledge_kept z g g' id id on v (λ b is below. counted vs law id v at b is below) h.knowledge in
       let calls : (u : ℕ) → v.role ≡ Player (Pass u) → calls_of u (g.history ++ c ∷ []) ≡ v.mine ++ c ∷ [] = λ u is.
@@ -179,7 +180,10 @@ module _ (z : Numbers) (g : World) (vs : List View) (id : ℕ) (v : View) (t s :
       let after = place_world z g vs id v t s c (Some m) law at role by_me in
       let own = filled z g vs id v (Pass t) s m value law at role can after.history after.map here in
       places z g vs id v t s c (Some m) law at role by_me
-      (λ n is. inr (ap (λ (y : MapWord). g.owner y.block) (sym (some_same m n is)) ∙ own.0)) others
+      (λ n is. inr (
+        ap (λ (y : MapWord). g.owner y.block) (sym (some_same m n is)) ∙ own.0,
+        ap (λ (y : MapWord). (g.pins y.block).phase) (sym (some_same m n is)) ∙ own.1,
+      )) others
       (record {
         empty = λ is. absurd (none_some m (sym is ∙ put_here g.map s (Some m)));
         named = λ n is. subst (λ (n : MapWord). IsCurrent z after s n) (some_same m n (sym (put_here g.map s (Some m)) ∙ is)) own.2;

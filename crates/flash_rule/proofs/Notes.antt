@@ -5,7 +5,7 @@ use Rattle.flash_rule.proofs.Words.{Pass, Broom, Role, Dealer, Player, Note, Own
 use Rattle.flash_rule.proofs.Words.{pin_is_on, pins_on, weight, role_weight, owned_at, same_name, if◌then◌else◌, World, put_name, LawfulBlock, LawfulCopy}
 use Rattle.flash_rule.proofs.Words.{Grown, LawfulKnowledge, LawfulView, Lawful, IsDealt, Onward, Ruled, gone}
 use Rattle.flash_rule.proofs.Points.{player_same, total_set, name_here, name_else, name_all}
-use Rattle.flash_rule.proofs.Owning.{some_same, none_some, knowledge_as, owned_as, source_with, work_with}
+use Rattle.flash_rule.proofs.Owning.{nothing, some_same, none_some, knowledge_as, owned_as, source_with, work_with}
 use Rattle.flash_rule.proofs.Ceding.{ceded_split, ceded_gone}
 use Rattle.flash_rule.proofs.Frames.{begins_same, counted, others, knowledge_kept, copy_kept, owner_kept}
 use Rattle.flash_rule.proofs.Still.{onward_called}
@@ -55,6 +55,8 @@ note_lawful z g seat v owner n numbers role known lists knows here dealt carries
         known = λ b _. omega arith;
         programs = λ m is. absurd (cc);
         erases = λ m is. absurd (cc);
+        loads = λ k b p at. absurd (nothing k _ at);
+        inspection = λ x is. absurd (none_some x is);
         copy = λ c is.
             subst (λ (c : Carried). LawfulCopy z g Note c) (some_same (carried v) c is)
             (record {
@@ -306,6 +308,8 @@ module _ (z : Numbers) (id other : ℕ) (v w : View) (n m : Name) (c : Carried) 
         known = knows.known;
         programs = knows.programs;
         erases = knows.erases;
+        loads = knows.loads;
+        inspection = knows.inspection;
         copy = copied g' (copy_kept z g g' id other on w.role c (k.knowledge.copy c copy))
             (λ e. names (player_same n m (sym role ∙ (e ∙ ap Player of_is))));
         older = λ o d old new same.
@@ -343,6 +347,8 @@ module _ (z : Numbers) (id other : ℕ) (v w : View) (n m : Name) (c : Carried) 
         known = knows.known;
         programs = knows.programs;
         erases = knows.erases;
+        loads = knows.loads;
+        inspection = knows.inspection;
         copy = copied g' (copy_kept z g g' id other on w.role c (k.knowledge.copy c copy)) unlike;
         older = λ o d old new same. h.knowledge.out m o d (inr (role ∙ ap Player (sym mine))) old (k.holding.note m note guest ∙ new) same;
         out = λ x d e whose is there same.

@@ -1,9 +1,10 @@
 -- Steps that change one pin word: what all have in common; take; and the owner's steps on an open block, count and close.
-use Rattle.flash_rule.proofs.Words.{◌≡◌, ◌≢◌, ℕ, zero, suc, ◌+◌, ◌*◌, ◌<◌, ◌≤◌, inl, inr, true, false, List, [], ◌∷◌, ◌++◌, Option, Some, set, sym, refl, ap}
-use Rattle.flash_rule.proofs.Words.{◌∙◌, subst, arith, some, some-ne-none, dite, ℕ_discrete, get_elem?, Numbers, Begins-refl, MapWord, PinWord, Phase, Free}
+use Rattle.flash_rule.proofs.Words.{is_shut}
+use Rattle.flash_rule.proofs.Words.{◌≡◌, ◌≢◌, ℕ, ◌+◌, ◌*◌, ◌<◌, ◌≤◌, inl, inr, true, false, List, [], ◌∷◌, ◌++◌, Option, Some, set, sym, refl, ap}
+use Rattle.flash_rule.proofs.Words.{◌∙◌, subst, arith, some, dite, ℕ_discrete, get_elem?, Numbers, Begins-refl, MapWord, PinWord, Phase, Free}
 use Rattle.flash_rule.proofs.Words.{Open, Victim, Erasing, Owned, Cycle, Name, Work, View, is_player, pins_on, weight, owned_at, with_owned, World, put, Erases}
 use Rattle.flash_rule.proofs.Words.{is_owned, is_intact, is_nameable, is_still, half_cycle, age_of, IsBlank, blank_word, rank, LawfulCeded, IsCurrent, is_pass}
-use Rattle.flash_rule.proofs.Words.{IsProgrammed, IsFilling, LawfulBlock, LawfulOwned, LawfulView, Lawful, IsDealt, PinOnward, Untouched, ListsOnward, Onward}
+use Rattle.flash_rule.proofs.Words.{IsProgrammed, IsFilling, LawfulBlock, LawfulOwned, LawfulView, Lawful, IsDealt, PinOnward, ListsOnward, Onward}
 use Rattle.flash_rule.proofs.Words.{⊎_elim, None, length, slice_get, Begins, Closed, Player, may_own, without, put_name, Programs, LawfulKind, LawfulWork}
 use Rattle.flash_rule.proofs.Words.{next_page, Source, LawfulSource, ReclaimsOne}
 use Rattle.flash_rule.proofs.Points.{player_may_own, put_here, put_else, put_all, total_set, player_same, idle_or_player, may_own_else, name_here, name_else}
@@ -208,8 +209,9 @@ pub record IsTurn (z : Numbers) (g : World) (id : ℕ) (v w : View) (b : ℕ) (q
 
 -- a turn by which only the phase changes
 pub phase_onward : (p : PinWord) (f : Phase) → half_cycle p.phase ≤ half_cycle f → (0 < p.readers → is_intact p.phase ≡ true → is_intact f ≡ true)
-    → (is_intact f ≡ true → ¬ (p.phase ≡ Free) → is_intact p.phase ≡ true) → ¬ (f ≡ Free) → PinOnward p (record p { phase = f })
-phase_onward p f ages held was taken =
+    → (is_intact f ≡ true → ¬ (p.phase ≡ Free) → is_intact p.phase ≡ true) → ¬ (f ≡ Free) → (is_shut p.phase ≡ true → is_shut f ≡ true)
+    → PinOnward p (record p { phase = f })
+phase_onward p f ages held was taken shut =
     record {
       generation = omega arith;
       age = omega arith;
@@ -217,6 +219,7 @@ phase_onward p f ages held was taken =
       held = λ some is. (refl, held some is);
       was = λ _ is not. was is not;
       free = λ _ is. absurd (taken is);
+      shut = λ _ is. shut is;
     }
 
 -- a turn by which nothing is programmed or erased
@@ -351,7 +354,8 @@ module _ (z : Numbers) (g : World) (vs : List View) (id : ℕ) (v : View) (b : �
       (inr (refl, (let e : rank (g.pins b).phase ≡ 0 = ap rank free in omega arith), omega arith)))
       (record {
         onward = phase_onward (g.pins b) Open (let e : half_cycle (g.pins b).phase ≡ 0 = ap half_cycle free in omega arith)
-            (λ _ intact. let no : true ≡ false = sym intact ∙ ap is_intact free in absurd (cc)) (λ _ not. absurd (not free)) (λ is. absurd (cc));
+            (λ _ intact. let no : true ≡ false = sym intact ∙ ap is_intact free in absurd (cc)) (λ _ not. absurd (not free)) (λ is. absurd (cc))
+            (λ is. let no : true ≡ false = sym is ∙ ap is_shut free in absurd (cc));
         alone = λ _ is. free_not (g.pins b).phase free is;
         state = record { readers = refl; written = block.written; generation = block.generation; free = λ is. absurd (cc) };
         rest = λ is. absurd (cc);
@@ -556,7 +560,7 @@ module _ (z : Numbers) (g : World) (vs : List View) (id : ℕ) (v : View) (o : O
       (may_own_else v.role (λ is. owns_none_else v.owns o own (h.kind.owns_none is))))
       (record {
         onward = phase_onward (g.pins b) Closed (let e : half_cycle (g.pins b).phase ≡ 0 = ap half_cycle phase_is in omega arith) (λ _ _. refl)
-            (λ _ _. ap is_intact phase_is) (λ is. absurd (cc));
+            (λ _ _. ap is_intact phase_is) (λ is. absurd (cc)) (λ _. refl);
         alone = λ other _. other entry.owner;
         state = record { readers = refl; written = block.written; generation = block.generation; free = λ is. absurd (cc) };
         rest = λ _ p from below. let m = entry.written in entry.rest opened p (omega arith) below (λ f. not_filling b o own p (omega arith) f);

@@ -4,6 +4,7 @@ use Rattle.flash_rule.proofs.Words.{Open, Victim, Erasing, Name, Pass, Player, O
 use Rattle.flash_rule.proofs.Words.{World, IsBlank, blank_word, IsFilling, ReclaimsOne, LawfulKind, LawfulKnowledge, LawfulOwned, LawfulWork, LawfulSource}
 use Rattle.flash_rule.proofs.Words.{LawfulHolding, gone, Begins, LawfulPin, Programs, Erases, age_of, ◌≢◌, zero, suc, ◌⊎◌, inl, inr, ⊎_elim, eq-eqb, ne_eqb}
 use Rattle.flash_rule.proofs.Words.{◌∷◌, ◌++◌, length, slice_get, dite, ℕ_discrete, MapWord, without, with_owned, put, is_reclaimed}
+use Rattle.flash_rule.proofs.Words.{LawfulLoads, LawfulInspection, Inspection}
 use Rattle.flash_rule.proofs.Points.{eq_self}
 use Rattle.std.specs.Prelude.{slice_index}
 
@@ -20,6 +21,8 @@ known_of v = record gone {
   known = v.known;
   programs = v.programs;
   erases = v.erases;
+  loaded = v.loaded;
+  inspection = v.inspection;
   copy = v.copy;
   older = v.older;
 }
@@ -84,12 +87,25 @@ knowledge_as {z} {g} {v} {w} h same =
       known = h.known;
       programs = h.programs;
       erases = h.erases;
+      loads = h.loads;
+      inspection = h.inspection;
       copy = h.copy;
       older = h.older;
       out = h.out;
     } in
     let k : LawfulKnowledge z g (known_of w) = subst (λ (x : View). LawfulKnowledge z g x) same bare in
-    record { seen = k.seen; pin = k.pin; known = k.known; programs = k.programs; erases = k.erases; copy = k.copy; older = k.older; out = k.out }
+    record {
+      seen = k.seen;
+      pin = k.pin;
+      known = k.known;
+      programs = k.programs;
+      erases = k.erases;
+      loads = k.loads;
+      inspection = k.inspection;
+      copy = k.copy;
+      older = k.older;
+      out = k.out;
+    }
 
 -- what a view knows, where its copies stay
 pub knowledge_with : {z : Numbers} {g : World} {v : View} (w : View) → LawfulKnowledge z g v
@@ -103,6 +119,27 @@ knowledge_with {z} {g} {v} w h same seen pin known programs erases =
       known = known;
       programs = programs;
       erases = erases;
+      loads = h.loads;
+      inspection = h.inspection;
+      copy = h.copy;
+      older = h.older;
+      out = h.out;
+    } in
+    knowledge_as learnt same
+
+-- what a view knows that has loaded a state, or passed a sector of an inspection
+pub knowledge_noting : {z : Numbers} {g : World} {v : View} (w : View) → LawfulKnowledge z g v
+    → known_of (record v { loaded = w.loaded; inspection = w.inspection }) ≡ known_of w → LawfulLoads z g w.loaded
+    → ((x : Inspection) → w.inspection ≡ Some x → LawfulInspection z g x) → LawfulKnowledge z g w
+knowledge_noting {z} {g} {v} w h same loads inspection =
+    let learnt : LawfulKnowledge z g (record v { loaded = w.loaded; inspection = w.inspection }) = record {
+      seen = h.seen;
+      pin = h.pin;
+      known = h.known;
+      programs = h.programs;
+      erases = h.erases;
+      loads = loads;
+      inspection = inspection;
       copy = h.copy;
       older = h.older;
       out = h.out;

@@ -1,5 +1,5 @@
 -- Steps on page words: put and get.
-use Rattle.flash_rule.proofs.Words.{◌≡◌, ◌≢◌, ℕ, zero, suc, ◌*◌, ◌<◌, ◌≤◌, inl, inr, ⊎_elim, eq-eqb, ne_eqb, true, false, List, [], ◌∷◌, ◌++◌, Option, None}
+use Rattle.flash_rule.proofs.Words.{◌≡◌, ◌≢◌, ℕ, ◌*◌, ◌<◌, ◌≤◌, inl, inr, ⊎_elim, eq-eqb, ne_eqb, true, false, List, [], ◌∷◌, ◌++◌, Option, None}
 use Rattle.flash_rule.proofs.Words.{Some, length, set, sym, refl, ap, ◌∙◌, subst, arith, length-append, get_or, some, dite, ℕ_discrete, get_elem?, Numbers}
 use Rattle.flash_rule.proofs.Words.{MapWord, Open, Erasing, Pin, Owned, Pass, Broom, Role, Dealer, Player, Note, Gone, Clear, Accepted, Work, Carried, View}
 use Rattle.flash_rule.proofs.Words.{is_pass, is_player, owned_at, World, put_word, is_still, age_of, data_word, IsFilling, LawfulOwned, LawfulWork, LawfulView}

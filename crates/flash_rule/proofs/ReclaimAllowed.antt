@@ -5,6 +5,8 @@ use Rattle.flash_rule.proofs.Words.{pin_word, FitsPin, freed_added, kept_added, 
 use Rattle.flash_rule.proofs.Words.{Owned, View, is_broom, without, with_owned, World, Fits, is_owned, freed_as, Lawful, Ruled, Sitter, CanClaim, Claimed}
 use Rattle.flash_rule.proofs.Words.{CanCondemn, Condemned, CanDrain, CanRenew, CanRetire, owned_as, cycle_of, claim_told, condemn_told, drain_told, freed_told}
 use Rattle.flash_rule.proofs.Words.{kept_told, retired_told}
+use Rattle.flash_rule.proofs.Words.{LawfulLoads, WasShut, is_shut, inr, slice_get, length, Some}
+use Rattle.flash_rule.proofs.Owning.{get_last}
 use Rattle.flash_rule.proofs.Points.{player_of, broom_player, broom_live, phase_or_not}
 use Rattle.flash_rule.proofs.Frames.{state_fits}
 use Rattle.flash_rule.proofs.OwnSteps.{Deeds, deeds, turned}
@@ -43,6 +45,17 @@ module _ (z : Numbers) (slots id : ℕ) (me : Sitter) where
       let within : p.written ≤ v.numbers.pages = let r = (law.blocks b low).written in
       let e : v.numbers.pages ≡ z.pages = ap (λ (y : Numbers). y.pages) numbers in omega arith in
       let noted : List (ℕ × ℕ) = v.loaded ++ (b, n) ∷ [] in
+      let loads : LawfulLoads z g noted = λ k c q is fits closed c_low.
+      ⊎_elim (λ (was : slice_get v.loaded k ≡ Some (c, pin_word q)). (law.views id v at).knowledge.loads k c q was fits closed c_low)
+      (λ (new : (k ≡ length v.loaded) × ((b, n) ≡ (c, pin_word q))).
+      let block : b ≡ c = ap (λ (x : ℕ × ℕ). x.0) new.1 in
+      let same : p ≡ q = bits.pin_same p q fitting fits (sym found ∙ ap (λ (x : ℕ × ℕ). x.1) new.1) in
+      let shut : WasShut q.generation p = inr (
+        ap (λ (x : PinWord). x.generation) same,
+        ap (λ (x : PinWord). is_shut x.phase) same ∙ ap is_shut closed,
+      ) in
+      subst (λ j. WasShut q.generation (g.pins j)) block shut)
+      (get_last v.loaded (b, n) (c, pin_word q) k is) in
       let answer : (w : View) → Lawful z g (set t.views id w) → (p.phase ≡ Drained → p.readers ≡ 0 → w ≡ record v { loaded = noted })
       → (p.phase ≡ Drained → 0 < p.readers → w ≡ record v { loaded = noted; busy = v.busy ++ b ∷ [] })
       → (¬ (p.phase ≡ Drained) → w ≡ record v { loaded = noted; stale = v.stale ++ b ∷ [] })
@@ -54,12 +67,12 @@ module _ (z : Numbers) (slots id : ℕ) (me : Sitter) where
       ) in
       ⊎_elim
       (λ (drained : p.phase ≡ Drained). dite (ℕ_discrete p.readers 0)
-      (λ none. answer (record v { loaded = noted }) (notes z g t.views id v law at noted v.lost v.busy v.stale) (λ _ _. refl)
+      (λ none. answer (record v { loaded = noted }) (notes z g t.views id v law at noted v.lost v.busy v.stale loads) (λ _ _. refl)
       (λ _ some. absurd (omega arith)) (λ not. absurd (not drained)))
-      (λ some. answer (record v { loaded = noted; busy = v.busy ++ b ∷ [] }) (notes z g t.views id v law at noted v.lost (v.busy ++ b ∷ []) v.stale)
+      (λ some. answer (record v { loaded = noted; busy = v.busy ++ b ∷ [] }) (notes z g t.views id v law at noted v.lost (v.busy ++ b ∷ []) v.stale loads)
       (λ _ none. absurd (some none)) (λ _ _. refl) (λ not. absurd (not drained))))
       (λ (other : ¬ (p.phase ≡ Drained)).
-      answer (record v { loaded = noted; stale = v.stale ++ b ∷ [] }) (notes z g t.views id v law at noted v.lost v.busy (v.stale ++ b ∷ []))
+      answer (record v { loaded = noted; stale = v.stale ++ b ∷ [] }) (notes z g t.views id v law at noted v.lost v.busy (v.stale ++ b ∷ []) loads)
       (λ drained _. absurd (other drained)) (λ drained _. absurd (other drained)) (λ _. refl))
       (phase_or_not p.phase Drained)
 
@@ -118,7 +131,7 @@ module _ (z : Numbers) (slots id : ℕ) (me : Sitter) where
         },
       ))
       (λ other. (
-        notes z g t.views id v law at v.loaded (v.lost ++ b ∷ []) v.busy v.stale,
+        notes z g t.views id v law at v.loaded (v.lost ++ b ∷ []) v.busy v.stale (law.views id v at).knowledge.loads,
         record { fresh = λ is. absurd (other is); won = λ is. absurd (other is); lost = λ _. refl },
       )) in
       (e.0, keeps, tt, e.1, (refl, λ c y can' is first. told_of (λ c y. Claimed v c y n e.0) b p numbers can.fits e.2 c y can'.fits is first))
@@ -148,7 +161,7 @@ module _ (z : Numbers) (slots id : ℕ) (me : Sitter) where
         },
       ))
       (λ other. (
-        notes z g t.views id v law at v.loaded v.lost (v.busy ++ b ∷ []) v.stale,
+        notes z g t.views id v law at v.loaded v.lost (v.busy ++ b ∷ []) v.stale (law.views id v at).knowledge.loads,
         record { fresh = λ is. absurd (other is); won = λ is. absurd (other is); busy = λ _. refl },
       )) in
       (e.0, keeps, tt, e.1, (refl, λ c y can' is first. told_of (λ c y. Condemned v c y n e.0) b p numbers can.fits e.2 c y can'.fits is first))

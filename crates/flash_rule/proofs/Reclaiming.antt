@@ -4,9 +4,12 @@ use Rattle.flash_rule.proofs.Words.{get_elem?, Begins, Numbers, Begins-refl, Pin
 use Rattle.flash_rule.proofs.Words.{owned_at, without, with_owned, World, put, is_owned, is_nameable, is_still, age_of, IsBlank, Erases, LawfulOwned}
 use Rattle.flash_rule.proofs.Words.{LawfulSource, Lawful, PinOnward, ◌+◌, inr, ⊎_elim, ◌∷◌, ◌++◌, length, slice_get, Closed, Victim, Drained, Erasing, is_broom}
 use Rattle.flash_rule.proofs.Words.{put_name, is_intact, half_cycle, rank, owned_as, cycle_of, CanDrain, Retired, freed_as, IsErasing, CanRenew}
+use Rattle.flash_rule.proofs.Words.{LawfulLoads, Numbers}
+use Rattle.flash_rule.proofs.Inspecting.{inspected_dead}
 use Rattle.flash_rule.proofs.Points.{owner_live, player_same, broom_player, broom_no_pass, broom_may_own, may_own_else, put_here, name_here, name_else}
 use Rattle.flash_rule.proofs.Points.{name_all}
-use Rattle.flash_rule.proofs.Owning.{owns_none_else, some_same, with_here, without_else, with_else, holding_with, kind_as, knowledge_as, one_at_rest, get_last}
+use Rattle.flash_rule.proofs.Owning.{owns_none_else, some_same, none_some, with_here, without_else, with_else, holding_with, kind_as, knowledge_noting}
+use Rattle.flash_rule.proofs.Owning.{one_at_rest, get_last}
 use Rattle.flash_rule.proofs.Owning.{put2, put2_here, put2_else, one_with_open, blocks_apart}
 use Rattle.flash_rule.proofs.Still.{still}
 use Rattle.flash_rule.proofs.OwnSteps.{IsState, phase_onward, Deeds, deeds, turned, block_owned, IsListed, turns, IsOwning, given_up, got, moved, none_listed}
@@ -27,14 +30,14 @@ module _ (z : Numbers) (g : World) (vs : List View) (id : ℕ) (v : View) (law :
         let no : true ≡ false = sym k.owned ∙ (ap is_owned (sym k.phase) ∙ nobodys) in absurd (cc)
 
   -- a broom's state step, and an exchange of a pin word that found another word, change no word and only these lists
-  pub notes : (loaded : List (ℕ × ℕ)) (lost busy stale : List ℕ)
+  pub notes : (loaded : List (ℕ × ℕ)) (lost busy stale : List ℕ) → LawfulLoads z g loaded
       → Lawful z g (set vs id (record v { loaded = loaded; lost = lost; busy = busy; stale = stale }))
-  notes loaded lost busy stale =
+  notes loaded lost busy stale loads =
       let h = law.views id v at in
       still z g vs id v (record v { loaded = loaded; lost = lost; busy = busy; stale = stale }) law at
       (record {
         kind = kind_as h.kind refl refl (refl, refl, refl, refl);
-        knowledge = knowledge_as h.knowledge refl;
+        knowledge = knowledge_noting (record v { loaded = loaded; lost = lost; busy = busy; stale = stale }) h.knowledge refl loads h.knowledge.inspection;
         holding = holding_with h.holding refl refl h.holding.calls h.holding.lists h.holding.owned h.holding.work h.holding.source;
       })
       (λ c. refl) refl refl refl refl refl
@@ -81,7 +84,7 @@ module _ (z : Numbers) (g : World) (vs : List View) (id : ℕ) (v : View) (b : �
       (inr (refl, (let e : rank (g.pins b).phase ≡ 2 = ap rank closed in omega arith), omega arith)))
       (record {
         onward = phase_onward (g.pins b) Victim (let e : half_cycle (g.pins b).phase ≡ 0 = ap half_cycle closed in omega arith) (λ _ _. refl)
-            (λ _ _. ap is_intact closed) (λ is. absurd (cc));
+            (λ _ _. ap is_intact closed) (λ is. absurd (cc)) (λ _. refl);
         alone = λ _ is. let no : true ≡ false = sym is ∙ ap is_owned closed in absurd (cc);
         state = record { readers = refl; written = block.written; generation = block.generation; free = λ is. absurd (cc) };
         rest = λ _. block.rest (ap is_still closed);
@@ -171,7 +174,8 @@ module _ (z : Numbers) (g : World) (vs : List View) (id : ℕ) (v : View) (b : �
       (ceded_owned z g.pins vs id v condemner law.ceded at refl b q refl refl refl
       (inr (refl, (let e : rank (g.pins b).phase ≡ 4 = ap rank drained in omega arith), omega arith)))
       (record {
-        onward = phase_onward (g.pins b) Erasing (omega arith) (λ some _. absurd (omega arith)) (λ is. absurd (cc)) (λ is. absurd (cc));
+        onward = phase_onward (g.pins b) Erasing (omega arith) (λ some _. absurd (omega arith)) (λ is. absurd (cc)) (λ is. absurd (cc))
+            (λ _. refl);
         alone = λ _ is. let no : true ≡ false = sym is ∙ ap is_owned drained in absurd (cc);
         state = record { readers = refl; written = block.written; generation = block.generation; free = λ is. absurd (cc) };
         rest = λ is. absurd (cc);
@@ -207,7 +211,6 @@ module _ (z : Numbers) (g : World) (vs : List View) (id : ℕ) (v : View) (o : O
       let block = law.blocks b mine.low in
       let victim : (g.pins b).phase ≡ Victim = mine.phase ∙ can.victim in
       let written_is = mine.written in
-      let cleared = can.cleared in
       turns z g vs id v drainer b drained_state (deeds g) law at mine.low
       (ceded_last z g.pins vs id v drainer law.ceded at refl b drained_state mine.low
       (inr (refl, (let e : rank (g.pins b).phase ≡ 3 = ap rank victim in omega arith), omega arith))
@@ -215,7 +218,7 @@ module _ (z : Numbers) (g : World) (vs : List View) (id : ℕ) (v : View) (o : O
       (may_own_else v.role (λ is. owns_none_else v.owns o can.own (h.kind.owns_none is))))
       (record {
         onward = phase_onward (g.pins b) Drained (let e : half_cycle (g.pins b).phase ≡ 0 = ap half_cycle victim in omega arith) (λ _ _. refl)
-            (λ _ _. ap is_intact victim) (λ is. absurd (cc));
+            (λ _ _. ap is_intact victim) (λ is. absurd (cc)) (λ _. refl);
         alone = λ other _. other mine.owner;
         state = record { readers = refl; written = block.written; generation = block.generation; free = λ is. absurd (cc) };
         rest = λ _. block.rest (ap is_still victim);
@@ -223,8 +226,12 @@ module _ (z : Numbers) (g : World) (vs : List View) (id : ℕ) (v : View) (o : O
         named = λ s m in_range is same current.
             let page : m.page < (g.pins b).written = subst (λ j. m.page < (g.pins j).written) same current.written in
             let generation : m.generation ≡ o.generation = sym current.same ∙ (ap (λ j. (g.pins j).generation) same ∙ mine.generation) in
-            absurd (mine.dead can.victim m.page s (omega arith) in_range
-            (is ∙ λ i. Some (record { generation = generation i; block = same i; page = m.page })));
+            let here : g.map s ≡ Some (record { generation = o.generation; block = b; page = m.page }) =
+            is ∙ (λ i. Some (record { generation = generation i; block = same i; page = m.page })) in
+            ⊎_elim (λ (cleared : o.written ≤ v.cleared). absurd (mine.dead can.victim m.page s (omega arith) in_range here))
+            (λ inspected. absurd (inspected_dead z g v.inspection h.knowledge.inspection b o.generation mine.generation s m.page
+            (let all = inspected.all in let e : v.numbers.sectors ≡ z.sectors = ap (λ (y : Numbers). y.sectors)
+            (h.kind.numbers (owner_live v.role (λ is. owns_none_else v.owns o can.own (h.kind.owns_none is)))) in omega arith) in_range here)) can.emptied;
         listing = none_listed z g id v drainer b drained_state h.kind (λ is. (h.kind.idle is).0) refl refl;
         owning = given_up z (moved g o.block drained_state id) id v drainer b h.kind;
         no_more = record { filling = λ _ _ _ _ _ f. f; cleared = omega arith; wiped = omega arith };
@@ -236,7 +243,8 @@ module _ (z : Numbers) (g : World) (vs : List View) (id : ℕ) (v : View) (o : O
               let e : o ≡ k.entry = some_same o k.entry (sym can.own ∙ subst P same k.own) in
               let w : o.written ≡ k.entry.written = ap (λ (y : Owned). y.written) e in
               let p = k.page in
-              let r = k.written in absurd (omega arith)),
+              let r = k.written in
+              ⊎_elim (λ (cleared : o.written ≤ v.cleared). absurd (omega arith)) (λ inspected. absurd (none_some x (sym inspected.source ∙ is))) can.emptied),
           refl,
         );
       })
@@ -321,7 +329,7 @@ module _ (z : Numbers) (g : World) (vs : List View) (id : ℕ) (v : View) (o : O
       (sym (append-nil v.drains)) eraser_owns)
       (turn_with retired_state (without b v.owns) (v.ceded ++ retired_block ∷ [])
       (phase_onward (g.pins b) Retired (let e : half_cycle (g.pins b).phase ≡ 1 = ap half_cycle is_erasing in omega arith)
-      (λ _ is. absurd (not_intact is)) (λ is. absurd (cc)) (λ is. absurd (cc)))
+      (λ _ is. absurd (not_intact is)) (λ is. absurd (cc)) (λ is. absurd (cc)) (λ _. refl))
       (record { readers = refl; written = block.written; generation = block.generation; free = λ is. absurd (cc) }) (λ is. absurd (cc)) (λ is. absurd (cc))
       (given_up z (moved g o.block retired_state id) id v retirer b h.kind))
 
@@ -349,6 +357,7 @@ module _ (z : Numbers) (g : World) (vs : List View) (id : ℕ) (v : View) (o : O
         held = λ _ is. absurd (not_intact is);
         was = λ same. absurd (omega arith);
         free = λ same. absurd (omega arith);
+        shut = λ same. absurd (omega arith);
       }
 
   -- ---- free

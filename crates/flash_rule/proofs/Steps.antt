@@ -4,7 +4,7 @@ use Rattle.flash_rule.proofs.Words.{sym, refl, ap, ◌∙◌, subst, arith, get_
 use Rattle.flash_rule.proofs.Words.{either, Call, Write, WriteNew, Trim, Numbers, map_word, FitsMap, pin_word, pin_index, page_index, MapWord, PinWord, Free}
 use Rattle.flash_rule.proofs.Words.{Open, Closed, TAKEN, NEXT_PHASE, PAGE_WRITTEN, Owned, Accepted, Work, View, is_pass, is_player, owned_at, without}
 use Rattle.flash_rule.proofs.Words.{with_owned, World, is_owned, sector_word, Lawful, Ruled, Sitter, Looked, Placed, Took, CanPlace, CanCount, CanClose}
-use Rattle.flash_rule.proofs.Words.{words_in, next_page, take_told, count_told, close_told, is_unpinned}
+use Rattle.flash_rule.proofs.Words.{words_in, next_page, Tested, test_told, take_told, count_told, close_told, is_unpinned}
 use Rattle.flash_rule.proofs.Points.{player_live, phase_or_not}
 use Rattle.flash_rule.proofs.Places.{fits_page, page_within, page_same}
 use Rattle.flash_rule.proofs.Owning.{some_same}
@@ -120,6 +120,29 @@ module _ (z : Numbers) (slots id : ℕ) (me : Sitter) where
       (leaves z g t.views id me.0 is.0 s law at is.1 low named.0 value named.1))
 
   -- ---- take
+  -- a pass or a broom loads a block's word before it takes the block
+  pub test_allowed : (b : ℕ) → is_player me.0.role ≡ true → b < z.blocks
+      → Allows (Ruled z) slots id me (pin_index z b) (λ n. n) (test_told (step slots (pin_index z b) 0 0 none) me)
+  test_allowed b player low t (g, fits, law) _ at _ =
+      let p : PinWord = g.pins b in
+      let n : ℕ = get_or t.words (pin_index z b) 0 in
+      let found : n ≡ pin_word p = fits.blocks b low in
+      let fitting = state_fits z g t.views law b low in
+      let numbers = numbers_now g t.views law at player in
+      let answer : (w : View) → Lawful z g (set t.views id w) → (p.phase ≡ Free → w ≡ me.0)
+      → (¬ (p.phase ≡ Free) → w ≡ record me.0 { denied = me.0.denied ++ b ∷ [] })
+      → Does z id me t (pin_index z b) n (test_told (step slots (pin_index z b) 0 0 none) me n) = λ w lawful free denied.
+      does z id me t (pin_index z b) n (test_told (step slots (pin_index z b) 0 0 none) me n) w (ruled_still z id me t g fits b low w n refl lawful) (
+        refl,
+        λ c _ is. subst (λ (j : ℕ). Tested me.0 j n w) (same_block z me numbers b c is)
+            (record { state = p; fits = fitting; found = found; free = free; denied = denied }),
+      ) in
+      ⊎_elim
+      (λ (free : p.phase ≡ Free). answer me.0 (subst (λ vs. Lawful z g vs) (sym (set_again t.views id me.0 at)) law) (λ _. refl) (λ not. absurd (not free)))
+      (λ (not : ¬ (p.phase ≡ Free)). answer (record me.0 { denied = me.0.denied ++ b ∷ [] }) (denied z g t.views id me.0 b law at player low)
+      (λ free. absurd (not free)) (λ _. refl))
+      (phase_or_not p.phase Free)
+
   -- a pass or a broom sets the taking bit of a block
   pub take_allowed : (b : ℕ) → is_player me.0.role ≡ true → b < z.blocks
       → Allows (Ruled z) slots id me (pin_index z b) (λ n. bit_or n TAKEN) (take_told (step slots (pin_index z b) TAKEN 0 none) me)

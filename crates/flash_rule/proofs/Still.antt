@@ -4,7 +4,8 @@ use Rattle.flash_rule.proofs.Words.{◌∙◌, subst, arith, length-set, suc-mul
 use Rattle.flash_rule.proofs.Words.{Begins, held, Numbers, Begins-refl, map_word, FitsMap, MapWord, PinWord, Phase, Free, Open, Closed, Victim, Drained}
 use Rattle.flash_rule.proofs.Words.{Erasing, Retired, Name, Pass, Broom, Role, Dealer, Player, Note, Gone, Pin, Clear, Candidate, Accepted, Stray, Cycle}
 use Rattle.flash_rule.proofs.Words.{Carried, View, one_if, is_pass, is_live_role, pin_is_on, pins_on, weight, owned_at, AreOfHosts, calls_of, sum_of, World}
-use Rattle.flash_rule.proofs.Words.{is_intact, is_nameable, age_of, half_cycle, IsCurrent, Programs, Erases, LawfulKind, LawfulKnowledge, LawfulPin, LawfulView}
+use Rattle.flash_rule.proofs.Words.{is_intact, is_nameable, is_shut, age_of, half_cycle, IsCurrent, Programs, Erases, LawfulKind, LawfulKnowledge}
+use Rattle.flash_rule.proofs.Words.{LawfulPin, LawfulView}
 use Rattle.flash_rule.proofs.Words.{LawfulCopy, Lawful, IsValue, PinOnward, Onward, Looked, Met, is_unpinned}
 use Rattle.flash_rule.proofs.Frames.{lists_stay, assembled, block_kept}
 use Rattle.flash_rule.proofs.Ceding.{ceded_still}
@@ -22,6 +23,7 @@ stays_onward p q phase generation written =
       held = λ _ intact. (generation, ap is_intact phase ∙ intact);
       was = λ _ intact _. ap is_intact (sym phase) ∙ intact;
       free = λ _ free. sym phase ∙ free;
+      shut = λ _ shut. ap is_shut phase ∙ shut;
     }
 
 pub pin_stays : (p : PinWord) → PinOnward p p
@@ -37,7 +39,7 @@ pub onward_called : (z : Numbers) (g : World) (id other : ℕ) (history : List C
     → Begins g.history history → ((t : ℕ) → ¬ (g.seat (Pass t) ≡ id) → calls_of t history ≡ calls_of t g.history)
     → ((b : ℕ) → ¬ (g.owner b ≡ id) → (p i : ℕ) → pages b p i ≡ g.pages b p i)
     → ((b p i : ℕ) → is_intact (g.pins b).phase ≡ true → p < (g.pins b).written → pages b p i ≡ g.pages b p i)
-    → ((s : ℕ) (m : MapWord) → map s ≡ Some m → (g.map s ≡ Some m) ⊎ (g.owner m.block ≡ id))
+    → ((s : ℕ) (m : MapWord) → map s ≡ Some m → (g.map s ≡ Some m) ⊎ ((g.owner m.block ≡ id) × ((g.pins m.block).phase ≡ Open)))
     → ((n : Name) → ¬ (g.badge n ≡ id) → ¬ (g.badge n ≡ other) → (badge n ≡ g.badge n) × (carries n ≡ g.carries n))
     → ((n : Name) (c : Carried) → carries n ≡ Some c → (g.carries n ≡ Some c) ⊎ ((c.programs ≡ g.programs c.of) × (c.erases ≡ g.erases c.of)))
     → Onward z g (with_words g history map pages badge carries) id other

@@ -32,9 +32,14 @@ pub use Rattle.atomic_table.specs.Table.{Act, Allows, Splits, State, Valid, carr
 pub use Rattle.geometry.specs.MapWords.{FitsMap, map_word}
 pub use Rattle.geometry.specs.TableOrder.{page_index, pin_index}
 pub use Rattle.flash_rule.specs.declared.facts.Source.{Source}
+pub use Rattle.flash_rule.specs.declared.facts.Inspection.{Inspection}
+pub use Rattle.flash_rule.specs.Rule.{LawfulLoads, LawfulInspection, WasShut}
+pub use Rattle.flash_rule.specs.BroomPlays.{CanInspect, Inspected, is_page_of, inspect_told, inspected_in}
+pub use Rattle.flash_rule.specs.World.{is_shut}
 pub use Rattle.flash_rule.specs.Seats.{Ruled, gone, spare, spares}
-pub use Rattle.flash_rule.specs.Plays.{CanClose, CanCount, CanPlace, IsOn, Looked, Met, Pinned, Placed, Sitter, Took, close_told, count_told, is_unpinned}
-pub use Rattle.flash_rule.specs.Plays.{next_page, pin_told, take_told, unpin_told, words_in}
+pub use Rattle.flash_rule.specs.Plays.{CanClose, CanCount, CanPlace, IsOn, Looked, Met, Pinned, Placed, Sitter}
+pub use Rattle.flash_rule.specs.Plays.{Tested, Took, close_told, count_told, is_unpinned}
+pub use Rattle.flash_rule.specs.Plays.{next_page, pin_told, take_told, test_told, unpin_told, words_in}
 pub use Rattle.flash_rule.specs.BroomPlays.{CanClaim, CanCondemn, CanDrain, CanGetStamp, CanMove, CanRenew, CanRetire, Claimed, Condemned, GotStamp, IsErasing}
 pub use Rattle.flash_rule.specs.BroomPlays.{Moved, Named, claim_told, condemn_told, cycle_of, drain_told, freed_told, kept_told, owned_as, retired_told, wiper}
 pub use Rattle.geometry.proofs.Histories.{Begins-refl}

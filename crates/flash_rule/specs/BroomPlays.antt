@@ -1,23 +1,23 @@
 -- What the steps of brooms need, and what they record. A broom fills, counts and closes its own open block in the same way as a pass, by
 -- `put_told`, `count_told` and `close_told`.
-use Rattle.std.specs.Prelude.{◌≡◌, ℕ, ◌+◌, ◌*◌, ◌<◌, ◌≤◌, List, [], ◌∷◌, ◌++◌, None, Some, slice_get}
+use Rattle.std.specs.Prelude.{◌≡◌, ℕ, ◌+◌, ◌*◌, ◌<◌, ◌≤◌, ◌==◌, ◌&&◌, ◌⊎◌, Bool, false, true, if◌then◌else◌, List, [], ◌∷◌, ◌++◌, Option, None, Some, slice_get}
 use Rattle.atomic_table.specs.Table.{Step}
 use Rattle.geometry.specs.History.{held, Begins}
 use Rattle.geometry.specs.MapWords.{map_word, FitsMap}
-use Rattle.geometry.specs.PinWords.{pin_word, FitsPin, freed_added, kept_added}
+use Rattle.geometry.specs.PinWords.{pin_word, FitsPin}
 use Rattle.geometry.specs.TableOrder.{pin_index, page_index}
 use Rattle.geometry.specs.declared.map_word.MapWord.{MapWord}
 use Rattle.geometry.specs.declared.pin_word.PinWord.{PinWord}
 use Rattle.geometry.specs.declared.pin_word.Phase.{Phase}
 use Rattle.geometry.specs.declared.pin_word.Phase.TheVariants.{Open, Closed, Victim, Drained, Erasing, Retired}
-use Rattle.geometry.specs.declared.pin_word.TheConstants.{NEXT_PHASE}
 use Rattle.flash_rule.specs.declared.facts.Owned.{Owned}
 use Rattle.flash_rule.specs.declared.facts.Source.{Source}
+use Rattle.flash_rule.specs.declared.facts.Inspection.{Inspection}
 use Rattle.flash_rule.specs.declared.facts.Cycle.{Cycle}
 use Rattle.flash_rule.specs.declared.carried.Carried.{Carried}
 use Rattle.flash_rule.specs.declared.view.View.{View}
 use Rattle.flash_rule.specs.Views.{owned_at, without, with_owned, AreOfHosts}
-use Rattle.flash_rule.specs.World.{data_word, blank_word}
+use Rattle.flash_rule.specs.World.{data_word, blank_word, sector_word}
 use Rattle.flash_rule.specs.Ceded.{freed_as}
 use Rattle.flash_rule.specs.Rule.{IsValue}
 use Rattle.flash_rule.specs.Plays.{Sitter, Met, CanPlace}
@@ -176,11 +176,51 @@ condemn_told st me n after =
     (after.1 ≡ me.1)
     × ((b : ℕ) (p : PinWord) → CanCondemn me.0 b p → st.word ≡ pin_index me.0.numbers b → st.first ≡ pin_word p → Condemned me.0 b p n after.0)
 
--- DRAIN. All counted pages of a victim of its own are cleared; the block has no owner from now on, and is drained with these pages
+-- how many sectors, from 0 on, were found to have no page in this generation of a block
+abbrev pub inspected_in : Option Inspection → ℕ → ℕ → ℕ
+inspected_in None b generation = 0
+inspected_in (Some x) b generation = if x.block == b && x.generation == generation then x.sectors else 0
+
+-- whether a map word names a page of this block in this generation
+abbrev pub is_page_of : ℕ → ℕ → Option MapWord → Bool
+is_page_of b generation None = false
+is_page_of b generation (Some m) = m.block == b && m.generation == generation
+
+-- INSPECT. The block was closed when the broom loaded its state, which is the last one that it loaded, and the sectors before
+-- this one were passed
+pub record CanInspect (v : View) (b : ℕ) (p : PinWord) (s : ℕ) : Type 0 where
+  pub low : b < v.numbers.blocks
+  pub fits : FitsPin p
+  pub closed : p.phase ≡ Closed
+  pub earlier : List (ℕ × ℕ)
+  pub loaded : v.loaded ≡ earlier ++ (b, pin_word p) ∷ []
+  pub next : s ≤ inspected_in v.inspection b p.generation
+
+-- A sector that has no page in this generation of the block is passed, and nothing else changes; any other one was looked at, and is not
+-- passed
+pub record Inspected (v : View) (b generation s n : ℕ) (w : View) : Type 0 where
+  pub found : Option MapWord
+  pub word : n ≡ sector_word found
+  pub fits : (m : MapWord) → found ≡ Some m → FitsMap m
+  pub passed : is_page_of b generation found ≡ false → w ≡ record v { inspection = Some (record { block = b; generation = generation; sectors = s + 1 }) }
+  pub stopped : is_page_of b generation found ≡ true → w ≡ record v { named = v.named ++ (s, n) ∷ [] }
+
+-- what a look at the next sector of an inspection records for a broom
+abbrev pub inspect_told : Step (Unit {0}) → Sitter → ℕ → Sitter → Type 0
+inspect_told st me n after =
+    (after.1 ≡ me.1) × ((b : ℕ) (p : PinWord) → CanInspect me.0 b p st.word → Inspected me.0 b p.generation st.word n after.0)
+
+-- no sector has a page in this owned block: the broom has inspected the block, and relocates no page
+pub record IsInspected (v : View) (o : Owned) : Type 0 where
+  pub source : v.source ≡ None
+  pub all : v.numbers.sectors ≤ inspected_in v.inspection o.block o.generation
+
+-- DRAIN. All counted pages of a victim of its own are cleared, or the block is inspected; it has no owner from now on, and is drained with these
+-- pages
 pub record CanDrain (v : View) (o : Owned) : Type 0 where
   pub own : owned_at o.block v.owns ≡ Some o
   pub victim : o.phase ≡ Victim
-  pub cleared : o.written ≤ v.cleared
+  pub emptied : (o.written ≤ v.cleared) ⊎ IsInspected v o
 
 -- what a drain records for a broom
 abbrev pub drain_told : Step (Unit {0}) → Sitter → ℕ → Sitter → Type 0

@@ -17,7 +17,7 @@ use Rattle.flash_rule.specs.declared.facts.Work.{Work}
 use Rattle.flash_rule.specs.declared.view.View.{View}
 use Rattle.flash_rule.specs.Views.{is_pass, is_player, is_broom}
 use Rattle.flash_rule.specs.Seats.{Ruled}
-use Rattle.flash_rule.specs.Plays.{Sitter, IsOn, CanCount, CanClose, take_told, pin_told, unpin_told, count_told, close_told}
+use Rattle.flash_rule.specs.Plays.{Sitter, IsOn, CanCount, CanClose, test_told, take_told, pin_told, unpin_told, count_told, close_told}
 use Rattle.flash_rule.specs.BroomPlays.{CanClaim, CanDrain, CanCondemn, CanRenew, CanRetire, claim_told, drain_told}
 use Rattle.flash_rule.specs.BroomPlays.{condemn_told, freed_told, kept_told, retired_told}
 
@@ -46,6 +46,11 @@ plus x n = (n + x) % 2 ^ 64
 -- an exchange: the word of a block in this state becomes that of the next phase, and any other word stays
 abbrev pub to_next_phase : PinWord → ℕ → ℕ
 to_next_phase p n = either (n == pin_word p) (pin_word p + NEXT_PHASE) n
+
+-- A load before a take leaves the word
+abbrev pub TestLeaves : Type 0
+TestLeaves = AtEach (λ z slots id me x y. (b : ℕ) → is_player me.0.role ≡ true → b < z.blocks
+    → Forces z slots id me (pin_index z b) (λ n. n) (test_told (step slots (pin_index z b) x y none) me))
 
 -- A take sets the taking bit
 abbrev pub TakeSets : Type 0

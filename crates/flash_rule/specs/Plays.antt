@@ -135,6 +135,18 @@ pub record Took (v : View) (b n : ℕ) (w : View) : Type 0 where
 abbrev pub take_told : Step (Unit {0}) → Sitter → ℕ → Sitter → Type 0
 take_told st me n after = (after.1 ≡ me.1) × ((b : ℕ) → b < me.0.numbers.blocks → st.word ≡ pin_index me.0.numbers b → Took me.0 b n after.0)
 
+-- TEST. A block found free is left as it is, and nothing is recorded; any other block was found taken, just as by a take
+pub record Tested (v : View) (b n : ℕ) (w : View) : Type 0 where
+  pub state : PinWord
+  pub fits : FitsPin state
+  pub found : n ≡ pin_word state
+  pub free : state.phase ≡ Free → w ≡ v
+  pub denied : ¬ (state.phase ≡ Free) → w ≡ record v { denied = v.denied ++ b ∷ [] }
+
+-- what loading a pin word before a take records for a pass or a broom
+abbrev pub test_told : Step (Unit {0}) → Sitter → ℕ → Sitter → Type 0
+test_told st me n after = (after.1 ≡ me.1) × ((b : ℕ) → b < me.0.numbers.blocks → st.word ≡ pin_index me.0.numbers b → Tested me.0 b n after.0)
+
 -- the first unwritten page of an owned block, in its generation
 abbrev pub next_page : Owned → MapWord
 next_page o = record { generation = o.generation; block = o.block; page = o.written }

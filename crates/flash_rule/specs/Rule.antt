@@ -6,8 +6,9 @@ use Rattle.geometry.specs.History.{held, Begins}
 use Rattle.geometry.specs.Limits.{Numbers, IsWithinLimits}
 use Rattle.geometry.specs.declared.limits.TheConstants.{WORD_BYTES}
 use Rattle.geometry.specs.declared.map_word.MapWord.{MapWord}
+use Rattle.geometry.specs.PinWords.{pin_word, FitsPin}
 use Rattle.geometry.specs.declared.pin_word.PinWord.{PinWord}
-use Rattle.geometry.specs.declared.pin_word.Phase.TheVariants.{Free, Open, Victim, Erasing}
+use Rattle.geometry.specs.declared.pin_word.Phase.TheVariants.{Free, Open, Closed, Victim, Erasing}
 use Rattle.flash_rule.specs.declared.facts.Name.{Name}
 use Rattle.flash_rule.specs.declared.facts.Name.TheVariants.{Pass, Broom}
 use Rattle.flash_rule.specs.declared.facts.Role.{Role}
@@ -17,12 +18,13 @@ use Rattle.flash_rule.specs.declared.facts.Pin.{Pin}
 use Rattle.flash_rule.specs.declared.facts.Pin.TheVariants.{Clear, Candidate, Accepted, Stray}
 use Rattle.flash_rule.specs.declared.facts.Work.{Work}
 use Rattle.flash_rule.specs.declared.facts.Source.{Source}
+use Rattle.flash_rule.specs.declared.facts.Inspection.{Inspection}
 use Rattle.flash_rule.specs.declared.facts.Cycle.{Cycle}
 use Rattle.flash_rule.specs.declared.carried.Carried.{Carried}
 use Rattle.flash_rule.specs.declared.view.View.{View}
 use Rattle.flash_rule.specs.Views.{total, is_pass, is_player, is_live_role, may_own, weight, pins_on, owned_at, AreOfHosts, calls_of}
 use Rattle.flash_rule.specs.Ceded.{LawfulCeded}
-use Rattle.flash_rule.specs.World.{World, is_owned, is_nameable, is_still, is_reclaimed, age_of, Intact, HoldsValue, IsBlank, blank_word}
+use Rattle.flash_rule.specs.World.{World, is_owned, is_nameable, is_shut, is_still, is_reclaimed, age_of, Intact, HoldsValue, IsBlank, blank_word}
 
 -- A value has the bytes of one page
 pub record IsValue (z : Numbers) (value : List ℕ) : Type 0 where
@@ -121,6 +123,22 @@ pub record Grown (earlier later : Carried) : Type 0 where
   pub programs : Begins earlier.programs later.programs
   pub erases : Begins earlier.erases later.erases
 
+-- The block was closed in this generation, and has not been opened again in it
+abbrev pub WasShut : ℕ → PinWord → Type 0
+WasShut generation p = (generation < p.generation) ⊎ ((p.generation ≡ generation) × (is_shut p.phase ≡ true))
+
+-- LOADED. Each block of the device whose state was closed when it was loaded was closed in that generation
+abbrev pub LawfulLoads : Numbers → World → List (ℕ × ℕ) → Type 0
+LawfulLoads z g loaded =
+    (k b : ℕ) (p : PinWord) → slice_get loaded k ≡ Some (b, pin_word p) → FitsPin p → p.phase ≡ Closed → b < z.blocks → WasShut p.generation (g.pins b)
+
+-- INSPECTED. The block was closed in the generation in which it was inspected. As long as that lasts, no sector that was passed has a page in it
+pub record LawfulInspection (z : Numbers) (g : World) (x : Inspection) : Type 0 where
+  pub low : x.block < z.blocks
+  pub shut : WasShut x.generation (g.pins x.block)
+  pub dead : (g.pins x.block).generation ≡ x.generation → (s p : ℕ) → s < x.sectors → s < z.sectors
+      → ¬ (g.map s ≡ Some (record { generation = x.generation; block = x.block; page = p }))
+
 -- At most one of these blocks is being drained or erased
 abbrev pub ReclaimsOne : List Owned → Type 0
 ReclaimsOne owns =
@@ -139,8 +157,8 @@ pub record LawfulKind (z : Numbers) (v : View) : Type 0 where
   pub reclaims : ReclaimsOne v.owns
   pub host : (n m : Name) → v.role ≡ Player n → v.guest ≡ Some m → v.whole ≡ true
 
--- What a view knows: it has seen a beginning of the history, its pin is lawful, no block is younger than known, and its lists and copies
--- are lawful. If both the copies that it had before and those that it has are of one player, the latter begin with the former; and if that
+-- What a view knows: it has seen a beginning of the history, its pin is lawful, no block is younger than known, and its lists, its inspection and
+-- its copies are lawful. If both the copies that it had before and those that it has are of one player, the latter begin with the former; and if that
 -- player's badge, or the seat's own, is on a note with copies of that player, those begin with the seat's
 pub record LawfulKnowledge (z : Numbers) (g : World) (v : View) : Type 0 where
   pub seen : Begins v.seen g.history
@@ -148,6 +166,8 @@ pub record LawfulKnowledge (z : Numbers) (g : World) (v : View) : Type 0 where
   pub known : (b : ℕ) → b < z.blocks → slice_index v.known b ≤ age_of (g.pins b)
   pub programs : (n : Name) → v.role ≡ Player n → Programs z g n v.programs
   pub erases : (n : Name) → v.role ≡ Player n → Erases z g n v.erases
+  pub loads : LawfulLoads z g v.loaded
+  pub inspection : (x : Inspection) → v.inspection ≡ Some x → LawfulInspection z g x
   pub copy : (c : Carried) → v.copy ≡ Some c → LawfulCopy z g v.role c
   pub older : (o c : Carried) → v.older ≡ Some o → v.copy ≡ Some c → o.of ≡ c.of → Grown o c
   pub out : (n : Name) (c d : Carried) → (n ≡ c.of) ⊎ (v.role ≡ Player n) → v.copy ≡ Some c → g.carries n ≡ Some d → c.of ≡ d.of → Grown c d

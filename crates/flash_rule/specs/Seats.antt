@@ -39,6 +39,7 @@ newcomer z role =
       erases = [];
       cleared = 0;
       source = None;
+      inspection = None;
       wiped = 0;
       loaded = [];
       named = [];

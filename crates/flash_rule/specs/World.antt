@@ -85,6 +85,16 @@ is_nameable Drained = false
 is_nameable Erasing = false
 is_nameable Retired = false
 
+-- the phases in which no page of a block can become a sector's
+abbrev pub is_shut : Phase → Bool
+is_shut Free = false
+is_shut Open = false
+is_shut Closed = true
+is_shut Victim = true
+is_shut Drained = true
+is_shut Erasing = true
+is_shut Retired = true
+
 -- the phases in which nobody fills a page, and no page is being erased
 abbrev pub is_still : Phase → Bool
 is_still Free = true

@@ -1,5 +1,5 @@
 //! What a broom's steps on map words and page words record for it.
-ghost use Rattle.flash_rule.specs.BroomPlays.{broom_look_told, stamp_told, source_told, move_told, wipe_told};
+ghost use Rattle.flash_rule.specs.BroomPlays.{broom_look_told, stamp_told, source_told, move_told, inspect_told, wipe_told};
 
 use crate::view::View;
 use atomic_table::Play;
@@ -30,6 +30,13 @@ pub struct MoveTo;
 
 impl Play<(), View> for MoveTo {
     ghost then = { move_told };
+}
+
+/// A broom loads a map word to see whether it names a page of the block that it inspects.
+pub struct InspectSector;
+
+impl Play<(), View> for InspectSector {
+    ghost then = { inspect_told };
 }
 
 /// A broom stores all ones in the next word of the block that it erases.

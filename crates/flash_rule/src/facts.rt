@@ -52,6 +52,13 @@ pub struct Source {
     pub value: Option<LinkedList<u64>>,
 }
 
+/// One generation of a closed block, and how many sectors, from 0 on, were found to have no page in it.
+pub struct Inspection {
+    pub block: u64,
+    pub generation: u64,
+    pub sectors: u64,
+}
+
 /// One generation of a block.
 pub struct Cycle {
     pub block: u64,

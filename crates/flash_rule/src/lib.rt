@@ -10,13 +10,13 @@ mod reclaim_plays;
 mod rule;
 mod view;
 
-pub use broom_plays::{BroomLook, GetSource, GetStamp, MoveTo, Wipe};
+pub use broom_plays::{BroomLook, GetSource, GetStamp, InspectSector, MoveTo, Wipe};
 pub use carried::Carried;
-pub use facts::{Cycle, Name, Owned, Pin, Role, Source, Work};
+pub use facts::{Cycle, Inspection, Name, Owned, Pin, Role, Source, Work};
 pub use forced::pin_words_are_forced;
 pub use plays::{
     AddReader, Close, ComeHome, Count, DealBroom, DealPass, GetWord, GiveBack, Lend, Look,
-    PlaceNew, PlaceTrim, PlaceWrite, PutWord, RemoveReader, Take, TakeIn,
+    PlaceNew, PlaceTrim, PlaceWrite, PutWord, RemoveReader, Take, TakeIn, Test,
 };
 pub use reclaim_plays::{Claim, Condemn, Drain, FreeBlock, KeepBlock, LoadState, RetireBlock};
 pub use rule::Device;

@@ -1,6 +1,6 @@
 //! What each kind of step records for the seat that makes it.
 ghost use Rattle.flash_rule.specs.Seats.{dealt_pass, new_pass, dealt_broom, new_broom, lender, lent_note, host_of, giver, given_note, home, gone};
-ghost use Rattle.flash_rule.specs.Plays.{look_told, write_told, new_told, trim_told, take_told, put_told};
+ghost use Rattle.flash_rule.specs.Plays.{look_told, write_told, new_told, trim_told, test_told, take_told, put_told};
 ghost use Rattle.flash_rule.specs.Plays.{get_told, count_told, close_told, pin_told, unpin_told};
 
 use crate::view::View;
@@ -34,7 +34,14 @@ impl Play<(), View> for PlaceTrim {
     ghost then = { trim_told };
 }
 
-/// A pass sets the taking bit of a pin word.
+/// A pass or a broom loads a pin word to see whether the block is free.
+pub struct Test;
+
+impl Play<(), View> for Test {
+    ghost then = { test_told };
+}
+
+/// A pass or a broom sets the taking bit of a pin word.
 pub struct Take;
 
 impl Play<(), View> for Take {

@@ -11,6 +11,7 @@ ghost use Rattle.flash_rule.specs.declared.facts.Owned.{Owned};
 ghost use Rattle.flash_rule.specs.declared.facts.Work.{Work};
 ghost use Rattle.flash_rule.specs.declared.facts.Pin.{Pin};
 ghost use Rattle.flash_rule.specs.declared.facts.Source.{Source};
+ghost use Rattle.flash_rule.specs.declared.facts.Inspection.{Inspection};
 ghost use Rattle.flash_rule.specs.declared.facts.Cycle.{Cycle};
 ghost use Rattle.flash_rule.specs.declared.carried.Carried.{Carried};
 
@@ -30,7 +31,7 @@ pub struct View {
     pub ghost pin: { Pin },
     /// For each block an age that it has reached.
     pub ghost known: { List ℕ },
-    /// How many takes succeeded, and the block of each one that found it taken.
+    /// How many takes succeeded, and the block of each take, or of each load before one, that found it taken.
     pub ghost taken: { ℕ },
     pub ghost denied: { List ℕ },
     pub ghost owns: { List Owned },
@@ -41,6 +42,8 @@ pub struct View {
     /// How many pages of its victim a broom knows to be dead, and the next one.
     pub ghost cleared: { ℕ },
     pub ghost source: { Option Source },
+    /// The block that a broom has inspected last.
+    pub ghost inspection: { Option Inspection },
     /// How many words of its erasing block a broom has set to all ones.
     pub ghost wiped: { ℕ },
     /// The block and word of each state step, and the sector and word of each look of a broom.

@@ -16,7 +16,7 @@ use Rattle.flash_rule.specs.declared.facts.Pin.TheVariants.{Candidate, Accepted}
 use Rattle.flash_rule.specs.Views.{is_pass, is_player}
 use Rattle.flash_rule.specs.Seats.{Ruled}
 use Rattle.flash_rule.specs.Plays.{Sitter, CanPlace, CanPut, CanCount, CanClose, words_in, is_unpinned, look_told, write_told, new_told}
-use Rattle.flash_rule.specs.Plays.{trim_told, take_told, put_told, count_told, close_told, IsOn, pin_told, unpin_told, get_told}
+use Rattle.flash_rule.specs.Plays.{trim_told, test_told, take_told, put_told, count_told, close_told, IsOn, pin_told, unpin_told, get_told}
 use Rattle.flash_rule.specs.declared.facts.Name.{Name}
 use Rattle.flash_rule.specs.declared.facts.Role.TheVariants.{Player, Note}
 use Rattle.flash_rule.specs.declared.carried.Carried.{Carried}
@@ -25,7 +25,7 @@ use Rattle.flash_rule.specs.Seats.{lender, lent_note, host_of, giver, given_note
 use Rattle.flash_rule.proofs.OwnSteps.{player_of}
 use Rattle.flash_rule.proofs.Places.{page_within}
 use Rattle.flash_rule.proofs.Notes.{lends, gives, takes_in, comes_home}
-use Rattle.flash_rule.proofs.Steps.{look_allowed, trim_allowed, write_allowed, new_allowed, take_allowed}
+use Rattle.flash_rule.proofs.Steps.{look_allowed, trim_allowed, write_allowed, new_allowed, take_allowed, test_allowed}
 use Rattle.flash_rule.proofs.Steps.{put_allowed, count_allowed, close_allowed, get_allowed}
 use Rattle.flash_rule.proofs.ReaderSteps.{pin_allowed, unpin_allowed}
 use Rattle.flash_table.proofs.AtPlace.{at_place, at_numbers}
@@ -61,6 +61,12 @@ module _ (z k : Numbers) (same : k ≡ z) (slots id : ℕ) (me : Sitter) where
   new_here s word m value pass low packed fits can =
       at_numbers z k same slots id me (λ n. either (n == UNMAPPED) word n) (new_told (step slots s UNMAPPED word none) me) s
       (new_allowed z slots id me s word m value pass low packed fits can)
+
+  pub test_here : (word b : ℕ) → word ≡ pin_index z b → is_player me.0.role ≡ true → b < z.blocks
+      → Allows (Ruled k) slots id me word (λ n. n) (test_told (step slots word 0 0 none) me)
+  test_here word b is player low =
+      at_place z k same slots id me (λ n. n) (λ w. test_told (step slots w 0 0 none) me) word (pin_index z b) is
+      (test_allowed z slots id me b player low)
 
   pub take_here : (word b : ℕ) → word ≡ pin_index z b → is_player me.0.role ≡ true → b < z.blocks
       → Allows (Ruled k) slots id me word (λ n. bit_or n TAKEN) (take_told (step slots word TAKEN 0 none) me)

@@ -15,10 +15,10 @@ use Rattle.flash_rule.specs.declared.facts.Source.{Source}
 use Rattle.flash_rule.specs.Views.{is_broom, is_player}
 use Rattle.flash_rule.specs.Seats.{Ruled}
 use Rattle.flash_rule.specs.Plays.{Sitter}
-use Rattle.flash_rule.specs.BroomPlays.{CanGetStamp, CanMove, CanClaim, CanDrain, broom_look_told, stamp_told}
+use Rattle.flash_rule.specs.BroomPlays.{CanGetStamp, CanMove, CanClaim, CanDrain, CanInspect, broom_look_told, stamp_told, inspect_told}
 use Rattle.flash_rule.specs.BroomPlays.{source_told, move_told, state_told, claim_told, drain_told}
 use Rattle.flash_rule.proofs.ReclaimAllowed.{state_allowed, claim_allowed, drain_allowed}
-use Rattle.flash_rule.proofs.BroomAllowed.{broom_look_allowed, stamp_allowed, source_allowed, move_allowed}
+use Rattle.flash_rule.proofs.BroomAllowed.{broom_look_allowed, inspect_allowed, stamp_allowed, source_allowed, move_allowed}
 use Rattle.flash_table.proofs.AtPlace.{at_place, at_numbers, at_place_with}
 
 -- ---- states of blocks
@@ -48,6 +48,11 @@ module _ (z k : Numbers) (same : k ≡ z) (slots id : ℕ) (me : Sitter) where
       → Allows (Ruled k) slots id me s (λ n. n) (broom_look_told (step slots s 0 0 none) me)
   broom_look_here s player low =
       at_numbers z k same slots id me (λ n. n) (broom_look_told (step slots s 0 0 none) me) s (broom_look_allowed z slots id me s player low)
+
+  pub inspect_here : (b s : ℕ) (p : PinWord) → is_broom me.0.role ≡ true → CanInspect me.0 b p s → s < z.sectors
+      → Allows (Ruled k) slots id me s (λ n. n) (inspect_told (step slots s 0 0 none) me)
+  inspect_here b s p broom can low =
+      at_numbers z k same slots id me (λ n. n) (inspect_told (step slots s 0 0 none) me) s (inspect_allowed z slots id me b s p broom can low)
 
   pub stamp_here : (word : ℕ) (o : Owned) → word ≡ page_index z o.block me.0.cleared + z.words → is_player me.0.role ≡ true → me.0.numbers ≡ z
       → CanGetStamp me.0 o

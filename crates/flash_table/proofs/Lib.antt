@@ -5,7 +5,7 @@ pub mod Here
 pub mod HereBrooms
 pub mod Told
 pub mod ToldBrooms
-pub mod ToldSpares
+pub mod ToldTaking
 pub mod HereErasing
 pub mod ToldErasing
 pub mod Dealing

@@ -2,12 +2,11 @@
 use Rattle.std.proofs.Common.{◌≡◌, ℕ, ◌+◌, ◌<◌, Bool, true, false, List, [], ◌∷◌, ◌++◌, length, Option, Some, None, sym, refl, ap, ◌∙◌, subst, arith}
 use Rattle.geometry.specs.PinWords.{FitsPin, pin_word}
 use Rattle.geometry.specs.declared.pin_word.PinWord.{PinWord}
-use Rattle.geometry.specs.declared.pin_word.Phase.TheVariants.{Free, Open}
 use Rattle.flash_rule.specs.declared.facts.Owned.{Owned}
 use Rattle.flash_rule.specs.declared.facts.Role.{Role}
 use Rattle.flash_rule.specs.declared.facts.Role.TheVariants.{Dealer, Player, Note, Gone}
 use Rattle.flash_rule.specs.declared.view.View.{View}
-use Rattle.flash_rule.specs.Views.{is_pass, is_player, owned_at, without, with_owned}
+use Rattle.flash_rule.specs.Views.{is_pass, is_player, owned_at, without}
 use Rattle.std.specs.Bool.{MatchBool}
 use mathlib.Core.Option.{none}
 use Rattle.atomic_table.specs.Table.{step}
@@ -17,12 +16,12 @@ use Rattle.geometry.specs.MapWords.{map_word, FitsMap}
 use Rattle.geometry.specs.TableOrder.{pin_index, page_index}
 use Rattle.geometry.specs.declared.map_word.MapWord.{MapWord}
 use Rattle.geometry.specs.declared.map_word.TheConstants.{UNMAPPED}
-use Rattle.geometry.specs.declared.pin_word.TheConstants.{TAKEN, NEXT_PHASE, PAGE_WRITTEN, READER}
+use Rattle.geometry.specs.declared.pin_word.TheConstants.{NEXT_PHASE, PAGE_WRITTEN, READER}
 use Rattle.flash_rule.specs.declared.facts.Work.{Work}
 use Rattle.flash_rule.specs.declared.facts.Pin.TheVariants.{Clear, Candidate, Accepted}
 use Rattle.flash_rule.specs.World.{data_word, Intact}
-use Rattle.flash_rule.specs.Plays.{Sitter, Took, Placed, CanPlace, CanPut, CanCount, CanClose, words_in, next_page, write_told, new_told, trim_told}
-use Rattle.flash_rule.specs.Plays.{take_told, put_told, count_told, close_told, IsOn, Pinned, pin_told, unpin_told, get_told}
+use Rattle.flash_rule.specs.Plays.{Sitter, Placed, CanPlace, CanPut, CanCount, CanClose, words_in, next_page, write_told, new_told, trim_told}
+use Rattle.flash_rule.specs.Plays.{put_told, count_told, close_told, IsOn, Pinned, pin_told, unpin_told, get_told}
 use Rattle.flash_rule.proofs.Still.{pass_of}
 use Rattle.flash_rule.proofs.Owning.{some_same}
 use Rattle.geometry.proofs.PinBits.{pin_same}
@@ -31,7 +30,7 @@ use Rattle.flash_table.specs.declared.flash.Flash.{Flash}
 use Rattle.flash_table.specs.declared.pass.Pass.{Pass}
 use Rattle.flash_table.specs.declared.pass.OpenBlock.{OpenBlock}
 use Rattle.flash_table.specs.Owning.{owned_of, owned_list, closed_as, closed_list}
-use Rattle.flash_table.specs.Flash.{IsPassOf, Taken, Denied, Strayed, view_of, device}
+use Rattle.flash_table.specs.Flash.{IsPassOf, Strayed, view_of, device}
 
 pub pass_player : (r : Role) → is_pass r ≡ true → is_player r ≡ true
 pass_player (Player n) is = refl
@@ -48,25 +47,6 @@ without_one o = rw (eq_self o.block) refl
 
 pub owned_one : (o : Owned) → owned_at o.block (o ∷ []) ≡ Some o
 owned_one o = rw (eq_self o.block) refl
-
-pub took_free : (v w : View) (b n : ℕ) (state : PinWord) → v.owns ≡ [] → Took v b n w → FitsPin state → pin_word state ≡ n → state.phase ≡ Free
-    → Taken v b w (Some (record { block = b; generation = state.generation; written = 0 }))
-took_free v w b n state nothing took fits word free =
-    let same : took.state ≡ state = pin_same took.state state took.fits fits (sym took.found ∙ sym word) in
-    let changed = took.free (ap (λ (p : PinWord). p.phase) same ∙ free) in
-    let entry : ℕ → Owned = λ k. record { block = b; phase = Open; generation = k; written = 0 } in
-    record {
-      generation = state.generation;
-      young = (let r = took.young in let e : took.state.generation ≡ state.generation = ap (λ (p : PinWord). p.generation) same in omega arith);
-      opens = refl;
-      changed = changed ∙ (λ i. record v { taken = v.taken + 1; owns = with_owned (entry (same i).generation) (nothing i) });
-    }
-
-pub took_other : (v w : View) (b n : ℕ) → Took v b n w → ((state : PinWord) → FitsPin state → pin_word state ≡ n → ¬ (state.phase ≡ Free)) → Denied v b w None
-took_other v w b n took not = record { nothing = refl; changed = took.denied (not took.state took.fits (sym took.found)) }
-
-pub same_generation : {v w : View} {b k : ℕ} (t : Taken v b w (Some (record { block = b; generation = k; written = 0 }))) → t.generation ≡ k
-same_generation t = sym (ap (λ (o : OpenBlock). o.generation) (some_same _ _ t.opens))
 
 -- what follows of a test's two outcomes
 pub by_outcome : (b : Bool) (P Q R S : Type 0) → (P → R) → (Q → S) → MatchBool b P Q → MatchBool b R S
@@ -135,12 +115,6 @@ module _ (f : Flash) (p : Pass) (h : IsPassOf f p) (slots n : ℕ) (after : Sitt
       told.1 (owned_of o) can (at ∙ (ap (λ k. page_index (device f) o.block o.written + k) here
       ∙ ap (λ y. page_index y o.block o.written + length (words_in (view_of p).work (owned_of o))) (sym h.numbers)))
 
-  -- ---- take
-  pub take_took : (word b : ℕ) → b < (device f).blocks → word ≡ pin_index (device f) b → take_told (step slots word TAKEN 0 none) p.seat.me n after
-      → Took (view_of p) b n after.0
-  take_took word b low at told = let blocks : (view_of p).numbers.blocks ≡ (device f).blocks = ap (λ (y : Numbers). y.blocks) h.numbers in
-      told.1 b (omega arith) (at ∙ ap (λ y. pin_index y b) (sym h.numbers))
-
   -- ---- place
   pub trim_changed : (s : ℕ) → trim_told (step slots s 0 0 none) p.seat.me n after → (t : ℕ) × Placed (view_of p) (Trim t s) s n after.0
   trim_changed s told = let t = pass_of (view_of p).role h.role in (t.0, told.1 t.0 t.1)
@@ -154,21 +128,6 @@ module _ (f : Flash) (p : Pass) (h : IsPassOf f p) (slots n : ℕ) (after : Sitt
       → new_told (step slots s UNMAPPED word none) p.seat.me n after
       → (t : ℕ) × (value : List ℕ) × Placed (view_of p) (WriteNew t s value) s n after.0
   new_changed s word m packed fits can told = let t = pass_of (view_of p).role h.role in (t.0, can.0, told.1 t.0 m can.0 t.1 refl packed fits can.1)
-
-  -- ---- take, by what the word says
-  pub take_free_view : (word b k : ℕ) → b < (device f).blocks → word ≡ pin_index (device f) b
-      → take_told (step slots word TAKEN 0 none) p.seat.me n after → p.opened ≡ None
-      → (state : PinWord) × FitsPin state × (pin_word state ≡ n) × (state.phase ≡ Free) × (state.generation ≡ k)
-      → Taken (view_of p) b after.0 (Some (record { block = b; generation = k; written = 0 }))
-  take_free_view word b k low at told closed t =
-      let taken = took_free (view_of p) after.0 b n t.0 (p.owns ∙ ap owned_list closed) (take_took word b low at told) t.1 t.2 t.3 in
-      subst (λ (k : ℕ). Taken (view_of p) b after.0 (Some (record { block = b; generation = k; written = 0 }))) t.4 taken
-
-  pub take_other_view : (word b : ℕ) → b < (device f).blocks → word ≡ pin_index (device f) b
-      → take_told (step slots word TAKEN 0 none) p.seat.me n after → p.opened ≡ None
-      → ((state : PinWord) → FitsPin state → pin_word state ≡ n → ¬ (state.phase ≡ Free)) → Denied (view_of p) b after.0 p.opened
-  take_other_view word b low at told closed not =
-      record { nothing = closed; changed = (took_other (view_of p) after.0 b n (take_took word b low at told) not).changed }
 
   -- ---- pin
   pub pin_pinned : (word : ℕ) (m : MapWord) (value : List ℕ) → (view_of p).pin ≡ Candidate m value → word ≡ pin_index (device f) m.block

@@ -1,4 +1,7 @@
 -- What a step's play makes of a broom's seat.
+use Rattle.std.specs.Prelude.{◌&&◌, Bool, false}
+use Rattle.flash_rule.specs.BroomPlays.{Inspected, is_page_of}
+use Rattle.flash_table.specs.Inspecting.{InspectTold}
 use Rattle.std.proofs.Common.{◌≡◌, ℕ, ◌+◌, ◌<◌, ◌≤◌, ◌⊎◌, inl, inr, ⊎_elim, ◌==◌, eq-eqb, ne_eqb, true, [], ◌∷◌, ◌++◌, List}
 use Rattle.std.proofs.Common.{length, Option, None, Some, IfSome, IfNone, sym, refl, ap, ◌∙◌, subst, arith}
 use Rattle.std.specs.Bool.{MatchBool}
@@ -23,7 +26,7 @@ use Rattle.flash_rule.specs.declared.view.View.{View}
 use Rattle.flash_rule.specs.Views.{is_broom, is_player, with_owned}
 use Rattle.flash_rule.specs.Plays.{Sitter, CanPut, CanCount, CanClose, words_in, next_page, put_told, count_told, close_told}
 use Rattle.flash_rule.specs.BroomPlays.{GotStamp, CanGetStamp, CanMove, Moved, stamp_told, source_told, move_told, Loaded}
-use Rattle.flash_rule.specs.BroomPlays.{IsLastLoaded, CanClaim, Claimed, CanDrain, state_told, claim_told, drain_told}
+use Rattle.flash_rule.specs.BroomPlays.{IsLastLoaded, IsInspected, CanClaim, Claimed, CanDrain, state_told, claim_told, drain_told}
 use Rattle.flash_rule.specs.World.{data_word, sector_word}
 use Rattle.flash_rule.proofs.Owning.{some_same}
 use Rattle.flash_table.specs.declared.flash.Flash.{Flash}
@@ -34,7 +37,8 @@ use Rattle.flash_table.specs.declared.broom_seat.Reclaiming.TheVariants as recla
 use Rattle.flash_table.specs.declared.pass.OpenBlock.{OpenBlock}
 use Rattle.flash_table.specs.Owning.{owned_of, reclaimed_as}
 use Rattle.flash_table.specs.GivingUp.{left_closed, left_drained}
-use Rattle.flash_table.specs.Flash.{IsBroomOf, broom_view, own_blocks, device}
+use Rattle.flash_table.specs.Steps.{HasInspected, IsCleared}
+use Rattle.flash_table.specs.Flash.{IsBroomOf, broom_view, own_blocks, device, geometry_of}
 use Rattle.flash_table.proofs.Blocks.{all_open, draining_at}
 use Rattle.flash_table.proofs.Told.{same_block}
 
@@ -43,6 +47,37 @@ pub unpacked : (r : Option MapWord) (n : ℕ) → IfSome r (λ p. FitsMap p × (
     → (¬ (n ≡ 0) → (m : MapWord) × (n ≡ map_word m)) → n ≡ sector_word r
 unpacked (Some p) n has nothing named = sym has.1
 unpacked None n has nothing named = dite (ℕ_discrete n 0) (λ zero. zero) (λ other. let t = named other in let e = t.1 in absurd (omega arith))
+
+-- a map word that is in a block is that of a page in it
+in_page : (b generation : ℕ) (x : Option MapWord) → is_page_of b generation x ≡ true
+    → (m : MapWord) × (x ≡ Some m) × (m.block ≡ b) × (m.generation ≡ generation)
+in_page b generation None is = absurd (cc)
+in_page b generation (Some m) is =
+    dite (ℕ_discrete m.block b)
+    (λ block. dite (ℕ_discrete m.generation generation)
+    (λ same. (m, refl, block, same))
+    (λ apart. let no : true ≡ false = sym is ∙ (λ i. (eq-eqb m.block b block i) && (ne_eqb m.generation generation apart i)) in absurd (cc)))
+    (λ apart. let no : true ≡ false = sym is ∙ (λ i. (ne_eqb m.block b apart i) && (m.generation == generation)) in absurd (cc))
+
+-- what a look at the next sector of an inspection records, by what it finds
+pub inspected_by : (v w : View) (b generation s n : ℕ) (h : Inspected v b generation s n w) (t : Bool) → t ≡ is_page_of b generation h.found
+    → InspectTold v b generation s t w
+inspected_by v w b generation s n h true is =
+    let k = in_page b generation h.found (sym is) in
+    record {
+      page = k.0;
+      fits = h.fits k.0 k.1;
+      block = k.2;
+      same = k.3;
+      changed = h.stopped (sym is) ∙ ap (λ (m : ℕ). record v { named = v.named ++ (s, m) ∷ [] }) (h.word ∙ ap sector_word k.1);
+    }
+inspected_by v w b generation s n h false is = h.passed (sym is)
+
+pub inspected_changed : (v w : View) (b generation s n : ℕ) → Inspected v b generation s n w → w ≡ record v { named = w.named; inspection = w.inspection }
+inspected_changed v w b generation s n h = by_test (is_page_of b generation h.found) refl where
+  by_test : (t : Bool) → is_page_of b generation h.found ≡ t → w ≡ record v { named = w.named; inspection = w.inspection }
+  by_test true is = let e = h.stopped is in e ∙ (λ i. record v { named = (sym e i).named; inspection = (sym e i).inspection })
+  by_test false is = let e = h.passed is in e ∙ (λ i. record v { named = (sym e i).named; inspection = (sym e i).inspection })
 
 pub broom_player : (f : Flash) (s : BroomSeat) → IsBroomOf f s → is_player (broom_view s).role ≡ true
 broom_player f s h = ap is_player h.role.1
@@ -143,9 +178,17 @@ module _ (f : Flash) (s : BroomSeat) (h : IsBroomOf f s) where
   claim_can b p low state loaded rest =
       record { low = low_here b low; fits = state.0; closed = state.1; loaded = loaded; rested = all_open (own_blocks s) (broom_view s).owns s.owns rest }
 
-  pub drain_can : (o : ReclaimedBlock) → (own_blocks s).reclaiming ≡ reclaiming.Draining o → o.written ≤ (broom_view s).cleared
-      → CanDrain (broom_view s) (reclaimed_as Victim o)
-  drain_can o is cleared = record { own = draining_at (own_blocks s) (broom_view s).owns s.owns o is; victim = refl; cleared = cleared }
+  -- a victim whose pages are all cleared, or that was inspected, can be drained
+  pub drain_can : (o : ReclaimedBlock) → (own_blocks s).reclaiming ≡ reclaiming.Draining o
+      → IsCleared (geometry_of f) (broom_view s) (own_blocks s) ⊎ HasInspected (geometry_of f) (broom_view s) (own_blocks s)
+      → (o.block < (device f).blocks) × CanDrain (broom_view s) (reclaimed_as Victim o)
+  drain_can o is asked =
+      let Emptied : ReclaimedBlock → Type 0 = λ y. (y.written ≤ (broom_view s).cleared) ⊎ IsInspected (broom_view s) (reclaimed_as Victim y) in
+      let some : (y : ReclaimedBlock) × ((own_blocks s).reclaiming ≡ reclaiming.Draining y) × ((y.block < (device f).blocks) × Emptied y) =
+      ⊎_elim (λ (c : IsCleared (geometry_of f) (broom_view s) (own_blocks s)). (c.0, c.1, (c.2.0, inl c.2.1)))
+      (λ (c : HasInspected (geometry_of f) (broom_view s) (own_blocks s)). (c.0, c.1, (c.2.0, inr c.2.1))) asked in
+      let its = of_draining (λ (y : ReclaimedBlock). (y.block < (device f).blocks) × Emptied y) (own_blocks s).reclaiming o is some in
+      (its.0, record { own = draining_at (own_blocks s) (broom_view s).owns s.owns o is; victim = refl; emptied = its.1 })
 
 -- ---- and what it makes of the seat
 module _ (f : Flash) (s : BroomSeat) (h : IsBroomOf f s) (slots n : ℕ) (after : Sitter) where

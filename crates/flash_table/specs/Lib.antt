@@ -5,5 +5,7 @@ pub mod Erasing
 pub mod GivingUp
 pub mod Steps
 pub mod Spares
--- Internal: the plain data of a seat and its view.
+pub mod Inspecting
+-- Internal: the plain data of a seat and its view, and what a take records.
 pub mod Owning
+pub mod Taking

@@ -1,5 +1,5 @@
 -- What the steps of a seat need, and what they leave, in terms of its own blocks.
-use Rattle.std.specs.Prelude.{◌≡◌, ℕ, ◌+◌, ◌<◌, ◌≤◌, Bool, List, [], ◌∷◌, ◌++◌, Option, None, Some, MatchBool, length, slice_get}
+use Rattle.std.specs.Prelude.{◌≡◌, ℕ, ◌+◌, ◌<◌, ◌≤◌, Bool, List, [], ◌∷◌, ◌++◌, Option, None, Some, MatchBool, length}
 use Rattle.geometry.specs.Geometry.{blocks_of, pages_of}
 use Rattle.geometry.specs.MapWords.{map_word}
 use Rattle.geometry.specs.PinWords.{FitsPin, pin_word}
@@ -15,7 +15,7 @@ use Rattle.flash_rule.specs.declared.facts.Role.TheVariants.{Player}
 use Rattle.flash_rule.specs.declared.facts.Source.{Source}
 use Rattle.flash_rule.specs.declared.facts.Work.{Work}
 use Rattle.flash_rule.specs.declared.view.View.{View}
-use Rattle.flash_rule.specs.BroomPlays.{GotStamp, Moved, owned_as}
+use Rattle.flash_rule.specs.BroomPlays.{GotStamp, IsInspected, Moved, owned_as}
 use Rattle.flash_rule.specs.Plays.{CanClose, CanCount, CanPut, Spared, next_page, words_in, Called, CanPlace}
 use Rattle.flash_rule.specs.Views.{with_owned}
 use Rattle.flash_rule.specs.World.{Intact}
@@ -115,6 +115,11 @@ NowDrains before block state after =
 -- all pages written of the victim are cleared
 abbrev pub IsCleared : Geometry → View → BroomBlocks → Type 0
 IsCleared geo v blocks = (o : ReclaimedBlock) × (blocks.reclaiming ≡ reclaiming.Draining o) × ((o.block < blocks_of geo) × (o.written ≤ v.cleared))
+
+-- the broom has inspected the victim: no sector has a page in it
+abbrev pub HasInspected : Geometry → View → BroomBlocks → Type 0
+HasInspected geo v blocks =
+    (o : ReclaimedBlock) × (blocks.reclaiming ≡ reclaiming.Draining o) × ((o.block < blocks_of geo) × IsInspected v (reclaimed_as phase.Victim o))
 
 -- this page of the victim is written
 abbrev pub IsOfVictim : Geometry → BroomBlocks → ℕ → Type 0

@@ -7,6 +7,7 @@ mod broom_steps;
 mod erasing;
 mod flash;
 mod gate;
+mod inspecting;
 mod notes;
 mod open;
 mod pass;
@@ -17,6 +18,7 @@ mod retired;
 mod retired_broom;
 mod spares;
 mod steps;
+mod taking;
 
 pub use broom_seat::{BroomBlocks, BroomSeat, ReclaimedBlock, Reclaiming};
 pub use flash::Flash;

@@ -1,5 +1,5 @@
 //! The steps by which a broom loads the state of a block, claims it and is done with draining it, one atomic operation each.
-ghost use Rattle.std.specs.Prelude.{◌≡◌, ◌<◌, ◌≤◌, [], ◌∷◌, ◌++◌, MatchBool};
+ghost use Rattle.std.specs.Prelude.{◌≡◌, ◌<◌, ◌≤◌, ◌⊎◌, [], ◌∷◌, ◌++◌, MatchBool};
 ghost use Rattle.geometry.specs.Geometry.{blocks_of, pages_of, endurance_of};
 ghost use Rattle.geometry.specs.PinWords.{FitsPin, pin_word};
 ghost use Rattle.geometry.specs.declared.pin_word.Phase.TheVariants as phase;
@@ -8,7 +8,7 @@ ghost use Rattle.flash_table.specs.GivingUp.{left_drained};
 ghost use Rattle.flash_table.specs.Flash.{IsBroomOf, broom_view, own_blocks, geometry_of};
 ghost use Rattle.flash_table.specs.declared.broom_seat.ReclaimedBlock.{ReclaimedBlock};
 ghost use Rattle.flash_table.specs.declared.broom_seat.Reclaiming.TheVariants as reclaiming;
-ghost use Rattle.flash_table.specs.Steps.{IsClaimed, IsCleared, NowDrains};
+ghost use Rattle.flash_table.specs.Steps.{HasInspected, IsClaimed, IsCleared, NowDrains};
 
 use crate::broom_seat::{BroomSeat, ReclaimedBlock, Reclaiming};
 use crate::flash::Flash;
@@ -63,10 +63,11 @@ impl Flash {
         true
     }
 
-    /// Gives up the victim after all its counted pages are dead.
+    /// Gives up the victim after all its counted pages are dead, or after it was inspected.
     pub fn drain(&self, broom: &mut BroomSeat)
         requires broom { IsBroomOf self.now broom.old }
-        requires cleared { IsCleared (geometry_of self.now) (broom_view broom.old) (own_blocks broom.old) }
+        requires emptied { IsCleared (geometry_of self.now) (broom_view broom.old) (own_blocks broom.old)
+            ⊎ HasInspected (geometry_of self.now) (broom_view broom.old) (own_blocks broom.old) }
         ensures drained { (o : ReclaimedBlock) → (own_blocks broom.old).reclaiming ≡ reclaiming.Draining o
             → broom_view broom.new ≡ left_drained (broom_view broom.old) o }
         ensures blocks { own_blocks broom.new ≡ record (own_blocks broom.old) { reclaiming = reclaiming.Nothing } }

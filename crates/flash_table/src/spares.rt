@@ -7,9 +7,6 @@ ghost use Rattle.flash_table.specs.Spares.{SpareTold};
 use crate::broom_seat::{BroomBlocks, BroomSeat};
 use crate::flash::Flash;
 use crate::pass::OpenBlock;
-use crate::steps::generation_if_free;
-use flash_rule::Take;
-use geometry::{TAKEN, pin_at};
 
 impl Flash {
     /// Takes a block as the broom's spare if it is free. Returns whether it did.
@@ -20,25 +17,18 @@ impl Flash {
         ensures spare { SpareTold (broom_view broom.old) (own_blocks broom.old) block result (broom_view broom.new) (own_blocks broom.new) }
         ensures broom { IsBroomOf self.now broom.new }
     {
-        let word = pin_at(&self.geometry, block);
-        let found = self
-            .table
-            .shared
-            .fetch_or::<Take>(&mut broom.seat, word, TAKEN);
-        match generation_if_free(found) {
-            Some(generation) => {
-                broom.blocks = BroomBlocks {
-                    destination: broom.blocks.destination,
-                    spare: Some(OpenBlock {
-                        block,
-                        generation,
-                        written: 0,
-                    }),
-                    reclaiming: broom.blocks.reclaiming,
-                };
-                true
-            }
-            None => false,
-        }
+        let Some(generation) = self.take_free(&mut broom.seat, block) else {
+            return false;
+        };
+        broom.blocks = BroomBlocks {
+            destination: broom.blocks.destination,
+            spare: Some(OpenBlock {
+                block,
+                generation,
+                written: 0,
+            }),
+            reclaiming: broom.blocks.reclaiming,
+        };
+        true
     }
 }

@@ -1,8 +1,5 @@
-//! The steps of a pass, one atomic operation each.
-ghost use Rattle.std.specs.Prelude.{◌≡◌, ℕ, ◌+◌, ◌<◌, List, [], ◌∷◌, ◌++◌, true, IfSome, IfNone, Some, None};
-ghost use Rattle.geometry.specs.PinWords.{FitsPin, pin_word};
-ghost use Rattle.geometry.specs.declared.pin_word.PinWord.{PinWord};
-ghost use Rattle.geometry.specs.declared.pin_word.Phase.TheVariants as phase;
+//! The steps of a pass, one atomic operation each, except a take.
+ghost use Rattle.std.specs.Prelude.{◌≡◌, ℕ, ◌+◌, ◌<◌, List, [], ◌∷◌, ◌++◌, true, IfSome, Some, None};
 ghost use Rattle.geometry.specs.Geometry.{numbers_of, sectors_of, blocks_of};
 ghost use Rattle.geometry.specs.TableOrder.{page_index};
 ghost use Rattle.geometry.specs.MapWords.{FitsMap};
@@ -18,8 +15,8 @@ ghost use Rattle.flash_table.specs.Steps.{CanGiveUp, HasCalled, HasNumber, HasPu
 
 use crate::flash::Flash;
 use crate::pass::{OpenBlock, Pass};
-use flash_rule::{Close, Count, Look, PlaceNew, PlaceTrim, PlaceWrite, PutWord, Take};
-use geometry::{MapWord, NEXT_PHASE, PAGE_WRITTEN, Phase, PinWord, TAKEN, UNMAPPED, Was, pin_at};
+use flash_rule::{Close, Count, Look, PlaceNew, PlaceTrim, PlaceWrite, PutWord};
+use geometry::{MapWord, NEXT_PHASE, PAGE_WRITTEN, UNMAPPED, Was, pin_at};
 
 // What a sector was, by the word that was found there.
 fn was_by(found: u64) -> Was
@@ -30,19 +27,6 @@ fn was_by(found: u64) -> Was
         Was::Empty
     } else {
         Was::Written
-    }
-}
-
-// The generation of a block that the word says is free.
-pub(crate) fn generation_if_free(word: u64) -> Option<u32>
-    ensures some { IfSome result (λ n. (state : PinWord) × FitsPin state × (pin_word state ≡ word) × (state.phase ≡ phase.Free) × (state.generation ≡ n)) }
-    ensures none { IfNone result ((state : PinWord) → FitsPin state → pin_word state ≡ word → ¬ (state.phase ≡ phase.Free)) }
-{
-    let state = PinWord::unpack(word)?;
-    if state.phase == Phase::Free {
-        Some(state.generation)
-    } else {
-        None
     }
 }
 
@@ -115,7 +99,7 @@ impl Flash {
         was_by(found)
     }
 
-    /// Takes a block if it is free. Returns whether it did.
+    /// Takes a block if it is free. Returns whether it did. A load that finds the block taken is all that this does.
     pub fn take(&self, pass: &mut Pass, block: u32) -> bool
         requires pass { IsPassOf self.now pass.old }
         requires nothing_open { opened_of pass.old ≡ None }
@@ -123,22 +107,15 @@ impl Flash {
         ensures told { TakeTold (view_of pass.old) block result (view_of pass.new) (opened_of pass.new) }
         ensures pass { IsPassOf self.now pass.new }
     {
-        let word = pin_at(&self.geometry, block);
-        let found = self
-            .table
-            .shared
-            .fetch_or::<Take>(&mut pass.seat, word, TAKEN);
-        match generation_if_free(found) {
-            Some(generation) => {
-                pass.opened = Some(OpenBlock {
-                    block,
-                    generation,
-                    written: 0,
-                });
-                true
-            }
-            None => false,
-        }
+        let Some(generation) = self.take_free(&mut pass.seat, block) else {
+            return false;
+        };
+        pass.opened = Some(OpenBlock {
+            block,
+            generation,
+            written: 0,
+        });
+        true
     }
 
     /// Stores word `i` of the open block's first page that isn't written, whose words begin at `start`. The stamp comes after the data words.

@@ -1,20 +1,19 @@
 -- The collection that a write makes is the one that was due.
 use Rattle.std.proofs.Common.{◌≡◌, ◌≢◌, ℕ, ◌+◌, ◌<◌, ◌≤◌, Bool, true, false, cond, eqb, ltb, List, length, get_or, map, Option}
 use Rattle.std.proofs.Common.{None, Some, sym, ap, ◌∙◌, refl, inl, inr, subst, arith, length-set, zero-add}
-use Rattle.std.specs.Prelude.{is_some, nat_lt, option_map}
+use Rattle.std.specs.Prelude.{is_some, option_map}
 use Rattle.std.specs.Option.{option_and_then}
-use Rattle.std.specs.List.{position, position_or_len, range_with_len}
+use Rattle.std.specs.List.{position_or_len, range_with_len}
 use Rattle.std.proofs.lemmas.List.{length-map, get_or-map, get_or_past}
 use Rattle.std.proofs.lemmas.List.FromFn.{get_or-range_with_len, length-range_with_len}
 use Rattle.std.proofs.lemmas.List.Sums.{position_or_len_is}
 use Rattle.std.proofs.lemmas.List.Quantifiers.{position-Some}
 use Rattle.std.proofs.lemmas.Bool.{false≢true, cases_lt}
 use Rattle.std.proofs.lemmas.Bool.Decides.{nat_tests}
-use Rattle.geometry.specs.Geometry.{endurance_of, lun_of, pages_of}
+use Rattle.geometry.specs.Geometry.{endurance_of, pages_of}
 use Rattle.geometry.specs.declared.geometry.Geometry.{Geometry}
 use Rattle.ftl_one.specs.declared.collection.Collection.{Collection}
-use Rattle.ftl_one.specs.declared.role.Role.{Role}
-use Rattle.ftl_one.specs.declared.role.Role.TheVariants.{Closed, Open, Retired, Spare}
+use Rattle.ftl_one.specs.declared.role.Role.TheVariants.{Retired, Spare}
 use Rattle.ftl_one.specs.Collections.{collection_between, collection_due, collection_into, collection_of, copybacks_into, due_by, erased_between, was_erased}
 use Rattle.ftl_one.specs.Laws.{block_at, Collects, ErasesNothing}
 use Rattle.ftl_one.specs.Stock.{Block, Stock, change_at, closed_if_full, collect, collected, emptied, filled, forget, free_of, is_open, is_retired}

@@ -29,6 +29,7 @@ impl Model for MapEntry {
 
 impl MapEntry {
     /// The entry that names no page.
+    #[tactic(auto, unfolding(crate::specs::MapEntries::named_by))]
     pub fn none() -> MapEntry
         ensures { result ≡ None }
     {

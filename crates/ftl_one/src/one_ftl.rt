@@ -70,6 +70,7 @@ impl OneFtl {
     ghost use Rattle.ftl_one.specs.Stock.{Stock, next, opening, opened, open_of, free_of, spare_of, victim_of, ready, collect, write_of, live_of, is_retired};
 
     /// A layer with every sector empty.
+    #[tactic(auto, unfolding(crate::specs::OneFtl::geometry_of, crate::specs::OneFtl::array_of))]
     pub fn new(alloc: Global, geometry: &Geometry) -> Result<OneFtl, AllocError>
         requires { hosts_of geometry.now ≡ 0 }
         ensures geometry { IfOk result (λ ftl. geometry_of ftl ≡ geometry.now) }
@@ -95,6 +96,7 @@ impl OneFtl {
     }
 
     /// The numbers that the layer was made with: how many sectors it has, and the size of a page.
+    #[tactic(auto, unfolding(crate::specs::OneFtl::geometry_of))]
     pub fn geometry(&self) -> Geometry
         ensures value { result ≡ geometry_of self.now }
         ensures sectors { length (array_of self.now) ≡ sectors_of (geometry_of self.now) }
@@ -103,6 +105,7 @@ impl OneFtl {
     }
 
     /// Reads a sector into `out`, a buffer of one page.
+    #[tactic(auto, unfolding(crate::specs::OneFtl::geometry_of, crate::specs::OneFtl::array_of))]
     pub fn read(&self, sector: u32, out: &mut [u8]) -> Got
         requires sector { sector < sectors_of (geometry_of self.now) }
         requires page { length out.old ≡ page_bytes_of (geometry_of self.now) }
@@ -112,6 +115,7 @@ impl OneFtl {
     }
 
     /// The page of a sector, without a copy, or none for an empty sector.
+    #[tactic(auto, unfolding(crate::specs::OneFtl::geometry_of, crate::specs::OneFtl::array_of))]
     pub fn page(&self, sector: u32) -> Option<&[u8]>
         requires { sector < sectors_of (geometry_of self.now) }
         ensures some { IfSome result (λ page. sector_at (array_of self.now) sector ≡ Some page.now) }
@@ -155,6 +159,7 @@ impl OneFtl {
     }
 
     /// Writes a sector if it is empty; otherwise nothing is programmed.
+    #[tactic(auto, unfolding(crate::specs::OneFtl::geometry_of, crate::specs::OneFtl::array_of))]
     pub fn write_new(&mut self, sector: u32, bytes: &[u8]) -> Result<(), NewOneFault>
         requires sector { sector < sectors_of (geometry_of self.old) }
         requires page { length bytes.now ≡ page_bytes_of (geometry_of self.old) }
@@ -185,6 +190,7 @@ impl OneFtl {
     }
 
     /// Empties a sector, and returns what it was.
+    #[tactic(auto, unfolding(crate::specs::OneFtl::geometry_of, crate::specs::OneFtl::array_of))]
     pub fn trim(&mut self, sector: u32) -> Was
         requires sector { sector < sectors_of (geometry_of self.old) }
         ensures geometry { geometry_of self.new ≡ geometry_of self.old }
@@ -196,6 +202,7 @@ impl OneFtl {
     }
 
     /// What the layer has done so far.
+    #[tactic(auto, unfolding(crate::specs::OneFtl::stock_of))]
     pub fn counts(&self) -> Counts
         ensures programs { result.programs ≡ (stock_of self.now).programs }
         ensures copies { result.copies ≡ (stock_of self.now).copies }
@@ -205,6 +212,7 @@ impl OneFtl {
     }
 
     /// How many erase commands a block has had, including the one that failed.
+    #[tactic(auto, unfolding(crate::specs::OneFtl::geometry_of))]
     pub fn erases(&self, block: u32) -> u32
         requires { block < blocks_of (geometry_of self.now) }
         ensures { result ≡ (block_at (stock_of self.now) block).erases }
@@ -213,6 +221,7 @@ impl OneFtl {
     }
 
     /// How many pages of a block are the current page of a sector.
+    #[tactic(auto, unfolding(crate::specs::OneFtl::geometry_of))]
     pub fn live(&self, block: u32) -> u32
         requires { block < blocks_of (geometry_of self.now) }
         ensures { result ≡ live_of (block_at (stock_of self.now) block) }
@@ -235,6 +244,7 @@ impl OneFtl {
     }
 
     /// Whether a block's last erase has failed, so that it is never used again.
+    #[tactic(auto, unfolding(crate::specs::OneFtl::geometry_of))]
     pub fn retired(&self, block: u32) -> bool
         requires { block < blocks_of (geometry_of self.now) }
         ensures { result ≡ is_retired (block_at (stock_of self.now) block).role }
@@ -299,6 +309,7 @@ impl OneFtl {
     }
 
     // Opens a free block.
+    #[tactic(auto, unfolding(crate::specs::OneFtl::geometry_of, crate::specs::OneFtl::array_of))]
     fn open(&mut self, block: u32)
         requires none { open_of (stock_of self.old).blocks ≡ None }
         requires free { free_of (stock_of self.old).blocks ≡ Some block }
@@ -313,6 +324,7 @@ impl OneFtl {
     }
 
     // Copies the greedy victim's live pages into the spare, which is the open block then, and erases it.
+    #[tactic(auto, unfolding(crate::specs::OneFtl::array_of))]
     fn collect(&mut self, spare: u32)
         requires none { open_of (stock_of self.old).blocks ≡ None }
         requires no_free { free_of (stock_of self.old).blocks ≡ None }
@@ -334,6 +346,7 @@ impl OneFtl {
     }
 
     // Programs the open block's next page for a sector, and closes the block if it is full then.
+    #[tactic(auto, unfolding(crate::specs::OneFtl::geometry_of, crate::specs::OneFtl::array_of))]
     fn write_into(&mut self, block: u32, sector: u32, bytes: &[u8]) -> Was
         requires opened { open_of (stock_of self.old).blocks ≡ Some block }
         requires sector { sector < sectors_of (geometry_of self.old) }

@@ -52,6 +52,7 @@ impl Store {
     }
 
     /// The counts of live pages, block by block.
+    #[tactic(auto, unfolding(crate::specs::Store::counts_of))]
     pub fn live(&self) -> &[u16]
         ensures value { result.now ≡ counts_of self.now }
         ensures size { length result.now ≡ blocks_of (geometry_of self.now) }
@@ -60,6 +61,7 @@ impl Store {
     }
 
     /// How many erase commands a block has had.
+    #[tactic(auto, unfolding(crate::specs::Store::erases_of))]
     pub fn erases(&self, block: u32) -> u32
         requires { block < blocks_of (geometry_of self.now) }
         ensures { result ≡ erases_of self.now block }
@@ -100,6 +102,7 @@ impl Store {
     }
 
     /// Empties a sector, and returns what it was.
+    #[tactic(auto, unfolding(crate::specs::Store::erases_of, crate::specs::Store::retired_of))]
     pub fn forget(&mut self, sector: u32) -> Was
         requires { sector < sectors_of (geometry_of self.old) }
         ensures answer { result ≡ was_of (sector_at (array_of self.old) sector) }

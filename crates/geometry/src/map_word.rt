@@ -32,6 +32,7 @@ pub struct MapWord {
 }
 
 impl MapWord {
+    /// The word of a sector that has this page.
     pub fn pack(self) -> u64
         requires { FitsMap self }
         ensures { result ≡ map_word self }

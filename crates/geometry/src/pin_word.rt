@@ -108,6 +108,7 @@ impl Phase {
 }
 
 impl PinWord {
+    /// The word of a block in this state.
     pub fn pack(self) -> u64
         requires { FitsPin self }
         ensures { result ≡ pin_word self }

@@ -75,8 +75,7 @@ Wrote v t s value answer w = Programmed v (Write t s value) s answer w
 abbrev pub WroteNew : View → ℕ → ℕ → List ℕ → Was → View → Type 0
 WroteNew v t s value answer w = Programmed v (WriteNew t s value) s answer w
 
--- A write that found no block: the pass had none open, each block, in order, was found taken by a take of this call, and nothing else has
--- changed
+-- A write that found no block: the pass had none open, each block, in order, was found taken by this call, and nothing else has changed
 pub record Refused (v : View) (w : View) : Type 0 where
   pub changed : w ≡ record v { denied = w.denied }
   pub nothing_open : v.owns ≡ []

@@ -8,6 +8,8 @@ mod searching;
 mod writing;
 mod writing_new;
 
+pub use flash_table::{Flash, Gate, NoGate, Pass, Point, Retired};
+pub use geometry::{Got, PageAddr, Was};
 pub use holding::{Held, Holding, copy_into, hold, release, word};
 pub use meeting::{meet, meet_holding, retire};
 pub use reading::{ReadDone, look, read, read_gated};

@@ -3,6 +3,9 @@ use Rattle.std.proofs.Common.{◌≡◌, ℕ, All, Bool, true, false, List, [], 
 use Rattle.std.proofs.lemmas.List.Elements.{All-head, All-tail}
 use Rattle.geometry.specs.History.{Call, Write, WriteNew, Trim, held, Begins}
 use Rattle.geometry.proofs.Histories.{Begins-refl, Begins-trans, held_by_new, held_by_trim, held_by_write}
+use Rattle.geometry.specs.Limits.{Numbers}
+use Rattle.geometry.specs.PinWords.{pin_word}
+use Rattle.geometry.specs.declared.pin_word.PinWord.{PinWord}
 use Rattle.flash_rule.specs.Views.{AreOfHosts}
 use Rattle.flash_rule.specs.declared.view.View.{View}
 use Rattle.broom.specs.declared.broom.Broom.{Broom}
@@ -10,8 +13,11 @@ use Rattle.broom.specs.declared.answer.Drain.{Drain}
 use Rattle.broom.specs.declared.answer.Drain.TheVariants as drain
 use Rattle.broom.specs.declared.answer.Erase.{Erase}
 use Rattle.broom.specs.declared.answer.Erase.TheVariants as erase
+use Rattle.broom.specs.Dead.{DeadBySurvey, DeadTold, InspectedTold}
 use Rattle.broom.specs.Erasing.{EraseTold}
 use Rattle.broom.specs.Handing.{DrainedAfterPut, DrainOneTold, EraseOneTold, FetchedAndErased, IsElse, TurnTold}
+use Rattle.broom.proofs.Loading.{loaded_changes}
+use Rattle.broom.specs.Loading.{AllLoaded, StateLoaded}
 use Rattle.broom.specs.Meeting.{BroomsMet}
 use Rattle.broom.specs.Ready.{view_of_broom}
 use Rattle.broom.specs.Restocking.{RestockTold}
@@ -64,6 +70,40 @@ next_drained b a drain.NoSpare t hosts = same (view_of_broom b) (view_of_broom a
 next_drained b a drain.Lost t hosts = still (view_of_broom b) (view_of_broom a) (ap (λ (x : View). x.seen) t.2) (ap (λ (x : View). x.mine) t.2) hosts
 next_drained b a drain.QueueFull t hosts = absurd t
 
+-- where it had seen more by a survey, and saw no more behind it
+behind : (v u w : View) → Begins v.seen u.seen → u.mine ≡ v.mine → (w.seen ≡ u.seen) × (w.mine ≡ u.mine) → AreOfHosts w.numbers w.seen → LeavesArray v w
+behind v u w later mine same hosts = leaves v w (subst (λ (h : List Call). Begins v.seen h) (sym same.0) later) hosts (same.1 ∙ mine)
+
+-- a drain of an inspected block sees nothing of the history
+inspected : (r a : Broom) (block : ℕ) (answer : Drain) → InspectedTold r block answer a
+    → ((view_of_broom a).seen ≡ (view_of_broom r).seen) × ((view_of_broom a).mine ≡ (view_of_broom r).mine)
+inspected r a block (drain.Drained one copied) t = (ap (λ (x : View). x.seen) t.2.changed, ap (λ (x : View). x.mine) t.2.changed)
+inspected r a block drain.NothingToGain t = absurd t
+inspected r a block drain.NoSpare t = (ap (λ (x : View). x.seen) t.0.stopped.changed, ap (λ (x : View). x.mine) t.0.stopped.changed)
+inspected r a block drain.Lost t = elim t.0 [
+  | inl other ↦ (ap (λ (x : View). x.seen) other.changed, ap (λ (x : View). x.mine) other.changed)
+  | inr lost ↦ (ap (λ (x : View). x.seen) lost.changed, ap (λ (x : View). x.mine) lost.changed)
+]
+inspected r a block drain.QueueFull t = absurd t
+
+surveyed : (b a : Broom) (answer : Drain) → DeadBySurvey b answer a → AreOfHosts (view_of_broom a).numbers (view_of_broom a).seen
+    → LeavesArray (view_of_broom b) (view_of_broom a)
+surveyed b a answer t hosts =
+    let chosen = t.2.chosen in
+    behind (view_of_broom b) (view_of_broom t.1) (view_of_broom a) chosen.made.later (ap (λ (x : View). x.mine) chosen.changed)
+    (inspected t.1 a t.0 answer t.4) hosts
+
+pub dead_drained : (b a : Broom) (answer : Drain) → DeadTold b answer a → AreOfHosts (view_of_broom a).numbers (view_of_broom a).seen
+    → LeavesArray (view_of_broom b) (view_of_broom a)
+dead_drained b a (drain.Drained block copied) t hosts = surveyed b a (drain.Drained block copied) t hosts
+dead_drained b a drain.NothingToGain t hosts = leaves (view_of_broom b) (view_of_broom a) t.0.made.later hosts (ap (λ (x : View). x.mine) t.0.changed)
+dead_drained b a drain.NoSpare t hosts = elim t [
+  | inl live ↦ leaves (view_of_broom b) (view_of_broom a) live.1.chosen.made.later hosts (ap (λ (x : View). x.mine) live.1.chosen.changed)
+  | inr told ↦ surveyed b a drain.NoSpare told hosts
+]
+dead_drained b a drain.Lost t hosts = surveyed b a drain.Lost t hosts
+dead_drained b a drain.QueueFull t hosts = absurd t
+
 -- an erase loads and stores words of blocks alone
 by_change : (v w x : View) → w ≡ x → x.seen ≡ v.seen → x.mine ≡ v.mine → AreOfHosts w.numbers w.seen → LeavesArray v w
 by_change v w x is seen mine hosts = still v w (ap (λ (y : View). y.seen) is ∙ seen) (ap (λ (y : View). y.mine) is ∙ mine) hosts
@@ -84,6 +124,17 @@ restocked b a true t hosts = elim t [
   | inr took ↦ by_change (view_of_broom b) (view_of_broom a) _ took.changed refl refl hosts
 ]
 restocked b a false t hosts = by_change (view_of_broom b) (view_of_broom a) _ t.changed refl refl hosts
+
+-- a load of a block's state changes no sector
+pub loaded : (b a : Broom) (block : ℕ) (state : PinWord) → StateLoaded b block state a → AreOfHosts (view_of_broom a).numbers (view_of_broom a).seen
+    → LeavesArray (view_of_broom b) (view_of_broom a)
+loaded b a block state t hosts =
+    by_change (view_of_broom b) (view_of_broom a) _ (loaded_changes (view_of_broom b) (view_of_broom a) block (pin_word state) t.loaded) refl refl hosts
+
+-- and neither does a load of each block's state
+pub all_loaded : (z : Numbers) (b a : Broom) (states : List PinWord) → AllLoaded z b states a → AreOfHosts (view_of_broom a).numbers (view_of_broom a).seen
+    → LeavesArray (view_of_broom b) (view_of_broom a)
+all_loaded z b a states t hosts = by_change (view_of_broom b) (view_of_broom a) _ t.changed refl refl hosts
 
 -- ---- turns
 -- what the queue has to do with a turn is nothing that the view knows

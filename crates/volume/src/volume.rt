@@ -7,10 +7,10 @@ ghost use Rattle.flash_table.specs.Steps.{HasCalled, HasNumber};
 
 use crate::closing::retire_all;
 use crate::opening::make_brooms;
-use broom::{Broom, Drain, Erase, Folded};
+use broom::{BlockCounts, Broom, Drain, Erase, Folded};
 use erase_queue::{EraseQueue, QueuePass};
 use flash_table::{Flash, Gate, Pass, Retired};
-use geometry::{Geometry, Was};
+use geometry::{Geometry, PinWord, Was};
 use host::{Held, Holding, NewFault, NoBlock, ReadDone};
 use std::alloc::{AllocError, Global};
 use std::sync::Wait;
@@ -30,6 +30,7 @@ impl Volume {
     ghost use Rattle.geometry.specs.History as call;
     ghost use Rattle.geometry.specs.History.{held};
     ghost use Rattle.geometry.specs.Sectors.{Answers};
+    ghost use Rattle.geometry.specs.declared.pin_word.PinWord.{PinWord};
     ghost use Rattle.flash_rule.specs.declared.facts.Pin.TheVariants as pin;
     ghost use Rattle.flash_rule.specs.World.{data_word};
     ghost use Rattle.flash_rule.specs.Seats.{carried};
@@ -42,10 +43,12 @@ impl Volume {
     ghost use Rattle.broom.specs.Ends.{folded_view, folded_place};
     ghost use Rattle.broom.specs.Erasing.{EraseTold};
     ghost use Rattle.broom.specs.Told.{DrainTold, NextTold, KeepsSurvey, SurveyLeft, Unmarks};
+    ghost use Rattle.broom.specs.Dead.{DeadTold};
     ghost use Rattle.broom.specs.Restocking.{RestockTold};
     ghost use Rattle.broom.specs.Meeting.{StoodTold, BroomsMet};
     ghost use Rattle.broom.specs.Handing.{DrainNextOneTold, DrainOneTold, EraseOneTold, HandsNothing, IsBelow, LeftAt, aside_of, place_of};
-    ghost use Rattle.broom.specs.Ready.{view_of_broom, blocks_of_broom};
+    ghost use Rattle.broom.specs.Loading.{AllLoaded, StateLoaded, counts_in};
+    ghost use Rattle.broom.specs.Ready.{IsInRange, view_of_broom, blocks_of_broom};
     ghost use Rattle.host.specs.Ready.{IsReady};
     ghost use Rattle.host.specs.Told.{Searched, Wrote, WroteNew, Refused, MetHolding, MetTold, was_found};
     ghost use Rattle.host.specs.declared.writing_new.NewFault.TheVariants as fault;
@@ -381,6 +384,20 @@ impl Volume {
         broom::drain_next(&self.flash, broom, gate)
     }
 
+    /// Surveys the device, and drains the closed block with the fewest live pages if it has none. It needs no spare, and looks at each sector once
+    /// more. It calls its gate before the claim. `NoSpare` means that the block has a live page.
+    #[tactic(auto, using(crate::proofs::Queued::still_ready))]
+    pub fn drain_dead<G: Gate>(&self, broom: &mut Broom, gate: &mut G) -> Drain
+        requires { IsBroomReady self.now broom.old }
+        ensures told { DeadTold broom.old result broom.new }
+        ensures ready { IsBroomReady self.now broom.new }
+        ensures array { LeavesArray (view_of_broom broom.old) (view_of_broom broom.new) }
+        ensures queue { HandsNothing broom.old broom.new }
+        ensures block { IsBelow (blocks_of (geometry_of (flash_of self.now))) result }
+    {
+        broom::drain_dead(&self.flash, broom, gate)
+    }
+
     /// Erases a drained block that nobody reads. It calls its gate after it has loaded the block's state, before it condemns the block.
     #[tactic(auto, using(crate::proofs::Queued::still_ready))]
     pub fn erase<G: Gate>(&self, broom: &mut Broom, block: u32, gate: &mut G) -> Erase
@@ -406,6 +423,32 @@ impl Volume {
         ensures survey { KeepsSurvey broom.old broom.new }
     {
         broom::restock(&self.flash, broom)
+    }
+
+    /// Loads the state of a block. The broom keeps its last survey; only if the block's state is another one than there, its mark goes.
+    #[tactic(auto, using(crate::proofs::Queued::still_ready))]
+    pub fn load_state(&self, broom: &mut Broom, block: u32) -> PinWord
+        requires broom { IsBroomReady self.now broom.old }
+        requires block { block < blocks_of (geometry_of (flash_of self.now)) }
+        ensures told { StateLoaded broom.old block result broom.new }
+        ensures range { IsInRange (device (flash_of self.now)) result }
+        ensures ready { IsBroomReady self.now broom.new }
+        ensures array { LeavesArray (view_of_broom broom.old) (view_of_broom broom.new) }
+        ensures queue { HandsNothing broom.old broom.new }
+    {
+        broom::load_state(&self.flash, broom, block)
+    }
+
+    /// Loads the state of each block, in order, and counts the blocks by their phases. The broom keeps its last survey, as by a single load.
+    #[tactic(auto, using(crate::proofs::Queued::still_ready))]
+    pub fn count_blocks(&self, broom: &mut Broom) -> BlockCounts
+        requires { IsBroomReady self.now broom.old }
+        ensures told { (states : List PinWord) × AllLoaded (device (flash_of self.now)) broom.old states broom.new × (result ≡ counts_in states) }
+        ensures ready { IsBroomReady self.now broom.new }
+        ensures array { LeavesArray (view_of_broom broom.old) (view_of_broom broom.new) }
+        ensures queue { HandsNothing broom.old broom.new }
+    {
+        broom::count_blocks(&self.flash, broom)
     }
 
     /// Drains a block and puts it into the queue of drained blocks, or sets it aside if the queue is full. A block that is already set aside is put

@@ -1,4 +1,4 @@
-use Rattle.std.proofs.Common.{false, set, refl, ap, ◌∙◌, arith, length-set}
+use Rattle.std.proofs.Common.{false, set, inl, refl, ap, ◌∙◌, arith, length-set}
 use Rattle.flash_rule.specs.declared.view.View.{View}
 use Rattle.flash_rule.specs.Views.{without, with_owned}
 use Rattle.flash_rule.specs.BroomPlays.{owned_as}
@@ -59,12 +59,12 @@ swept g c =
 pub drain-requires-clause-broom : goal.drain-requires-clause-broom
 drain-requires-clause-broom g c = (swept g (goal.at.drain-requires-clause-broom g c).After-relocate-copied).seat
 
-pub drain-requires-clause-cleared : goal.drain-requires-clause-cleared
-drain-requires-clause-cleared g c =
-    let at = (goal.at.drain-requires-clause-cleared g c).After-relocate-copied in
+pub drain-requires-clause-emptied : goal.drain-requires-clause-emptied
+drain-requires-clause-emptied g c =
+    let at = (goal.at.drain-requires-clause-emptied g c).After-relocate-copied in
     let x = victim_of_state c.args.flash.now c.args.broom.now c.args.block c.requires.ready c.requires.marked c.index-state.result.now c.index-state.ensures in
     let h = swept g at in
-    let all = c.relocate-copied.ensures.cleared x (sweeping g (goal.at.After-relocate-copied g at).Else-not-claim) in (x, h.draining, (h.low, omega arith))
+    let all = c.relocate-copied.ensures.cleared x (sweeping g (goal.at.After-relocate-copied g at).Else-not-claim) in inl (x, h.draining, (h.low, omega arith))
 
 pub returns-clause-told : goal.returns-clause-told
 returns-clause-told g c =

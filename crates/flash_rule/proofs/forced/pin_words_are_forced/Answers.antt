@@ -1,6 +1,9 @@
-use Rattle.flash_rule.proofs.Forcing.{takes_forced, pins_forced, unpins_forced, counts_forced, closes_forced, claims_forced, drains_forced}
+use Rattle.flash_rule.proofs.Forcing.{tests_forced, takes_forced, pins_forced, unpins_forced, counts_forced, closes_forced, claims_forced, drains_forced}
 use Rattle.flash_rule.proofs.Forcing.{condemns_forced, frees_forced, keeps_forced, retires_forced}
 use Rattle.flash_rule.proofs.forced.pin_words_are_forced.Goals as goal
+
+pub returns-clause-tests : goal.returns-clause-tests
+returns-clause-tests c = tests_forced
 
 pub returns-clause-takes : goal.returns-clause-takes
 returns-clause-takes c = takes_forced

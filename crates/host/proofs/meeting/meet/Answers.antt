@@ -52,30 +52,3 @@ returns-clause-first c = grind (arith, common_steps)
 
 pub returns-clause-second : goal.returns-clause-second
 returns-clause-second c = grind (arith, common_steps)
-
-pub lend-note-requires-clause-pass : goal.lend-note-requires-clause-pass
-lend-note-requires-clause-pass c = c.requires.second.rested.pass
-
-pub lend-note-requires-clause-whole : goal.lend-note-requires-clause-whole
-lend-note-requires-clause-whole c = c.requires.second.rested.whole
-
-pub lend-note-requires-clause-alone : goal.lend-note-requires-clause-alone
-lend-note-requires-clause-alone c = c.requires.second.rested.alone
-
-pub take_in-requires-clause-pass : goal.take_in-requires-clause-pass
-take_in-requires-clause-pass c = c.requires.first.rested.pass
-
-pub take_in-requires-clause-whole : goal.take_in-requires-clause-whole
-take_in-requires-clause-whole c = c.requires.first.rested.whole
-
-pub look-requires-clause-pass : goal.look-requires-clause-pass
-look-requires-clause-pass c = c.take_in.ensures.pass
-
-pub give_back-note-requires-clause-pass : goal.give_back-note-requires-clause-pass
-give_back-note-requires-clause-pass c = c.look.ensures.pass
-
-pub come_home-requires-clause-pass : goal.come_home-requires-clause-pass
-come_home-requires-clause-pass c = c.lend-note.ensures.pass
-
-pub look-requires-2-clause-pass : goal.look-requires-2-clause-pass
-look-requires-2-clause-pass c = c.come_home.ensures.pass

@@ -46,27 +46,3 @@ returns-clause-spared c =
     let f = c.args.flash.now in
     let words : c.words-i-end.result ≡ words_of (geometry_of f) = c.words-i-end.ensures.value ∙ ap words_of c.geometry.ensures in
     let some = (geometry_of f).in_limits.words_low in c.loop-i.invariant.spared (omega arith)
-
-pub page_start-start-requires-clause-block : goal.page_start-start-requires-clause-block
-page_start-start-requires-clause-block c = c.requires.pinned.1.block
-
-pub page_start-start-requires-clause-page : goal.page_start-start-requires-clause-page
-page_start-start-requires-clause-page c = c.requires.pinned.1.page
-
-pub get_word-word-requires-clause-pass : goal.get_word-word-requires-clause-pass
-get_word-word-requires-clause-pass c = c.loop-i.invariant.pass
-
-pub get_word-word-requires-clause-block : goal.get_word-word-requires-clause-block
-get_word-word-requires-clause-block c = c.requires.pinned.1.block
-
-pub get_word-word-requires-clause-page : goal.get_word-word-requires-clause-page
-get_word-word-requires-clause-page c = c.requires.pinned.1.page
-
-pub get_word-word-requires-clause-start : goal.get_word-word-requires-clause-start
-get_word-word-requires-clause-start c = c.page_start-start.ensures
-
-pub returns-clause-same : goal.returns-clause-same
-returns-clause-same c = c.loop-i.invariant.same
-
-pub returns-clause-opened : goal.returns-clause-opened
-returns-clause-opened c = c.loop-i.invariant.opened

@@ -68,18 +68,3 @@ loop-page-preserved g c =
       pass = c.if-pin_in_time.ensures.pass;
       opened = c.if-pin_in_time.ensures.opened ∙ (c.in-Some.ensures.opened ∙ h.opened);
     }
-
-pub look-found-requires-clause-pass : goal.look-found-requires-clause-pass
-look-found-requires-clause-pass g c = c.loop-page.invariant.pass
-
-pub look-found-requires-clause-sector : goal.look-found-requires-clause-sector
-look-found-requires-clause-sector g c = c.requires.sector
-
-pub returns-in_default-clause-found : goal.returns-in_default-clause-found
-returns-in_default-clause-found g c = tt
-
-pub returns-then-pin_in_time-clause-empty : goal.returns-then-pin_in_time-clause-empty
-returns-then-pin_in_time-clause-empty g c = tt
-
-pub pin_in_time-requires-clause-pass : goal.pin_in_time-requires-clause-pass
-pin_in_time-requires-clause-pass g c = c.look-found.ensures.pass

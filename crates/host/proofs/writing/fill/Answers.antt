@@ -131,9 +131,3 @@ returns-clause-filled c o is =
 pub returns-clause-opened : goal.returns-clause-opened
 returns-clause-opened c o is =
     let h = full (goal.at.returns-clause-opened c).After-loop-i o is in c.count.ensures.opened o (c.put_word-2.ensures.opened ∙ h.opened)
-
-pub count-requires-clause-pass : goal.count-requires-clause-pass
-count-requires-clause-pass c = c.put_word-2.ensures.pass
-
-pub returns-clause-pass : goal.returns-clause-pass
-returns-clause-pass c = c.count.ensures.pass

@@ -31,21 +31,3 @@ returns-clause-filled c =
       opened = c.fill.ensures.opened started.0 started.1.opened;
       pass = c.fill.ensures.pass;
     }
-
-pub take_lowest-requires-clause-pass : goal.take_lowest-requires-clause-pass
-take_lowest-requires-clause-pass c = c.requires.pass.rested.pass
-
-pub returns-then-not-take_lowest-clause-filled : goal.returns-then-not-take_lowest-clause-filled
-returns-then-not-take_lowest-clause-filled c = tt
-
-pub returns-then-not-take_lowest-clause-refused : goal.returns-then-not-take_lowest-clause-refused
-returns-then-not-take_lowest-clause-refused c = c.if-not-take_lowest.ensures.told.0
-
-pub fill-requires-clause-page : goal.fill-requires-clause-page
-fill-requires-clause-page c = c.requires.page
-
-pub returns-clause-refused : goal.returns-clause-refused
-returns-clause-refused c = tt
-
-pub returns-clause-ready : goal.returns-clause-ready
-returns-clause-ready c = tt

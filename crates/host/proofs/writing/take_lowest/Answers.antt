@@ -8,6 +8,3 @@ loop-block-preserved c = tried_more c.args.flash.now
 
 pub returns-then-take-clause-pass : goal.returns-then-take-clause-pass
 returns-then-take-clause-pass c = c.take.ensures.pass
-
-pub returns-clause-pass : goal.returns-clause-pass
-returns-clause-pass c = c.loop-block.invariant.pass

@@ -47,24 +47,3 @@ returns-in-Written-clause-wrote g c n is =
 
 pub returns-in-Written-clause-pass : goal.returns-in-Written-clause-pass
 returns-in-Written-clause-pass g c = ready g (goal.at.returns-in-Written-clause-pass g c).After-close_if_full
-
-pub program-requires-clause-pass : goal.program-requires-clause-pass
-program-requires-clause-pass g c = c.requires.pass
-
-pub program-requires-clause-page : goal.program-requires-clause-page
-program-requires-clause-page g c = c.requires.page
-
-pub returns-in_default-clause-wrote : goal.returns-in_default-clause-wrote
-returns-in_default-clause-wrote g c = tt
-
-pub returns-in_default-clause-pass : goal.returns-in_default-clause-pass
-returns-in_default-clause-pass g c = c.in_default.ensures.ready
-
-pub place_new-was-requires-clause-pass : goal.place_new-was-requires-clause-pass
-place_new-was-requires-clause-pass g c = c.in-Some.ensures.filled.pass
-
-pub place_new-was-requires-clause-sector : goal.place_new-was-requires-clause-sector
-place_new-was-requires-clause-sector g c = c.requires.sector
-
-pub close_if_full-requires-clause-pass : goal.close_if_full-requires-clause-pass
-close_if_full-requires-clause-pass g c = c.place_new-was.ensures.pass

@@ -10,7 +10,7 @@ use Rattle.ftl_one.specs.Stock.{Stock, Block, is_free, is_closed, is_retired, vi
 use Rattle.ftl_one.specs.Store as pages
 use Rattle.ftl_one.specs.Lawful.{IsLawful, KnowsSpare, role_in}
 use Rattle.ftl_one.specs.Blocks.{blocks_in, weight}
-use Rattle.ftl_one.specs.OneFtl.{geometry_of, array_of, stock_of}
+use Rattle.ftl_one.specs.OneFtl.{geometry_of, stock_of}
 use Rattle.ftl_one.proofs.FtlLemmas.{open_of-stock, blocks-collect, weight-collect}
 use Rattle.geometry.specs.Greedy.{IsGreedy, IsClosed}
 use Rattle.ftl_one.specs.Stock.{live_of, filled, emptied}
@@ -34,9 +34,6 @@ the_best c = greedy_by c.args.self.now c.args.spare c.requires.none c.requires.n
 pub fewest_beside-victim-requires-clause-left_out : goal.fewest_beside-victim-requires-clause-left_out
 fewest_beside-victim-requires-clause-left_out c =
     omega (arith, spare_within c.args.self.now c.args.spare c.requires.none c.requires.no_free c.requires.spare, c.live.ensures.size)
-
-pub fewest_beside-victim-requires-clause-others : goal.fewest_beside-victim-requires-clause-others
-fewest_beside-victim-requires-clause-others c = omega (arith, c.live.ensures.size, c.args.self.now.store.die.geometry.in_limits.blocks_low)
 
 pub clear-copies-requires-clause-room : goal.clear-copies-requires-clause-room
 clear-copies-requires-clause-room c =
@@ -237,10 +234,6 @@ invariant_of-self c =
 pub returns-clause-geometry : goal.returns-clause-geometry
 unfolding geometry_of
 returns-clause-geometry c = the_geometry (goal.at.returns-clause-geometry c).After-hand_over
-
-pub returns-clause-sectors : goal.returns-clause-sectors
-unfolding array_of
-returns-clause-sectors c = c.erase-failed.ensures.erases.sectors ∙ c.clear-copies.ensures.clears.sectors
 
 pub returns-clause-stock : goal.returns-clause-stock
 unfolding stock_of geometry_of

@@ -1,9 +1,9 @@
-use Rattle.std.proofs.Common.{◌≡◌, ◌≤◌, ◌<◌, ◌∙◌, ℕ, false, List, length, Option, None, Some, sym, ap, subst, refl, arith}
-use Rattle.std.specs.Prelude.{is_some, option_map}
+use Rattle.std.proofs.Common.{◌≡◌, ◌<◌, ◌∙◌, ℕ, false, List, None, Some, sym, ap, subst, refl}
+use Rattle.std.specs.Prelude.{option_map}
 use Rattle.std.specs.List.{position}
 use Rattle.ftl_one.specs.declared.role.Role.{Role}
-use Rattle.ftl_one.specs.Collections.{collection_into, due_by}
-use Rattle.ftl_one.specs.Stock.{free_of, is_free, open_of, spare_of}
+use Rattle.ftl_one.specs.Collections.{collection_into}
+use Rattle.ftl_one.specs.Stock.{free_of, is_free, spare_of}
 use Rattle.ftl_one.specs.Lawful.{role_in}
 use Rattle.ftl_one.specs.OneFtl.{geometry_of, stock_of}
 use Rattle.ftl_one.proofs.FtlLemmas.{open_of-stock, free_of-stock, spare_of-stock}
@@ -16,9 +16,6 @@ returns-then-is_some c =
     let k = stock_of f in
     sym (due_is (geometry_of f) k f.open_block (free_of k.blocks) (spare_of k.blocks) (open_of-stock f) refl refl
     ∙ due_open (geometry_of f) k f.open_block (free_of k.blocks) (spare_of k.blocks) (sym c.is_some.ensures ∙ c.if-is_some.true))
-
-pub lowest_free-requires-clause-within : goal.lowest_free-requires-clause-within
-lowest_free-requires-clause-within c = omega (arith, c.args.self.now.free_within, ap (λ (xs : List Role). length xs) c.deref.ensures.value)
 
 pub lowest_free-requires-clause-none_below : goal.lowest_free-requires-clause-none_below
 lowest_free-requires-clause-none_below c =

@@ -1,10 +1,8 @@
-use Rattle.std.proofs.Common.{◌≡◌, ◌∙◌, ◌+◌, ◌<◌, ℕ, Bool, eqb, cond, List, ap, sym, subst, refl, arith}
+use Rattle.std.proofs.Common.{◌∙◌, ◌+◌, ◌<◌, ℕ, eqb, cond, List, ap, subst, arith}
 use Rattle.geometry.specs.Geometry.{blocks_of, endurance_of, lun_of}
-use Rattle.geometry.specs.declared.geometry.Geometry.{Geometry}
 use Rattle.ftl_one.specs.Fewest.{IsFewest}
 use Rattle.ftl_one.specs.Laws.{block_at}
 use Rattle.ftl_one.specs.OneFtl.{geometry_of, stock_of}
-use Rattle.ftl_one.specs.Stock.{live_of, victim_of}
 use Rattle.ftl_one.specs.Store.{counts_of}
 use Rattle.ftl_one.specs.Store as pages
 use Rattle.ftl_one.proofs.CollectLemmas.{greedy_by, spare_within, victim_by, victim_within}
@@ -25,9 +23,6 @@ the_low c =
 pub fewest_beside-victim-requires-clause-left_out : goal.fewest_beside-victim-requires-clause-left_out
 fewest_beside-victim-requires-clause-left_out c =
     omega (arith, spare_within c.args.self.now c.args.spare c.requires.none c.requires.no_free c.requires.spare, c.live.ensures.size)
-
-pub fewest_beside-victim-requires-clause-others : goal.fewest_beside-victim-requires-clause-others
-fewest_beside-victim-requires-clause-others c = omega (arith, c.live.ensures.size, c.args.self.now.store.die.geometry.in_limits.blocks_low)
 
 pub live-copied-requires : goal.live-copied-requires
 unfolding geometry_of

@@ -4,10 +4,6 @@ use Rattle.ftl_one.specs.Stock.{Block}
 use Rattle.ftl_one.proofs.FtlLemmas.{block_at-stock}
 use Rattle.ftl_one.proofs.one_ftl.OneFtl.erases.Goals as goal
 
-pub erases-requires : goal.erases-requires
-unfolding geometry_of
-erases-requires c = c.requires
-
 pub returns : goal.returns
 unfolding geometry_of
 returns c = c.erases.ensures ∙ sym (ap (λ (b : Block). b.erases) (block_at-stock c.args.self.now c.args.block c.requires))

@@ -2,10 +2,6 @@ use Rattle.ftl_one.specs.OneFtl.{geometry_of, array_of}
 use Rattle.ftl_one.proofs.StoreLemmas.{length-sectors_of}
 use Rattle.ftl_one.proofs.one_ftl.OneFtl.geometry.Goals as goal
 
-pub returns-clause-value : goal.returns-clause-value
-unfolding geometry_of
-returns-clause-value c = c.geometry.ensures
-
 pub returns-clause-sectors : goal.returns-clause-sectors
 unfolding geometry_of array_of
 returns-clause-sectors c = length-sectors_of c.args.self.now.store

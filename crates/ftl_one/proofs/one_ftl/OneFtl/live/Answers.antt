@@ -8,10 +8,6 @@ use Rattle.ftl_one.proofs.StoreLemmas.{count-entries_of}
 use Rattle.ftl_one.proofs.FtlLemmas.{block_at-stock}
 use Rattle.ftl_one.proofs.one_ftl.OneFtl.live.Goals as goal
 
-pub bounds-live-block : goal.bounds-live-block
-unfolding geometry_of
-bounds-live-block c = omega (arith, c.requires, c.live.ensures.size)
-
 pub returns : goal.returns
 unfolding geometry_of counts_of
 returns c =

@@ -1,4 +1,4 @@
-use Rattle.std.proofs.Common.{◌≡◌, ◌∙◌, ℕ, ◌<◌, false, List, length, Option, None, Some, sym, ap, refl, subst, arith}
+use Rattle.std.proofs.Common.{◌≡◌, ◌∙◌, ℕ, ◌<◌, false, List, Option, None, Some, sym, ap, refl, subst}
 use Rattle.std.specs.List.{position}
 use Rattle.geometry.specs.Geometry.{endurance_of}
 use Rattle.ftl_one.specs.declared.role.Role.{Role}
@@ -7,9 +7,6 @@ use Rattle.ftl_one.specs.Lawful.{role_in}
 use Rattle.ftl_one.specs.OneFtl.{geometry_of, stock_of}
 use Rattle.ftl_one.proofs.FtlLemmas.{open_of-stock, free_of-stock, spare_of-stock}
 use Rattle.ftl_one.proofs.one_ftl.OneFtl.make_ready.Goals as goal
-
-pub lowest_free-requires-clause-within : goal.lowest_free-requires-clause-within
-lowest_free-requires-clause-within c = omega (arith, c.args.self.now.free_within, ap (λ (xs : List Role). length xs) c.deref.ensures.value)
 
 pub lowest_free-requires-clause-none_below : goal.lowest_free-requires-clause-none_below
 lowest_free-requires-clause-none_below c =

@@ -7,7 +7,7 @@ use Rattle.ftl_one.specs.Stock.{Entry}
 use Rattle.ftl_one.specs.Store as pages
 use Rattle.ftl_one.specs.Lawful.{IsLawful, KnowsSpare, role_in}
 use Rattle.ftl_one.specs.Blocks.{blocks_in}
-use Rattle.ftl_one.specs.OneFtl.{geometry_of, array_of, stock_of}
+use Rattle.ftl_one.specs.OneFtl.{stock_of}
 use Rattle.ftl_one.proofs.one_ftl.OneFtl.new.Goals as goal
 use Rattle.ftl_one.proofs.one_ftl.OneFtl.new.Goals.{In_ok-roles}
 use Rattle.ftl_one.proofs.NewLemmas.{roles_new, roles_new-set, length-roles_new, lawful-new, spare_new, blocks_new}
@@ -51,14 +51,6 @@ invariant_of-result c =
           (role_in (roles_new n)) None) (sym (the_size at_end)) law);
       bounded = omega arith;
     }
-
-pub returns-clause-geometry : goal.returns-clause-geometry
-unfolding geometry_of
-returns-clause-geometry c = c.in_ok-store.ensures.geometry
-
-pub returns-clause-empty : goal.returns-clause-empty
-unfolding array_of
-returns-clause-empty c = c.in_ok-store.ensures.sectors
 
 pub returns-clause-stock : goal.returns-clause-stock
 unfolding stock_of opening

@@ -1,4 +1,4 @@
-use Rattle.std.proofs.Common.{◌≡◌, ◌≢◌, inl, inr, ◌∙◌, ℕ, ◌<◌, List, length, set, sum_by, sym, ap, refl, arith, length-set, get_or-set_same, get_or-set_other}
+use Rattle.std.proofs.Common.{◌≡◌, ◌≢◌, inl, inr, ◌∙◌, ℕ, ◌<◌, List, length, set, sum_by, sym, ap, arith, length-set, get_or-set_same, get_or-set_other}
 use Rattle.std.proofs.lemmas.Bool.{cases_eq}
 use Rattle.geometry.specs.Geometry.{blocks_of, pages_of}
 use Rattle.ftl_one.specs.declared.role.Role.{Role}
@@ -8,7 +8,7 @@ use Rattle.ftl_one.specs.Stock.{Stock, Block, is_free, change_at}
 use Rattle.ftl_one.specs.Store as pages
 use Rattle.ftl_one.specs.Lawful.{role_in}
 use Rattle.ftl_one.specs.Blocks.{blocks_in, weight}
-use Rattle.ftl_one.specs.OneFtl.{geometry_of, array_of, stock_of}
+use Rattle.ftl_one.specs.OneFtl.{stock_of}
 use Rattle.ftl_one.proofs.LawfulLemmas.{lawful-open}
 use Rattle.ftl_one.proofs.FtlLemmas.{open_of-stock, blocks-role, weight-role}
 use Rattle.ftl_one.proofs.one_ftl.OneFtl.open.Goals as goal
@@ -59,14 +59,6 @@ invariant_of-self c =
           (sym (open_of-stock f) ∙ c.requires.none) found.1 here (others_kept f b);
       bounded = omega (arith, heavy, f.bounded);
     }
-
-pub returns-clause-geometry : goal.returns-clause-geometry
-unfolding geometry_of
-returns-clause-geometry c = refl
-
-pub returns-clause-sectors : goal.returns-clause-sectors
-unfolding array_of
-returns-clause-sectors c = refl
 
 pub returns-clause-stock : goal.returns-clause-stock
 unfolding stock_of

@@ -24,10 +24,6 @@ not_retired Closed h = refl
 not_retired Spare h = refl
 not_retired Retired h = absurd (h refl)
 
-pub index-requires : goal.index-requires
-unfolding geometry_of
-index-requires c = omega (arith, c.requires, c.args.self.now.roles_sized)
-
 pub returns-in-Retired : goal.returns-in-Retired
 returns-in-Retired c = sym (ap is_retired (the_role (goal.at.returns-in-Retired c).After-index ∙ c.in-Retired.is))
 

@@ -6,15 +6,11 @@ use Rattle.ftl_one.specs.Stock.{Stock, Block, next}
 use Rattle.ftl_one.specs.Store as pages
 use Rattle.ftl_one.specs.Lawful.{IsLawful, role_in}
 use Rattle.ftl_one.specs.Blocks.{blocks_in, weight}
-use Rattle.ftl_one.specs.OneFtl.{geometry_of, array_of, stock_of}
+use Rattle.ftl_one.specs.OneFtl.{stock_of}
 use Rattle.ftl_one.proofs.LawfulLemmas.{lawful-same}
 use Rattle.ftl_one.proofs.FtlLemmas.{blocks-forget, weight-forget}
 use Rattle.ftl_one.specs.Stock.{Entry, forgotten}
 use Rattle.ftl_one.proofs.one_ftl.OneFtl.trim.Goals as goal
-
-pub forget-requires : goal.forget-requires
-unfolding geometry_of
-forget-requires c = c.requires.sector
 
 pub invariant_of-self : goal.invariant_of-self
 invariant_of-self c =
@@ -40,18 +36,6 @@ invariant_of-self c =
       bounded = subst (λ (h : Geometry). f.counts.programs + f.counts.copies + f.counts.erases
           ≤ sum_by (weight (pages_of h)) (blocks_in s f.roles.items)) (sym same) (omega (arith, heavy, f.bounded));
     }
-
-pub returns-clause-geometry : goal.returns-clause-geometry
-unfolding geometry_of
-returns-clause-geometry c = c.forget.ensures.keeps.geometry
-
-pub returns-clause-answer : goal.returns-clause-answer
-unfolding array_of
-returns-clause-answer c = c.forget.ensures.answer
-
-pub returns-clause-array : goal.returns-clause-array
-unfolding array_of
-returns-clause-array c = c.forget.ensures.sectors
 
 pub returns-clause-stock : goal.returns-clause-stock
 unfolding next stock_of

@@ -23,15 +23,6 @@ pub returns-in_default-clause-worn : goal.returns-in_default-clause-worn
 returns-in_default-clause-worn c =
     next_is (geometry_of c.args.self.now) (stock_of c.args.self.now) c.args.sector c.args.bytes.now None c.in_default.ensures.none
 
-pub returns-in_default-clause-geometry : goal.returns-in_default-clause-geometry
-returns-in_default-clause-geometry c = c.in_default.ensures.geometry
-
-pub returns-in_default-clause-same_array : goal.returns-in_default-clause-same_array
-returns-in_default-clause-same_array c = c.in_default.ensures.sectors
-
-pub returns-in_default-clause-same_stock : goal.returns-in_default-clause-same_stock
-returns-in_default-clause-same_stock c = c.in_default.ensures.same
-
 pub returns-clause-stock : goal.returns-clause-stock
 returns-clause-stock c =
     let g = geometry_of c.args.self.now in
@@ -92,9 +83,6 @@ returns-clause-after_failure c = λ retired.
       | inl nothing ↦ nothing
       | inr one ↦ absurd (no_spare c.args.self.now retired one.1 one.2)
     ]
-
-pub returns-in_default-clause-no_page : goal.returns-in_default-clause-no_page
-returns-in_default-clause-no_page c = c.in_default.ensures.no_page
 
 pub returns-clause-due : goal.returns-clause-due
 returns-clause-due c =

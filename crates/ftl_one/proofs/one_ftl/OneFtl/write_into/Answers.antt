@@ -9,7 +9,7 @@ use Rattle.ftl_one.specs.Stock.{Stock, Block, write_of, write_into, forget, chan
 use Rattle.ftl_one.specs.Store as pages
 use Rattle.ftl_one.specs.Lawful.{IsLawful, role_in}
 use Rattle.ftl_one.specs.Blocks.{blocks_in, weight}
-use Rattle.ftl_one.specs.OneFtl.{geometry_of, array_of, stock_of}
+use Rattle.ftl_one.specs.OneFtl.{geometry_of, stock_of}
 use Rattle.ftl_one.proofs.LawfulLemmas.{lawful-put, lawful-close}
 use Rattle.ftl_one.proofs.FtlLemmas.{blocks-put, weight-put}
 use Rattle.std.proofs.lemmas.List.{length_push}
@@ -23,14 +23,6 @@ use Rattle.ftl_one.proofs.one_ftl.OneFtl.write_into.Goals.{After-put-was, After-
 
 pub put-was-requires-clause-room : goal.put-was-requires-clause-room
 put-was-requires-clause-room c = open_room c.args.self.now c.args.block c.requires.opened
-
-pub put-was-requires-clause-sector : goal.put-was-requires-clause-sector
-unfolding geometry_of
-put-was-requires-clause-sector c = c.requires.sector
-
-pub put-was-requires-clause-page : goal.put-was-requires-clause-page
-unfolding geometry_of
-put-was-requires-clause-page c = c.requires.page
 
 pub overflow_add-self : goal.overflow_add-self
 overflow_add-self c = omega (arith, total_small c.args.self.now)
@@ -149,18 +141,6 @@ invariant_of-self-else-is_full c =
       bounded = the_weight full f.roles.items refl (ap (λ (t : Bool). cond t Closed (role_in f.roles.items b)) (sym c.if-is_full.false)) (λ k apart. refl);
     }
 
-pub returns-then-is_full-clause-geometry : goal.returns-then-is_full-clause-geometry
-unfolding geometry_of
-returns-then-is_full-clause-geometry c = c.put-was.ensures.puts.keeps.geometry
-
-pub returns-then-is_full-clause-answer : goal.returns-then-is_full-clause-answer
-unfolding array_of
-returns-then-is_full-clause-answer c = c.put-was.ensures.answer
-
-pub returns-then-is_full-clause-array : goal.returns-then-is_full-clause-array
-unfolding array_of
-returns-then-is_full-clause-array c = c.put-was.ensures.sectors
-
 -- the stock with these blocks and one more program
 the_stock : (c : After-is_full) (blocks : List Block)
     → blocks ≡ change_at (map (forget c.args.sector) (blocks_in c.args.self.now.store c.args.self.now.roles.items)) c.args.block
@@ -193,18 +173,6 @@ returns-then-is_full-clause-stock c =
     (the_blocks full new (length-set f.roles.items b Closed)
     (get_or-set_same f.roles.items b Closed Retired low ∙ ap (λ (t : Bool). cond t Closed (role_in f.roles.items b)) (sym c.if-is_full.true))
     (λ k apart. get_or-set_other f.roles.items b k Closed Retired apart))
-
-pub returns-else-is_full-clause-geometry : goal.returns-else-is_full-clause-geometry
-unfolding geometry_of
-returns-else-is_full-clause-geometry c = c.put-was.ensures.puts.keeps.geometry
-
-pub returns-else-is_full-clause-answer : goal.returns-else-is_full-clause-answer
-unfolding array_of
-returns-else-is_full-clause-answer c = c.put-was.ensures.answer
-
-pub returns-else-is_full-clause-array : goal.returns-else-is_full-clause-array
-unfolding array_of
-returns-else-is_full-clause-array c = c.put-was.ensures.sectors
 
 pub returns-else-is_full-clause-stock : goal.returns-else-is_full-clause-stock
 unfolding stock_of

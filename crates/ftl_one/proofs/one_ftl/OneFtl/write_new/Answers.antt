@@ -7,10 +7,6 @@ use Rattle.ftl_one.proofs.Current.{has_page-stock, none_of, some_of, next_empty,
 use Rattle.ftl_one.proofs.one_ftl.OneFtl.write_new.Goals as goal
 use Rattle.ftl_one.proofs.one_ftl.OneFtl.write_new.Goals.{In-Empty, In-Written}
 
-pub was-requires : goal.was-requires
-unfolding geometry_of
-was-requires c = c.requires.sector
-
 the_sector : (c : In-Empty) → sector_at (array_of c.args.self.now) c.args.sector ≡ None
 unfolding array_of
 the_sector c = none_of (sector_at (array_of c.args.self.now) c.args.sector) (sym c.was.ensures ∙ c.in-Empty.is)
@@ -27,11 +23,6 @@ by_write c =
     let f = c.args.self.now in
     next_empty (geometry_of f) (stock_of f) c.args.sector c.args.bytes.now (has_page-stock f c.args.sector c.requires.sector ∙ ap is_some (the_sector c))
 
--- and nothing where it is written
-pub returns-in-Written-clause-answer : goal.returns-in-Written-clause-answer
-unfolding array_of
-returns-in-Written-clause-answer c = sym c.in-Written.is ∙ c.was.ensures
-
 pub returns-in-Written-clause-written : goal.returns-in-Written-clause-written
 returns-in-Written-clause-written c = λ _.
     let f = c.args.self.now in
@@ -43,10 +34,6 @@ returns-in-Written-clause-unchanged c = λ _.
     let value = its_value (goal.at.returns-in-Written-clause-unchanged c).In-Written in
     ap (λ (x : Sector). put_new (array_of c.args.self.now) c.args.sector x c.args.bytes.now) value.1
 
-pub returns-in-Ok-clause-answer : goal.returns-in-Ok-clause-answer
-unfolding array_of
-returns-in-Ok-clause-answer c = sym c.in-Empty.is ∙ c.was.ensures
-
 pub returns-in-Ok-clause-array : goal.returns-in-Ok-clause-array
 returns-in-Ok-clause-array c =
     let empty = the_sector (goal.at.returns-in-Ok-clause-array c).In-Empty in
@@ -55,15 +42,8 @@ returns-in-Ok-clause-array c =
 pub returns-in-Ok-clause-stock : goal.returns-in-Ok-clause-stock
 returns-in-Ok-clause-stock c = by_write (goal.at.returns-in-Ok-clause-stock c).In-Empty ∙ c.in-Ok.ensures.stock
 
-pub returns-in-Err-clause-answer : goal.returns-in-Err-clause-answer
-unfolding array_of
-returns-in-Err-clause-answer c = sym c.in-Empty.is ∙ c.was.ensures
-
 pub returns-in-Err-clause-worn : goal.returns-in-Err-clause-worn
 returns-in-Err-clause-worn c = λ _. by_write (goal.at.returns-in-Err-clause-worn c).In-Empty ∙ c.in-Err.ensures.worn
 
 pub returns-in-Written-clause-same_array : goal.returns-in-Written-clause-same_array
 returns-in-Written-clause-same_array c = refl
-
-pub returns-in-Written-clause-same_stock : goal.returns-in-Written-clause-same_stock
-returns-in-Written-clause-same_stock c = refl

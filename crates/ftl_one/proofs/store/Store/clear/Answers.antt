@@ -1,6 +1,4 @@
-use Rattle.std.proofs.Common.{◌∙◌, ◌==◌, ◌<◌, length, ap, sym, arith}
-use Rattle.geometry.specs.Geometry.{blocks_of, lun_of}
-use Rattle.geometry.specs.declared.geometry.Geometry.{Geometry}
+use Rattle.std.proofs.Common.{◌∙◌, ◌<◌, length, sym, arith}
 use Rattle.ftl_one.specs.Store.{entries_of}
 use Rattle.ftl_one.proofs.StoreLemmas.{length-entries_of}
 use Rattle.ftl_one.proofs.ClearLemmas.{ClearedTo-none, ClearedTo-dead, ClearedTo-live, ClearedTo-room, ClearedTo-all, copies_below}
@@ -10,40 +8,14 @@ use Rattle.ftl_one.proofs.store.Store.clear.Goals.{then-is_live, else-is_live}
 pub loop-page-init : goal.loop-page-init
 loop-page-init c = ClearedTo-none c.args.self.now c.args.victim c.args.spare
 
-pub is_live-requires-clause-block : goal.is_live-requires-clause-block
-is_live-requires-clause-block c = omega (arith, ap blocks_of c.loop-page.invariant.keeps.geometry, c.requires.victim)
-
-pub is_live-requires-clause-usable : goal.is_live-requires-clause-usable
-is_live-requires-clause-usable c = c.loop-page.invariant.keeps.retired c.args.victim c.requires.victim ∙ c.requires.usable
-
 pub is_live-requires-clause-page : goal.is_live-requires-clause-page
 is_live-requires-clause-page c = omega (arith, c.loop-page.invariant.size, c.next-page-end.ensures.value, length-entries_of c.args.self.now c.args.victim)
-
-pub relocate-requires-clause-source_block : goal.relocate-requires-clause-source_block
-relocate-requires-clause-source_block c = omega (arith, ap blocks_of c.loop-page.invariant.keeps.geometry, c.requires.victim)
-
-pub relocate-requires-clause-source_usable : goal.relocate-requires-clause-source_usable
-relocate-requires-clause-source_usable c = c.loop-page.invariant.keeps.retired c.args.victim c.requires.victim ∙ c.requires.usable
-
-pub relocate-requires-clause-source_page : goal.relocate-requires-clause-source_page
-relocate-requires-clause-source_page c =
-    omega (arith, c.loop-page.invariant.size, c.next-page-end.ensures.value, length-entries_of c.args.self.now c.args.victim)
-
-pub relocate-requires-clause-live : goal.relocate-requires-clause-live
-relocate-requires-clause-live c = sym c.is_live.ensures ∙ c.if-is_live.true
-
-pub relocate-requires-clause-apart : goal.relocate-requires-clause-apart
-relocate-requires-clause-apart c = c.requires.apart
 
 pub relocate-requires-clause-room : goal.relocate-requires-clause-room
 relocate-requires-clause-room c =
     ClearedTo-room c.args.self.now c.loop-page.self c.args.victim c.args.spare c.loop-page.page c.loop-page.copies c.loop-page.invariant
     (omega (arith, c.next-page-end.ensures.value, length-entries_of c.args.self.now c.args.victim))
     (sym c.is_live.ensures ∙ c.if-is_live.true) c.requires.room
-
-pub relocate-requires-clause-one_lun : goal.relocate-requires-clause-one_lun
-relocate-requires-clause-one_lun c =
-    c.is_one_lun-one_lun.ensures ∙ ap (λ (g : Geometry). lun_of g c.args.victim == lun_of g c.args.spare) (sym c.loop-page.invariant.keeps.geometry)
 
 pub overflow_add-copies : goal.overflow_add-copies
 overflow_add-copies c =

@@ -1,4 +1,4 @@
-use Rattle.std.proofs.Common.{◌≡◌, ◌∙◌, ℕ, ◌<◌, List, length, get_or, set, Option, None, sym, ap, refl, subst, arith}
+use Rattle.std.proofs.Common.{◌≡◌, ◌∙◌, ℕ, ◌<◌, List, length, get_or, set, Option, None, sym, ap, subst, arith}
 use Rattle.std.specs.Option.{IfSome}
 use Rattle.std.specs.Vec.{with_items}
 use Rattle.std.proofs.lemmas.List.{get_or_read}
@@ -6,7 +6,7 @@ use Rattle.geometry.specs.declared.page_addr.PageAddr.{PageAddr}
 use Rattle.geometry.specs.Geometry.{blocks_of, page_bytes_of, sectors_of}
 use Rattle.die.specs.Die.{geometry_of as die_geometry_of, block_of}
 use Rattle.ftl_one.specs.Entries.{Recounts, IsMapped, sectors_in, entries_in}
-use Rattle.ftl_one.specs.Store.{array_of, entries_of, erases_of, retired_of}
+use Rattle.ftl_one.specs.Store.{array_of, entries_of}
 use Rattle.ftl_one.proofs.MapLemmas.{mapped-forget, entries-forget, sectors-set}
 use Rattle.ftl_one.proofs.StoreLemmas.{named_within, named_counted, was-named, recounted}
 use Rattle.ftl_one.proofs.store.Store.forget.Goals as goal
@@ -76,7 +76,3 @@ returns-clause-entries c =
     ap (λ (o : Option PageAddr). entries_in (page_bytes_of g) (set s.current.items c.args.sector o) b (block_of s.die b))
     (c.replace-entry.ensures.after ∙ c.none.ensures)
     ∙ entries-forget (page_bytes_of g) (blocks_of g) (sectors_of g) (block_of s.die) s.current.items s.live.items s.mapped c.args.sector b c.requires
-
-pub returns-clause-keeps : goal.returns-clause-keeps
-unfolding erases_of retired_of
-returns-clause-keeps c = record { geometry = refl; erases = λ b low. refl; retired = λ b low. refl }

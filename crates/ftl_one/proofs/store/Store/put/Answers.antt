@@ -20,12 +20,6 @@ the_next c = next_of_block c.args.self.now c.next_page-at.result c.args.block c.
 pub program-requires-clause-next : goal.program-requires-clause-next
 program-requires-clause-next c = the_next (goal.at.program-requires-clause-next c).After-next_page-at
 
-pub of-requires-clause-block : goal.of-requires-clause-block
-of-requires-clause-block c = omega (arith, c.next_page-at.ensures.block, c.requires.room.within, c.args.self.now.die.geometry.in_limits.blocks_high)
-
-pub of-requires-clause-page : goal.of-requires-clause-page
-of-requires-clause-page c = omega (arith, c.next_page-at.ensures.page, c.requires.room.room, c.args.self.now.die.geometry.in_limits.pages_high)
-
 -- the page that the map named
 the_was : (c : After-page-was) → get_or c.args.self.now.current.items c.args.sector None ≡ c.page-was.result
 the_was c =

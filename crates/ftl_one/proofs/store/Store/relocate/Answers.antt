@@ -36,12 +36,6 @@ copy_page-requires-clause-one_lun c =
 the_next : (c : After-next_page-to) → IsNext c.args.self.now.die c.next_page-to.result
 the_next c = next_of_block c.args.self.now c.next_page-to.result c.args.block c.requires.room c.next_page-to.ensures.block c.next_page-to.ensures.page
 
-pub of-requires-clause-block : goal.of-requires-clause-block
-of-requires-clause-block c = omega (arith, c.next_page-to.ensures.block, c.requires.room.within, c.args.self.now.die.geometry.in_limits.blocks_high)
-
-pub of-requires-clause-page : goal.of-requires-clause-page
-of-requires-clause-page c = omega (arith, c.next_page-to.ensures.page, c.requires.room.room, c.args.self.now.die.geometry.in_limits.pages_high)
-
 pub index_mut-requires : goal.index_mut-requires
 index_mut-requires c =
     let s = c.args.self.now in
