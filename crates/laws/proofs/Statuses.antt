@@ -9,10 +9,10 @@ use Rattle.player.specs.declared.run_files.FileStop.TheVariants as file_stop
 use Rattle.player.specs.declared.stop.Stop.{Stop}
 use Rattle.player.specs.declared.stop.Stop.TheVariants as stop
 
--- A status of a stop: more than 0 and at most 4
+-- A status of a stop: more than 0 and at most 5
 pub record IsStatus (s : ℕ) : Type 0 where
   pub some : 0 < s
-  pub few : s ≤ 4
+  pub few : s ≤ 5
 
 pub record IsRunStatus (s : ℕ) : Type 0 where
   pub some : 0 < s
@@ -41,10 +41,11 @@ pub of_stop : (why : Stop) → IsStatus (status_of why)
 of_stop (stop.Arguments text) = record { some = omega arith; few = omega arith }
 of_stop (stop.Encoding place) = record { some = omega arith; few = omega arith }
 of_stop (stop.Geometry found) = record { some = omega arith; few = omega arith }
-of_stop (stop.Run found) = let h = of_run found in record { some = h.some; few = h.few }
+of_stop (stop.Run found) = let h = of_run found in record { some = h.some; few = omega (arith, h.few) }
 of_stop stop.Help = record { some = omega arith; few = omega arith }
 of_stop stop.Memory = record { some = omega arith; few = omega arith }
 of_stop (stop.File file file_stop.NotWithWorkers) = record { some = omega arith; few = omega arith }
 of_stop (stop.File file file_stop.NotOpened) = record { some = omega arith; few = omega arith }
 of_stop (stop.File file file_stop.NotItsOwn) = record { some = omega arith; few = omega arith }
 of_stop (stop.File file file_stop.Failed) = record { some = omega arith; few = omega arith }
+of_stop (stop.Refused why count) = record { some = omega arith; few = omega arith }

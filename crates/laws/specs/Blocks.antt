@@ -3,16 +3,11 @@ use Rattle.std.specs.Prelude.{◌≡◌, ℕ, List, [], ◌∷◌, Bool, true, f
 use Rattle.geometry.specs.declared.geometry.Geometry.{Geometry}
 use Rattle.geometry.specs.declared.page_addr.PageAddr.{PageAddr}
 use Rattle.geometry.specs.Geometry.{blocks_of, luns_of, endurance_of}
-use Rattle.die.specs.Pages.{Page}
 use Rattle.die.specs.declared.block_state.BlockState.{BlockState}
 use Rattle.ftl_one.specs.declared.role.Role.{Role}
 use Rattle.ftl_one.specs.declared.role.Role.TheVariants as role
 use Rattle.ftl_one.specs.Stock as stock
 use Rattle.ftl_one.specs.Stock.{Entry, Stock}
-
--- a page of one byte with this stamp
-abbrev pub one_byte : ℕ → ℕ → Page
-one_byte byte stamp = record { value = byte ∷ []; stamp = stamp }
 
 -- a page's address
 abbrev pub at : ℕ → ℕ → PageAddr

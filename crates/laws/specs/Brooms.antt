@@ -62,14 +62,6 @@ HasNone b = (blocks_of_broom b).spare ≡ None
 abbrev pub HasDrained : ℕ → Broom → Broom → Type 0
 HasDrained block before after = IsListed block (view_of_broom before).drains (view_of_broom after).drains
 
--- a broom has erased this block, and no other
-abbrev pub HasErased : ℕ → Broom → Broom → Type 0
-HasErased block before after = IsListed block (view_of_broom before).erases (view_of_broom after).erases
-
--- a broom owns the blocks that it had
-abbrev pub OwnsSame : Broom → Broom → Type 0
-OwnsSame before after = ((view_of_broom after).owns ≡ (view_of_broom before).owns) × (blocks_of_broom after ≡ blocks_of_broom before)
-
 -- a claim was added to a broom's lost ones
 abbrev pub HasLost : Broom → Broom → Type 0
 HasLost before after = (b : ℕ) × ((view_of_broom after).lost ≡ (view_of_broom before).lost ++ b ∷ [])

@@ -1,10 +1,17 @@
 -- Sessions as the laws of their ends name them.
-use Rattle.std.specs.Prelude.{ℕ, List, Option, None, Some, codes}
-use Rattle.answers.specs.Streams.{Passage}
-use Rattle.clap.specs.Words.{Text}
-use Rattle.player.specs.Session.{EndsSession, ExplainsStop, filings}
+use Rattle.std.specs.Prelude.{◌≡◌, ℕ, List, Option, None, Some, Result, codes}
+use Rattle.std.specs.Io.KnownBytes.{IsAtEnd}
+use Rattle.answers.specs.Streams.{Passage, Tells}
+use Rattle.clap.specs.Words.{Text, one_of}
+use Rattle.geometry.specs.Geometry.{numbers_of}
+use Rattle.geometry.specs.declared.geometry.Geometry.{Geometry}
+use Rattle.player.specs.CommandLine.{AreOptionsOf, numbers_given, rows_named}
+use Rattle.player.specs.Session.{EndsSession, Explains, ExplainsStop, IsTextFor, filings}
+use Rattle.player.specs.Telling.{TellsEnding}
+use Rattle.player.specs.declared.command_line.Options.{Options}
 use Rattle.player.specs.declared.run_files.FileStop.{FileStop}
 use Rattle.player.specs.declared.run_files.RunFile.{RunFile}
+use Rattle.player.specs.declared.stop.Stop.{Stop}
 use Rattle.player.specs.declared.stop.Stop.TheVariants as stop
 use Rattle.runs.specs.declared.files.RunFiles.{RunFiles}
 use Rattle.trace.specs.declared.named_file.OpenFault.{OpenFault}
@@ -16,6 +23,27 @@ abbrev pub EndsWith : ℕ → List Text → Passage → Passage → Passage → 
 EndsWith status words input output errors =
     (named : ℕ → Option Text) × (refused : ℕ → Option OpenFault) × (contents : ℕ → Option (List ℕ)) × (old : RunFiles ℕ) × (new : RunFiles ℕ)
     × EndsSession status words input output errors (filings named refused contents old new)
+
+-- a session ended so, whatever its files were
+abbrev pub EndsBy : Result (Unit {0}) Stop → List Text → Passage → Passage → Passage → Type 0
+EndsBy ending words input output errors =
+    (named : ℕ → Option Text) × (refused : ℕ → Option OpenFault) × (contents : ℕ → Option (List ℕ)) × (old : RunFiles ℕ) × (new : RunFiles ℕ)
+    × Explains ending words input output (filings named refused contents old new) × TellsEnding ending errors
+
+-- a session played all that it read on the device that the words describe, and wrote the text that their options want of it
+pub record PlaysAll (words : List Text) (input output : Passage) : Type 0 where
+  pub given : Options
+  pub told : AreOptionsOf words given
+  pub geo : Geometry
+  pub numbers : numbers_of geo ≡ numbers_given given
+  pub text : Tells (IsTextFor given geo) input.before output
+  pub end : IsAtEnd input.after.bytes
+  pub input_unfailed : input.after.failures ≡ input.before.failures
+  pub output_unfailed : output.after.failures ≡ output.before.failures
+
+-- the words write this text for an option
+abbrev pub Gives : List Text → Text → Text → Type 0
+Gives words name text = one_of name (rows_named words) ≡ Some text
 
 -- a session reports that this file of the run was not written, for this reason, where this is known of why files were not opened
 abbrev pub Reports : RunFile → FileStop → (ℕ → Option OpenFault) → Type 0

@@ -2,6 +2,7 @@
 use Rattle.std.specs.Prelude.{ℕ, Some}
 use Rattle.geometry.specs.declared.pin_word.Phase.{Phase}
 use Rattle.flash_rule.specs.declared.facts.Cycle.{Cycle}
+use Rattle.flash_rule.specs.declared.facts.Inspection.{Inspection}
 use Rattle.flash_rule.specs.declared.facts.Owned.{Owned}
 use Rattle.flash_table.specs.declared.broom_seat.BroomBlocks.{BroomBlocks}
 use Rattle.flash_table.specs.declared.broom_seat.ReclaimedBlock.{ReclaimedBlock}
@@ -19,6 +20,10 @@ a_reclaimed block generation written = record { block = block; generation = gene
 -- a block as its owner has it
 abbrev pub an_owned : ℕ → Phase → ℕ → ℕ → Owned
 an_owned block phase generation written = record { block = block; phase = phase; generation = generation; written = written }
+
+-- an inspection of a generation of a block, so many sectors of which were passed
+abbrev pub an_inspection : ℕ → ℕ → ℕ → Inspection
+an_inspection block generation sectors = record { block = block; generation = generation; sectors = sectors }
 
 -- a generation of a block
 abbrev pub a_cycle : ℕ → ℕ → Cycle

@@ -1,32 +1,28 @@
 //! Laws of the order of a broom's calls in a round: which lists of answers are turns, and what is enough for what a broom has done.
-ghost use Rattle.std.specs.Prelude.{◌≡◌, ◌+◌, ◌-◌, ◌%◌, ◌^◌, ℕ, List, [], ◌∷◌, false, length};
+ghost use Rattle.std.specs.Prelude.{◌≡◌, ◌+◌, ◌-◌, ◌%◌, ◌^◌, ℕ, [], ◌∷◌, false, length};
 ghost use Rattle.std.specs.Arc.{arc_value};
 ghost use Rattle.broom.specs.Ends.{folded_place, folded_view};
 ghost use Rattle.broom.specs.Handing.{DrainNextOneTold, DrainOneTold, EraseOneTold, HandsNothing, LeftAt};
-ghost use Rattle.broom.specs.Ready.{blocks_of_broom, view_of_broom};
+ghost use Rattle.broom.specs.Ready.{view_of_broom};
 ghost use Rattle.broom.specs.Restocking.{RestockTold};
 ghost use Rattle.broom.specs.Told.{KeepsSurvey};
 ghost use Rattle.broom.specs.declared.answer.Drain.TheVariants as drain;
 ghost use Rattle.broom.specs.declared.answer.Erase.{Erase};
 ghost use Rattle.broom.specs.declared.answer.Erase.TheVariants as erase;
 ghost use Rattle.broom.specs.declared.broom.Broom.{Broom};
-ghost use Rattle.flash_rule.specs.declared.facts.Cycle.{Cycle};
 ghost use Rattle.flash_rule.specs.declared.facts.Name.TheVariants as name;
 ghost use Rattle.flash_rule.specs.declared.facts.Role.TheVariants as seat;
-ghost use Rattle.flash_rule.specs.declared.view.View.{View};
 ghost use Rattle.flash_table.specs.Flash.{geometry_of};
-ghost use Rattle.flash_table.specs.GivingUp.{closed_broom};
 ghost use Rattle.geometry.specs.Geometry.{brooms_of};
 ghost use Rattle.geometry.specs.declared.geometry.Geometry.{Geometry};
 ghost use Rattle.volume.specs.Volume.{flash_of};
 ghost use Rattle.volume.specs.declared.volume.Volume.{Volume};
-ghost use Rattle.workers.specs.Collecting.{HasCollected, HasCollectedBy, HasMadeCalls, HaveCollected, limit_at};
+ghost use Rattle.workers.specs.Collecting.{HasCollected, HasCollectedBy, HasMadeCalls, limit_at};
 ghost use Rattle.workers.specs.Folding.{HasFolded, HaveFolded};
 ghost use Rattle.workers.specs.Growing.{GrowsBy, busy_in, stale_in};
-ghost use Rattle.workers.specs.Served.{AllHaveServed, HasDone, HasServed, IsAtRunStart, listed_in};
+ghost use Rattle.workers.specs.Served.{AllHaveServed, HasServed, IsAtRunStart, listed_in};
 ghost use Rattle.workers.specs.Tallies.{nothing_done};
 ghost use Rattle.workers.specs.Turns.{AreTurns, IsTurn};
-ghost use Rattle.workers.specs.declared.broom_answer.BroomAnswer.{BroomAnswer};
 ghost use Rattle.workers.specs.declared.broom_answer.BroomAnswer.TheVariants as by;
 ghost use Rattle.workers.specs.declared.collector.Collector.{Collector};
 ghost use Rattle.workers.specs.declared.collector_end.CollectorEnd.{CollectorEnd};
@@ -45,24 +41,6 @@ pub fn turns_of_a_broom()
     ensures no_turn { AreTurns 1 [] }
     ensures no_drain { (n : ℕ) (e : Erase) → ¬ AreTurns n (by.Erase e ∷ []) }
     ensures each { (e : Erase) → AreTurns 1 (by.Drain drain.Lost 0 ∷ by.Erase e ∷ by.Drain drain.Lost 0 ∷ by.Erase e ∷ []) }
-{}
-
-/// What is enough for what a broom has done in a round and in a run.
-pub fn collections_that_are_done()
-    ensures none { (s : Collector) → HasCollected s s }
-    ensures by_turns { (s t : Collector) (answers : List BroomAnswer) → AreTurns s.drains answers → HasCollectedBy s answers t → HasCollected s t }
-    ensures each { (s t : Collector) → HasCollected s t → HaveCollected (s ∷ []) (t ∷ []) }
-    ensures folded { (s : Collector) (e : CollectorEnd) → e.tally ≡ s.tally
-        → folded_view e.folded ≡ closed_broom (view_of_broom s.broom) (blocks_of_broom s.broom) → LeftAt (limit_at s) s.broom (folded_place e.folded)
-        → HaveFolded (s ∷ []) (e ∷ []) }
-    ensures done { (v : View) (x : Cycle) → v.role ≡ seat.Player (name.Broom 2) → v.drains ≡ x ∷ [] → v.moves ≡ 2 ^ 64 + 2 ^ 63 → v.programs ≡ []
-        → v.erases ≡ [] → v.lost ≡ 7 ∷ 7 ∷ [] → HasDone 2 (record nothing_done { drained = 1; moved = 2 ^ 63; lost = 2 }) v }
-    ensures no_broom { (g : Geometry) → brooms_of g ≡ 0 → AllHaveServed g 4 [] }
-    ensures one_broom { (g : Geometry) (e : CollectorEnd) → brooms_of g ≡ 1 → HasServed g 4 0 e → AllHaveServed g 4 (e ∷ []) }
-    ensures served { (g : Geometry) (e : CollectorEnd) → AllHaveServed g 4 (e ∷ []) → HasServed g 4 0 e × (brooms_of g ≡ 1) }
-    ensures second { (g : Geometry) (e f : CollectorEnd) → AllHaveServed g 4 (e ∷ f ∷ []) → HasServed g 4 1 f }
-    ensures missing { (g : Geometry) → brooms_of g ≡ 1 → ¬ AllHaveServed g 4 [] }
-    ensures number { (g : Geometry) (e : CollectorEnd) → HasServed g 4 3 e → (folded_view e.folded).role ≡ seat.Player (name.Broom 3) }
 {}
 
 /// What the calls of a broom say of it, and what is known of each broom at the end of a run.
@@ -89,5 +67,9 @@ pub fn brooms_of_a_run()
     ensures counts { (g : Geometry) (e : CollectorEnd) → (h : HasServed g 4 3 e) → (e.tally.erased ≡ length (folded_view e.folded).erases % 2 ^ 64)
         × (e.tally.pinned ≡ listed_in busy_in h.first h.last h.collected % 2 ^ 64)
         × (e.tally.stale ≡ listed_in stale_in h.first h.last h.collected % 2 ^ 64) }
+    ensures served { (g : Geometry) (e : CollectorEnd) → AllHaveServed g 4 (e ∷ []) → HasServed g 4 0 e × (brooms_of g ≡ 1) }
+    ensures second { (g : Geometry) (e f : CollectorEnd) → AllHaveServed g 4 (e ∷ f ∷ []) → HasServed g 4 1 f }
+    ensures missing { (g : Geometry) → brooms_of g ≡ 1 → ¬ AllHaveServed g 4 [] }
+    ensures number { (g : Geometry) (e : CollectorEnd) → HasServed g 4 3 e → (folded_view e.folded).role ≡ seat.Player (name.Broom 3) }
     ensures left { (s : Collector) (e : CollectorEnd) → HaveFolded (s ∷ []) (e ∷ []) → LeftAt (limit_at s) s.broom (folded_place e.folded) }
 {}

@@ -1,16 +1,15 @@
-ghost use Rattle.std.specs.Prelude.{◌≡◌, ℕ, Bool, [], ◌∷◌, ◌++◌, None, Some, true, false};
+ghost use Rattle.std.specs.Prelude.{◌≡◌, ℕ, [], ◌∷◌, None, Some, true, false};
 ghost use Rattle.geometry.specs.Greedy.{IsClosed, greedy_of};
-ghost use Rattle.broom.specs.Erasing.{EraseTold};
 ghost use Rattle.broom.specs.Ready.{marks_of, view_of_broom};
 ghost use Rattle.broom.specs.Restocking.{RestockTold};
 ghost use Rattle.broom.specs.Survey.{GainsNothing, IsVictim, closed_of, counts_of};
 ghost use Rattle.broom.specs.Told.{DrainTold, KeepsSurvey, NextTold, SurveyLeft, Unmarks};
 ghost use Rattle.broom.specs.declared.answer.Drain.TheVariants as drain;
-ghost use Rattle.broom.specs.declared.answer.Erase.TheVariants as erase;
 ghost use Rattle.broom.specs.declared.broom.Broom.{Broom};
-ghost use Rattle.laws.specs.Brooms.{DidNothing, HadFewest, HasDrained, HasErased, HasLost, HasNone, HasSpare, OwnsSame, a_survey, an_all_live_survey};
+ghost use Rattle.laws.specs.Brooms.{DidNothing, HadFewest, HasDrained, HasLost, HasNone, HasSpare, a_survey, an_all_live_survey};
 
 /// What a survey counts, and which block is its victim.
+#[tactic(auto, unfolding(geometry::specs::Greedy::greedy_of))]
 pub fn a_survey_and_its_victim()
     ensures counts { counts_of a_survey ≡ 1 ∷ 2 ∷ 0 ∷ [] }
     ensures closed { closed_of a_survey.states ≡ true ∷ true ∷ false ∷ [] }
@@ -44,15 +43,4 @@ pub fn a_drain_and_its_survey()
     ensures no_queue { (x y : Broom) → ¬ DrainTold x drain.QueueFull y }
     ensures restocked { (x y : Broom) → RestockTold x true y → HasSpare y }
     ensures found_none { (x y : Broom) → RestockTold x false y → HasNone y }
-{}
-
-/// What an erase means by its result.
-pub fn an_erase_of_a_block()
-    ensures listed { (b c : ℕ) (k : Bool) (x y : Broom) → EraseTold x b (erase.Erased c k) y → (c ≡ b) × HasErased b x y }
-    ensures kept { (b c : ℕ) (x y : Broom) → EraseTold x b (erase.Erased c true) y → HasNone x × HasSpare y }
-    ensures freed { (b c : ℕ) (x y : Broom) → EraseTold x b (erase.Erased c false) y → OwnsSame x y }
-    ensures retired { (b c : ℕ) (x y : Broom) → EraseTold x b (erase.Retired c) y → (c ≡ b) × HasErased b x y }
-    ensures pinned { (b : ℕ) (x y : Broom) → EraseTold x b erase.Pinned y → DidNothing x y × ((view_of_broom y).busy ≡ (view_of_broom x).busy ++ b ∷ []) }
-    ensures stale { (b : ℕ) (x y : Broom) → EraseTold x b erase.Stale y → DidNothing x y × ((view_of_broom y).stale ≡ (view_of_broom x).stale ++ b ∷ []) }
-    ensures no_queue { (b : ℕ) (x y : Broom) → ¬ EraseTold x b erase.QueueEmpty y }
 {}

@@ -1,12 +1,14 @@
-ghost use Rattle.std.specs.Prelude.{◌≡◌, ◌+◌, ◌*◌, ◌<◌, ℕ, List, [], ◌∷◌, ◌++◌, Some};
+ghost use Rattle.std.specs.Prelude.{◌≡◌, ◌+◌, ◌*◌, ◌<◌, ◌≤◌, ℕ, List, [], ◌∷◌, ◌++◌, None, Some};
 ghost use Rattle.std.specs.List.{range_with_len};
 ghost use Rattle.geometry.specs.History.{Begins, Write, held};
 ghost use Rattle.geometry.specs.declared.answer.Was.{Was};
 ghost use Rattle.geometry.specs.declared.map_word.MapWord.{MapWord};
 ghost use Rattle.flash_rule.specs.Plays.{Disjoint};
+ghost use Rattle.flash_rule.specs.Views.{sum_of};
+ghost use Rattle.flash_rule.specs.World.{sector_word};
 ghost use Rattle.flash_rule.specs.declared.facts.Owned.{Owned};
 ghost use Rattle.flash_rule.specs.declared.view.View.{View};
-ghost use Rattle.broom.specs.Meeting.{BroomsMet, StoodTold};
+ghost use Rattle.broom.specs.Meeting.{BroomsMet, HasHeard, StoodTold};
 ghost use Rattle.host.specs.Told.{MetHolding, MetTold, Refused, Searched, Wrote};
 ghost use Rattle.uses.specs.Standing.{HasNoErase};
 ghost use Rattle.laws.specs.Hosts.{FilledOne, TookNothing};
@@ -25,6 +27,8 @@ pub fn writes_of_hosts()
     // The number of looks of a search is bounded.
     ensures looked { (v w : View) → ¬ Searched v 0 w }
     ensures bounded { (v w : View) → ¬ Searched v (v.numbers.blocks * (2 * v.numbers.endurance) + 2) w }
+    ensures paid { (v w : View) (tries : ℕ) → Searched v tries w → (tries + sum_of v.known ≤ sum_of w.known + 1)
+        × (sum_of w.known ≤ v.numbers.blocks * (2 * v.numbers.endurance)) × Begins v.seen w.seen × (w.looks ≡ v.looks + tries) }
 {}
 
 /// What two players know of each other after they met.
@@ -35,5 +39,8 @@ pub fn meetings_of_players()
     ensures held { (v w x y : View) (m : MapWord) → MetHolding v w m x y → HasNoErase w.erases m × Begins v.seen y.seen }
     ensures stood { (v w x y : View) (m : MapWord) → StoodTold v w m x y → HasNoErase w.erases m × Begins v.seen y.seen }
     ensures erases { (v w x y : View) → BroomsMet v w x y → Disjoint x.erases y.erases × Disjoint x.programs y.programs }
+    ensures heard { (v w : View) → (h : HasHeard v w) → (w.named ≡ v.named ++ (0, sector_word h.found) ∷ []) × (w.older ≡ v.copy)
+        × (h.found ≡ None → held v.numbers.sectors w.seen 0 ≡ None) }
+    ensures mapped { (v w : View) (m : MapWord) → (h : HasHeard v w) → h.found ≡ Some m → (x : List ℕ) × (held v.numbers.sectors w.seen 0 ≡ Some x) }
     ensures brooms_seen { (v w x y : View) → BroomsMet v w x y → Begins w.seen x.seen × Begins x.seen y.seen }
 {}

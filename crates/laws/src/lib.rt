@@ -16,6 +16,7 @@ mod played_rounds;
 mod players;
 mod plays;
 mod queues;
+mod refusals;
 mod reports;
 mod rules;
 mod sessions;
@@ -32,27 +33,29 @@ mod volumes;
 
 pub use arrays::an_array_after_calls;
 pub use broom_results::{
-    calls_that_gain_nothing, records_of_brooms, results_of_an_erase, turns_with_a_queue,
+    drains_by_a_survey, drains_of_dead_blocks, results_of_a_drain, results_of_an_erase,
+    turns_with_a_queue,
 };
-pub use broom_turns::{brooms_of_a_run, collections_that_are_done, turns_of_a_broom};
-pub use brooms::{
-    a_drain_and_its_survey, a_survey_and_its_victim, an_erase_of_a_block, marks_of_a_survey,
-};
+pub use broom_turns::{brooms_of_a_run, turns_of_a_broom};
+pub use brooms::{a_drain_and_its_survey, a_survey_and_its_victim, marks_of_a_survey};
 pub use dies::{a_die_after_a_command, bytes_of_a_die, pages_of_a_block};
 pub use histories::{beginnings_of_histories, calls_of_hosts, lists_of_players};
-pub use host_results::{closes_that_are_right, records_of_hosts, results_of_hosts};
+pub use host_results::records_of_hosts;
 pub use hosts::{meetings_of_players, writes_of_hosts};
 pub use limits::{
     faults_of_numbers, numbers_within_limits, pages_and_states_of_devices, words_of_tables,
 };
 pub use lines::{answers_of_rounds, answers_of_sectors, rounds_of_a_trace, tries_of_a_write};
-pub use played_rounds::{lines_that_are_played, rounds_that_are_played, runs_of_workers};
+pub use played_rounds::runs_of_workers;
 pub use players::{lines_and_answers_of_workers, workers_of_a_round};
 pub use plays::{moves_of_brooms, steps_of_brooms, steps_of_passes};
 pub use queues::{numbers_in_a_queue, numbers_put_and_taken};
+pub use refusals::refused_writes;
 pub use reports::{names_of_faults, stops_of_a_run, texts_of_a_stock};
 pub use rules::{sights_of_a_queue, views_of_a_table};
-pub use sessions::{ends_of_a_session, files_of_a_session, refusals_of_files};
+pub use sessions::{
+    ends_of_a_session, files_of_a_session, options_of_a_session, refusals_of_files,
+};
 pub use steps::{calls_of_brooms, holds_and_erases, steps_of_an_array};
 pub use stocks::{
     calls_of_a_stock, collections_of_a_stock, counts_of_a_stock, pages_left_in_a_stock,

@@ -1,10 +1,9 @@
-ghost use Rattle.std.specs.Prelude.{◌≡◌, ◌⊎◌, ℕ, List, [], ◌∷◌, None, Some, true, false, codes};
-ghost use Rattle.geometry.specs.History.{Call};
+ghost use Rattle.std.specs.Prelude.{◌≡◌, ◌⊎◌, ℕ, List, [], ◌∷◌, None, Some, true, false};
 ghost use Rattle.geometry.specs.Sectors.{Sector};
 ghost use Rattle.rounds.specs.Lines.{Said, IsRight};
 ghost use Rattle.rounds.specs.Merging.{AreDisjointCommands, IsDisjointTrace, merge, rounds_of};
-ghost use Rattle.rounds.specs.Playing.{IsTried, LineFound, Played, WriteFound, all_taken};
-ghost use Rattle.rounds.specs.Rows.{AreAtOneHistory, AreRounds};
+ghost use Rattle.rounds.specs.Playing.{IsTried, LineFound, WriteFound};
+ghost use Rattle.rounds.specs.Rows.{AreAtOneHistory};
 ghost use Rattle.rounds.specs.Texts.{IsTextOfSome};
 ghost use Rattle.rounds.specs.declared.answer.Kind.TheVariants as kind;
 ghost use Rattle.trace.specs.declared.commands.Command.{Command};

@@ -1,13 +1,14 @@
 //! Laws of what each kind of step on the table records.
-ghost use Rattle.std.specs.Prelude.{◌≡◌, ◌+◌, ◌<◌, ℕ, List, [], ◌∷◌, ◌++◌, Some, None, length};
+ghost use Rattle.std.specs.Prelude.{◌≡◌, ◌+◌, ◌<◌, ◌≤◌, ℕ, List, [], ◌∷◌, ◌++◌, Some, None, length};
 ghost use Rattle.atomic_table.specs.Table.{State, Step};
+ghost use Rattle.flash_rule.specs.BroomPlays.{CanInspect, Inspected, inspect_told, inspected_in};
 ghost use Rattle.flash_rule.specs.BroomPlays.{CanClaim, CanCondemn, CanDrain, CanGetStamp, CanMove, CanRenew, CanRetire, CanWipe, Loaded, Named, cycle_of};
 ghost use Rattle.flash_rule.specs.BroomPlays.{broom_look_told, claim_told, condemn_told, drain_told};
 ghost use Rattle.flash_rule.specs.BroomPlays.{freed_told, kept_told, move_told, owned_as, retired_told};
 ghost use Rattle.flash_rule.specs.BroomPlays.{source_told, stamp_told, state_told, wipe_told};
 ghost use Rattle.flash_rule.specs.Plays.{CanClose, CanCount, CanPlace, CanPut, Looked};
 ghost use Rattle.flash_rule.specs.Plays.{Sitter, close_told, count_told, get_told, look_told, new_told, next_page};
-ghost use Rattle.flash_rule.specs.Plays.{pin_told, put_told, take_told, trim_told, unpin_told, words_in, write_told};
+ghost use Rattle.flash_rule.specs.Plays.{Tested, pin_told, put_told, take_told, test_told, trim_told, unpin_told, words_in, write_told};
 ghost use Rattle.flash_rule.specs.Seats.{Ruled};
 ghost use Rattle.flash_rule.specs.Views.{without};
 ghost use Rattle.flash_rule.specs.World.{blank_word, data_word};
@@ -21,13 +22,14 @@ ghost use Rattle.flash_rule.specs.declared.view.View.{View};
 ghost use Rattle.geometry.specs.History.{Trim, Write, WriteNew, held};
 ghost use Rattle.geometry.specs.Limits.{numbers};
 ghost use Rattle.geometry.specs.MapWords.{FitsMap, map_word};
-ghost use Rattle.geometry.specs.PinWords.{pin_word};
+ghost use Rattle.geometry.specs.PinWords.{FitsPin, pin_word};
 ghost use Rattle.geometry.specs.TableOrder.{page_index, pin_index};
 ghost use Rattle.geometry.specs.declared.map_word.MapWord.{MapWord};
 ghost use Rattle.geometry.specs.declared.map_word.TheConstants.{UNMAPPED};
 ghost use Rattle.geometry.specs.declared.pin_word.Phase.TheVariants as phase;
 ghost use Rattle.geometry.specs.declared.pin_word.PinWord.{PinWord};
-ghost use Rattle.laws.specs.Tables.{an_owned};
+ghost use Rattle.laws.specs.Tables.{an_inspection, an_owned};
+ghost use Rattle.laws.specs.Brooms.{a_page};
 
 /// What each step of a pass records.
 pub fn steps_of_passes()
@@ -42,6 +44,11 @@ pub fn steps_of_passes()
         × (after.0.mine ≡ me.0.mine ++ WriteNew 2 st.word x ∷ []) }
     ensures trim { (st : Step (Unit {0})) (me after : Sitter) (n : ℕ) → trim_told st me n after → me.0.role ≡ seat.Player (name.Pass 2) → (after.1 ≡ me.1)
         × (after.0.mine ≡ me.0.mine ++ Trim 2 st.word ∷ []) }
+    ensures test { (st : Step (Unit {0})) (me after : Sitter) (n : ℕ) → test_told st me n after → 3 < me.0.numbers.blocks
+        → st.word ≡ pin_index me.0.numbers 3 → (after.1 ≡ me.1) × Tested me.0 3 n after.0 }
+    ensures tested_free { (v w : View) (n : ℕ) → (h : Tested v 3 n w) → h.state.phase ≡ phase.Free → (w ≡ v) × FitsPin h.state × (n ≡ pin_word h.state) }
+    ensures tested_taken { (v w : View) (n : ℕ) → (h : Tested v 3 n w) → h.state.phase ≡ phase.Open → (w.denied ≡ v.denied ++ 3 ∷ []) × (w.taken ≡ v.taken)
+        × (w.owns ≡ v.owns) }
     ensures take { (st : Step (Unit {0})) (me after : Sitter) → take_told st me 0 after → 3 < me.0.numbers.blocks → st.word ≡ pin_index me.0.numbers 3
         → (after.1 ≡ me.1) × (0 < me.0.numbers.endurance) }
     ensures put { (st : Step (Unit {0})) (me after : Sitter) (n : ℕ) (o : Owned) → put_told st me n after → CanPut me.0 o
@@ -73,6 +80,18 @@ pub fn moves_of_brooms()
         × (after.0.cleared ≡ me.0.cleared + 1) }
     ensures source { (st : Step (Unit {0})) (me after : Sitter) (n : ℕ) (x : Source) (v : List ℕ) → source_told st me n after → me.0.source ≡ Some x
         → x.value ≡ Some v → 1 < me.0.numbers.words → st.word ≡ page_index me.0.numbers x.page.block x.page.page + 1 → (after ≡ me) × (n ≡ data_word v 1) }
+    ensures inspect { (st : Step (Unit {0})) (me after : Sitter) (n : ℕ) (p : PinWord) → inspect_told st me n after → CanInspect me.0 3 p st.word
+        → (after.1 ≡ me.1) × Inspected me.0 3 p.generation st.word n after.0 }
+    ensures inspected { (v w : View) → (h : Inspected v 3 1 4 0 w) → h.found ≡ None → w ≡ record v { inspection = Some (an_inspection 3 1 5) } }
+    ensures inspected_live { (v w : View) (n : ℕ) → (h : Inspected v 3 1 4 n w) → h.found ≡ Some (a_page 1 3 2) → (w.named ≡ v.named ++ (4, n) ∷ [])
+        × (w.inspection ≡ v.inspection) × (n ≡ map_word (a_page 1 3 2)) }
+    ensures inspected_other { (v w : View) (n : ℕ) → (h : Inspected v 3 1 4 n w) → h.found ≡ Some (a_page 2 3 2) → (w.named ≡ v.named)
+        × (w.inspection ≡ Some (an_inspection 3 1 5)) }
+    ensures can_inspect { (v : View) (p : PinWord) (s : ℕ) → CanInspect v 3 p s → (p.phase ≡ phase.Closed) × FitsPin p × (3 < v.numbers.blocks)
+        × (s ≤ inspected_in v.inspection 3 p.generation) }
+    ensures not_from_the_middle { (v : View) (p : PinWord) → v.inspection ≡ None → ¬ CanInspect v 3 p 1 }
+    ensures of_another_block { (v : View) (p : PinWord) → v.inspection ≡ Some (an_inspection 2 p.generation 5) → ¬ CanInspect v 3 p 1 }
+    ensures loaded_last { (v : View) (p : PinWord) → v.loaded ≡ [] → ¬ CanInspect v 3 p 0 }
     ensures cannot_move { (v : View) (x : Source) (m : MapWord) → (v.source ≡ None → ¬ CanMove v x m) × (x.value ≡ None → ¬ CanMove v x m) }
     ensures moves { (st : Step (Unit {0})) (me after : Sitter) (x : Source) (m : MapWord) → move_told st me (map_word x.page) after → CanMove me.0 x m
         → FitsMap x.page → FitsMap m → st.word ≡ x.stamp → st.first ≡ map_word x.page → st.second ≡ map_word m → (after.1 ≡ me.1)

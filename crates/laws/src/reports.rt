@@ -79,6 +79,7 @@ pub fn names_of_faults()
 {}
 
 /// The lines that a run writes of its stock, and the stock after a command.
+#[tactic(auto, unfolding(ftl_one::specs::Blocks::blocks_in))]
 pub fn texts_of_a_stock()
     ensures totals { end_text (record { blocks = []; programs = 1; copies = 2; erases = 3 }) ≡ codes "end,1,2,3\n" }
     ensures block { block_line (stock_with (block_with role.Retired (live 0 ∷ []) ∷ [])) 0 ≡ codes "0,0,1,1\n" }

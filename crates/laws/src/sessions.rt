@@ -1,19 +1,29 @@
-ghost use Rattle.std.specs.Prelude.{◌≡◌, ◌+◌, ℕ, List, [], ◌∷◌, None, Some, codes, true};
-ghost use Rattle.answers.specs.Streams.{Passage, Sends, Stream};
+ghost use Rattle.std.specs.Prelude.{◌≡◌, ◌+◌, ℕ, IfSome, List, Option, [], ◌∷◌, Err, None, Some, codes, false, not, true};
+ghost use Rattle.answers.specs.Answers.{end_text};
+ghost use Rattle.answers.specs.Outcome.{ExplainsRun};
+ghost use Rattle.answers.specs.Streams.{Passage, Sends, SendsBeginning, Stream, stream_of};
 ghost use Rattle.answers.specs.declared.fault.RunFault.{RunFault};
-ghost use Rattle.clap.specs.Words.{Text};
+ghost use Rattle.clap.specs.Words.{IsAmong, Text, first_of, kind_of, one_of};
+ghost use Rattle.clap.specs.declared.error.Error.{Error};
+ghost use Rattle.geometry.specs.Geometry.{hosts_of, numbers_of};
+ghost use Rattle.geometry.specs.Limits.{first_fault, numbers};
+ghost use Rattle.geometry.specs.declared.fault.GeometryFault.{GeometryFault};
 ghost use Rattle.geometry.specs.declared.geometry.Geometry.{Geometry};
-ghost use Rattle.player.specs.Session.{HasFailedToOpen, IsLogBy, IsRefusedAs, LeavesLogBy, LosesFile, TellsFile, filing};
+ghost use Rattle.player.specs.CommandLine.{AreOptionsOf, IsNumberIn, faults_given, numbers_given, rows_given, rows_named};
+ghost use Rattle.player.specs.Session.{AppendsSome, AsksClap, HasFailedToOpen, IsIdle, IsLogBy, IsOpenedAs, IsRefused, IsRefusedAs, IsTextFor};
+ghost use Rattle.player.specs.Session.{LeavesLogBy, LosesFile, TellsFile, filing, name_given};
 ghost use Rattle.player.specs.Telling.{TellsStop};
+ghost use Rattle.player.specs.declared.command_line.Options.{Options};
 ghost use Rattle.player.specs.declared.run_files.FileStop.TheVariants as file_stop;
 ghost use Rattle.player.specs.declared.run_files.RunFile.TheVariants as run_file;
 ghost use Rattle.player.specs.declared.stop.Stop.TheVariants as stop;
 ghost use Rattle.runs.specs.Brooms.{IsBroomLogOf};
-ghost use Rattle.trace.specs.Watched.{failures_of};
+ghost use Rattle.runs.specs.Outputs.{IsLastLineOf, IsOutputByWorkers, IsOutputOf};
+ghost use Rattle.trace.specs.Watched.{failures_of, inner_of};
 ghost use Rattle.trace.specs.declared.named_file.OpenFault.{OpenFault};
 ghost use Rattle.trace.specs.declared.named_file.OpenFault.TheVariants as open_fault;
 ghost use Rattle.trace.specs.declared.watched.Watched.{Watched};
-ghost use Rattle.laws.specs.Sessions.{EndsWith, Reports, in_use, named_b, system_refused, untold, untold_bytes, untold_name};
+ghost use Rattle.laws.specs.Sessions.{EndsBy, EndsWith, Gives, PlaysAll, Reports, in_use, named_b, system_refused, untold, untold_bytes, untold_name};
 ghost use Rattle.laws.specs.Streams.{Same, passes};
 
 /// What the status of a session says of what was read and written.
@@ -23,7 +33,21 @@ pub fn ends_of_a_session()
     ensures words { (w : List Text) (i o e : Passage) → EndsWith 2 w i o e → (i.after ≡ i.before) × (o.after ≡ o.before) }
     ensures trace { (w : List Text) (i o e : Passage) → EndsWith 3 w i o e → o.after ≡ o.before }
     ensures told { (e : Passage) → TellsStop stop.Memory e → e.after.failures ≡ e.before.failures → Sends e (codes "memory: refused\n") }
-    ensures other { (s : ℕ) (w : List Text) (i o e : Passage) → EndsWith (5 + s) w i o e → ⊥ }
+    ensures played { (w : List Text) (i o e : Passage) → EndsWith 0 w i o e → faults_given w ≡ [] → PlaysAll w i o }
+    ensures which { (f : GeometryFault) (w : List Text) (i o e : Passage) → EndsBy (Err (stop.Geometry f)) w i o e → (given : Options)
+        × AreOptionsOf w given × (first_fault (numbers_given given) ≡ Some f) × (faults_given w ≡ []) × IsIdle i o
+        × TellsStop (stop.Geometry f) e }
+    ensures stopped { (f : RunFault) (w : List Text) (i o e : Passage) → EndsBy (Err (stop.Run f)) w i o e → (given : Options) × (g : Geometry)
+        × AreOptionsOf w given × (numbers_of g ≡ numbers_given given) × (faults_given w ≡ []) × ExplainsRun (IsTextFor given) g i o f
+        × TellsStop (stop.Run f) e }
+    ensures helped { (w : List Text) (i o e : Passage) → EndsWith 0 w i o e → ¬ (faults_given w ≡ []) → (k : Error)
+        × IsAmong (kind_of k) (faults_given w) × AsksClap (kind_of k) × (i.after ≡ i.before) × (t : List ℕ) × Sends o t }
+    ensures help_failed { (w : List Text) (i o e : Passage) → EndsBy (Err stop.Help) w i o e → (k : Error) × IsAmong (kind_of k) (faults_given w)
+        × AsksClap (kind_of k) × (i.after ≡ i.before) × AppendsSome o }
+    ensures refused { (w : List Text) → IsRefused w → (k : Error) × IsAmong (kind_of k) (faults_given w) × (¬ AsksClap (kind_of k)) }
+    ensures told_part { (e : Passage) → TellsStop stop.Memory e → SendsBeginning e (codes "memory: refused\n") }
+    ensures unwritten { (w : List Text) (i o e : Passage) → EndsWith 5 w i o e → o.after.failures ≡ o.before.failures }
+    ensures other { (s : ℕ) (w : List Text) (i o e : Passage) → EndsWith (6 + s) w i o e → ⊥ }
 {}
 
 /// What is known of why a file could not be opened decides how a session reports it.
@@ -45,6 +69,38 @@ pub fn files_of_a_session()
     ensures lost { (i : Stream) (a : Watched ℕ) → ¬ LosesFile (Some (codes "a")) Same i (filing untold_name untold untold_bytes a a) }
     ensures other_name { (i : Stream) (a b : Watched ℕ) → ¬ TellsFile (Some (codes "a")) Same i (filing named_b untold untold_bytes a b) }
     ensures other_lost { (i : Stream) (a b : Watched ℕ) → ¬ LosesFile (Some (codes "a")) Same i (filing named_b untold untold_bytes a b) }
+    ensures opened { (n : ℕ → Option Text) (b : ℕ → Option (List ℕ)) (a : Watched ℕ) (t : Text) → (h : IsOpenedAs n b a t)
+        → (stream_of b h.opened ≡ stream_of b a) × IfSome (n (inner_of h.opened)) (λ known. known ≡ t) }
     ensures left { (f : RunFault) (g : Geometry) (i : Stream) → ¬ LeavesLogBy 1 f true g i (passes [] (2 ∷ [])) }
     ensures limit { (g : Geometry) (bytes text : List ℕ) → IsLogBy 1 7 g bytes text → IsBroomLogOf 7 g bytes text }
+{}
+
+/// What the words of a command line give for each option: the number that they write for it or its default, the names of the files, and whether
+/// the answers are left out; which device these describe, and what is then written to the output.
+pub fn options_of_a_session()
+    ensures defaults { (w : List Text) (given : Options) → rows_named w ≡ [] → AreOptionsOf w given
+        → (numbers_given given ≡ numbers 1 64 64 64 3072 1000 0 0) × (given.patience ≡ 1000000) × (given.drains ≡ 1) }
+    ensures device { (w : List Text) (given : Options) (t : Text) → AreOptionsOf w given
+        → (Gives w (codes "luns") t → IsNumberIn 0 4294967295 t (numbers_given given).luns)
+        × (Gives w (codes "blocks") t → IsNumberIn 0 4294967295 t (numbers_given given).blocks)
+        × (Gives w (codes "pages") t → IsNumberIn 0 4294967295 t (numbers_given given).pages)
+        × (Gives w (codes "words") t → IsNumberIn 0 4294967295 t (numbers_given given).words)
+        × (Gives w (codes "sectors") t → IsNumberIn 0 4294967295 t (numbers_given given).sectors)
+        × (Gives w (codes "endurance") t → IsNumberIn 0 4294967295 t (numbers_given given).endurance) }
+    ensures threads { (w : List Text) (given : Options) (t : Text) → AreOptionsOf w given
+        → (Gives w (codes "workers") t → IsNumberIn 0 4294967295 t (numbers_given given).hosts)
+        × (Gives w (codes "brooms") t → IsNumberIn 0 4294967295 t (numbers_given given).brooms)
+        × (Gives w (codes "patience") t → IsNumberIn 1 1000000000 t given.patience)
+        × (Gives w (codes "drains") t → IsNumberIn 1 4096 t given.drains) }
+    ensures files { (w : List Text) (given : Options) → AreOptionsOf w given
+        → (name_given run_file.Wear given ≡ first_of (codes "wear") (rows_given w))
+        × (name_given run_file.Collections given ≡ first_of (codes "collections") (rows_given w)) }
+    ensures quiet { (w : List Text) (given : Options) → AreOptionsOf w given → (one_of (codes "quiet") (rows_given w) ≡ None → given.quiet ≡ false)
+        × (one_of (codes "quiet") (rows_given w) ≡ Some (codes "true") → given.quiet ≡ true)
+        × (one_of (codes "quiet") (rows_given w) ≡ Some (codes "false") → given.quiet ≡ false) }
+    ensures one_thread { (given : Options) (g : Geometry) (b t : List ℕ) → hosts_of g ≡ 0 → IsTextFor given g b t → IsOutputOf (not given.quiet) g b t }
+    ensures by_workers { (given : Options) (g : Geometry) (b t : List ℕ) → hosts_of g ≡ 2 → IsTextFor given g b t
+        → IsOutputByWorkers (not given.quiet) g b t }
+    ensures quiet_text { (g : Geometry) (b t : List ℕ) → IsOutputOf false g b t → IsLastLineOf g b t }
+    ensures quiet_workers { (g : Geometry) (b t : List ℕ) → IsOutputByWorkers false g b t → t ≡ end_text }
 {}

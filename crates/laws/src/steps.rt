@@ -1,5 +1,5 @@
-ghost use Rattle.std.specs.Prelude.{◌≡◌, ◌+◌, ◌<◌, ℕ, List, [], ◌∷◌, ◌++◌, Some};
-ghost use Rattle.geometry.specs.History.{Call, Trim, Begins, held};
+ghost use Rattle.std.specs.Prelude.{◌≡◌, ◌+◌, ◌<◌, ℕ, Bool, List, [], ◌∷◌, ◌++◌, is_some};
+ghost use Rattle.geometry.specs.History.{Call, Begins, held, was};
 ghost use Rattle.geometry.specs.History as call;
 ghost use Rattle.geometry.specs.Sectors.{Answers};
 ghost use Rattle.geometry.specs.declared.answer.Got.{Got};
@@ -13,31 +13,34 @@ ghost use Rattle.host.specs.Holding.{page_of, pass_of};
 ghost use Rattle.host.specs.declared.holding.Held.{Held};
 ghost use Rattle.flash_table.specs.Flash.{view_of};
 ghost use Rattle.uses.specs.Standing.{HasNoErase};
-ghost use Rattle.volume.specs.Correct.{Answer, Asked, Correct, Found, Known, Read, Replaced, Write};
+ghost use Rattle.flash_rule.specs.Views.{calls_of};
+ghost use Rattle.volume.specs.Correct.{Answer, Asked, Correct, Found, IsWritten, Known, Look, Read, Replaced, Trim, Write, WriteNew, calls_for};
 ghost use Rattle.volume.specs.LeavesArray.{LeavesArray};
 ghost use Rattle.volume.specs.Undisturbed.{AreEarlier, Undisturbed};
-ghost use Rattle.laws.specs.Steps.{ProgramsApart, ReadsPage, StaysAt, erase_in, knows, two_times, wrote_two};
+ghost use Rattle.laws.specs.Steps.{ProgramsApart, StaysAt, erase_in};
 
 /// What a step of an array of sectors is, and what is none.
 pub fn steps_of_an_array()
-    // A read of a value that the pass itself wrote.
-    ensures reads { (t : ℕ) (x old : List ℕ) → let k = knows (call.Write t 0 x ∷ []) in ReadsPage t old x k k }
-
-    // A read is answered by the array at the end of what its pass has seen, which begins with all that it had seen.
+    // A read and a look are answered by the array at the end of what their pass has seen.
     ensures read { (n t s : ℕ) (g : Got) (old new : List ℕ) (v w : Known) → Correct n t (Read s) (Found g old new) v w → Answers (held n w.seen s) g old new }
-    ensures later { (n t : ℕ) (asked : Asked) (answer : Answer) (v w : Known) → Correct n t asked answer v w → Begins v.seen w.seen }
+    ensures look { (n t s : ℕ) (answer : Answer) (v w : Known) → Correct n t (Look s) answer v w → answer ≡ IsWritten (is_some (held n w.seen s)) }
 
-    // So a value that was overwritten before can't be read.
-    ensures stale { (t : ℕ) (x y old : List ℕ) (w : Known) → ¬ (x ≡ y) → w.seen ≡ (wrote_two t x y).seen → ¬ ReadsPage t old x (wrote_two t x y) w }
+    // A write and a trim are answered by the array before their call, which is the last that their pass has seen.
+    ensures write { (n t s : ℕ) (x : List ℕ) (answer : Answer) (v w : Known) → (h : Correct n t (Write s x) answer v w)
+        → (answer ≡ Replaced (was n h.place s)) × (w.seen ≡ h.place ++ call.Write t s x ∷ []) }
+    ensures write_new { (n t s : ℕ) (x : List ℕ) (answer : Answer) (v w : Known) → (h : Correct n t (WriteNew s x) answer v w)
+        → (answer ≡ Replaced (was n h.place s)) × (w.seen ≡ h.place ++ call.WriteNew t s x ∷ []) }
+    ensures trim { (n t s : ℕ) (answer : Answer) (v w : Known) → (h : Correct n t (Trim s) answer v w)
+        → (answer ≡ Replaced (was n h.place s)) × (w.seen ≡ h.place ++ call.Trim t s ∷ []) }
 
-    // A write is the last call that its pass has seen, and is its own, once.
-    ensures wrote { (t : ℕ) (x : List ℕ) (a : Was) (v w : Known) → Correct 1 t (Write 0 x) (Replaced a) v w → held 1 w.seen 0 ≡ Some x }
-    ensures mine { (n t s : ℕ) (x : List ℕ) (a : Was) (v w : Known) → Correct n t (Write s x) (Replaced a) v w → w.mine ≡ v.mine ++ call.Write t s x ∷ [] }
-    ensures twice { (n t s : ℕ) (x : List ℕ) (a : Was) (w : Known) → w.seen ≡ two_times (call.Write t s x)
-        → ¬ Correct n t (Write s x) (Replaced a) (knows []) w }
+    // The place of each is not before anything that its pass had seen, and of all that the pass sees exactly the calls that it made are its own.
+    ensures later { (n t : ℕ) (asked : Asked) (answer : Answer) (v w : Known) → (h : Correct n t asked answer v w) → Begins v.seen h.place
+        × Begins h.place w.seen }
+    ensures own { (n t : ℕ) (asked : Asked) (answer : Answer) (v w : Known) → Correct n t asked answer v w → (w.mine ≡ v.mine ++ calls_for t asked)
+        × (calls_of t w.seen ≡ w.mine) }
 
-    // No read is answered as a write is.
-    ensures kinds { (n t s : ℕ) (a : Was) (v w : Known) → ¬ Correct n t (Read s) (Replaced a) v w }
+    // No read is answered as a write or a look is.
+    ensures kinds { (n t s : ℕ) (a : Was) (b : Bool) (v w : Known) → (¬ Correct n t (Read s) (Replaced a) v w) × (¬ Correct n t (Read s) (IsWritten b) v w) }
 {}
 
 /// What a broom's call leaves of the array.
@@ -45,8 +48,8 @@ pub fn calls_of_brooms()
     ensures nothing { (v : View) → v.seen ≡ [] → LeavesArray v v }
     ensures mine { (v w : View) (c : Call) → w.mine ≡ v.mine ++ c ∷ [] → ¬ LeavesArray v w }
     ensures later { (v w : View) (c : Call) → v.seen ≡ c ∷ [] → w.seen ≡ [] → ¬ LeavesArray v w }
-    ensures hosts { (v w : View) (s : ℕ) → w.numbers.hosts ≡ 1 → w.seen ≡ Trim 1 s ∷ [] → ¬ LeavesArray v w }
-    ensures others { (v w : View) (t s : ℕ) → LeavesArray v w → w.seen ≡ v.seen ++ Trim t (s + 1) ∷ [] → s < v.numbers.sectors → StaysAt s v w }
+    ensures hosts { (v w : View) (s : ℕ) → w.numbers.hosts ≡ 1 → w.seen ≡ call.Trim 1 s ∷ [] → ¬ LeavesArray v w }
+    ensures others { (v w : View) (t s : ℕ) → LeavesArray v w → w.seen ≡ v.seen ++ call.Trim t (s + 1) ∷ [] → s < v.numbers.sectors → StaysAt s v w }
 {}
 
 /// Which erases and programs of another player a hold excludes.

@@ -1,11 +1,11 @@
 //! Laws of the blocks of a device for one thread.
-ghost use Rattle.std.specs.Prelude.{◌≡◌, ◌+◌, ◌<◌, ℕ, List, [], ◌∷◌, Some, None, Ok, Err, true, false};
+ghost use Rattle.std.specs.Prelude.{◌≡◌, ◌+◌, ◌<◌, ◌≤◌, ℕ, List, [], ◌∷◌, Some, None, Ok, Err, true, false};
 ghost use Rattle.ftl_one.specs.Blocks.{weight};
 ghost use Rattle.ftl_one.specs.Collections.{collection_between, collection_due};
 ghost use Rattle.ftl_one.specs.Entries.{Recounts, live_count};
 ghost use Rattle.ftl_one.specs.Fewest.{IsFewest};
 ghost use Rattle.ftl_one.specs.Lawful.{IsLawful, KnowsSpare, role_in};
-ghost use Rattle.ftl_one.specs.Laws.{CollectsAtMostOne, ErasesNothing, HasNoPage, HasRetired, block_at};
+ghost use Rattle.ftl_one.specs.Laws.{Collects, CollectsAtMostOne, ErasesNothing, HasNoPage, HasRetired, block_at};
 ghost use Rattle.ftl_one.specs.MapEntries.{bits_of, named_by};
 ghost use Rattle.ftl_one.specs.OneFtl.{was_found};
 ghost use Rattle.ftl_one.specs.Stock.{Stock, is_free, is_retired, live_of, next_of, opening_of};
@@ -17,6 +17,7 @@ ghost use Rattle.geometry.specs.History.{Trim, Write, WriteNew};
 ghost use Rattle.laws.specs.Blocks.{HasTwoBlocks, at, before_write, block_with, dead, half_live, half_moved, live, stock_with, written_after};
 
 /// When a stock needs a collection, and which one.
+#[tactic(auto, unfolding(ftl_one::specs::Collections::collection_due, ftl_one::specs::Collections::collection_between))]
 pub fn collections_of_a_stock()
     ensures open { (g : Geometry) → collection_due g (stock_with (block_with role.Closed (live 0 ∷ []) ∷ block_with role.Open [] ∷ [])) ≡ None }
     ensures free { (g : Geometry) → collection_due g (stock_with (block_with role.Closed (live 0 ∷ []) ∷ block_with role.Free [] ∷ [])) ≡ None }
@@ -47,10 +48,14 @@ pub fn pages_left_in_a_stock()
     ensures two_erases { (s t : Stock) → t.erases ≡ s.erases + 2 → ¬ CollectsAtMostOne s t }
     ensures two_blocks { (s t : Stock) → (block_at t 0).erases ≡ (block_at s 0).erases + 1 → (block_at t 1).erases ≡ (block_at s 1).erases + 1
         → ¬ CollectsAtMostOne s t }
+    ensures collected { (s t : Stock) (b : ℕ) → Collects s t b → ((block_at s b).role ≡ role.Closed) × ((block_at t b).erases ≡ (block_at s b).erases + 1)
+        × (t.erases ≡ s.erases + 1) × (t.copies ≡ s.copies + live_of (block_at s b)) }
+    ensures fewest { (s t : Stock) (b k : ℕ) → Collects s t b → (block_at s k).role ≡ role.Closed → live_of (block_at s b) ≤ live_of (block_at s k) }
     ensures lost_copies { (s t : Stock) → t.copies < s.copies → ¬ CollectsAtMostOne s t }
 {}
 
 /// What is counted of blocks, and which of them is the one with the fewest live pages.
+#[tactic(auto, unfolding(ftl_one::specs::MapEntries::named_by))]
 pub fn counts_of_a_stock()
     ensures live { (live_count (live 0 ∷ dead 0 ∷ live 1 ∷ []) ≡ 2) × (live_of (block_with role.Closed (dead 0 ∷ live 1 ∷ [])) ≡ 1) }
     ensures weight { weight 4 (record { role = role.Open; erases = 2; entries = live 0 ∷ [] }) ≡ 11 }
@@ -73,6 +78,7 @@ pub fn counts_of_a_stock()
 {}
 
 /// What a call does to a stock of one or two blocks.
+#[tactic(auto, unfolding(geometry::specs::Greedy::greedy_of))]
 pub fn calls_of_a_stock()
     ensures opening { opening_of 2 ≡ stock_with (block_with role.Free [] ∷ block_with role.Spare [] ∷ []) }
     ensures opens { (x : List ℕ)

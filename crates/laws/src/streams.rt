@@ -7,7 +7,7 @@ ghost use Rattle.answers.specs.Faults.{run_text};
 ghost use Rattle.answers.specs.Placed.{Placed};
 ghost use Rattle.answers.specs.Playable.{IsPlayable};
 ghost use Rattle.answers.specs.Replies.{reply_of, reply_text};
-ghost use Rattle.answers.specs.Streams.{Moves, Passage, Sends, SendsBeginning, Stream, Tells};
+ghost use Rattle.answers.specs.Streams.{Moves, Passage, Sends, SendsBeginning, Stream, Tells, WritesOut};
 ghost use Rattle.answers.specs.declared.delivery.OutputFailed.{OutputFailed};
 ghost use Rattle.answers.specs.declared.fault.RunFault.TheVariants as run;
 ghost use Rattle.answers.specs.declared.reply.Reply.TheVariants as reply;
@@ -56,6 +56,11 @@ pub fn texts_sent_to_a_writer()
     ensures not_waiting { ¬ Moves (passes [] (2 ∷ [])) [] (2 ∷ 3 ∷ []) }
     ensures under_way { IsUnderWay (Some []) (Some (2 ∷ [])) (3 ∷ []) (2 ∷ 3 ∷ []) }
     ensures order { ¬ IsUnderWay (Some []) (Some (2 ∷ [])) (3 ∷ []) (3 ∷ 2 ∷ []) }
+    ensures written_out { WritesOut (2 ∷ []) (passes [] (2 ∷ [])) (Ok tt) }
+    ensures cut_off { (f : OutputFailed) → WritesOut (2 ∷ 3 ∷ []) (fails [] (2 ∷ [])) (Err f) }
+    ensures not_whole { ¬ WritesOut (2 ∷ 3 ∷ []) (passes [] (2 ∷ [])) (Ok tt) }
+    ensures failure_untold { ¬ WritesOut (2 ∷ []) (fails [] (2 ∷ [])) (Ok tt) }
+    ensures no_failure { (f : OutputFailed) → ¬ WritesOut (2 ∷ []) (passes [] (2 ∷ [])) (Err f) }
 {}
 
 /// How the file of a text ends, and what a log has of it.

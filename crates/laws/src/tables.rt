@@ -13,10 +13,11 @@ ghost use Rattle.flash_rule.specs.declared.view.View.{View};
 ghost use Rattle.flash_table.specs.Erasing.{CanLiveOn, CondemnTold, IsErasing, IsLastErase, IsUnread, words_in_block};
 ghost use Rattle.flash_table.specs.Flash.{IsBroomOf, IsNoteOf, IsPassOf, broom_view, device, first_blocks, note_view, opened_of, own_blocks, view_of};
 ghost use Rattle.flash_table.specs.GivingUp.{closed_broom, closed_pass, left_closed, left_drained, left_free, left_retired};
+ghost use Rattle.flash_table.specs.Inspecting.{InspectTold};
 ghost use Rattle.flash_table.specs.Owning.{OwnsJust, blocks_list, owned_list};
 ghost use Rattle.flash_table.specs.Spares.{SpareTold};
-ghost use Rattle.flash_table.specs.Steps.{CanGiveUp, HasNumber, HasOneMore, HasPut, IsBack, IsClaimed, IsCleared, IsFilled, IsNewBroom, IsNewPass};
-ghost use Rattle.flash_table.specs.Steps.{IsNextWord, IsOfVictim, IsSpared, MoveTold, NowDrains, PinTold, PlaceTold, StampTold, TakeTold};
+ghost use Rattle.flash_table.specs.Steps.{CanGiveUp, HasInspected, HasNumber, HasOneMore, HasPut, IsBack, IsClaimed, IsCleared, IsFilled, IsNewBroom};
+ghost use Rattle.flash_table.specs.Steps.{IsNewPass, IsNextWord, IsOfVictim, IsSpared, MoveTold, NowDrains, PinTold, PlaceTold, StampTold, TakeTold};
 ghost use Rattle.flash_table.specs.declared.broom_seat.BroomBlocks.{BroomBlocks};
 ghost use Rattle.flash_table.specs.declared.broom_seat.BroomSeat.{BroomSeat};
 ghost use Rattle.flash_table.specs.declared.broom_seat.Reclaiming.TheVariants as reclaiming;
@@ -27,6 +28,7 @@ ghost use Rattle.flash_table.specs.declared.pass.Pass.{Pass};
 ghost use Rattle.geometry.specs.Geometry.{blocks_of, pages_of};
 ghost use Rattle.geometry.specs.History.{Trim};
 ghost use Rattle.geometry.specs.Limits.{numbers};
+ghost use Rattle.geometry.specs.MapWords.{FitsMap, map_word};
 ghost use Rattle.geometry.specs.PinWords.{pin_word};
 ghost use Rattle.geometry.specs.declared.answer.Was.{Was};
 ghost use Rattle.geometry.specs.declared.geometry.Geometry.{Geometry};
@@ -36,7 +38,7 @@ ghost use Rattle.geometry.specs.declared.pin_word.PinWord.{PinWord};
 ghost use Rattle.uses.specs.Standing.{HasNoErase};
 ghost use Rattle.laws.specs.Brooms.{a_page};
 ghost use Rattle.laws.specs.Limits.{a_state};
-ghost use Rattle.laws.specs.Tables.{a_cycle, a_reclaimed, an_open, an_owned, some_blocks};
+ghost use Rattle.laws.specs.Tables.{a_cycle, a_reclaimed, an_inspection, an_open, an_owned, some_blocks};
 
 /// How a seat's blocks are listed, and what its view becomes when it gives them up.
 pub fn blocks_of_a_seat()
@@ -154,6 +156,16 @@ pub fn pins_and_victims_of_a_seat()
         → v.cleared ≡ 4 → IsCleared g v x }
     ensures not_cleared { (g : Geometry) (v : View) (x : BroomBlocks) → x.reclaiming ≡ reclaiming.Draining (a_reclaimed 2 0 4) → v.cleared ≡ 3
         → ¬ IsCleared g v x }
+    ensures inspected { (g : Geometry) (v : View) (x : BroomBlocks) → x.reclaiming ≡ reclaiming.Draining (a_reclaimed 2 1 4) → blocks_of g ≡ 3
+        → v.source ≡ None → v.numbers.sectors ≡ 6 → v.inspection ≡ Some (an_inspection 2 1 6) → HasInspected g v x }
+    ensures inspected_before { (g : Geometry) (v : View) (x : BroomBlocks) → x.reclaiming ≡ reclaiming.Draining (a_reclaimed 2 1 4) → v.numbers.sectors ≡ 6
+        → (v.inspection ≡ Some (an_inspection 2 0 6) → ¬ HasInspected g v x) × (v.inspection ≡ Some (an_inspection 2 1 5) → ¬ HasInspected g v x)
+        × (v.inspection ≡ None → ¬ HasInspected g v x) }
+    ensures inspected_of { (g : Geometry) (v : View) (x : BroomBlocks) → (x.reclaiming ≡ reclaiming.Erasing (a_reclaimed 2 1 4) → ¬ HasInspected g v x)
+        × (x.reclaiming ≡ reclaiming.Draining (a_reclaimed 3 1 4) → blocks_of g ≡ 3 → ¬ HasInspected g v x) }
+    ensures inspects { (v w : View) → InspectTold v 3 1 4 false w → (w.inspection ≡ Some (an_inspection 3 1 5)) × (w.named ≡ v.named) }
+    ensures stops { (v w : View) → (h : InspectTold v 3 1 4 true w) → (h.page.block ≡ 3) × (h.page.generation ≡ 1) × FitsMap h.page
+        × (w.named ≡ v.named ++ (4, map_word h.page) ∷ []) × (w.inspection ≡ v.inspection) }
     ensures erased { (g : Geometry) (v : View) (x : BroomBlocks) → x.reclaiming ≡ reclaiming.Erasing (a_reclaimed 2 0 0) → (¬ IsCleared g v x)
         × (¬ IsOfVictim g x 0) }
     ensures of_victim { (g : Geometry) (x : BroomBlocks) → x.reclaiming ≡ reclaiming.Draining (a_reclaimed 2 0 4) → blocks_of g ≡ 3 → IsOfVictim g x 3 }

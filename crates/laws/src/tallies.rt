@@ -1,7 +1,6 @@
-ghost use Rattle.std.specs.Prelude.{◌≡◌, ◌-◌, ◌^◌, ℕ, List, [], ◌∷◌, true, false};
+ghost use Rattle.std.specs.Prelude.{◌≡◌, ◌-◌, ◌^◌, ℕ, [], ◌∷◌, true, false};
 ghost use Rattle.flash_rule.specs.declared.view.View.{View};
 ghost use Rattle.broom.specs.declared.answer.Drain.TheVariants as drain;
-ghost use Rattle.broom.specs.declared.answer.Erase.TheVariants as erase;
 ghost use Rattle.workers.specs.Growing.{GrowsBy, HasGrown};
 ghost use Rattle.workers.specs.Served.{HasDone};
 ghost use Rattle.workers.specs.Tallies.{IsCounted, nothing_done, total_of};

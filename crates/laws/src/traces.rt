@@ -1,5 +1,5 @@
 //! Laws of how a trace is read, and of why it is not loaded, not played, or not played to its end.
-ghost use Rattle.std.specs.Prelude.{◌≡◌, ℕ, List, [], ◌∷◌, ◌++◌, Option, Some, None, Ok, Err, Bool, true, false, codes, drop, length, replicate};
+ghost use Rattle.std.specs.Prelude.{◌≡◌, ℕ, List, [], ◌∷◌, Option, Some, None, Ok, Err, Bool, true, false, codes, drop, length, replicate};
 ghost use Rattle.answers.specs.Answers.{answer_of, calls_of, history_before};
 ghost use Rattle.answers.specs.Outcome.{ExplainsRun, ExplainsTrace, ReadsCommands};
 ghost use Rattle.answers.specs.Playable.{IsPlayable};

@@ -1,21 +1,25 @@
 //! Laws of what brooms do in a round, and of what a run by workers returns and writes.
-ghost use Rattle.std.specs.Prelude.{◌≡◌, ℕ, Bool, List, [], ◌∷◌, true, false, length};
+ghost use Rattle.std.specs.Prelude.{◌≡◌, ◌≤◌, ℕ, Bool, IfSome, List, [], ◌∷◌, Ok, true, false, length};
 ghost use Rattle.answers.specs.Answers.{end_text};
 ghost use Rattle.answers.specs.Streams.{Passage, Sends, Stream};
-ghost use Rattle.broom.specs.declared.answer.Drain.{Drain};
 ghost use Rattle.broom.specs.declared.answer.Drain.TheVariants as drain;
 ghost use Rattle.broom.specs.declared.answer.Erase.{Erase};
-ghost use Rattle.geometry.specs.Geometry.{brooms_of, hosts_of, sectors_of};
+ghost use Rattle.geometry.specs.Geometry.{hosts_of};
 ghost use Rattle.geometry.specs.declared.geometry.Geometry.{Geometry};
 ghost use Rattle.rounds.specs.Lines.{Said};
-ghost use Rattle.rounds.specs.Rows.{AreAtOneHistory};
+ghost use Rattle.rounds.specs.Merging.{HaveAnswers};
+ghost use Rattle.runs.specs.Brooms.{brooms_text};
 ghost use Rattle.runs.specs.ByWorkers.{WasPlayed, answers_played, commands_played};
 ghost use Rattle.runs.specs.Delivering.{text_of};
+ghost use Rattle.runs.specs.Files.{EndsText};
 ghost use Rattle.runs.specs.Outputs.{written_by_workers};
-ghost use Rattle.runs.specs.declared.files.WantedByWorkers.{WantedByWorkers};
+ghost use Rattle.runs.specs.declared.files.RunOptions.{RunOptions};
 ghost use Rattle.runs.specs.declared.played_by_workers.PlayedByWorkers.{PlayedByWorkers};
+ghost use Rattle.trace.specs.Trace.{commands_of};
 ghost use Rattle.trace.specs.declared.commands.Command.{Command};
 ghost use Rattle.workers.specs.Collecting.{HasCollected, HaveCollected};
+ghost use Rattle.workers.specs.Commands.{ArePlayed};
+ghost use Rattle.workers.specs.Served.{AllHaveServed};
 ghost use Rattle.workers.specs.Turns.{Follows};
 ghost use Rattle.workers.specs.declared.broom_answer.BroomAnswer.TheVariants as by;
 ghost use Rattle.workers.specs.declared.collector.Collector.{Collector};
@@ -42,14 +46,17 @@ pub fn outputs_by_workers()
     ensures quiet { (commands : List Command) (rows : ℕ → List Said) → written_by_workers false commands rows ≡ end_text }
 {}
 
-/// What a run by workers returns: answers for each worker at one history, and the ends of all its brooms.
+/// What a run by workers returns and writes: the commands that its input means, answers for each worker at one history, what is wanted of the
+/// output, and the ends of all its brooms with the log of these.
 pub fn a_run_by_workers()
-    ensures workers { (geo : Geometry) (n : ℕ) (w : WantedByWorkers) (i : Stream) (o f : Passage) (run : PlayedByWorkers)
-        → ¬ (length run.end.rows.items ≡ hosts_of geo) → ¬ WasPlayed geo n w i o f run }
-    ensures brooms { (geo : Geometry) (n : ℕ) (w : WantedByWorkers) (i : Stream) (o f : Passage) (run : PlayedByWorkers)
-        → ¬ (length run.end.brooms.items ≡ brooms_of geo) → ¬ WasPlayed geo n w i o f run }
-    ensures played { (geo : Geometry) (n : ℕ) (w : WantedByWorkers) (i : Stream) (o f : Passage) (run : PlayedByWorkers)
-        → WasPlayed geo n w i o f run → AreAtOneHistory (sectors_of geo) (hosts_of geo) (commands_played run) (answers_played run) }
-    ensures quiet { (geo : Geometry) (n : ℕ) (w : WantedByWorkers) (i : Stream) (o f : Passage) (run : PlayedByWorkers)
-        → w.answers ≡ false → WasPlayed geo n w i o f run → Sends o end_text }
+    ensures commands { (geo : Geometry) (w : RunOptions) (i : Stream) (o f : Passage) (run : PlayedByWorkers)
+        → WasPlayed geo w i o f run → IfSome i.bytes (λ bytes. commands_of bytes geo ≡ Ok (commands_played run)) }
+    ensures played { (geo : Geometry) (w : RunOptions) (i : Stream) (o f : Passage) (run : PlayedByWorkers)
+        → WasPlayed geo w i o f run → (length run.end.rows.items ≡ hosts_of geo) × ArePlayed geo (commands_played run) (answers_played run) }
+    ensures written { (geo : Geometry) (w : RunOptions) (i : Stream) (o f : Passage) (run : PlayedByWorkers)
+        → WasPlayed geo w i o f run → Sends o (written_by_workers w.answers (commands_played run) (answers_played run)) }
+    ensures served { (geo : Geometry) (w : RunOptions) (i : Stream) (o f : Passage) (run : PlayedByWorkers)
+        → WasPlayed geo w i o f run → AllHaveServed geo w.drains run.end.brooms.items × EndsText w.log (brooms_text run.end.brooms.items) f run.log }
+    ensures answered { (geo : Geometry) (w : RunOptions) (i : Stream) (o f : Passage) (run : PlayedByWorkers) → WasPlayed geo w i o f run
+        → (length run.end.rows.items ≤ 500) × HaveAnswers (answers_played run) (commands_played run) }
 {}

@@ -1,21 +1,19 @@
 //! Laws of what the calls of passes and brooms record at a volume.
-ghost use Rattle.std.specs.Prelude.{◌≡◌, ◌<◌, ℕ, List, [], ◌∷◌, ◌++◌, Some, None, Ok, Err, true, length};
-ghost use Rattle.broom.specs.Handing.{DrainOneTold, EraseOneTold, HandsNothing, IsBelow, IsQueued, LeftAt, TurnTold, aside_of, place_of};
+ghost use Rattle.std.specs.Prelude.{◌≡◌, ◌<◌, ℕ, Bool, is_some, List, [], ◌∷◌, ◌++◌, Some, None, Ok, Err, true, length};
+ghost use Rattle.broom.specs.Handing.{HandsNothing, IsBelow, IsQueued, aside_of, place_of};
 ghost use Rattle.broom.specs.Meeting as broom;
-ghost use Rattle.broom.specs.Ready.{HasNoMarks, IsSameSeat, blocks_of_broom, marks_of, view_of_broom};
+ghost use Rattle.broom.specs.Ready.{HasNoMarks, IsReady, IsSameSeat, blocks_of_broom, marks_of, view_of_broom};
 ghost use Rattle.broom.specs.declared.answer.Drain.TheVariants as drain;
-ghost use Rattle.broom.specs.declared.answer.Erase.TheVariants as erase;
 ghost use Rattle.broom.specs.declared.broom.Broom.{Broom};
-ghost use Rattle.erase_queue.specs.Queue.{empties_of, limit_of};
-ghost use Rattle.erase_queue.specs.declared.pass.QueuePass.{QueuePass};
+ghost use Rattle.erase_queue.specs.Queue.{IsNewPass, limit_of};
 ghost use Rattle.erase_queue.specs.declared.queue.EraseQueue.{EraseQueue};
-ghost use Rattle.flash_rule.specs.Views.{calls_of};
+ghost use Rattle.flash_rule.specs.Views.{AreOfHosts, calls_of};
 ghost use Rattle.flash_rule.specs.declared.carried.Carried.{Carried};
 ghost use Rattle.flash_rule.specs.declared.facts.Name.TheVariants as name;
 ghost use Rattle.flash_rule.specs.declared.facts.Pin.TheVariants as pin;
 ghost use Rattle.flash_rule.specs.declared.facts.Role.TheVariants as seat;
 ghost use Rattle.flash_rule.specs.declared.view.View.{View};
-ghost use Rattle.flash_table.specs.Flash.{broom_view, device, own_blocks, view_of};
+ghost use Rattle.flash_table.specs.Flash.{broom_view, device, first_blocks, first_broom, own_blocks, view_of};
 ghost use Rattle.flash_table.specs.Steps.{HasNumber};
 ghost use Rattle.flash_table.specs.declared.broom_seat.BroomSeat.{BroomSeat};
 ghost use Rattle.flash_table.specs.declared.flash.Flash.{Flash};
@@ -35,9 +33,10 @@ ghost use Rattle.host.specs.declared.writing_new.NewFault.TheVariants as new_fau
 ghost use Rattle.uses.specs.Standing.{HasNoErase};
 ghost use Rattle.volume.specs.Brooms as volume_brooms;
 ghost use Rattle.volume.specs.Closing.{AreAll, AreFinal, AreRead, HasLeft, HaveLooked, IsFinal, last_view, sectors_left};
-ghost use Rattle.volume.specs.Correct.{Does, Read, Replaced, Trim};
+ghost use Rattle.volume.specs.Correct.{Does, IsWritten, Look, Read, Replaced, Trim};
 ghost use Rattle.volume.specs.Undisturbed.{IsUndisturbed};
 ghost use Rattle.volume.specs.declared.closing.Closed.{Closed};
+ghost use Rattle.volume.specs.Volume.{flash_of, queue_of};
 ghost use Rattle.volume.specs.declared.volume.Volume.{Volume};
 ghost use Rattle.geometry.specs.Geometry.{blocks_of};
 ghost use Rattle.flash_table.specs.Flash.{geometry_of};
@@ -74,17 +73,11 @@ pub fn brooms_between_calls()
     ensures below { IsBelow 3 (drain.Drained 2 9) × IsBelow 3 drain.Lost × (¬ IsBelow 3 (drain.Drained 3 0)) }
     ensures queued { (q : EraseQueue) (b : Broom) → aside_of b ≡ Some (limit_of q) → ¬ IsQueued q b }
     ensures hands_nothing { (b d : Broom) → HandsNothing b d → (place_of d ≡ place_of b) × (aside_of d ≡ aside_of b) }
-    ensures turn_full { (b d : Broom) → aside_of b ≡ None → ¬ DrainOneTold 9 b drain.QueueFull d }
-    ensures turn_aside { (b d : Broom) → DrainOneTold 9 b drain.QueueFull d → view_of_broom d ≡ view_of_broom b }
-    ensures turn_next { (b d : Broom) → TurnTold (λ x a y. view_of_broom y ≡ view_of_broom x) 9 b drain.NothingToGain d → aside_of d ≡ None }
-    ensures erase_empty { (b d : Broom) → EraseOneTold 9 b erase.QueueEmpty d → (aside_of b ≡ None) × (view_of_broom d ≡ view_of_broom b) }
-    ensures erase_set_aside { (b d : Broom) (k : ℕ) → aside_of b ≡ Some k → ¬ EraseOneTold 9 b erase.QueueEmpty d }
-    ensures left { (b : Broom) → aside_of b ≡ None → LeftAt 9 b (place_of b) }
-    ensures left_none { (b : Broom) (p : QueuePass) → aside_of b ≡ None → LeftAt 9 b p → p ≡ place_of b }
-    ensures new_broom { (f : Flash) (q : EraseQueue) (b : Broom) → volume_brooms.IsFresh f q b → (aside_of b ≡ None) × HasNoMarks b
-        × (empties_of (place_of b) ≡ 0) }
-    ensures unused { (f : Flash) (b : Broom) → volume_brooms.IsUnused f 2 b → ((view_of_broom b).role ≡ seat.Player (name.Broom 2))
-        × ((blocks_of_broom b).destination ≡ None) }
+    ensures new_broom { (f : Flash) (q : EraseQueue) (b : Broom) → volume_brooms.IsFresh f q b → IsReady f b × IsNewPass q (place_of b) × (aside_of b ≡ None)
+        × HasNoMarks b }
+    ensures unused { (f : Flash) (b : Broom) → volume_brooms.IsUnused f 2 b → (view_of_broom b ≡ first_broom (device f) 2)
+        × (blocks_of_broom b ≡ first_blocks (device f) 2) }
+    ensures ready { (v : Volume) (b : Broom) → volume_brooms.IsBroomReady v b → IsReady (flash_of v) b × IsQueued (queue_of v) b }
 {}
 
 /// What the sectors are with which a device is closed, and what its passes have done then.
@@ -101,6 +94,9 @@ pub fn closes_of_a_volume()
         × Begins (view_of p).seen (h.history 1) × Begins (h.history 0) (h.history 1) }
     ensures read_each { (z : Numbers) (p : Pass) (last : List Call) (s : List Sector) → z.sectors ≡ 2 → (h : AreRead z (p ∷ []) last s)
         → (slice_index_or s 1 None ≡ held z.sectors (h.history 1) 1) × Begins (h.history 1) last }
+    ensures closed_callers { (z : Numbers) (p : Pass) (last : List Call) (s : List Sector) → (h : AreFinal z (p ∷ []) last s) → AreOfHosts z h.history }
+    ensures read_callers { (z : Numbers) (p : Pass) (last : List Call) (s : List Sector) → (view_of p).role ≡ seat.Player (name.Pass 2)
+        → (h : AreRead z (p ∷ []) last s) → AreOfHosts z (h.history 1) × (calls_of 2 (h.history 1) ≡ (view_of p).mine) }
     ensures left { (v w : View) → v.owns ≡ [] → HasLeft v w → (w.owns ≡ []) × (w.work ≡ None) × (w.ceded ≡ v.ceded ++ []) × Begins v.seen w.seen }
     ensures left_mine { (v w : View) → HasLeft v w → (w.mine ≡ v.mine) × (w.programs ≡ v.programs) × (w.taken ≡ v.taken) }
     ensures looked { (p q : Pass) → HaveLooked (p ∷ []) (q ∷ []) → ((view_of q).mine ≡ (view_of p).mine) × ((view_of q).owns ≡ (view_of p).owns)
@@ -108,5 +104,7 @@ pub fn closes_of_a_volume()
     ensures lost_one { (p : Pass) → ¬ HaveLooked (p ∷ []) [] }
     ensures does { (x : Volume) (p q : Pass) → HasNumber 2 p → Does x p (Trim 3) (Replaced was.Empty) q
         → ((view_of q).mine ≡ (view_of p).mine ++ call.Trim 2 3 ∷ []) × (calls_of 2 (view_of q).seen ≡ (view_of q).mine) }
+    ensures does_at { (x : Volume) (p q : Pass) (b : Bool) → HasNumber 2 p → Does x p (Look 3) (IsWritten b) q
+        → (b ≡ is_some (held (sectors_of (geometry_of (flash_of x))) (view_of q).seen 3)) × Begins (view_of p).seen (view_of q).seen }
     ensures does_other { (x : Volume) (p q : Pass) → HasNumber 2 p → ¬ Does x p (Read 3) (Replaced was.Empty) q }
 {}

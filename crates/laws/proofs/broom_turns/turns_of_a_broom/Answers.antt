@@ -1,6 +1,6 @@
-use Rattle.std.proofs.Common.{◌≡◌, ◌≤◌, ◌++◌, ℕ, Bool, true, false, All, List, [], ◌∷◌, length, refl, sym, ap, ◌∙◌, append_assoc, append-nil, arith}
+use Rattle.std.proofs.Common.{◌≡◌, ◌≤◌, ◌++◌, ℕ, Bool, true, false, List, [], ◌∷◌, length, refl, sym, ap, ◌∙◌, append-nil, arith}
 use Rattle.std.specs.List.{flat_map}
-use Rattle.std.proofs.lemmas.List.Elements.{All-cons, All-head, All-nil}
+use Rattle.std.proofs.lemmas.List.Elements.{All-cons, All-nil}
 use Rattle.broom.specs.declared.answer.Drain.{Drain}
 use Rattle.broom.specs.declared.answer.Drain.TheVariants as drain
 use Rattle.broom.specs.declared.answer.Erase.{Erase}
@@ -33,11 +33,6 @@ few_behind given answers h = each (found_no_spare given) refl
 not_one : (first : TurnDrain) (answers : List BroomAnswer) → length answers ≡ 4 → answers ≡ by_new_survey first ++ [] → ⊥
 not_one first answers four are =
     omega (arith, few_behind first.given first.behind first.follows, four, ap length are, ap length (append-nil (by_new_survey first)))
-
-no_more : (first : TurnDrain) (others : List TurnDrain) (answers : List BroomAnswer) → length others ≤ 0 → length answers ≡ 4
-    → answers ≡ by_new_survey first ++ flat_map by_last_survey others → ⊥
-no_more first [] answers few four are = not_one first answers four are
-no_more first (d ∷ others) answers few four are = omega (arith, few)
 
 -- the result of the drain by a new survey with which calls begin
 first_given : List BroomAnswer → Drain
@@ -74,9 +69,6 @@ returns-clause-two c =
       are = refl;
     }
 
-pub returns-clause-too_many : goal.returns-clause-too_many
-returns-clause-too_many c h = no_more h.first h.others (two_drains (drain.Drained 3 1) drain.Lost) h.few refl h.are
-
 pub returns-clause-behind_last : goal.returns-clause-behind_last
 returns-clause-behind_last c h = none_behind h.first h.others h.on h.are
 
@@ -90,19 +82,6 @@ returns-clause-behind_full c =
       are = refl;
     }
 
-pub returns-clause-no_survey : goal.returns-clause-no_survey
-returns-clause-no_survey c e h =
-    let are : by.DrainNext drain.Lost 0 ∷ by.Erase e ∷ [] ≡ by_new_survey h.first ++ flat_map by_last_survey h.others = h.are in
-    absurd (cc)
-
-pub returns-clause-no_call : goal.returns-clause-no_call
-returns-clause-no_call c n h =
-    let are : [] ≡ by_new_survey h.first ++ flat_map by_last_survey h.others = h.are in
-    absurd (cc)
-
-pub returns-clause-no_turn : goal.returns-clause-no_turn
-returns-clause-no_turn c = record { turns = []; each = All-nil (IsTurn 1); are = refl }
-
 one_turn : (e : Erase) → IsTurn 1 (by.Drain drain.Lost 0 ∷ by.Erase e ∷ [])
 one_turn e = record { first = with_erase drain.Lost 0 e refl; others = []; few = omega arith; on = tt; are = refl }
 
@@ -114,16 +93,3 @@ returns-clause-each c e =
       each = All-cons (IsTurn 1) turn (turn ∷ []) (one_turn e) (All-cons (IsTurn 1) turn [] (one_turn e) (All-nil (IsTurn 1)));
       are = refl;
     }
-
--- turns begin with a drain by a new survey
-no_erase_first : (n : ℕ) (e : Erase) (turns : List (List BroomAnswer)) → All (IsTurn n) turns → by.Erase e ∷ [] ≡ flat_map (λ turn. turn) turns → ⊥
-no_erase_first n e [] each are = absurd (cc)
-no_erase_first n e (turn ∷ turns) each are =
-    let first = All-head (IsTurn n) turn turns each in
-    let begins : by.Erase e ∷ [] ≡ by_new_survey first.first ++ (flat_map by_last_survey first.others ++ flat_map (λ t. t) turns) =
-    are ∙ (ap (λ l. l ++ flat_map (λ t. t) turns) first.are
-    ∙ append_assoc (by_new_survey first.first) (flat_map by_last_survey first.others) (flat_map (λ t. t) turns)) in
-    absurd (cc)
-
-pub returns-clause-no_drain : goal.returns-clause-no_drain
-returns-clause-no_drain c n e h = no_erase_first n e h.turns h.each h.are

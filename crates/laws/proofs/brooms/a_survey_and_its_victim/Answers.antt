@@ -6,10 +6,6 @@ pub returns-clause-victim : goal.returns-clause-victim
 unfolding greedy_of
 returns-clause-victim c = record { chosen = refl; gains = λ (e : 1 ≡ 2). omega (arith, e) }
 
-pub returns-clause-fuller : goal.returns-clause-fuller
-unfolding greedy_of
-returns-clause-fuller c h = let e : Some 0 ≡ Some 1 = h.chosen in absurd (cc)
-
 pub returns-clause-open : goal.returns-clause-open
 unfolding greedy_of
 returns-clause-open c h = let e : Some 0 ≡ Some 2 = h.chosen in absurd (cc)
@@ -25,11 +21,3 @@ returns-clause-all_live c = (refl, λ h. h.gains refl)
 pub returns-clause-not_full : goal.returns-clause-not_full
 unfolding greedy_of
 returns-clause-not_full c = record { chosen = refl; gains = λ (e : 2 ≡ 3). omega (arith, e) }
-
-pub returns-clause-lowest : goal.returns-clause-lowest
-unfolding greedy_of
-returns-clause-lowest c = refl
-
-pub returns-clause-none : goal.returns-clause-none
-unfolding greedy_of
-returns-clause-none c = refl

@@ -14,24 +14,8 @@ set_same [] b = refl
 set_same (m ∷ marks) zero = refl
 set_same (m ∷ marks) (suc b) = set_same marks b
 
-set_other : (marks : List Bool) (b k : ℕ) → ¬ (k ≡ b) → slice_index_or (slice_set marks b false) k false ≡ slice_index_or marks k false
-set_other [] b k apart = refl
-set_other (m ∷ marks) zero zero apart = absurd (apart refl)
-set_other (m ∷ marks) zero (suc k) apart = refl
-set_other (m ∷ marks) (suc b) zero apart = refl
-set_other (m ∷ marks) (suc b) (suc k) apart = set_other marks b k (λ same. apart (ap suc same))
-
 unmarked : (y : Broom) (marks : List Bool) (b : ℕ) → marks_of y ≡ slice_set marks b false → slice_index_or (marks_of y) b false ≡ true → ⊥
 unmarked y marks b are closed = false≢true (sym (ap (λ l. slice_index_or l b false) are ∙ set_same marks b) ∙ closed)
-
-pub returns-clause-unmarked : goal.returns-clause-unmarked
-returns-clause-unmarked c b x y h closed = unmarked y (marks_of x) b h.marks closed
-
-pub returns-clause-others : goal.returns-clause-others
-returns-clause-others c b k x y h apart closed = ap (λ l. slice_index_or l k false) h.marks ∙ (set_other (marks_of x) b k apart ∙ closed)
-
-pub returns-clause-left : goal.returns-clause-left
-returns-clause-left c b d x y (s, h) closed = unmarked y (closed_of s.states) b h.marks closed
 
 pub returns-clause-next : goal.returns-clause-next
 returns-clause-next c b d k e x y z (s, h) next same =
@@ -39,9 +23,3 @@ returns-clause-next c b d k e x y z (s, h) next same =
     ap length h.counts ∙ (as_long s ∙ (sym (length-set (closed_of s.states) b false) ∙ ap length (sym h.marks))) in
     let closed : slice_index_or (marks_of y) k false ≡ true = greedy_of-closed (counts_kept y) (marks_of y) long k next.0.chosen in
     unmarked y (closed_of s.states) b h.marks (subst (λ (i : ℕ). slice_index_or (marks_of y) i false ≡ true) same closed)
-
-pub returns-clause-kept : goal.returns-clause-kept
-returns-clause-kept c x y h = h.3
-
-pub returns-clause-no_queue : goal.returns-clause-no_queue
-returns-clause-no_queue c x y h = h

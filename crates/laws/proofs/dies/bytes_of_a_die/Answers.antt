@@ -1,5 +1,4 @@
-use Rattle.std.proofs.Common.{◌≡◌, ◌<◌, ◌≤◌, ◌+◌, ◌*◌, ℕ, zero, suc, [], ◌∷◌, refl, sym, ap, arith}
-use Rattle.std.proofs.lemmas.Bool.{false≢true}
+use Rattle.std.proofs.Common.{◌≡◌, ◌≤◌, ◌+◌, ◌*◌, ℕ, zero, suc, [], ◌∷◌, refl, ap, arith}
 use Rattle.die.specs.Slots.{slot}
 use Rattle.std.specs.Prelude.{◌≢◌, slice_index}
 use Rattle.laws.proofs.dies.bytes_of_a_die.Goals as goal
@@ -26,24 +25,3 @@ returns-clause-elsewhere c h =
 pub returns-clause-not_there : goal.returns-clause-not_there
 unfolding slot
 returns-clause-not_there c h = let e : 4 ≡ 3 = ap (λ l. slice_index l 0) h.changed in absurd (omega (arith, e))
-
-pub returns-clause-longer : goal.returns-clause-longer
-returns-clause-longer c h = let e : 3 ≡ 2 = h.size in absurd (omega (arith, e))
-
-pub returns-clause-unused : goal.returns-clause-unused
-returns-clause-unused c = refl
-
-pub returns-clause-sound : goal.returns-clause-sound
-returns-clause-sound c = (
-  record { within = omega arith; erased = omega arith; usable = λ e. omega arith },
-  record { within = omega arith; erased = omega arith; usable = λ e. absurd (false≢true (sym e)) },
-)
-
-pub returns-clause-overfull : goal.returns-clause-overfull
-returns-clause-overfull c h = let e : 3 ≤ 2 = h.within in omega (arith, e)
-
-pub returns-clause-erased : goal.returns-clause-erased
-returns-clause-erased c h = let e : 4 ≤ 3 = h.erased in omega (arith, e)
-
-pub returns-clause-worn : goal.returns-clause-worn
-returns-clause-worn c h = let e : 3 < 3 = h.usable refl in omega (arith, e)

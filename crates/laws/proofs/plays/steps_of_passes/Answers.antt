@@ -2,12 +2,6 @@ use Rattle.std.proofs.Common.{refl, ap, arith}
 use Rattle.flash_rule.specs.declared.view.View.{View}
 use Rattle.laws.proofs.plays.steps_of_passes.Goals as goal
 
-pub returns-clause-look : goal.returns-clause-look
-returns-clause-look c st me after h = (h.0, (h.1.empty refl).0, ap (λ (v : View). v.looks) h.1.changed)
-
-pub returns-clause-looked : goal.returns-clause-looked
-returns-clause-looked c v w h = ((h.empty refl).1, ap (λ (u : View). u.mine) h.changed, ap (λ (u : View). u.programs) h.changed)
-
 pub returns-clause-write : goal.returns-clause-write
 returns-clause-write c st me after n m x h role first fits can = (h.0, ap (λ (v : View). v.mine) (h.1 2 m x role first fits can).changed)
 
@@ -20,18 +14,8 @@ returns-clause-trim c st me after n h role = (h.0, ap (λ (v : View). v.mine) (h
 pub returns-clause-take : goal.returns-clause-take
 returns-clause-take c st me after h low word = (h.0, omega (arith, (h.1 3 low word).young))
 
-pub returns-clause-put : goal.returns-clause-put
-returns-clause-put c st me after n o h can word = (h.0, ap (λ (v : View). v.work) (h.1 o can word))
-
-pub returns-clause-get : goal.returns-clause-get
-returns-clause-get c st me after n m x h pinned low word = (h.0, h.1 m x 1 pinned low word)
-
 pub returns-clause-count : goal.returns-clause-count
 returns-clause-count c st me after n o k h can word = (h.0, ap (λ (v : View). v.programs) (h.1 o k can word), ap (λ (v : View). v.owns) (h.1 o k can word))
-
-pub returns-clause-close : goal.returns-clause-close
-returns-clause-close c st me after n o h can word =
-    (h.0, ap (λ (v : View). v.ceded) (h.1 o can word), ap (λ (v : View). v.work) (h.1 o can word), ap (λ (v : View). v.owns) (h.1 o can word))
 
 pub returns-clause-pin : goal.returns-clause-pin
 returns-clause-pin c st me after n m x h is word =
@@ -39,6 +23,3 @@ returns-clause-pin c st me after n m x h is word =
 
 pub returns-clause-unpin : goal.returns-clause-unpin
 returns-clause-unpin c st me after n h is word = (h.0, ap (λ (v : View). v.pin) (h.1 3 (rw is refl) word))
-
-pub returns-clause-limits : goal.returns-clause-limits
-returns-clause-limits c s h = omega (arith, h.2.limits.luns_low)

@@ -31,12 +31,5 @@ returns-clause-empty c =
       total = refl;
     }
 
-pub returns-clause-other_size : goal.returns-clause-other_size
-returns-clause-other_size c =
-    (λ h. let e : 1 ≡ 2 = h.current_size in absurd (omega (arith, e)), λ h. let e : 1 ≡ 2 = h.live_size in absurd (omega (arith, e)))
-
 pub returns-clause-no_page : goal.returns-clause-no_page
 returns-clause-no_page c h = let e : 0 < 0 = (h.named 0 (at 0 0) refl).page in omega (arith, e)
-
-pub returns-clause-miscounted : goal.returns-clause-miscounted
-returns-clause-miscounted c h = let e : 1 ≡ 0 = h.total in absurd (omega (arith, e))

@@ -1,6 +1,6 @@
 use Rattle.std.proofs.Common.{◌≡◌, ℕ}
-use Rattle.std.proofs.Common.{List, [], ◌∷◌, Some, None, length, refl, sym, ap, ◌∙◌, arith}
-use Rattle.std.proofs.Common.{Ok, codes}
+use Rattle.std.proofs.Common.{List, [], ◌∷◌, length, refl, sym, ap, ◌∙◌, arith}
+use Rattle.std.proofs.Common.{Ok}
 use Rattle.laws.proofs.Decimals.{d3, d5}
 use Rattle.hex.specs.Hex.{decode_of}
 use Rattle.trace.specs.Digits.{bytes_of}
@@ -9,21 +9,6 @@ use Rattle.laws.proofs.streams.words_of_a_command_line.Goals as goal
 written : (text : List ℕ) → decode_of text ≡ Ok (10 ∷ []) → bytes_of text ≡ 10 ∷ []
 unfolding bytes_of
 written text is = rw is refl
-
-pub returns-clause-words : goal.returns-clause-words
-returns-clause-words c = refl
-
-pub returns-clause-no_program : goal.returns-clause-no_program
-returns-clause-no_program c h = let e : codes "-h" ∷ [] ≡ codes "flashplay" ∷ codes "-h" ∷ [] = h in absurd (cc)
-
-pub returns-clause-unread : goal.returns-clause-unread
-returns-clause-unread c w = (tt, λ h. h, λ h. omega (arith, h.place_is))
-
-pub returns-clause-encoded : goal.returns-clause-encoded
-returns-clause-encoded c h = let e : None ≡ Some h.bytes.0 = h.bytes.1 in absurd (cc)
-
-pub returns-clause-answer : goal.returns-clause-answer
-returns-clause-answer c l none = rw none refl
 
 pub returns-clause-answer_line : goal.returns-clause-answer_line
 returns-clause-answer_line c l none = rw (none, d3, d5) refl
