@@ -5,6 +5,7 @@ pub mod Codes
 pub mod Handles
 pub mod One
 pub mod Shared
+pub mod Blocks
 pub mod Holding
 pub mod Opening
 -- Internal: what laws name.

@@ -20,6 +20,8 @@ use Rattle.exports.specs.declared.reports.Totals.{Totals}
 use Rattle.exports.specs.declared.reports.BlockReport.{BlockReport}
 use Rattle.exports.specs.declared.reports.NumbersReport.{NumbersReport}
 use Rattle.exports.specs.Codes.{was_code, fault_code, as_number}
+use Rattle.exports.specs.declared.codes.TheConstants.{DONE, WRITTEN, CLOSED, NO_SECTOR, NOT_A_PAGE, WORN_OUT, NO_MEMORY, ALREADY_OPEN}
+use Rattle.exports.specs.declared.codes.TheConstants.{WRONG_KIND, NO_SUCH_BLOCK}
 use Rattle.exports.specs.Handles.{seat_of}
 
 -- an open device: its numbers, what its sectors hold, and its blocks with the totals
@@ -64,17 +66,17 @@ pub record Outcome : Type 0 where
 abbrev pub refused : ℕ → Machine → Outcome
 refused code m = record { code = code; state = Open m }
 
--- a call that changes a machine, on any state: a closed handle returns 2 and another seat 9, and both are unchanged
+-- a call that changes a machine, on any state: a closed handle and another seat have codes of their own, and are unchanged
 abbrev pub on_state : State → (Machine → Outcome) → Outcome
-on_state Closed on_machine = record { code = 2; state = Closed }
+on_state Closed on_machine = record { code = CLOSED; state = Closed }
 on_state (Open m) on_machine = on_machine m
-on_state (Other x) on_machine = record { code = 9; state = Other x }
+on_state (Other x) on_machine = record { code = WRONG_KIND; state = Other x }
 
 -- the code of a call that changes no machine, on any state
 abbrev pub code_on : State → (Machine → ℕ) → ℕ
-code_on Closed on_machine = 2
+code_on Closed on_machine = CLOSED
 code_on (Open m) on_machine = on_machine m
-code_on (Other x) on_machine = 9
+code_on (Other x) on_machine = WRONG_KIND
 
 -- what a buffer or a report is after a call: without a machine it is unchanged
 abbrev pub filled_on : {X : Type 0} → State → X → (Machine → X) → X
@@ -95,31 +97,31 @@ by_place g s n no_sector not_a_page good =
 -- a call that the layer makes steps the array and the stock; if no page is left it is refused as worn out
 abbrev pub taken : Machine → Call → ℕ → Option Stock → Outcome
 taken m call code (Some stock) = record { code = code; state = Open (record { numbers = m.numbers; array = step m.array call; stock = stock }) }
-taken m call code None = refused 5 m
+taken m call code None = refused WORN_OUT m
 
 -- a write returns what the sector was
 abbrev pub write_on : ℕ → List ℕ → Machine → Outcome
 write_on s bytes m =
-    by_place m.numbers s (length bytes) (refused 3 m) (refused 4 m)
+    by_place m.numbers s (length bytes) (refused NO_SECTOR m) (refused NOT_A_PAGE m)
     (taken m (Write 0 s bytes) (was_code (was_at m s)) (next m.numbers m.stock (Write 0 s bytes)))
 
 -- a write of an empty sector: a written sector is refused, and an empty one is written
 abbrev pub write_new_by : ℕ → List ℕ → Machine → Was → Outcome
-write_new_by s bytes m was.Written = refused 1 m
-write_new_by s bytes m was.Empty = taken m (WriteNew 0 s bytes) 0 (next m.numbers m.stock (WriteNew 0 s bytes))
+write_new_by s bytes m was.Written = refused WRITTEN m
+write_new_by s bytes m was.Empty = taken m (WriteNew 0 s bytes) DONE (next m.numbers m.stock (WriteNew 0 s bytes))
 
 -- a write of an empty sector, by what the sector is
 abbrev pub write_new_on : ℕ → List ℕ → Machine → Outcome
-write_new_on s bytes m = by_place m.numbers s (length bytes) (refused 3 m) (refused 4 m) (write_new_by s bytes m (was_at m s))
+write_new_on s bytes m = by_place m.numbers s (length bytes) (refused NO_SECTOR m) (refused NOT_A_PAGE m) (write_new_by s bytes m (was_at m s))
 
 -- a trim returns what the sector was
 abbrev pub trim_on : ℕ → Machine → Outcome
 trim_on s m =
-    if nat_le (sectors_of m.numbers) s then refused 3 m else taken m (Trim 0 s) (was_code (was_at m s)) (next m.numbers m.stock (Trim 0 s))
+    if nat_le (sectors_of m.numbers) s then refused NO_SECTOR m else taken m (Trim 0 s) (was_code (was_at m s)) (next m.numbers m.stock (Trim 0 s))
 
 -- the code of a read: what the sector is
 abbrev pub read_on : ℕ → ℕ → Machine → ℕ
-read_on s n m = by_place m.numbers s n 3 4 (was_code (was_at m s))
+read_on s n m = by_place m.numbers s n NO_SECTOR NOT_A_PAGE (was_code (was_at m s))
 
 -- a buffer after a read: an empty sector leaves it unchanged
 abbrev pub page_over : Sector → List ℕ → List ℕ
@@ -150,7 +152,7 @@ reported g = let n = numbers_of g in
 
 -- the code of a report on a block
 abbrev pub block_on : ℕ → Machine → ℕ
-block_on b m = if nat_le (blocks_of m.numbers) b then 10 else 0
+block_on b m = if nat_le (blocks_of m.numbers) b then NO_SUCH_BLOCK else DONE
 
 -- a block, as it is reported
 abbrev pub block_report : Block → BlockReport
@@ -163,12 +165,12 @@ report_on b out m = if nat_le (blocks_of m.numbers) b then out else block_report
 -- the code of an open, by the first fault of its numbers, if there is one, and otherwise by whether the heap had room, which no state says
 abbrev pub open_by : Option GeometryFault → Bool → ℕ
 open_by (Some f) had_room = fault_code f
-open_by None true = 0
-open_by None false = 6
+open_by None true = DONE
+open_by None false = NO_MEMORY
 
 -- the code of an open: whether a handle is open is checked before the faults
 abbrev pub open_code : Option Seat → Numbers → Bool → ℕ
-open_code (Some x) n had_room = 8
+open_code (Some x) n had_room = ALREADY_OPEN
 open_code None n had_room = open_by (first_fault n) had_room
 
 -- the handle has a machine of these numbers, before its first call

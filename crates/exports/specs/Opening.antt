@@ -13,6 +13,7 @@ use Rattle.exports.specs.declared.handle.Handle.{Handle}
 use Rattle.exports.specs.declared.seat.Seat.{Seat}
 use Rattle.exports.specs.declared.seat.Seat.TheVariants as seat
 use Rattle.exports.specs.Codes.{fault_code}
+use Rattle.exports.specs.declared.codes.TheConstants.{DONE, NO_MEMORY, ALREADY_OPEN, BAD_SEATS}
 use Rattle.exports.specs.Handles.{seat_of}
 use Rattle.exports.specs.Shared.{numbers_of, host_volume, sweeper_volume}
 
@@ -26,16 +27,16 @@ capped most n = if nat_le n most then n else most
 
 -- the code of a fault of a shared device's numbers: a device without a host has the same fault as one with too many hosts
 abbrev pub shared_fault_code : ℕ → GeometryFault → ℕ
-shared_fault_code hosts f = if hosts == 0 then capped 107 (fault_code f) else fault_code f
+shared_fault_code hosts f = if hosts == 0 then capped BAD_SEATS (fault_code f) else fault_code f
 
 -- the code of an open of closed handles, by the first fault of the numbers, and then by whether the heap had room
 abbrev pub shared_open_by : ℕ → Option GeometryFault → Bool → ℕ
 shared_open_by hosts (Some f) had_room = shared_fault_code hosts f
-shared_open_by hosts None had_room = if hosts == 0 then 107 else (if had_room then 0 else 6)
+shared_open_by hosts None had_room = if hosts == 0 then BAD_SEATS else (if had_room then DONE else NO_MEMORY)
 
 -- the code of an open: whether a handle is open is checked before the faults
 abbrev pub shared_open_code : Bool → Numbers → Bool → ℕ
-shared_open_code closed n had_room = if closed then shared_open_by n.hosts (first_fault n) had_room else 8
+shared_open_code closed n had_room = if closed then shared_open_by n.hosts (first_fault n) had_room else ALREADY_OPEN
 
 -- a seat is this pass, at this device
 abbrev pub IsPassIn : Volume → Pass → Option Seat → Type 0

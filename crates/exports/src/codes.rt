@@ -26,8 +26,6 @@ pub const ALREADY_OPEN: u32 = 8;
 pub const WRONG_KIND: u32 = 9;
 /// The device has no such block, or a page no such word.
 pub const NO_SUCH_BLOCK: u32 = 10;
-/// A device has too many hosts or brooms, or a shared one no host.
-pub const BAD_SEATS: u32 = 107;
 /// A drain has nothing to gain.
 pub const NOTHING_TO_GAIN: u32 = 20;
 /// A broom has no spare to drain into, or a restock finds no block for one.
@@ -42,6 +40,27 @@ pub const PINNED: u32 = 24;
 pub const STALE: u32 = 25;
 /// An erased block is the broom's spare.
 pub const KEPT: u32 = 26;
+/// No block is free, and none can become free.
+pub const EXHAUSTED: u32 = 27;
+
+/// The first number of a device that is out of its limits; each fault has its own code.
+pub const BAD_LUNS: u32 = 101;
+
+pub const BAD_BLOCKS: u32 = 102;
+
+pub const BAD_PAGES: u32 = 103;
+
+pub const BAD_WORDS: u32 = 104;
+
+pub const BAD_SECTORS: u32 = 105;
+
+pub const BAD_ENDURANCE: u32 = 106;
+/// A device has too many hosts or brooms, or a shared one no host.
+pub const BAD_SEATS: u32 = 107;
+
+pub const TOO_MANY_WORDS: u32 = 108;
+
+pub const TOO_FEW_BLOCKS: u32 = 109;
 
 // The code of what a sector was.
 pub(crate) fn code_of(was: Was) -> u32
@@ -56,17 +75,17 @@ pub(crate) fn code_of(was: Was) -> u32
 // The code of a fault of a geometry.
 pub(crate) fn code_of_fault(fault: GeometryFault) -> u32
     ensures code { result ≡ fault_code fault }
-    ensures over { 100 < result }
+    ensures over { ALREADY_OPEN < result }
 {
     match fault {
-        GeometryFault::Luns => 101,
-        GeometryFault::Blocks => 102,
-        GeometryFault::Pages => 103,
-        GeometryFault::Words => 104,
-        GeometryFault::Sectors => 105,
-        GeometryFault::Endurance => 106,
-        GeometryFault::Passes => 107,
-        GeometryFault::TooManyWords => 108,
-        GeometryFault::TooFewBlocks => 109,
+        GeometryFault::Luns => BAD_LUNS,
+        GeometryFault::Blocks => BAD_BLOCKS,
+        GeometryFault::Pages => BAD_PAGES,
+        GeometryFault::Words => BAD_WORDS,
+        GeometryFault::Sectors => BAD_SECTORS,
+        GeometryFault::Endurance => BAD_ENDURANCE,
+        GeometryFault::Passes => BAD_SEATS,
+        GeometryFault::TooManyWords => TOO_MANY_WORDS,
+        GeometryFault::TooFewBlocks => TOO_FEW_BLOCKS,
     }
 }

@@ -2,6 +2,7 @@
 ghost use Rattle.std.specs.Prelude.{◌≡◌};
 ghost use Rattle.exports.specs.Kept.{SaysWhetherOpen};
 
+use crate::codes::CLOSED;
 use crate::pointed::Pointed;
 use crate::seat::Seat;
 use crate::slot::Slot;
@@ -22,7 +23,8 @@ fn may_go<T: Send>(_value: &T) {}
 impl Handle {
     ghost use Rattle.std.specs.Prelude.{Option, Some, None, option_map, is_some, true, false};
     ghost use Rattle.exports.specs.Kept.{boxed};
-    ghost use Rattle.exports.specs.Handles.{seat_of};
+    ghost use Rattle.exports.specs.Handles.{seat_of, Calls, CallsWith, ReturnsAtBoth};
+    ghost use Rattle.std.specs.Fn.{FnOnceReturnsAtMut};
 
     /// Whether the handle is open.
     pub(crate) fn is_open(&self) -> bool
@@ -48,6 +50,55 @@ impl Handle {
             return None;
         }
         Some(slot.into_box(alloc))
+    }
+
+    /// A call on the seat. A closed handle has no call, and stays closed.
+    pub(crate) fn on<F: FnOnce(&mut Seat) -> u32>(&mut self, alloc: Global, call: F) -> u32
+        requires { F.IsAlwaysCallable call }
+        ensures { Calls (seat_of self.old) result (seat_of self.new) (λ x code y. FnOnceReturnsAtMut F.FnOnce call x code y) }
+    {
+        let Some(mut seat) = self.take(alloc) else {
+            return CLOSED;
+        };
+        let code = call(&mut seat);
+        self.put(seat);
+        code
+    }
+
+    /// The same with a report, which a closed handle leaves unchanged.
+    pub(crate) fn on_with<O, F: FnOnce(&mut Seat, &mut O) -> u32>(
+        &mut self,
+        alloc: Global,
+        out: &mut O,
+        call: F,
+    ) -> u32
+        requires { F.IsAlwaysCallable call }
+        ensures { CallsWith (seat_of self.old) out.old result (seat_of self.new) out.new (λ x o code y p. ReturnsAtBoth F.FnOnce call x o code y p) }
+    {
+        let Some(mut seat) = self.take(alloc) else {
+            return CLOSED;
+        };
+        let code = call(&mut seat, out);
+        self.put(seat);
+        code
+    }
+
+    /// The same with the buffer of a page.
+    pub(crate) fn on_page<F: FnOnce(&mut Seat, &mut [u8]) -> u32>(
+        &mut self,
+        alloc: Global,
+        out: &mut [u8],
+        call: F,
+    ) -> u32
+        requires { F.IsAlwaysCallable call }
+        ensures { CallsWith (seat_of self.old) out.old result (seat_of self.new) out.new (λ x o code y p. ReturnsAtBoth F.FnOnce call x o code y p) }
+    {
+        let Some(mut seat) = self.take(alloc) else {
+            return CLOSED;
+        };
+        let code = call(&mut seat, out);
+        self.put(seat);
+        code
     }
 
     /// Puts a seat into a closed handle.

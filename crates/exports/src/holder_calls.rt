@@ -1,26 +1,25 @@
 //! The calls on a held page, by codes.
-ghost use Rattle.std.specs.Prelude.{◌≡◌, ◌≢◌, ◌==◌, if◌then◌else◌, nat_le, length};
-ghost use Rattle.geometry.specs.Geometry.{page_bytes_of, words_of};
-ghost use Rattle.flash_rule.specs.World.{data_word};
+ghost use Rattle.std.specs.Prelude.{◌≡◌, length};
 ghost use Rattle.flash_table.specs.Flash.{view_of};
 ghost use Rattle.host.specs.Holding.{pass_of, page_of};
 ghost use Rattle.volume.specs.Undisturbed.{IsUndisturbed};
 ghost use Rattle.volume.specs.Volume.{flash_of};
-ghost use Rattle.exports.specs.Holds.{held_value};
-ghost use Rattle.exports.specs.Shared.{numbers_of, holder_volume};
+ghost use Rattle.exports.specs.Holding.{copy_code, copied, word_code, word_read, page_report};
+ghost use Rattle.exports.specs.Shared.{holder_volume};
 
 use crate::codes::{DONE, NO_SUCH_BLOCK, NOT_A_PAGE, WRITTEN};
+use crate::reports::PageReport;
 use crate::seat::Holder;
 
 impl Holder {
     // The page that is held, into a buffer.
     pub(crate) fn copy(&mut self, out: &mut [u8]) -> u32
         ensures device { self.new.volume ≡ self.old.volume }
-        ensures code { result ≡ if length out.old == page_bytes_of (numbers_of (holder_volume self.old)) then 1 else 4 }
-        ensures buffer { out.new ≡ if length out.old == page_bytes_of (numbers_of (holder_volume self.old)) then held_value self.old.held else out.old }
+        ensures code { result ≡ copy_code (length out.old) self.old }
+        ensures buffer { out.new ≡ copied out.old self.old }
         ensures page { page_of self.new.held ≡ page_of self.old.held }
         ensures view { view_of (pass_of self.new.held) ≡ view_of (pass_of self.old.held) }
-        ensures undisturbed { result ≡ 1
+        ensures undisturbed { result ≡ WRITTEN
             → IsUndisturbed (flash_of (holder_volume self.old)) self.old.held (view_of (pass_of self.old.held)).copy self.new.held }
     {
         if out.len() != self.volume.geometry().page_bytes() {
@@ -33,17 +32,29 @@ impl Holder {
     // Word `i` of the page that is held.
     pub(crate) fn word(&mut self, i: u32, out: &mut u64) -> u32
         ensures device { self.new.volume ≡ self.old.volume }
-        ensures code { result ≡ if nat_le (words_of (numbers_of (holder_volume self.old))) i then 10 else 0 }
-        ensures word { out.new ≡ if nat_le (words_of (numbers_of (holder_volume self.old))) i then out.old else data_word (held_value self.old.held) i }
+        ensures code { result ≡ word_code i self.old }
+        ensures word { out.new ≡ word_read i out.old self.old }
         ensures page { page_of self.new.held ≡ page_of self.old.held }
         ensures view { view_of (pass_of self.new.held) ≡ view_of (pass_of self.old.held) }
-        ensures undisturbed { result ≡ 0
+        ensures undisturbed { result ≡ DONE
             → IsUndisturbed (flash_of (holder_volume self.old)) self.old.held (view_of (pass_of self.old.held)).copy self.new.held }
     {
         if i >= self.volume.geometry().words() {
             return NO_SUCH_BLOCK;
         }
         *out = self.volume.word(&mut self.held, i);
+        DONE
+    }
+
+    // The address of the page that is held.
+    pub(crate) fn page(&self, out: &mut PageReport) -> u32
+        ensures code { result ≡ DONE }
+        ensures page { out.new ≡ page_report self.now }
+    {
+        *out = PageReport {
+            block: self.held.block(),
+            generation: self.held.generation(),
+        };
         DONE
     }
 }

@@ -1,24 +1,47 @@
 //! Laws of what C sees of a device. Each function has no code: its clauses say where a definition holds and where it doesn't, and what a code or a
 //! report is on small values.
-ghost use Rattle.std.specs.Prelude.{◌≡◌, ℕ, List, [], ◌∷◌, Some, None, true, false};
+ghost use Rattle.std.specs.Prelude.{◌≡◌, ℕ, List, [], ◌∷◌, ◌++◌, Option, Some, None, true, false, length, slice_get};
 ghost use Rattle.std_heap.specs.declared.Global.{Global};
 ghost use Rattle.ftl_one.specs.declared.one_ftl.OneFtl.{OneFtl};
-ghost use Rattle.ftl_one.specs.Stock.{Stock, Block, opening, next};
+ghost use Rattle.ftl_one.specs.Stock.{opening, next};
 ghost use Rattle.ftl_one.specs.Laws.{block_at};
 ghost use Rattle.ftl_one.specs.declared.role.Role.TheVariants as role;
 ghost use Rattle.geometry.specs.declared.answer.Got.TheVariants as got;
 ghost use Rattle.geometry.specs.declared.answer.Was.TheVariants as was;
+ghost use Rattle.geometry.specs.declared.answer.Was.{Was};
+ghost use Rattle.flash_table.specs.Steps.{HasCalled, HasNumber};
+ghost use Rattle.host.specs.Told.{Wrote, WroteNew};
+ghost use Rattle.volume.specs.Correct.{Answer, Asked, Does};
 ghost use Rattle.geometry.specs.declared.fault.GeometryFault.TheVariants as fault;
 ghost use Rattle.geometry.specs.declared.geometry.Geometry.{Geometry};
 ghost use Rattle.geometry.specs.Geometry.{luns_of, blocks_of, pages_of, words_of, sectors_of, endurance_of, hosts_of, brooms_of};
 ghost use Rattle.geometry.specs.Geometry.{numbers_of as numbers_in};
-ghost use Rattle.geometry.specs.History.{Call, Write, WriteNew, Trim};
+ghost use Rattle.geometry.specs.History.{Write, WriteNew, Trim};
 ghost use Rattle.geometry.specs.Limits.{Numbers, first_fault};
 ghost use Rattle.geometry.specs.Sectors.{sector_at};
 ghost use Rattle.flash_rule.specs.World.{data_word};
 ghost use Rattle.flash_rule.specs.declared.facts.Pin.TheVariants.{Clear};
-ghost use Rattle.flash_table.specs.Flash.{view_of};
-ghost use Rattle.host.specs.Holding.{page_of, pass_of};
+ghost use Rattle.flash_table.specs.Flash.{device, first_blocks, first_broom, first_view, opened_of, view_of};
+ghost use Rattle.flash_table.specs.declared.pass.Pass.{Pass};
+ghost use Rattle.host.specs.Holding.{Found, page_of, pass_of};
+ghost use Rattle.host.specs.declared.holding.Held.{Held};
+ghost use Rattle.host.specs.declared.holding.Holding.TheVariants as holding;
+ghost use Rattle.broom.specs.Ready.{blocks_of_broom, marks_of, view_of_broom};
+ghost use Rattle.broom.specs.declared.broom.Broom.{Broom};
+ghost use Rattle.broom.specs.Loading.{AllLoaded, HasState, StateLoaded, counts_in};
+ghost use Rattle.broom.specs.Survey.{loads_of};
+ghost use Rattle.broom.specs.Told.{KeepsSurvey, counts_kept, states_kept};
+ghost use Rattle.broom.specs.declared.block_counts.BlockCounts.{BlockCounts};
+ghost use Rattle.flash_rule.specs.BroomPlays.{Loaded};
+ghost use Rattle.geometry.specs.Greedy.{IsClosed as IsMarked};
+ghost use Rattle.geometry.specs.PinWords.{pin_word};
+ghost use Rattle.geometry.specs.declared.pin_word.Phase.TheVariants as phase;
+ghost use Rattle.geometry.specs.declared.pin_word.PinWord.{PinWord};
+ghost use Rattle.exports.specs.Blocks.{BlockReported, block_code, counts_code, counts_report, phase_number, state_report};
+ghost use Rattle.exports.specs.declared.reports.StateReport.{StateReport};
+ghost use Rattle.volume.specs.Brooms.{IsFresh};
+ghost use Rattle.volume.specs.Volume.{flash_of, queue_of};
+ghost use Rattle.volume.specs.declared.volume.Volume.{Volume};
 ghost use Rattle.broom.specs.declared.answer.Drain.TheVariants as drain;
 ghost use Rattle.broom.specs.declared.answer.Erase.TheVariants as erase;
 ghost use Rattle.exports.specs.declared.handle.Handle.{Handle};
@@ -30,30 +53,34 @@ ghost use Rattle.exports.specs.declared.seat.Host.{Host};
 ghost use Rattle.exports.specs.declared.seat.Seat.{Seat};
 ghost use Rattle.exports.specs.declared.seat.Seat.TheVariants as seat;
 ghost use Rattle.exports.specs.declared.seat.Sweeper.{Sweeper};
-ghost use Rattle.exports.specs.Codes.{was_code};
-ghost use Rattle.exports.specs.Handles.{seat_of};
-ghost use Rattle.exports.specs.Holding.{HoldCalled, HolderCalled, ReleaseCalled, hold_code, copy_code, copied, word_code, word_read, page_report, if_holder};
+ghost use Rattle.exports.specs.Codes.{was_code, fault_code, drain_code, erase_code, restock_code, got_by, written_by, was_by, drain_by, erase_by, stocked_by};
+ghost use Rattle.exports.specs.Handles.{seat_of, Calls, CallsWith};
+ghost use Rattle.exports.specs.Holding.{HoldCalled, HolderCalled, ReleaseCalled, by_holder, holder_code, hold_code, copy_code, copied, word_code, word_read};
+ghost use Rattle.exports.specs.Holding.{page_report};
 ghost use Rattle.exports.specs.Holds.{held_value};
 ghost use Rattle.exports.specs.Heaps.{heap};
 ghost use Rattle.exports.specs.Kept.{SaysWhetherOpen};
-ghost use Rattle.exports.specs.One.{Closed, Open, Other, State, Machine, machine_of, state_by, on_state, code_on, filled_on, refused, taken, was_at};
+ghost use Rattle.exports.specs.One.{Closed, Open, Other, Machine, machine_of, state_by, on_state, code_on, filled_on, refused, taken, was_at};
 ghost use Rattle.exports.specs.One.{write_on, write_new_on, trim_on, read_on, buffer_on, totals_on, reported, block_on, report_on, open_code, IsFreshIn};
-ghost use Rattle.exports.specs.Opening.{AreFresh, IsClosed, IsFreshHost, IsFreshBroom, capped, shared_open_code};
-ghost use Rattle.exports.specs.Shared.{BroomCalled, HostCalled, OnHandle, numbers_of, host_volume, sweeper_volume, holder_volume, on_handle, seen_of};
-ghost use Rattle.exports.specs.Shared.{read_code, read_buffer, look_code, write_code, trim_code, drain_code, erase_code, restock_code};
-ghost use Rattle.exports.specs.Shared.{got_by, written_by, was_by, drain_by, erase_by, stocked_by, numbers_code, numbers_report};
-ghost use Rattle.exports.specs.Small.{IsSmall, zeros};
+ghost use Rattle.exports.specs.Opening.{AreFresh, IsClosed, capped, shared_open_code};
+ghost use Rattle.exports.specs.Shared.{BroomCalled, HostCalled, numbers_of, host_volume, sweeper_volume, holder_volume, seen_of, by_host, by_sweeper};
+ghost use Rattle.exports.specs.Shared.{host_code, sweeper_code, read_code, read_buffer, look_code, write_code, trim_code, erased_code};
+ghost use Rattle.exports.specs.Shared.{numbers_code, numbers_report, IsStep, HasWritten, HasWrittenNew, HasTrimmed};
+ghost use Rattle.exports.specs.Small.{IsSmall, worn_block, worn, zeros};
+ghost use Rattle.exports.specs.declared.codes.TheConstants.{DONE, CLOSED, WRONG_KIND};
 
 /// What a call leaves of a handle: a closed one is closed, and an open one is open, with a seat of which the call says something. There is one heap
 /// in which seats are.
 pub fn calls_of_handles()
-    ensures closed { OnHandle None (λ x y. ⊥) None }
-    ensures stays_closed { (y : Seat) → ¬ OnHandle None (λ x y. x ≡ x) (Some y) }
-    ensures stays_open { (x : Seat) → ¬ OnHandle (Some x) (λ x y. x ≡ x) None }
-    ensures told { (l : OneFtl) → OnHandle (Some (seat.One l)) (λ x y. (x ≡ seat.One l) × (y ≡ seat.Away)) (Some seat.Away) }
-    ensures untold { (x y : Seat) → ¬ OnHandle (Some x) (λ x y. ⊥) (Some y) }
-    ensures by_none { on_handle {X = ℕ} None 8 (λ x. 9) ≡ 8 }
-    ensures by_seat { on_handle {X = ℕ} (Some seat.Away) 8 (λ x. 9) ≡ 9 }
+    ensures closed { Calls None CLOSED None (λ x c y. ⊥) }
+    ensures closed_code { ¬ Calls None WRONG_KIND None (λ x c y. x ≡ x) }
+    ensures stays_closed { (y : Seat) → ¬ Calls None CLOSED (Some y) (λ x c y. x ≡ x) }
+    ensures stays_open { (x : Seat) → ¬ Calls (Some x) DONE None (λ x c y. x ≡ x) }
+    ensures says { (l : OneFtl) → Calls (Some (seat.One l)) 7 (Some seat.Away) (λ x c y. (x ≡ seat.One l) × (c ≡ 7) × (y ≡ seat.Away)) }
+    ensures says_not { (x y : Seat) → ¬ Calls (Some x) DONE (Some y) (λ x c y. ⊥) }
+    ensures closed_with { CallsWith {O = ℕ} None 4 CLOSED None 4 (λ x o c y p. ⊥) }
+    ensures closed_fills { ¬ CallsWith {O = ℕ} None 4 CLOSED None 5 (λ x o c y p. x ≡ x) }
+    ensures says_with { CallsWith {O = ℕ} (Some seat.Away) 4 7 (Some seat.Away) 5 (λ x o c y p. (o ≡ 4) × (c ≡ 7) × (p ≡ 5)) }
     ensures one_heap { (h : Global) → h ≡ heap }
     ensures said { SaysWhetherOpen 1 (Some seat.Away) × SaysWhetherOpen 0 None }
     ensures unsaid { (¬ SaysWhetherOpen 1 None) × (¬ SaysWhetherOpen 0 (Some seat.Away)) }
@@ -64,100 +91,123 @@ pub fn calls_of_handles()
         → (seen_of (Some (seat.Host h)) ≡ (view_of h.pass).seen) × (seen_of (Some (seat.Holder k)) ≡ (view_of (pass_of k.held)).seen) }
 {}
 
-/// What a call of a host leaves of a seat: a host is one at its device, of which the call says something, and another seat is as it was.
+/// What a call of a host leaves of a handle: a host is one at its device, of which the call says something, and any other handle is as it was.
 pub fn calls_of_hosts()
-    ensures away { HostCalled seat.Away (λ v p q. ⊥) seat.Away }
-    ensures one { (l : OneFtl) (y : Seat) → HostCalled (seat.One l) (λ v p q. v ≡ v) y → y ≡ seat.One l }
-    ensures sweeper { (s : Sweeper) (y : Seat) → HostCalled (seat.Sweeper s) (λ v p q. v ≡ v) y → y ≡ seat.Sweeper s }
-    ensures holder { (k : Holder) (y : Seat) → HostCalled (seat.Holder k) (λ v p q. v ≡ v) y → y ≡ seat.Holder k }
-    ensures told { (h : Host) → HostCalled (seat.Host h) (λ v p q. (v ≡ host_volume h) × (p ≡ h.pass) × (q ≡ h.pass)) (seat.Host h) }
-    ensures order { (h g : Host) → HostCalled (seat.Host h) (λ v p q. p ≡ g.pass) (seat.Host g) → h.pass ≡ g.pass }
-    ensures same_device { (h g : Host) → HostCalled (seat.Host h) (λ v p q. v ≡ v) (seat.Host g) → g.volume ≡ h.volume }
-    ensures gone { (h : Host) → ¬ HostCalled (seat.Host h) (λ v p q. v ≡ v) seat.Away }
-    ensures held { (h : Host) (k : Holder) → ¬ HostCalled (seat.Host h) (λ v p q. v ≡ v) (seat.Holder k) }
+    ensures others { (l : OneFtl) (s : Sweeper) (k : Holder) (y : Option Seat) → (HostCalled None y (λ v p q. ⊥) → y ≡ None)
+        × (HostCalled (Some (seat.One l)) y (λ v p q. ⊥) → y ≡ Some (seat.One l))
+        × (HostCalled (Some (seat.Sweeper s)) y (λ v p q. ⊥) → y ≡ Some (seat.Sweeper s))
+        × (HostCalled (Some (seat.Holder k)) y (λ v p q. ⊥) → y ≡ Some (seat.Holder k))
+        × (HostCalled (Some seat.Away) y (λ v p q. ⊥) → y ≡ Some seat.Away) }
+    ensures host { (h : Host) (x : Volume) (a b : Pass) (y : Option Seat) → HostCalled (Some (seat.Host h)) y (λ v p q. (v ≡ x) × (p ≡ a) × (q ≡ b))
+        → (g : Host) × (y ≡ Some (seat.Host g)) × (g.volume ≡ h.volume) × (host_volume h ≡ x) × (h.pass ≡ a) × (g.pass ≡ b) }
+    ensures codes { (h : Host) → (host_code None (λ h. 7) ≡ 2) × (host_code (Some seat.Away) (λ h. 7) ≡ 9) × (host_code (Some (seat.Host h)) (λ h. 7) ≡ 7) }
+    ensures values { (h : Host) → (by_host {X = ℕ} None 4 5 (λ h. 7) ≡ 4) × (by_host {X = ℕ} (Some seat.Away) 4 5 (λ h. 7) ≡ 5)
+        × (by_host {X = ℕ} (Some (seat.Host h)) 4 5 (λ h. 7) ≡ 7) }
 {}
 
-/// What a call of a broom leaves of a seat: a broom is one at its device, of which the call says something, and another seat is as it was.
+/// What a call of a host has done is what the calls of a volume say.
+#[tactic(auto, unfolding(crate::specs::Shared::IsStep, crate::specs::Shared::HasTrimmed))]
+pub fn steps_of_hosts()
+    ensures step { (v : Volume) (p q : Pass) (asked : Asked) (answer : Answer) → IsStep v p asked answer q → Does v p asked answer q }
+    ensures trimmed { (p q : Pass) (s t : ℕ) (was : Was) → HasTrimmed p s was q → HasNumber t p → HasCalled p (Trim t s) s was q }
+{}
+
+/// What a write of a host has done is what the writes of a volume say.
+#[tactic(auto, unfolding(crate::specs::Shared::HasWritten, crate::specs::Shared::HasWrittenNew))]
+pub fn writes_of_hosts()
+    ensures written { (p q : Pass) (s t : ℕ) (bytes : List ℕ) (was : Was) → HasWritten p s bytes was q → HasNumber t p
+        → Wrote (view_of p) t s bytes was (view_of q) }
+    ensures written_new { (p q : Pass) (s t : ℕ) (bytes : List ℕ) (was : Was) → HasWrittenNew p s bytes was q → HasNumber t p
+        → WroteNew (view_of p) t s bytes was (view_of q) }
+{}
+
+/// What a call of a broom leaves of a handle: a broom is one at its device, of which the call says something, and any other handle is as it was.
 pub fn calls_of_brooms()
-    ensures away { BroomCalled seat.Away (λ v b c. ⊥) seat.Away }
-    ensures one { (l : OneFtl) (y : Seat) → BroomCalled (seat.One l) (λ v b c. v ≡ v) y → y ≡ seat.One l }
-    ensures host { (h : Host) (y : Seat) → BroomCalled (seat.Host h) (λ v b c. v ≡ v) y → y ≡ seat.Host h }
-    ensures holder { (k : Holder) (y : Seat) → BroomCalled (seat.Holder k) (λ v b c. v ≡ v) y → y ≡ seat.Holder k }
-    ensures told { (s : Sweeper) → BroomCalled (seat.Sweeper s) (λ v b c. (v ≡ sweeper_volume s) × (b ≡ s.broom) × (c ≡ s.broom)) (seat.Sweeper s) }
-    ensures order { (s t : Sweeper) → BroomCalled (seat.Sweeper s) (λ v b c. b ≡ t.broom) (seat.Sweeper t) → s.broom ≡ t.broom }
-    ensures same_device { (s t : Sweeper) → BroomCalled (seat.Sweeper s) (λ v b c. v ≡ v) (seat.Sweeper t) → t.volume ≡ s.volume }
-    ensures gone { (s : Sweeper) → ¬ BroomCalled (seat.Sweeper s) (λ v b c. v ≡ v) seat.Away }
+    ensures others { (l : OneFtl) (h : Host) (k : Holder) (y : Option Seat) → (BroomCalled None y (λ v b c. ⊥) → y ≡ None)
+        × (BroomCalled (Some (seat.One l)) y (λ v b c. ⊥) → y ≡ Some (seat.One l))
+        × (BroomCalled (Some (seat.Host h)) y (λ v b c. ⊥) → y ≡ Some (seat.Host h))
+        × (BroomCalled (Some (seat.Holder k)) y (λ v b c. ⊥) → y ≡ Some (seat.Holder k))
+        × (BroomCalled (Some seat.Away) y (λ v b c. ⊥) → y ≡ Some seat.Away) }
+    ensures broom { (s : Sweeper) (x : Volume) (a c : Broom) (y : Option Seat)
+        → BroomCalled (Some (seat.Sweeper s)) y (λ v p q. (v ≡ x) × (p ≡ a) × (q ≡ c))
+        → (t : Sweeper) × (y ≡ Some (seat.Sweeper t)) × (t.volume ≡ s.volume) × (sweeper_volume s ≡ x) × (s.broom ≡ a) × (t.broom ≡ c) }
+    ensures codes { (s : Sweeper) → (sweeper_code None (λ s. 7) ≡ 2) × (sweeper_code (Some seat.Away) (λ s. 7) ≡ 9)
+        × (sweeper_code (Some (seat.Sweeper s)) (λ s. 7) ≡ 7) }
+    ensures values { (s : Sweeper) → (by_sweeper {X = ℕ} None 4 5 (λ s. 7) ≡ 4) × (by_sweeper {X = ℕ} (Some seat.Away) 4 5 (λ s. 7) ≡ 5)
+        × (by_sweeper {X = ℕ} (Some (seat.Sweeper s)) 4 5 (λ s. 7) ≡ 7) }
 {}
 
-/// What a hold, a call on a held page and a release leave of a seat.
+/// What a hold, a call on a held page and a release leave of a handle.
 pub fn calls_of_holders()
-    ensures hold_away { HoldCalled 1 9 seat.Away seat.Away }
-    ensures hold_gone { (h : Host) → ¬ HoldCalled 1 0 (seat.Host h) seat.Away }
-    ensures hold_holder { (k : Holder) (y : Seat) → HoldCalled 1 9 (seat.Holder k) y → y ≡ seat.Holder k }
-    ensures hold_found { (h g : Host) → ¬ HoldCalled 1 1 (seat.Host h) (seat.Host g) }
-    ensures hold_empty { (h : Host) (k : Holder) → ¬ HoldCalled 1 0 (seat.Host h) (seat.Holder k) }
-    ensures hold_refused { (h g : Host) → HoldCalled 1 3 (seat.Host h) (seat.Host g) → g.pass ≡ h.pass }
-    ensures held_away { HolderCalled seat.Away (λ v a b. ⊥) seat.Away }
-    ensures held_host { (h : Host) (y : Seat) → HolderCalled (seat.Host h) (λ v a b. v ≡ v) y → y ≡ seat.Host h }
-    ensures held_told { (k : Holder) → HolderCalled (seat.Holder k) (λ v a b. (v ≡ holder_volume k) × (a ≡ k.held) × (b ≡ k.held)) (seat.Holder k) }
-    ensures held_order { (k j : Holder) → HolderCalled (seat.Holder k) (λ v a b. a ≡ j.held) (seat.Holder j) → k.held ≡ j.held }
-    ensures held_device { (k j : Holder) → HolderCalled (seat.Holder k) (λ v a b. v ≡ v) (seat.Holder j) → j.volume ≡ k.volume }
-    ensures held_given_up { (k : Holder) (h : Host) → ¬ HolderCalled (seat.Holder k) (λ v a b. v ≡ v) (seat.Host h) }
-    ensures released_away { ReleaseCalled seat.Away seat.Away }
-    ensures released_host { (h : Host) (y : Seat) → ReleaseCalled (seat.Host h) y → y ≡ seat.Host h }
-    ensures released_none { (k : Holder) → ¬ ReleaseCalled (seat.Holder k) (seat.Holder k) }
-    ensures released { (k : Holder) (h : Host) → ReleaseCalled (seat.Holder k) (seat.Host h)
-        → (h.volume ≡ k.volume) × ((view_of h.pass).pin ≡ Clear) × ((view_of h.pass).seen ≡ (view_of (pass_of k.held)).seen) }
+    ensures hold_others { (l : OneFtl) (s : Sweeper) (k : Holder) (y : Option Seat) → (HoldCalled 1 9 None y → y ≡ None)
+        × (HoldCalled 1 9 (Some (seat.One l)) y → y ≡ Some (seat.One l)) × (HoldCalled 1 9 (Some (seat.Sweeper s)) y → y ≡ Some (seat.Sweeper s))
+        × (HoldCalled 1 9 (Some (seat.Holder k)) y → y ≡ Some (seat.Holder k)) × (HoldCalled 1 9 (Some seat.Away) y → y ≡ Some seat.Away) }
+    ensures hold { (h : Host) (s : ℕ) (y : Option Seat) → HoldCalled s 1 (Some (seat.Host h)) y
+        → (k : Holder) × (y ≡ Some (seat.Holder k)) × (k.volume ≡ h.volume)
+        × Found (flash_of (host_volume h)) (view_of h.pass) s (holding.Held k.held) }
+    ensures hold_empty { (h : Host) (s : ℕ) (y : Option Seat) → HoldCalled s 0 (Some (seat.Host h)) y
+        → (g : Host) × (y ≡ Some (seat.Host g)) × (g.volume ≡ h.volume)
+        × Found (flash_of (host_volume h)) (view_of h.pass) s (holding.Empty g.pass) }
+    ensures hold_refused { (h : Host) (s : ℕ) (y : Option Seat) → HoldCalled s 3 (Some (seat.Host h)) y
+        → (g : Host) × (y ≡ Some (seat.Host g)) × (g.volume ≡ h.volume) × (g.pass ≡ h.pass) }
+    ensures held_others { (l : OneFtl) (h : Host) (s : Sweeper) (y : Option Seat) → (HolderCalled None y (λ v a b. ⊥) → y ≡ None)
+        × (HolderCalled (Some (seat.One l)) y (λ v a b. ⊥) → y ≡ Some (seat.One l))
+        × (HolderCalled (Some (seat.Host h)) y (λ v a b. ⊥) → y ≡ Some (seat.Host h))
+        × (HolderCalled (Some (seat.Sweeper s)) y (λ v a b. ⊥) → y ≡ Some (seat.Sweeper s))
+        × (HolderCalled (Some seat.Away) y (λ v a b. ⊥) → y ≡ Some seat.Away) }
+    ensures held { (k : Holder) (x : Volume) (a b : Held) (y : Option Seat)
+        → HolderCalled (Some (seat.Holder k)) y (λ v p q. (v ≡ x) × (p ≡ a) × (q ≡ b))
+        → (j : Holder) × (y ≡ Some (seat.Holder j)) × (j.volume ≡ k.volume) × (holder_volume k ≡ x) × (k.held ≡ a) × (j.held ≡ b) }
+    ensures release_others { (l : OneFtl) (h : Host) (s : Sweeper) (y : Option Seat) → (ReleaseCalled None y → y ≡ None)
+        × (ReleaseCalled (Some (seat.One l)) y → y ≡ Some (seat.One l)) × (ReleaseCalled (Some (seat.Host h)) y → y ≡ Some (seat.Host h))
+        × (ReleaseCalled (Some (seat.Sweeper s)) y → y ≡ Some (seat.Sweeper s)) × (ReleaseCalled (Some seat.Away) y → y ≡ Some seat.Away) }
+    ensures release { (k : Holder) (y : Option Seat) → ReleaseCalled (Some (seat.Holder k)) y
+        → (h : Host) × (y ≡ Some (seat.Host h)) × (h.volume ≡ k.volume)
+        × (view_of h.pass ≡ record (view_of (pass_of k.held)) { pin = Clear }) × (opened_of h.pass ≡ opened_of (pass_of k.held)) }
+    ensures codes { (k : Holder) → (holder_code None (λ k. 7) ≡ 2) × (holder_code (Some seat.Away) (λ k. 7) ≡ 9)
+        × (holder_code (Some (seat.Holder k)) (λ k. 7) ≡ 7) }
+    ensures values { (k : Holder) → (by_holder {X = ℕ} None 4 5 (λ k. 7) ≡ 4) × (by_holder {X = ℕ} (Some seat.Away) 4 5 (λ k. 7) ≡ 5)
+        × (by_holder {X = ℕ} (Some (seat.Holder k)) 4 5 (λ k. 7) ≡ 7) }
 {}
 
 /// The codes and the buffer of a host's calls, on a small device.
 pub fn codes_of_hosts()
-    ensures others { (read_code 0 8 [] seat.Away ≡ 9) × (look_code 0 [] seat.Away ≡ 9) × (write_code 0 8 0 seat.Away ≡ 9) × (trim_code 0 0 seat.Away ≡ 9) }
-    ensures read_outside { (h : Host) → IsSmall (numbers_of (host_volume h)) → read_code 2 8 [] (seat.Host h) ≡ 3 }
-    ensures read_short { (h : Host) → IsSmall (numbers_of (host_volume h)) → read_code 1 7 [] (seat.Host h) ≡ 4 }
-    ensures read_empty { (h : Host) → IsSmall (numbers_of (host_volume h)) → read_code 1 8 [] (seat.Host h) ≡ 0 }
-    ensures read { (h : Host) → IsSmall (numbers_of (host_volume h)) → read_code 1 8 (Write 0 1 zeros ∷ []) (seat.Host h) ≡ 1 }
-    ensures unread { (h : Host) → IsSmall (numbers_of (host_volume h)) → read_buffer 1 (7 ∷ []) (Write 0 1 zeros ∷ []) (seat.Host h) ≡ 7 ∷ [] }
-    ensures buffer { (h : Host) (x : List ℕ) → IsSmall (numbers_of (host_volume h)) → read_buffer 1 zeros (Write 0 1 x ∷ []) (seat.Host h) ≡ x }
-    ensures no_buffer { (x : List ℕ) → read_buffer 1 x (Write 0 1 zeros ∷ []) seat.Away ≡ x }
-    ensures look_outside { (h : Host) → IsSmall (numbers_of (host_volume h)) → look_code 2 [] (seat.Host h) ≡ 3 }
-    ensures look_empty { (h : Host) → IsSmall (numbers_of (host_volume h)) → look_code 1 [] (seat.Host h) ≡ 0 }
-    ensures look { (h : Host) → IsSmall (numbers_of (host_volume h)) → look_code 1 (Write 0 1 zeros ∷ []) (seat.Host h) ≡ 1 }
-    ensures write_outside { (h : Host) → IsSmall (numbers_of (host_volume h)) → write_code 2 8 0 (seat.Host h) ≡ 3 }
-    ensures write_short { (h : Host) → IsSmall (numbers_of (host_volume h)) → write_code 1 7 0 (seat.Host h) ≡ 4 }
-    ensures write { (h : Host) → IsSmall (numbers_of (host_volume h)) → write_code 1 8 1 (seat.Host h) ≡ 1 }
-    ensures no_block { (h : Host) → IsSmall (numbers_of (host_volume h)) → write_code 1 8 2 (seat.Host h) ≡ 7 }
-    ensures trim_outside { (h : Host) → IsSmall (numbers_of (host_volume h)) → trim_code 2 0 (seat.Host h) ≡ 3 }
-    ensures trim { (h : Host) → IsSmall (numbers_of (host_volume h)) → trim_code 1 1 (seat.Host h) ≡ 1 }
-    ensures hold_outside { (h : Host) → IsSmall (numbers_of (host_volume h)) → hold_code 2 [] (seat.Host h) ≡ 3 }
-    ensures hold_empty { (h : Host) → IsSmall (numbers_of (host_volume h)) → hold_code 1 [] (seat.Host h) ≡ 0 }
-    ensures hold { (h : Host) → IsSmall (numbers_of (host_volume h)) → hold_code 1 (Write 0 1 zeros ∷ []) (seat.Host h) ≡ 1 }
-    ensures hold_away { hold_code 0 [] seat.Away ≡ 9 }
+    ensures read_outside { (h : Host) → IsSmall (numbers_of (host_volume h)) → read_code 2 8 [] h ≡ 3 }
+    ensures read_short { (h : Host) → IsSmall (numbers_of (host_volume h)) → read_code 1 7 [] h ≡ 4 }
+    ensures read_empty { (h : Host) → IsSmall (numbers_of (host_volume h)) → read_code 1 8 [] h ≡ 0 }
+    ensures read { (h : Host) → IsSmall (numbers_of (host_volume h)) → read_code 1 8 (Write 0 1 zeros ∷ []) h ≡ 1 }
+    ensures unread { (h : Host) → IsSmall (numbers_of (host_volume h)) → read_buffer 1 (7 ∷ []) (Write 0 1 zeros ∷ []) h ≡ 7 ∷ [] }
+    ensures buffer { (h : Host) (x : List ℕ) → IsSmall (numbers_of (host_volume h)) → read_buffer 1 zeros (Write 0 1 x ∷ []) h ≡ x }
+    ensures look_outside { (h : Host) → IsSmall (numbers_of (host_volume h)) → look_code 2 [] h ≡ 3 }
+    ensures look_empty { (h : Host) → IsSmall (numbers_of (host_volume h)) → look_code 1 [] h ≡ 0 }
+    ensures look { (h : Host) → IsSmall (numbers_of (host_volume h)) → look_code 1 (Write 0 1 zeros ∷ []) h ≡ 1 }
+    ensures write_outside { (h : Host) → IsSmall (numbers_of (host_volume h)) → write_code 2 8 0 h ≡ 3 }
+    ensures write_short { (h : Host) → IsSmall (numbers_of (host_volume h)) → write_code 1 7 0 h ≡ 4 }
+    ensures write { (h : Host) → IsSmall (numbers_of (host_volume h)) → write_code 1 8 1 h ≡ 1 }
+    ensures no_block { (h : Host) → IsSmall (numbers_of (host_volume h)) → write_code 1 8 2 h ≡ 7 }
+    ensures trim_outside { (h : Host) → IsSmall (numbers_of (host_volume h)) → trim_code 2 0 h ≡ 3 }
+    ensures trim { (h : Host) → IsSmall (numbers_of (host_volume h)) → trim_code 1 1 h ≡ 1 }
+    ensures hold_outside { (h : Host) → IsSmall (numbers_of (host_volume h)) → hold_code 2 [] h ≡ 3 }
+    ensures hold_empty { (h : Host) → IsSmall (numbers_of (host_volume h)) → hold_code 1 [] h ≡ 0 }
+    ensures hold { (h : Host) → IsSmall (numbers_of (host_volume h)) → hold_code 1 (Write 0 1 zeros ∷ []) h ≡ 1 }
 {}
 
 /// The codes of a broom's calls, and of calls on a held page with what they write, on a small device.
 pub fn codes_of_brooms_and_holders()
-    ensures others { (drain_code 0 seat.Away ≡ 9) × (erase_code 0 0 seat.Away ≡ 9) × (restock_code 0 seat.Away ≡ 9) }
-    ensures drain { (s : Sweeper) → (drain_code 0 (seat.Sweeper s) ≡ 0) × (drain_code 20 (seat.Sweeper s) ≡ 20) × (drain_code 21 (seat.Sweeper s) ≡ 21) }
-    ensures drain_lost { (s : Sweeper) → drain_code 5 (seat.Sweeper s) ≡ 22 }
-    ensures erase_outside { (s : Sweeper) → IsSmall (numbers_of (sweeper_volume s)) → erase_code 3 0 (seat.Sweeper s) ≡ 10 }
-    ensures erase { (s : Sweeper) → IsSmall (numbers_of (sweeper_volume s)) → erase_code 2 0 (seat.Sweeper s) ≡ 0 }
-    ensures erase_kept { (s : Sweeper) → IsSmall (numbers_of (sweeper_volume s)) → erase_code 2 26 (seat.Sweeper s) ≡ 26 }
-    ensures erase_retired { (s : Sweeper) → IsSmall (numbers_of (sweeper_volume s)) → erase_code 2 23 (seat.Sweeper s) ≡ 23 }
-    ensures erase_pinned { (s : Sweeper) → IsSmall (numbers_of (sweeper_volume s)) → erase_code 2 24 (seat.Sweeper s) ≡ 24 }
-    ensures erase_stale { (s : Sweeper) → IsSmall (numbers_of (sweeper_volume s)) → erase_code 2 5 (seat.Sweeper s) ≡ 25 }
-    ensures restock { (s : Sweeper) → (restock_code 0 (seat.Sweeper s) ≡ 0) × (restock_code 5 (seat.Sweeper s) ≡ 21) }
-    ensures no_page { (copy_code 8 seat.Away ≡ 9) × (word_code 0 seat.Away ≡ 9) × (if_holder {X = ℕ} seat.Away 4 (λ k. 5) ≡ 4) }
-    ensures copy { (k : Holder) → IsSmall (numbers_of (holder_volume k)) → (copy_code 8 (seat.Holder k) ≡ 1)
-        × (copied zeros (seat.Holder k) ≡ held_value k.held) }
-    ensures copy_short { (k : Holder) → IsSmall (numbers_of (holder_volume k)) → (copy_code 7 (seat.Holder k) ≡ 4)
-        × (copied (7 ∷ []) (seat.Holder k) ≡ 7 ∷ []) }
+    ensures erase_outside { (s : Sweeper) → IsSmall (numbers_of (sweeper_volume s)) → erased_code 3 0 s ≡ 10 }
+    ensures erase { (s : Sweeper) → IsSmall (numbers_of (sweeper_volume s)) → erased_code 2 0 s ≡ 0 }
+    ensures erase_kept { (s : Sweeper) → IsSmall (numbers_of (sweeper_volume s)) → erased_code 2 26 s ≡ 26 }
+    ensures erase_retired { (s : Sweeper) → IsSmall (numbers_of (sweeper_volume s)) → erased_code 2 23 s ≡ 23 }
+    ensures erase_pinned { (s : Sweeper) → IsSmall (numbers_of (sweeper_volume s)) → erased_code 2 24 s ≡ 24 }
+    ensures erase_stale { (s : Sweeper) → IsSmall (numbers_of (sweeper_volume s)) → erased_code 2 5 s ≡ 25 }
+    ensures copy { (k : Holder) → IsSmall (numbers_of (holder_volume k)) → (copy_code 8 k ≡ 1)
+        × (copied zeros k ≡ held_value k.held) }
+    ensures copy_short { (k : Holder) → IsSmall (numbers_of (holder_volume k)) → (copy_code 7 k ≡ 4)
+        × (copied (7 ∷ []) k ≡ 7 ∷ []) }
     ensures word { (k : Holder) → IsSmall (numbers_of (holder_volume k))
-        → (word_code 0 (seat.Holder k) ≡ 0) × (word_read 0 7 (seat.Holder k) ≡ data_word (held_value k.held) 0) }
-    ensures word_outside { (k : Holder) → IsSmall (numbers_of (holder_volume k)) → (word_code 1 (seat.Holder k) ≡ 10) × (word_read 1 7 (seat.Holder k) ≡ 7) }
-    ensures page { (k : Holder) (r : PageReport) → ((page_report r (seat.Holder k)).block ≡ (page_of k.held).block)
-        × ((page_report r (seat.Holder k)).generation ≡ (page_of k.held).generation) }
-    ensures page_none { (r : PageReport) → page_report r seat.Away ≡ r }
+        → (word_code 0 k ≡ 0) × (word_read 0 7 k ≡ data_word (held_value k.held) 0) }
+    ensures word_outside { (k : Holder) → IsSmall (numbers_of (holder_volume k)) → (word_code 1 k ≡ 10) × (word_read 1 7 k ≡ 7) }
+    ensures page { (k : Holder) → ((page_report k).block ≡ (page_of k.held).block) × ((page_report k).generation ≡ (page_of k.held).generation) }
 {}
 
 /// What the code of a call says of its result.
@@ -170,14 +220,24 @@ pub fn results_by_codes()
     ensures erased { (erase_by 0 3 ≡ erase.Erased 3 false) × (erase_by 26 3 ≡ erase.Erased 3 true) × (erase_by 23 3 ≡ erase.Retired 3) }
     ensures not_erased { (erase_by 24 3 ≡ erase.Pinned) × (erase_by 25 3 ≡ erase.Stale) }
     ensures stocked { (stocked_by 0 ≡ true) × (stocked_by 21 ≡ false) }
-    ensures numbers_none { (r : NumbersReport) → (numbers_code seat.Away ≡ 9) × (numbers_report r seat.Away ≡ r) }
-    ensures numbers_one { (l : OneFtl) (r : NumbersReport) → (numbers_code (seat.One l) ≡ 9) × (numbers_report r (seat.One l) ≡ r) }
+    ensures drain_codes { (drain_code (drain.Drained 3 2) ≡ 0) × (drain_code drain.NothingToGain ≡ 20) × (drain_code drain.NoSpare ≡ 21)
+        × (drain_code drain.Lost ≡ 22) × (drain_code drain.QueueFull ≡ 22) }
+    ensures erase_codes { (erase_code (erase.Erased 3 false) ≡ 0) × (erase_code (erase.Erased 3 true) ≡ 26) × (erase_code (erase.Retired 3) ≡ 23)
+        × (erase_code erase.Pinned ≡ 24) × (erase_code erase.Stale ≡ 25) × (erase_code erase.QueueEmpty ≡ 25) }
+    ensures restock_codes { (restock_code true ≡ 0) × (restock_code false ≡ 21) }
+    ensures faults { (fault_code fault.Luns ≡ 101) × (fault_code fault.Blocks ≡ 102) × (fault_code fault.Pages ≡ 103) × (fault_code fault.Words ≡ 104)
+        × (fault_code fault.Sectors ≡ 105) }
+    ensures more_faults { (fault_code fault.Endurance ≡ 106) × (fault_code fault.Passes ≡ 107) × (fault_code fault.TooManyWords ≡ 108)
+        × (fault_code fault.TooFewBlocks ≡ 109) }
+    ensures numbers_none { (r : NumbersReport) → (numbers_code None ≡ 2) × (numbers_report r None ≡ r) }
+    ensures numbers_away { (r : NumbersReport) → (numbers_code (Some seat.Away) ≡ 9) × (numbers_report r (Some seat.Away) ≡ r) }
+    ensures numbers_one { (l : OneFtl) (r : NumbersReport) → (numbers_code (Some (seat.One l)) ≡ 9) × (numbers_report r (Some (seat.One l)) ≡ r) }
     ensures numbers_host { (h : Host) (r : NumbersReport)
-        → (numbers_code (seat.Host h) ≡ 0) × (numbers_report r (seat.Host h) ≡ reported (numbers_of (host_volume h))) }
+        → (numbers_code (Some (seat.Host h)) ≡ 0) × (numbers_report r (Some (seat.Host h)) ≡ reported (numbers_of (host_volume h))) }
     ensures numbers_broom { (s : Sweeper) (r : NumbersReport)
-        → (numbers_code (seat.Sweeper s) ≡ 0) × (numbers_report r (seat.Sweeper s) ≡ reported (numbers_of (sweeper_volume s))) }
+        → (numbers_code (Some (seat.Sweeper s)) ≡ 0) × (numbers_report r (Some (seat.Sweeper s)) ≡ reported (numbers_of (sweeper_volume s))) }
     ensures numbers_holder { (k : Holder) (r : NumbersReport)
-        → (numbers_code (seat.Holder k) ≡ 0) × (numbers_report r (seat.Holder k) ≡ reported (numbers_of (holder_volume k))) }
+        → (numbers_code (Some (seat.Holder k)) ≡ 0) × (numbers_report r (Some (seat.Holder k)) ≡ reported (numbers_of (holder_volume k))) }
 {}
 
 /// What a call returns on a device for one thread, and leaves of it, if the device is small.
@@ -236,8 +296,59 @@ pub fn opens_of_shared_devices()
     ensures faulty { (n : Numbers) → n.hosts ≡ 1 → first_fault n ≡ Some fault.TooFewBlocks → shared_open_code true n true ≡ 109 }
     ensures faulty_no_host { (n : Numbers) → n.hosts ≡ 0 → first_fault n ≡ Some fault.TooFewBlocks → shared_open_code true n true ≡ 107 }
     ensures earlier_fault { (n : Numbers) → n.hosts ≡ 0 → first_fault n ≡ Some fault.Luns → shared_open_code true n true ≡ 101 }
-    ensures host { (n : Numbers) (h : Handle) → (a : AreFresh n (h ∷ []) []) → IsFreshHost a.volume 0 h }
-    ensures broom { (n : Numbers) (h : Handle) → (a : AreFresh n [] (h ∷ [])) → IsFreshBroom a.volume 0 h }
+    ensures hosts { (n : Numbers) (h g : Handle) → (a : AreFresh n (h ∷ g ∷ []) []) → (p : Host) × (seat_of g ≡ Some (seat.Host p))
+        × (host_volume p ≡ a.volume) × (view_of p.pass ≡ first_view (device (flash_of a.volume)) 1) }
+    ensures brooms { (n : Numbers) (h g : Handle) → (a : AreFresh n [] (h ∷ g ∷ [])) → (s : Sweeper) × (seat_of g ≡ Some (seat.Sweeper s))
+        × (sweeper_volume s ≡ a.volume) × (view_of_broom s.broom ≡ first_broom (device (flash_of a.volume)) 1)
+        × (blocks_of_broom s.broom ≡ first_blocks (device (flash_of a.volume)) 1) × IsFresh (flash_of a.volume) (queue_of a.volume) s.broom }
     ensures numbers { (n : Numbers) → (a : AreFresh n [] []) → numbers_in (numbers_of a.volume) ≡ n }
-    ensures closed { (n : Numbers) (h : Handle) → seat_of h ≡ None → (¬ AreFresh n (h ∷ []) []) × (¬ AreFresh n [] (h ∷ [])) }
+{}
+
+/// What a broom reports of blocks, and when no block can become free.
+pub fn reports_of_blocks()
+    ensures drained { state_report (worn_block phase.Drained) ≡ record { phase = 4; readers = 2; written = 3; erases = 4 } }
+    ensures retired { state_report (worn_block phase.Retired) ≡ record { phase = 6; readers = 2; written = 3; erases = 5 } }
+    ensures phases { (phase_number phase.Free ≡ 0) × (phase_number phase.Open ≡ 1) × (phase_number phase.Closed ≡ 2) × (phase_number phase.Victim ≡ 3) }
+    ensures erasing { phase_number phase.Erasing ≡ 5 }
+    ensures code { (g : Geometry) → blocks_of g ≡ 4 → (block_code g 3 ≡ 0) × (block_code g 4 ≡ 10) }
+    ensures count_free { counts_in (worn_block phase.Free ∷ [])
+        ≡ record { erases = 4; free = 1; «open» = 0; closed = 0; victims = 0; drained = 0; erasing = 0; retired = 0 } }
+    ensures count_open { counts_in (worn_block phase.Open ∷ [])
+        ≡ record { erases = 4; free = 0; «open» = 1; closed = 0; victims = 0; drained = 0; erasing = 0; retired = 0 } }
+    ensures count_closed { counts_in (worn_block phase.Closed ∷ [])
+        ≡ record { erases = 4; free = 0; «open» = 0; closed = 1; victims = 0; drained = 0; erasing = 0; retired = 0 } }
+    ensures count_victim { counts_in (worn_block phase.Victim ∷ [])
+        ≡ record { erases = 4; free = 0; «open» = 0; closed = 0; victims = 1; drained = 0; erasing = 0; retired = 0 } }
+    ensures count_drained { counts_in (worn_block phase.Drained ∷ [])
+        ≡ record { erases = 4; free = 0; «open» = 0; closed = 0; victims = 0; drained = 1; erasing = 0; retired = 0 } }
+    ensures count_erasing { counts_in (worn_block phase.Erasing ∷ [])
+        ≡ record { erases = 4; free = 0; «open» = 0; closed = 0; victims = 0; drained = 0; erasing = 1; retired = 0 } }
+    ensures count_retired { counts_in (worn_block phase.Retired ∷ [])
+        ≡ record { erases = 5; free = 0; «open» = 0; closed = 0; victims = 0; drained = 0; erasing = 0; retired = 1 } }
+    ensures count_two { counts_in (worn_block phase.Drained ∷ worn_block phase.Drained ∷ [])
+        ≡ record { erases = 8; free = 0; «open» = 0; closed = 0; victims = 0; drained = 2; erasing = 0; retired = 0 } }
+    ensures report { (c : BlockCounts) → ((counts_report c 1).erases ≡ c.erases) × ((counts_report c 1).free ≡ c.free)
+        × ((counts_report c 1).«open» ≡ c.«open») × ((counts_report c 1).closed ≡ c.closed) × ((counts_report c 1).victims ≡ c.victims) }
+    ensures more { (c : BlockCounts) → ((counts_report c 1).drained ≡ c.drained) × ((counts_report c 1).erasing ≡ c.erasing)
+        × ((counts_report c 1).retired ≡ c.retired) × ((counts_report c 1).spares ≡ 1) }
+    ensures exhausted { (g : Geometry) → brooms_of g ≡ 1 → counts_code g (worn 0 0 0 0 0) ≡ 27 }
+    ensures not_alone { (g : Geometry) → brooms_of g ≡ 2 → counts_code g (worn 0 0 0 0 0) ≡ 0 }
+    ensures not_yet { (g : Geometry) → brooms_of g ≡ 1 → (counts_code g (worn 1 0 0 0 0) ≡ 0) × (counts_code g (worn 0 1 0 0 0) ≡ 0)
+        × (counts_code g (worn 0 0 1 0 0) ≡ 0) × (counts_code g (worn 0 0 0 1 0) ≡ 0) × (counts_code g (worn 0 0 0 0 1) ≡ 0) }
+{}
+
+/// What loads of blocks' states leave of a broom.
+pub fn loads_of_blocks()
+    ensures reported { (b c : Broom) (r : StateReport) → BlockReported b 3 r c → (p : PinWord) × StateLoaded b 3 p c × (r ≡ state_report p) }
+    ensures loaded { (b c : Broom) (p : PinWord) → StateLoaded b 3 p c → Loaded (view_of_broom b) 3 (pin_word p) (view_of_broom c) }
+    ensures blocks { (b c : Broom) (p : PinWord) → StateLoaded b 3 p c → blocks_of_broom c ≡ blocks_of_broom b }
+    ensures same { (b c : Broom) (p : PinWord) → StateLoaded b 3 p c → HasState b 3 p → KeepsSurvey b c }
+    ensures each { (z : Numbers) (b c : Broom) (states : List PinWord) → AllLoaded z b states c
+        → (length states ≡ z.blocks) × ((view_of_broom c).loaded ≡ (view_of_broom b).loaded ++ loads_of states) }
+    ensures survey { (z : Numbers) (b c : Broom) (states : List PinWord) → AllLoaded z b states c
+        → (states_kept c ≡ states_kept b) × (counts_kept c ≡ counts_kept b) × (blocks_of_broom c ≡ blocks_of_broom b) }
+    ensures kept { (z : Numbers) (b c : Broom) (states : List PinWord) → AllLoaded z b states c → (k : ℕ) (p : PinWord)
+        → slice_get states k ≡ Some p → HasState b k p → IsMarked (marks_of b) k → IsMarked (marks_of c) k }
+    ensures no_more { (z : Numbers) (b c : Broom) (states : List PinWord) → AllLoaded z b states c → (k : ℕ) → IsMarked (marks_of c) k
+        → IsMarked (marks_of b) k }
 {}

@@ -1,11 +1,8 @@
 //! The calls of the layer, by codes.
-ghost use Rattle.std.specs.Prelude.{◌≡◌, ◌<◌, length};
-ghost use Rattle.exports.specs.One.{machine_of, Open, write_on, write_new_on, trim_on, read_on, buffer_on, totals_on, reported, block_report};
-ghost use Rattle.ftl_one.specs.OneFtl.{geometry_of, stock_of};
-ghost use Rattle.ftl_one.specs.Laws.{block_at};
-ghost use Rattle.geometry.specs.Geometry.{blocks_of};
+ghost use Rattle.std.specs.Prelude.{◌≡◌, length};
+ghost use Rattle.exports.specs.One.{machine_of, Open, write_on, write_new_on, trim_on, read_on, buffer_on, totals_on, reported, block_on, report_on};
 
-use crate::codes::{DONE, NO_SECTOR, NOT_A_PAGE, WORN_OUT, WRITTEN, code_of};
+use crate::codes::{DONE, NO_SECTOR, NO_SUCH_BLOCK, NOT_A_PAGE, WORN_OUT, WRITTEN, code_of};
 use crate::reports::{BlockReport, NumbersReport, Totals};
 use ftl_one::{Counts, Geometry, Got, NewOneFault, OneFtl};
 
@@ -76,38 +73,45 @@ pub(crate) fn trim(layer: &mut OneFtl, sector: u32) -> u32
 }
 
 // The totals.
-pub(crate) fn totals(layer: &OneFtl) -> Totals
-    ensures { result ≡ totals_on (machine_of layer.now) }
+pub(crate) fn totals(layer: &OneFtl, out: &mut Totals) -> u32
+    ensures code { result ≡ DONE }
+    ensures report { out.new ≡ totals_on (machine_of layer.now) }
 {
     let Counts {
         programs,
         copies,
         erases,
     } = layer.counts();
-    Totals {
+    *out = Totals {
         programs,
         copies,
         erases,
-    }
+    };
+    DONE
 }
 
 // What a block has had so far.
-pub(crate) fn block(layer: &OneFtl, block: u32) -> BlockReport
-    requires { block < blocks_of (geometry_of layer.now) }
-    ensures { result ≡ block_report (block_at (stock_of layer.now) block) }
+pub(crate) fn block(layer: &OneFtl, block: u32, out: &mut BlockReport) -> u32
+    ensures code { result ≡ block_on block (machine_of layer.now) }
+    ensures report { out.new ≡ report_on block out.old (machine_of layer.now) }
 {
-    BlockReport {
+    if block >= layer.geometry().blocks() {
+        return NO_SUCH_BLOCK;
+    }
+    *out = BlockReport {
         erases: layer.erases(block),
         live: layer.live(block),
         retired: u32::from(layer.retired(block)),
-    }
+    };
+    DONE
 }
 
 // The numbers of a device.
-pub(crate) fn numbers(geometry: &Geometry) -> NumbersReport
-    ensures { result ≡ reported geometry.now }
+pub(crate) fn numbers(geometry: &Geometry, out: &mut NumbersReport) -> u32
+    ensures code { result ≡ DONE }
+    ensures report { out.new ≡ reported geometry.now }
 {
-    NumbersReport {
+    *out = NumbersReport {
         luns: geometry.luns(),
         blocks: geometry.blocks(),
         pages: geometry.pages(),
@@ -116,5 +120,6 @@ pub(crate) fn numbers(geometry: &Geometry) -> NumbersReport
         endurance: geometry.endurance(),
         hosts: geometry.hosts(),
         brooms: geometry.brooms(),
-    }
+    };
+    DONE
 }

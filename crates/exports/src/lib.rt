@@ -1,6 +1,7 @@
 //! The calls of C: a device for one thread, and a device that threads share, behind handles of two words.
 #![tactic(auto)]
 
+mod block_calls;
 mod codes;
 mod handle;
 mod holder_calls;
@@ -9,10 +10,10 @@ mod laws;
 mod layer;
 mod one;
 mod opening;
+mod phases;
 mod pointed;
 mod reports;
 mod seat;
-mod seats;
 mod shared;
 mod slot;
 mod sweeper_calls;
@@ -24,10 +25,11 @@ pub use one::{
     mintlintel_one_write_new,
 };
 pub use opening::mintlintel_shared_open;
-pub use reports::{BlockReport, NumbersReport, PageReport, Totals};
+pub use reports::{BlockReport, CountsReport, NumbersReport, PageReport, StateReport, Totals};
 pub use seat::{Holder, Host, Seat, Sweeper};
 pub use shared::{
-    mintlintel_broom_drain, mintlintel_broom_drain_next, mintlintel_broom_erase,
+    mintlintel_broom_block, mintlintel_broom_counts, mintlintel_broom_drain,
+    mintlintel_broom_drain_dead, mintlintel_broom_drain_next, mintlintel_broom_erase,
     mintlintel_broom_restock, mintlintel_host_copy, mintlintel_host_held, mintlintel_host_hold,
     mintlintel_host_look, mintlintel_host_read, mintlintel_host_release, mintlintel_host_trim,
     mintlintel_host_word, mintlintel_host_write, mintlintel_host_write_new, mintlintel_seat_close,

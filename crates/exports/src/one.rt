@@ -1,13 +1,11 @@
-//! A device for one thread: the calls of C. Each takes the seat out of its handle, calls the layer, and puts the seat back.
+//! A device for one thread: the calls of C. Each is a call of the layer, on the seat of its handle.
 ghost use Rattle.std.specs.Prelude.{◌≡◌, ◌≢◌, None, nat_eq, not, length};
 ghost use Rattle.geometry.specs.Limits.{numbers};
 ghost use Rattle.exports.specs.Handles.{seat_of};
-ghost use Rattle.exports.specs.One.{state_in, state_of, on_state, code_on, filled_on, write_on, write_new_on, trim_on, read_on};
+ghost use Rattle.exports.specs.One.{state_of, on_state, code_on, filled_on, write_on, write_new_on, trim_on, read_on};
 ghost use Rattle.exports.specs.One.{buffer_on, totals_on, reported, block_on, report_on, open_code, IsFreshIn};
 
-use crate::codes::{
-    ALREADY_OPEN, CLOSED, DONE, NO_MEMORY, NO_SUCH_BLOCK, WRONG_KIND, code_of_fault,
-};
+use crate::codes::{ALREADY_OPEN, DONE, NO_MEMORY, WRONG_KIND, code_of_fault};
 use crate::handle::Handle;
 use crate::layer;
 use crate::reports::{BlockReport, NumbersReport, Totals};
@@ -28,9 +26,9 @@ pub extern "C" fn mintlintel_one_open(
     sectors: u32,
     endurance: u32,
 ) -> u32
-    ensures code { result ≡ open_code (seat_of handle.old) (numbers luns blocks pages words sectors endurance 0 0) (not (nat_eq result 6)) }
-    ensures fresh { result ≡ 0 → IsFreshIn (numbers luns blocks pages words sectors endurance 0 0) (state_of handle.new) }
-    ensures same { result ≢ 0 → seat_of handle.new ≡ seat_of handle.old }
+    ensures code { result ≡ open_code (seat_of handle.old) (numbers luns blocks pages words sectors endurance 0 0) (not (nat_eq result NO_MEMORY)) }
+    ensures fresh { result ≡ DONE → IsFreshIn (numbers luns blocks pages words sectors endurance 0 0) (state_of handle.new) }
+    ensures same { result ≢ DONE → seat_of handle.new ≡ seat_of handle.old }
 {
     if handle.is_open() {
         return ALREADY_OPEN;
@@ -69,12 +67,10 @@ pub extern "C" fn mintlintel_one_read(
     ensures buffer { out.new ≡ filled_on (state_of handle.old) out.old (buffer_on sector out.old) }
     ensures same { seat_of handle.new ≡ seat_of handle.old }
 {
-    let Some(seat) = handle.take(alloc) else {
-        return CLOSED;
-    };
-    let code = read(&seat, sector, out);
-    handle.put(seat);
-    code
+    handle.on_page(alloc, out, |seat, out| match seat {
+        Seat::One(layer) => layer::read(layer, sector, out),
+        _ => WRONG_KIND,
+    })
 }
 
 /// Writes a page of bytes to a sector, and returns what the sector was.
@@ -88,12 +84,10 @@ pub extern "C" fn mintlintel_one_write(
     ensures code { result ≡ (on_state (state_of handle.old) (write_on sector bytes.now)).code }
     ensures state { state_of handle.new ≡ (on_state (state_of handle.old) (write_on sector bytes.now)).state }
 {
-    let Some(mut seat) = handle.take(alloc) else {
-        return CLOSED;
-    };
-    let code = write(&mut seat, sector, bytes);
-    handle.put(seat);
-    code
+    handle.on(alloc, |seat| match seat {
+        Seat::One(layer) => layer::write(layer, sector, bytes),
+        _ => WRONG_KIND,
+    })
 }
 
 /// Writes a page of bytes to a sector that is empty.
@@ -107,12 +101,10 @@ pub extern "C" fn mintlintel_one_write_new(
     ensures code { result ≡ (on_state (state_of handle.old) (write_new_on sector bytes.now)).code }
     ensures state { state_of handle.new ≡ (on_state (state_of handle.old) (write_new_on sector bytes.now)).state }
 {
-    let Some(mut seat) = handle.take(alloc) else {
-        return CLOSED;
-    };
-    let code = write_new(&mut seat, sector, bytes);
-    handle.put(seat);
-    code
+    handle.on(alloc, |seat| match seat {
+        Seat::One(layer) => layer::write_new(layer, sector, bytes),
+        _ => WRONG_KIND,
+    })
 }
 
 /// Empties a sector, and returns what it was.
@@ -121,27 +113,23 @@ pub extern "C" fn mintlintel_one_trim(alloc: Global, handle: &mut Handle, sector
     ensures code { result ≡ (on_state (state_of handle.old) (trim_on sector)).code }
     ensures state { state_of handle.new ≡ (on_state (state_of handle.old) (trim_on sector)).state }
 {
-    let Some(mut seat) = handle.take(alloc) else {
-        return CLOSED;
-    };
-    let code = trim(&mut seat, sector);
-    handle.put(seat);
-    code
+    handle.on(alloc, |seat| match seat {
+        Seat::One(layer) => layer::trim(layer, sector),
+        _ => WRONG_KIND,
+    })
 }
 
 /// What the device has done so far.
 #[unsafe(no_mangle)]
 pub extern "C" fn mintlintel_one_counts(alloc: Global, handle: &mut Handle, out: &mut Totals) -> u32
-    ensures code { result ≡ code_on (state_of handle.old) (λ _. 0) }
+    ensures code { result ≡ code_on (state_of handle.old) (λ _. DONE) }
     ensures report { out.new ≡ filled_on (state_of handle.old) out.old totals_on }
     ensures same { seat_of handle.new ≡ seat_of handle.old }
 {
-    let Some(seat) = handle.take(alloc) else {
-        return CLOSED;
-    };
-    let code = counts(&seat, out);
-    handle.put(seat);
-    code
+    handle.on_with(alloc, out, |seat, out| match seat {
+        Seat::One(layer) => layer::totals(layer, out),
+        _ => WRONG_KIND,
+    })
 }
 
 /// What a block has had so far.
@@ -156,12 +144,10 @@ pub extern "C" fn mintlintel_one_block(
     ensures report { out.new ≡ filled_on (state_of handle.old) out.old (report_on block out.old) }
     ensures same { seat_of handle.new ≡ seat_of handle.old }
 {
-    let Some(seat) = handle.take(alloc) else {
-        return CLOSED;
-    };
-    let code = report(&seat, block, out);
-    handle.put(seat);
-    code
+    handle.on_with(alloc, out, |seat, out| match seat {
+        Seat::One(layer) => layer::block(layer, block, out),
+        _ => WRONG_KIND,
+    })
 }
 
 /// The numbers that the device was made with.
@@ -171,90 +157,12 @@ pub extern "C" fn mintlintel_one_numbers(
     handle: &mut Handle,
     out: &mut NumbersReport,
 ) -> u32
-    ensures code { result ≡ code_on (state_of handle.old) (λ _. 0) }
+    ensures code { result ≡ code_on (state_of handle.old) (λ _. DONE) }
     ensures report { out.new ≡ filled_on (state_of handle.old) out.old (λ m. reported m.numbers) }
     ensures same { seat_of handle.new ≡ seat_of handle.old }
 {
-    let Some(seat) = handle.take(alloc) else {
-        return CLOSED;
-    };
-    let code = numbers_of(&seat, out);
-    handle.put(seat);
-    code
-}
-
-fn read(seat: &Seat, sector: u32, out: &mut [u8]) -> u32
-    ensures code { result ≡ code_on (state_in seat.now) (read_on sector (length out.old)) }
-    ensures buffer { out.new ≡ filled_on (state_in seat.now) out.old (buffer_on sector out.old) }
-{
-    match seat {
-        Seat::One(layer) => layer::read(layer, sector, out),
+    handle.on_with(alloc, out, |seat, out| match seat {
+        Seat::One(layer) => layer::numbers(&layer.geometry(), out),
         _ => WRONG_KIND,
-    }
-}
-
-fn write(seat: &mut Seat, sector: u32, bytes: &[u8]) -> u32
-    ensures code { result ≡ (on_state (state_in seat.old) (write_on sector bytes.now)).code }
-    ensures state { state_in seat.new ≡ (on_state (state_in seat.old) (write_on sector bytes.now)).state }
-{
-    match seat {
-        Seat::One(layer) => layer::write(layer, sector, bytes),
-        _ => WRONG_KIND,
-    }
-}
-
-fn write_new(seat: &mut Seat, sector: u32, bytes: &[u8]) -> u32
-    ensures code { result ≡ (on_state (state_in seat.old) (write_new_on sector bytes.now)).code }
-    ensures state { state_in seat.new ≡ (on_state (state_in seat.old) (write_new_on sector bytes.now)).state }
-{
-    match seat {
-        Seat::One(layer) => layer::write_new(layer, sector, bytes),
-        _ => WRONG_KIND,
-    }
-}
-
-fn trim(seat: &mut Seat, sector: u32) -> u32
-    ensures code { result ≡ (on_state (state_in seat.old) (trim_on sector)).code }
-    ensures state { state_in seat.new ≡ (on_state (state_in seat.old) (trim_on sector)).state }
-{
-    match seat {
-        Seat::One(layer) => layer::trim(layer, sector),
-        _ => WRONG_KIND,
-    }
-}
-
-fn counts(seat: &Seat, out: &mut Totals) -> u32
-    ensures code { result ≡ code_on (state_in seat.now) (λ _. 0) }
-    ensures report { out.new ≡ filled_on (state_in seat.now) out.old totals_on }
-{
-    let Seat::One(layer) = seat else {
-        return WRONG_KIND;
-    };
-    *out = layer::totals(layer);
-    DONE
-}
-
-fn report(seat: &Seat, block: u32, out: &mut BlockReport) -> u32
-    ensures code { result ≡ code_on (state_in seat.now) (block_on block) }
-    ensures report { out.new ≡ filled_on (state_in seat.now) out.old (report_on block out.old) }
-{
-    let Seat::One(layer) = seat else {
-        return WRONG_KIND;
-    };
-    if block >= layer.geometry().blocks() {
-        return NO_SUCH_BLOCK;
-    }
-    *out = layer::block(layer, block);
-    DONE
-}
-
-fn numbers_of(seat: &Seat, out: &mut NumbersReport) -> u32
-    ensures code { result ≡ code_on (state_in seat.now) (λ _. 0) }
-    ensures report { out.new ≡ filled_on (state_in seat.now) out.old (λ m. reported m.numbers) }
-{
-    let Seat::One(layer) = seat else {
-        return WRONG_KIND;
-    };
-    *out = layer::numbers(&layer.geometry());
-    DONE
+    })
 }

@@ -14,9 +14,15 @@ ghost use Rattle.exports.specs.Opening.{IsFreshBroom, AreFresh, capped, shared_o
 use crate::codes::{ALREADY_OPEN, BAD_SEATS, DONE, NO_MEMORY, code_of_fault};
 use crate::handle::Handle;
 use crate::seat::{Host, Seat, Sweeper};
+use geometry::{MAX_BROOMS, MAX_HOSTS};
 use std::alloc::Global;
 use std::sync::Arc;
 use volume::{Broom, Geometry, GeometryFault, Pass, Volume};
+
+// More hosts or brooms than a device may have: a longer array counts as so many.
+const TOO_MANY_HOSTS: u32 = MAX_HOSTS + 1;
+
+const TOO_MANY_BROOMS: u32 = MAX_BROOMS + 1;
 
 // Closes these handles.
 fn close_all(alloc: Global, handles: &mut [Handle])
@@ -188,7 +194,7 @@ fn are_closed(handles: &[Handle]) -> bool
 // The code of a fault of a shared device's numbers.
 fn code_of_shared_fault(hosts: u32, fault: GeometryFault) -> u32
     ensures code { result ≡ shared_fault_code hosts fault }
-    ensures over { 100 < result }
+    ensures over { ALREADY_OPEN < result }
 {
     let code = code_of_fault(fault);
     if hosts == 0 && code > BAD_SEATS {
@@ -212,21 +218,22 @@ pub extern "C" fn mintlintel_shared_open(
     sectors: u32,
     endurance: u32,
 ) -> u32
-    ensures code { result ≡ shared_open_code (not (nat_eq result 8))
-        (numbers luns blocks pages words sectors endurance (capped 501 (length hosts.old)) (capped 33 (length brooms.old))) (not (nat_eq result 6)) }
-    ensures closed { result ≢ 8 → All IsClosed hosts.old × All IsClosed brooms.old }
-    ensures open { result ≡ 8 → ¬ (All IsClosed hosts.old × All IsClosed brooms.old) }
-    ensures fresh { result ≡ 0 → AreFresh (numbers luns blocks pages words sectors endurance (length hosts.old) (length brooms.old)) hosts.new brooms.new }
-    ensures closed_hosts { result ≡ 6 → All IsClosed hosts.new }
-    ensures closed_brooms { result ≡ 6 → All IsClosed brooms.new }
-    ensures same_hosts { result ≢ 0 → result ≢ 6 → hosts.new ≡ hosts.old }
-    ensures same_brooms { result ≢ 0 → result ≢ 6 → brooms.new ≡ brooms.old }
+    ensures code { result ≡ shared_open_code (not (nat_eq result ALREADY_OPEN))
+        (numbers luns blocks pages words sectors endurance (capped TOO_MANY_HOSTS (length hosts.old))
+        (capped TOO_MANY_BROOMS (length brooms.old))) (not (nat_eq result NO_MEMORY)) }
+    ensures closed { result ≢ ALREADY_OPEN → All IsClosed hosts.old × All IsClosed brooms.old }
+    ensures open { result ≡ ALREADY_OPEN → ¬ (All IsClosed hosts.old × All IsClosed brooms.old) }
+    ensures fresh { result ≡ DONE → AreFresh (numbers luns blocks pages words sectors endurance (length hosts.old) (length brooms.old)) hosts.new brooms.new }
+    ensures closed_hosts { result ≡ NO_MEMORY → All IsClosed hosts.new }
+    ensures closed_brooms { result ≡ NO_MEMORY → All IsClosed brooms.new }
+    ensures same_hosts { result ≢ DONE → result ≢ NO_MEMORY → hosts.new ≡ hosts.old }
+    ensures same_brooms { result ≢ DONE → result ≢ NO_MEMORY → brooms.new ≡ brooms.old }
 {
     if !are_closed(hosts) || !are_closed(brooms) {
         return ALREADY_OPEN;
     }
-    let host_count = capped_count(hosts.len(), 501);
-    let broom_count = capped_count(brooms.len(), 33);
+    let host_count = capped_count(hosts.len(), TOO_MANY_HOSTS);
+    let broom_count = capped_count(brooms.len(), TOO_MANY_BROOMS);
     let geometry = match Geometry::new(
         luns,
         blocks,

@@ -39,3 +39,35 @@ pub struct PageReport {
     pub block: u32,
     pub generation: u32,
 }
+
+/// What a drain reports, before it is handed to C: the block that it drained, and how many pages moved.
+#[derive(Clone, Copy, Debug, PartialEq, Eq)]
+pub(crate) struct Drained {
+    pub(crate) block: u32,
+    pub(crate) moved: u32,
+}
+
+/// A block: its phase, the hosts that read it, the pages that are written since its last erase, and its erases.
+#[repr(C)]
+#[derive(Clone, Copy, Debug, PartialEq, Eq)]
+pub struct StateReport {
+    pub phase: u32,
+    pub readers: u32,
+    pub written: u32,
+    pub erases: u32,
+}
+
+/// All erases, the blocks in each phase, and 1 if the broom that counts has a spare.
+#[repr(C)]
+#[derive(Clone, Copy, Debug, PartialEq, Eq)]
+pub struct CountsReport {
+    pub erases: u64,
+    pub free: u32,
+    pub open: u32,
+    pub closed: u32,
+    pub victims: u32,
+    pub drained: u32,
+    pub erasing: u32,
+    pub retired: u32,
+    pub spares: u32,
+}

@@ -29,14 +29,14 @@ impl Drop for Host {
 
 impl Host {
     ghost use Rattle.std.specs.Prelude.{◌≡◌};
+    ghost use Rattle.std.specs.Prelude.{Some};
     ghost use Rattle.exports.specs.Holding.{HoldLeaves, hold_code};
-    ghost use Rattle.exports.specs.Shared.{seen_in};
-    ghost use Rattle.exports.specs.declared.seat.Seat.TheVariants as seat;
+    ghost use Rattle.exports.specs.Shared.{seen_of};
 
     // Holds the page of a sector, or stays a host.
     pub(crate) fn hold(self, sector: u32) -> (Seat, u32)
-        ensures code { result.1 ≡ hold_code sector (seen_in result.0) (seat.Host self) }
-        ensures told { HoldLeaves self sector result.1 result.0 }
+        ensures code { result.1 ≡ hold_code sector (seen_of (Some result.0)) self }
+        ensures leaves { HoldLeaves self sector result.1 result.0 }
     {
         if sector >= self.volume.geometry().sectors() {
             return (Seat::Host(self), NO_SECTOR);

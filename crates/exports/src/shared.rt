@@ -1,29 +1,39 @@
-//! A device that threads share: the calls of C. Each takes the seat out of its handle, calls the device, and puts the seat back.
-ghost use Rattle.std.specs.Prelude.{◌≡◌, ◌≢◌, ◌<◌, ◌≤◌, ℕ, None, length};
+//! A device that threads share: the calls of C. Each is a call of the device, on the seat of its handle.
+ghost use Rattle.std.specs.Prelude.{◌≡◌, ◌≢◌, ◌<◌, ◌≤◌, ℕ, List, None, Some, is_some, length};
 ghost use Rattle.geometry.specs.Geometry.{blocks_of};
-ghost use Rattle.geometry.specs.History as call;
 ghost use Rattle.flash_table.specs.Flash.{view_of, opened_of};
-ghost use Rattle.flash_table.specs.Steps.{HasCalled, HasNumber};
-ghost use Rattle.host.specs.Told.{Searched, Wrote, WroteNew, Refused};
+ghost use Rattle.host.specs.Told.{Searched, Refused};
 ghost use Rattle.broom.specs.Told.{DrainTold, NextTold, SurveyLeft, KeepsSurvey, Unmarks};
+ghost use Rattle.broom.specs.Dead.{DeadTold};
 ghost use Rattle.broom.specs.Erasing.{EraseTold};
 ghost use Rattle.broom.specs.Handing.{HandsNothing, IsBelow};
 ghost use Rattle.broom.specs.Restocking.{RestockTold};
+ghost use Rattle.broom.specs.Loading.{AllLoaded, counts_in};
+ghost use Rattle.broom.specs.Ready.{blocks_of_broom};
+ghost use Rattle.geometry.specs.declared.pin_word.PinWord.{PinWord};
+ghost use Rattle.flash_table.specs.Flash.{device};
 ghost use Rattle.host.specs.Holding.{pass_of, page_of};
 ghost use Rattle.volume.specs.Volume.{flash_of};
 ghost use Rattle.volume.specs.Undisturbed.{IsUndisturbed};
-ghost use Rattle.exports.specs.Holding.{hold_code, HoldCalled, HolderCalled, ReleaseCalled, copy_code, copied, word_code, word_read, page_report, if_holder};
-ghost use Rattle.volume.specs.Correct.{Does, Read, Look, Write, WriteNew, Trim, Found, IsWritten, Replaced};
+ghost use Rattle.exports.specs.Codes.{as_number, got_by, written_by, was_by, drain_code, drain_by, erase_by, restock_code, stocked_by};
+ghost use Rattle.exports.specs.Blocks.{BlockReported, block_code, counts_code, counts_report};
 ghost use Rattle.exports.specs.Handles.{seat_of};
-ghost use Rattle.exports.specs.Shared.{numbers_of, on_handle, seen_of, OnHandle, HostCalled, BroomCalled, read_code, read_buffer, look_code};
-ghost use Rattle.exports.specs.Shared.{write_code, trim_code, got_by, written_by, was_by, drain_code, drain_by, erase_code, erase_by, restock_code};
-ghost use Rattle.exports.specs.Shared.{stocked_by, numbers_code, numbers_report};
+ghost use Rattle.exports.specs.Holding.{by_holder, holder_code, hold_code, HoldCalled, HolderCalled, ReleaseCalled};
+ghost use Rattle.exports.specs.Holding.{copy_code, copied, word_code, word_read, page_report};
+ghost use Rattle.exports.specs.Shared.{numbers_of, sweeper_volume, by_host, host_code, sweeper_code, HostCalled, BroomCalled, seen_of, read_code, read_buffer};
+ghost use Rattle.exports.specs.Shared.{look_code, write_code, trim_code, erased_code, numbers_code, numbers_report, IsStep, HasWritten};
+ghost use Rattle.exports.specs.Shared.{HasWrittenNew, HasTrimmed};
+ghost use Rattle.volume.specs.Correct.{Read, Look, Write, WriteNew, Trim, Found, IsWritten, Replaced};
 
-use crate::codes::CLOSED;
+use crate::codes::{
+    CLOSED, DONE, NO_BLOCK, NO_SECTOR, NO_SUCH_BLOCK, NOT_A_PAGE, WRITTEN, WRONG_KIND,
+};
 use crate::handle::Handle;
-use crate::reports::{NumbersReport, PageReport};
-use crate::seats;
+use crate::layer;
+use crate::reports::{CountsReport, Drained, NumbersReport, PageReport, StateReport};
+use crate::seat::Seat;
 use std::alloc::Global;
+use std::mem;
 
 /// Gives a seat up, and the device with its last one. A closed handle stays closed.
 #[unsafe(no_mangle)]
@@ -40,60 +50,55 @@ pub extern "C" fn mintlintel_seat_numbers(
     handle: &mut Handle,
     out: &mut NumbersReport,
 ) -> u32
-    ensures code { result ≡ on_handle (seat_of handle.old) 2 numbers_code }
-    ensures report { out.new ≡ on_handle (seat_of handle.old) out.old (numbers_report out.old) }
+    ensures code { result ≡ numbers_code (seat_of handle.old) }
+    ensures report { out.new ≡ numbers_report out.old (seat_of handle.old) }
     ensures same { seat_of handle.new ≡ seat_of handle.old }
 {
-    let Some(seat) = handle.take(alloc) else {
-        return CLOSED;
-    };
-    let code = seats::numbers(&seat, out);
-    handle.put(seat);
-    code
+    handle.on_with(alloc, out, |seat, out| match seat {
+        Seat::Host(host) => layer::numbers(host.volume.geometry(), out),
+        Seat::Holder(holder) => layer::numbers(holder.volume.geometry(), out),
+        Seat::Sweeper(sweeper) => layer::numbers(sweeper.volume.geometry(), out),
+        _ => WRONG_KIND,
+    })
 }
 
 /// Reads a sector into a buffer of one page. An empty sector leaves the buffer as it was.
 #[unsafe(no_mangle)]
-#[tactic(auto, using(crate::proofs::Told::on_open))]
 pub extern "C" fn mintlintel_host_read(
     alloc: Global,
     handle: &mut Handle,
     sector: u32,
     out: &mut [u8],
 ) -> u32
-    ensures code { result ≡ on_handle (seat_of handle.old) 2 (read_code sector (length out.old) (seen_of (seat_of handle.new))) }
-    ensures buffer { out.new ≡ on_handle (seat_of handle.old) out.old (read_buffer sector out.old (seen_of (seat_of handle.new))) }
-    ensures correct { OnHandle (seat_of handle.old)
-        (λ x y. HostCalled x (λ v p q. result ≤ 1 → Does v p (Read sector) (Found (got_by result) out.old out.new) q) y) (seat_of handle.new) }
-    ensures told { OnHandle (seat_of handle.old) (λ x y. HostCalled x (λ v p q. result ≤ 1 → (tries : ℕ) × Searched (view_of p) tries (view_of q)) y)
-        (seat_of handle.new) }
-    ensures same { OnHandle (seat_of handle.old) (λ x y. HostCalled x (λ v p q. 1 < result → q ≡ p) y) (seat_of handle.new) }
+    ensures code { result ≡ host_code (seat_of handle.old) (read_code sector (length out.old) (seen_of (seat_of handle.new))) }
+    ensures buffer { out.new ≡ by_host (seat_of handle.old) out.old out.old (read_buffer sector out.old (seen_of (seat_of handle.new))) }
+    ensures correct { HostCalled (seat_of handle.old) (seat_of handle.new)
+        (λ v p q. result ≤ WRITTEN → IsStep v p (Read sector) (Found (got_by result) out.old out.new) q) }
+    ensures searched { HostCalled (seat_of handle.old) (seat_of handle.new)
+        (λ v p q. result ≤ WRITTEN → (tries : ℕ) × Searched (view_of p) tries (view_of q)) }
+    ensures same { HostCalled (seat_of handle.old) (seat_of handle.new) (λ v p q. WRITTEN < result → q ≡ p) }
 {
-    let Some(mut seat) = handle.take(alloc) else {
-        return CLOSED;
-    };
-    let code = seats::read(&mut seat, sector, out);
-    handle.put(seat);
-    code
+    handle.on_page(alloc, out, |seat, out| match seat {
+        Seat::Host(host) => host.read(sector, out),
+        _ => WRONG_KIND,
+    })
 }
 
 /// Whether a sector is written, by one look at its map word. No page is read.
 #[unsafe(no_mangle)]
-#[tactic(auto, using(crate::proofs::Told::on_open))]
 pub extern "C" fn mintlintel_host_look(alloc: Global, handle: &mut Handle, sector: u32) -> u32
-    ensures code { result ≡ on_handle (seat_of handle.old) 2 (look_code sector (seen_of (seat_of handle.new))) }
-    ensures correct { OnHandle (seat_of handle.old)
-        (λ x y. HostCalled x (λ v p q. result ≤ 1 → Does v p (Look sector) (IsWritten (written_by result)) q) y) (seat_of handle.new) }
-    ensures told { OnHandle (seat_of handle.old) (λ x y. HostCalled x (λ v p q. result ≤ 1 → Searched (view_of p) 1 (view_of q)) y) (seat_of handle.new) }
-    ensures opened { OnHandle (seat_of handle.old) (λ x y. HostCalled x (λ v p q. opened_of q ≡ opened_of p) y) (seat_of handle.new) }
-    ensures same { OnHandle (seat_of handle.old) (λ x y. HostCalled x (λ v p q. 1 < result → q ≡ p) y) (seat_of handle.new) }
+    ensures code { result ≡ host_code (seat_of handle.old) (look_code sector (seen_of (seat_of handle.new))) }
+    ensures correct { HostCalled (seat_of handle.old) (seat_of handle.new)
+        (λ v p q. result ≤ WRITTEN → IsStep v p (Look sector) (IsWritten (written_by result)) q) }
+    ensures searched { HostCalled (seat_of handle.old) (seat_of handle.new)
+        (λ v p q. result ≤ WRITTEN → Searched (view_of p) 1 (view_of q)) }
+    ensures opened { HostCalled (seat_of handle.old) (seat_of handle.new) (λ v p q. opened_of q ≡ opened_of p) }
+    ensures same { HostCalled (seat_of handle.old) (seat_of handle.new) (λ v p q. WRITTEN < result → q ≡ p) }
 {
-    let Some(mut seat) = handle.take(alloc) else {
-        return CLOSED;
-    };
-    let code = seats::look(&mut seat, sector);
-    handle.put(seat);
-    code
+    handle.on(alloc, |seat| match seat {
+        Seat::Host(host) => host.look(sector),
+        _ => WRONG_KIND,
+    })
 }
 
 /// Writes a page of bytes to a sector, and returns what the sector was.
@@ -104,21 +109,20 @@ pub extern "C" fn mintlintel_host_write(
     sector: u32,
     bytes: &[u8],
 ) -> u32
-    ensures code { result ≡ on_handle (seat_of handle.old) 2 (write_code sector (length bytes.now) result) }
-    ensures correct { OnHandle (seat_of handle.old)
-        (λ x y. HostCalled x (λ v p q. result ≤ 1 → Does v p (Write sector bytes.now) (Replaced (was_by result)) q) y) (seat_of handle.new) }
-    ensures wrote { OnHandle (seat_of handle.old)
-        (λ x y. HostCalled x (λ v p q. result ≤ 1 → (t : ℕ) → HasNumber t p → Wrote (view_of p) t sector bytes.now (was_by result) (view_of q)) y)
-        (seat_of handle.new) }
-    ensures refused { OnHandle (seat_of handle.old) (λ x y. HostCalled x (λ v p q. result ≡ 7 → Refused (view_of p) (view_of q)) y) (seat_of handle.new) }
-    ensures same { OnHandle (seat_of handle.old) (λ x y. HostCalled x (λ v p q. (result ≡ 3 → q ≡ p) × (result ≡ 4 → q ≡ p)) y) (seat_of handle.new) }
+    ensures code { result ≡ host_code (seat_of handle.old) (write_code sector (length bytes.now) result) }
+    ensures correct { HostCalled (seat_of handle.old) (seat_of handle.new)
+        (λ v p q. result ≤ WRITTEN → IsStep v p (Write sector bytes.now) (Replaced (was_by result)) q) }
+    ensures wrote { HostCalled (seat_of handle.old) (seat_of handle.new)
+        (λ v p q. result ≤ WRITTEN → HasWritten p sector bytes.now (was_by result) q) }
+    ensures refused { HostCalled (seat_of handle.old) (seat_of handle.new)
+        (λ v p q. result ≡ NO_BLOCK → Refused (view_of p) (view_of q)) }
+    ensures same { HostCalled (seat_of handle.old) (seat_of handle.new)
+        (λ v p q. (result ≡ NO_SECTOR → q ≡ p) × (result ≡ NOT_A_PAGE → q ≡ p)) }
 {
-    let Some(mut seat) = handle.take(alloc) else {
-        return CLOSED;
-    };
-    let code = seats::write(&mut seat, sector, bytes);
-    handle.put(seat);
-    code
+    handle.on(alloc, |seat| match seat {
+        Seat::Host(host) => host.write(sector, bytes),
+        _ => WRONG_KIND,
+    })
 }
 
 /// Writes a page of bytes to a sector that is empty.
@@ -129,98 +133,84 @@ pub extern "C" fn mintlintel_host_write_new(
     sector: u32,
     bytes: &[u8],
 ) -> u32
-    ensures code { result ≡ on_handle (seat_of handle.old) 2 (write_code sector (length bytes.now) result) }
-    ensures correct { OnHandle (seat_of handle.old)
-        (λ x y. HostCalled x (λ v p q. result ≤ 1 → Does v p (WriteNew sector bytes.now) (Replaced (was_by result)) q) y) (seat_of handle.new) }
-    ensures wrote { OnHandle (seat_of handle.old)
-        (λ x y. HostCalled x (λ v p q. result ≤ 1 → (t : ℕ) → HasNumber t p → WroteNew (view_of p) t sector bytes.now (was_by result) (view_of q)) y)
-        (seat_of handle.new) }
-    ensures refused { OnHandle (seat_of handle.old) (λ x y. HostCalled x (λ v p q. result ≡ 7 → Refused (view_of p) (view_of q)) y) (seat_of handle.new) }
-    ensures same { OnHandle (seat_of handle.old) (λ x y. HostCalled x (λ v p q. (result ≡ 3 → q ≡ p) × (result ≡ 4 → q ≡ p)) y) (seat_of handle.new) }
+    ensures code { result ≡ host_code (seat_of handle.old) (write_code sector (length bytes.now) result) }
+    ensures correct { HostCalled (seat_of handle.old) (seat_of handle.new)
+        (λ v p q. result ≤ WRITTEN → IsStep v p (WriteNew sector bytes.now) (Replaced (was_by result)) q) }
+    ensures wrote { HostCalled (seat_of handle.old) (seat_of handle.new)
+        (λ v p q. result ≤ WRITTEN → HasWrittenNew p sector bytes.now (was_by result) q) }
+    ensures refused { HostCalled (seat_of handle.old) (seat_of handle.new)
+        (λ v p q. result ≡ NO_BLOCK → Refused (view_of p) (view_of q)) }
+    ensures same { HostCalled (seat_of handle.old) (seat_of handle.new)
+        (λ v p q. (result ≡ NO_SECTOR → q ≡ p) × (result ≡ NOT_A_PAGE → q ≡ p)) }
 {
-    let Some(mut seat) = handle.take(alloc) else {
-        return CLOSED;
-    };
-    let code = seats::write_new(&mut seat, sector, bytes);
-    handle.put(seat);
-    code
+    handle.on(alloc, |seat| match seat {
+        Seat::Host(host) => host.write_new(sector, bytes),
+        _ => WRONG_KIND,
+    })
 }
 
 /// Empties a sector, and returns what it was.
 #[unsafe(no_mangle)]
 pub extern "C" fn mintlintel_host_trim(alloc: Global, handle: &mut Handle, sector: u32) -> u32
-    ensures code { result ≡ on_handle (seat_of handle.old) 2 (trim_code sector result) }
-    ensures correct { OnHandle (seat_of handle.old)
-        (λ x y. HostCalled x (λ v p q. result ≤ 1 → Does v p (Trim sector) (Replaced (was_by result)) q) y) (seat_of handle.new) }
-    ensures told { OnHandle (seat_of handle.old)
-        (λ x y. HostCalled x (λ v p q. result ≤ 1 → (t : ℕ) → HasNumber t p → HasCalled p (call.Trim t sector) sector (was_by result) q) y)
-        (seat_of handle.new) }
-    ensures same { OnHandle (seat_of handle.old) (λ x y. HostCalled x (λ v p q. 1 < result → q ≡ p) y) (seat_of handle.new) }
+    ensures code { result ≡ host_code (seat_of handle.old) (trim_code sector result) }
+    ensures correct { HostCalled (seat_of handle.old) (seat_of handle.new)
+        (λ v p q. result ≤ WRITTEN → IsStep v p (Trim sector) (Replaced (was_by result)) q) }
+    ensures called { HostCalled (seat_of handle.old) (seat_of handle.new)
+        (λ v p q. result ≤ WRITTEN → HasTrimmed p sector (was_by result) q) }
+    ensures same { HostCalled (seat_of handle.old) (seat_of handle.new) (λ v p q. WRITTEN < result → q ≡ p) }
 {
-    let Some(mut seat) = handle.take(alloc) else {
-        return CLOSED;
-    };
-    let code = seats::trim(&mut seat, sector);
-    handle.put(seat);
-    code
+    handle.on(alloc, |seat| match seat {
+        Seat::Host(host) => host.trim(sector),
+        _ => WRONG_KIND,
+    })
 }
 
 /// Holds the page that has a sector's value, so that its block is not erased up to the release.
 #[unsafe(no_mangle)]
-#[tactic(auto, using(crate::proofs::Told::on_open))]
 pub extern "C" fn mintlintel_host_hold(alloc: Global, handle: &mut Handle, sector: u32) -> u32
-    ensures code { result ≡ on_handle (seat_of handle.old) 2 (hold_code sector (seen_of (seat_of handle.new))) }
-    ensures told { OnHandle (seat_of handle.old) (HoldCalled sector result) (seat_of handle.new) }
+    ensures code { result ≡ host_code (seat_of handle.old) (hold_code sector (seen_of (seat_of handle.new))) }
+    ensures held { HoldCalled sector result (seat_of handle.old) (seat_of handle.new) }
 {
-    let Some(mut seat) = handle.take(alloc) else {
-        return CLOSED;
-    };
-    let code = seats::hold(&mut seat, sector);
-    handle.put(seat);
-    code
+    handle.on(alloc, |seat| hold(seat, sector))
 }
 
 /// Copies the page that is held into a buffer of one page.
 #[unsafe(no_mangle)]
-#[tactic(auto, using(crate::proofs::Told::on_open))]
 pub extern "C" fn mintlintel_host_copy(alloc: Global, handle: &mut Handle, out: &mut [u8]) -> u32
-    ensures code { result ≡ on_handle (seat_of handle.old) 2 (copy_code (length out.old)) }
-    ensures buffer { out.new ≡ on_handle (seat_of handle.old) out.old (copied out.old) }
-    ensures page { OnHandle (seat_of handle.old) (λ x y. HolderCalled x (λ v k j. page_of j ≡ page_of k) y) (seat_of handle.new) }
-    ensures view { OnHandle (seat_of handle.old) (λ x y. HolderCalled x (λ v k j. view_of (pass_of j) ≡ view_of (pass_of k)) y) (seat_of handle.new) }
-    ensures undisturbed { OnHandle (seat_of handle.old)
-        (λ x y. HolderCalled x (λ v k j. result ≡ 1 → IsUndisturbed (flash_of v) k (view_of (pass_of k)).copy j) y) (seat_of handle.new) }
+    ensures code { result ≡ holder_code (seat_of handle.old) (copy_code (length out.old)) }
+    ensures buffer { out.new ≡ by_holder (seat_of handle.old) out.old out.old (copied out.old) }
+    ensures page { HolderCalled (seat_of handle.old) (seat_of handle.new) (λ v k j. page_of j ≡ page_of k) }
+    ensures view { HolderCalled (seat_of handle.old) (seat_of handle.new)
+        (λ v k j. view_of (pass_of j) ≡ view_of (pass_of k)) }
+    ensures undisturbed { HolderCalled (seat_of handle.old) (seat_of handle.new)
+        (λ v k j. result ≡ WRITTEN → IsUndisturbed (flash_of v) k (view_of (pass_of k)).copy j) }
 {
-    let Some(mut seat) = handle.take(alloc) else {
-        return CLOSED;
-    };
-    let code = seats::copy(&mut seat, out);
-    handle.put(seat);
-    code
+    handle.on_page(alloc, out, |seat, out| match seat {
+        Seat::Holder(holder) => holder.copy(out),
+        _ => WRONG_KIND,
+    })
 }
 
 /// Word `i` of the page that is held.
 #[unsafe(no_mangle)]
-#[tactic(auto, using(crate::proofs::Told::on_open))]
 pub extern "C" fn mintlintel_host_word(
     alloc: Global,
     handle: &mut Handle,
     i: u32,
     out: &mut u64,
 ) -> u32
-    ensures code { result ≡ on_handle (seat_of handle.old) 2 (word_code i) }
-    ensures word { out.new ≡ on_handle (seat_of handle.old) out.old (word_read i out.old) }
-    ensures page { OnHandle (seat_of handle.old) (λ x y. HolderCalled x (λ v k j. page_of j ≡ page_of k) y) (seat_of handle.new) }
-    ensures view { OnHandle (seat_of handle.old) (λ x y. HolderCalled x (λ v k j. view_of (pass_of j) ≡ view_of (pass_of k)) y) (seat_of handle.new) }
-    ensures undisturbed { OnHandle (seat_of handle.old)
-        (λ x y. HolderCalled x (λ v k j. result ≡ 0 → IsUndisturbed (flash_of v) k (view_of (pass_of k)).copy j) y) (seat_of handle.new) }
+    ensures code { result ≡ holder_code (seat_of handle.old) (word_code i) }
+    ensures word { out.new ≡ by_holder (seat_of handle.old) out.old out.old (word_read i out.old) }
+    ensures page { HolderCalled (seat_of handle.old) (seat_of handle.new) (λ v k j. page_of j ≡ page_of k) }
+    ensures view { HolderCalled (seat_of handle.old) (seat_of handle.new)
+        (λ v k j. view_of (pass_of j) ≡ view_of (pass_of k)) }
+    ensures undisturbed { HolderCalled (seat_of handle.old) (seat_of handle.new)
+        (λ v k j. result ≡ DONE → IsUndisturbed (flash_of v) k (view_of (pass_of k)).copy j) }
 {
-    let Some(mut seat) = handle.take(alloc) else {
-        return CLOSED;
-    };
-    let code = seats::word(&mut seat, i, out);
-    handle.put(seat);
-    code
+    handle.on_with(alloc, out, |seat, out| match seat {
+        Seat::Holder(holder) => holder.word(i, out),
+        _ => WRONG_KIND,
+    })
 }
 
 /// The address of the page that is held.
@@ -230,31 +220,23 @@ pub extern "C" fn mintlintel_host_held(
     handle: &mut Handle,
     out: &mut PageReport,
 ) -> u32
-    ensures code { result ≡ on_handle (seat_of handle.old) 2 (λ x. if_holder x 9 (λ _. 0)) }
-    ensures page { out.new ≡ on_handle (seat_of handle.old) out.old (page_report out.old) }
+    ensures code { result ≡ holder_code (seat_of handle.old) (λ _. DONE) }
+    ensures page { out.new ≡ by_holder (seat_of handle.old) out.old out.old page_report }
     ensures same { seat_of handle.new ≡ seat_of handle.old }
 {
-    let Some(seat) = handle.take(alloc) else {
-        return CLOSED;
-    };
-    let code = seats::held(&seat, out);
-    handle.put(seat);
-    code
+    handle.on_with(alloc, out, |seat, out| match seat {
+        Seat::Holder(holder) => holder.page(out),
+        _ => WRONG_KIND,
+    })
 }
 
 /// Gives the page that is held up: the handle is a host as before.
 #[unsafe(no_mangle)]
-#[tactic(auto, using(crate::proofs::Told::on_open))]
 pub extern "C" fn mintlintel_host_release(alloc: Global, handle: &mut Handle) -> u32
-    ensures code { result ≡ on_handle (seat_of handle.old) 2 (λ x. if_holder x 9 (λ _. 0)) }
-    ensures told { OnHandle (seat_of handle.old) ReleaseCalled (seat_of handle.new) }
+    ensures code { result ≡ holder_code (seat_of handle.old) (λ _. DONE) }
+    ensures released { ReleaseCalled (seat_of handle.old) (seat_of handle.new) }
 {
-    let Some(mut seat) = handle.take(alloc) else {
-        return CLOSED;
-    };
-    let code = seats::release(&mut seat);
-    handle.put(seat);
-    code
+    handle.on(alloc, |seat| release(seat))
 }
 
 /// Moves the live pages out of the closed block with the fewest. With 0 its number and how many pages moved are written.
@@ -265,20 +247,27 @@ pub extern "C" fn mintlintel_broom_drain(
     block: &mut u32,
     moved: &mut u32,
 ) -> u32
-    ensures code { result ≡ on_handle (seat_of handle.old) 2 (drain_code result) }
-    ensures told { OnHandle (seat_of handle.old) (λ x y. BroomCalled x (λ v b c. DrainTold b (drain_by result block.new moved.new) c) y) (seat_of handle.new) }
-    ensures left { OnHandle (seat_of handle.old) (λ x y. BroomCalled x (λ v b c. SurveyLeft b (drain_by result block.new moved.new) c) y) (seat_of handle.new) }
-    ensures queue { OnHandle (seat_of handle.old) (λ x y. BroomCalled x (λ v b c. HandsNothing b c) y) (seat_of handle.new) }
-    ensures below { OnHandle (seat_of handle.old)
-        (λ x y. BroomCalled x (λ v b c. IsBelow (blocks_of (numbers_of v)) (drain_by result block.new moved.new)) y) (seat_of handle.new) }
-    ensures block { result ≢ 0 → block.new ≡ block.old }
-    ensures moved { result ≢ 0 → moved.new ≡ moved.old }
+    ensures code { result ≡ sweeper_code (seat_of handle.old) (λ _. drain_code (drain_by result block.new moved.new)) }
+    ensures drained { BroomCalled (seat_of handle.old) (seat_of handle.new)
+        (λ v b c. DrainTold b (drain_by result block.new moved.new) c) }
+    ensures left { BroomCalled (seat_of handle.old) (seat_of handle.new)
+        (λ v b c. SurveyLeft b (drain_by result block.new moved.new) c) }
+    ensures queue { BroomCalled (seat_of handle.old) (seat_of handle.new) (λ v b c. HandsNothing b c) }
+    ensures below { BroomCalled (seat_of handle.old) (seat_of handle.new)
+        (λ v b c. IsBelow (blocks_of (numbers_of v)) (drain_by result block.new moved.new)) }
+    ensures block { result ≢ DONE → block.new ≡ block.old }
+    ensures moved { result ≢ DONE → moved.new ≡ moved.old }
 {
-    let Some(mut seat) = handle.take(alloc) else {
-        return CLOSED;
+    let mut drained = Drained {
+        block: *block,
+        moved: *moved,
     };
-    let code = seats::drain(&mut seat, block, moved);
-    handle.put(seat);
+    let code = handle.on_with(alloc, &mut drained, |seat, out| match seat {
+        Seat::Sweeper(sweeper) => sweeper.drain(out),
+        _ => WRONG_KIND,
+    });
+    *block = drained.block;
+    *moved = drained.moved;
     code
 }
 
@@ -290,52 +279,163 @@ pub extern "C" fn mintlintel_broom_drain_next(
     block: &mut u32,
     moved: &mut u32,
 ) -> u32
-    ensures code { result ≡ on_handle (seat_of handle.old) 2 (drain_code result) }
-    ensures told { OnHandle (seat_of handle.old) (λ x y. BroomCalled x (λ v b c. NextTold b (drain_by result block.new moved.new) c) y) (seat_of handle.new) }
-    ensures queue { OnHandle (seat_of handle.old) (λ x y. BroomCalled x (λ v b c. HandsNothing b c) y) (seat_of handle.new) }
-    ensures below { OnHandle (seat_of handle.old)
-        (λ x y. BroomCalled x (λ v b c. IsBelow (blocks_of (numbers_of v)) (drain_by result block.new moved.new)) y) (seat_of handle.new) }
-    ensures block { result ≢ 0 → block.new ≡ block.old }
-    ensures moved { result ≢ 0 → moved.new ≡ moved.old }
+    ensures code { result ≡ sweeper_code (seat_of handle.old) (λ _. drain_code (drain_by result block.new moved.new)) }
+    ensures drained { BroomCalled (seat_of handle.old) (seat_of handle.new)
+        (λ v b c. NextTold b (drain_by result block.new moved.new) c) }
+    ensures queue { BroomCalled (seat_of handle.old) (seat_of handle.new) (λ v b c. HandsNothing b c) }
+    ensures below { BroomCalled (seat_of handle.old) (seat_of handle.new)
+        (λ v b c. IsBelow (blocks_of (numbers_of v)) (drain_by result block.new moved.new)) }
+    ensures block { result ≢ DONE → block.new ≡ block.old }
+    ensures moved { result ≢ DONE → moved.new ≡ moved.old }
 {
-    let Some(mut seat) = handle.take(alloc) else {
-        return CLOSED;
+    let mut drained = Drained {
+        block: *block,
+        moved: *moved,
     };
-    let code = seats::drain_next(&mut seat, block, moved);
-    handle.put(seat);
+    let code = handle.on_with(alloc, &mut drained, |seat, out| match seat {
+        Seat::Sweeper(sweeper) => sweeper.drain_next(out),
+        _ => WRONG_KIND,
+    });
+    *block = drained.block;
+    *moved = drained.moved;
+    code
+}
+
+/// Surveys the device, and drains the closed block with the fewest live pages if it has none: no page moves, so no spare is needed. With 0 its
+/// number is written, and 0 for the pages that moved.
+#[unsafe(no_mangle)]
+pub extern "C" fn mintlintel_broom_drain_dead(
+    alloc: Global,
+    handle: &mut Handle,
+    block: &mut u32,
+    moved: &mut u32,
+) -> u32
+    ensures code { result ≡ sweeper_code (seat_of handle.old) (λ _. drain_code (drain_by result block.new moved.new)) }
+    ensures drained { BroomCalled (seat_of handle.old) (seat_of handle.new)
+        (λ v b c. DeadTold b (drain_by result block.new moved.new) c) }
+    ensures queue { BroomCalled (seat_of handle.old) (seat_of handle.new) (λ v b c. HandsNothing b c) }
+    ensures below { BroomCalled (seat_of handle.old) (seat_of handle.new)
+        (λ v b c. IsBelow (blocks_of (numbers_of v)) (drain_by result block.new moved.new)) }
+    ensures block { result ≢ DONE → block.new ≡ block.old }
+    ensures moved { result ≢ DONE → moved.new ≡ moved.old }
+{
+    let mut drained = Drained {
+        block: *block,
+        moved: *moved,
+    };
+    let code = handle.on_with(alloc, &mut drained, |seat, out| match seat {
+        Seat::Sweeper(sweeper) => sweeper.drain_dead(out),
+        _ => WRONG_KIND,
+    });
+    *block = drained.block;
+    *moved = drained.moved;
     code
 }
 
 /// Erases a drained block that nobody reads.
 #[unsafe(no_mangle)]
 pub extern "C" fn mintlintel_broom_erase(alloc: Global, handle: &mut Handle, block: u32) -> u32
-    ensures code { result ≡ on_handle (seat_of handle.old) 2 (erase_code block result) }
-    ensures told { OnHandle (seat_of handle.old) (λ x y. BroomCalled x (λ v b c. result ≢ 10 → EraseTold b block (erase_by result block) c) y)
-        (seat_of handle.new) }
-    ensures marks { OnHandle (seat_of handle.old) (λ x y. BroomCalled x (λ v b c. result ≢ 10 → Unmarks b block c) y) (seat_of handle.new) }
-    ensures queue { OnHandle (seat_of handle.old) (λ x y. BroomCalled x (λ v b c. result ≢ 10 → HandsNothing b c) y) (seat_of handle.new) }
-    ensures same { OnHandle (seat_of handle.old) (λ x y. BroomCalled x (λ v b c. result ≡ 10 → c ≡ b) y) (seat_of handle.new) }
+    ensures code { result ≡ sweeper_code (seat_of handle.old) (erased_code block result) }
+    ensures erased { BroomCalled (seat_of handle.old) (seat_of handle.new)
+        (λ v b c. result ≢ NO_SUCH_BLOCK → EraseTold b block (erase_by result block) c) }
+    ensures marks { BroomCalled (seat_of handle.old) (seat_of handle.new)
+        (λ v b c. result ≢ NO_SUCH_BLOCK → Unmarks b block c) }
+    ensures queue { BroomCalled (seat_of handle.old) (seat_of handle.new)
+        (λ v b c. result ≢ NO_SUCH_BLOCK → HandsNothing b c) }
+    ensures same { BroomCalled (seat_of handle.old) (seat_of handle.new) (λ v b c. result ≡ NO_SUCH_BLOCK → c ≡ b) }
 {
-    let Some(mut seat) = handle.take(alloc) else {
-        return CLOSED;
-    };
-    let code = seats::erase(&mut seat, block);
-    handle.put(seat);
-    code
+    handle.on(alloc, |seat| match seat {
+        Seat::Sweeper(sweeper) => sweeper.erase(block),
+        _ => WRONG_KIND,
+    })
 }
 
 /// Makes a free block the spare of a broom that has none.
 #[unsafe(no_mangle)]
 pub extern "C" fn mintlintel_broom_restock(alloc: Global, handle: &mut Handle) -> u32
-    ensures code { result ≡ on_handle (seat_of handle.old) 2 (restock_code result) }
-    ensures told { OnHandle (seat_of handle.old) (λ x y. BroomCalled x (λ v b c. RestockTold b (stocked_by result) c) y) (seat_of handle.new) }
-    ensures queue { OnHandle (seat_of handle.old) (λ x y. BroomCalled x (λ v b c. HandsNothing b c) y) (seat_of handle.new) }
-    ensures survey { OnHandle (seat_of handle.old) (λ x y. BroomCalled x (λ v b c. KeepsSurvey b c) y) (seat_of handle.new) }
+    ensures code { result ≡ sweeper_code (seat_of handle.old) (λ _. restock_code (stocked_by result)) }
+    ensures restocked { BroomCalled (seat_of handle.old) (seat_of handle.new)
+        (λ v b c. RestockTold b (stocked_by result) c) }
+    ensures queue { BroomCalled (seat_of handle.old) (seat_of handle.new) (λ v b c. HandsNothing b c) }
+    ensures survey { BroomCalled (seat_of handle.old) (seat_of handle.new) (λ v b c. KeepsSurvey b c) }
 {
-    let Some(mut seat) = handle.take(alloc) else {
-        return CLOSED;
-    };
-    let code = seats::restock(&mut seat);
-    handle.put(seat);
-    code
+    handle.on(alloc, |seat| match seat {
+        Seat::Sweeper(sweeper) => sweeper.restock(),
+        _ => WRONG_KIND,
+    })
+}
+
+// A host holds the page of a sector, and becomes a holder. It is `Away` meanwhile.
+fn hold(seat: &mut Seat, sector: u32) -> u32
+    ensures code { result ≡ host_code (Some seat.old) (hold_code sector (seen_of (Some seat.new))) }
+    ensures held { HoldCalled sector result (Some seat.old) (Some seat.new) }
+{
+    match mem::replace(seat, Seat::Away) {
+        Seat::Host(host) => {
+            let (after, code) = host.hold(sector);
+            *seat = after;
+            code
+        }
+        other => {
+            *seat = other;
+            WRONG_KIND
+        }
+    }
+}
+
+// A holder gives its page up, and becomes a host.
+fn release(seat: &mut Seat) -> u32
+    ensures code { result ≡ holder_code (Some seat.old) (λ _. DONE) }
+    ensures released { ReleaseCalled (Some seat.old) (Some seat.new) }
+{
+    match mem::replace(seat, Seat::Away) {
+        Seat::Holder(holder) => {
+            *seat = holder.release();
+            DONE
+        }
+        other => {
+            *seat = other;
+            WRONG_KIND
+        }
+    }
+}
+
+/// The state of a block, by one load. The broom keeps its last survey.
+#[unsafe(no_mangle)]
+pub extern "C" fn mintlintel_broom_block(
+    alloc: Global,
+    handle: &mut Handle,
+    block: u32,
+    out: &mut StateReport,
+) -> u32
+    ensures code { result ≡ sweeper_code (seat_of handle.old) (λ s. block_code (numbers_of (sweeper_volume s)) block) }
+    ensures reported { BroomCalled (seat_of handle.old) (seat_of handle.new) (λ v b c. result ≡ DONE → BlockReported b block out.new c) }
+    ensures queue { BroomCalled (seat_of handle.old) (seat_of handle.new) (λ v b c. result ≡ DONE → HandsNothing b c) }
+    ensures same { BroomCalled (seat_of handle.old) (seat_of handle.new) (λ v b c. result ≢ DONE → c ≡ b) }
+    ensures unchanged { result ≢ DONE → out.new ≡ out.old }
+{
+    handle.on_with(alloc, out, |seat, out| match seat {
+        Seat::Sweeper(sweeper) => sweeper.block(block, out),
+        _ => WRONG_KIND,
+    })
+}
+
+/// How many blocks are in each phase, by one load of each block. The broom keeps its last survey.
+#[unsafe(no_mangle)]
+pub extern "C" fn mintlintel_broom_counts(
+    alloc: Global,
+    handle: &mut Handle,
+    out: &mut CountsReport,
+) -> u32
+    ensures code { result ≡ sweeper_code (seat_of handle.old) (λ s. counts_code (numbers_of (sweeper_volume s)) out.new) }
+    ensures counted { BroomCalled (seat_of handle.old) (seat_of handle.new)
+        (λ v b c. (states : List PinWord) × AllLoaded (device (flash_of v)) b states c
+        × (out.new ≡ counts_report (counts_in states) (as_number (is_some (blocks_of_broom b).spare)))) }
+    ensures queue { BroomCalled (seat_of handle.old) (seat_of handle.new) (λ v b c. HandsNothing b c) }
+    ensures unchanged { (result ≡ CLOSED → out.new ≡ out.old) × (result ≡ WRONG_KIND → out.new ≡ out.old) }
+{
+    handle.on_with(alloc, out, |seat, out| match seat {
+        Seat::Sweeper(sweeper) => sweeper.counts(out),
+        _ => WRONG_KIND,
+    })
 }

@@ -1,58 +1,71 @@
 //! The calls of a broom, by codes.
-ghost use Rattle.std.specs.Prelude.{◌≡◌, ◌≢◌, ◌==◌, if◌then◌else◌, nat_le};
+ghost use Rattle.std.specs.Prelude.{◌≡◌, ◌≢◌};
 ghost use Rattle.geometry.specs.Geometry.{blocks_of};
 ghost use Rattle.broom.specs.Told.{DrainTold, NextTold, SurveyLeft, KeepsSurvey, Unmarks};
+ghost use Rattle.broom.specs.Dead.{DeadTold};
 ghost use Rattle.broom.specs.Erasing.{EraseTold};
 ghost use Rattle.broom.specs.Handing.{HandsNothing, IsBelow};
 ghost use Rattle.broom.specs.Restocking.{RestockTold};
 ghost use Rattle.broom.specs.declared.answer.Drain.TheVariants as drain;
-ghost use Rattle.exports.specs.Shared.{numbers_of, sweeper_volume, drain_by, erase_by, stocked_by};
+ghost use Rattle.exports.specs.Codes.{drain_code, drain_by, erase_by, restock_code, stocked_by};
+ghost use Rattle.exports.specs.Shared.{numbers_of, sweeper_volume, erased_code};
 
 use crate::codes::{
     DONE, KEPT, LOST, NO_SPARE, NO_SUCH_BLOCK, NOTHING_TO_GAIN, PINNED, RETIRED, STALE,
 };
+use crate::reports::Drained;
 use crate::seat::Sweeper;
 use volume::{Drain, Erase, NoGate};
 
 impl Sweeper {
     // Drains a block. With 0 it reports the block's number and how many pages moved.
-    pub(crate) fn drain(&mut self, block: &mut u32, moved: &mut u32) -> u32
+    pub(crate) fn drain(&mut self, out: &mut Drained) -> u32
         ensures device { self.new.volume ≡ self.old.volume }
-        ensures code { result ≡ if result == 0 then 0 else (if result == 20 then 20 else (if result == 21 then 21 else 22)) }
-        ensures told { DrainTold self.old.broom (drain_by result block.new moved.new) self.new.broom }
-        ensures left { SurveyLeft self.old.broom (drain_by result block.new moved.new) self.new.broom }
+        ensures code { result ≡ drain_code (drain_by result out.new.block out.new.moved) }
+        ensures drained { DrainTold self.old.broom (drain_by result out.new.block out.new.moved) self.new.broom }
+        ensures left { SurveyLeft self.old.broom (drain_by result out.new.block out.new.moved) self.new.broom }
         ensures queue { HandsNothing self.old.broom self.new.broom }
-        ensures below { IsBelow (blocks_of (numbers_of (sweeper_volume self.old))) (drain_by result block.new moved.new) }
-        ensures block { result ≢ 0 → block.new ≡ block.old }
-        ensures moved { result ≢ 0 → moved.new ≡ moved.old }
+        ensures below { IsBelow (blocks_of (numbers_of (sweeper_volume self.old))) (drain_by result out.new.block out.new.moved) }
+        ensures same { result ≢ DONE → out.new ≡ out.old }
     {
         let answer = self.volume.drain(&mut self.broom, &mut NoGate);
-        hand_out(answer, block, moved)
+        hand_out(answer, out)
     }
 
     // Drains the next block by the survey that the broom made last. With 0 it reports the block's number and how many pages moved.
-    pub(crate) fn drain_next(&mut self, block: &mut u32, moved: &mut u32) -> u32
+    pub(crate) fn drain_next(&mut self, out: &mut Drained) -> u32
         ensures device { self.new.volume ≡ self.old.volume }
-        ensures code { result ≡ if result == 0 then 0 else (if result == 20 then 20 else (if result == 21 then 21 else 22)) }
-        ensures told { NextTold self.old.broom (drain_by result block.new moved.new) self.new.broom }
+        ensures code { result ≡ drain_code (drain_by result out.new.block out.new.moved) }
+        ensures drained { NextTold self.old.broom (drain_by result out.new.block out.new.moved) self.new.broom }
         ensures queue { HandsNothing self.old.broom self.new.broom }
-        ensures below { IsBelow (blocks_of (numbers_of (sweeper_volume self.old))) (drain_by result block.new moved.new) }
-        ensures block { result ≢ 0 → block.new ≡ block.old }
-        ensures moved { result ≢ 0 → moved.new ≡ moved.old }
+        ensures below { IsBelow (blocks_of (numbers_of (sweeper_volume self.old))) (drain_by result out.new.block out.new.moved) }
+        ensures same { result ≢ DONE → out.new ≡ out.old }
     {
         let answer = self.volume.drain_next(&mut self.broom, &mut NoGate);
-        hand_out(answer, block, moved)
+        hand_out(answer, out)
+    }
+
+    // Surveys the device, and drains the closed block with the fewest live pages if it has none. With 0 it reports the block's number.
+    pub(crate) fn drain_dead(&mut self, out: &mut Drained) -> u32
+        ensures device { self.new.volume ≡ self.old.volume }
+        ensures code { result ≡ drain_code (drain_by result out.new.block out.new.moved) }
+        ensures drained { DeadTold self.old.broom (drain_by result out.new.block out.new.moved) self.new.broom }
+        ensures queue { HandsNothing self.old.broom self.new.broom }
+        ensures below { IsBelow (blocks_of (numbers_of (sweeper_volume self.old))) (drain_by result out.new.block out.new.moved) }
+        ensures same { result ≢ DONE → out.new ≡ out.old }
+    {
+        let answer = self.volume.drain_dead(&mut self.broom, &mut NoGate);
+        hand_out(answer, out)
     }
 
     // Erases a drained block.
     pub(crate) fn erase(&mut self, block: u32) -> u32
         ensures device { self.new.volume ≡ self.old.volume }
-        ensures code { result ≡ if nat_le (blocks_of (numbers_of (sweeper_volume self.old))) block then 10
-            else (if result == 0 then 0 else (if result == 26 then 26 else (if result == 23 then 23 else (if result == 24 then 24 else 25)))) }
-        ensures told { result ≢ 10 → EraseTold self.old.broom block (erase_by result block) self.new.broom }
-        ensures marks { result ≢ 10 → Unmarks self.old.broom block self.new.broom }
-        ensures queue { result ≢ 10 → HandsNothing self.old.broom self.new.broom }
-        ensures same { result ≡ 10 → self.new.broom ≡ self.old.broom }
+        ensures code { result ≡ erased_code block result self.old }
+        ensures erased { result ≢ NO_SUCH_BLOCK → EraseTold self.old.broom block (erase_by result block) self.new.broom }
+        ensures marks { result ≢ NO_SUCH_BLOCK → Unmarks self.old.broom block self.new.broom }
+        ensures queue { result ≢ NO_SUCH_BLOCK → HandsNothing self.old.broom self.new.broom }
+        ensures same { result ≡ NO_SUCH_BLOCK → self.new.broom ≡ self.old.broom }
     {
         if block >= self.volume.geometry().blocks() {
             return NO_SUCH_BLOCK;
@@ -65,11 +78,12 @@ impl Sweeper {
             _ => STALE,
         }
     }
+
     // Makes a free block the spare of a broom that has none.
     pub(crate) fn restock(&mut self) -> u32
         ensures device { self.new.volume ≡ self.old.volume }
-        ensures code { result ≡ if result == 0 then 0 else 21 }
-        ensures told { RestockTold self.old.broom (stocked_by result) self.new.broom }
+        ensures code { result ≡ restock_code (stocked_by result) }
+        ensures restocked { RestockTold self.old.broom (stocked_by result) self.new.broom }
         ensures queue { HandsNothing self.old.broom self.new.broom }
         ensures survey { KeepsSurvey self.old.broom self.new.broom }
     {
@@ -82,19 +96,17 @@ impl Sweeper {
 }
 
 // The code of a drain's answer. Reports the number of a drained block, and how many pages moved.
-fn hand_out(answer: Drain, block: &mut u32, moved: &mut u32) -> u32
-    ensures code { result ≡ if result == 0 then 0 else (if result == 20 then 20 else (if result == 21 then 21 else 22)) }
-    ensures answer { answer ≢ drain.QueueFull → drain_by result block.new moved.new ≡ answer }
-    ensures block { result ≢ 0 → block.new ≡ block.old }
-    ensures moved { result ≢ 0 → moved.new ≡ moved.old }
+fn hand_out(answer: Drain, out: &mut Drained) -> u32
+    ensures code { result ≡ drain_code (drain_by result out.new.block out.new.moved) }
+    ensures answer { answer ≢ drain.QueueFull → drain_by result out.new.block out.new.moved ≡ answer }
+    ensures same { result ≢ DONE → out.new ≡ out.old }
 {
     match answer {
         Drain::Drained {
-            block: drained,
-            copied,
+            block,
+            copied: moved,
         } => {
-            *block = drained;
-            *moved = copied;
+            *out = Drained { block, moved };
             DONE
         }
         Drain::NothingToGain => NOTHING_TO_GAIN,

@@ -1,26 +1,20 @@
-use Rattle.std.proofs.Common.{refl}
+use Rattle.std.proofs.Common.{◌≡◌, refl, Option, None, Some}
+use Rattle.broom.specs.declared.broom.Broom.{Broom}
+use Rattle.volume.specs.declared.volume.Volume.{Volume}
+use Rattle.exports.specs.declared.seat.Seat.{Seat}
+use Rattle.exports.specs.declared.seat.Seat.TheVariants as seat
+use Rattle.exports.specs.declared.seat.Sweeper.{Sweeper}
+use Rattle.exports.specs.Shared.{BroomCalled, sweeper_volume}
 use Rattle.exports.proofs.laws.calls_of_brooms.Goals as goal
 
-pub returns-clause-away : goal.returns-clause-away
-returns-clause-away c = refl
+broom : (s : Sweeper) (x : Volume) (a c : Broom) (y : Option Seat) → BroomCalled (Some (seat.Sweeper s)) y (λ v p q. (v ≡ x) × (p ≡ a) × (q ≡ c))
+    → (t : Sweeper) × (y ≡ Some (seat.Sweeper t)) × (t.volume ≡ s.volume) × (sweeper_volume s ≡ x) × (s.broom ≡ a) × (t.broom ≡ c)
+broom s x a c None said = absurd said
+broom s x a c (Some (seat.One l)) said = absurd said
+broom s x a c (Some (seat.Host h)) said = absurd said
+broom s x a c (Some (seat.Sweeper t)) said = (t, refl, said.0, said.1.0, said.1.1, said.1.2)
+broom s x a c (Some (seat.Holder k)) said = absurd said
+broom s x a c (Some seat.Away) said = absurd said
 
-pub returns-clause-one : goal.returns-clause-one
-returns-clause-one c l y h = h
-
-pub returns-clause-host : goal.returns-clause-host
-returns-clause-host c s y h = h
-
-pub returns-clause-holder : goal.returns-clause-holder
-returns-clause-holder c k y h = h
-
-pub returns-clause-told : goal.returns-clause-told
-returns-clause-told c s = (refl, (refl, refl, refl))
-
-pub returns-clause-order : goal.returns-clause-order
-returns-clause-order c s t said = said.1
-
-pub returns-clause-same_device : goal.returns-clause-same_device
-returns-clause-same_device c s t said = said.0
-
-pub returns-clause-gone : goal.returns-clause-gone
-returns-clause-gone c s said = said
+pub returns-clause-broom : goal.returns-clause-broom
+returns-clause-broom c s x a d y said = broom s x a d y said

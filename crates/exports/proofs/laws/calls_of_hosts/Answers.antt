@@ -1,29 +1,20 @@
-use Rattle.std.proofs.Common.{refl}
+use Rattle.std.proofs.Common.{◌≡◌, refl, Option, None, Some}
+use Rattle.flash_table.specs.declared.pass.Pass.{Pass}
+use Rattle.exports.specs.declared.seat.Host.{Host}
+use Rattle.exports.specs.declared.seat.Seat.{Seat}
+use Rattle.exports.specs.declared.seat.Seat.TheVariants as seat
+use Rattle.exports.specs.Shared.{HostCalled, host_volume}
 use Rattle.exports.proofs.laws.calls_of_hosts.Goals as goal
+use Rattle.volume.specs.declared.volume.Volume.{Volume}
 
-pub returns-clause-away : goal.returns-clause-away
-returns-clause-away c = refl
+host : (h : Host) (x : Volume) (a b : Pass) (y : Option Seat) → HostCalled (Some (seat.Host h)) y (λ v p q. (v ≡ x) × (p ≡ a) × (q ≡ b))
+    → (g : Host) × (y ≡ Some (seat.Host g)) × (g.volume ≡ h.volume) × (host_volume h ≡ x) × (h.pass ≡ a) × (g.pass ≡ b)
+host h x a b None said = absurd said
+host h x a b (Some (seat.One l)) said = absurd said
+host h x a b (Some (seat.Host g)) said = (g, refl, said.0, said.1.0, said.1.1, said.1.2)
+host h x a b (Some (seat.Sweeper s)) said = absurd said
+host h x a b (Some (seat.Holder k)) said = absurd said
+host h x a b (Some seat.Away) said = absurd said
 
-pub returns-clause-one : goal.returns-clause-one
-returns-clause-one c l y h = h
-
-pub returns-clause-sweeper : goal.returns-clause-sweeper
-returns-clause-sweeper c s y h = h
-
-pub returns-clause-holder : goal.returns-clause-holder
-returns-clause-holder c k y h = h
-
-pub returns-clause-told : goal.returns-clause-told
-returns-clause-told c h = (refl, (refl, refl, refl))
-
-pub returns-clause-order : goal.returns-clause-order
-returns-clause-order c h g said = said.1
-
-pub returns-clause-same_device : goal.returns-clause-same_device
-returns-clause-same_device c h g said = said.0
-
-pub returns-clause-gone : goal.returns-clause-gone
-returns-clause-gone c h said = said
-
-pub returns-clause-held : goal.returns-clause-held
-returns-clause-held c h k said = said
+pub returns-clause-host : goal.returns-clause-host
+returns-clause-host c h x a b y said = host h x a b y said

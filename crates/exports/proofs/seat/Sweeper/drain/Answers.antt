@@ -7,8 +7,8 @@ use Rattle.exports.specs.Shared.{numbers_of, sweeper_volume}
 use Rattle.exports.proofs.Told.{as_said, drain_has_room}
 use Rattle.exports.proofs.seat.Sweeper.drain.Goals as goal
 
-pub returns-clause-told : goal.returns-clause-told
-returns-clause-told c =
+pub returns-clause-drained : goal.returns-clause-drained
+returns-clause-drained c =
     let told = c.drain-answer.ensures.told in
     as_said (λ a. DrainTold c.args.self.now.broom a c.drain-answer.new.broom) _ _ (drain_has_room _ _ _ told) c.hand_out.ensures.answer told
 
