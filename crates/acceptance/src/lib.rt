@@ -7,6 +7,8 @@ mod assertions;
 #[cfg(test)]
 mod caller;
 #[cfg(test)]
+mod collecting;
+#[cfg(test)]
 mod dies;
 #[cfg(test)]
 mod geometries;

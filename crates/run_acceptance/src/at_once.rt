@@ -39,15 +39,16 @@ fn gate_with<'a>(own: &'a AtomicBool, other: &'a AtomicBool) -> Waiting<'a> {
     }
 }
 
-const TRACE: &str = "0,write,0,41\n1,write,1,42\n0,meet,0,\n0,read,0,\n1,read,1,\n";
+const TRACE: &str = "0,write,0,01\n1,write,1,02\n0,meet,0,\n0,read,0,\n1,read,1,\n";
 
 const ANSWERS: &str =
-    "1,write,0,empty\n2,write,1,empty\n3,meet,0,met\n4,read,0,4100000000000000\n5,read,1,4200000000000000\nend\n";
+    "1,write,0,empty\n2,write,1,empty\n3,meet,0,met\n4,read,0,0100000000000000\n5,read,1,0200000000000000\nend\n";
 
-// Workers that run one after the other don't see each other's flags, with a broom or without one.
+// Workers that run one after the other don't see each other's flags, with a broom or without one. Five blocks are the least for two workers and
+// a broom.
 #[test]
 fn two_workers_wait_for_each_other(rt: HostRuntime) -> Result<(), Fail> {
-    for brooms in 0..2 {
+    for (blocks, brooms) in [(5, 0), (5, 1), (6, 0), (6, 1)] {
         let first = AtomicBool::new(false);
         let second = AtomicBool::new(false);
         let third = AtomicBool::new(false);
@@ -57,10 +58,14 @@ fn two_workers_wait_for_each_other(rt: HostRuntime) -> Result<(), Fail> {
             gate_with(&third, &third),
         ];
         let (used, _) = gates.split_at_mut(2 + brooms as usize);
-        let text = text_of(&rt, 6, 2, brooms, TRACE.as_bytes(), 9, used)?;
+        let text = text_of(&rt, blocks, 2, brooms, TRACE.as_bytes(), 9, used)?;
         let seen = [gates[0].seen, gates[1].seen, gates[2].seen];
-        expect(&rt, seen == [true, true, false], &(brooms, seen));
-        expect(&rt, text.as_slice() == ANSWERS.as_bytes(), &brooms);
+        expect(&rt, seen == [true, true, false], &(blocks, brooms, seen));
+        expect(
+            &rt,
+            text.as_slice() == ANSWERS.as_bytes(),
+            &(blocks, brooms),
+        );
     }
     Ok(())
 }

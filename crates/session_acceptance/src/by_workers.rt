@@ -58,7 +58,7 @@ const ROWS: [(&str, &str, &str, &str); 5] = [
 fn workers_answer_as_the_rows_say(rt: HostRuntime) -> Result<(), Fail> {
     for (arguments, trace, output, log) in ROWS {
         let ended = play(&rt, arguments, trace.as_bytes(), 1000)?;
-        let is_logged = ended.collections.as_slice() == log.as_bytes();
+        let is_logged = ended.collections.holds(log);
         expect(&rt, ended.is(0, output, "") && is_logged, &arguments);
     }
     Ok(())

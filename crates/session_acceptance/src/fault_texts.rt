@@ -1,9 +1,8 @@
 //! The text of each fault, as it is printed.
 use crate::assertions::expect;
 use ftl_one::{NewOneFault, WornOut};
-use geometry::GeometryFault;
 use host::{NewFault, NoBlock};
-use player::{RunFault, TraceFault, TraceFaultKind};
+use player::{GeometryFault, RunFault, TraceFault, TraceFaultKind};
 use std::alloc::{AllocError, Global};
 use std::fmt::Display;
 use std::test::Fail;

@@ -19,8 +19,7 @@ const LOG: &str = "log.csv\nline,victim,copied,copybacks,erases,outcome\n7,0,1,0
 
 // Whether the files hold these texts.
 fn hold(ended: &Ended, wear: &str, collections: &str) -> bool {
-    ended.wear.as_slice() == wear.as_bytes()
-        && ended.collections.as_slice() == collections.as_bytes()
+    ended.wear.holds(wear) && ended.collections.holds(collections)
 }
 
 #[test]

@@ -3,6 +3,8 @@
 #![tactic(auto)]
 
 #[cfg(test)]
+mod all_written;
+#[cfg(test)]
 mod arguments;
 #[cfg(test)]
 mod assertions;
@@ -14,6 +16,8 @@ mod fault_texts;
 mod files;
 #[cfg(test)]
 mod memory_file;
+#[cfg(test)]
+mod memory_line;
 #[cfg(test)]
 mod rows;
 #[cfg(test)]

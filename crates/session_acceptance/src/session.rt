@@ -1,7 +1,7 @@
 //! Plays a session, and returns what it leaves.
 use crate::memory_file::MemoryFile;
-use player::{RunFiles, Watched, session};
-use std::alloc::Global;
+use crate::memory_line::MemoryLine;
+use player::{RunFiles, Watched, read_words, session};
 use std::sync::Wait;
 use std::test::Fail;
 use std::thread::Threads;
@@ -13,8 +13,8 @@ pub(crate) struct Ended {
     pub status: u8,
     pub output: Vec<u8>,
     pub errors: Vec<u8>,
-    pub wear: Vec<u8>,
-    pub collections: Vec<u8>,
+    pub wear: MemoryFile,
+    pub collections: MemoryFile,
 }
 
 impl Ended {
@@ -26,15 +26,6 @@ impl Ended {
     }
 }
 
-// A file that is not open.
-fn file(alloc: Global, most: usize) -> Watched<MemoryFile> {
-    Watched::new(MemoryFile {
-        text: Vec::new(alloc),
-        most,
-        refusal: None,
-    })
-}
-
 /// Plays a session with these arguments, which spaces separate, and this trace. Its files take a number of bytes at each write.
 pub(crate) fn play<R: Threads + Wait + Clock + Sync + AllocGlobal>(
     rt: &R,
@@ -43,17 +34,24 @@ pub(crate) fn play<R: Threads + Wait + Clock + Sync + AllocGlobal>(
     most: usize,
 ) -> Result<Ended, Fail> {
     let alloc = rt.alloc();
-    let mut words = Vec::new(alloc);
-    words.push("flashplay")?;
+    let mut arguments_given = Vec::new(alloc);
     for argument in arguments.split(' ') {
-        words.push(argument)?;
+        arguments_given.push(argument)?;
+    }
+    let line = MemoryLine {
+        words: &arguments_given,
+    };
+    let texts = read_words(&line, alloc).map_err(|_| "the words of a line")?;
+    let mut words = Vec::new(alloc);
+    for text in &texts {
+        words.push(text.as_str())?;
     }
     let mut input = Watched::new(trace);
     let mut output = Watched::new(Vec::new(alloc));
     let mut errors = Watched::new(Vec::new(alloc));
     let mut files = RunFiles {
-        collections: file(alloc, most),
-        wear: file(alloc, most),
+        collections: Watched::new(MemoryFile::new(alloc, most)),
+        wear: Watched::new(MemoryFile::new(alloc, most)),
     };
     let status = session(
         rt,
@@ -69,7 +67,7 @@ pub(crate) fn play<R: Threads + Wait + Clock + Sync + AllocGlobal>(
         status,
         output: output.into_inner(),
         errors: errors.into_inner(),
-        wear: wear.into_inner().text,
-        collections: collections.into_inner().text,
+        wear: wear.into_inner(),
+        collections: collections.into_inner(),
     })
 }

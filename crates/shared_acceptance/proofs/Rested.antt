@@ -10,7 +10,7 @@ use Rattle.flash_table.specs.declared.broom_seat.BroomSeat.{BroomSeat}
 use Rattle.flash_table.specs.Flash.{IsBroomOf, broom_view, own_blocks}
 use Rattle.geometry.specs.Limits.{Numbers}
 use Rattle.broom.specs.Ready.{IsRested}
-use Rattle.broom.proofs.Choosing.{rested_again}
+use Rattle.broom.proofs.Choosing.{rest_of, rested_again}
 use Rattle.broom.proofs.Loading.{loaded_changes}
 
 module _ (f : Flash) (s t : BroomSeat) (h : IsRested f s) (seat : IsBroomOf f t) (blocks : own_blocks t ≡ own_blocks s) where
@@ -26,22 +26,12 @@ module _ (f : Flash) (s t : BroomSeat) (h : IsRested f s) (seat : IsBroomOf f t)
       let none = told.others (λ (x : Source) is. absurd (none_some x (sym h.source ∙ is))) in
       let e : w ≡ record v { seen = w.seen; named = w.named } =
       told.changed ∙ (λ i. record v { seen = w.seen; named = (sym told.changed i).named; source = none.0 i; cleared = none.1 i }) in
-      rested_again f s t h seat blocks
-      (e ∙ (λ i. record v {
-        seen = w.seen;
-        named = w.named;
-        loaded = (sym e i).loaded;
-        busy = (sym e i).busy;
-        stale = (sym e i).stale;
-        lost = (sym e i).lost;
-      }))
+      rested_again f s t h seat blocks (ap rest_of e)
       (subst (λ (z : Numbers). AreOfHosts z w.seen) (sym (ap (λ (x : View). x.numbers) told.changed)) told.callers)
 
   -- after a state step
   pub rested_loaded : (b n : ℕ) → Loaded v b n w → IsRested f t
   rested_loaded b n told =
-      let e : w ≡ record v { loaded = w.loaded; busy = w.busy; stale = w.stale } =
-      loaded_changes v w b n told ∙ (λ i. record v { loaded = (sym (loaded_changes v w b n told) i).loaded; busy = w.busy; stale = w.stale }) in
-      rested_again f s t h seat blocks
-      (e ∙ (λ i. record v { seen = (sym e i).seen; loaded = w.loaded; named = (sym e i).named; busy = w.busy; stale = w.stale; lost = (sym e i).lost }))
+      let e = loaded_changes v w b n told in
+      rested_again f s t h seat blocks (ap rest_of e)
       (subst (λ (x : View). AreOfHosts x.numbers x.seen) (sym e) h.callers)

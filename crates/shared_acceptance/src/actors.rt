@@ -302,6 +302,7 @@ impl<'a, H: Home> Collector<'a, H> {
             Call::DrainNextOne => {
                 Done::Drained(self.volume.drain_next_one(rt, &mut self.broom, gate))
             }
+            Call::DrainDead => Done::Drained(self.volume.drain_dead(&mut self.broom, gate)),
             Call::Restock => Done::Restocked(self.volume.restock(&mut self.broom)),
             _ => Done::Nothing,
         }

@@ -29,6 +29,11 @@ fn is_next(drawn: Drawn) -> bool {
     matches!(drawn.kind, 5..8 | 9)
 }
 
+// Whether this drain is one of a block without live pages.
+fn is_dead(drawn: Drawn) -> bool {
+    drawn.kind == 17
+}
+
 /// The state in which a call of a broom begins.
 #[derive(Clone, Copy)]
 pub(crate) struct CallStart {
@@ -167,7 +172,7 @@ impl BroomModel {
                     ..CallStart::none()
                 };
             }
-            8..10 | 16 => return CallStart::none(),
+            8..10 | 16..18 => return CallStart::none(),
             10..16 => self.take_next(broom),
             _ => Some(drawn.block),
         };
@@ -204,13 +209,14 @@ impl BroomModel {
         let is_stuck = facts.start.is_stuck;
         let has_spare = self.states[broom].has_spare;
         self.expect(is_stuck == (drain == Drain::QueueFull));
-        self.expect(is_stuck || has_spare == (drain != Drain::NoSpare));
+        self.expect(is_stuck || is_dead(drawn) || has_spare == (drain != Drain::NoSpare));
         self.expect(drain != Drain::Lost || !facts.alone || is_next(drawn));
         self.survey(broom, drawn, drain);
         let Drain::Drained { block, copied } = drain else {
             return;
         };
         self.expect(copied == facts.moves || !facts.alone);
+        self.expect(copied == 0 || !is_dead(drawn));
         self.copy(broom, facts.moves);
         self.set_drained(block, true);
         if drawn.kind < 8 {
@@ -222,7 +228,7 @@ impl BroomModel {
     fn survey(&mut self, broom: usize, drawn: Drawn, drain: Drain)
         requires { broom < 2 }
     {
-        if matches!(drain, Drain::NoSpare | Drain::QueueFull) {
+        if !is_dead(drawn) && matches!(drain, Drain::NoSpare | Drain::QueueFull) {
             return;
         }
         if !is_next(drawn) {

@@ -5,6 +5,7 @@ use crate::playing_rows::{Row, check_row};
 use crate::row_calls::{ONCE, ONE_BROOM, TWICE, TWO_BROOMS, drained, erased};
 use crate::schedule::{ExpectedCall, Step};
 use broom::{Drain, Erase};
+use flash_table::Point;
 use std::test::Fail;
 
 const DRAINS_ONE: ExpectedCall = drained!(Call::Drain, 1, 0);
@@ -58,6 +59,14 @@ const DRAINS_FOUR_BY_MOVES: ExpectedCall = drained!(Call::Drain, 4, 1);
 const FREES_FOUR: ExpectedCall = erased!(Call::Erase(4), 4, false);
 
 const RETIRES_TWO: ExpectedCall = (Call::Erase(2), Done::Erased(Erase::Retired { block: 2 }));
+
+const NOTHING_DEAD: ExpectedCall = (Call::DrainDead, Done::Drained(Drain::NothingToGain));
+
+const FINDS_A_LIVE_PAGE: ExpectedCall = (Call::DrainDead, Done::Drained(Drain::NoSpare));
+
+const DRAINS_DEAD_ONE: ExpectedCall = drained!(Call::DrainDead, 1, 0);
+
+const DRAINS_DEAD_TWO: ExpectedCall = drained!(Call::DrainDead, 2, 0);
 
 // A host fills blocks 0, 1 and 2, and then these steps are made. In block 0 the page of sector 1 is live, in block 1 none, and in block 2
 // that of sector 0.
@@ -131,6 +140,44 @@ const HAS_NO_SURVEY: [Step; 14] = three_filled![
     Step::By(Who::First, DRAINS_NEXT_TWO),
     Step::By(Who::First, NOTHING_NEXT),
     Step::By(Who::First, NOTHING),
+];
+
+// The host has taken every block, and the broom has copied to its spare. Each sector is trimmed.
+const LIVES_ON: [Step; 19] = three_filled![
+    Step::By(Who::First, DRAINS_ONE),
+    Step::By(Who::First, DRAINS_NEXT_ZERO_BY_MOVES),
+    Step::By(Who::A, (Call::Write(1, 7), WRITTEN)),
+    Step::By(Who::A, (Call::Write(1, 8), WRITTEN)),
+    Step::By(Who::A, (Call::Write(0, 9), FULL)),
+    Step::By(Who::First, NO_SPARE),
+    Step::By(Who::First, FINDS_NO_SPARE),
+    Step::By(Who::First, FINDS_A_LIVE_PAGE),
+    Step::By(Who::A, (Call::Trim(0), TRIMMED)),
+    Step::By(Who::A, (Call::Trim(1), TRIMMED)),
+    Step::By(Who::First, NO_SPARE),
+    Step::By(Who::First, DRAINS_DEAD_TWO),
+    Step::By(Who::First, KEEPS_TWO),
+];
+
+// The second broom drains the block at the gate of the first one.
+const LOSES_DEAD: [Step; 7] = three_filled![Step::During(
+    Who::First,
+    (Call::DrainDead, Done::Drained(Drain::Lost)),
+    Point::BeforeClaim,
+    1
+)];
+
+// With a spare a block without live pages is drained as well. Its erase frees it.
+const HAS_A_SPARE: [Step; 9] = three_filled![
+    Step::By(Who::First, DRAINS_DEAD_ONE),
+    Step::By(Who::First, FREES_ONE),
+    Step::By(Who::First, FINDS_A_LIVE_PAGE),
+];
+
+const SWEEPS_NOTHING: [Step; 3] = [
+    Step::By(Who::First, NOTHING_DEAD),
+    Step::By(Who::A, (Call::Write(0, 1), EMPTY)),
+    Step::By(Who::First, NOTHING_DEAD),
 ];
 
 // The spare is block 4, then block 2; then no block is free.
@@ -266,6 +313,43 @@ fn brooms_without_a_spare_answer_as_the_rows_say(rt: HostRuntime) -> Result<(), 
             steps: &RESTOCKS_TWICE,
             meanwhile: &[],
             sectors: [9, 10],
+        },
+    ] {
+        check_row(&rt, row)?;
+    }
+    Ok(())
+}
+
+#[test]
+fn drains_of_dead_blocks_answer_as_the_rows_say(rt: HostRuntime) -> Result<(), Fail> {
+    for row in [
+        Row {
+            name: "a broom without a spare drains a block without live pages, and keeps it",
+            device: ONE_BROOM,
+            steps: &LIVES_ON,
+            meanwhile: &[],
+            sectors: [0, 0],
+        },
+        Row {
+            name: "and so does a broom that has one",
+            device: ONE_BROOM,
+            steps: &HAS_A_SPARE,
+            meanwhile: &[],
+            sectors: [6, 2],
+        },
+        Row {
+            name: "there is nothing to gain of blocks that are not closed",
+            device: ONE_BROOM,
+            steps: &SWEEPS_NOTHING,
+            meanwhile: &[],
+            sectors: [1, 0],
+        },
+        Row {
+            name: "a block that another broom drains meanwhile is lost",
+            device: TWO_BROOMS,
+            steps: &LOSES_DEAD,
+            meanwhile: &[(Who::Second, DRAINS_ONE)],
+            sectors: [6, 2],
         },
     ] {
         check_row(&rt, row)?;

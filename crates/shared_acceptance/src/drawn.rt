@@ -8,6 +8,9 @@ use crate::idle_actors::Who;
 /// Who takes part, as a number.
 pub(crate) const ACTORS: u32 = 5;
 
+/// The kind of an erase of the block that is drawn.
+pub(crate) const ERASE: u32 = 19;
+
 /// The actor with this number: three hosts have the numbers 0 to 2, and two brooms 3 and 4.
 pub(crate) fn actor_of(k: u32) -> Who {
     match k {
@@ -52,6 +55,7 @@ impl Drawn {
             9 => Call::DrainNext,
             10..16 => Call::EraseOne,
             16 => Call::Restock,
+            17 => Call::DrainDead,
             _ => Call::Erase(self.block),
         }
     }

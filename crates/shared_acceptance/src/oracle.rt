@@ -5,7 +5,7 @@ use crate::actors::Role;
 use crate::array_model::{ArrayModel, BLOCKS, Numbers, SECTORS};
 use crate::broom_model::{BroomModel, CallFacts, CallStart};
 use crate::calls::{Call, Done};
-use crate::drawn::{ACTORS, Begun, Drawn};
+use crate::drawn::{ACTORS, Begun, Drawn, ERASE};
 use crate::draws::Draws;
 use crate::tally::Tally;
 use broom::{Drain, Erase};
@@ -143,7 +143,7 @@ impl Oracle {
             return drawn;
         }
         Drawn {
-            kind: 17,
+            kind: ERASE,
             sector: drawn.sector,
             block: self.brooms.drained_or(drawn.block),
             number: drawn.number,
@@ -254,6 +254,9 @@ impl Oracle {
         self.tally.brooms.note_drain(drain);
         let is_next = matches!(begun.call, Call::DrainNext | Call::DrainNextOne);
         self.tally.brooms.note_next(is_next, drain);
+        if matches!(begun.call, Call::DrainDead) {
+            self.tally.brooms.note_dead(drain);
+        }
         self.array.drain(drain, self.pages);
         let facts = self.facts(begun, looks);
         self.brooms

@@ -79,6 +79,7 @@ pub(crate) struct BroomCalls {
     pub queue_full: u64,
     pub drained_next: u64,
     pub lost_next: u64,
+    pub drained_dead: u64,
     pub unstocked: u64,
     pub erased: u64,
     pub kept: u64,
@@ -104,6 +105,7 @@ impl BroomCalls {
             && self.queue_full > 0
             && self.drained_next > 0
             && self.lost_next > 0
+            && self.drained_dead > 0
             && self.unstocked > 0
     }
 
@@ -134,6 +136,13 @@ impl BroomCalls {
             Drain::NoSpare => self.no_spare = self.no_spare.wrapping_add(1),
             Drain::Lost => self.lost = self.lost.wrapping_add(1),
             Drain::QueueFull => self.queue_full = self.queue_full.wrapping_add(1),
+        }
+    }
+
+    /// A drain of a block without live pages has returned.
+    pub(crate) fn note_dead(&mut self, drain: Drain) {
+        if matches!(drain, Drain::Drained { .. }) {
+            self.drained_dead = self.drained_dead.wrapping_add(1);
         }
     }
 
