@@ -1,10 +1,13 @@
 -- A text that goes out piece by piece.
-use Rattle.std.proofs.Common.{◌≡◌, ℕ, List, [], ◌++◌, Option, None, Some, refl, subst, sym, ap, ◌∙◌, append_assoc, append-nil, take, drop}
-use Rattle.std.specs.Prelude.{Result, Ok, Err, OnErr, OnOk}
+use Rattle.std.proofs.Common.{◌≡◌, ◌≢◌, ℕ, List, [], ◌++◌, Option, None, Some, refl, subst, sym, ap, ◌∙◌, append_assoc, append-nil, take, drop}
+use Rattle.std.specs.Prelude.{Result, Ok, Err, IsErr, OnErr, OnOk}
 use Rattle.std.specs.Io.KnownBytes.{Appends, Keeps}
 use Rattle.std.proofs.lemmas.List.{take-append-drop}
 use Rattle.geometry.specs.History.{Begins}
+use Rattle.geometry.proofs.Histories.{Begins-refl}
 use Rattle.answers.specs.Delivery.{AppendsBeginning, IsUnderWay}
+use Rattle.answers.specs.Streams.{Passage, Stream, WritesOut}
+use Rattle.answers.specs.declared.delivery.OutputFailed.{OutputFailed}
 
 pub Appends-nothing : (known : Option (List ℕ)) → Appends known known []
 Appends-nothing None = tt
@@ -109,3 +112,22 @@ OnErr-map P Q (Err e) f p = f p
 pub OnOk-map : {T E : Type 0} (P Q : Type 0) (r : Result T E) → (P → Q) → OnOk r P → OnOk r Q
 OnOk-map P Q (Ok x) f p = f p
 OnOk-map P Q (Err e) f p = tt
+
+-- a text whose last bytes waited is written as these are
+pub WritesOut-rest : (text waiting : List ℕ) (old mid new : Stream) (r : Result (Unit {0}) OutputFailed) → mid.failures ≡ old.failures
+    → IsUnderWay old.bytes mid.bytes waiting text → WritesOut waiting (record { before = mid; after = new }) r
+    → WritesOut text (record { before = old; after = new }) r
+WritesOut-rest text waiting old mid new (Ok _) same under (unfailed, sent) =
+    (unfailed ∙ same, Appends-whole old.bytes new.bytes text (IsUnderWay-sent old.bytes mid.bytes new.bytes waiting text under sent))
+WritesOut-rest text waiting old mid new (Err _) same under (failed, part) = (
+  (λ e. failed (e ∙ sym same)),
+  AppendsBeginning-part old.bytes mid.bytes new.bytes waiting text text under part (Begins-refl text),
+)
+
+-- and it is not written if what waited of its beginning isn't
+pub WritesOut-stopped : (whole text waiting : List ℕ) (old mid new : Stream) (r : Result (Unit {0}) OutputFailed) → mid.failures ≡ old.failures
+    → IsUnderWay old.bytes mid.bytes waiting text → Begins text whole → new.failures ≢ mid.failures
+    → AppendsBeginning mid.bytes new.bytes waiting → IsErr r → WritesOut whole (record { before = old; after = new }) r
+WritesOut-stopped whole text waiting old mid new (Ok _) same under begins failed part is = absurd (cc)
+WritesOut-stopped whole text waiting old mid new (Err e) same under begins failed part is =
+    ((λ f. failed (f ∙ sym same)), AppendsBeginning-part old.bytes mid.bytes new.bytes waiting text whole under part begins)

@@ -1,5 +1,5 @@
 -- A reply as text.
-use Rattle.std.specs.Prelude.{List, ℕ, codes}
+use Rattle.std.specs.Prelude.{Bool, true, false, List, ℕ, codes}
 use Rattle.geometry.specs.declared.answer.Was.{Was}
 use Rattle.geometry.specs.declared.answer.Was.TheVariants as was
 use Rattle.answers.specs.declared.reply.Reply.{Reply}
@@ -13,6 +13,15 @@ reply_text reply.Worn digits = codes "worn"
 reply_text reply.Full digits = codes "full"
 reply_text reply.Met digits = codes "met"
 reply_text reply.Page digits = digits
+
+-- whether a write was refused because the device is worn out
+abbrev pub is_worn_reply : Reply → Bool
+is_worn_reply reply.Empty = false
+is_worn_reply reply.Written = false
+is_worn_reply reply.Worn = true
+is_worn_reply reply.Full = false
+is_worn_reply reply.Met = false
+is_worn_reply reply.Page = false
 
 -- the reply that says what a sector was
 abbrev pub reply_of : Was → Reply

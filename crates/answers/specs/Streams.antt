@@ -1,8 +1,9 @@
 -- What a clause sees of a watched reader or writer: how often it failed, and its known bytes.
-use Rattle.std.specs.Prelude.{ℕ, List, Option, IfSome}
+use Rattle.std.specs.Prelude.{◌≡◌, ◌≢◌, ℕ, List, Option, IfSome, Result, Ok, Err}
 use Rattle.std.specs.Io.KnownBytes.{Appends}
 use Rattle.trace.specs.Watched.{failures_of, inner_of}
 use Rattle.trace.specs.declared.watched.Watched.{Watched}
+use Rattle.answers.specs.declared.delivery.OutputFailed.{OutputFailed}
 use Rattle.answers.specs.Delivery.{AppendsBeginning, AppendsPart, AppendsText, IsUnderWay}
 
 -- What a clause sees of a watched reader or writer: how many of its calls failed, and its bytes, if they are known
@@ -31,6 +32,11 @@ Sends output text = Appends output.before.bytes output.after.bytes text
 -- a writer's known bytes grew by a beginning of this text
 abbrev pub SendsBeginning : Passage → List ℕ → Type 0
 SendsBeginning output text = AppendsBeginning output.before.bytes output.after.bytes text
+
+-- how a text was written: whole, with no call that failed, or a beginning of it, with one that did
+abbrev pub WritesOut : List ℕ → Passage → Result (Unit {0}) OutputFailed → Type 0
+WritesOut text output (Ok _) = (output.after.failures ≡ output.before.failures) × Sends output text
+WritesOut text output (Err _) = (output.after.failures ≢ output.before.failures) × SendsBeginning output text
 
 -- a writer's known bytes grew by a text that is right for the bytes that a reader had, if those are known
 abbrev pub Tells : (List ℕ → List ℕ → Type 0) → Stream → Passage → Type 0

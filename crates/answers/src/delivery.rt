@@ -1,7 +1,8 @@
 ghost use Rattle.std.specs.Prelude.{◌≡◌, ◌≢◌, ◌≤◌, drop, length, OnOk, OnErr};
 ghost use Rattle.std.specs.Io.KnownBytes.{Appends};
 ghost use Rattle.trace.specs.Watched.{failures_of, inner_of};
-ghost use Rattle.answers.specs.Delivery.{AppendsBeginning, IsUnderWay};
+ghost use Rattle.answers.specs.Delivery.{IsUnderWay};
+ghost use Rattle.answers.specs.Streams.{WritesOut, over};
 
 use std::io::Write;
 use trace::Watched;
@@ -12,10 +13,7 @@ pub struct OutputFailed;
 
 /// Writes all of these bytes, with as many calls as the writer needs.
 pub fn send<W: Write>(writer: &mut Watched<W>, bytes: &[u8]) -> Result<(), OutputFailed>
-    ensures sent { OnOk result (Appends (W.contents (inner_of writer.old)) (W.contents (inner_of writer.new)) bytes.now) }
-    ensures unfailed { OnOk result (failures_of writer.new ≡ failures_of writer.old) }
-    ensures part { OnErr result (AppendsBeginning (W.contents (inner_of writer.old)) (W.contents (inner_of writer.new)) bytes.now) }
-    ensures failed { OnErr result (failures_of writer.new ≢ failures_of writer.old) }
+    ensures { WritesOut bytes.now (over W.contents writer.old writer.new) result }
 {
     if send_some(writer, bytes) == bytes.len() {
         Ok(())

@@ -9,12 +9,8 @@ ghost use Rattle.answers.specs.declared.reply.Reply.TheVariants as replies;
 use crate::broom_line::BroomLine;
 use crate::numbering::Numbering;
 use crate::reply::Reply;
-use crate::text::{SHORT_BYTES, put_number, put_page, put_short};
-use crate::words::{
-    BLOCK_ERASES, BROOM_DRAINED, COPIED_COPYBACKS, END, END_COMMA, ERASED_KEPT, ERASES_OUTCOME,
-    IDLE, LINE_VICTIM, LIVE_RETIRED, MOVED_PROGRAMMED, PINNED_STALE, RETIRED_LOST, op_word,
-    outcome_word, reply_word,
-};
+use crate::text::{SHORT_BYTES, put_number, put_page, put_short, put_text};
+use crate::words::{END, END_COMMA, op_word, outcome_word, reply_word};
 use trace::Op;
 
 /// The most bytes of a line without those of its page, but with the bytes that are stored after its end.
@@ -84,8 +80,7 @@ pub fn put_wear_names(buffer: &mut [u8], at: usize) -> usize
     requires { at + LINE_BYTES ≤ length buffer.old }
     ensures { Placed buffer.old buffer.new at wear_names result }
 {
-    let middle = put_short(buffer, at, &BLOCK_ERASES);
-    put_short(buffer, middle, &LIVE_RETIRED)
+    put_text(buffer, at, b"block,erases,live,retired\n")
 }
 
 /// Puts a block's line of the wear.
@@ -111,9 +106,7 @@ pub fn put_collection_names(buffer: &mut [u8], at: usize) -> usize
     requires { at + LINE_BYTES ≤ length buffer.old }
     ensures { Placed buffer.old buffer.new at collection_names result }
 {
-    let first = put_short(buffer, at, &LINE_VICTIM);
-    let second = put_short(buffer, first, &COPIED_COPYBACKS);
-    put_short(buffer, second, &ERASES_OUTCOME)
+    put_text(buffer, at, b"line,victim,copied,copybacks,erases,outcome\n")
 }
 
 /// Puts the line of a collection.
@@ -143,12 +136,11 @@ pub fn put_broom_names(buffer: &mut [u8], at: usize) -> usize
     requires { at + LINE_BYTES ≤ length buffer.old }
     ensures { Placed buffer.old buffer.new at broom_names result }
 {
-    let first = put_short(buffer, at, &BROOM_DRAINED);
-    let second = put_short(buffer, first, &MOVED_PROGRAMMED);
-    let third = put_short(buffer, second, &ERASED_KEPT);
-    let fourth = put_short(buffer, third, &RETIRED_LOST);
-    let fifth = put_short(buffer, fourth, &PINNED_STALE);
-    put_short(buffer, fifth, &IDLE)
+    put_text(
+        buffer,
+        at,
+        b"broom,drained,moved,programmed,erased,kept,retired,lost,pinned,stale,idle\n",
+    )
 }
 
 /// Puts the line of a broom.

@@ -7,6 +7,7 @@ ghost use Rattle.answers.specs.Answers.{broom_line, broom_names, collection_line
 ghost use Rattle.answers.specs.Delivery.{AppendsBeginning, IsUnderWay};
 ghost use Rattle.answers.specs.Lines.{page_digits_of, waiting_of};
 ghost use Rattle.answers.specs.Replies.{reply_text};
+ghost use Rattle.answers.specs.Streams.{WritesOut, over};
 ghost use Rattle.answers.specs.declared.line.TheConstants.{PIECE_BYTES};
 ghost use Rattle.answers.specs.declared.reply.Reply.TheVariants as replies;
 
@@ -151,12 +152,9 @@ impl Lines {
 
     /// Writes the lines that wait. After a failure those bytes wait that the writer has not taken, so another call can continue.
     pub fn hand_on<W: Write>(&mut self, writer: &mut Watched<W>) -> Result<(), OutputFailed>
-        ensures sent { OnOk result (Appends (W.contents (inner_of writer.old)) (W.contents (inner_of writer.new)) (waiting_of self.old)) }
+        ensures sent { WritesOut (waiting_of self.old) (over W.contents writer.old writer.new) result }
         ensures empty { OnOk result (waiting_of self.new ≡ []) }
         ensures page { page_digits_of self.new ≡ page_digits_of self.old }
-        ensures unfailed { OnOk result (failures_of writer.new ≡ failures_of writer.old) }
-        ensures part { OnErr result (AppendsBeginning (W.contents (inner_of writer.old)) (W.contents (inner_of writer.new)) (waiting_of self.old)) }
-        ensures failed { OnErr result (failures_of writer.new ≢ failures_of writer.old) }
         ensures kept { OnErr result
             (IsUnderWay (W.contents (inner_of writer.old)) (W.contents (inner_of writer.new)) (waiting_of self.new) (waiting_of self.old)) }
     {

@@ -1,5 +1,5 @@
 ghost use Rattle.std.specs.Prelude.{◌≡◌};
-ghost use Rattle.answers.specs.Replies.{reply_of};
+ghost use Rattle.answers.specs.Replies.{is_worn_reply, reply_of};
 
 use geometry::Was;
 
@@ -17,12 +17,23 @@ pub enum Reply {
 }
 
 impl Reply {
+    /// The answer of a write or a trim that was done.
     pub fn of_was(was: Was) -> Reply
         ensures { result ≡ reply_of was }
     {
         match was {
             Was::Empty => Reply::Empty,
             Was::Written => Reply::Written,
+        }
+    }
+
+    /// Whether a write was refused because the device is worn out.
+    pub fn is_worn(self) -> bool
+        ensures { result ≡ is_worn_reply self }
+    {
+        match self {
+            Reply::Worn => true,
+            _ => false,
         }
     }
 }

@@ -44,6 +44,17 @@ pub(crate) fn put_short(buffer: &mut [u8], at: usize, text: &Short) -> usize
     at + text.len
 }
 
+/// Puts a text. Returns the index after it.
+pub(crate) fn put_text(buffer: &mut [u8], at: usize, text: &[u8]) -> usize
+    requires { at + length text.now ≤ length buffer.old }
+    ensures placed { Placed buffer.old buffer.new at text.now result }
+    ensures end { result ≡ at + length text.now }
+{
+    let end = at + text.len();
+    buffer[at..end].copy_from_slice(text);
+    end
+}
+
 /// Puts the digits of a page. Returns the index after them.
 #[inline(always)]
 pub(crate) fn put_page(buffer: &mut [u8], at: usize, page: &[u8]) -> usize
@@ -150,8 +161,5 @@ fn put_long(buffer: &mut [u8], at: usize, number: u64) -> usize
     ensures end { result ≤ at + NUMBER_BYTES }
 {
     let mut digits = itoa::Buffer::new();
-    let text = digits.format(number).as_bytes();
-    let end = at + text.len();
-    buffer[at..end].copy_from_slice(text);
-    end
+    put_text(buffer, at, digits.format(number).as_bytes())
 }

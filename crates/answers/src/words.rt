@@ -74,61 +74,6 @@ pub(crate) static END_COMMA: Short = Short {
     len: 4,
 };
 
-pub(crate) static BLOCK_ERASES: Short = Short {
-    bytes: *b"block,erases,\0\0\0",
-    len: 13,
-};
-
-pub(crate) static LIVE_RETIRED: Short = Short {
-    bytes: *b"live,retired\n\0\0\0",
-    len: 13,
-};
-
-pub(crate) static LINE_VICTIM: Short = Short {
-    bytes: *b"line,victim,\0\0\0\0",
-    len: 12,
-};
-
-pub(crate) static COPIED_COPYBACKS: Short = Short {
-    bytes: *b"copied,copybacks",
-    len: 16,
-};
-
-pub(crate) static ERASES_OUTCOME: Short = Short {
-    bytes: *b",erases,outcome\n",
-    len: 16,
-};
-
-pub(crate) static BROOM_DRAINED: Short = Short {
-    bytes: *b"broom,drained,\0\0",
-    len: 14,
-};
-
-pub(crate) static MOVED_PROGRAMMED: Short = Short {
-    bytes: *b"moved,programmed",
-    len: 16,
-};
-
-pub(crate) static ERASED_KEPT: Short = Short {
-    bytes: *b",erased,kept,\0\0\0",
-    len: 13,
-};
-
-pub(crate) static RETIRED_LOST: Short = Short {
-    bytes: *b"retired,lost,\0\0\0",
-    len: 13,
-};
-
-pub(crate) static PINNED_STALE: Short = Short {
-    bytes: *b"pinned,stale,\0\0\0",
-    len: 13,
-};
-
-pub(crate) static IDLE: Short = Short {
-    bytes: *b"idle\n\0\0\0\0\0\0\0\0\0\0\0",
-    len: 5,
-};
-
 static FREED: Short = Short {
     bytes: *b"freed\n\0\0\0\0\0\0\0\0\0\0",
     len: 6,

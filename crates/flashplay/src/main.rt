@@ -2,8 +2,10 @@
 //! to standard output.
 #![tactic(auto)]
 
+mod closed_streams;
 mod out_file;
 
+use closed_streams::ClosedStreams;
 use out_file::{OutFile, Place};
 use player::{RunFiles, Stop, Watched, read_words, session, tell};
 use std::io::Write;
@@ -37,6 +39,7 @@ fn play<T: Threads + Wait + Clock + Sync, E: Write>(
     }
     let mut input = Watched::new(rt.stdin());
     let mut output = Watched::new(rt.stdout());
+    let _closed = ClosedStreams::keep(rt);
     let opened = Place::new(None);
     let mut files = RunFiles {
         collections: Watched::new(OutFile::new(rt, &opened)),

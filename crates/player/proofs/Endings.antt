@@ -1,5 +1,5 @@
 -- How a session ends, by how its run did.
-use Rattle.std.proofs.Common.{◌≡◌, ◌≢◌, ◌∙◌, ℕ, Bool, true, false, List, None, Some, Option, refl, inl, inr, ap, subst, sym}
+use Rattle.std.proofs.Common.{◌≡◌, ◌≢◌, ◌∙◌, ℕ, zero, suc, Bool, true, false, List, None, Some, Option, refl, inl, inr, ap, subst, sym}
 use Rattle.std.specs.Prelude.{⊤, MatchOption, Result, Ok, Err, OnErr, OnOk, is_some, option_map}
 use Rattle.geometry.specs.Geometry.{hosts_of}
 use Rattle.geometry.specs.declared.geometry.Geometry.{Geometry}
@@ -16,14 +16,15 @@ use Rattle.player.specs.CommandLine.{faults_given}
 use Rattle.runs.specs.Files.{EndsFile}
 use Rattle.runs.specs.Wear.{IsWearOf}
 use Rattle.player.specs.declared.command_line.Options.{Options}
+use Rattle.player.specs.declared.refusal.Refusal.{Refusal}
 use Rattle.player.specs.declared.run_files.FileStop.{FileStop}
 use Rattle.player.specs.declared.run_files.FileStop.TheVariants as file_stop
 use Rattle.player.specs.declared.run_files.RunFile.TheVariants as run_file
 use Rattle.player.specs.declared.stop.Stop.{Stop}
 use Rattle.player.specs.declared.stop.Stop.TheVariants as stop
-use Rattle.player.specs.Session.{Answered, AnswersClap, AreUntouched, AsksClap, EndsOn, Explains, Filing, Filings, IsDescribed, IsIdle, IsLogFor}
+use Rattle.player.specs.Session.{AnswersClap, AreUntouched, AsksClap, EndsOn, Explains, Filing, Filings, IsDescribed, IsIdle, IsLogFor}
 use Rattle.player.specs.Session.{FailsToOpen, IsOpened, IsUntouched, LeavesFiles, LeavesLogBy, LosesFile, LosesOn, OpensFiles, PlaysOn, TellsFile}
-use Rattle.player.specs.Session.{name_given, outcome_of, stop_of_open}
+use Rattle.player.specs.Session.{counted_refusals, name_given, outcome_of, refusal_by, stop_of_open}
 
 -- what two claims come to, by how a file was written
 abbrev pub ByEnd : Result (Unit {0}) OutputFailed → Type 0 → Type 0 → Type 0
@@ -59,18 +60,22 @@ file_ended f o wanted IsTextOf input file mid r (opened, same) asked ends =
     (subst (λ (s : Stream). EndsFile (is_some (option_map f o)) IsTextOf input (record { before = s; after = file.stream.after }) r) same
     (subst (λ w. EndsFile w IsTextOf input (record { before = mid; after = file.stream.after }) r) (asked ∙ is_some_map f o) ends))
 
--- a run ends by how its log and its wear were written
-pub run_ended : (c w : Result (Unit {0}) OutputFailed) (geo : Geometry) (given : Options) (input output : Passage) (files : Filings)
-    → PlaysOn geo given input output
+-- a run ends by how its log and its wear were written, and by how many refused writes are counted
+pub run_ended : (c w : Result (Unit {0}) OutputFailed) (why : Refusal) (count : ℕ) (geo : Geometry) (given : Options) (input output : Passage)
+    (files : Filings) (plays : PlaysOn geo given input output files)
     → ByEnd c (TellsFile (name_given run_file.Collections given) (IsLogFor given geo) input.before files.collections)
     (LosesFile (name_given run_file.Collections given) (IsLogFor given geo) input.before files.collections)
     → ByEnd w (TellsFile (name_given run_file.Wear given) (IsWearOf geo) input.before files.wear)
     (LosesFile (name_given run_file.Wear given) (IsWearOf geo) input.before files.wear)
-    → EndsOn (outcome_of c w) geo given input output files
-run_ended (Err _) (Ok _) geo given input output files plays lost told = (plays, (lost, inl told))
-run_ended (Err _) (Err _) geo given input output files plays lost also = (plays, (lost, inr also))
-run_ended (Ok _) (Err _) geo given input output files plays told lost = (plays, (lost, told))
-run_ended (Ok _) (Ok _) geo given input output files plays collections wear = (plays, record { wear = wear; collections = collections })
+    → counted_refusals given plays.refused ≡ count → why ≡ refusal_by (hosts_of geo)
+    → EndsOn (outcome_of c w why count) geo given input output files
+run_ended (Err _) (Ok _) why count geo given input output files plays lost told is because = (plays, (lost, inl told))
+run_ended (Err _) (Err _) why count geo given input output files plays lost also is because = (plays, (lost, inr also))
+run_ended (Ok _) (Err _) why count geo given input output files plays told lost is because = (plays, (lost, told))
+run_ended (Ok _) (Ok _) why zero geo given input output files plays collections wear is because =
+    (plays, record { wear = wear; collections = collections }, is)
+run_ended (Ok _) (Ok _) why (suc n) geo given input output files plays collections wear is because =
+    (plays, record { wear = wear; collections = collections }, (λ none. cc), is, because)
 
 -- a run that stopped leaves its files, which were opened
 pub files_left : (found : RunFault) (wanted : Bool) (geo : Geometry) (given : Options) (input : Stream) (files : Filings) (mid_wear mid_log : Stream)
@@ -101,6 +106,7 @@ not_opened (stop.Geometry found) geo given input output files never idle = absur
 not_opened (stop.Run found) geo given input output files never idle = absurd never
 not_opened stop.Help geo given input output files never idle = absurd never
 not_opened stop.Memory geo given input output files never idle = absurd never
+not_opened (stop.Refused why count) geo given input output files never idle = absurd never
 not_opened (stop.File file why) geo given input output files (fault, is, asked, fails) idle =
     subst (λ (w : FileStop). LosesOn file w geo given input output files) (sym is) (by fault fails)
   where
@@ -108,22 +114,11 @@ not_opened (stop.File file why) geo given input output files (fault, is, asked, 
     by open_fault.Refused failed = (asked, idle, failed)
     by open_fault.InUse failed = (asked, idle, failed)
 
--- what was played on the described device is the answer of the session
-abbrev answered_on : (words : List Text) (geo : Geometry) (device : IsDescribed words geo) (input output : Passage)
-    → PlaysOn geo device.given input output → Answered words input output
-answered_on words geo device input output plays = record {
-  geo = geo;
-  device = device;
-  end = plays.end;
-  text = plays.text;
-  input_unfailed = plays.input_unfailed;
-  output_unfailed = plays.output_unfailed;
-}
-
 -- a run on the device ends the session as it ended itself
 pub from_run : (words : List Text) (geo : Geometry) (device : IsDescribed words geo) (input output : Passage) (files : Filings) (r : Result (Unit {0}) Stop)
     → EndsOn r geo device.given input output files → Explains r words input output files
-from_run words geo device input output files (Ok x) (plays, told) = inl (record { answered = answered_on words geo device input output plays; told = told })
+from_run words geo device input output files (Ok x) (plays, told, all) =
+    inl (record { answered = record { geo = geo; device = device; plays = plays }; told = told; all = all })
 from_run words geo device input output files (Err (stop.Arguments error)) never = absurd never
 from_run words geo device input output files (Err (stop.Encoding place)) never = absurd never
 from_run words geo device input output files (Err (stop.Geometry found)) never = absurd never
@@ -137,7 +132,14 @@ from_run words geo device input output files (Err (stop.File file file_stop.NotO
 from_run words geo device input output files (Err (stop.File file file_stop.NotItsOwn)) (asked, idle, fails) =
     ((record { geo = geo; device = device; asked = asked }, fails), idle)
 from_run words geo device input output files (Err (stop.File file file_stop.Failed)) (plays, lost) =
-    record { answered = answered_on words geo device input output plays; lost = lost }
+    record { answered = record { geo = geo; device = device; plays = plays }; lost = lost }
+from_run words geo device input output files (Err (stop.Refused why count)) (plays, told, some, is, because) = record {
+  answered = record { geo = geo; device = device; plays = plays };
+  told = told;
+  some = some;
+  count_is = is;
+  why_is = because;
+}
 
 pub same_stream : (a b : Stream) → a.failures ≡ b.failures → a.bytes ≡ b.bytes → a ≡ b
 same_stream a b p q =
@@ -185,3 +187,4 @@ from_refusal words error input output files has unread same (Err stop.Help) (ask
     (record { error = error; asked = among_of (faults_given words) error has (asks_known (kind_of error) asks); is_request = asks }, unread, some, same)
 from_refusal words error input output files has unread same (Err stop.Memory) unwritten = ((unread, unwritten), same)
 from_refusal words error input output files has unread same (Err (stop.File file why)) never = absurd never
+from_refusal words error input output files has unread same (Err (stop.Refused why count)) never = absurd never

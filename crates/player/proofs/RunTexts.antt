@@ -11,10 +11,14 @@ use Rattle.answers.specs.declared.fault.RunFault.TheVariants as run
 use Rattle.answers.specs.declared.delivery.OutputFailed.{OutputFailed}
 use Rattle.runs.specs.Brooms.{IsBroomLogOf}
 use Rattle.runs.specs.Collections.{IsLogOf}
+use Rattle.runs.specs.ByWorkers.{WasPlayed, answers_played, commands_played}
 use Rattle.runs.specs.Files.{EndsFile, LeavesLog}
 use Rattle.runs.specs.Outputs.{IsOutputByWorkers, IsOutputOf}
+use Rattle.runs.specs.Refusals.{IsRefusedCount, refused_by_workers}
+use Rattle.runs.specs.declared.played_by_workers.PlayedByWorkers.{PlayedByWorkers}
 use Rattle.player.specs.declared.command_line.Options.{Options}
-use Rattle.player.specs.Session.{IsLogBy, IsLogFor, IsTextBy, IsTextFor, LeavesLogBy}
+use Rattle.player.specs.Session.{IsLogBy, IsLogFor, IsOneRun, IsTextBy, IsTextFor, LeavesLogBy, refusal_by, run_options_of}
+use Rattle.player.specs.declared.refusal.Refusal.TheVariants as refusal
 
 -- without hosts the text is that of one thread
 pub one_text : (given : Options) (geo : Geometry) (input old new : Option (List ℕ)) → hosts_of geo ≡ 0
@@ -71,3 +75,18 @@ pub shared_left : (hosts : ℕ) (geo : Geometry) (fault : RunFault) (wanted : Bo
     → file.after ≡ file.before → LeavesLogBy hosts fault wanted geo input file
 shared_left zero geo fault wanted input file some same = absurd (some refl)
 shared_left (suc others) geo fault wanted input file some same = same
+
+-- and so many writes were refused
+pub one_run : (given : Options) (geo : Geometry) (input : Stream) (output log : Passage) (refused : ℕ) → hosts_of geo ≡ 0
+    → IfSome input.bytes (λ bytes. IsRefusedCount geo bytes refused) → IsOneRun (hosts_of geo) geo given input output log refused
+one_run given geo input output log refused none counts = subst (λ h. IsOneRun h geo given input output log refused) (sym none) counts
+
+pub shared_run : (hosts : ℕ) (given : Options) (geo : Geometry) (input : Stream) (output log : Passage) (run : PlayedByWorkers) → hosts ≢ 0
+    → WasPlayed geo (run_options_of given) input output log run
+    → IsOneRun hosts geo given input output log (refused_by_workers (commands_played run) (answers_played run))
+shared_run zero given geo input output log run some played = absurd (some refl)
+shared_run (suc others) given geo input output log run some played = (run, played, refl)
+
+pub shared_refusal : (hosts : ℕ) → hosts ≢ 0 → refusal.Full ≡ refusal_by hosts
+shared_refusal zero some = absurd (some refl)
+shared_refusal (suc others) some = refl

@@ -24,3 +24,4 @@ IsUnread arguments (stop.Run found) = ⊥
 IsUnread arguments stop.Help = ⊥
 IsUnread arguments stop.Memory = ⊤
 IsUnread arguments (stop.File file why) = ⊥
+IsUnread arguments (stop.Refused why count) = ⊥

@@ -61,10 +61,11 @@ with_threads app = with_rule (with_rule (with_rule (with_rule app
     (option_rule (codes "patience") (codes "1000000") 1 1000000000))
     (option_rule (codes "drains") (codes "1") 1 4096)
 
--- the program's command line: the numbers of a device, the threads of a run, the files of a run, and whether its answers are left out
+-- the program's command line: the numbers of a device, the threads of a run, the files of a run, whether its answers are left out, and whether
+-- all writes have to be done
 abbrev pub flashplay : App
-flashplay = with_rule (with_rule (with_rule (with_threads with_numbers) (file_rule (codes "wear"))) (file_rule (codes "collections")))
-    (flag_rule (codes "quiet"))
+flashplay = with_rule (with_rule (with_rule (with_rule (with_threads with_numbers) (file_rule (codes "wear"))) (file_rule (codes "collections")))
+    (flag_rule (codes "quiet"))) (flag_rule (codes "all-written"))
 
 -- what clap finds for each option in the words of a command line, the defaults included
 unfoldable pub rows_given : List Text → List Row
@@ -106,7 +107,7 @@ pub record IsFlagOf (rows : List Row) (name : Text) (is_set : Bool) : Type 0 whe
   pub unused : one_of name rows ≡ Some (codes "false") → is_set ≡ false
 
 -- each number lies in the limits of its option and is the one that the words write for it, or else the default; and the names of the files, and
--- whether the answers are left out, are those of the matches
+-- whether the answers are left out and all writes have to be done, are those of the matches
 pub record AreOptionsOf (line : List Text) (given : Options) : Type 0 where
   pub luns : IsNumberOf line (codes "luns") 1 0 4294967295 given.luns
   pub blocks : IsNumberOf line (codes "blocks") 64 0 4294967295 given.blocks
@@ -121,6 +122,7 @@ pub record AreOptionsOf (line : List Text) (given : Options) : Type 0 where
   pub wear : option_map (λ name. name.now) given.wear ≡ first_of (codes "wear") (rows_given line)
   pub collections : option_map (λ name. name.now) given.collections ≡ first_of (codes "collections") (rows_given line)
   pub quiet : IsFlagOf (rows_given line) (codes "quiet") given.quiet
+  pub all_written : IsFlagOf (rows_given line) (codes "all-written") given.all_written
 
 -- the numbers of the device that the options describe: it has a host for each worker
 abbrev pub numbers_given : Options → Numbers

@@ -1,6 +1,6 @@
 -- How a session of the program ends.
 use Rattle.std.specs.Prelude.{◌≡◌, ◌≢◌, ◌⊎◌, ⊤, ℕ, zero, suc, Bool, not, List, [], true, MatchOption, IfSome}
-use Rattle.std.specs.Prelude.{Option, Some, is_some, option_map, Result, Ok, Err}
+use Rattle.std.specs.Prelude.{Option, Some, is_some, option_map, if◌then◌else◌, Result, Ok, Err}
 use Rattle.std.specs.Io.KnownBytes.{IsAtEnd}
 use Rattle.clap.specs.Words.{IsAmong, Text, kind_of}
 use Rattle.clap.specs.declared.error.Error.{Error}
@@ -23,13 +23,19 @@ use Rattle.answers.specs.declared.fault.RunFault.TheVariants as run
 use Rattle.answers.specs.declared.delivery.OutputFailed.{OutputFailed}
 use Rattle.runs.specs.Brooms.{IsBroomLogOf}
 use Rattle.runs.specs.Collections.{IsLogOf}
+use Rattle.runs.specs.ByWorkers.{WasPlayed, answers_played, commands_played}
 use Rattle.runs.specs.Files.{LeavesLog}
 use Rattle.runs.specs.Outputs.{IsOutputByWorkers, IsOutputOf}
+use Rattle.runs.specs.Refusals.{IsRefusedCount, refused_by_workers}
 use Rattle.runs.specs.Wear.{IsWearOf}
 use Rattle.runs.specs.declared.files.RunFiles.{RunFiles}
+use Rattle.runs.specs.declared.files.RunOptions.{RunOptions}
+use Rattle.runs.specs.declared.played_by_workers.PlayedByWorkers.{PlayedByWorkers}
 use Rattle.player.specs.CommandLine.{AreOptionsOf, faults_given, numbers_given}
 use Rattle.player.specs.Telling.{TellsEnding}
 use Rattle.player.specs.declared.command_line.Options.{Options}
+use Rattle.player.specs.declared.refusal.Refusal.{Refusal}
+use Rattle.player.specs.declared.refusal.Refusal.TheVariants as refusal
 use Rattle.player.specs.declared.run_files.FileStop.{FileStop}
 use Rattle.player.specs.declared.run_files.FileStop.TheVariants as file_stop
 use Rattle.player.specs.declared.run_files.RunFile.{RunFile}
@@ -71,6 +77,7 @@ status_of (stop.Run found) = status_of_run found
 status_of stop.Help = 1
 status_of stop.Memory = 4
 status_of (stop.File file why) = status_of_file why
+status_of (stop.Refused why count) = 5
 
 -- the device that the words of a command line describe: clap finds no fault in the words
 pub record IsDescribed (words : List Text) (geo : Geometry) : Type 0 where
@@ -109,15 +116,6 @@ IsLogFor given geo bytes text = IsLogBy (hosts_of geo) given.drains geo bytes te
 abbrev pub LeavesLogBy : ℕ → RunFault → Bool → Geometry → Stream → Passage → Type 0
 LeavesLogBy zero found wanted geo input file = LeavesLog found wanted geo input file
 LeavesLogBy (suc others) found wanted geo input file = file.after ≡ file.before
-
--- the trace was played: the input was read to its end, what the options want of the text of all its bytes was written, and no call failed
-pub record Answered (words : List Text) (input output : Passage) : Type 0 where
-  pub geo : Geometry
-  pub device : IsDescribed words geo
-  pub end : IsAtEnd input.after.bytes
-  pub text : Tells (IsTextFor device.given geo) input.before output
-  pub input_unfailed : input.after.failures ≡ input.before.failures
-  pub output_unfailed : output.after.failures ≡ output.before.failures
 
 -- a file was opened by this name, if its name is known, and no byte of it changed by that
 pub record IsOpenedAs {F : Type 0} (name_in : F → Option Text) (contents : F → Option (List ℕ)) (old : Watched F) (name : Text) : Type 0 where
@@ -218,14 +216,65 @@ abbrev pub LeavesFiles : RunFault → Geometry → Options → Stream → Filing
 LeavesFiles found geo given input files =
     IsUntouched files.wear × LeavesLogBy (hosts_of geo) found (is_some given.collections) geo input files.collections.stream
 
--- the trace was played, and the files written as the options want them
+-- how the options have workers play, and what their run is to write
+abbrev pub run_options_of : Options → RunOptions
+run_options_of given = record {
+  patience = given.patience;
+  drains = given.drains;
+  answers = not given.quiet;
+  log = is_some given.collections;
+}
+
+-- The run by this many workers refused so many writes: with no worker those that the worn device refused. By workers they are the lines that found
+-- no block, in a run of which all is: what was written to the output, and to the log, if the options name one
+abbrev pub IsOneRun : ℕ → Geometry → Options → Stream → Passage → Passage → ℕ → Type 0
+IsOneRun zero geo given input output log refused = IfSome input.bytes (λ bytes. IsRefusedCount geo bytes refused)
+IsOneRun (suc others) geo given input output log refused =
+    (run : PlayedByWorkers) × WasPlayed geo (run_options_of given) input output log run
+    × (refused ≡ refused_by_workers (commands_played run) (answers_played run))
+
+-- the trace was played on a device: the input was read to its end, what the options want of the text of all its bytes was written, no call
+-- failed, and so many writes were refused
+pub record PlaysOn (geo : Geometry) (given : Options) (input output : Passage) (files : Filings) : Type 0 where
+  pub end : IsAtEnd input.after.bytes
+  pub text : Tells (IsTextFor given geo) input.before output
+  pub input_unfailed : input.after.failures ≡ input.before.failures
+  pub output_unfailed : output.after.failures ≡ output.before.failures
+  pub refused : ℕ
+  pub run : IsOneRun (hosts_of geo) geo given input.before output files.collections.stream refused
+
+-- the trace was played on the device that the words describe
+pub record Answered (words : List Text) (input output : Passage) (files : Filings) : Type 0 where
+  pub geo : Geometry
+  pub device : IsDescribed words geo
+  pub plays : PlaysOn geo device.given input output files
+
+-- why a run by this many workers refuses writes
+abbrev pub refusal_by : ℕ → Refusal
+refusal_by zero = refusal.Worn
+refusal_by (suc others) = refusal.Full
+
+-- if the options want all writes done, this many that were refused are counted, and otherwise none
+abbrev pub counted_refusals : Options → ℕ → ℕ
+counted_refusals given refused = if given.all_written then refused else 0
+
+-- the trace was played, the files were written as the options want them, and no write was refused if the options want all done
 pub record Played (words : List Text) (input output : Passage) (files : Filings) : Type 0 where
-  pub answered : Answered words input output
+  pub answered : Answered words input output files
   pub told : TellsFiles answered.geo answered.device.given input.before files
+  pub all : counted_refusals answered.device.given answered.plays.refused ≡ 0
+
+-- all that was played is written as after a good run, but the options want all writes done, and this many were refused for this reason
+pub record Unwritten (why : Refusal) (count : ℕ) (words : List Text) (input output : Passage) (files : Filings) : Type 0 where
+  pub answered : Answered words input output files
+  pub told : TellsFiles answered.geo answered.device.given input.before files
+  pub some : count ≢ 0
+  pub count_is : counted_refusals answered.device.given answered.plays.refused ≡ count
+  pub why_is : why ≡ refusal_by (hosts_of answered.geo)
 
 -- the trace was played, and this file could not be written
 pub record Lost (file : RunFile) (words : List Text) (input output : Passage) (files : Filings) : Type 0 where
-  pub answered : Answered words input output
+  pub answered : Answered words input output files
   pub lost : LosesOne file answered.geo answered.device.given input.before files
 
 -- the words describe a device, and name this file
@@ -238,14 +287,6 @@ pub record NamesFile (words : List Text) (file : RunFile) : Type 0 where
 abbrev pub IsIdle : Passage → Passage → Type 0
 IsIdle input output = (input.after ≡ input.before) × (output.after ≡ output.before)
 
--- the trace was played on a device: the input was read to its end, what the options want of the text of all its bytes was written, and no
--- call failed
-pub record PlaysOn (geo : Geometry) (given : Options) (input output : Passage) : Type 0 where
-  pub end : IsAtEnd input.after.bytes
-  pub text : Tells (IsTextFor given geo) input.before output
-  pub input_unfailed : input.after.failures ≡ input.before.failures
-  pub output_unfailed : output.after.failures ≡ output.before.failures
-
 -- why a file of a run on a device is not written
 abbrev pub LosesOn : RunFile → FileStop → Geometry → Options → Passage → Passage → Filings → Type 0
 LosesOn file file_stop.NotWithWorkers geo given input output files =
@@ -255,11 +296,12 @@ LosesOn file file_stop.NotOpened geo given input output files =
 LosesOn file file_stop.NotItsOwn geo given input output files =
     (is_some (name_given file given) ≡ true) × IsIdle input output × FailsToOpen file open_fault.InUse given files
 LosesOn file file_stop.Failed geo given input output files =
-    PlaysOn geo given input output × LosesOne file geo given input.before files
+    PlaysOn geo given input output files × LosesOne file geo given input.before files
 
 -- how a run on a device ended, by the options
 abbrev pub EndsOn : Result (Unit {0}) Stop → Geometry → Options → Passage → Passage → Filings → Type 0
-EndsOn (Ok _) geo given input output files = PlaysOn geo given input output × TellsFiles geo given input.before files
+EndsOn (Ok _) geo given input output files =
+    (plays : PlaysOn geo given input output files) × TellsFiles geo given input.before files × (counted_refusals given plays.refused ≡ 0)
 EndsOn (Err (stop.Arguments text)) geo given input output files = ⊥
 EndsOn (Err (stop.Encoding place)) geo given input output files = ⊥
 EndsOn (Err (stop.Geometry found)) geo given input output files = ⊥
@@ -268,6 +310,9 @@ EndsOn (Err (stop.Run found)) geo given input output files =
 EndsOn (Err stop.Help) geo given input output files = ⊥
 EndsOn (Err stop.Memory) geo given input output files = ⊥
 EndsOn (Err (stop.File file why)) geo given input output files = LosesOn file why geo given input output files
+EndsOn (Err (stop.Refused why count)) geo given input output files =
+    (plays : PlaysOn geo given input output files) × TellsFiles geo given input.before files
+    × (count ≢ 0) × (counted_refusals given plays.refused ≡ count) × (why ≡ refusal_by (hosts_of geo))
 
 -- the files that the options name were opened, or one of them was not
 abbrev pub OpensFiles : Result (Unit {0}) Stop → Options → Filings → Type 0
@@ -280,12 +325,15 @@ OpensFiles (Err stop.Help) given files = ⊥
 OpensFiles (Err stop.Memory) given files = ⊥
 OpensFiles (Err (stop.File file why)) given files =
     (fault : OpenFault) × (why ≡ stop_of_open fault) × (is_some (name_given file given) ≡ true) × FailsToOpen file fault given files
+OpensFiles (Err (stop.Refused why count)) given files = ⊥
 
--- how a run ends by how its log and its wear were written: the first one that failed is reported
-abbrev pub outcome_of : Result (Unit {0}) OutputFailed → Result (Unit {0}) OutputFailed → Result (Unit {0}) Stop
-outcome_of (Err _) wear = Err (stop.File run_file.Collections file_stop.Failed)
-outcome_of (Ok _) (Err _) = Err (stop.File run_file.Wear file_stop.Failed)
-outcome_of (Ok done) (Ok _) = Ok done
+-- how a run ends by how its log and its wear were written, and by how many refused writes are counted: the first file that failed is reported, and
+-- otherwise the refused writes
+abbrev pub outcome_of : Result (Unit {0}) OutputFailed → Result (Unit {0}) OutputFailed → Refusal → ℕ → Result (Unit {0}) Stop
+outcome_of (Err _) wear why count = Err (stop.File run_file.Collections file_stop.Failed)
+outcome_of (Ok _) (Err _) why count = Err (stop.File run_file.Wear file_stop.Failed)
+outcome_of (Ok done) (Ok _) why zero = Ok done
+outcome_of (Ok done) (Ok _) why (suc n) = Err (stop.Refused why (suc n))
 
 -- the words ask for help or for the version, which clap counts among its faults
 abbrev pub AsksClap : ErrorKind → Type 0
@@ -337,8 +385,8 @@ pub record AsksForText (words : List Text) : Type 0 where
   pub asked : IsAmong (kind_of error) (faults_given words)
   pub is_request : AsksClap (kind_of error)
 
--- why a session stopped. Nothing is on the output except after `Output` of a run, `Help` and `Failed` of a file; only a run reads anything;
--- and nothing is in a file except after `Output` of a run and with the `Failed` of a file
+-- why a session stopped. Nothing is on the output except after `Output` of a run, `Help`, `Failed` of a file and `Refused`; only a run reads
+-- anything; and nothing is in a file except after `Output` of a run, the `Failed` of a file and `Refused`
 abbrev pub ExplainsStop : Stop → List Text → Passage → Passage → Filings → Type 0
 ExplainsStop (stop.Arguments text) words input output files =
     IsRefused words × IsIdle input output × AreUntouched files
@@ -352,6 +400,7 @@ ExplainsStop stop.Help words input output files =
 ExplainsStop stop.Memory words input output files =
     IsIdle input output × AreUntouched files
 ExplainsStop (stop.File file why) words input output files = ExplainsFile file why words input output files
+ExplainsStop (stop.Refused why count) words input output files = Unwritten why count words input output files
 
 -- how an attempt ended
 abbrev pub Explains : Result (Unit {0}) Stop → List Text → Passage → Passage → Filings → Type 0
@@ -388,3 +437,4 @@ AnswersClap error (Err stop.Help) output =
 AnswersClap error (Err stop.Memory) output =
     output.after ≡ output.before
 AnswersClap error (Err (stop.File file why)) output = ⊥
+AnswersClap error (Err (stop.Refused why count)) output = ⊥

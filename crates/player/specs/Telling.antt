@@ -3,6 +3,8 @@ use Rattle.std.specs.Prelude.{◌≡◌, ℕ, List, [], ◌++◌, codes, decimal
 use Rattle.geometry.specs.Faults.{fault_name}
 use Rattle.answers.specs.Faults.{run_text}
 use Rattle.answers.specs.Streams.{Passage, Sends, SendsBeginning}
+use Rattle.player.specs.declared.refusal.Refusal.{Refusal}
+use Rattle.player.specs.declared.refusal.Refusal.TheVariants as refusal
 use Rattle.player.specs.declared.run_files.FileStop.{FileStop}
 use Rattle.player.specs.declared.run_files.FileStop.TheVariants as file_stop
 use Rattle.player.specs.declared.run_files.RunFile.{RunFile}
@@ -22,6 +24,11 @@ file_text file_stop.NotOpened = codes ": not opened"
 file_text file_stop.NotItsOwn = codes ": not a file of its own"
 file_text file_stop.Failed = codes ": failed"
 
+-- why writes were refused, as the answers of their lines say it
+abbrev pub refusal_text : Refusal → List ℕ
+refusal_text refusal.Worn = codes "worn"
+refusal_text refusal.Full = codes "full"
+
 -- what says why a session stopped: a line, or clap's text if the arguments are refused
 abbrev pub text_of : Stop → List ℕ
 text_of (stop.Arguments text) = string_bytes text
@@ -31,6 +38,7 @@ text_of (stop.Run found) = run_text found ++ codes "\n"
 text_of stop.Help = codes "output: failed\n"
 text_of stop.Memory = codes "memory: refused\n"
 text_of (stop.File file why) = file_name file ++ file_text why ++ codes "\n"
+text_of (stop.Refused why count) = codes "writes refused: " ++ decimal count ++ codes " " ++ refusal_text why ++ codes "\n"
 
 -- the same if it is a line of our own, and nothing if it is clap's text
 abbrev pub line_of : Stop → List ℕ

@@ -118,6 +118,7 @@ pub fn options<'a>(alloc: Global, words: &'a [&'a str]) -> Result<Options<'a>, E
         wear: matches.get_str("wear"),
         collections: matches.get_str("collections"),
         quiet: matches.get_flag("quiet"),
+        all_written: matches.get_flag("all-written"),
     })
 }
 
@@ -140,6 +141,11 @@ fn flashplay<'a>(alloc: Global) -> Result<Command<'a>, AllocError>
             alloc,
             "quiet",
             "Leaves out the answers: the output is the last line alone",
+        ))?
+        .arg(flag(
+            alloc,
+            "all-written",
+            "Ends with status 5, and says how many, if writes were refused as worn or full",
         ))
 }
 

@@ -38,4 +38,6 @@ pub struct Options<'a> {
     pub collections: Option<&'a str>,
     /// Whether the answers are left out.
     pub quiet: bool,
+    /// Whether a run that refused a write ends with a status of its own.
+    pub all_written: bool,
 }

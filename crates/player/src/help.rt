@@ -21,7 +21,8 @@ with blocks above workers + 2 * brooms. Sectors, blocks and the words of all pag
 16777216.
 
 Status: 0 everything was written; 1 input, output or a file failed; 2 the arguments are refused or describe no device; 3 the
-trace has a fault, and nothing was played; 4 memory ran out, or a thread could not be started.
+trace has a fault, and nothing was played; 4 memory ran out, or a thread could not be started; 5 everything was written, but
+writes were refused and --all-written was given.
 
 Faults, on standard error, with what to do:
   line N: Fields    not four fields: add or remove commas; if this is no trace, convert it, and decompress it first
@@ -45,6 +46,8 @@ Faults, on standard error, with what to do:
                     leave out --wear or --workers
   wear: failed, collections: failed
                     the answers are complete, and the file is not: look at its disk, and run again
+  writes refused: N worn, writes refused: N full
+                    N lines of the answers say worn or full: give more --blocks, --endurance, --brooms or --patience
   memory: refused, line 0: Memory    memory ran out: make the device or the trace smaller
   threads: refused  a thread could not be started: give fewer --workers and --brooms, or raise `ulimit -u`
 

@@ -5,19 +5,23 @@ mod arguments;
 mod command_line;
 mod environment;
 mod help;
+mod refusal;
 mod run_files;
 mod sessions;
 mod stop;
 mod telling;
 
-pub use answers::RunFault;
 pub use arguments::options;
 pub use command_line::Options;
 pub use environment::{Arguments, read_words};
 pub use help::VERSION;
+pub use refusal::Refusal;
 pub use run_files::{FileStop, RunFile};
-pub use runs::{RunFiles, run, run_shared};
+pub use runs::{
+    Answer, Command, Commands, Gate, Geometry, GeometryFault, Kind, NoGate, Op, Pass, Point,
+    RunFault, RunFiles, TraceFault, TraceFaultKind, Volume, Watched, play, run, run_shared,
+};
 pub use sessions::session;
 pub use stop::Stop;
 pub use telling::tell;
-pub use trace::{NamedFile, OpenFault, TraceFault, TraceFaultKind, Watched};
+pub use trace::{NamedFile, OpenFault};

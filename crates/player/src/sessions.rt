@@ -5,17 +5,20 @@ ghost use Rattle.trace.specs.declared.named_file.OpenFault.{OpenFault};
 ghost use Rattle.answers.specs.Streams.{over, stream_of};
 ghost use Rattle.player.specs.CommandLine.{numbers_given};
 ghost use Rattle.player.specs.Session.{AnswersClap, EndsOn, EndsSession, Explains, HasFailedToOpen, IsOpened};
-ghost use Rattle.player.specs.Session.{OpensFiles, filing, filings, outcome_of, stop_of_open};
+ghost use Rattle.player.specs.Session.{OpensFiles, counted_refusals, filing, filings, outcome_of, stop_of_open};
+ghost use Rattle.runs.specs.ByWorkers.{IsAnswered, answers_played, commands_played};
+ghost use Rattle.runs.specs.Refusals.{refused_by_workers};
 
 use crate::arguments::options;
 use crate::command_line::Options;
+use crate::refusal::Refusal;
 use crate::run_files::{FileStop, RunFile};
 use crate::stop::Stop;
 use crate::telling::tell;
 use answers::{OutputFailed, send};
 use clap::error::ErrorKind;
 use geometry::{DeviceNumbers, Geometry, GeometryFault};
-use runs::{RunFiles, Wanted, WantedByWorkers, run_by_workers, run_with_files};
+use runs::{PlayedByWorkers, RunFiles, RunOptions, Wanted, run_by_workers, run_with_files};
 use std::alloc::Global;
 use std::io::{Read, Write};
 use std::sync::Wait;
@@ -34,6 +37,7 @@ use trace::{NamedFile, Watched};
 /// | 2 | the arguments are refused, describe no device, or name a file that the run already uses |
 /// | 3 | the trace has a fault, or is too big |
 /// | 4 | memory ran out, or a thread could not be started |
+/// | 5 | all was written, but writes were refused, and the options want all of them done |
 pub fn session<'a, T: Threads + Wait + Clock + Sync, R: Read, W: Write, E: Write, F: NamedFile>(
     rt: &T,
     alloc: Global,
@@ -110,7 +114,10 @@ fn play_alone<R: Read, W: Write, F: NamedFile>(
         wear: given.wear.is_some(),
     };
     match run_with_files(alloc, reader, writer, wanted, files, geometry) {
-        Ok(written) => outcome(written.collections, written.wear),
+        Ok(written) => {
+            let count = if_counted(given, written.refused);
+            outcome(written.collections, written.wear, Refusal::Worn, count)
+        }
         Err(fault) => Err(Stop::Run(fault)),
     }
 }
@@ -139,24 +146,45 @@ fn play_shared<T: Threads + Wait + Clock + Sync, R: Read, W: Write, F: NamedFile
         return Err(stop);
     }
     let answers = !given.quiet;
-    let wanted = WantedByWorkers {
+    let options = RunOptions {
+        patience: given.patience,
+        drains: given.drains,
         answers,
         log: given.collections.is_some(),
     };
-    let (patience, drains) = (given.patience, given.drains);
     match run_by_workers(
         rt,
         alloc,
         reader,
         writer,
-        wanted,
         &mut files.collections,
         geometry,
-        patience,
-        drains,
+        options,
     ) {
-        Ok(played) => outcome(played.log, Ok(())),
+        Ok(played) => {
+            let count = count_if_wanted(given, &played);
+            outcome(played.log, Ok(()), Refusal::Full, count)
+        }
         Err(fault) => Err(Stop::Run(fault)),
+    }
+}
+
+// How many of the refused writes are counted: all if the options want all writes done.
+fn if_counted(given: Options<'_>, refused: u64) -> u64
+    ensures { result ≡ counted_refusals given.entry refused }
+{
+    if given.all_written { refused } else { 0 }
+}
+
+// The same of a run by workers, whose answers are searched only then.
+fn count_if_wanted(given: Options<'_>, played: &PlayedByWorkers) -> u64
+    requires { IsAnswered played.now }
+    ensures { result ≡ counted_refusals given.entry (refused_by_workers (commands_played played.now) (answers_played played.now)) }
+{
+    if given.all_written {
+        played.refused()
+    } else {
+        0
     }
 }
 
@@ -189,18 +217,23 @@ fn open_file<F: NamedFile>(name: Option<&str>, file: &mut Watched<F>) -> Result<
     }
 }
 
-// How a run ends, by how its log and its wear were written.
+// How a run ends, by how its log and its wear were written, and by how many refused writes are counted.
 fn outcome(
     collections: Result<(), OutputFailed>,
     wear: Result<(), OutputFailed>,
+    why: Refusal,
+    refused: u64,
 ) -> Result<(), Stop>
-    ensures { result ≡ outcome_of collections wear }
+    ensures { result ≡ outcome_of collections wear why refused }
 {
     if let Err(OutputFailed) = collections {
         return Err(Stop::File(RunFile::Collections, FileStop::Failed));
     }
     if let Err(OutputFailed) = wear {
         return Err(Stop::File(RunFile::Wear, FileStop::Failed));
+    }
+    if refused > 0 {
+        return Err(Stop::Refused(why, refused));
     }
     Ok(())
 }

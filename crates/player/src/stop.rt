@@ -1,12 +1,13 @@
 ghost use Rattle.std.specs.Prelude.{◌≡◌};
 ghost use Rattle.player.specs.Session.{status_of_file, status_of_run, status_of_trace};
 
+use crate::refusal::Refusal;
 use crate::run_files::{FileStop, RunFile};
 use answers::RunFault;
 use geometry::GeometryFault;
 use trace::TraceFaultKind;
 
-/// Why a session ended without its answers.
+/// Why a session ended with another status than 0.
 #[derive(Debug, Drop)]
 pub enum Stop {
     /// The arguments are refused, for the reason in this text.
@@ -23,6 +24,8 @@ pub enum Stop {
     Memory,
     /// A file that the command line names was not written. If it failed after it was opened, the answers are complete.
     File(RunFile, FileStop),
+    /// The run refused this many writes, and the options want all of them done. Everything else was written.
+    Refused(Refusal, u64),
 }
 
 impl Stop {
@@ -38,6 +41,7 @@ impl Stop {
             Stop::Help => 1,
             Stop::Memory => 4,
             Stop::File(_, why) => file_status(*why),
+            Stop::Refused(_, _) => 5,
         }
     }
 }

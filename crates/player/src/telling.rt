@@ -1,11 +1,12 @@
-ghost use Rattle.std.specs.Prelude.{◌≡◌, ◌+◌, ◌≤◌, ◌++◌, codes, length};
+ghost use Rattle.std.specs.Prelude.{◌≡◌, ◌+◌, ◌≤◌, ◌++◌, codes, decimal, length};
 ghost use Rattle.trace.specs.Faults.{fault_text};
 ghost use Rattle.answers.specs.Faults.{run_text};
 ghost use Rattle.answers.specs.Streams.{over};
 ghost use Rattle.player.specs.Session.{status_of};
-ghost use Rattle.player.specs.Telling.{IsTold, TellsStop, line_of};
+ghost use Rattle.player.specs.Telling.{IsTold, TellsStop, line_of, refusal_text};
 ghost use Rattle.player.specs.declared.telling.TheConstants.{LINE_BYTES};
 
+use crate::refusal::Refusal;
 use crate::stop::Stop;
 use answers::{RunFault, send};
 use arrayvec::ArrayString;
@@ -53,7 +54,19 @@ fn line(stop: &Stop) -> Line
         Stop::Help => joined("output: ", "failed", "\n"),
         Stop::Memory => joined("memory: ", "refused", "\n"),
         Stop::File(file, why) => joined(file.name(), why.text(), "\n"),
+        Stop::Refused(why, count) => refused_line(*why, *count),
     }
+}
+
+// The line that says how many writes were refused.
+fn refused_line(why: Refusal, count: u64) -> Line
+    ensures { result.bytes ≡ codes "writes refused: " ++ decimal count ++ codes " " ++ refusal_text why ++ codes "\n" }
+{
+    let mut digits = itoa::Buffer::new();
+    let mut line = joined("writes refused: ", digits.format(count), " ");
+    line.push_str(why.name());
+    line.push_str("\n");
+    line
 }
 
 // The line that reports why a run stopped.

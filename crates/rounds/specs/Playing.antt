@@ -44,14 +44,14 @@ abbrev pub all_taken : ℕ → ℕ → List ℕ
 all_taken blocks zero = []
 all_taken blocks (suc tries) = all_taken blocks tries ++ range_with_len 0 blocks
 
--- how many tries of a write found no block, and how many blocks were found taken in the try that did: a write that was turned away was
+-- how many tries of a write found no block, and how many of the lowest blocks were found taken in the try that did: a write that was turned away was
 -- tried as often as it may be, and one that was done no more often
 abbrev pub IsTried : ℕ → ℕ → Bool → ℕ → ℕ → Type 0
 IsTried patience blocks true refused below = (refused ≡ patience) × (below ≡ 0)
 IsTried patience blocks false refused below = (refused < patience) × (below < blocks)
 
--- the blocks that a write has found taken: all of them in each try that found no block, and in the try that did those below the block that
--- it took
+-- the blocks that a write has found taken: all of them in each try that found no block, and in the try that did the lowest ones, fewer than
+-- all; which block it took is not said here
 pub record WriteFound (patience blocks : ℕ) (full : Bool) (found : List ℕ) : Type 0 where
   pub refused : ℕ
   pub below : ℕ

@@ -36,6 +36,7 @@ impl Answers {
         })
     }
 
+    /// How many answers there are.
     pub fn len(&self) -> usize
         ensures { result ≡ length (said_in self.now) }
     {

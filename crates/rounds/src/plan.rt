@@ -15,6 +15,7 @@ pub struct Plan {
 }
 
 impl Plan {
+    /// Which lines of a trace each worker has, and where its rounds end.
     pub fn new(alloc: Global, commands: &Commands, hosts: u32) -> Result<Plan, AllocError>
         requires { All (λ c. c.worker < hosts) commands.now }
         ensures rows { IfOk result (λ plan. map items_of plan.rows.items ≡ map (λ t. places_for t commands.now) (range_with_len 0 hosts)) }

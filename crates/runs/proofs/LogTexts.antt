@@ -1,11 +1,10 @@
 -- The log of one command more, and how a log ends.
 use Rattle.std.proofs.Common.{◌≡◌, ◌≢◌, ℕ, ◌+◌, ◌-◌, ◌≤◌, Bool, true, false, List, ◌++◌, Option, None, Some, length}
 use Rattle.std.proofs.Common.{refl, subst, sym, ap, ◌∙◌, append_assoc, append-nil, arith}
-use Rattle.std.specs.Prelude.{IfSome, OnErr, OnOk, Result, Ok, Err}
+use Rattle.std.specs.Prelude.{IfSome, OnOk, Result, Ok, Err}
 use Rattle.std.specs.List.{flat_map, range_with_len}
 use Rattle.std.specs.Io.KnownBytes.{Appends}
 use Rattle.geometry.specs.History.{Begins}
-use Rattle.geometry.proofs.Histories.{Begins-refl}
 use Rattle.geometry.specs.declared.geometry.Geometry.{Geometry}
 use Rattle.ftl_one.specs.Collections.{collection_between}
 use Rattle.ftl_one.specs.Stock.{Stock}
@@ -15,10 +14,10 @@ use Rattle.trace.specs.declared.commands.Command.{Command}
 use Rattle.answers.specs.Answers.{collection_names}
 use Rattle.answers.specs.Delivery.{AppendsBeginning, AppendsPart, AppendsText, IsUnderWay}
 use Rattle.answers.specs.Lines.{waiting_of}
-use Rattle.answers.specs.Streams.{Passage, Stream}
+use Rattle.answers.specs.Streams.{Passage, Stream, WritesOut}
 use Rattle.answers.specs.declared.delivery.OutputFailed.{OutputFailed}
 use Rattle.answers.specs.declared.lines.Lines.{Lines}
-use Rattle.answers.proofs.Deliveries.{AppendsBeginning-part, Appends-whole, IsUnderWay-more, IsUnderWay-sent, IsUnderWay-trans}
+use Rattle.answers.proofs.Deliveries.{AppendsBeginning-part, IsUnderWay-more, IsUnderWay-trans, WritesOut-rest}
 use Rattle.answers.proofs.Texts.{flat_map_begins, flat_map_more}
 use Rattle.runs.specs.Collections.{IsLogOf, log_before, log_line, log_part, log_text, told_at}
 use Rattle.runs.specs.Files.{EndsFile, EndsText, LeavesFile, LeavesText}
@@ -114,17 +113,11 @@ shut_more log.Failed file text more shut (failed, part) = (failed, longer file.b
 -- what waits is handed on at the end
 pub ends_open : (lines : Lines) (before old new : Stream) (text : List ℕ) (r : Result (Unit {0}) OutputFailed)
     → IsLogged (log.Open lines) (record { before = before; after = old }) text
-    → OnOk r (Appends old.bytes new.bytes (waiting_of lines)) → OnOk r (new.failures ≡ old.failures)
-    → OnErr r (AppendsBeginning old.bytes new.bytes (waiting_of lines)) → OnErr r (new.failures ≢ old.failures)
-    → EndsText true text (record { before = before; after = new }) r
-ends_open lines before old new text (Ok _) (unfailed, moves) sent same part failed = (
-  same ∙ unfailed,
-  Appends-whole before.bytes new.bytes text (IsUnderWay-sent before.bytes old.bytes new.bytes (waiting_of lines) text moves sent),
-)
-ends_open lines before old new text (Err _) (unfailed, moves) sent same part failed = (
-  (λ e. failed (e ∙ sym unfailed)),
-  AppendsBeginning-part before.bytes old.bytes new.bytes (waiting_of lines) text text moves part (Begins-refl text),
-)
+    → WritesOut (waiting_of lines) (record { before = old; after = new }) r → EndsText true text (record { before = before; after = new }) r
+ends_open lines before old new text (Ok x) (unfailed, moves) sent =
+    WritesOut-rest text (waiting_of lines) before old new (Ok x) unfailed moves sent
+ends_open lines before old new text (Err e) (unfailed, moves) sent =
+    WritesOut-rest text (waiting_of lines) before old new (Err e) unfailed moves sent
 
 -- the end of a text is that of the text that is right for the bytes
 pub ends_file : (wanted : Bool) (IsTextOf : List ℕ → List ℕ → Type 0) (input : Stream) (file : Passage) (text : List ℕ) (r : Result (Unit {0}) OutputFailed)

@@ -25,7 +25,7 @@ use Rattle.runs.specs.Steps.{ArePlayed, answers_written}
 pub All-at : {X : Type 0} (P : X → Type 0) (xs : List X) (i : ℕ) (x : X) → All P xs → slice_get xs i ≡ Some x → P x
 All-at P xs i x all is = subst P (get_or_from_slice_get xs i x x is) (all i x (slice_get_within xs i x is))
 
-refused_is : (geo : Geometry) (commands : List Command) (k : ℕ) (c : Command) → slice_get commands k ≡ Some c
+pub refused_is : (geo : Geometry) (commands : List Command) (k : ℕ) (c : Command) → slice_get commands k ≡ Some c
     → refused_at geo commands k ≡ is_refused geo (stock_before geo commands k) c
 refused_is geo commands k c is = ap (λ o. option_map_or (is_refused geo (stock_before geo commands k)) o false) is
 

@@ -1,5 +1,5 @@
 -- What a run by workers has played, and what it has written of that.
-use Rattle.std.specs.Prelude.{◌≡◌, ℕ, List, IfSome, Ok, length}
+use Rattle.std.specs.Prelude.{◌≡◌, ◌≤◌, ℕ, List, IfSome, Ok, length}
 use Rattle.std.specs.Arc.{arc_value}
 use Rattle.geometry.specs.Geometry.{hosts_of}
 use Rattle.geometry.specs.declared.geometry.Geometry.{Geometry}
@@ -7,13 +7,14 @@ use Rattle.trace.specs.Trace.{commands_of}
 use Rattle.trace.specs.declared.commands.Command.{Command}
 use Rattle.answers.specs.Streams.{Passage, Sends, Stream}
 use Rattle.rounds.specs.Lines.{Said}
+use Rattle.rounds.specs.Merging.{HaveAnswers}
 use Rattle.rounds.specs.Rows.{answers_by}
 use Rattle.workers.specs.Commands.{ArePlayed}
 use Rattle.workers.specs.Served.{AllHaveServed}
 use Rattle.runs.specs.Brooms.{brooms_text}
 use Rattle.runs.specs.Files.{EndsText}
 use Rattle.runs.specs.Outputs.{written_by_workers}
-use Rattle.runs.specs.declared.files.WantedByWorkers.{WantedByWorkers}
+use Rattle.runs.specs.declared.files.RunOptions.{RunOptions}
 use Rattle.runs.specs.declared.played_by_workers.PlayedByWorkers.{PlayedByWorkers}
 
 -- the commands that a run has played
@@ -24,13 +25,19 @@ commands_played run = arc_value run.commands
 abbrev pub answers_played : PlayedByWorkers → ℕ → List Said
 answers_played run = answers_by run.end.rows.items
 
--- The commands that the input's bytes mean were played on a device of this geometry, with a list of answers for each worker and within this limit
--- of drains by one survey. The output that is wanted of these commands and answers was written, and the log, if it is wanted, of the
--- brooms of the same run
-pub record WasPlayed (geo : Geometry) (drains : ℕ) (wanted : WantedByWorkers) (input : Stream) (output file : Passage) (run : PlayedByWorkers) : Type 0 where
+-- there are answers of at most 500 workers, with one for each of their lines
+pub record IsAnswered (run : PlayedByWorkers) : Type 0 where
+  pub few : length run.end.rows.items ≤ 500
+  pub answers : HaveAnswers (answers_played run) (commands_played run)
+
+-- The commands that the input's bytes mean were played on a device of this geometry, with a list of answers for each worker that has one for
+-- each of its lines, and within the limit of drains by one survey. The output that is wanted of these commands and answers was written,
+-- and the log, if it is wanted, of the brooms of the same run
+pub record WasPlayed (geo : Geometry) (options : RunOptions) (input : Stream) (output file : Passage) (run : PlayedByWorkers) : Type 0 where
   pub meaning : IfSome input.bytes (λ bytes. commands_of bytes geo ≡ Ok (commands_played run))
   pub workers : length run.end.rows.items ≡ hosts_of geo
+  pub answered : IsAnswered run
   pub played : ArePlayed geo (commands_played run) (answers_played run)
-  pub written : Sends output (written_by_workers wanted.answers (commands_played run) (answers_played run))
-  pub served : AllHaveServed geo drains run.end.brooms.items
-  pub log : EndsText wanted.log (brooms_text run.end.brooms.items) file run.log
+  pub written : Sends output (written_by_workers options.answers (commands_played run) (answers_played run))
+  pub served : AllHaveServed geo options.drains run.end.brooms.items
+  pub log : EndsText options.log (brooms_text run.end.brooms.items) file run.log

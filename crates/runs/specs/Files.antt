@@ -1,7 +1,7 @@
 -- What is written to the files of a run, in addition to its answers.
 use Rattle.std.specs.Prelude.{◌≡◌, ◌≢◌, ℕ, Bool, true, false, List, Result, Ok, Err}
 use Rattle.geometry.specs.declared.geometry.Geometry.{Geometry}
-use Rattle.answers.specs.Streams.{Passage, Sends, SendsBeginning, Stream, Tells, TellsPart}
+use Rattle.answers.specs.Streams.{Passage, SendsBeginning, Stream, Tells, TellsPart, WritesOut}
 use Rattle.answers.specs.declared.delivery.OutputFailed.{OutputFailed}
 use Rattle.answers.specs.declared.fault.RunFault.{RunFault}
 use Rattle.answers.specs.declared.fault.RunFault.TheVariants as run
@@ -10,8 +10,7 @@ use Rattle.runs.specs.Collections.{IsLogOf}
 -- how the file of a text ended: a wanted text was written whole, or its writer failed and a beginning was written; of a text that isn't
 -- wanted nothing was written
 abbrev pub EndsText : Bool → List ℕ → Passage → Result (Unit {0}) OutputFailed → Type 0
-EndsText true text file (Ok _) = (file.after.failures ≡ file.before.failures) × Sends file text
-EndsText true text file (Err _) = (file.after.failures ≢ file.before.failures) × SendsBeginning file text
+EndsText true text file result = WritesOut text file result
 EndsText false text file (Ok _) = file.after ≡ file.before
 EndsText false text file (Err _) = ⊥
 

@@ -8,6 +8,7 @@ pub mod Delivering
 pub mod Texts
 pub mod Outputs
 pub mod ByWorkers
+pub mod Refusals
 -- Internal.
 pub mod Steps
 pub mod Logs

@@ -1,10 +1,9 @@
 //! The log of a run by workers: what each broom has done.
-ghost use Rattle.std.specs.Prelude.{◌≡◌, ◌≢◌, [], IfOk, IfSome, OnErr, OnOk, is_some};
+ghost use Rattle.std.specs.Prelude.{◌≡◌, [], IfOk, IfSome, is_some};
 ghost use Rattle.answers.specs.Lines.{waiting_of};
-ghost use Rattle.answers.specs.Streams.{Sends, SendsBeginning, over};
+ghost use Rattle.answers.specs.Streams.{WritesOut, over};
 ghost use Rattle.runs.specs.Brooms.{brooms_text, counts_of};
 ghost use Rattle.runs.specs.Files.{EndsText};
-ghost use Rattle.trace.specs.Watched.{failures_of};
 
 use answers::{BroomLine, Lines, OutputFailed};
 use geometry::Geometry;
@@ -50,10 +49,7 @@ fn tell_brooms<V: Write>(
     file: &mut Watched<V>,
 ) -> Result<(), OutputFailed>
     requires none { waiting_of lines ≡ [] }
-    ensures sent { OnOk result (Sends (over V.contents file.old file.new) (brooms_text brooms.now)) }
-    ensures part { OnErr result (SendsBeginning (over V.contents file.old file.new) (brooms_text brooms.now)) }
-    ensures unfailed { OnOk result (failures_of file.new ≡ failures_of file.old) }
-    ensures failed { OnErr result (failures_of file.new ≢ failures_of file.old) }
+    ensures { WritesOut (brooms_text brooms.now) (over V.contents file.old file.new) result }
 {
     let mut lines = lines;
     lines.broom_names();

@@ -1,14 +1,13 @@
-ghost use Rattle.std.specs.Prelude.{◌≡◌, ◌≢◌, ℕ, List, Some, ◌+◌, ◌*◌, ◌<◌, ◌≤◌, false, All, None, [], ◌++◌};
-ghost use Rattle.std.specs.Prelude.{length, option_map, slice_index_or, IfOk, OnOk, OnErr};
+ghost use Rattle.std.specs.Prelude.{◌≡◌, ℕ, List, Some, ◌+◌, ◌*◌, ◌<◌, ◌≤◌, false, All, None, [], ◌++◌};
+ghost use Rattle.std.specs.Prelude.{length, option_map, slice_index_or, IfOk};
 ghost use Rattle.geometry.specs.Geometry.{hosts_of, page_bytes_of};
 ghost use Rattle.hex.specs.Hex.{encode_lower};
-ghost use Rattle.trace.specs.Watched.{failures_of};
 ghost use Rattle.answers.specs.Answers.{end_text};
 ghost use Rattle.answers.specs.Lines.{page_digits_of, waiting_of};
 ghost use Rattle.answers.specs.Replies.{reply_text};
 ghost use Rattle.answers.specs.declared.line.TheConstants.{PIECE_BYTES};
 ghost use Rattle.answers.specs.declared.reply.Reply.TheVariants as replies;
-ghost use Rattle.answers.specs.Streams.{Sends, SendsBeginning, over};
+ghost use Rattle.answers.specs.Streams.{WritesOut, over};
 ghost use Rattle.rounds.specs.Answers.{page_size_of};
 ghost use Rattle.rounds.specs.Lines.{Said};
 ghost use Rattle.rounds.specs.declared.answer.Kind.TheVariants as kinds;
@@ -49,10 +48,7 @@ impl Delivery {
         requires workers { length rows.now ≡ workers_in self }
         requires answers { HaveAnswers (answers_by rows.now) commands.now }
         requires pages { All (λ row. digits_in self ≡ 2 * page_size_of row) rows.now }
-        ensures sent { OnOk result (Sends (over W.contents writer.old writer.new) (written_by_workers wanted commands.now (answers_by rows.now))) }
-        ensures unfailed { OnOk result (failures_of writer.new ≡ failures_of writer.old) }
-        ensures part { OnErr result (SendsBeginning (over W.contents writer.old writer.new) (written_by_workers wanted commands.now (answers_by rows.now))) }
-        ensures failed { OnErr result (failures_of writer.new ≢ failures_of writer.old) }
+        ensures { WritesOut (written_by_workers wanted commands.now (answers_by rows.now)) (over W.contents writer.old writer.new) result }
     {
         if wanted {
             return self.deliver(commands, rows, writer);
@@ -62,10 +58,7 @@ impl Delivery {
 
     // Writes the last line alone.
     fn write_end<W: Write>(self, writer: &mut Watched<W>) -> Result<(), OutputFailed>
-        ensures sent { OnOk result (Sends (over W.contents writer.old writer.new) end_text) }
-        ensures unfailed { OnOk result (failures_of writer.new ≡ failures_of writer.old) }
-        ensures part { OnErr result (SendsBeginning (over W.contents writer.old writer.new) end_text) }
-        ensures failed { OnErr result (failures_of writer.new ≢ failures_of writer.old) }
+        ensures { WritesOut end_text (over W.contents writer.old writer.new) result }
     {
         let mut lines = self.lines;
         lines.end();
@@ -83,10 +76,7 @@ impl Delivery {
         requires workers { length rows.now ≡ workers_in self }
         requires answers { HaveAnswers (answers_by rows.now) commands.now }
         requires pages { All (λ row. digits_in self ≡ 2 * page_size_of row) rows.now }
-        ensures sent { OnOk result (Sends (over W.contents writer.old writer.new) (text_of commands.now (answers_by rows.now))) }
-        ensures unfailed { OnOk result (failures_of writer.new ≡ failures_of writer.old) }
-        ensures part { OnErr result (SendsBeginning (over W.contents writer.old writer.new) (text_of commands.now (answers_by rows.now))) }
-        ensures failed { OnErr result (failures_of writer.new ≢ failures_of writer.old) }
+        ensures { WritesOut (text_of commands.now (answers_by rows.now)) (over W.contents writer.old writer.new) result }
     {
         let Delivery {
             mut next,
@@ -105,7 +95,7 @@ impl Delivery {
 }
 
 // The next answer of a command's worker, which is passed over; a meeting has none of its own.
-fn next_answer<'a>(
+pub(crate) fn next_answer<'a>(
     command: &Command<'_>,
     rows: &'a [Answers],
     next: &mut [Cursor],

@@ -10,7 +10,7 @@ ghost use Rattle.answers.specs.Answers.{calls_of, found_text, line_text, wear_na
 ghost use Rattle.answers.specs.Lines.{page_digits_of, waiting_of};
 ghost use Rattle.answers.specs.Playable.{IsPlayable};
 ghost use Rattle.answers.specs.declared.line.TheConstants.{PIECE_BYTES};
-ghost use Rattle.answers.specs.Streams.{Moves, Sends, SendsBeginning, over};
+ghost use Rattle.answers.specs.Streams.{Moves, SendsBeginning, WritesOut, over};
 ghost use Rattle.runs.specs.Playing.{end_text, is_refused, line_by, stock_after};
 ghost use Rattle.runs.specs.Wear.{block_line};
 
@@ -22,11 +22,12 @@ use std::alloc::{AllocError, Global};
 use std::io::Write;
 use trace::{Command, Op, Watched};
 
-/// The room for a run: a page, and the lines that wait to be written.
+/// The room for a run: a page, and the lines that wait to be written; and how many writes were refused.
 #[derive(Drop)]
 pub struct Desk {
     page: Vec<u8>,
     lines: Lines,
+    pub refused: u64,
     pub ghost digits: { page_digits_of lines ≡ 2 * vec_len page },
 }
 
@@ -34,10 +35,12 @@ impl Desk {
     pub fn new(alloc: Global, geometry: &Geometry) -> Result<Desk, AllocError>
         ensures page { IfOk result (λ desk. vec_len desk.page ≡ page_bytes_of geometry.now) }
         ensures lines { IfOk result (λ desk. waiting_of desk.lines ≡ []) }
+        ensures refused { IfOk result (λ desk. desk.refused ≡ 0) }
     {
         Ok(Desk {
             page: vec![in alloc; 0; geometry.page_bytes()]?,
             lines: Lines::new(alloc, geometry)?,
+            refused: 0,
         })
     }
 
@@ -47,42 +50,26 @@ impl Desk {
         requires playable { IsPlayable (geometry_of ftl.old) command.now }
         requires page { vec_len self.old.page ≡ page_bytes_of (geometry_of ftl.old) }
         requires room { length (waiting_of self.old.lines) ≤ PIECE_BYTES }
+        requires count { self.old.refused < line }
         ensures page { vec_len self.new.page ≡ vec_len self.old.page }
+        ensures refused { self.new.refused ≡ self.old.refused + (if is_refused (geometry_of ftl.old) (stock_of ftl.old) command.now then 1 else 0) }
         ensures lines { waiting_of self.new.lines ≡ waiting_of self.old.lines ++ (if wanted then line_by ftl.old line command.now else []) }
         ensures geometry { geometry_of ftl.new ≡ geometry_of ftl.old }
         ensures array { array_of ftl.new
             ≡ fold step (array_of ftl.old) (calls_of (is_refused (geometry_of ftl.old) (stock_of ftl.old) command.now) command.now) }
         ensures stock { stock_of ftl.new ≡ stock_after (geometry_of ftl.old) (stock_of ftl.old) command.now }
     {
-        if !wanted {
-            self.perform(ftl, command);
-            return;
-        }
         if let Op::Read = command.op {
-            self.answer_read(ftl, command.sector, line);
+            if wanted {
+                self.answer_read(ftl, command.sector, line);
+            }
             return;
         }
         let reply = perform(ftl, command, &mut self.page);
-        self.lines
-            .answer(line, command.op, command.sector, reply, &self.page);
-    }
-
-    // Does a command, and adds no line. A read changes nothing.
-    fn perform(&mut self, ftl: &mut OneFtl, command: &Command<'_>)
-        requires playable { IsPlayable (geometry_of ftl.old) command.now }
-        requires page { vec_len self.old.page ≡ page_bytes_of (geometry_of ftl.old) }
-        ensures page { vec_len self.new.page ≡ vec_len self.old.page }
-        ensures lines { waiting_of self.new.lines ≡ waiting_of self.old.lines }
-        ensures geometry { geometry_of ftl.new ≡ geometry_of ftl.old }
-        ensures array { array_of ftl.new
-            ≡ fold step (array_of ftl.old) (calls_of (is_refused (geometry_of ftl.old) (stock_of ftl.old) command.now) command.now) }
-        ensures stock { stock_of ftl.new ≡ stock_after (geometry_of ftl.old) (stock_of ftl.old) command.now }
-    {
-        match command.op {
-            Op::Read => {}
-            _ => {
-                perform(ftl, command, &mut self.page);
-            }
+        self.refused += u64::from(reply.is_worn());
+        if wanted {
+            self.lines
+                .answer(line, command.op, command.sector, reply, &self.page);
         }
     }
 
@@ -92,6 +79,7 @@ impl Desk {
         requires page { vec_len self.old.page ≡ page_bytes_of (geometry_of ftl.now) }
         requires room { length (waiting_of self.old.lines) ≤ PIECE_BYTES }
         ensures page { vec_len self.new.page ≡ vec_len self.old.page }
+        ensures refused { self.new.refused ≡ self.old.refused }
         ensures lines { waiting_of self.new.lines ≡ waiting_of self.old.lines
             ++ line_text line ops.Read sector (found_text (sector_at (array_of ftl.now) sector)) }
     {
@@ -104,6 +92,7 @@ impl Desk {
     /// Adds the last line.
     pub fn end(&mut self, ftl: &OneFtl)
         requires room { length (waiting_of self.old.lines) ≤ PIECE_BYTES }
+        ensures refused { self.new.refused ≡ self.old.refused }
         ensures lines { waiting_of self.new.lines ≡ waiting_of self.old.lines ++ end_text (stock_of ftl.now) }
     {
         let counts = ftl.counts();
@@ -131,11 +120,9 @@ impl Desk {
 
     /// Writes the lines that wait.
     pub fn hand_on<W: Write>(&mut self, writer: &mut Watched<W>) -> Result<(), OutputFailed>
-        ensures sent { OnOk result (Sends (over W.contents writer.old writer.new) (waiting_of self.old.lines)) }
+        ensures sent { WritesOut (waiting_of self.old.lines) (over W.contents writer.old writer.new) result }
         ensures empty { OnOk result (waiting_of self.new.lines ≡ []) }
-        ensures unfailed { OnOk result (failures_of writer.new ≡ failures_of writer.old) }
-        ensures part { OnErr result (SendsBeginning (over W.contents writer.old writer.new) (waiting_of self.old.lines)) }
-        ensures failed { OnErr result (failures_of writer.new ≢ failures_of writer.old) }
+        ensures refused { self.new.refused ≡ self.old.refused }
     {
         self.lines.hand_on(writer)
     }
@@ -145,6 +132,7 @@ impl Desk {
         ensures moved { OnOk result (Moves (over W.contents writer.old writer.new) (waiting_of self.new.lines) (waiting_of self.old.lines)) }
         ensures room { OnOk result (length (waiting_of self.new.lines) ≤ PIECE_BYTES) }
         ensures page { vec_len self.new.page ≡ vec_len self.old.page }
+        ensures refused { self.new.refused ≡ self.old.refused }
         ensures unfailed { OnOk result (failures_of writer.new ≡ failures_of writer.old) }
         ensures part { OnErr result (SendsBeginning (over W.contents writer.old writer.new) (waiting_of self.old.lines)) }
         ensures failed { OnErr result (failures_of writer.new ≢ failures_of writer.old) }

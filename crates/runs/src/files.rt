@@ -19,18 +19,24 @@ pub struct Wanted {
     pub wear: bool,
 }
 
-/// What a run by workers is to write. Workers write no wear.
+/// How workers play a trace, and what their run is to write. Workers write no wear.
 #[derive(Clone, Copy, Debug, PartialEq, Eq)]
-pub struct WantedByWorkers {
+pub struct RunOptions {
+    /// The most tries of a write that finds no block.
+    pub patience: u32,
+    /// The most blocks that a broom drains by one survey.
+    pub drains: u32,
     /// The answers. Without them the output is the last line.
     pub answers: bool,
     /// What each broom has done.
     pub log: bool,
 }
 
-/// Whether each wanted file was written whole. `Ok` if it isn't wanted.
+/// How many writes a run by one thread refused because its device was worn, and whether each wanted file was written whole. `Ok` if it
+/// isn't wanted.
 #[derive(Clone, Copy, Debug, PartialEq, Eq)]
 pub struct Written {
+    pub refused: u64,
     pub collections: Result<(), OutputFailed>,
     pub wear: Result<(), OutputFailed>,
 }

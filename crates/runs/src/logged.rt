@@ -1,4 +1,4 @@
-ghost use Rattle.std.specs.Prelude.{◌≡◌, ◌*◌, ◌≤◌, [], ◌++◌, ℕ, List, if◌then◌else◌, length, nat_lt, vec_len, None};
+ghost use Rattle.std.specs.Prelude.{◌≡◌, ◌+◌, ◌*◌, ◌<◌, ◌≤◌, [], ◌++◌, ℕ, List, if◌then◌else◌, length, nat_lt, vec_len, None};
 ghost use Rattle.std.specs.List.{fold};
 ghost use Rattle.geometry.specs.Geometry.{page_bytes_of};
 ghost use Rattle.geometry.specs.History.{step};
@@ -33,7 +33,9 @@ pub fn answer_logged<V: Write>(
     requires playable { IsPlayable (geometry_of ftl.old) command.now }
     requires page { vec_len desk.old.page ≡ page_bytes_of (geometry_of ftl.old) }
     requires room { length (waiting_of desk.old.lines) ≤ PIECE_BYTES }
+    requires count { desk.old.refused < line }
     ensures page { vec_len desk.new.page ≡ vec_len desk.old.page }
+    ensures refused { desk.new.refused ≡ desk.old.refused + (if is_refused (geometry_of ftl.old) (stock_of ftl.old) command.now then 1 else 0) }
     ensures lines { waiting_of desk.new.lines ≡ waiting_of desk.old.lines ++ (if wanted then line_by ftl.old line command.now else []) }
     ensures geometry { geometry_of ftl.new ≡ geometry_of ftl.old }
     ensures array { array_of ftl.new ≡ fold step (array_of ftl.old) (calls_of (is_refused (geometry_of ftl.old) (stock_of ftl.old) command.now) command.now) }

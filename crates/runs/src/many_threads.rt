@@ -12,7 +12,7 @@ ghost use Rattle.runs.specs.Texts.{IsTextOf};
 
 use crate::broom_log::{log_room, tell_brooms_if};
 use crate::delivery::Delivery;
-use crate::files::WantedByWorkers;
+use crate::files::RunOptions;
 use crate::played_by_workers::PlayedByWorkers;
 use answers::{OutputFailed, RunFault, read_commands};
 use flash_table::{Gate, NoGate};
@@ -56,7 +56,9 @@ pub fn run_shared<T: Threads + Wait + Clock + Sync, R: Read, W: Write, G: Gate +
     // A fault says what happened. Only a failed writer has taken bytes, and those are a beginning of a text.
     ensures why { IfErr result (ExplainsRun IsTextOf geometry.now (over R.remaining reader.old reader.new) (over W.contents writer.old writer.new)) }
 {
-    let wanted = WantedByWorkers {
+    let options = RunOptions {
+        patience,
+        drains,
         answers: true,
         log: false,
     };
@@ -66,11 +68,9 @@ pub fn run_shared<T: Threads + Wait + Clock + Sync, R: Read, W: Write, G: Gate +
         alloc,
         reader,
         writer,
-        wanted,
         &mut no_log,
         geometry,
-        patience,
-        drains,
+        options,
         gates,
     ) {
         Ok(_) => Ok(()),
@@ -78,32 +78,32 @@ pub fn run_shared<T: Threads + Wait + Clock + Sync, R: Read, W: Write, G: Gate +
     }
 }
 
-// Plays a trace as `run_shared` does, writes its output with or without the answers, and then what each broom has done, if that is wanted.
+// Plays a trace as `run_shared` does, with these options: writes its output with or without the answers, and then what each broom has done, if
+// that is wanted.
 fn run_logged<T: Threads + Wait + Clock + Sync, R: Read, W: Write, V: Write, G: Gate + Send>(
     rt: &T,
     alloc: Global,
     reader: &mut Watched<R>,
     writer: &mut Watched<W>,
-    wanted: WantedByWorkers,
     file: &mut Watched<V>,
     geometry: &Geometry,
-    patience: u32,
-    drains: u32,
+    options: RunOptions,
     gates: &mut [G],
 ) -> Result<PlayedByWorkers, RunFault>
     requires hosts { 0 < hosts_of geometry.now }
     requires gates { length gates.old ≡ hosts_of geometry.now + brooms_of geometry.now }
     ensures end { OnOk result (IsAtEnd (R.remaining (inner_of reader.new))) }
     ensures text { OnOk result
-        (Tells (IsOutputByWorkers wanted.answers geometry.now) (stream_of R.remaining reader.old) (over W.contents writer.old writer.new)) }
+        (Tells (IsOutputByWorkers options.answers geometry.now) (stream_of R.remaining reader.old) (over W.contents writer.old writer.new)) }
     ensures reader_unfailed { OnOk result (failures_of reader.new ≡ failures_of reader.old) }
     ensures writer_unfailed { OnOk result (failures_of writer.new ≡ failures_of writer.old) }
     ensures played { IfOk result
-        (WasPlayed geometry.now drains wanted (stream_of R.remaining reader.old) (over W.contents writer.old writer.new) (over V.contents file.old file.new)) }
+        (WasPlayed geometry.now options (stream_of R.remaining reader.old) (over W.contents writer.old writer.new) (over V.contents file.old file.new)) }
     ensures log { IfOk result
-        (λ run. EndsFile wanted.log (IsBroomLogOf drains geometry.now) (stream_of R.remaining reader.old) (over V.contents file.old file.new) run.log) }
+        (λ run. EndsFile options.log (IsBroomLogOf options.drains geometry.now) (stream_of R.remaining reader.old)
+        (over V.contents file.old file.new) run.log) }
     ensures why { IfErr result
-        (ExplainsRun (IsOutputByWorkers wanted.answers) geometry.now (over R.remaining reader.old reader.new) (over W.contents writer.old writer.new)) }
+        (ExplainsRun (IsOutputByWorkers options.answers) geometry.now (over R.remaining reader.old reader.new) (over W.contents writer.old writer.new)) }
     ensures no_log { OnErr result (stream_of V.contents file.new ≡ stream_of V.contents file.old) }
 {
     let commands = match read_commands(alloc, reader, geometry) {
@@ -113,18 +113,19 @@ fn run_logged<T: Threads + Wait + Clock + Sync, R: Read, W: Write, V: Write, G: 
     let Ok(delivery) = Delivery::new(alloc, geometry) else {
         return Err(RunFault::Memory);
     };
-    let Ok(log) = log_room(alloc, geometry, wanted.log) else {
+    let Ok(log) = log_room(alloc, geometry, options.log) else {
         return Err(RunFault::Memory);
     };
     let Ok(commands) = Arc::new(alloc, commands) else {
         return Err(RunFault::Memory);
     };
+    let (patience, drains) = (options.patience, options.drains);
     let end = match play_commands(rt, alloc, geometry, &commands, patience, drains, gates) {
         Ok(end) => end,
         Err(RoundFault::Memory) => return Err(RunFault::Memory),
         Err(RoundFault::Threads) => return Err(RunFault::Threads),
     };
-    match delivery.write_out(wanted.answers, &commands, &end.rows, writer) {
+    match delivery.write_out(options.answers, &commands, &end.rows, writer) {
         Ok(()) => {
             let log = tell_brooms_if(log, &end.brooms, file);
             Ok(PlayedByWorkers { commands, end, log })
@@ -141,30 +142,29 @@ pub fn run_by_workers<T: Threads + Wait + Clock + Sync, R: Read, W: Write, V: Wr
     alloc: Global,
     reader: &mut Watched<R>,
     writer: &mut Watched<W>,
-    wanted: WantedByWorkers,
     file: &mut Watched<V>,
     geometry: &Geometry,
-    patience: u32,
-    drains: u32,
+    options: RunOptions,
 ) -> Result<PlayedByWorkers, RunFault>
     requires { 0 < hosts_of geometry.now }
     ensures end { OnOk result (IsAtEnd (R.remaining (inner_of reader.new))) }
     ensures text { OnOk result
-        (Tells (IsOutputByWorkers wanted.answers geometry.now) (stream_of R.remaining reader.old) (over W.contents writer.old writer.new)) }
+        (Tells (IsOutputByWorkers options.answers geometry.now) (stream_of R.remaining reader.old) (over W.contents writer.old writer.new)) }
     ensures reader_unfailed { OnOk result (failures_of reader.new ≡ failures_of reader.old) }
     ensures writer_unfailed { OnOk result (failures_of writer.new ≡ failures_of writer.old) }
 
     // Each line was played, also if its answer isn't wanted: these are the answers, and the output and the log are of the same run.
     ensures played { IfOk result
-        (WasPlayed geometry.now drains wanted (stream_of R.remaining reader.old) (over W.contents writer.old writer.new) (over V.contents file.old file.new)) }
+        (WasPlayed geometry.now options (stream_of R.remaining reader.old) (over W.contents writer.old writer.new) (over V.contents file.old file.new)) }
 
     // The log has the counts of each broom, within this limit of drains by one survey. If its writer failed, a beginning was written.
     ensures log { IfOk result
-        (λ run. EndsFile wanted.log (IsBroomLogOf drains geometry.now) (stream_of R.remaining reader.old) (over V.contents file.old file.new) run.log) }
+        (λ run. EndsFile options.log (IsBroomLogOf options.drains geometry.now) (stream_of R.remaining reader.old)
+        (over V.contents file.old file.new) run.log) }
 
     // After a fault of the run no log was written.
     ensures why { IfErr result
-        (ExplainsRun (IsOutputByWorkers wanted.answers) geometry.now (over R.remaining reader.old reader.new) (over W.contents writer.old writer.new)) }
+        (ExplainsRun (IsOutputByWorkers options.answers) geometry.now (over R.remaining reader.old reader.new) (over W.contents writer.old writer.new)) }
     ensures no_log { OnErr result (stream_of V.contents file.new ≡ stream_of V.contents file.old) }
 {
     let mut gates = [NoGate; MAX_THREADS];
@@ -174,11 +174,9 @@ pub fn run_by_workers<T: Threads + Wait + Clock + Sync, R: Read, W: Write, V: Wr
         alloc,
         reader,
         writer,
-        wanted,
         file,
         geometry,
-        patience,
-        drains,
+        options,
         &mut gates[..threads],
     )
 }

@@ -9,12 +9,13 @@ ghost use Rattle.answers.specs.Answers.{collection_names};
 ghost use Rattle.answers.specs.Lines.{waiting_of};
 ghost use Rattle.answers.specs.Outcome.{ExplainsRun};
 ghost use Rattle.answers.specs.Playable.{IsPlayable};
-ghost use Rattle.answers.specs.Streams.{Sends, SendsBeginning, Tells, over, stream_of};
+ghost use Rattle.answers.specs.Streams.{Tells, WritesOut, over, stream_of};
 ghost use Rattle.runs.specs.Collections.{IsLogOf, log_text};
 ghost use Rattle.runs.specs.Files.{EndsFile, LeavesLog, LeavesText};
 ghost use Rattle.runs.specs.Logs.{IsLogUnderWay, IsLogged, is_wanted};
 ghost use Rattle.runs.specs.Outputs.{IsOutputOf, written_of};
 ghost use Rattle.runs.specs.Playing.{IsTextOf, stock_before};
+ghost use Rattle.runs.specs.Refusals.{IsRefusedCount, refused_before};
 ghost use Rattle.runs.specs.Wear.{IsStockOf, IsWearOf};
 
 use crate::desk::Desk;
@@ -87,6 +88,10 @@ pub fn run_with_files<R: Read, W: Write, V: Write>(
         (λ written. EndsFile wanted.wear (IsWearOf geometry.now) (stream_of R.remaining reader.old)
         (over V.contents files.old.wear files.new.wear) written.wear) }
 
+    // So many writes were refused.
+    ensures refused { IfOk result
+        (λ written. IfSome (R.remaining (inner_of reader.old)) (λ bytes. IsRefusedCount geometry.now bytes written.refused)) }
+
     // After a fault of the run no wear was written, and a part of the log only if the answers could not be written.
     ensures why { IfErr result
         (ExplainsRun (IsOutputOf wanted.answers) geometry.now (over R.remaining reader.old reader.new) (over W.contents writer.old writer.new)) }
@@ -105,9 +110,14 @@ pub fn run_with_files<R: Read, W: Write, V: Write>(
     ) {
         Ok(played) => {
             let Played { ftl, mut desk, log } = played;
+            let refused = desk.refused;
             let collections = log.finish(&mut files.collections);
             let wear = tell_wear_if(wanted.wear, &ftl, &mut desk, &mut files.wear);
-            Ok(Written { collections, wear })
+            Ok(Written {
+                refused,
+                collections,
+                wear,
+            })
         }
         Err(fault) => Err(fault),
     }
@@ -128,6 +138,8 @@ fn run_out<R: Read, W: Write, V: Write>(
     ensures reader_unfailed { OnOk result (failures_of reader.new ≡ failures_of reader.old) }
     ensures writer_unfailed { OnOk result (failures_of writer.new ≡ failures_of writer.old) }
     ensures geometry { IfOk result (λ played. geometry_of played.ftl ≡ geometry.now) }
+    ensures refused { IfOk result
+        (λ played. IfSome (R.remaining (inner_of reader.old)) (λ bytes. IsRefusedCount geometry.now bytes played.desk.refused)) }
     ensures stock { IfOk result (λ played. IfSome (R.remaining (inner_of reader.old)) (λ bytes. IsStockOf geometry.now bytes (stock_of played.ftl))) }
     ensures wanted { IfOk result (λ played. is_wanted played.log ≡ wanted.collections) }
     ensures logged { IfOk result (λ played. IsLogUnderWay geometry.now (stream_of R.remaining reader.old) played.log (over V.contents file.old file.new)) }
@@ -174,13 +186,12 @@ fn play<W: Write, V: Write>(
     requires page { vec_len desk.old.page ≡ page_bytes_of (geometry_of ftl.old) }
     requires lines { waiting_of desk.old.lines ≡ [] }
     requires names { IsLogged log.old (over V.contents file.old file.old) collection_names }
-    ensures sent { OnOk result (Sends (over W.contents writer.old writer.new) (written_of answers (geometry_of ftl.old) commands.now)) }
+    requires none_refused { desk.old.refused ≡ 0 }
+    ensures sent { WritesOut (written_of answers (geometry_of ftl.old) commands.now) (over W.contents writer.old writer.new) result }
     ensures geometry { OnOk result (geometry_of ftl.new ≡ geometry_of ftl.old) }
+    ensures refused { OnOk result (desk.new.refused ≡ refused_before (geometry_of ftl.old) commands.now (length commands.now)) }
     ensures stock { OnOk result (stock_of ftl.new ≡ stock_before (geometry_of ftl.old) commands.now (length commands.now)) }
     ensures lines_sent { OnOk result (waiting_of desk.new.lines ≡ []) }
-    ensures part { OnErr result (SendsBeginning (over W.contents writer.old writer.new) (written_of answers (geometry_of ftl.old) commands.now)) }
-    ensures unfailed { OnOk result (failures_of writer.new ≡ failures_of writer.old) }
-    ensures failed { OnErr result (failures_of writer.new ≢ failures_of writer.old) }
     ensures wanted { is_wanted log.new ≡ is_wanted log.old }
     ensures logged { OnOk result (IsLogged log.new (over V.contents file.old file.new) (log_text (geometry_of ftl.old) commands.now)) }
     ensures log_left { OnErr result (LeavesText (is_wanted log.old) (log_text (geometry_of ftl.old) commands.now) (over V.contents file.old file.new)) }

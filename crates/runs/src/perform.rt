@@ -7,7 +7,7 @@ ghost use Rattle.hex.specs.Hex.{encode_lower};
 ghost use Rattle.trace.specs.declared.commands.Op.TheVariants as ops;
 ghost use Rattle.answers.specs.Answers.{calls_of};
 ghost use Rattle.answers.specs.Playable.{IsPlayable};
-ghost use Rattle.answers.specs.Replies.{reply_text};
+ghost use Rattle.answers.specs.Replies.{is_worn_reply, reply_text};
 ghost use Rattle.runs.specs.Playing.{answer_by, is_refused, stock_after};
 
 use answers::Reply;
@@ -20,6 +20,7 @@ pub fn perform(ftl: &mut OneFtl, command: &Command<'_>, page: &mut [u8]) -> Repl
     requires no_read { command.now.op ≢ ops.Read }
     requires buffer { length page.old ≡ page_bytes_of (geometry_of ftl.old) }
     ensures geometry { geometry_of ftl.new ≡ geometry_of ftl.old }
+    ensures refused { is_worn_reply result ≡ is_refused (geometry_of ftl.old) (stock_of ftl.old) command.now }
     ensures answer { reply_text result (encode_lower page.new) ≡ answer_by ftl.old command.now }
     ensures array { array_of ftl.new ≡ fold step (array_of ftl.old) (calls_of (is_refused (geometry_of ftl.old) (stock_of ftl.old) command.now) command.now) }
     ensures stock { stock_of ftl.new ≡ stock_after (geometry_of ftl.old) (stock_of ftl.old) command.now }

@@ -1,8 +1,7 @@
-ghost use Rattle.std.specs.Prelude.{◌≡◌, ◌≢◌, [], OnErr, OnOk};
+ghost use Rattle.std.specs.Prelude.{◌≡◌, []};
 ghost use Rattle.ftl_one.specs.OneFtl.{geometry_of, stock_of};
-ghost use Rattle.trace.specs.Watched.{failures_of};
 ghost use Rattle.answers.specs.Lines.{waiting_of};
-ghost use Rattle.answers.specs.Streams.{Sends, SendsBeginning, over};
+ghost use Rattle.answers.specs.Streams.{WritesOut, over};
 ghost use Rattle.runs.specs.Files.{EndsText};
 ghost use Rattle.runs.specs.Wear.{wear_text};
 
@@ -45,10 +44,7 @@ pub fn tell_wear<V: Write>(
     wear: &mut Watched<V>,
 ) -> Result<(), OutputFailed>
     requires lines { waiting_of desk.old.lines ≡ [] }
-    ensures sent { OnOk result (Sends (over V.contents wear.old wear.new) (wear_text (geometry_of ftl.now) (stock_of ftl.now))) }
-    ensures part { OnErr result (SendsBeginning (over V.contents wear.old wear.new) (wear_text (geometry_of ftl.now) (stock_of ftl.now))) }
-    ensures unfailed { OnOk result (failures_of wear.new ≡ failures_of wear.old) }
-    ensures failed { OnErr result (failures_of wear.new ≢ failures_of wear.old) }
+    ensures { WritesOut (wear_text (geometry_of ftl.now) (stock_of ftl.now)) (over V.contents wear.old wear.new) result }
 {
     desk.wear_names();
     for block in 0..ftl.geometry().blocks() {

@@ -89,6 +89,7 @@ impl Commands {
         }
     }
 
+    /// How many commands there are.
     pub fn len(&self) -> usize
         ensures len { result ≡ length self.now }
         ensures small { result < 2 ^ 63 }
@@ -96,6 +97,7 @@ impl Commands {
         self.stored.len()
     }
 
+    /// Whether there is no command.
     pub fn is_empty(&self) -> bool
         ensures { result ≡ (length self.now == 0) }
     {

@@ -40,6 +40,7 @@ impl<'a> Page<'a> {
         self.len
     }
 
+    /// Whether the page has no bytes, as for the ops that write none.
     pub fn is_empty(&self) -> bool
         ensures { result ≡ (length self.now == 0) }
     {

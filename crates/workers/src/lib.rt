@@ -34,8 +34,13 @@ pub use leaving::{fold_collectors, hand_out};
 pub use meetings::meet_all;
 pub use plays::{play, play_at};
 pub use round_limits::RoundLimits;
+pub use rounds::{Answer, Answers, Cursor, Kind};
 pub use run_end::RunEnd;
 pub use runs::{play_round, play_rounds};
 pub use tally::Tally;
 pub use team::{Team, play_workers};
+pub use trace::{Command, Commands, Op};
+pub use volume::{
+    Broom, Drain, Erase, Folded, Gate, Geometry, GeometryFault, NoGate, Pass, Point, Volume,
+};
 pub use worker::Worker;

@@ -27,6 +27,7 @@ pub struct Tally {
 }
 
 impl Tally {
+    /// A tally of nothing.
     pub fn new() -> Tally
         ensures { result ≡ nothing_done }
     {

@@ -36,6 +36,8 @@ returns-clause-numbers c =
       collections = c.get_str-2.ensures ∙ first_value-rows (found_of m) (codes "collections") ∙ ap (first_of (codes "collections")) rows;
       quiet = subst (λ (r : List Row). IsFlagOf r (codes "quiet") c.get_flag.result) rows
           (flag_of (found_of m) (codes "quiet") c.get_flag.result c.get_flag.ensures.none c.get_flag.ensures.value c.get_flag.ensures.other);
+      all_written = subst (λ (r : List Row). IsFlagOf r (codes "all-written") c.get_flag-2.result) rows
+          (flag_of (found_of m) (codes "all-written") c.get_flag-2.result c.get_flag-2.ensures.none c.get_flag-2.ensures.value c.get_flag-2.ensures.other);
     }
 
 pub returns-clause-outcome : goal.returns-clause-outcome

@@ -1,11 +1,12 @@
-use Rattle.std.proofs.Common.{refl, subst, sym}
+use Rattle.std.proofs.Common.{ap, refl, subst, sym}
 use Rattle.std.specs.Prelude.{Result}
 use Rattle.answers.specs.Streams.{over, stream_of}
 use Rattle.runs.specs.Wear.{IsWearOf}
-use Rattle.player.specs.Session.{EndsOn, IsLogFor, filings}
+use Rattle.player.specs.Session.{EndsOn, IsLogFor, filings, refusal_by}
+use Rattle.player.specs.declared.refusal.Refusal.TheVariants as refusal
 use Rattle.player.specs.declared.stop.Stop.{Stop}
 use Rattle.player.proofs.Endings.{file_ended, files_left, not_opened, run_ended}
-use Rattle.player.proofs.RunTexts.{one_left, one_log, one_text, one_why}
+use Rattle.player.proofs.RunTexts.{one_left, one_log, one_run, one_text, one_why}
 use Rattle.player.proofs.sessions.play_alone.Goals as goal
 
 pub returns-in-Err : goal.returns-in-Err
@@ -36,14 +37,16 @@ returns-in-Ok g c =
     let wear = file_ended (λ n. n.now) given.wear c.is_some-2.result (IsWearOf geo) start files.wear (stream mid.wear)
     c.in-Ok.written.wear opens.0 c.is_some-2.ensures told.wear in
     subst (λ (r : Result (Unit {0}) Stop). EndsOn r geo given input output files) (sym c.outcome.ensures)
-    (run_ended c.in-Ok.written.collections c.in-Ok.written.wear geo given input output files
+    (run_ended c.in-Ok.written.collections c.in-Ok.written.wear refusal.Worn c.if_counted-count.result geo given input output files
     (record {
       end = told.end;
       text = one_text given geo _ _ _ c.requires told.text;
       input_unfailed = told.reader_unfailed;
       output_unfailed = told.writer_unfailed;
+      refused = c.in-Ok.written.refused;
+      run = one_run given geo start output files.collections.stream c.in-Ok.written.refused c.requires told.refused;
     })
-    log wear)
+    log wear (sym c.if_counted-count.ensures) (sym (ap refusal_by c.requires)))
 
 pub returns-in-Err-run_with_files : goal.returns-in-Err-run_with_files
 returns-in-Err-run_with_files g c =

@@ -1,12 +1,15 @@
 use Rattle.std.proofs.Common.{◌∙◌, refl, subst, sym}
-use Rattle.std.specs.Prelude.{Ok, Result, not}
-use Rattle.answers.specs.Streams.{over, stream_of}
+use Rattle.std.specs.Prelude.{Bool, Ok, Result, not}
+use Rattle.answers.specs.Streams.{Stream, over, stream_of}
 use Rattle.geometry.specs.Geometry.{hosts_of}
+use Rattle.runs.specs.ByWorkers.{WasPlayed, answers_played, commands_played}
+use Rattle.runs.specs.Refusals.{refused_by_workers}
 use Rattle.runs.specs.Wear.{IsWearOf}
-use Rattle.player.specs.Session.{EndsOn, IsLogFor, filings}
+use Rattle.player.specs.Session.{EndsOn, IsLogFor, filings, run_options_of}
+use Rattle.player.specs.declared.refusal.Refusal.TheVariants as refusal
 use Rattle.player.specs.declared.stop.Stop.{Stop}
 use Rattle.player.proofs.Endings.{file_ended, files_left, is_named, not_opened, run_ended, unnamed}
-use Rattle.player.proofs.RunTexts.{shared_left, shared_log, shared_text, shared_why}
+use Rattle.player.proofs.RunTexts.{shared_left, shared_log, shared_refusal, shared_run, shared_text, shared_why}
 use Rattle.player.proofs.sessions.play_shared.Goals as goal
 
 pub returns-then-is_some : goal.returns-then-is_some
@@ -39,14 +42,21 @@ returns-in-Ok g c =
     (shared_log given geo c.is_some-2.result start (over g.F.Write.contents mid.collections new.collections) c.in-Ok.played.log c.requires told.log) in
     let wear = unnamed (λ n. n.now) given.wear (IsWearOf geo) start files.wear (sym c.is_some.ensures ∙ c.if-is_some.false) opens.0.1 in
     subst (λ (r : Result (Unit {0}) Stop). EndsOn r geo given input output files) (sym c.outcome.ensures)
-    (run_ended c.in-Ok.played.log (Ok tt) geo given input output files
+    (run_ended c.in-Ok.played.log (Ok tt) refusal.Full c.count_if_wanted-count.result geo given input output files
     (record {
       end = told.end;
       text = shared_text (hosts_of geo) (not given.quiet) geo start output c.requires told.text;
       input_unfailed = told.reader_unfailed;
       output_unfailed = told.writer_unfailed;
+      refused = refused_by_workers (commands_played c.in-Ok.played) (answers_played c.in-Ok.played);
+      run = shared_run (hosts_of geo) given geo start output files.collections.stream c.in-Ok.played c.requires
+          (subst (λ (s : Stream). WasPlayed geo (run_options_of given) start output (record { before = s; after = files.collections.stream.after })
+          c.in-Ok.played) opens.1.1
+          (subst (λ (w : Bool). WasPlayed geo
+          (record { patience = given.patience; drains = given.drains; answers = not given.quiet; log = w }) start output
+          (record { before = stream mid.collections; after = files.collections.stream.after }) c.in-Ok.played) c.is_some-2.ensures told.played));
     })
-    log wear)
+    log wear (sym c.count_if_wanted-count.ensures) (shared_refusal (hosts_of geo) c.requires))
 
 pub returns-in-Err-run_by_workers : goal.returns-in-Err-run_by_workers
 returns-in-Err-run_by_workers g c =
@@ -66,3 +76,6 @@ returns-in-Err-run_by_workers g c =
           (stream mid.wear) (stream mid.collections) opens.0.1 opens.1.1 c.is_some-2.ensures refl
           (shared_left (hosts_of geo) geo fault c.is_some-2.result start (over g.F.Write.contents mid.collections new.collections) c.requires told.no_log),
     )
+
+pub count_if_wanted-count-requires : goal.count_if_wanted-count-requires
+count_if_wanted-count-requires g c = c.in-Ok.ensures.played.answered

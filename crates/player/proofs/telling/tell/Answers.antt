@@ -14,6 +14,7 @@ the_line (stop.Run found) other = refl
 the_line stop.Help other = refl
 the_line stop.Memory other = refl
 the_line (stop.File file why) other = refl
+the_line (stop.Refused why count) other = refl
 
 pub returns-clause-told : goal.returns-clause-told
 returns-clause-told g c =

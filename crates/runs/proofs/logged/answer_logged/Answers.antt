@@ -24,6 +24,7 @@ returns-in_default g c =
     let it = c.answer.ensures in
     record {
       page = it.page;
+      refused = it.refused;
       lines = it.lines;
       geometry = it.geometry;
       array = it.array;

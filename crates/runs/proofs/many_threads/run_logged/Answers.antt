@@ -45,7 +45,7 @@ returns-in-Ok-write_out-clause-text g c =
     let kept : c.deref-2.result.now ≡ c.in-Ok-play_commands.end.rows.items = grind (arith, common_steps, reverse-reverse) in
     let played = renamed geo commands _ c.deref-2.result.now _ c.deref.ensures kept c.in-Ok-play_commands.ensures.played in
     let meaning = renamed_meaning geo commands _ input (c.deref.ensures ∙ c.in-Ok-new-2.ensures.ok) c.in-Ok.ensures.commands in
-    text_sent geo commands (answers_by c.deref-2.result.now) played c.args.wanted.answers input _ _ meaning c.in-Ok-write_out.ensures.sent
+    text_sent geo commands (answers_by c.deref-2.result.now) played c.args.options.answers input _ _ meaning c.in-Ok-write_out.ensures.1
 
 pub returns-in-Err-write_out-clause-why : goal.returns-in-Err-write_out-clause-why
 returns-in-Err-write_out-clause-why g c =
@@ -56,8 +56,8 @@ returns-in-Err-write_out-clause-why g c =
     let played = renamed geo commands _ c.deref-2.result.now _ c.deref.ensures kept c.in-Ok-play_commands.ensures.played in
     let meaning = renamed_meaning geo commands _ input (c.deref.ensures ∙ c.in-Ok-new-2.ensures.ok) c.in-Ok.ensures.commands in (
       record { end = c.in-Ok.ensures.end; unfailed = c.in-Ok.ensures.unfailed; meaning = some_meaning geo commands input meaning },
-      c.in-Err-write_out.ensures.failed,
-      part_sent geo commands (answers_by c.deref-2.result.now) played c.args.wanted.answers input _ _ meaning c.in-Err-write_out.ensures.part,
+      c.in-Err-write_out.ensures.0,
+      part_sent geo commands (answers_by c.deref-2.result.now) played c.args.options.answers input _ _ meaning c.in-Err-write_out.ensures.1,
     )
 
 pub play_commands-requires-clause-playable : goal.play_commands-requires-clause-playable
@@ -81,9 +81,9 @@ returns-in-Ok-write_out-clause-log g c =
     let input = stream_of g.R.Read.remaining c.args.reader.now in
     let file = over g.V.Write.contents c.args.file.now c.tell_brooms_if-log.new.file in
     let ends = c.deref-in-Ok-write_out.result.now in
-    let served = subst (AllHaveServed geo c.args.drains) (sym c.deref-in-Ok-write_out.ensures.value) c.in-Ok-play_commands.ensures.brooms in
-    ends_file c.args.wanted.log (IsBroomLogOf c.args.drains geo) input file (brooms_text ends) c.tell_brooms_if-log.result
-    (brooms_right geo input.bytes c.in-Ok.commands c.args.drains ends c.in-Ok.ensures.commands served)
+    let served = subst (AllHaveServed geo c.args.options.drains) (sym c.deref-in-Ok-write_out.ensures.value) c.in-Ok-play_commands.ensures.brooms in
+    ends_file c.args.options.log (IsBroomLogOf c.args.options.drains geo) input file (brooms_text ends) c.tell_brooms_if-log.result
+    (brooms_right geo input.bytes c.in-Ok.commands c.args.options.drains ends c.in-Ok.ensures.commands served)
     (subst (λ w. EndsText w (brooms_text ends) file c.tell_brooms_if-log.result) c.in-Ok-log_room.ensures.wanted c.tell_brooms_if-log.ensures)
 
 pub returns-in-Ok-write_out-clause-played : goal.returns-in-Ok-write_out-clause-played
@@ -97,9 +97,14 @@ returns-in-Ok-write_out-clause-played g c =
     record {
       meaning = renamed_meaning geo _ _ input c.in-Ok-new-2.ensures.ok c.in-Ok.ensures.commands;
       workers = c.in-Ok-play_commands.ensures.rows;
+      answered = record {
+        few = (let low = geo.in_limits.hosts_high in let rows = c.in-Ok-play_commands.ensures.rows in omega (arith, low, rows));
+        answers = enough_answers geo _ _ c.requires.hosts (subst (All (IsPlayable geo)) (sym c.in-Ok-new-2.ensures.ok) c.in-Ok.ensures.playable)
+            c.in-Ok-play_commands.ensures.played;
+      };
       played = c.in-Ok-play_commands.ensures.played;
-      written = subst (λ (x : List Command × List Answers). Sends output (written_by_workers c.args.wanted.answers x.0 (answers_by x.1)))
-          (λ i. (c.deref.ensures i, kept i)) c.in-Ok-write_out.ensures.sent;
+      written = subst (λ (x : List Command × List Answers). Sends output (written_by_workers c.args.options.answers x.0 (answers_by x.1)))
+          (λ i. (c.deref.ensures i, kept i)) c.in-Ok-write_out.ensures.1;
       served = c.in-Ok-play_commands.ensures.brooms;
       log = subst (λ (x : Bool × List CollectorEnd). EndsText x.0 (brooms_text x.1) file c.tell_brooms_if-log.result)
           (λ i. (c.in-Ok-log_room.ensures.wanted i, c.deref-in-Ok-write_out.ensures.value i)) c.tell_brooms_if-log.ensures;

@@ -1,5 +1,4 @@
-use Rattle.std.proofs.Common.{◌≡◌, length, arith, refl, subst, sym, ◌∙◌}
-use Rattle.geometry.proofs.Histories.{Begins-refl}
+use Rattle.std.proofs.Common.{◌≡◌, ap, length, arith, refl, subst, sym, ◌∙◌}
 use Rattle.ftl_one.specs.OneFtl.{geometry_of, array_of, stock_of}
 use Rattle.trace.specs.Watched.{inner_of}
 use Rattle.answers.specs.Lines.{waiting_of}
@@ -8,17 +7,13 @@ use Rattle.answers.specs.Playable.{IsPlayable}
 use Rattle.runs.specs.Collections.{log_before}
 use Rattle.runs.specs.Logs.{IsLogged}
 use Rattle.runs.specs.Outputs.{written_of}
-use Rattle.runs.specs.Steps.{ArePlayed}
-use Rattle.answers.proofs.Deliveries.{AppendsBeginning-part, Appends-whole, IsUnderWay-sent, OnErr-any, OnErr-map, OnOk-map}
+use Rattle.runs.specs.Refusals.{refused_before}
+use Rattle.runs.specs.Steps.{ArePlayed, answers_written}
+use Rattle.answers.proofs.Deliveries.{OnErr-any, WritesOut-rest, WritesOut-stopped}
 use Rattle.runs.proofs.LogTexts.{OnOk-any, log_left_of, log_none, log_turn}
 use Rattle.runs.proofs.Plays.{All-at, ArePlayed-none, ArePlayed-turn, text_whole, lines_begin}
+use Rattle.runs.proofs.RefusedWrites.{refused_few, refused_turn}
 use Rattle.runs.proofs.one_thread.play.Goals as goal
-
-pub returns-in_err-make_room-clause-part : goal.returns-in_err-make_room-clause-part
-returns-in_err-make_room-clause-part g c =
-    OnErr-any _ c.from_residual.result
-    (AppendsBeginning-part _ _ _ _ _ _ c.loop-i.invariant.3.text c.in_err-make_room.ensures.part
-    (lines_begin c.args.answers (geometry_of c.args.ftl.now) c.args.commands.now c.loop-i.i (omega arith)))
 
 pub answer_logged-requires-clause-playable : goal.answer_logged-requires-clause-playable
 answer_logged-requires-clause-playable g c =
@@ -40,6 +35,9 @@ loop-i-preserved g c =
       log_turn geo (geometry_of c.loop-i.ftl) commands c.loop-i.i (stock_of c.loop-i.ftl) (stock_of c.answer_logged.new.ftl) c.answer_logged.new.log file
           c.loop-i.invariant.0 c.loop-i.invariant.3.stock_is played.stock_is
           (c.answer_logged.ensures.told (stream_of g.V.Write.contents c.args.file.now) (log_before geo commands c.loop-i.i) c.loop-i.invariant.5),
+      refused_turn geo (geometry_of c.loop-i.ftl) commands c.loop-i.i c.command-command.result (stock_of c.loop-i.ftl) c.loop-i.desk.refused
+          c.make_room.new.self.refused c.answer_logged.new.desk.refused c.loop-i.invariant.0 c.command-command.ensures.at
+          c.loop-i.invariant.3.stock_is c.loop-i.invariant.6 c.make_room.ensures.refused c.answer_logged.ensures.refused,
     )
 
 pub loop-i-init : goal.loop-i-init
@@ -52,6 +50,7 @@ loop-i-init g c =
       ArePlayed-none c.args.answers geo commands (array_of c.args.ftl.now) (stock_of c.args.ftl.now) _ _ c.requires.array c.requires.stock c.requires.lines,
       refl,
       subst (IsLogged c.args.log.now (over g.V.Write.contents c.args.file.now c.args.file.now)) (sym (log_none geo commands)) c.requires.names,
+      c.requires.none_refused,
     )
 
 pub returns-in_err-make_room-clause-log_left : goal.returns-in_err-make_room-clause-log_left
@@ -79,16 +78,46 @@ returns-clause-log_left g c =
     (log_left_of (geometry_of c.args.ftl.now) c.args.commands.now c.loop-i.i c.args.log.now c.loop-i.log _
     (omega arith) c.loop-i.invariant.4 c.loop-i.invariant.5)
 
-pub returns-in_err-make_room-2-clause-part : goal.returns-in_err-make_room-2-clause-part
-returns-in_err-make_room-2-clause-part g c =
-    OnErr-any _ c.from_residual-in_err-make_room-2.result
-    (AppendsBeginning-part _ _ _ _ _ _ c.loop-i.invariant.3.text c.in_err-make_room-2.ensures.part
-    (lines_begin c.args.answers (geometry_of c.args.ftl.now) c.args.commands.now c.loop-i.i (omega arith)))
+pub answer_logged-requires-clause-count : goal.answer_logged-requires-clause-count
+answer_logged-requires-clause-count g c =
+    let few = refused_few (geometry_of c.args.ftl.now) c.args.commands.now c.loop-i.i in
+    let so_far = c.make_room.ensures.refused ∙ c.loop-i.invariant.6 in
+    omega (arith, few, so_far)
+
+pub returns-clause-refused : goal.returns-clause-refused
+returns-clause-refused g c =
+    let all : c.loop-i.i ≡ length c.args.commands.now = omega arith in
+    OnOk-any _ c.hand_on.result
+    (c.hand_on.ensures.refused ∙ (c.end.ensures.refused ∙ (c.make_room-2.ensures.refused
+    ∙ (c.loop-i.invariant.6 ∙ ap (refused_before (geometry_of c.args.ftl.now) c.args.commands.now) all))))
+
+pub returns-in_err-make_room-clause-sent : goal.returns-in_err-make_room-clause-sent
+returns-in_err-make_room-clause-sent g c =
+    let geo = geometry_of c.args.ftl.now in
+    let commands = c.args.commands.now in
+    let known = stream_of g.W.Write.contents in
+    let told = c.in_err-make_room.ensures in
+    WritesOut-stopped (written_of c.args.answers geo commands) (answers_written c.args.answers geo commands c.loop-i.i) (waiting_of c.loop-i.desk.lines)
+    (known c.args.writer.now) (known c.loop-i.writer) (known c.make_room.new.writer) c.from_residual.result
+    c.loop-i.invariant.2 c.loop-i.invariant.3.text (lines_begin c.args.answers geo commands c.loop-i.i (omega arith))
+    told.failed told.part c.from_residual.ensures.0
+
+pub returns-in_err-make_room-2-clause-sent : goal.returns-in_err-make_room-2-clause-sent
+returns-in_err-make_room-2-clause-sent g c =
+    let geo = geometry_of c.args.ftl.now in
+    let commands = c.args.commands.now in
+    let known = stream_of g.W.Write.contents in
+    let told = c.in_err-make_room-2.ensures in
+    WritesOut-stopped (written_of c.args.answers geo commands) (answers_written c.args.answers geo commands c.loop-i.i) (waiting_of c.loop-i.desk.lines)
+    (known c.args.writer.now) (known c.loop-i.writer) (known c.make_room-2.new.writer) c.from_residual-in_err-make_room-2.result
+    c.loop-i.invariant.2 c.loop-i.invariant.3.text (lines_begin c.args.answers geo commands c.loop-i.i (omega arith))
+    told.failed told.part c.from_residual-in_err-make_room-2.ensures.0
 
 pub returns-clause-sent : goal.returns-clause-sent
 returns-clause-sent g c =
     let geo = geometry_of c.args.ftl.now in
     let commands = c.args.commands.now in
+    let known = stream_of g.W.Write.contents in
     let old = g.W.Write.contents (inner_of c.args.writer.now) in
     let all : c.loop-i.i ≡ length commands = omega arith in
     let played : ArePlayed c.args.answers geo commands (length commands) (array_of c.loop-i.ftl) (stock_of c.loop-i.ftl) old
@@ -96,21 +125,6 @@ returns-clause-sent g c =
     subst (λ n. ArePlayed c.args.answers geo commands n (array_of c.loop-i.ftl) (stock_of c.loop-i.ftl) old
     (g.W.Write.contents (inner_of c.loop-i.writer)) (waiting_of c.loop-i.desk.lines)) all c.loop-i.invariant.3 in
     let whole = text_whole c.args.answers geo commands _ _ old _ _ _ _ _ played c.in_ok-make_room-2.ensures.moved c.end.ensures.lines in
-    OnOk-map _ _ c.hand_on.result
-    (λ sent. Appends-whole old (g.W.Write.contents (inner_of c.hand_on.new.writer)) (written_of c.args.answers geo commands)
-    (IsUnderWay-sent old _ _ _ (written_of c.args.answers geo commands) whole sent)) c.hand_on.ensures.sent
-
-pub returns-clause-part : goal.returns-clause-part
-returns-clause-part g c =
-    let geo = geometry_of c.args.ftl.now in
-    let commands = c.args.commands.now in
-    let old = g.W.Write.contents (inner_of c.args.writer.now) in
-    let all : c.loop-i.i ≡ length commands = omega arith in
-    let played : ArePlayed c.args.answers geo commands (length commands) (array_of c.loop-i.ftl) (stock_of c.loop-i.ftl) old
-    (g.W.Write.contents (inner_of c.loop-i.writer)) (waiting_of c.loop-i.desk.lines) =
-    subst (λ n. ArePlayed c.args.answers geo commands n (array_of c.loop-i.ftl) (stock_of c.loop-i.ftl) old
-    (g.W.Write.contents (inner_of c.loop-i.writer)) (waiting_of c.loop-i.desk.lines)) all c.loop-i.invariant.3 in
-    let whole = text_whole c.args.answers geo commands _ _ old _ _ _ _ _ played c.in_ok-make_room-2.ensures.moved c.end.ensures.lines in
-    OnErr-map _ _ c.hand_on.result
-    (λ part. AppendsBeginning-part old _ _ _ (written_of c.args.answers geo commands) (written_of c.args.answers geo commands) whole part
-    (Begins-refl (written_of c.args.answers geo commands))) c.hand_on.ensures.part
+    WritesOut-rest (written_of c.args.answers geo commands) (waiting_of c.end.new.self.lines) (known c.args.writer.now)
+    (known c.make_room-2.new.writer) (known c.hand_on.new.writer) c.hand_on.result
+    (c.in_ok-make_room-2.ensures.unfailed ∙ c.loop-i.invariant.2) whole c.hand_on.ensures.sent

@@ -6,6 +6,7 @@ use Rattle.answers.specs.Lines.{waiting_of}
 use Rattle.answers.specs.Streams.{over}
 use Rattle.runs.specs.Collections.{log_before}
 use Rattle.runs.specs.Logs.{IsLogged, is_wanted}
+use Rattle.runs.specs.Refusals.{refused_before}
 use Rattle.runs.specs.Steps.{ArePlayed}
 use Rattle.runs.proofs.one_thread.play.Given as goal
 
@@ -18,3 +19,4 @@ invariant-loop-i g l =
     (g.W.Write.contents (inner_of l.initial.writer)) (g.W.Write.contents (inner_of l.writer)) (waiting_of l.desk.lines)
     × (is_wanted l.log ≡ is_wanted l.initial.log)
     × IsLogged l.log (over g.V.Write.contents l.initial.file l.file) (log_before (geometry_of l.initial.ftl) l.commands l.i)
+    × (l.desk.refused ≡ refused_before (geometry_of l.initial.ftl) l.commands l.i)

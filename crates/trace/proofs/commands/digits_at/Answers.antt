@@ -17,6 +17,3 @@ returns-else-count-text c =
     let count : s.start - length text + c.from-count.result - (s.start - length text) ≡ s.brief.digits = omega (arith, c.from-count.ensures) in
     let behind : length text ≤ s.start = grind arith in
     ap (λ n. take n (drop (s.start - length text) c.args.odd.now)) count ∙ sym (digits-odd text c.args.odd.now s behind)
-
-pub overflow_sub-result : goal.overflow_sub-result
-overflow_sub-result c = grind arith

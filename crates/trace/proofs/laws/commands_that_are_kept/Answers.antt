@@ -5,9 +5,6 @@ use Rattle.trace.specs.Stored.{IsKept}
 use Rattle.trace.proofs.LawFacts.{data-0a, first_kept, no_data-0g, no_data-none, second_kept}
 use Rattle.trace.proofs.laws.commands_that_are_kept.Goals as goal
 
-pub returns-clause-none : goal.returns-clause-none
-returns-clause-none c text odd size = record { kept = All-nil (IsKept text odd size); few = omega arith }
-
 pub returns-clause-in_text : goal.returns-clause-in_text
 returns-clause-in_text c =
     let kept = IsKept (codes "0a") [] 1 in
@@ -23,12 +20,6 @@ returns-clause-after_text c =
       kept = All-cons kept (placed line_of_write 0) [] (record { within = omega arith; whole = inr (omega arith); fits = data-0a }) (All-nil kept);
       few = omega arith;
     }
-
-pub returns-clause-few : goal.returns-clause-few
-returns-clause-few c text odd size all kept few = record { kept = kept; few = few }
-
-pub returns-clause-many : goal.returns-clause-many
-returns-clause-many c text odd size all many h = omega (arith, many, h.few)
 
 pub returns-clause-past_end : goal.returns-clause-past_end
 returns-clause-past_end c h =

@@ -42,8 +42,5 @@ loop-piece-smaller g c =
     (piece_counted c.extend_from_slice.result c.read.new.buf _ _ _ _ c.in-Ok.ensures.bound.0 c.if-is_err.ensures.value
     c.extend_from_slice.ensures.len) c.if-count-eq0.false (rw c.len.ensures at c.loop-piece-test.true)
 
-pub returns-then-count-eq0-clause-unfailed : goal.returns-then-count-eq0-clause-unfailed
-returns-then-count-eq0-clause-unfailed g c = c.in-Ok.ensures.count ∙ c.loop-piece.invariant.unfailed
-
 pub returns-then-is_err-clause-why : goal.returns-then-is_err-clause-why
 returns-then-is_err-clause-why g c = rw c.whole-then-is_err.ensures (c.in-Ok.ensures.count ∙ c.loop-piece.invariant.unfailed)

@@ -44,56 +44,11 @@ records-preserved c =
           (drafted c.args.text.now c.add_cut.new.draft) next.fields _ _ c.in-Ok.ensures.so_far next.first (rw told c.in_default-add_cut.ensures.added);
     }
 
-pub returns-in-Err-clause-kept : goal.returns-in-Err-clause-kept
-returns-in-Err-clause-kept c = tt
-
 pub returns-in-Err-clause-commands : goal.returns-in-Err-clause-commands
 returns-in-Err-clause-commands c = tt
 
-pub returns-in-Err-clause-each : goal.returns-in-Err-clause-each
-returns-in-Err-clause-each c = tt
-
-pub returns-in_default-clause-fault : goal.returns-in_default-clause-fault
-returns-in_default-clause-fault c = rw c.whole.ensures refl
-
-pub returns-in_default-clause-first : goal.returns-in_default-clause-first
-returns-in_default-clause-first c = rw c.whole.ensures tt
-
-pub returns-in-End-clause-kept : goal.returns-in-End-clause-kept
-returns-in-End-clause-kept c = c.in-Ok.ensures.draft.kept
-
 pub returns-in-End-clause-each : goal.returns-in-End-clause-each
 returns-in-End-clause-each c = rw c.in-End.ensures at c.in-Ok.ensures.so_far ∙ append-nil _
-
-pub parse_rest-requires-clause-place : goal.parse_rest-requires-clause-place
-parse_rest-requires-clause-place c = c.in-Ok.ensures.within
-
-pub parse_rest-requires-clause-draft : goal.parse_rest-requires-clause-draft
-parse_rest-requires-clause-draft c = c.in-Ok.ensures.draft
-
-pub parse_rest-requires-clause-so_far : goal.parse_rest-requires-clause-so_far
-parse_rest-requires-clause-so_far c = c.in-Ok.ensures.so_far
-
-pub returns-in-Record-default-None-clause-kept : goal.returns-in-Record-default-None-clause-kept
-returns-in-Record-default-None-clause-kept c = c.parse_rest.ensures.kept
-
-pub returns-in-Record-default-None-clause-commands : goal.returns-in-Record-default-None-clause-commands
-returns-in-Record-default-None-clause-commands c = c.parse_rest.ensures.commands
-
-pub returns-in-Record-default-None-clause-each : goal.returns-in-Record-default-None-clause-each
-returns-in-Record-default-None-clause-each c = c.parse_rest.ensures.each
-
-pub returns-in-Record-default-None-clause-fault : goal.returns-in-Record-default-None-clause-fault
-returns-in-Record-default-None-clause-fault c = c.parse_rest.ensures.fault
-
-pub returns-in-Record-default-None-clause-first : goal.returns-in-Record-default-None-clause-first
-returns-in-Record-default-None-clause-first c = c.parse_rest.ensures.first
-
-pub add_cut-requires-clause-draft : goal.add_cut-requires-clause-draft
-add_cut-requires-clause-draft c = c.in-Ok.ensures.draft
-
-pub add_cut-requires-clause-within : goal.add_cut-requires-clause-within
-add_cut-requires-clause-within c = c.in-Record-default-Some.ensures.high
 
 pub add_cut-requires-clause-place : goal.add_cut-requires-clause-place
 add_cut-requires-clause-place c = rw c.in-Record-default-Some.field-1-is at c.in-Record-default-Some.ensures.place

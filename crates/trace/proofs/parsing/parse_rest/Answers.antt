@@ -1,4 +1,4 @@
-use Rattle.std.proofs.Common.{◌∙◌, ap, append-nil, inr, length, refl, sym}
+use Rattle.std.proofs.Common.{◌∙◌, ap, append-nil, inr, length, sym}
 use Rattle.std.proofs.lemmas.List.{take_rest}
 use Rattle.trace.specs.Trace.{records_of}
 use Rattle.trace.specs.declared.fault.TraceFaultKind.TheVariants.{Fields}
@@ -26,9 +26,6 @@ returns-in-Fields-clause-first c =
     rw (c.fault.ensures, c.next_line-line.ensures, line_is c.args.text.now c.records.draft)
     (first_other c.args.text.now c.args.geometry.now (drafted c.args.text.now c.records.draft) other.fields _ _ c.records.invariant.so_far other.first
     other.count)
-
-pub returns-in-Err-clause-fault : goal.returns-in-Err-clause-fault
-returns-in-Err-clause-fault c = rw c.whole.ensures refl
 
 pub returns-in-Err-add_read-clause-fault : goal.returns-in-Err-add_read-clause-fault
 returns-in-Err-add_read-clause-fault c =
@@ -73,20 +70,8 @@ records-init c = record {
   left = c.records-rows.ensures.all ∙ ap records_of (take_rest c.args.text.now c.args.start);
 }
 
-pub next_cut-requires : goal.next_cut-requires
-next_cut-requires c = c.records.invariant.place
-
-pub returns-in-End-clause-kept : goal.returns-in-End-clause-kept
-returns-in-End-clause-kept c = c.records.invariant.draft.kept
-
 pub returns-in-End-clause-each : goal.returns-in-End-clause-each
 returns-in-End-clause-each c = rw c.in-End.ensures at c.records.invariant.so_far ∙ append-nil _
-
-pub next_record-requires : goal.next_record-requires
-next_record-requires c = c.records.invariant.reading
-
-pub returns-in-Err-clause-first : goal.returns-in-Err-clause-first
-returns-in-Err-clause-first c = rw c.whole.ensures tt
 
 pub row_of-requires : goal.row_of-requires
 row_of-requires c =
@@ -94,9 +79,6 @@ row_of-requires c =
     let taken = rw c.in-Ok-true.field-0-test at c.in-Ok-true.ensures.takes in
     let same = same_first _ _ _ _ _ taken (c.records.invariant.left ∙ next.first) in
     ap length same.0 ∙ next.count
-
-pub add_read-requires : goal.add_read-requires
-add_read-requires c = record { draft = c.records.invariant.draft }
 
 pub records-smaller : goal.records-smaller
 records-smaller c = falls_next _ _ _ c.in-Record.ensures.low c.in-Record.ensures.high

@@ -1,22 +1,17 @@
 use Rattle.std.proofs.Common.{◌+◌, List, length, vec_len, refl, get_or, drop, sym, ap, ◌∙◌, arith, subst}
 use Rattle.std.proofs.lemmas.Grind.{common_steps}
-use Rattle.geometry.proofs.Histories.{Begins-refl}
+use Rattle.answers.specs.Lines.{waiting_of}
+use Rattle.answers.specs.Streams.{stream_of}
 use Rattle.trace.specs.Watched.{inner_of}
-use Rattle.answers.proofs.Deliveries.{AppendsBeginning-part, OnErr-any, OnErr-map}
+use Rattle.answers.proofs.Deliveries.{WritesOut-rest, WritesOut-stopped}
 use Rattle.rounds.specs.Rows.{answers_by}
 use Rattle.std.proofs.lemmas.List.{length-map}
 use Rattle.rounds.specs.Answers.{place_of}
 use Rattle.rounds.specs.declared.answer_list.Cursor.{Cursor}
 use Rattle.runs.specs.Delivering.{AreAt, digits_in, passed_in, text_of, HasDigits}
-use Rattle.runs.proofs.Deliveries.{delivery_turn, delivery_whole, text_begins}
+use Rattle.runs.proofs.Deliveries.{delivery_turn, delivery_whole, text_before, text_begins}
 use Rattle.runs.proofs.Rows.{all_digits, answer_found, lent, none_passed, all_at, next_is, next_more, next_there, AreNext}
 use Rattle.runs.proofs.delivery.Delivery.deliver.Goals as goal
-
-pub returns-in_err-make_room-clause-part : goal.returns-in_err-make_room-clause-part
-returns-in_err-make_room-clause-part g c =
-    OnErr-any _ c.from_residual.result
-    (AppendsBeginning-part _ _ _ _ _ _ c.loop-i.invariant.text c.in_err-make_room.ensures.part
-    (text_begins c.loop-i.i c.args.commands.now (answers_by c.args.rows.now)))
 
 pub next_answer-answer-requires-clause-there : goal.next_answer-answer-requires-clause-there
 next_answer-answer-requires-clause-there g c =
@@ -63,23 +58,6 @@ loop-i-preserved g c =
           c.command-command.ensures.at answer c.put_answer.ensures.waiting;
     }
 
-pub returns-in_err-make_room-2-clause-part : goal.returns-in_err-make_room-2-clause-part
-returns-in_err-make_room-2-clause-part g c =
-    OnErr-any _ c.from_residual-in_err-make_room-2.result
-    (AppendsBeginning-part _ _ _ _ _ _ c.loop-i.invariant.text c.in_err-make_room-2.ensures.part
-    (text_begins c.loop-i.i c.args.commands.now (answers_by c.args.rows.now)))
-
-pub returns-clause-part : goal.returns-clause-part
-returns-clause-part g c =
-    let commands = c.args.commands.now in
-    let rows = answers_by c.args.rows.now in
-    let old = g.W.Write.contents (inner_of c.args.writer.now) in
-    let whole = delivery_whole c.loop-i.i commands rows old _ _ _ _ _
-    (omega arith) c.loop-i.invariant.text c.in_ok-make_room-2.ensures.moved c.end.ensures.waiting in
-    OnErr-map _ _ c.hand_on.result
-    (λ part. AppendsBeginning-part old _ _ _ (text_of commands rows) (text_of commands rows) whole part (Begins-refl (text_of commands rows)))
-    c.hand_on.ensures.part
-
 pub loop-i-init : goal.loop-i-init
 loop-i-init g c =
     let self = c.args.self in
@@ -92,5 +70,33 @@ loop-i-init g c =
       text = grind (arith, common_steps);
     }
 
-pub returns-clause-sent : goal.returns-clause-sent
-returns-clause-sent g c = grind (arith, common_steps)
+pub returns-in_err-make_room : goal.returns-in_err-make_room
+returns-in_err-make_room g c =
+    let commands = c.args.commands.now in
+    let rows = answers_by c.args.rows.now in
+    let known = stream_of g.W.Write.contents in
+    let told = c.in_err-make_room.ensures in
+    WritesOut-stopped (text_of commands rows) (text_before c.loop-i.i commands rows) (waiting_of c.loop-i.lines)
+    (known c.args.writer.now) (known c.loop-i.writer) (known c.make_room.new.writer) c.from_residual.result
+    c.loop-i.invariant.unfailed c.loop-i.invariant.text (text_begins c.loop-i.i commands rows) told.failed told.part c.from_residual.ensures.0
+
+pub returns-in_err-make_room-2 : goal.returns-in_err-make_room-2
+returns-in_err-make_room-2 g c =
+    let commands = c.args.commands.now in
+    let rows = answers_by c.args.rows.now in
+    let known = stream_of g.W.Write.contents in
+    let told = c.in_err-make_room-2.ensures in
+    WritesOut-stopped (text_of commands rows) (text_before c.loop-i.i commands rows) (waiting_of c.loop-i.lines)
+    (known c.args.writer.now) (known c.loop-i.writer) (known c.make_room-2.new.writer) c.from_residual-in_err-make_room-2.result
+    c.loop-i.invariant.unfailed c.loop-i.invariant.text (text_begins c.loop-i.i commands rows) told.failed told.part
+    c.from_residual-in_err-make_room-2.ensures.0
+
+pub returns : goal.returns
+returns g c =
+    let commands = c.args.commands.now in
+    let rows = answers_by c.args.rows.now in
+    let known = stream_of g.W.Write.contents in
+    let whole = delivery_whole c.loop-i.i commands rows (g.W.Write.contents (inner_of c.args.writer.now)) _ _ _ _ _
+    (omega arith) c.loop-i.invariant.text c.in_ok-make_room-2.ensures.moved c.end.ensures.waiting in
+    WritesOut-rest (text_of commands rows) (waiting_of c.end.new.self) (known c.args.writer.now) (known c.make_room-2.new.writer)
+    (known c.hand_on.new.writer) c.hand_on.result (c.in_ok-make_room-2.ensures.unfailed ∙ c.loop-i.invariant.unfailed) whole c.hand_on.ensures.sent

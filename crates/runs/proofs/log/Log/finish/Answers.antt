@@ -13,4 +13,4 @@ returns-in-Open g c = λ before text logged.
     subst (λ (s : Log). EndsText (is_wanted s) text (record { before = before; after = new }) c.hand_on.result) (sym c.in-Open.is)
     (ends_open c.in-Open.lines before old new text c.hand_on.result
     (subst (λ (s : Log). IsLogged s (record { before = before; after = old }) text) c.in-Open.is logged)
-    c.hand_on.ensures.sent c.hand_on.ensures.unfailed c.hand_on.ensures.part c.hand_on.ensures.failed)
+    c.hand_on.ensures.sent)

@@ -1,0 +1,204 @@
+ghost use Rattle.std.specs.Prelude.{◌≤◌};
+
+use crate::bench::{Call, SECTORS, chip, expect, make, open, power_on, read};
+use nand::{Chip, Cut, Durable, Failure, Shape};
+use std::process::Abort;
+use std::test::Fail;
+
+// A linear congruential generator: a run is the same each time.
+#[derive(Drop)]
+struct Random(u64);
+
+impl Random {
+    // At most the bound.
+    fn below(&mut self, bound: u64) -> u64
+        ensures { result ≤ bound }
+    {
+        self.0 = self
+            .0
+            .wrapping_mul(6364136223846793005)
+            .wrapping_add(1442695040888963407);
+        if bound == 0 {
+            return 0;
+        }
+        (self.0 >> 33) % bound
+    }
+
+    fn call(&mut self, sectors: u32) -> Call {
+        let sector = (self.below(u64::from(sectors)) % 4294967296) as u32;
+        let byte = (self.below(255) % 256) as u8;
+        match self.below(8) {
+            0 => Call::Trim(sector),
+            1 => Call::WriteNew(sector, byte),
+            _ => Call::Write(sector, byte),
+        }
+    }
+
+    fn cut(&mut self) -> Cut {
+        match self.below(4) {
+            0 => Cut::Nothing,
+            1 => Cut::Whole,
+            _ => Cut::Part(self.below(1 << 32)),
+        }
+    }
+}
+
+// A layer whose chip loses its power, and the array that it has to hold.
+#[derive(Drop)]
+struct Run {
+    sectors: u32,
+    shadow: [Option<u8>; SECTORS],
+    random: Random,
+    calls: u64,
+    cuts: u64,
+}
+
+impl Run {
+    fn held(&self, sector: u32) -> Option<u8> {
+        self.shadow.get(sector as usize).copied().flatten()
+    }
+
+    fn note(&mut self, sector: u32, value: Option<u8>) {
+        if (sector as usize) < SECTORS {
+            self.shadow[sector as usize] = value;
+        }
+    }
+
+    // Each sector has to hold what was acknowledged; the one of a call that was cut short may hold its value already.
+    fn check(&mut self, rt: &impl Abort, layer: &mut Durable<Chip>, cut_short: Option<Call>) {
+        for sector in 0..self.sectors {
+            let found = read(rt, layer, sector);
+            let held = self.held(sector);
+            if let Some(call) = cut_short {
+                if call.sector() == sector && found == Ok(call.value(held)) {
+                    self.note(sector, call.value(held));
+                    continue;
+                }
+            }
+            expect(rt, found == Ok(held), &(self.calls, sector, found, held));
+        }
+    }
+
+    // Makes calls until the power goes, or until there were so many.
+    fn until_cut(&mut self, rt: &impl Abort, layer: &mut Durable<Chip>, most: u64) -> Option<Call> {
+        for _ in 0..most {
+            let call = self.random.call(self.sectors);
+            let held = self.held(call.sector());
+            self.calls = self.calls.wrapping_add(1);
+            match make(rt, layer, call, held) {
+                Ok(()) => self.note(call.sector(), call.value(held)),
+                Err(failure) => {
+                    expect(rt, failure == Failure::PowerGone, &(self.calls, failure));
+                    return Some(call);
+                }
+            }
+        }
+        None
+    }
+}
+
+fn start(sectors: u32, seed: u64) -> Run {
+    Run {
+        sectors,
+        shadow: [None; SECTORS],
+        random: Random(seed),
+        calls: 0,
+        cuts: 0,
+    }
+}
+
+// One run: cuts at random, each followed by a mount that first finds no power.
+fn play(
+    rt: &(impl Abort + AllocGlobal),
+    blocks: u32,
+    pages: u32,
+    sectors: u32,
+    seed: u64,
+    calls: u64,
+) -> Result<(), Fail> {
+    let mut run = start(sectors, seed);
+    let mut chip = chip(rt.alloc(), blocks, pages)?;
+    for _ in 0..calls {
+        if run.calls >= calls {
+            break;
+        }
+        let commands = 1 + run.random.below(60);
+        let cut = run.random.cut();
+        chip.cut_at(chip.commands().wrapping_add(commands), cut);
+        let Some(mut layer) = open(rt, chip, sectors) else {
+            return Ok(());
+        };
+        run.check(rt, &mut layer, None);
+        let cut_short = run.until_cut(rt, &mut layer, 200);
+        chip = layer.into_nand();
+        if cut_short.is_some() {
+            run.cuts = run.cuts.wrapping_add(1);
+            chip = power_on(rt, chip, sectors);
+        }
+        let Some(mut layer) = open(rt, chip, sectors) else {
+            return Ok(());
+        };
+        run.check(rt, &mut layer, cut_short);
+        chip = layer.into_nand();
+    }
+    expect(rt, chip.violations() == 0, &chip.violations());
+    expect(rt, run.cuts > calls / 200, &(run.calls, run.cuts));
+    Ok(())
+}
+
+#[test]
+fn a_cut_at_each_command_in_turn(rt: HostRuntime) -> Result<(), Fail> {
+    for command in 0..120 {
+        for kind in 0..4u64 {
+            let mut run = start(3, command * 4 + kind);
+            let mut chip = chip(rt.alloc(), 3, 2)?;
+            let cut = run.random.cut();
+            chip.cut_at(command, cut);
+            let Some(mut layer) = open(&rt, chip, 3) else {
+                return Ok(());
+            };
+            let cut_short = run.until_cut(&rt, &mut layer, 1000);
+            expect(&rt, cut_short.is_some(), &command);
+            let chip = power_on(&rt, layer.into_nand(), 3);
+            let Some(mut layer) = open(&rt, chip, 3) else {
+                return Ok(());
+            };
+            run.check(&rt, &mut layer, cut_short);
+            let more = run.until_cut(&rt, &mut layer, 40);
+            expect(&rt, more.is_none(), &command);
+            run.check(&rt, &mut layer, None);
+        }
+    }
+    Ok(())
+}
+
+#[test]
+fn many_calls_with_cuts_at_random(rt: HostRuntime) -> Result<(), Fail> {
+    play(&rt, 3, 2, 3, 1, 20_000)?;
+    play(&rt, 4, 3, 8, 2, 20_000)?;
+    play(&rt, 5, 4, 15, 3, 20_000)?;
+    play(&rt, 8, 4, 16, 4, 20_000)?;
+    Ok(())
+}
+
+#[test]
+fn a_large_chip_is_opened(rt: HostRuntime) -> Result<(), Fail> {
+    let chip = Chip::new(
+        rt.alloc(),
+        Shape {
+            blocks: 1024,
+            pages: 256,
+            page_bytes: 1,
+        },
+    )?;
+    let Some(mut layer) = open(&rt, chip, 200_000) else {
+        return Ok(());
+    };
+    assert!(rt; make(&rt, &mut layer, Call::Write(199_999, 5), None).is_ok());
+    let Some(mut layer) = open(&rt, layer.into_nand(), 200_000) else {
+        return Ok(());
+    };
+    assert!(rt; read(&rt, &mut layer, 199_999) == Ok(Some(5)));
+    assert!(rt; read(&rt, &mut layer, 0) == Ok(None));
+    Ok(())
+}

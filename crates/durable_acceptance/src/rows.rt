@@ -1,0 +1,172 @@
+use crate::bench::{Call, chip, expect, make, open, power_on, read};
+use nand::{Change, Chip, Cut, Durable, Failure, Nand, PageAddr, Reading, Shape};
+use std::process::Abort;
+use std::test::Fail;
+
+// 3 blocks of 2 pages, 3 sectors. The first four writes fill blocks 0 and 1 by the commands 0 to 5. The fifth writes sector 1 again:
+// command 6 erases block 2, command 7 copies sector 1 from block 0 to page 0 of block 2, and command 8 programs page 1.
+const WRITES: [(u32, u8); 5] = [(0, 1), (1, 2), (2, 3), (0, 4), (1, 5)];
+
+// Where the power goes, and what sector 1 holds afterwards.
+const ROWS: [(u64, Cut, u8); 9] = [
+    (6, Cut::Nothing, 2),
+    (6, Cut::Part(0x6), 2),
+    (6, Cut::Whole, 2),
+    (7, Cut::Nothing, 2),
+    (7, Cut::Part(0), 2),
+    (7, Cut::Whole, 2),
+    (8, Cut::Nothing, 2),
+    (8, Cut::Part(0), 2),
+    (8, Cut::Whole, 5),
+];
+
+fn check_row(
+    rt: &(impl Abort + AllocGlobal),
+    command: u64,
+    cut: Cut,
+    holds: u8,
+) -> Result<(), Fail> {
+    let mut chip = chip(rt.alloc(), 3, 2)?;
+    chip.cut_at(command, cut);
+    let Some(mut layer) = open(rt, chip, 3) else {
+        return Ok(());
+    };
+    for (i, (sector, byte)) in WRITES.iter().enumerate() {
+        let done = make(rt, &mut layer, Call::Write(*sector, *byte), None);
+        expect(rt, done.is_ok() == (i < 4), &(command, cut, i));
+        expect(rt, done.is_ok() || done == Err(Failure::PowerGone), &done);
+    }
+    let chip = power_on(rt, layer.into_nand(), 3);
+    expect(
+        rt,
+        chip.commands() == command.wrapping_add(1),
+        &chip.commands(),
+    );
+    let Some(mut layer) = open(rt, chip, 3) else {
+        return Ok(());
+    };
+    let found = (
+        read(rt, &mut layer, 0),
+        read(rt, &mut layer, 1),
+        read(rt, &mut layer, 2),
+    );
+    expect(
+        rt,
+        found == (Ok(Some(4)), Ok(Some(holds)), Ok(Some(3))),
+        &(command, cut, found),
+    );
+    Ok(())
+}
+
+#[test]
+fn each_cut_of_a_write_that_collects(rt: HostRuntime) -> Result<(), Fail> {
+    for (command, cut, holds) in ROWS {
+        assert!(rt; command < 9);
+        check_row(&rt, command, cut, holds)?;
+    }
+    Ok(())
+}
+
+// A program that fails is a power cut: it leaves a torn page, and the chip is opened again.
+#[test]
+fn a_command_that_fails_loses_nothing(rt: HostRuntime) -> Result<(), Fail> {
+    for command in 0..9 {
+        let mut chip = chip(rt.alloc(), 3, 2)?;
+        chip.fail_at(command);
+        let Some(mut layer) = open(&rt, chip, 3) else {
+            return Ok(());
+        };
+        let mut failures = 0u64;
+        for (sector, byte) in WRITES {
+            let mut done = make(&rt, &mut layer, Call::Write(sector, byte), None);
+            if done == Err(Failure::Failed) {
+                failures = failures.wrapping_add(1);
+                let Some(again) = open(&rt, layer.into_nand(), 3) else {
+                    return Ok(());
+                };
+                layer = again;
+                done = make(&rt, &mut layer, Call::Write(sector, byte), None);
+            }
+            expect(&rt, done.is_ok(), &(command, sector, done));
+        }
+        let found = (
+            read(&rt, &mut layer, 0),
+            read(&rt, &mut layer, 1),
+            read(&rt, &mut layer, 2),
+        );
+        expect(
+            &rt,
+            found == (Ok(Some(4)), Ok(Some(5)), Ok(Some(3))),
+            &(command, found),
+        );
+        expect(&rt, failures == 1, &(command, failures));
+        assert!(rt; layer.into_nand().violations() == 0);
+    }
+    Ok(())
+}
+
+// The program of the first write fails, so that it isn't acknowledged; the calls after it are.
+#[test]
+fn a_list_of_calls_goes_on_after_a_failure(rt: HostRuntime) -> Result<(), Fail> {
+    let mut nand = Chip::new(
+        rt.alloc(),
+        Shape {
+            blocks: 3,
+            pages: 2,
+            page_bytes: 1,
+        },
+    )?;
+    nand.fail_at(1);
+    let changes = [
+        Change::Write(0, vec![in rt.alloc(); 7; 1]?),
+        Change::Write(1, vec![in rt.alloc(); 8; 1]?),
+        Change::Trim(1),
+        Change::Write(2, vec![in rt.alloc(); 9; 1]?),
+    ];
+    let mut acknowledged = Vec::new(rt.alloc());
+    match Durable::make_all(rt.alloc(), nand, 3, &changes, &mut acknowledged) {
+        Ok(mut layer) => {
+            assert!(rt; acknowledged.as_slice() == [false, true, true, true].as_slice());
+            assert!(rt; read(&rt, &mut layer, 0) == Ok(None));
+            assert!(rt; read(&rt, &mut layer, 1) == Ok(None));
+            assert!(rt; read(&rt, &mut layer, 2) == Ok(Some(9)));
+        }
+        Err(refused) => expect(&rt, false, &refused.why),
+    }
+    Ok(())
+}
+
+#[test]
+fn a_chip_keeps_its_bad_marks_and_counts_its_erases(rt: HostRuntime) -> Result<(), Fail> {
+    let mut nand = chip(rt.alloc(), 3, 2)?;
+    assert!(rt; nand.shape().blocks == 3);
+    assert!(rt; nand.mark_bad(1).is_ok());
+    assert!(rt; nand.is_bad(1) == Ok(true));
+    assert!(rt; nand.is_bad(0) == Ok(false));
+    assert!(rt; nand.erase(0).is_ok() && nand.erase(0).is_ok());
+    assert!(rt; nand.erases(0) == 2);
+    assert!(rt; nand.erases(1) == 0);
+    Ok(())
+}
+
+#[test]
+fn a_page_that_is_lost_cannot_be_read(rt: HostRuntime) -> Result<(), Fail> {
+    let Some(mut layer) = open(&rt, chip(rt.alloc(), 3, 2)?, 3) else {
+        return Ok(());
+    };
+    expect(
+        &rt,
+        make(&rt, &mut layer, Call::Write(0, 1), None).is_ok(),
+        &1,
+    );
+    expect(
+        &rt,
+        make(&rt, &mut layer, Call::Write(0, 2), None).is_ok(),
+        &2,
+    );
+    let mut nand = layer.into_nand();
+    let at = PageAddr { block: 0, page: 1 };
+    nand.lose_page(at);
+    assert!(rt; nand.stamp(at) == Ok(Reading::Unreadable));
+    Ok(())
+}

@@ -1,0 +1,151 @@
+//! Makes random calls on small devices with power cuts, and prints the commands that the core gives for them, and its map after
+//! each mount. `bench/power_cuts/check` compares them with the model's rule.
+#![tactic(auto)]
+
+mod flash;
+mod random;
+
+use durable::{Command, Core, Mount};
+use flash::{Flash, Version};
+use random::Random;
+
+const RUNS: u64 = 36;
+
+const CALLS: u64 = 60;
+
+// Blocks, pages of a block, and sectors.
+const DEVICES: [(u32, u32, u32); 6] = [
+    (3, 2, 1),
+    (3, 2, 3),
+    (4, 2, 5),
+    (3, 3, 5),
+    (5, 2, 6),
+    (4, 3, 6),
+];
+
+fn main(rt: HostRuntime) -> anyhow::Result<()> {
+    for seed in 0..RUNS {
+        let (blocks, pages, sectors) = DEVICES[(seed % 6) as usize];
+        let flash = Flash::new(rt.alloc(), blocks, pages)?;
+        play(&rt, flash, sectors, Random::new(seed))?;
+    }
+    Ok(())
+}
+
+fn play(
+    rt: &(impl Print + AllocGlobal),
+    flash: Flash,
+    sectors: u32,
+    random: Random,
+) -> anyhow::Result<()> {
+    let (mut flash, mut random) = (flash, random);
+    println!(rt; "device {} {} {sectors}", flash.blocks, flash.pages)?;
+    let mut core = mount(rt, &flash, sectors)?;
+    for _ in 0..CALLS {
+        let sector = random.below(sectors);
+        let value = random.below(3);
+        println!(rt; "call {sector} {value}")?;
+        if value == 0 && !is_written(&core, &flash, sector) {
+            println!(rt; "nothing")?;
+            continue;
+        }
+        if !call(rt, &mut core, &mut flash, &mut random, sector, value)? {
+            core = mount(rt, &flash, sectors)?;
+        }
+    }
+    Ok(())
+}
+
+// Gives the commands of a call, and tells whether it came to its end without a cut.
+fn call(
+    rt: &(impl Print + AllocGlobal),
+    core: &mut Core,
+    flash: &mut Flash,
+    random: &mut Random,
+    sector: u32,
+    value: u32,
+) -> anyhow::Result<bool> {
+    for _ in 0..=flash.pages {
+        if sector >= core.sectors() {
+            return Ok(false);
+        }
+        let command = core.next(sector);
+        match command {
+            Command::Program(at, number) => print!(rt;
+                "program {} {} {number} ",
+                at.block, at.page
+            )?,
+            Command::Copy(_, from, to) => {
+                print!(rt;
+                    "copy {} {} {} {} ",
+                    from.block, from.page, to.block, to.page
+                )?
+            }
+            Command::Erase(block) => print!(rt; "erase {block} ")?,
+            Command::Refused => print!(rt; "refused ")?,
+        }
+        let version = Version::of(sector, command, value);
+        if random.below(12) == 0 {
+            let part = random.below(729);
+            println!(rt; "cut {part}")?;
+            flash.cut(command, version, part);
+            return Ok(false);
+        }
+        println!(rt; "done")?;
+        flash.perform(command, version);
+        core.done(sector, command);
+        if command.is_last() {
+            return Ok(true);
+        }
+    }
+    Ok(false)
+}
+
+fn is_written(core: &Core, flash: &Flash, sector: u32) -> bool {
+    if sector >= core.sectors() {
+        return false;
+    }
+    match core.page(sector) {
+        Some(at) => flash.value(at) != 0,
+        None => false,
+    }
+}
+
+// Mounts, and prints of each sector its page and its value.
+fn mount(rt: &(impl Print + AllocGlobal), flash: &Flash, sectors: u32) -> anyhow::Result<Core> {
+    let mut mount = Mount::begin(rt.alloc(), flash.blocks, flash.pages, sectors)?;
+    for _ in 0..flash.cells() {
+        if let Some(at) = mount.next_page() {
+            mount.note(flash.stamp(at))?;
+        }
+    }
+    if mount.next_page().is_some() {
+        anyhow::bail!("a stamp was not noted");
+    }
+    let core = mount.finish(rt.alloc())?;
+    print!(rt; "mount")?;
+    for sector in 0..core.sectors() {
+        print_entry(rt, &core, flash, sector)?;
+    }
+    println!(rt; "")?;
+    Ok(core)
+}
+
+fn print_entry(
+    rt: &(impl Print + AllocGlobal),
+    core: &Core,
+    flash: &Flash,
+    sector: u32,
+) -> anyhow::Result<()> {
+    if sector >= core.sectors() {
+        return Ok(());
+    }
+    match core.page(sector) {
+        Some(at) => {
+            let value = flash.value(at);
+            print!(rt; " {}.{}={value}", at.block, at.page)?
+        }
+        None => print!(rt; " -")?,
+    }
+    Ok(())
+}

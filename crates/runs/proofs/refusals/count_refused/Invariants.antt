@@ -1,0 +1,14 @@
+use Rattle.std.proofs.Common.{◌≡◌, length}
+use Rattle.rounds.specs.Rows.{answers_by}
+use Rattle.runs.specs.Delivering.{AreAt, passed_in}
+use Rattle.runs.proofs.RefusedWrites.{lines_refused}
+use Rattle.runs.proofs.Rows.{AreNext}
+use Rattle.runs.proofs.refusals.count_refused.Given as goal
+
+abbrev pub invariant-loop-i : goal.invariant-loop-i
+invariant-loop-i l = record {
+  next : AreNext (passed_in l.next) l.i l.commands;
+  at : AreAt l.rows l.next;
+  long : length l.next ≡ length l.rows;
+  count : l.refused ≡ lines_refused l.i l.commands (answers_by l.rows);
+}
