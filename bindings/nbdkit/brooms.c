@@ -13,18 +13,24 @@
 
 enum {
     DRAINS_OF_A_SURVEY = 64,
+    POOR_PART = 8, // a drain that wins back less than this part of a block is made when a write waits, and not ahead of it
     HEAD_START = 10, // how many nice values a broom's thread is below those of the requests
 };
 
-int brooms_begin(struct brooms *brooms, const struct options *options, struct stock *stock, struct mintlintel_seat *seats) {
-    *brooms = (struct brooms){.stock = stock, .count = options->brooms, .blocks = options->blocks};
+int brooms_begin(struct brooms *brooms, const struct options *options, struct stock *stock, struct luns *luns,
+                 struct mintlintel_seat *seats) {
+    uint64_t most = options->blocks * (uint64_t) options->endurance;
+    *brooms = (struct brooms){.stock = stock, .luns = luns, .count = options->brooms, .blocks = options->blocks, .pages = options->pages};
+    brooms->endurance = options->endurance;
+    brooms->warn_at = (most * options->warn + 99) / 100;
     brooms->brooms = aligned_alloc(_Alignof(struct broom), (options->brooms + 1) * sizeof *brooms->brooms);
     brooms->erases = calloc(options->blocks, sizeof *brooms->erases);
     brooms->is_retired = calloc(options->blocks, sizeof *brooms->is_retired);
     int is_short = !brooms->brooms || !brooms->erases || !brooms->is_retired;
     for (uint32_t i = 0; i < options->brooms && brooms->brooms; i++) {
         struct broom *broom = &brooms->brooms[i];
-        *broom = (struct broom){.seat = &seats[i], .all = brooms, .number = i};
+        *broom = (struct broom){.seat = &seats[i], .all = brooms, .number = i, .destination = NO_BLOCK};
+        broom->spare = options->blocks - options->brooms + i; // the library's choice on a new device
         broom->drained = calloc(options->blocks, sizeof *broom->drained);
         is_short |= !broom->drained;
     }
@@ -58,12 +64,75 @@ static void set_spareless(struct broom *broom, int is_spareless) {
 }
 
 static void count_erase(struct broom *broom, uint32_t block) {
-    atomic_fetch_add_explicit(&broom->all->erases[block], 1, memory_order_relaxed);
+    struct brooms *all = broom->all;
+    uint32_t erases = atomic_fetch_add_explicit(&all->erases[block], 1, memory_order_relaxed) + 1;
+    if (erases + 1 == all->endurance)
+        stock_near_end(all->stock);
+    uint64_t done = atomic_fetch_add_explicit(&all->all_erases, 1, memory_order_relaxed) + 1;
+    if (done == all->warn_at)
+        nbdkit_error("warning: %" PRIu64 " erases are done, and all %" PRIu32 " blocks together have %" PRIu64 ": the device is near its end", done,
+                     all->blocks, all->blocks * (uint64_t) all->endurance);
 }
+
+// ---- The time that commands take.
+
+static void sleep_until(struct broom *broom, uint64_t until) {
+    if (until > 0 && !stock_is_stopping(broom->all->stock))
+        luns_sleep(until);
+}
+
+// The block of the next copy.
+static uint32_t next_destination(struct broom *broom) {
+    if (broom->destination == NO_BLOCK || broom->filled == broom->all->pages) {
+        broom->destination = atomic_exchange(&broom->spare, NO_BLOCK);
+        broom->filled = 0;
+    }
+    broom->filled++;
+    return broom->destination;
+}
+
+// Copies that a host was before with its write are pages of the destination too.
+static void count_filled(struct broom *broom) {
+    struct mintlintel_state state;
+    if (broom->destination != NO_BLOCK && mintlintel_broom_block(announced(broom->seat), broom->destination, &state) == MINTLINTEL_DONE)
+        broom->filled = state.phase == MINTLINTEL_PHASE_OPEN ? state.written : broom->all->pages;
+}
+
+// The copies of a drain take their time one after the other, so that requests come between them.
+static void take_copies(struct broom *broom, uint32_t victim, uint32_t count) {
+    uint64_t until = 0;
+    for (uint32_t i = 0; i < count; i++) {
+        uint32_t to = next_destination(broom);
+        until = luns_copy(broom->all->luns, victim, to == NO_BLOCK ? victim : to, until);
+        sleep_until(broom, until);
+    }
+    count_filled(broom);
+}
+
+static int is_spare(const struct brooms *all, uint32_t block) {
+    for (uint32_t i = 0; i < all->count; i++)
+        if (atomic_load(&all->brooms[i].spare) == block)
+            return 1;
+    return 0;
+}
+
+// The spare that a broom has just taken: an open block without a page.
+static uint32_t find_spare(struct broom *broom) {
+    struct mintlintel_state state;
+    for (uint32_t block = 0; block < broom->all->blocks; block++)
+        if (mintlintel_broom_block(announced(broom->seat), block, &state) == MINTLINTEL_DONE && state.phase == MINTLINTEL_PHASE_OPEN &&
+            state.written == 0 && !is_spare(broom->all, block))
+            return block;
+    return NO_BLOCK;
+}
+
+// ---- What a broom does.
 
 // Erases a drained block. 0 if a host reads it, so that it has to wait.
 static int erase(struct broom *broom, uint32_t block) {
     uint32_t code = mintlintel_broom_erase(announced(broom->seat), block);
+    if (code == MINTLINTEL_DONE || code == MINTLINTEL_KEPT || code == MINTLINTEL_RETIRED)
+        sleep_until(broom, luns_erase(broom->all->luns, block, 0));
     switch (code) {
     case MINTLINTEL_DONE:
         count_erase(broom, block);
@@ -72,11 +141,13 @@ static int erase(struct broom *broom, uint32_t block) {
     case MINTLINTEL_KEPT:
         count_erase(broom, block);
         tally_add(&broom->kept, 1);
+        atomic_store(&broom->spare, block);
         set_spareless(broom, 0);
         break;
     case MINTLINTEL_RETIRED:
         count_erase(broom, block);
         atomic_store_explicit(&broom->all->is_retired[block], 1, memory_order_relaxed);
+        stock_count_retired(broom->all->stock);
         break;
     case MINTLINTEL_PINNED:
         tally_add(&broom->pinned, 1);
@@ -122,6 +193,7 @@ static int restock(struct broom *broom) {
     uint32_t code = mintlintel_broom_restock(announced(broom->seat));
     if (code == MINTLINTEL_DONE) {
         tally_add(&broom->restocks, 1);
+        atomic_store(&broom->spare, find_spare(broom));
         set_spareless(broom, 0);
         return 1;
     }
@@ -134,10 +206,13 @@ static int restock(struct broom *broom) {
 // Drains a block. 0 if there is nothing to gain, or no place to copy to.
 static int drain(struct broom *broom) {
     uint32_t block = 0, moved = 0, code = drain_one(broom, &block, &moved);
+    broom->was_poor = 0;
     switch (code) {
     case MINTLINTEL_DONE:
+        broom->was_poor = moved > broom->all->pages - broom->all->pages / POOR_PART;
         tally_add(&broom->drains, 1);
         tally_add(&broom->copies, moved);
+        take_copies(broom, block, moved);
         broom->drained[broom->drained_count++] = block;
         return 1;
     case MINTLINTEL_LOST:
@@ -169,7 +244,7 @@ static void *sweep(void *argument) {
         was_fruitful |= erase_drained(broom);
         if (!was_fruitful)
             tally_add(&broom->fruitless, 1);
-        stock_end_round(stock, broom->number, known, !was_fruitful);
+        stock_end_round(stock, broom->number, known, !was_fruitful, broom->was_poor);
     }
     return NULL;
 }

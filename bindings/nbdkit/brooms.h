@@ -5,7 +5,10 @@
 #include <pthread.h>
 #include <stdint.h>
 
+#include "luns.h"
 #include "stock.h"
+
+enum { NO_BLOCK = UINT32_MAX };
 
 struct broom {
     _Alignas(64) struct mintlintel_seat *seat;
@@ -16,20 +19,27 @@ struct broom {
     uint32_t drained_count;
     uint32_t drains_of_survey; // drains by the survey that it keeps
     int is_spareless, has_failed;
+    int was_poor; // its last drain moved nearly a whole block
+    uint32_t destination, filled; // the block that it copies to, and how many of its pages are copies; or NO_BLOCK
+    _Atomic uint32_t spare;       // the block after that, or NO_BLOCK
     tally drains, copies, kept, restocks, pinned, lost, fruitless;
 };
 
 struct brooms {
     struct stock *stock;
+    struct luns *luns;
     struct broom *brooms;
     uint32_t count, started;
-    uint32_t blocks;
+    uint32_t blocks, pages, endurance;
+    uint64_t warn_at;            // at this many erases of all blocks a warning is given, or 0
+    _Atomic uint64_t all_erases;
     _Atomic uint32_t *erases;    // of each block
     _Atomic uint8_t *is_retired; // of each block
 };
 
 // 0, or -1 with an error reported if there is no memory.
-int brooms_begin(struct brooms *brooms, const struct options *options, struct stock *stock, struct mintlintel_seat *seats);
+int brooms_begin(struct brooms *brooms, const struct options *options, struct stock *stock, struct luns *luns,
+                 struct mintlintel_seat *seats);
 void brooms_end(struct brooms *brooms);
 
 // Starts the threads: 0, or -1 with an error reported. They end after stock_stop, and brooms_join waits for them.

@@ -5,6 +5,7 @@
 #include <stdlib.h>
 #include <string.h>
 
+#include "age.h"
 #include "counts.h"
 
 static int open_seats(struct device *device) {
@@ -34,19 +35,23 @@ static void close_seats(struct device *device) {
 }
 
 int device_open(struct device *device) {
+    const struct options *options = &device->options;
+    if (unreadable_begin(&device->unreadable, &options->unreadable, options->sectors) == -1)
+        return -1;
     if (open_seats(device) == -1) {
         close_seats(device);
         return -1;
     }
-    if (stock_begin(&device->stock, &device->options, device->host_seats) == -1) {
+    if (stock_begin(&device->stock, options, device->host_seats) == -1) {
         close_seats(device);
         return -1;
     }
-    if (brooms_begin(&device->brooms, &device->options, &device->stock, device->broom_seats) == -1) {
+    if (brooms_begin(&device->brooms, options, &device->stock, &device->luns, device->broom_seats) == -1) {
         stock_end(&device->stock);
         close_seats(device);
         return -1;
     }
+    luns_begin(&device->luns, &options->part, options->luns, options->blocks);
     sector_locks_begin(&device->locks);
     device->is_open = 1;
     return 0;
@@ -55,7 +60,12 @@ int device_open(struct device *device) {
 int device_start(struct device *device) {
     if (device->options.stats && counts_start(device) == -1)
         return -1;
-    return brooms_start(&device->brooms);
+    if (brooms_start(&device->brooms) == -1)
+        return -1;
+    if (device->options.age > 0)
+        age(device);
+    luns_time(&device->luns);
+    return 0;
 }
 
 void device_stop(struct device *device) {
@@ -65,8 +75,10 @@ void device_stop(struct device *device) {
 }
 
 void device_close(struct device *device) {
+    unreadable_end(&device->unreadable);
     if (!device->is_open)
         return;
+    luns_end(&device->luns);
     sector_locks_end(&device->locks);
     brooms_end(&device->brooms);
     stock_end(&device->stock);

@@ -8,6 +8,8 @@
 #include <stdint.h>
 
 #include "brooms.h"
+#include "faults.h"
+#include "luns.h"
 #include "options.h"
 #include "sector_locks.h"
 #include "stock.h"
@@ -18,7 +20,11 @@ struct device {
     struct sector_locks locks;
     struct stock stock;
     struct brooms brooms;
-    _Atomic int has_told_full;
+    struct luns luns;
+    struct unreadable unreadable;
+    _Atomic uint64_t refused_at; // when a write was last refused for want of a block, or 0
+    _Atomic int has_stored;      // since then a page was written
+    _Atomic int is_readonly;     // with worn=readonly a write was refused
     pthread_t counter; // writes the counts at each SIGUSR1
     _Atomic int has_counter, is_stopping;
     int is_open; // the seats are open

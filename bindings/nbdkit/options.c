@@ -1,6 +1,7 @@
 #define NBDKIT_API_VERSION 2
 #include "options.h"
 
+#include <errno.h>
 #include <inttypes.h>
 #include <nbdkit-plugin.h>
 #include <stdio.h>
@@ -8,19 +9,16 @@
 #include <string.h>
 #include <unistd.h>
 
+#include <mintlintel_image.h>
+
 #include "library.h"
 
 enum {
-    WORD_BYTES = 8,
-    MAX_LUNS = 8,
-    MAX_BLOCKS = 4096,
-    MAX_PAGES = 16384,
-    MAX_SECTORS = 1048576,
-    MAX_ENDURANCE = 1000000,
-    MAX_BROOMS = 32,
-    MAX_TABLE_WORDS = 16777216,
+    MAX_SECTORS_OF_AN_IMAGE = 268435456,
+    BLOCKS_OF_AN_IMAGE = 4, // that are kept to collect with
     MAX_SPARE = 10000,
     MAX_WAIT = 600000,
+    MAX_AGE = 1000,
 };
 
 const char options_help[] = "[size=]SIZE            Bytes of the device, such as 64M (default 96M).\n"
@@ -36,6 +34,24 @@ const char options_help[] = "[size=]SIZE            Bytes of the device, such as
                             "low=N, high=N          Brooms start below N free blocks, go on to N.\n"
                             "wait=MILLISECONDS      A write waits as long while no block comes free\n"
                             "                       (default 2000).\n"
+                            "worn=enospc|eio|readonly\n"
+                            "                       What a write gets for which there is no block\n"
+                            "                       (default enospc).\n"
+                            "warn=PERCENT           Warn when so many of all erases are used\n"
+                            "                       (default 90; 0 never).\n"
+                            "age=TIMES              Write the size so many times before the first\n"
+                            "                       client (default 0).\n"
+                            "seed=N                 Of what is done at random (default 1).\n"
+                            "part=FILE              The times of a part: commands take them.\n"
+                            "unreadable=LIST        Pages that can't be read, such as 3,8-11.\n"
+                            "image=FILE             The device is in this file, and not in memory.\n"
+                            "sync=always|flush|never\n"
+                            "                       When writes reach its disk (default flush).\n"
+                            "cut=N                  Cut the power at the Nth write to the image,\n"
+                            "                       or on SIGUSR2; 0 on SIGUSR2 alone.\n"
+                            "fail-programs=RATE, fail-erases=RATE\n"
+                            "                       Which share of an image's commands fails.\n"
+                            "bad=LIST               Blocks of a new image that are bad.\n"
                             "stats=FILE             Counts, written at the end and on SIGUSR1.";
 
 static uint32_t default_hosts(void) {
@@ -48,18 +64,25 @@ void options_begin(struct options *options) {
         .page = 4096,
         .luns = 1,
         .pages = 64,
-        .endurance = MAX_ENDURANCE,
+        .endurance = MINTLINTEL_MAX_ENDURANCE,
         .hosts = default_hosts(),
         .brooms = 1,
         .wait = 2000,
         .size = -1,
         .spare = 12,
+        .warn = 90,
+        .seed = 1,
+        .sync = MINTLINTEL_FLUSH,
+        .cut = NO_CUT,
     };
 }
 
 void options_end(struct options *options) {
     free(options->stats);
-    options->stats = NULL;
+    free(options->image);
+    numbers_end(&options->unreadable);
+    numbers_end(&options->bad);
+    options->stats = options->image = NULL;
 }
 
 // A number from `least` on.
@@ -88,8 +111,8 @@ static int set_page(struct options *options, const char *value) {
     int64_t bytes;
     if (set_size("page", value, MAX_PAGE_BYTES, &bytes) == -1)
         return -1;
-    if (bytes % WORD_BYTES != 0) {
-        nbdkit_error("page=%s: a page has a multiple of %d bytes, at most %d", value, WORD_BYTES, MAX_PAGE_BYTES);
+    if (bytes % MINTLINTEL_WORD_BYTES != 0) {
+        nbdkit_error("page=%s: a page has a multiple of %d bytes, at most %d", value, MINTLINTEL_WORD_BYTES, MAX_PAGE_BYTES);
         return -1;
     }
     options->page = (uint32_t) bytes;
@@ -111,10 +134,79 @@ static int set_spare(struct options *options, const char *value) {
     return set_number("spare", digits, 0, MAX_SPARE, &options->spare);
 }
 
-static int set_stats(struct options *options, const char *value) {
-    free(options->stats);
-    options->stats = nbdkit_absolute_path(value);
-    return options->stats ? 0 : -1;
+// The place of a word among three, or -1 with an error reported.
+static int place_of(const char *key, const char *value, const char *const names[3]) {
+    for (int i = 0; i < 3; i++)
+        if (strcmp(value, names[i]) == 0)
+            return i;
+    nbdkit_error("%s=%s: it is %s, %s or %s", key, value, names[0], names[1], names[2]);
+    return -1;
+}
+
+static int set_worn(struct options *options, const char *value) {
+    static const char *const names[] = {[WORN_ENOSPC] = "enospc", [WORN_EIO] = "eio", [WORN_READONLY] = "readonly"};
+    int place = place_of("worn", value, names);
+    options->worn = place == -1 ? options->worn : (enum worn) place;
+    return place == -1 ? -1 : 0;
+}
+
+static int set_sync(struct options *options, const char *value) {
+    static const char *const names[] = {"always", "flush", "never"};
+    static const int modes[] = {MINTLINTEL_ALWAYS, MINTLINTEL_FLUSH, MINTLINTEL_NEVER};
+    int place = place_of("sync", value, names);
+    options->sync = place == -1 ? options->sync : modes[place];
+    return place == -1 ? -1 : 0;
+}
+
+static int set_cut(struct options *options, const char *value) {
+    uint32_t writes;
+    if (nbdkit_parse_uint32_t("cut", value, &writes) == -1)
+        return -1;
+    options->cut = writes;
+    return 0;
+}
+
+static int set_part(struct options *options, const char *value) {
+    char *file = nbdkit_absolute_path(value);
+    int result = file ? part_read(file, &options->part) : -1;
+    free(file);
+    return result;
+}
+
+static int set_file(char **file, const char *value) {
+    free(*file);
+    *file = nbdkit_absolute_path(value);
+    return *file ? 0 : -1;
+}
+
+// Notes of which device a parameter is.
+static void note_kind(struct options *options, const char *key) {
+    static const char *const numbers[] = {"size", "spare", "page", "pages", "sectors", "blocks", "luns"};
+    static const char *const of_memory[] = {"hosts", "brooms", "low", "high", "wait", "warn", "endurance", "age", "stats"};
+    static const char *const of_image[] = {"sync", "cut", "fail-programs", "fail-erases", "bad"};
+    for (size_t i = 0; i < sizeof numbers / sizeof *numbers; i++)
+        options->has_numbers |= strcmp(key, numbers[i]) == 0;
+    for (size_t i = 0; i < sizeof of_memory / sizeof *of_memory; i++)
+        if (strcmp(key, of_memory[i]) == 0)
+            options->of_memory = of_memory[i];
+    for (size_t i = 0; i < sizeof of_image / sizeof *of_image; i++)
+        if (strcmp(key, of_image[i]) == 0)
+            options->of_image = of_image[i];
+}
+
+static int set_of_image(struct options *options, const char *key, const char *value) {
+    if (strcmp(key, "sync") == 0)
+        return set_sync(options, value);
+    if (strcmp(key, "cut") == 0)
+        return set_cut(options, value);
+    if (strcmp(key, "fail-programs") == 0)
+        return rate_set(&options->fail_programs, key, value);
+    if (strcmp(key, "fail-erases") == 0)
+        return rate_set(&options->fail_erases, key, value);
+    if (strcmp(key, "bad") == 0)
+        return numbers_set(&options->bad, key, value);
+    nbdkit_error("unknown parameter '%s'", key);
+    return -1;
 }
 
 int options_set(struct options *options, const char *key, const char *value) {
@@ -122,17 +214,20 @@ int options_set(struct options *options, const char *key, const char *value) {
         const char *key;
         uint32_t least, most, *number;
     } numbers[] = {
-        {"luns", 1, MAX_LUNS, &options->luns},
+        {"luns", 1, MINTLINTEL_MAX_LUNS, &options->luns},
         {"blocks", 1, UINT32_MAX, &options->blocks}, // the library has the limits, and its refusal is reported in bytes
-        {"pages", 1, MAX_PAGES, &options->pages},
+        {"pages", 1, MINTLINTEL_MAX_PAGES, &options->pages},
         {"sectors", 1, UINT32_MAX, &options->sectors}, // its limit is reported in bytes, as soon as the page is known
-        {"endurance", 1, MAX_ENDURANCE, &options->endurance},
-        {"hosts", 1, MAX_HOSTS, &options->hosts},
-        {"brooms", 0, MAX_BROOMS, &options->brooms},
-        {"low", 1, MAX_BLOCKS, &options->low},
-        {"high", 1, MAX_BLOCKS, &options->high},
+        {"endurance", 1, MINTLINTEL_MAX_ENDURANCE, &options->endurance},
+        {"hosts", 1, MINTLINTEL_MAX_HOSTS, &options->hosts},
+        {"brooms", 0, MINTLINTEL_MAX_BROOMS, &options->brooms},
+        {"low", 1, MINTLINTEL_MAX_BLOCKS, &options->low},
+        {"high", 1, MINTLINTEL_MAX_BLOCKS, &options->high},
         {"wait", 0, MAX_WAIT, &options->wait},
+        {"warn", 0, 100, &options->warn},
+        {"age", 0, MAX_AGE, &options->age},
     };
+    note_kind(options, key);
     for (size_t i = 0; i < sizeof numbers / sizeof *numbers; i++)
         if (strcmp(key, numbers[i].key) == 0)
             return set_number(key, value, numbers[i].least, numbers[i].most, numbers[i].number);
@@ -142,22 +237,31 @@ int options_set(struct options *options, const char *key, const char *value) {
         return set_page(options, value);
     if (strcmp(key, "spare") == 0)
         return set_spare(options, value);
+    if (strcmp(key, "worn") == 0)
+        return set_worn(options, value);
+    if (strcmp(key, "seed") == 0)
+        return nbdkit_parse_uint64_t(key, value, &options->seed);
     if (strcmp(key, "stats") == 0)
-        return set_stats(options, value);
-    nbdkit_error("unknown parameter '%s'", key);
+        return set_file(&options->stats, value);
+    if (strcmp(key, "image") == 0)
+        return set_file(&options->image, value);
+    if (strcmp(key, "part") == 0)
+        return set_part(options, value);
+    if (strcmp(key, "unreadable") == 0)
+        return numbers_set(&options->unreadable, key, value);
+    return set_of_image(options, key, value);
+}
+
+static int refuse_size(int64_t size, int64_t page, int64_t most) {
+    nbdkit_error("size=%" PRIi64 ": with pages of %" PRIi64 " bytes it is at most %" PRIi64 " bytes, which are %" PRIi64 " sectors", size,
+                 page, most * page, most);
     return -1;
 }
 
-static int refuse_size(int64_t size, int64_t page) {
-    nbdkit_error("size=%" PRIi64 ": with pages of %" PRIi64 " bytes it is at most %" PRIi64 " bytes, which are %d sectors", size,
-                 page, MAX_SECTORS * page, MAX_SECTORS);
-    return -1;
-}
-
-static int refuse_sectors(int64_t sectors, int64_t page) {
+static int refuse_sectors(int64_t sectors, int64_t page, int64_t most) {
     nbdkit_error("sectors=%" PRIi64 ": with pages of %" PRIi64 " bytes these are %" PRIi64
-                 " bytes, and a device has at most %" PRIi64 " bytes, which are %d sectors",
-                 sectors, page, sectors * page, MAX_SECTORS * page, MAX_SECTORS);
+                 " bytes, and a device has at most %" PRIi64 " bytes, which are %" PRIi64 " sectors",
+                 sectors, page, sectors * page, most * page, most);
     return -1;
 }
 
@@ -166,12 +270,12 @@ static int choose_sectors(struct options *options) {
         nbdkit_error("size= and sectors= say the same: give one of them");
         return -1;
     }
-    int64_t page = options->page;
+    int64_t page = options->page, most = options->image ? MAX_SECTORS_OF_AN_IMAGE : MINTLINTEL_MAX_SECTORS;
     if (options->sectors)
-        return options->sectors <= MAX_SECTORS ? 0 : refuse_sectors(options->sectors, page);
+        return options->sectors <= most ? 0 : refuse_sectors(options->sectors, page, most);
     int64_t size = options->size == -1 ? 96 << 20 : options->size;
-    if (size > MAX_SECTORS * page)
-        return refuse_size(size, page);
+    if (size > most * page)
+        return refuse_size(size, page, most);
     if (size % page != 0) {
         nbdkit_error("size=%" PRIi64 ": it is a multiple of the page's %" PRIi64 " bytes; %" PRIi64 " and %" PRIi64 " are",
                      size, page, size / page * page, (size / page + 1) * page);
@@ -181,9 +285,9 @@ static int choose_sectors(struct options *options) {
     return 0;
 }
 
-// The blocks that handles and brooms keep: one that each handle writes to, two of each broom.
+// The blocks that handles and brooms keep: one that each handle writes to, two of each broom. An image has neither.
 static uint64_t kept_blocks(const struct options *options) {
-    return options->hosts + 2 * (uint64_t) options->brooms;
+    return options->image ? BLOCKS_OF_AN_IMAGE : options->hosts + 2 * (uint64_t) options->brooms;
 }
 
 static int choose_blocks(struct options *options) {
@@ -210,7 +314,8 @@ static uint32_t within(uint64_t number, uint32_t least, uint32_t most) {
 // a broom that never rests copies pages that would soon have been overwritten.
 static int choose_marks(struct options *options) {
     uint64_t used = (options->sectors + (uint64_t) options->pages - 1) / options->pages + kept_blocks(options);
-    uint64_t spare = options->blocks > used ? options->blocks - used : 0;
+    uint32_t spare = options->blocks > used ? (uint32_t) (options->blocks - used) : 0;
+    options->spare_blocks = spare;
     uint32_t most = 8 + 2 * options->brooms;
     if (options->low == 0)
         options->low = within(spare / 4, 1, options->high ? within(options->high, 1, most) : most);
@@ -228,14 +333,24 @@ static int choose_marks(struct options *options) {
 }
 
 int options_complete(struct options *options) {
+    const char *wrong = options->image ? options->of_memory : options->of_image;
+    if (wrong) {
+        nbdkit_error("%s= is of a device %s", wrong, options->image ? "in memory, and this one is in an image" : "in an image: give image= too");
+        return -1;
+    }
     if (choose_sectors(options) == -1 || choose_blocks(options) == -1)
         return -1;
-    return choose_marks(options);
+    return options->image ? 0 : choose_marks(options);
+}
+
+int options_worn_error(const struct options *options) {
+    static const int errors[] = {[WORN_ENOSPC] = ENOSPC, [WORN_EIO] = EIO, [WORN_READONLY] = EROFS};
+    return errors[options->worn];
 }
 
 uint64_t options_memory(const struct options *options) {
     uint64_t pages = (uint64_t) options->blocks * options->pages;
-    return pages * (options->page + WORD_BYTES) + ((uint64_t) options->sectors + options->blocks) * WORD_BYTES;
+    return pages * (options->page + MINTLINTEL_WORD_BYTES) + ((uint64_t) options->sectors + options->blocks) * MINTLINTEL_WORD_BYTES;
 }
 
 static void tell_too_much_memory(const struct options *options) {
@@ -243,7 +358,7 @@ static void tell_too_much_memory(const struct options *options) {
     nbdkit_error("a device of %" PRIu64 " bytes with %" PRIu64 " bytes of pages takes %" PRIu64
                  " bytes in memory, and may take %" PRIu64 ": make size= or spare= less",
                  options->sectors * page, options->blocks * (uint64_t) options->pages * page, options_memory(options),
-                 (uint64_t) MAX_TABLE_WORDS * WORD_BYTES);
+                 (uint64_t) MINTLINTEL_MAX_TABLE_WORDS * MINTLINTEL_WORD_BYTES);
 }
 
 static void tell_too_few_blocks(const struct options *options) {
@@ -261,7 +376,7 @@ void options_tell_refusal(const struct options *options, uint32_t code) {
     case MINTLINTEL_BAD_BLOCKS:
         nbdkit_error("%" PRIu32 " blocks of %" PRIu64 " bytes: a device has 3 to %d, at most %" PRIu64
                      " bytes, and a multiple of luns=%" PRIu32 "; with more pages= a block has more bytes",
-                     options->blocks, block, MAX_BLOCKS, MAX_BLOCKS * block, options->luns);
+                     options->blocks, block, MINTLINTEL_MAX_BLOCKS, MINTLINTEL_MAX_BLOCKS * block, options->luns);
         break;
     case MINTLINTEL_TOO_MANY_WORDS:
         tell_too_much_memory(options);

@@ -2,19 +2,39 @@
 #ifndef NBDKIT_OPTIONS_H
 #define NBDKIT_OPTIONS_H
 
+#include <mintlintel.h>
 #include <stdint.h>
 
-enum { MAX_PAGE_BYTES = 4096, MAX_HOSTS = 500 };
+#include "faults.h"
+#include "part.h"
+
+enum { MAX_PAGE_BYTES = MINTLINTEL_MAX_WORDS * MINTLINTEL_WORD_BYTES, NO_CUT = -1 };
+
+// What a write gets for which no block can be had: the error ENOSPC or EIO, or EROFS, and then so does each write, zero and trim.
+enum worn { WORN_ENOSPC, WORN_EIO, WORN_READONLY };
 
 struct options {
     uint32_t page; // bytes of a page, which is a sector
     uint32_t luns, blocks, pages, sectors, endurance;
     uint32_t hosts, brooms; // handles of the pool, and threads that collect
+    uint32_t spare_blocks;  // beyond those that every sector written, the handles and the brooms need
     uint32_t low, high;     // brooms start below `low` free blocks, and go on to `high`
     uint32_t wait;          // milliseconds that a write waits while no block becomes free
     int64_t size;           // bytes, or -1
     uint32_t spare;         // percent of the sectors
     int has_spare;
+    enum worn worn;         // what a write gets for which no block can be had
+    uint32_t warn;          // percent of all erases at which a warning is given, or 0
+    uint32_t age;           // how many times its size is written before the first client
+    uint64_t seed;
+    char *image;     // the file that has the device, or NULL: then it is in memory
+    int sync;        // when writes reach the image's disk: a mode of mintlintel_image.h
+    int has_numbers; // some number of the device was given
+    int64_t cut;     // the power is cut at this write to the image; 0 by SIGUSR2 alone; or NO_CUT
+    const char *of_memory, *of_image; // a parameter that was given and is only of the one or the other, or NULL
+    struct part part; // its times, or zeros: then no command takes time
+    struct numbers unreadable, bad;     // pages that can't be read, and blocks that are bad from the factory
+    double fail_programs, fail_erases;  // which share of the commands fails
     char *stats; // the file for the counts, or NULL
 };
 
@@ -35,6 +55,9 @@ void options_tell_refusal(const struct options *options, uint32_t code);
 
 // The bytes that the device takes in memory: its pages with a stamp each, and a word for each sector and block.
 uint64_t options_memory(const struct options *options);
+
+// The errno of a change for which no block can be had.
+int options_worn_error(const struct options *options);
 
 extern const char options_help[];
 

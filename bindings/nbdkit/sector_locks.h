@@ -20,6 +20,11 @@ static inline void lock_sector(struct sector_locks *locks, uint32_t sector) {
     pthread_mutex_lock(&locks->locks[sector % SECTOR_LOCKS].mutex);
 }
 
+// 1 if it has the lock now.
+static inline int try_lock_sector(struct sector_locks *locks, uint32_t sector) {
+    return pthread_mutex_trylock(&locks->locks[sector % SECTOR_LOCKS].mutex) == 0;
+}
+
 static inline void unlock_sector(struct sector_locks *locks, uint32_t sector) {
     pthread_mutex_unlock(&locks->locks[sector % SECTOR_LOCKS].mutex);
 }

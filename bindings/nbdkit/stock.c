@@ -50,16 +50,19 @@ int stock_begin(struct stock *stock, const struct options *options, struct mintl
         .pages = options->pages,
         .low = options->low,
         .high = options->high,
+        .marks = {.low = options->low, .high = options->high, .spare = options->spare_blocks},
         .batch = options->low < MAX_BATCH ? options->low : MAX_BATCH,
         .wait_ns = options->wait * (uint64_t) 1000000,
         .changes = 1,
+        .is_near_end = options->endurance == 1,
         .free_count = (int32_t) (options->blocks - options->brooms), // each broom begins with a spare
     };
     stock->is_collecting = stock->free_count < (int32_t) stock->low;
     begin_signals(stock);
     stock->hosts = aligned_alloc(_Alignof(struct host), hosts * sizeof *stock->hosts);
     stock->fruitless_at = calloc(options->brooms + 1, sizeof *stock->fruitless_at);
-    if (!stock->hosts || !stock->fruitless_at) {
+    stock->poor_at = calloc(options->brooms + 1, sizeof *stock->poor_at);
+    if (!stock->hosts || !stock->fruitless_at || !stock->poor_at) {
         nbdkit_error("there is no memory for the handles");
         stock_end(stock);
         return -1;
@@ -74,6 +77,7 @@ int stock_begin(struct stock *stock, const struct options *options, struct mintl
 void stock_end(struct stock *stock) {
     free(stock->hosts);
     free(stock->fruitless_at);
+    free(stock->poor_at);
     pthread_cond_destroy(&stock->for_any);
     pthread_cond_destroy(&stock->for_write);
     pthread_cond_destroy(&stock->for_broom);
@@ -116,19 +120,6 @@ static struct host *take_any_idle(struct stock *stock) {
 
 // ---- The mutex is held from here to the next line of this form.
 
-// Free blocks for hosts: they leave one to each broom without a spare, since with its spare a broom wins back many.
-static int32_t blocks_for_hosts(const struct stock *stock) {
-    return stock->free_count - stock->spareless;
-}
-
-static int lacks_block(const struct stock *stock) {
-    return blocks_for_hosts(stock) <= 0;
-}
-
-static int may_open(const struct stock *stock) {
-    return !lacks_block(stock) && !stock->is_gathering;
-}
-
 // Whether each broom has looked in vain since the last change.
 static int is_fruitless(struct stock *stock) {
     uint64_t changes = atomic_load(&stock->changes);
@@ -136,6 +127,21 @@ static int is_fruitless(struct stock *stock) {
         if (stock->fruitless_at[broom] != changes)
             return 0;
     return 1;
+}
+
+// Free blocks for hosts: they leave one to each broom without a spare, since with its spare a broom wins back many. When blocks are about to be
+// retired they leave one to each broom, which may lose its spare at any time; unless no broom finds anything to gain.
+static int32_t blocks_for_hosts(struct stock *stock) {
+    int is_kept = stock->is_near_end && !is_fruitless(stock);
+    return stock->free_count - (is_kept ? (int32_t) stock->broom_count : stock->spareless);
+}
+
+static int lacks_block(struct stock *stock) {
+    return blocks_for_hosts(stock) <= 0;
+}
+
+static int may_open(struct stock *stock) {
+    return !lacks_block(stock) && !stock->is_gathering;
 }
 
 // Whether no write can be done until somebody trims.
@@ -203,6 +209,9 @@ static struct host *take_with_room(struct stock *stock) {
     host->room = stock->pages;
     stock->open_count++;
     stock->free_count--;
+    stock->opened++;
+    if (stock->resting > 0)
+        pthread_cond_broadcast(&stock->for_broom);
     mind_marks(stock);
     return host;
 }
@@ -261,7 +270,7 @@ static void wait_to_write(struct stock *stock, struct attempt *attempt) {
         stock->is_gathering = 1;
     stock->waiting_to_write++;
     stock->starving += lacks;
-    if (lacks && stock->pausing > 0)
+    if (stock->resting > 0 || (lacks && stock->pausing > 0))
         pthread_cond_broadcast(&stock->for_broom);
     uint64_t known = stock->wake_ups;
     int was_told = wait_at_most(&stock->for_write, &stock->mutex, LOOK_AGAIN_MS);
@@ -274,22 +283,45 @@ static void wait_to_write(struct stock *stock, struct attempt *attempt) {
 }
 
 static void end_attempt(struct stock *stock, const struct attempt *attempt) {
-    if (attempt->began != 0)
-        stock->waited_ns += now() - attempt->began;
+    if (attempt->began == 0)
+        return;
+    uint64_t waited = now() - attempt->began;
+    uint32_t step = 0;
+    while (step + 1 < WAIT_STEPS && waited > (uint64_t) FIRST_WAIT_STEP_US * 1000 << step)
+        step++;
+    stock->waits_by_time[step]++;
+    stock->waited_ns += waited;
+}
+
+// Whether a broom that has gained little rests: no write waits, and no block was opened since.
+static int may_rest(const struct stock *stock, uint32_t broom) {
+    return stock->poor_at[broom] == stock->opened + 1 && stock->waiting_to_write == 0;
 }
 
 // Whether a broom has work: something may have changed since it last found nothing.
 static int is_wanted(struct stock *stock, uint32_t broom) {
-    return stock->is_collecting && stock->fruitless_at[broom] != atomic_load(&stock->changes);
+    if (stock->is_held && stock->waiting_to_write == 0)
+        return 0;
+    return stock->is_collecting && !may_rest(stock, broom) && stock->fruitless_at[broom] != atomic_load(&stock->changes);
 }
 
-// Waits for a threshold of free blocks or, if the broom has found nothing, for a change.
+// Whether no broom works, or has work.
+static int are_idle(struct stock *stock) {
+    for (uint32_t broom = 0; broom < stock->broom_count; broom++)
+        if (is_wanted(stock, broom))
+            return 0;
+    return stock->working == 0;
+}
+
+// Waits for a threshold of free blocks or, if the broom has found nothing, for a change; if it has gained little, for a block to be opened.
 static void rest(struct stock *stock, uint32_t broom) {
-    uint32_t listens = (uint32_t) stock->is_collecting;
+    uint32_t rests = (uint32_t) (stock->is_collecting && may_rest(stock, broom)), listens = stock->is_collecting && !rests;
+    stock->resting += rests;
     atomic_fetch_add(&stock->listening, listens);
     if (!is_wanted(stock, broom))
         pthread_cond_wait(&stock->for_broom, &stock->mutex);
     atomic_fetch_sub(&stock->listening, listens);
+    stock->resting -= rests;
 }
 
 // ---- The mutex is not held from here on.
@@ -407,9 +439,25 @@ void stock_give_refused(struct stock *stock, struct host *host, struct attempt *
     pthread_mutex_unlock(&stock->mutex);
 }
 
-void stock_give_trimmed(struct stock *stock, struct host *host) {
+void stock_give_changed(struct stock *stock, struct host *host) {
     count_change(stock);
     put_and_tell(stock, host, 1);
+}
+
+struct host *stock_keep_written(struct stock *stock, struct host *host, const struct attempt *attempt) {
+    if (host->room > 1 && attempt->began == 0 && atomic_load(&stock->waiting) == 0) {
+        host->room--;
+        return host;
+    }
+    stock_give_written(stock, host, attempt);
+    return NULL;
+}
+
+struct host *stock_keep_changed(struct stock *stock, struct host *host) {
+    if (atomic_load(&stock->waiting) == 0)
+        return host;
+    stock_give_changed(stock, host);
+    return NULL;
 }
 
 // A broom that found nothing looks again a little later, unless a write waits for it.
@@ -429,12 +477,15 @@ int stock_begin_round(struct stock *stock, uint32_t broom, uint64_t *known) {
         rest(stock, broom);
     *known = atomic_load(&stock->changes);
     int goes_on = !stock->is_stopping;
+    stock->working += (uint32_t) goes_on;
     pthread_mutex_unlock(&stock->mutex);
     return goes_on;
 }
 
-void stock_end_round(struct stock *stock, uint32_t broom, uint64_t known, int was_fruitless) {
+void stock_end_round(struct stock *stock, uint32_t broom, uint64_t known, int was_fruitless, int was_poor) {
     pthread_mutex_lock(&stock->mutex);
+    stock->working--;
+    stock->poor_at[broom] = was_poor ? stock->opened + 1 : 0;
     stock->fruitless_at[broom] = was_fruitless ? known : 0;
     if (was_fruitless && (stock->is_gathering || is_hopeless(stock)))
         stop_gathering(stock);
@@ -449,6 +500,28 @@ void stock_add_free(struct stock *stock) {
         count_change(stock);
         pthread_cond_broadcast(&stock->for_broom);
     }
+    mind_marks(stock);
+    pthread_mutex_unlock(&stock->mutex);
+}
+
+// The marks fall with the spare blocks that are left, so that brooms don't work for free blocks that can't be had any more.
+void stock_count_retired(struct stock *stock) {
+    pthread_mutex_lock(&stock->mutex);
+    uint32_t spare = stock->marks.spare, left = spare > ++stock->marks.retired ? spare - stock->marks.retired : 0;
+    if (spare > 0) {
+        stock->low = stock->marks.low * left / spare;
+        stock->low = stock->low > 0 ? stock->low : 1;
+        stock->high = stock->marks.high * left / spare;
+        stock->high = stock->high > stock->low ? stock->high : stock->low;
+        stock->batch = stock->batch < stock->low ? stock->batch : stock->low;
+    }
+    mind_marks(stock);
+    pthread_mutex_unlock(&stock->mutex);
+}
+
+void stock_near_end(struct stock *stock) {
+    pthread_mutex_lock(&stock->mutex);
+    stock->is_near_end = 1;
     mind_marks(stock);
     pthread_mutex_unlock(&stock->mutex);
 }
@@ -475,10 +548,39 @@ void stock_unreserve(struct stock *stock) {
     pthread_mutex_unlock(&stock->mutex);
 }
 
+void stock_hold_brooms(struct stock *stock, int is_held) {
+    pthread_mutex_lock(&stock->mutex);
+    stock->is_held = is_held;
+    pthread_cond_broadcast(&stock->for_broom);
+    pthread_mutex_unlock(&stock->mutex);
+}
+
+void stock_turn_of_brooms(struct stock *stock) {
+    static const struct timespec a_little = {.tv_nsec = 20000};
+    pthread_mutex_lock(&stock->mutex);
+    stock->is_held = 0;
+    if (stock->is_collecting)
+        pthread_cond_broadcast(&stock->for_broom);
+    while (!are_idle(stock)) {
+        pthread_mutex_unlock(&stock->mutex);
+        nanosleep(&a_little, NULL);
+        pthread_mutex_lock(&stock->mutex);
+    }
+    stock->is_held = 1;
+    pthread_mutex_unlock(&stock->mutex);
+}
+
 void stock_stop(struct stock *stock) {
     pthread_mutex_lock(&stock->mutex);
     stock->is_stopping = 1;
     wake_writes(stock);
     pthread_cond_broadcast(&stock->for_broom);
     pthread_mutex_unlock(&stock->mutex);
+}
+
+int stock_is_stopping(struct stock *stock) {
+    pthread_mutex_lock(&stock->mutex);
+    int is_stopping = stock->is_stopping;
+    pthread_mutex_unlock(&stock->mutex);
+    return is_stopping;
 }

@@ -3,8 +3,9 @@
 // Whoever takes a handle holds no other, waits for nothing while holding it, and gives it back. A sector's lock is taken before
 // a handle, never after.
 //
-// The library doesn't count its free blocks, so the stock does. The count tells who has to wait, and when brooms may rest; that
-// a write is done or refused is said by the library alone.
+// The stock counts the free blocks. The library's count (mintlintel_broom_counts) is a broom's, loads each block, and has blocks
+// that a handle is about to take; a write has to know at once, and without a broom. The count tells who has to wait, and when
+// brooms may rest; that a write is done or refused is said by the library alone.
 //
 // A request that finds a handle takes and gives it back without the mutex. Who has to wait counts itself first, and looks once
 // more before it waits; who gives a handle back, or changes something, looks afterwards whether somebody waits. All these steps
@@ -35,10 +36,14 @@ struct host {
     _Alignas(64) struct mintlintel_seat *seat;
     uint32_t room; // pages that are left in its open block
     tally reads, writes, trims, refusals;
+    tally filled, emptied; // writes of a sector that was empty, and trims of one that was written
 };
 
+// Waits for a block by their time: up to 16 microseconds, up to twice as many, and so on; the last are longer than all before it.
+enum { WAIT_STEPS = 22, FIRST_WAIT_STEP_US = 16 };
+
 // Idle handles: the bit of each is set.
-enum { HOSTS_OF_A_WORD = 64, IDLE_WORDS = (MAX_HOSTS + HOSTS_OF_A_WORD - 1) / HOSTS_OF_A_WORD };
+enum { HOSTS_OF_A_WORD = 64, IDLE_WORDS = (MINTLINTEL_MAX_HOSTS + HOSTS_OF_A_WORD - 1) / HOSTS_OF_A_WORD };
 struct idle {
     _Alignas(64) _Atomic uint64_t words[IDLE_WORDS];
 };
@@ -52,6 +57,9 @@ struct stock {
     pthread_cond_t for_any, for_write, for_broom;
     struct host *hosts;
     uint32_t host_count, broom_count, pages, low, high, batch;
+    struct {
+        uint32_t low, high, spare, retired;
+    } marks; // as they were at first, with the spare blocks then and those that were retired since
     uint64_t wait_ns;
     uint32_t open_count; // handles with room, idle or not
     int32_t free_count;  // free blocks that no handle is about to take; below 0 while a block was taken that isn't counted yet
@@ -59,11 +67,18 @@ struct stock {
     uint32_t waiting_for_any, waiting_to_write;
     uint32_t starving;      // writes that wait while no block is free
     uint32_t pausing;       // brooms that looked in vain a moment ago
+    uint32_t opened;        // blocks that handles have opened
+    uint32_t *poor_at;      // of each broom, one more than the blocks that were opened as it last gained little, or 0
+    uint32_t resting;       // brooms that rest since they gained little
     uint64_t *fruitless_at; // of each broom, the changes that it knew as it last found nothing to do, or 0
     uint64_t freed_at;      // when a block last came free
     int is_collecting, is_stopping;
+    int is_held;             // brooms work only for a write that waits
+    uint32_t working;        // brooms in a round
+    int is_near_end; // the next erase of some block is its last
     int is_gathering; // writes wait until some blocks are free, since one at a time wakes a thread for each page
     uint64_t waits, waited_ns, gave_up, miscounts;
+    uint64_t waits_by_time[WAIT_STEPS]; // of writes that have ended
     uint64_t wake_ups;      // how often waiting writes were woken, one or all
     uint64_t lost_wake_ups; // waits that ended by time, with room there and nobody woken meanwhile
 };
@@ -88,24 +103,40 @@ struct attempt {
 // A handle with room for a page, or, if no block comes free, any handle for a last try.
 struct host *stock_take_to_write(struct stock *stock, struct attempt *attempt);
 
-// Gives a handle back after a write, a write for which the library found no block, or a trim.
+// Gives a handle back after a write, a write for which the library found no block, or other changes.
 void stock_give_written(struct stock *stock, struct host *host, const struct attempt *attempt);
 void stock_give_refused(struct stock *stock, struct host *host, struct attempt *attempt);
-void stock_give_trimmed(struct stock *stock, struct host *host);
+void stock_give_changed(struct stock *stock, struct host *host);
+
+// The same after a write or another change, but the handle is kept for the next page of a long request: NULL if it was given back, since somebody
+// waits or it has no room for a page more. Who keeps one waits for nothing, and gives it back by stock_give_changed.
+struct host *stock_keep_written(struct stock *stock, struct host *host, const struct attempt *attempt);
+struct host *stock_keep_changed(struct stock *stock, struct host *host);
 
 // A broom waits for work: 0 if the brooms have to stop. `known` is what it passes on at the end of its round.
 int stock_begin_round(struct stock *stock, uint32_t broom, uint64_t *known);
-void stock_end_round(struct stock *stock, uint32_t broom, uint64_t known, int was_fruitless);
+void stock_end_round(struct stock *stock, uint32_t broom, uint64_t known, int was_fruitless, int was_poor);
 
 // A block was erased and is free; a broom has lost its spare, or has one again.
 void stock_add_free(struct stock *stock);
 void stock_count_spare(struct stock *stock, int was_lost);
 
+// A block was retired.
+void stock_count_retired(struct stock *stock);
+
+// The next erase of some block is its last, so that brooms may lose their spares from now on.
+void stock_near_end(struct stock *stock);
+
 // A free block is set aside for a broom, if there is one; the library had none for it, so none was taken.
 int stock_reserve(struct stock *stock);
 void stock_unreserve(struct stock *stock);
 
+// From now on brooms work only for a write that waits; a turn lets them do all that they find to do, and waits for its end.
+void stock_hold_brooms(struct stock *stock, int is_held);
+void stock_turn_of_brooms(struct stock *stock);
+
 // Brooms and writers wait no longer.
 void stock_stop(struct stock *stock);
+int stock_is_stopping(struct stock *stock);
 
 #endif

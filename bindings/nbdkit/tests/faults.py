@@ -38,8 +38,12 @@ REFUSED = [
     (["blocks=50", "luns=4"], "50 blocks of 262144 bytes: a device has 3 to 4096, at most 1073741824 bytes, and a multiple of luns=4"),
     (["size=64M", "pages=1"], "blocks of 4096 bytes: a device has 3 to 4096"),
     (["sectors=2400", "blocks=40", "hosts=4"], "40 blocks have 10485760 bytes; 4 handles and 1 brooms keep 1572864 bytes of them (6 blocks), which leaves 8912896 for the 9830400 bytes"),
+    (["worn=never"], "worn=never: it is enospc, eio or readonly"),
+    (["warn=101"], "warn=101: it is 0 to 100"),
+    (["age=1001"], "age=1001: it is 0 to 1000"),
+    (["seed=x"], "seed"),
     (["nonsense=1"], "unknown parameter 'nonsense'"),
-    (["stats=/nowhere/counts"], "/nowhere/counts.new: No such file or directory"),
+    (["stats=/dev/null/counts"], "/dev/null/counts.new: Not a directory"),
 ]
 
 
@@ -148,7 +152,7 @@ class Edit:
 def refusal(shop, edit, parts):
     """What a part says against a wrong plugin, in one line; None where it passes. A plugin that can't be built fails the check itself."""
     shop.end_kept()
-    shop.wrong = edit.make(shop, edit.part.removesuffix("_sanitizer") if edit.part.endswith("_sanitizer") else "")
+    shop.wrong = edit.make(shop, edit.part.split("_")[-2] if edit.part.endswith("_sanitizer") else "")
     try:
         parts[edit.part](shop)
         return None

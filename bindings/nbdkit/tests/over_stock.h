@@ -57,7 +57,7 @@ static inline struct attempt write_page(void) {
 }
 
 static inline void find_nothing(uint32_t broom) {
-    stock_end_round(&stock, broom, stock.changes, 1);
+    stock_end_round(&stock, broom, stock.changes, 1, 0);
 }
 
 // Each free block is written full, and no broom finds anything.

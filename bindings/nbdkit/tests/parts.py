@@ -6,8 +6,12 @@ import random
 import re
 import time
 
+import failures
 import faults
 import files
+import images
+import reports
+import times
 from running import HERE, Failure, Server, copying, failing, fio, kibibytes, loaded, want
 
 ZIPF = {"norandommap": 1, "random_distribution": "zipf:0.9"}
@@ -22,7 +26,7 @@ def build(shop):
     clients = HERE / "out/clients"
     clients.mkdir(parents=True, exist_ok=True)
     strict = ["gcc", "-std=gnu11", "-O2", "-Wall", "-Wextra", "-Werror"]
-    for name in ("overlap", "wear_out", "breaks_off"):
+    for name in ("overlap", "wear_out", "breaks_off", "times"):
         shop.run([*strict, HERE / f"tests/{name}.c", "-o", clients / name, "-lnbd", "-pthread", "-lm"], 60)
     shop.run([*strict, "-fPIC", "-shared", HERE / "tests/refuse.c", "-o", clients / "refuse.so", "-ldl"], 60)
     return "plain and under two sanitizers"
@@ -125,9 +129,9 @@ def by_qemu_img(shop, server):
 
 @on_aged
 def by_qemu_io(shop, server):
-    """Unaligned writes, discards and zeros; a discard zeroes parts of pages too."""
+    """Unaligned writes, discards and zeros; a discard leaves parts of pages, and zeros are exact."""
     commands = ["write -P 0x11 0 40M", "write -P 0x5a 4097 12345", "read -P 0x5a 4097 12345", "read -P 0x11 0 4097", "read -P 0x11 16442 100000",
-                "discard 1M 8M", "read -P 0 1M 8M", "discard 9437184 5120", "read -P 0 9437184 5120", "read -P 0x11 9442304 3072",
+                "discard 1M 8M", "read -P 0 1M 8M", "discard 9437184 5120", "read -P 0 9437184 4096", "read -P 0x11 9441280 4096",
                 "write -z 20000 30000", "read -P 0 20000 30000", "read -P 0x11 50000 1000", "write -z -u 100000 900000", "read -P 0 100000 900000",
                 "write -P 0x77 20M 10M", "read -P 0x77 20M 10M", "write -z -u -n 12M 4M", "read -P 0 12M 4M", "flush"]
     # Each thread of the server reads data into its buffer, and then zeros.
@@ -168,7 +172,7 @@ def stock_by_itself(shop):
     """The counts of free blocks, and which thread waits for which, with a library that returns what each test needs. In the second program no write
     looks again by itself, so a lost wake-up is seen."""
     source, include = shop.source(), f"-I{os.environ.get('INCLUDE', HERE.parent / 'include')}"
-    programs = {"stock": [source / "stock.c", source / "brooms.c"], "waits": [source / "stock.c", "-DLOOK_AGAIN_MS=3600000"]}
+    programs = {"stock": [source / name for name in ("stock.c", "brooms.c", "luns.c")], "waits": [source / "stock.c", "-DLOOK_AGAIN_MS=3600000"]}
     for kind in ("address", "thread"):
         for name, words in programs.items():
             program = shop.folder / f"{name}_{kind}"
@@ -182,6 +186,7 @@ def handles(shop):
     told = []
     for hosts in (2, 4, 16, 64):
         server = Server(shop, "size=16M", "spare=3", f"hosts={hosts}", "brooms=1")
+        fio(shop, server, "overlapping", rw="randwrite", bs="64k", size="256k", numjobs=4, iodepth=16, io_size="16m", norandommap=1)
         with copying(server, f"{hosts} handles"):
             fio(shop, server, f"hosts{hosts}", rw="randwrite", size="4m", offset_increment="4m", numjobs=4, iodepth=16, io_size=f"{shop.scaled(8, 100)}m",
                 verify="crc32c", **(UNALIGNED | {"bsrange": "512-8k"}), **ZIPF)
@@ -245,6 +250,70 @@ def other_pages(shop):
     return "8, 1000 and 512 bytes"
 
 
+def by_library(shop, server, lines):
+    """What these lines print, which make requests of `h` by Debian's libnbd."""
+    return shop.run(["/usr/bin/python3", "-c", f"import nbd\nh = nbd.NBD()\nh.connect_uri({server.uri!r})\n{lines}"])
+
+
+def trims_inwards(shop):
+    """A trim drops the pages that it covers as a whole, and leaves the others. It programs no page; zeros are exact."""
+    server = Server(shop, "size=8M", "hosts=2")
+    want(shop.run(["nbdinfo", "--can", "cache", server.uri]) == "", "the plugin doesn't offer to cache")
+    info = shop.run(["nbdinfo", server.uri])
+    for line in ("block_size_minimum: 1", "block_size_preferred: 4096", "block_size_maximum: 67108864"):
+        want(line in info, info)
+    by_library(shop, server, "h.pwrite(b'\\x11' * 65536, 0)")
+    before = server.counts()
+    # One byte more or less than whole pages at each end, parts of a page, and a whole one.
+    ranges = [(4095, 4098), (12287, 4098), (20481, 8191), (32769, 1000), (40960, 4096), (49153, 4095)]
+    by_library(shop, server, "\n".join(f"h.trim({count}, {offset}); h.cache({count}, {offset})" for offset, count in ranges))
+    dropped = {page for offset, count in ranges for page in range(-(-offset // 4096), (offset + count) // 4096)}
+    found = by_library(shop, server, "print([sorted({h.pread(1, i)[0] for i in (4096 * page, 4096 * page + 4095)}) for page in range(16)])")
+    wanted = [[0] if page in dropped else [0x11] for page in range(16)]
+    want(found.strip() == str(wanted), f"after trims: {found} and not {wanted}")
+    after = server.counts()
+    want(after.programs == before.programs, f"trims have programmed {after.programs - before.programs} pages")
+    want(after.trims - before.trims == len(dropped), f"{after.trims - before.trims} pages were trimmed, and not {len(dropped)}")
+    by_library(shop, server, "h.zero(9000, 50000); assert h.pread(9002, 49999) == b'\\x11' + bytes(9000) + b'\\x11'")
+    server.stop()
+    return f"{len(dropped)} pages dropped"
+
+
+def worn_choices(shop):
+    """What a write gets that finds no block, by worn=; a trim of parts of pages still works; and a warning when nine in ten of all erases are done."""
+    for word, error in (("enospc", "No space left on device"), ("eio", "Input/output error"), ("readonly", "Operation not permitted")):
+        server = Server(shop, "sectors=200", "blocks=10", "hosts=2", "brooms=0", f"worn={word}")
+        fill = ["qemu-io", "-f", "raw", *(4 * ["-c", "write -P 1 0 800k"]), server.uri]
+        want(error in shop.run(fill, status=1), f"worn={word}: another error")
+        trimmed = shop.run(["qemu-io", "-f", "raw", "-c", "discard 5000 9000", server.uri], status=int(word == "readonly"))
+        want((error in trimmed) == (word == "readonly"), f"worn={word}: {trimmed}")
+        shop.run(["qemu-io", "-f", "raw", "-c", "read -P 1 16k 700k", server.uri])
+        told = server.log.read_text()
+        want(told.count("no block is free, and the brooms can reclaim none") == 1, told)
+        server.stop()
+    server = Server(shop, "sectors=2400", "blocks=60", "hosts=4", "endurance=10", "warn=50")
+    shop.run([shop.client("wear_out"), server.uri, "uniform"])
+    told = server.log.read_text()
+    want(told.count("warning: 300 erases are done, and all 60 blocks together have 600") == 1, told)
+    server.stop()
+    return told_again(shop)
+
+
+def told_again(shop):
+    """A device that is full, usable for a while, and full again: both are told. Its writes don't wait for the broom."""
+    server = Server(shop, "size=16M", "spare=0", "hosts=4", "wait=0")
+    for turn in (1, 2):
+        shop.run(["fio", "--name=full", "--thread", "--ioengine=nbd", f"--uri={server.uri}", "--rw=randwrite", "--bs=4k", "--size=16m", "--iodepth=64",
+                  "--io_size=10g", "--norandommap"], status=1)
+        time.sleep(1.2)
+        shop.run(["qemu-io", "-f", "raw", "-c", "discard 0 4M", "-c", "write -P 1 0 64k", server.uri])
+        told = server.log.read_text().count("no block is free, and the brooms can reclaim none")
+        want(told == turn, f"a full device is told {told} times, and not {turn}")
+        time.sleep(1.2)
+    server.stop()
+    return "told twice"
+
+
 def resting_brooms(shop):
     """Brooms that rest leave pages time to die: 100,000 random writes at 70 % of the pages in use."""
     server = Server(shop, "sectors=22400", "blocks=500", "hosts=16")
@@ -252,6 +321,20 @@ def resting_brooms(shop):
     amplification = server.stop().amplification
     want(1 < amplification < 1.7, f"{amplification:.2f} programs a write")
     return f"{amplification:.2f} programs a write"
+
+
+def marks_out_of_reach(shop):
+    """Brooms don't compact a device to the last page for marks that can't be reached: few pages are copied ahead of 300 writes."""
+    told = []
+    for brooms in (1, 2):
+        server = Server(shop, "sectors=2400", "blocks=60", "hosts=4", f"brooms={brooms}", "low=20", "high=22")
+        fio(shop, server, "fill", rw="write", bs="64k", size="9600k")
+        fio(shop, server, "few", rw="randwrite", bs="4k", size="9600k", iodepth=4, io_size="1200k", norandommap=1)
+        server.settle()
+        copies = server.stop().copies
+        want(copies < 1500, f"{copies} pages were copied ahead of 300 writes")
+        told.append(f"{copies} pages copied ahead by {brooms} broom{'s' * (brooms > 1)}")
+    return ", ".join(told)
 
 
 def worn_out(shop):
@@ -292,7 +375,7 @@ def share(counts):
 
 def sanitized(shop, kind):
     """All kinds of requests on a plugin under a sanitizer, while counts are written."""
-    server = Server(shop, "size=8M", "spare=4", "hosts=3", "brooms=2", kind=kind)
+    server = Server(shop, "size=8M", "spare=4", "hosts=3", "brooms=2", f"part={images.fast_part(shop)}", kind=kind)
     with copying(server, "fio"):
         load = shop.start(["fio", "--name=load", "--thread", "--ioengine=nbd", f"--uri={server.uri}", "--rw=randwrite", "--bsrange=512-16k", "--bs_unaligned=1", "--blockalign=512",
                            "--size=2m", "--offset_increment=2m", "--numjobs=4", "--iodepth=16", f"--io_size={shop.scaled(12, 100)}m", "--norandommap",
@@ -314,22 +397,58 @@ def sanitized(shop, kind):
 
 
 # The parts that have to refuse wrong plugins.
-REFUSING = {part.__name__: part for part in (overlaps, handles, resting_brooms, worn_out, by_qemu_io, a_map_of_holes, mixed_sizes, there_and_back, stock_by_itself)}
-REFUSING["refused_resources"] = faults.refused_resources
+REFUSING = {part.__name__: part for part in (
+    overlaps, handles, resting_brooms, worn_out, by_qemu_io, a_map_of_holes, mixed_sizes, there_and_back, stock_by_itself, trims_inwards,
+    worn_choices, marks_out_of_reach, faults.refused_resources, reports.statistics, reports.aged_at_start, images.image_file, images.killed,
+    images.power_cuts, failures.failing_image, times.of_commands, times.under_collection)}
 REFUSING |= {f"{kind}_sanitizer": functools.partial(sanitized, kind=kind) for kind in ("address", "thread")}
+REFUSING["image_thread_sanitizer"] = functools.partial(images.image_sanitized, kind="thread")
 
 
 def chosen(options):
     """The parts that were asked for, by their names."""
     brooms = (1, 2) if options.long else (1,)
-    on_device = {"fio's crc32c of four jobs": checksums, "fio's md5 of mixed sizes": mixed_sizes, "fio's mixed sizes of four jobs": mixed_sizes_by_four,
-                 "fio's trims and writes": trims_and_writes, "16 connections": sixteen_connections, "nbdcopy there and back": there_and_back,
-                 "qemu-img's convert and compare": by_qemu_img, "qemu-io unaligned": by_qemu_io, "a map of holes": a_map_of_holes, "clients that break off": broken_clients,
-                 "files in a file system": on_aged(files.a_file_system), "a database in a file system": on_aged(files.a_database)}
-    parts = {"what is refused": faults.refused_words, "no memory, no thread, no file": faults.refused_resources, "help and page": faults.help_and_page, "the page's lines": files.the_page,
-             "stock by itself": stock_by_itself, "parts and whole pages at once": overlaps, "2, 4, 16 and 64 handles": handles, "pages of other sizes": other_pages, "brooms that rest": resting_brooms, "a device that wears out": worn_out}
+    on_device = {
+        "fio's crc32c of four jobs": checksums,
+        "fio's md5 of mixed sizes": mixed_sizes,
+        "fio's mixed sizes of four jobs": mixed_sizes_by_four,
+        "fio's trims and writes": trims_and_writes,
+        "16 connections": sixteen_connections,
+        "nbdcopy there and back": there_and_back,
+        "qemu-img's convert and compare": by_qemu_img,
+        "qemu-io unaligned": by_qemu_io,
+        "a map of holes": a_map_of_holes,
+        "clients that break off": broken_clients,
+        "files in a file system": on_aged(files.a_file_system),
+        "a database in a file system": on_aged(files.a_database),
+    }
+    parts = {
+        "what is refused": faults.refused_words,
+        "no memory, no thread, no file": faults.refused_resources,
+        "help and page": faults.help_and_page,
+        "the page's lines": files.the_page,
+        "stock by itself": stock_by_itself,
+        "parts and whole pages at once": overlaps,
+        "2, 4, 16 and 64 handles": handles,
+        "pages of other sizes": other_pages,
+        "trims round inwards": trims_inwards,
+        "brooms that rest": resting_brooms,
+        "marks out of reach": marks_out_of_reach,
+        "what a worn device says": worn_choices,
+        "statistics": reports.statistics,
+        "use before the first client": reports.aged_at_start,
+        "an image": images.image_file,
+        "an image, and kill -9": images.killed,
+        "an image, and power cuts": images.power_cuts,
+        "an image whose commands fail": failures.failing_image,
+        "files of a part's times": times.part_files,
+        "a part's times": times.of_commands,
+        "a part's times under a collection": times.under_collection,
+        "a device that wears out": worn_out,
+    }
     parts |= {f"{name}, {count} broom{'s' * (count > 1)}": functools.partial(part, brooms=count) for count in brooms for name, part in on_device.items()}
     parts |= {f"{sanitizer}Sanitizer": functools.partial(sanitized, kind=sanitizer.lower()) for sanitizer in ("Address", "Thread")}
+    parts |= {f"an image, {sanitizer}Sanitizer": functools.partial(images.image_sanitized, kind=sanitizer.lower()) for sanitizer in ("Address", "Thread")}
     if options.long:
         parts["wrong plugins"] = functools.partial(faults.wrong_plugins, parts=REFUSING)
     return [(name, part) for name, part in parts.items() if not options.only or any(word in name for word in options.only)]

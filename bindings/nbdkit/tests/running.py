@@ -1,6 +1,7 @@
 """Servers and clients of the checks: each has a time by which it has to end, and all of them are ended with the check."""
 
 import contextlib
+import json
 import os
 import pathlib
 import re
@@ -202,14 +203,16 @@ class Counts:
 
 
 class Server:
-    """An nbdkit with the plugin, on a unix socket. `kind` is that of the build: plain, or under a sanitizer. `threads` are those of a connection."""
+    """An nbdkit with the plugin, on a unix socket. `kind` is that of the build: plain, or under a sanitizer. `threads` are those of a
+    connection. With an image it has no file of counts. `before` are words before nbdkit."""
 
-    def __init__(self, shop, *words, kind="", threads=16):
-        self.shop, self.seen, self.kind = shop, 0, kind
+    def __init__(self, shop, *words, kind="", threads=16, image=None, before=()):
+        self.shop, self.seen, self.kind, self.image = shop, 0, kind, image
         folder = pathlib.Path(tempfile.mkdtemp(dir=shop.folder))
         self.socket, self.log, self.stats, pid = (folder / name for name in ("socket", "log", "stats", "pid"))
         self.uri = f"nbd+unix:///?socket={self.socket}"
-        call = ["nbdkit", "-f", "-t", threads, "-U", self.socket, "-P", pid, shop.plugin(kind), f"stats={self.stats}", *words]
+        call = [*before, "nbdkit", "-f", "-t", threads, "-U", self.socket, "-P", pid, shop.plugin(kind)]
+        call += [f"image={image}" if image else f"stats={self.stats}", *words]
         environment = dict(os.environ)
         if kind:
             library = {"address": "libasan.so", "thread": "libtsan.so"}[kind]
@@ -256,7 +259,11 @@ class Server:
         want(self.process.poll() is not None, f"the server didn't end:\n{self.log.read_text()[-3000:]}")
         told = self.log.read_text()
         want(is_clean(self.process.returncode, told), f"the server ended with status {self.process.returncode}:\n{told[-6000:]}")
-        return self.take(Counts(self.stats))
+        return None if self.image else self.take(Counts(self.stats))
+
+    def report(self):
+        """The export of statistics, of this moment."""
+        return json.loads(self.shop.run(["nbdcopy", f"nbd+unix:///stats?socket={self.socket}", "-"]))
 
 
 @contextlib.contextmanager

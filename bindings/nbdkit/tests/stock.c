@@ -3,6 +3,7 @@
 #include "over_stock.h"
 
 static struct mintlintel_seat broom_seats[2];
+static struct luns luns;
 
 // ---- A library of which each broom has lost its spare, and which has a free block for it or not.
 
@@ -17,6 +18,13 @@ uint32_t mintlintel_broom_drain(struct mintlintel_seat *seat, uint32_t *block, u
 
 uint32_t mintlintel_broom_drain_next(struct mintlintel_seat *seat, uint32_t *block, uint32_t *moved) {
     return mintlintel_broom_drain(seat, block, moved);
+}
+
+uint32_t mintlintel_broom_block(struct mintlintel_seat *seat, uint32_t block, struct mintlintel_state *state) {
+    (void) seat;
+    (void) block;
+    *state = (struct mintlintel_state){.phase = MINTLINTEL_PHASE_CLOSED};
+    return MINTLINTEL_DONE;
 }
 
 uint32_t mintlintel_broom_restock(struct mintlintel_seat *seat) {
@@ -73,10 +81,11 @@ static void a_spare_that_cannot_be_had(void) {
     stock.free_count = 1;
     stock_count_spare(&stock, 1);
     drains = restocks = has_block = has_spare = 0;
-    if (brooms_begin(&brooms, &options, &stock, broom_seats) == -1 || brooms_start(&brooms) == -1)
+    luns_begin(&luns, &options.part, 1, options.blocks);
+    if (brooms_begin(&brooms, &options, &stock, &luns, broom_seats) == -1 || brooms_start(&brooms) == -1)
         abort();
     brooms.brooms[0].is_spareless = 1;
-    stock_give_trimmed(&stock, stock_take(&stock));
+    stock_give_changed(&stock, stock_take(&stock));
     usleep(200000);
     want(restocks > 0, "a broom without a spare doesn't ask for one");
     want(drains < 20, "a broom without a spare looks over and over");
@@ -105,6 +114,47 @@ static void a_free_block_that_is_kept_for_a_broom(void) {
     stock_end(&stock);
 }
 
+// Near the end a broom may lose its spare at any time, so a free block is kept for it: until it finds nothing to gain.
+static void a_block_that_is_kept_near_the_end(void) {
+    begin(2, 1, 5, 1);
+    stock_near_end(&stock);
+    for (uint32_t i = 0; i < 3 * stock.pages; i++)
+        write_page();
+    struct attempt attempt = {0};
+    struct host *host = stock_take_to_write(&stock, &attempt);
+    want(attempt.is_last && stock.free_count == 1 && stock.open_count == 0, "a block that is kept near the end was taken");
+    stock_give_refused(&stock, host, &attempt);
+    stock_end_round(&stock, 0, atomic_load(&stock.changes), 1, 0);
+    write_page();
+    want(stock.free_count == 0 && stock.open_count == 1, "a block that no broom has use for wasn't taken");
+    stock_end(&stock);
+}
+
+// The marks fall with the spare blocks, and not to 0.
+static void marks_of_a_device_that_wears_out(void) {
+    begin(2, 1, 40, 8);
+    stock.marks.spare = 16;
+    for (int i = 0; i < 8; i++)
+        stock_count_retired(&stock);
+    want(stock.low == 4 && stock.high == 4, "half of the spare blocks are retired, and the marks are not half of what they were");
+    for (int i = 0; i < 12; i++)
+        stock_count_retired(&stock);
+    want(stock.low == 1 && stock.high == 1, "the marks of a worn device aren't 1");
+    stock_end(&stock);
+}
+
+// A broom that gains little rests until a block is opened, or a write waits.
+static void a_broom_that_gains_little(void) {
+    begin(2, 1, 10, 10);
+    uint64_t known;
+    want(stock_begin_round(&stock, 0, &known), "a broom has to stop");
+    stock_end_round(&stock, 0, known, 0, 1);
+    want(stock.is_collecting && stock.poor_at[0] == stock.opened + 1, "a broom that gained little doesn't rest");
+    write_page();
+    want(stock.poor_at[0] != stock.opened + 1, "a broom that gained little still rests though a block was opened");
+    stock_end(&stock);
+}
+
 static void *take_and_give(void *took) {
     double began = seconds();
     struct host *host = stock_take(&stock);
@@ -129,6 +179,24 @@ static void a_long_request(void) {
         pthread_join(others[i], NULL);
         want(took[i] < 0.8, "a request waits for a long one's end");
     }
+    stock_end(&stock);
+}
+
+// A request keeps a handle as long as its block has room, and the count of free blocks is that of its writes.
+static void a_handle_that_is_kept(void) {
+    begin(2, 1, 4, 1);
+    struct attempt attempt = {0};
+    struct host *host = stock_take_to_write(&stock, &attempt);
+    want(stock_keep_written(&stock, host, &attempt) == host && host->room == 1, "a handle with room isn't kept");
+    uint64_t changes = atomic_load(&stock.changes);
+    want(!stock_keep_written(&stock, host, &attempt) && host->room == 0 && stock.open_count == 0, "a handle without room is kept");
+    want(atomic_load(&stock.changes) > changes, "no broom looks again after a long write");
+    host = stock_take(&stock);
+    want(stock_keep_changed(&stock, host) == host, "a handle isn't kept for the next trim");
+    changes = atomic_load(&stock.changes);
+    stock_give_changed(&stock, host);
+    want(atomic_load(&stock.changes) > changes, "no broom looks again after a long trim");
+    want((stock.roomy.words[0] | stock.roomless.words[0]) == 3 && stock.free_count == 2, "a handle that was kept isn't given back");
     stock_end(&stock);
 }
 
@@ -180,7 +248,11 @@ int main(void) {
     a_count_that_is_too_high();
     a_spare_that_cannot_be_had();
     a_free_block_that_is_kept_for_a_broom();
+    a_block_that_is_kept_near_the_end();
+    marks_of_a_device_that_wears_out();
+    a_broom_that_gains_little();
     a_long_request();
+    a_handle_that_is_kept();
     many_requests();
     return failures;
 }

@@ -64,7 +64,7 @@ static void has_to_end(pthread_t thread, const char *text) {
 // ---- What stands before a wait.
 
 static void trim_one(void) {
-    stock_give_trimmed(&stock, stock_take(&stock));
+    stock_give_changed(&stock, stock_take(&stock));
 }
 
 // The only handle is in use by a write, for which a block was opened.
@@ -140,12 +140,21 @@ static void give_refused(void) {
     stock_give_refused(&stock, in_use, &its_attempt);
 }
 
+// The same, by a request that has another page to write or to trim: NULL, since somebody waits.
+static void keep_written(void) {
+    want(!stock_keep_written(&stock, in_use, &its_attempt), "a handle with room is kept though somebody waits");
+}
+
+static void keep_trimmed(void) {
+    want(!stock_keep_changed(&stock, in_use), "a handle is kept though somebody waits");
+}
+
 static void give(void) {
     stock_give(&stock, in_use);
 }
 
 static void give_trimmed(void) {
-    stock_give_trimmed(&stock, in_use);
+    stock_give_changed(&stock, in_use);
 }
 
 static void one_comes_free(void) {
@@ -197,6 +206,10 @@ static const struct way ways[] = {
     {"a handle without room is given back, to a read", one_reads, read_one, give},
     {"a handle is given back behind a trim, to a write", one_reads, write_one, give_trimmed},
     {"a handle is given back behind a trim, to a read", one_reads, read_one, give_trimmed},
+    {"a long write gives its handle up, to a write", one_writes, write_one, keep_written},
+    {"a long write gives its handle up, to a read", one_writes, read_one, keep_written},
+    {"a long trim gives its handle up, to a write", one_reads, write_one, keep_trimmed},
+    {"a long trim gives its handle up, to a read", one_reads, read_one, keep_trimmed},
     {"a refused write gives its handle and its block back, to a write", one_writes, write_one, give_refused},
     {"a refused write gives its handle back, to a read", one_writes, read_one, give_refused},
     {"a block comes free", no_block, write_one, one_comes_free},
@@ -260,7 +273,7 @@ static void *give_over_and_over(void *unused) {
         else if (round % 4 == 1)
             stock_give(&stock, host);
         else
-            stock_give_trimmed(&stock, host);
+            stock_give_changed(&stock, host);
         wait_for(&done, round);
     }
     return NULL;

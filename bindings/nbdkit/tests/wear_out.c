@@ -1,6 +1,6 @@
-// wear_out URI uniform|zipf: four connections write pages of sectors of their own, over and over, until each was refused 20
-// times. Then each trims a sector before each write, until 20 more were refused. A refusal is ENOSPC, and takes at most a
-// second; in the end every page has to be as its last write or trim that was answered left it.
+// wear_out URI uniform|zipf|sequential [ERROR]: four connections write pages of sectors of their own, over and over, until each was refused 20
+// times. Then each trims a sector before each write, until 20 more were refused. A refusal is ENOSPC, or the given error, and takes at
+// most a second; in the end every page has to be as its last write or trim that was answered left it.
 #include <errno.h>
 #include <math.h>
 #include <pthread.h>
@@ -11,13 +11,16 @@
 enum { WRITERS = 4, REFUSALS = 20, TRIMMED_REFUSALS = 40, NUMBERS = PAGE / 8, LONGEST = 1 };
 #define SKEW 1.2
 
+static int refusal = ENOSPC; // what a refused write gets
+static int refuses_trims;    // and a trim then, since an error was given
+
 struct writer {
     pthread_t thread;
     const char *uri;
     uint32_t me, sectors, *last;
-    const double *share; // of each own sector: how likely it or one before it is drawn
+    const double *share; // of each own sector: how likely it or one before it is drawn; or NULL: they are written in turn
     int wrong_errors;
-    uint64_t answered;
+    uint64_t answered, untrimmed; // writes in all, and before the first trim
     double refusals[TRIMMED_REFUSALS]; // how long each took
 };
 
@@ -29,7 +32,9 @@ static void fill(uint32_t *page, uint32_t sector, uint32_t number) {
     }
 }
 
-static uint32_t draw(struct writer *writer, struct drand48_data *random) {
+static uint32_t draw(struct writer *writer, struct drand48_data *random, uint32_t number) {
+    if (!writer->share)
+        return (number - 1) % (writer->sectors / WRITERS) * WRITERS + writer->me;
     double from_0_to_1;
     drand48_r(random, &from_0_to_1);
     uint32_t low = 0, high = writer->sectors / WRITERS - 1;
@@ -43,10 +48,12 @@ static uint32_t draw(struct writer *writer, struct drand48_data *random) {
     return low * WRITERS + writer->me;
 }
 
+// A disk that can't be changed any more refuses trims too.
 static void trim(struct writer *writer, struct nbd_handle *nbd, uint32_t sector) {
-    if (nbd_trim(nbd, PAGE, (uint64_t) sector * PAGE, 0) == -1)
+    if (nbd_trim(nbd, PAGE, (uint64_t) sector * PAGE, 0) == 0)
+        writer->last[sector] = 0;
+    else if (!refuses_trims || nbd_get_errno() != refusal)
         end("trim");
-    writer->last[sector] = 0;
 }
 
 static void *write_until_refused(void *argument) {
@@ -57,13 +64,14 @@ static void *write_until_refused(void *argument) {
     uint32_t page[2 * NUMBERS];
     for (uint32_t number = 1, refusals = 0; refusals < TRIMMED_REFUSALS; number++) {
         if (refusals >= REFUSALS)
-            trim(writer, nbd, draw(writer, &random));
-        uint32_t sector = number <= writer->sectors / WRITERS ? (number - 1) * WRITERS + writer->me : draw(writer, &random);
+            trim(writer, nbd, draw(writer, &random, number));
+        uint32_t sector = number <= writer->sectors / WRITERS ? (number - 1) * WRITERS + writer->me : draw(writer, &random, number);
         fill(page, sector, number);
         double began = seconds();
         if (nbd_pwrite(nbd, page, PAGE, (uint64_t) sector * PAGE, 0) == 0) {
             writer->last[sector] = number;
             writer->answered++;
+            writer->untrimmed += refusals < REFUSALS;
             continue;
         }
         writer->refusals[refusals] = seconds() - began;
@@ -71,7 +79,7 @@ static void *write_until_refused(void *argument) {
             fprintf(stderr, "a refusal isn't at once: it took more than %d s\n", LONGEST);
             exit(1);
         }
-        writer->wrong_errors += nbd_get_errno() != ENOSPC;
+        writer->wrong_errors += nbd_get_errno() != refusal;
     }
     nbd_close(nbd);
     return NULL;
@@ -106,32 +114,36 @@ static int by_size(const void *one, const void *other) {
 }
 
 int main(int count, char **words) {
-    if (count != 3)
+    if (count < 3 || count > 4)
         return 2;
+    refuses_trims = count == 4;
+    if (count == 4)
+        refusal = strcmp(words[3], "EIO") == 0 ? EIO : strcmp(words[3], "EPERM") == 0 ? EPERM : ENOSPC;
     struct nbd_handle *nbd = connect_to(words[1]);
     uint32_t sectors = (uint32_t) (nbd_get_size(nbd) / PAGE);
     nbd_close(nbd);
     uint32_t *last = calloc(sectors, sizeof *last);
-    double *share = shares(sectors / WRITERS, strcmp(words[2], "zipf") == 0);
+    double *share = strcmp(words[2], "sequential") == 0 ? NULL : shares(sectors / WRITERS, strcmp(words[2], "zipf") == 0);
     struct writer writers[WRITERS];
     for (uint32_t i = 0; i < WRITERS; i++) {
         writers[i] = (struct writer){.uri = words[1], .me = i, .sectors = sectors, .last = last, .share = share};
         if (pthread_create(&writers[i].thread, NULL, write_until_refused, &writers[i]))
             end("thread");
     }
-    uint64_t answered = 0;
+    uint64_t answered = 0, untrimmed = 0;
     int wrong_errors = 0;
     double refusals[WRITERS * TRIMMED_REFUSALS];
     for (int i = 0; i < WRITERS; i++) {
         pthread_join(writers[i].thread, NULL);
         answered += writers[i].answered;
+        untrimmed += writers[i].untrimmed;
         wrong_errors += writers[i].wrong_errors;
         memcpy(refusals + i * TRIMMED_REFUSALS, writers[i].refusals, sizeof writers[i].refusals);
     }
     uint32_t wrong = wrong_pages(words[1], sectors, last);
     qsort(refusals, WRITERS * TRIMMED_REFUSALS, sizeof *refusals, by_size);
-    printf("answered %lu, nine in ten refused within %.1f ms, all within %.1f ms, other errors %d, wrong pages %u\n",
-           (unsigned long) answered, refusals[WRITERS * TRIMMED_REFUSALS * 9 / 10] * 1e3,
+    printf("answered %lu, %lu of them before the first trim, nine in ten refused within %.1f ms, all within %.1f ms, other errors %d, wrong pages %u\n",
+           (unsigned long) answered, (unsigned long) untrimmed, refusals[WRITERS * TRIMMED_REFUSALS * 9 / 10] * 1e3,
            refusals[WRITERS * TRIMMED_REFUSALS - 1] * 1e3, wrong_errors, wrong);
     free(last);
     free(share);

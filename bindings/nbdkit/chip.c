@@ -1,0 +1,299 @@
+#define _GNU_SOURCE
+#define NBDKIT_API_VERSION 2
+#include "chip.h"
+
+#include <errno.h>
+#include <inttypes.h>
+#include <nbdkit-plugin.h>
+#include <stdio.h>
+#include <stdlib.h>
+#include <string.h>
+#include <unistd.h>
+
+#include "luns.h"
+#include "random.h"
+
+enum { DONE = 0, FAILED = 1 }; // what the chip answers
+
+// A block: it works; its programs and erases fail from now on; it must not be used; it is kept in reserve.
+enum block { GOOD, FAILING, BAD, RESERVED };
+
+static struct {
+    const struct options *options;
+    struct mintlintel_nand nand; // of the image's file
+    struct mintlintel_durable_numbers numbers;
+    const uint32_t *reason; // why the file failed
+    uint8_t *blocks;
+    struct luns luns;
+    uint64_t random;
+    uint64_t end; // of the last command
+    int is_untimed; // reads take no time
+    int is_shown; // all blocks are shown to the layer, which only reads from now on
+    char *file;                // with the numbers of the blocks that have become bad
+    struct chip_counts counts;
+} chip;
+
+uint32_t __real_mtl_durable_open(struct mintlintel_durable *device, const struct mintlintel_nand *nand, const struct mintlintel_durable_numbers *numbers,
+                                 const uint32_t *reason);
+uint32_t __wrap_mtl_durable_open(struct mintlintel_durable *device, const struct mintlintel_nand *nand, const struct mintlintel_durable_numbers *numbers,
+                                 const uint32_t *reason);
+
+static int may_fail(void) {
+    return chip.options->fail_programs > 0 || chip.options->fail_erases > 0;
+}
+
+// ---- The commands.
+
+// Whether a command fails: by the rate, or since its block fails.
+static int fails(uint32_t block, double rate) {
+    if (rate > 0 && (double) (next_number(&chip.random) >> 11) / (1ull << 53) < rate)
+        chip.blocks[block] = FAILING;
+    return chip.blocks[block] == FAILING;
+}
+
+// Leaves a page that can't be read: no stamp is all ones.
+static int fail_program(uint32_t block, uint32_t page, const void *main) {
+    uint8_t stamp[MINTLINTEL_STAMP_BYTES];
+    memset(stamp, 0xff, sizeof stamp);
+    chip.counts.failed_programs++;
+    int answer = chip.nand.program(chip.nand.chip, block, page, main, stamp);
+    return answer == DONE ? FAILED : answer;
+}
+
+static int chip_read(void *at, uint32_t block, uint32_t page, void *main, void *stamp) {
+    if (!chip.is_untimed)
+        chip.end = luns_read(&chip.luns, block, chip.end);
+    return chip.nand.read(at, block, page, main, stamp);
+}
+
+static int chip_program(void *at, uint32_t block, uint32_t page, const void *main, const void *stamp) {
+    chip.end = luns_program(&chip.luns, block, chip.end);
+    return fails(block, chip.options->fail_programs) ? fail_program(block, page, main) : chip.nand.program(at, block, page, main, stamp);
+}
+
+static int chip_copyback(void *at, uint32_t from_block, uint32_t from_page, uint32_t block, uint32_t page) {
+    static const uint8_t nothing[MAX_PAGE_BYTES];
+    chip.end = luns_copy(&chip.luns, from_block, block, chip.end);
+    return fails(block, chip.options->fail_programs) ? fail_program(block, page, nothing) : chip.nand.copyback(at, from_block, from_page, block, page);
+}
+
+static int chip_erase(void *at, uint32_t block) {
+    chip.end = luns_erase(&chip.luns, block, chip.end);
+    if (!fails(block, chip.options->fail_erases))
+        return chip.nand.erase(at, block);
+    chip.counts.failed_erases++;
+    return FAILED;
+}
+
+static int chip_is_bad(void *at, uint32_t block) {
+    (void) at;
+    return !chip.is_shown && (chip.blocks[block] == BAD || chip.blocks[block] == RESERVED);
+}
+
+// ---- Bad blocks.
+
+static void set_bad(uint32_t block) {
+    chip.counts.bad_blocks += chip.blocks[block] != BAD;
+    chip.blocks[block] = BAD;
+}
+
+// If its number can't be kept, the block is used again after the server's next start: it then fails again, or not.
+static int chip_mark_bad(void *at, uint32_t block) {
+    (void) at;
+    set_bad(block);
+    FILE *file = fopen(chip.file, "ae");
+    int has_failed = !file || fprintf(file, "%" PRIu32 "\n", block) < 0;
+    if (file)
+        has_failed |= fclose(file) != 0;
+    if (has_failed)
+        nbdkit_error("%s: %s: block %" PRIu32 " is bad, and will be forgotten", chip.file, strerror(errno), block);
+    return DONE;
+}
+
+// The blocks that became bad under earlier servers.
+static int read_bad_blocks(void) {
+    uint32_t block;
+    FILE *file = fopen(chip.file, "re");
+    if (!file)
+        return 0;
+    while (fscanf(file, "%" SCNu32, &block) == 1)
+        if (block < chip.numbers.blocks)
+            set_bad(block);
+    int is_whole = feof(file);
+    fclose(file);
+    if (is_whole)
+        return 0;
+    nbdkit_error("%s: it isn't a list of blocks, one a line", chip.file);
+    return -1;
+}
+
+static int is_erased(uint32_t block) {
+    uint8_t stamp[MINTLINTEL_STAMP_BYTES];
+    for (uint32_t page = 0; page < chip.numbers.pages; page++)
+        if (chip.nand.read(chip.nand.chip, block, page, NULL, stamp) != 1)
+            return 0;
+    return 1;
+}
+
+// The blocks that are bad from the factory: they have never been used.
+static int take_bad_blocks(void) {
+    const struct numbers *bad = &chip.options->bad;
+    if (bad->count > 0 && numbers_most(bad) >= chip.numbers.blocks) {
+        nbdkit_error("bad=%" PRIu32 ": the chip has the blocks 0 to %" PRIu32, numbers_most(bad), chip.numbers.blocks - 1);
+        return -1;
+    }
+    for (uint32_t block = 0; block < chip.numbers.blocks; block++) {
+        if (chip.blocks[block] == BAD || !numbers_have(bad, block))
+            continue;
+        if (!is_erased(block)) {
+            nbdkit_error("bad=%" PRIu32 ": the block has pages of the disk: give the same blocks from the image's first start on", block);
+            return -1;
+        }
+        set_bad(block);
+    }
+    return 0;
+}
+
+// Keeps half of the blocks in reserve that the sectors don't need, of those that are erased.
+static void keep_reserve(void) {
+    uint32_t good = chip.numbers.blocks - chip.counts.bad_blocks, needed = chip.numbers.sectors / chip.numbers.pages + 2;
+    uint32_t wanted = may_fail() && good > needed ? (good - needed) / 2 : 0;
+    for (uint32_t block = chip.numbers.blocks; block-- > 0 && chip.counts.reserve_blocks < wanted;) {
+        if (chip.blocks[block] != GOOD || !is_erased(block))
+            continue;
+        chip.blocks[block] = RESERVED;
+        chip.counts.reserve_blocks++;
+    }
+}
+
+// Lets the layer have a block of the reserve. 0 if there is none.
+static int take_from_reserve(void) {
+    for (uint32_t block = 0; block < chip.numbers.blocks; block++) {
+        if (chip.blocks[block] != RESERVED)
+            continue;
+        chip.blocks[block] = GOOD;
+        chip.counts.reserve_blocks--;
+        return 1;
+    }
+    return 0;
+}
+
+// ---- Mounts.
+
+static uint32_t mount(struct mintlintel_durable *device) {
+    struct mintlintel_nand nand = chip.nand;
+    nand.read = chip_read;
+    nand.program = chip_program;
+    nand.copyback = chip_copyback;
+    nand.erase = chip_erase;
+    nand.is_bad = chip_is_bad;
+    nand.mark_bad = chip_mark_bad;
+    chip.is_untimed = 1;
+    uint32_t code = __real_mtl_durable_open(device, &nand, &chip.numbers, chip.reason);
+    chip.is_untimed = 0;
+    return code;
+}
+
+// Mounts with a block of the reserve more each time that there are too few, and in the end with all blocks, to read only.
+static uint32_t mount_somehow(struct mintlintel_durable *device) {
+    uint32_t code;
+    do
+        code = mount(device);
+    while (code == MINTLINTEL_NO_ROOM && take_from_reserve());
+    if (code != MINTLINTEL_NO_ROOM)
+        return code;
+    chip.is_shown = 1;
+    return mount(device);
+}
+
+uint32_t __wrap_mtl_durable_open(struct mintlintel_durable *device, const struct mintlintel_nand *nand, const struct mintlintel_durable_numbers *numbers,
+                                 const uint32_t *reason) {
+    chip.nand = *nand;
+    chip.numbers = *numbers;
+    chip.reason = reason;
+    chip.blocks = calloc(numbers->blocks, sizeof *chip.blocks);
+    if (!chip.blocks)
+        return MINTLINTEL_NO_MEMORY;
+    luns_begin(&chip.luns, &chip.options->part, numbers->luns, numbers->blocks);
+    if (read_bad_blocks() == -1 || take_bad_blocks() == -1)
+        return MINTLINTEL_NO_SUCH_BLOCK;
+    keep_reserve();
+    return mount_somehow(device);
+}
+
+// The disk can only be read from now on. The blocks that have failed are known as bad at the next start, so that it is the same there.
+static void show_all(void) {
+    chip.is_shown = 1;
+    for (uint32_t block = 0; block < chip.numbers.blocks; block++)
+        if (chip.blocks[block] == FAILING)
+            chip_mark_bad(&chip, block);
+}
+
+// The layer counts from each mount on.
+static void keep_counts(struct mintlintel_durable *device) {
+    struct mintlintel_totals totals = {0}, *before = &chip.counts.before;
+    mintlintel_durable_counts(device, &totals);
+    before->programs += totals.programs;
+    before->copies += totals.copies;
+    before->erases += totals.erases;
+}
+
+int chip_mount_again(struct mintlintel_durable *device, uint32_t code) {
+    int has_no_block = code == MINTLINTEL_NO_ROOM || code == MINTLINTEL_EXHAUSTED;
+    if (chip.is_shown || (code != MINTLINTEL_FAILED && !has_no_block))
+        return 0;
+    if (has_no_block && !take_from_reserve())
+        show_all();
+    keep_counts(device);
+    mintlintel_durable_close(device);
+    return mount_somehow(device) == MINTLINTEL_DONE && !chip.is_shown;
+}
+
+int chip_is_worn(void) {
+    return chip.is_shown;
+}
+
+// ---- Beginning and end.
+
+int chip_begin(const struct options *options) {
+    memset(&chip, 0, sizeof chip);
+    chip.options = options;
+    chip.random = options->seed;
+    if (asprintf(&chip.file, "%s.bad", options->image) == -1) {
+        chip.file = NULL;
+        nbdkit_error("there is no memory for the name of a file");
+        return -1;
+    }
+    if (access(options->image, F_OK) == -1 && errno == ENOENT)
+        unlink(chip.file); // of an image that was here before
+    return 0;
+}
+
+void chip_end(void) {
+    if (chip.blocks)
+        luns_end(&chip.luns);
+    free(chip.blocks);
+    free(chip.file);
+    memset(&chip, 0, sizeof chip);
+}
+
+void chip_start(void) {
+    luns_time(&chip.luns);
+}
+
+void chip_ask(uint64_t from) {
+    chip.end = from;
+    chip.is_untimed = 0;
+}
+
+void chip_look(void) {
+    chip.is_untimed = 1;
+}
+
+uint64_t chip_done(void) {
+    return chip.end;
+}
+
+struct chip_counts chip_count(void) {
+    return chip.counts;
+}

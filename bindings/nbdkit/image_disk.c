@@ -1,0 +1,315 @@
+#define _GNU_SOURCE
+#define NBDKIT_API_VERSION 2
+#include "image_disk.h"
+
+#include <errno.h>
+#include <inttypes.h>
+#include <nbdkit-plugin.h>
+#include <stdlib.h>
+#include <string.h>
+
+#include "chip.h"
+#include "luns.h"
+#include "pieces.h"
+
+// Who has the lock lets others have it after so many pages of a request, or sectors of a trim.
+enum { PAGES_OF_A_TURN = 32, SECTORS_OF_A_TURN = 4096 };
+
+// ---- Opening and closing.
+
+static void tell_other_numbers(const struct options *options) {
+    struct mintlintel_image_head head;
+    mintlintel_image_look(options->image, &head);
+    const struct mintlintel_durable_numbers *has = &head.numbers;
+    nbdkit_error("image=%s has %" PRIu32 " sectors and %" PRIu32 " blocks of %" PRIu32 " pages of %" PRIu32 " bytes on %" PRIu32
+                 " LUNs, and not %" PRIu32 " and %" PRIu32 " of %" PRIu32 " of %" PRIu32 " on %" PRIu32
+                 ": give these numbers, or none of them",
+                 options->image, has->sectors, has->blocks, has->pages, has->page_bytes, has->luns, options->sectors, options->blocks, options->pages,
+                 options->page, options->luns);
+}
+
+static void tell_refusal(const struct options *options, uint32_t code, int error) {
+    if (code == MINTLINTEL_OTHER_NUMBERS)
+        tell_other_numbers(options);
+    else if (code == MINTLINTEL_NO_FILE || code == MINTLINTEL_FILE_FAILED)
+        nbdkit_error("image=%s: %s", options->image, strerror(error));
+    else
+        nbdkit_error("image=%s: %s (%" PRIu32 ")", options->image, mintlintel_durable_code_name(code), code);
+}
+
+static void tell_worn(void) {
+    nbdkit_error("too few blocks are good: the disk can be read, and not be changed any more");
+}
+
+// Without numbers the image says what they are, or a new one has the defaults.
+static uint32_t open_image(struct image_disk *disk) {
+    const struct options *options = disk->options;
+    enum mintlintel_image_mode mode = options->sync;
+    if (!options->has_numbers) {
+        uint32_t code = mintlintel_image_open(&disk->image, options->image, mode, 0, 0, 0, 0, 0);
+        if (code != MINTLINTEL_NO_FILE || errno != ENOENT)
+            return code;
+    }
+    return mintlintel_image_open(&disk->image, options->image, mode, options->luns, options->blocks, options->pages, options->page, options->sectors);
+}
+
+int image_disk_open(struct image_disk *disk, struct options *options) {
+    struct mintlintel_durable_numbers numbers;
+    disk->options = options;
+    if (chip_begin(options) == -1)
+        return -1;
+    errno = 0;
+    uint32_t code = open_image(disk);
+    if (code != MINTLINTEL_DONE) {
+        tell_refusal(options, code, errno);
+        return -1;
+    }
+    pthread_mutex_init(&disk->mutex, NULL);
+    mintlintel_durable_numbers(&disk->image.device, &numbers);
+    options->luns = numbers.luns;
+    options->blocks = numbers.blocks;
+    options->pages = numbers.pages;
+    options->page = numbers.page_bytes;
+    options->sectors = numbers.sectors;
+    disk->is_worn = chip_is_worn();
+    if (disk->is_worn)
+        tell_worn();
+    if (options->page <= MAX_PAGE_BYTES)
+        return unreadable_begin(&disk->unreadable, &options->unreadable, options->sectors) == -1 ? -1 : power_open(&disk->power, options, &disk->mutex);
+    nbdkit_error("image=%s has pages of %" PRIu32 " bytes, and the plugin takes at most %d", options->image, options->page, MAX_PAGE_BYTES);
+    return -1;
+}
+
+int image_disk_start(struct image_disk *disk) {
+    chip_start();
+    return power_start(&disk->power);
+}
+
+static void close_image(struct image_disk *disk) {
+    power_close(&disk->power);
+    if (mintlintel_image_close(&disk->image) != MINTLINTEL_DONE)
+        nbdkit_error("image=%s wasn't closed well: %s", disk->options->image, strerror(errno));
+    pthread_mutex_destroy(&disk->mutex);
+}
+
+void image_disk_close(struct image_disk *disk) {
+    if (disk->image.file)
+        close_image(disk);
+    unreadable_end(&disk->unreadable);
+    chip_end();
+}
+
+// ---- The requests. The lock is held by all functions whose names don't begin with image_disk.
+
+// What failed is told once, since the layer refuses each call after it.
+static int fail(struct image_disk *disk, const char *call, uint32_t code) {
+    int error = mintlintel_image_errno(&disk->image);
+    if (!disk->has_failed)
+        nbdkit_error("%s: %s (%" PRIu32 ")%s%s: start the server again", call, mintlintel_durable_code_name(code), code, error ? ": " : "",
+                     error ? strerror(error) : "");
+    disk->has_failed = 1;
+    nbdkit_set_error(error == ENOSPC ? ENOSPC : EIO);
+    return -1;
+}
+
+// Too few blocks are good for the sectors.
+static int fail_worn(struct image_disk *disk) {
+    if (!disk->is_worn)
+        tell_worn();
+    disk->is_worn = 1;
+    nbdkit_set_error(options_worn_error(disk->options));
+    return -1;
+}
+
+// After a command that failed the layer is mounted again, and goes on elsewhere: whether a call with this code can be made once more.
+static int goes_on(struct image_disk *disk, uint32_t code) {
+    return code > MINTLINTEL_WRITTEN && chip_mount_again(&disk->image.device, code);
+}
+
+// The result of a change that has returned this code.
+static int changed(struct image_disk *disk, const char *call, uint32_t code) {
+    return code <= MINTLINTEL_WRITTEN ? 0 : chip_is_worn() ? fail_worn(disk) : fail(disk, call, code);
+}
+
+// A request, or a page of one, begins with its first command; its commands are done by `until`, so far.
+static void note_time(uint64_t *until) {
+    *until = *until > chip_done() ? *until : chip_done();
+}
+
+// A sector's page, with zeros if it is empty. `is_empty` is set too.
+static int load(struct image_disk *disk, uint32_t sector, uint8_t *page, int *is_empty) {
+    if (unreadable_has(&disk->unreadable, sector))
+        return -1;
+    uint32_t code = mintlintel_durable_read(&disk->image.device, sector, page, disk->options->page);
+    disk->reads++;
+    *is_empty = code == MINTLINTEL_EMPTY;
+    if (*is_empty)
+        memset(page, 0, disk->options->page);
+    return code <= MINTLINTEL_WRITTEN ? 0 : fail(disk, "read", code);
+}
+
+static int store(struct image_disk *disk, uint32_t sector, const uint8_t *page) {
+    uint32_t code;
+    if (disk->is_worn)
+        return fail_worn(disk);
+    do
+        code = mintlintel_durable_write(&disk->image.device, sector, page, disk->options->page);
+    while (goes_on(disk, code));
+    disk->writes += code <= MINTLINTEL_WRITTEN;
+    if (code <= MINTLINTEL_WRITTEN)
+        unreadable_renew(&disk->unreadable, sector);
+    return changed(disk, "write", code);
+}
+
+static int load_piece(struct image_disk *disk, const struct piece *piece, uint8_t *to) {
+    uint8_t page[MAX_PAGE_BYTES];
+    int is_empty;
+    if (piece->is_whole)
+        return load(disk, piece->sector, to, &is_empty);
+    if (load(disk, piece->sector, page, &is_empty) == -1)
+        return -1;
+    memcpy(to, page + piece->at, piece->count);
+    return 0;
+}
+
+static int store_piece(struct image_disk *disk, const struct piece *piece, const uint8_t *from) {
+    uint8_t page[MAX_PAGE_BYTES];
+    int is_empty;
+    if (piece->is_whole)
+        return store(disk, piece->sector, from);
+    if (load(disk, piece->sector, page, &is_empty) == -1)
+        return -1;
+    memcpy(page + piece->at, from, piece->count);
+    return store(disk, piece->sector, page);
+}
+
+static int trim_sectors(struct image_disk *disk, uint32_t first, uint32_t count) {
+    uint32_t code;
+    if (disk->is_worn)
+        return fail_worn(disk);
+    do
+        code = mintlintel_durable_trim(&disk->image.device, first, count);
+    while (goes_on(disk, code));
+    disk->trims += count;
+    for (uint32_t i = 0; code <= MINTLINTEL_WRITTEN && i < count; i++)
+        unreadable_renew(&disk->unreadable, first + i);
+    return changed(disk, "trim", code);
+}
+
+// Lets others have the lock.
+static void end_turn(struct image_disk *disk) {
+    pthread_mutex_unlock(&disk->mutex);
+    pthread_mutex_lock(&disk->mutex);
+}
+
+int image_disk_read(struct image_disk *disk, uint8_t *to, uint32_t count, uint64_t offset) {
+    struct range range = {.offset = offset, .count = count, .page = disk->options->page};
+    struct piece piece;
+    uint64_t began = luns_now(), until = began;
+    int result = 0;
+    pthread_mutex_lock(&disk->mutex);
+    for (uint32_t done = 1; result == 0 && next_piece(&range, &piece); done++) {
+        chip_ask(began);
+        result = load_piece(disk, &piece, to);
+        note_time(&until);
+        to += piece.count;
+        if (done % PAGES_OF_A_TURN == 0)
+            end_turn(disk);
+    }
+    pthread_mutex_unlock(&disk->mutex);
+    luns_sleep(until);
+    return result;
+}
+
+int image_disk_write(struct image_disk *disk, const uint8_t *from, uint32_t count, uint64_t offset) {
+    struct range range = {.offset = offset, .count = count, .page = disk->options->page};
+    struct piece piece;
+    uint64_t began = luns_now(), until = began;
+    int result = 0;
+    pthread_mutex_lock(&disk->mutex);
+    for (uint32_t done = 1; result == 0 && next_piece(&range, &piece); done++) {
+        chip_ask(began);
+        result = store_piece(disk, &piece, from);
+        note_time(&until);
+        from += piece.count;
+        if (done % PAGES_OF_A_TURN == 0)
+            end_turn(disk);
+    }
+    pthread_mutex_unlock(&disk->mutex);
+    luns_sleep(until);
+    return result;
+}
+
+int image_disk_trim(struct image_disk *disk, uint32_t count, uint64_t offset) {
+    struct sectors sectors = whole_sectors(count, offset, disk->options->page);
+    uint64_t began = luns_now(), until = began;
+    int result = 0;
+    pthread_mutex_lock(&disk->mutex);
+    for (uint64_t sector = sectors.first; result == 0 && sector < sectors.end; sector += SECTORS_OF_A_TURN) {
+        uint64_t left = sectors.end - sector;
+        chip_ask(began);
+        result = trim_sectors(disk, (uint32_t) sector, left < SECTORS_OF_A_TURN ? (uint32_t) left : SECTORS_OF_A_TURN);
+        note_time(&until);
+        end_turn(disk);
+    }
+    pthread_mutex_unlock(&disk->mutex);
+    luns_sleep(until);
+    return result;
+}
+
+// Zeros in a part of a page, or in a whole one. An empty sector stays empty if it may trim.
+static int zero_piece(struct image_disk *disk, const struct piece *piece, int may_trim) {
+    uint8_t page[MAX_PAGE_BYTES];
+    int is_empty = 0;
+    if (!piece->is_whole && load(disk, piece->sector, page, &is_empty) == -1)
+        return -1;
+    if (is_empty && may_trim)
+        return 0;
+    memset(page + piece->at, 0, piece->count);
+    return store(disk, piece->sector, page);
+}
+
+int image_disk_zero(struct image_disk *disk, uint32_t count, uint64_t offset, int may_trim) {
+    struct range range = {.offset = offset, .count = count, .page = disk->options->page};
+    struct piece piece;
+    if (may_trim && image_disk_trim(disk, count, offset) == -1)
+        return -1;
+    uint64_t began = luns_now(), until = began;
+    int result = 0;
+    pthread_mutex_lock(&disk->mutex);
+    for (uint32_t done = 1; result == 0 && next_piece(&range, &piece); done++) {
+        chip_ask(began);
+        if (!piece.is_whole || !may_trim)
+            result = zero_piece(disk, &piece, may_trim);
+        note_time(&until);
+        if (done % PAGES_OF_A_TURN == 0)
+            end_turn(disk);
+    }
+    pthread_mutex_unlock(&disk->mutex);
+    luns_sleep(until);
+    return result;
+}
+
+int image_disk_flush(struct image_disk *disk) {
+    pthread_mutex_lock(&disk->mutex);
+    uint32_t code = mintlintel_durable_flush(&disk->image.device);
+    disk->flushes++;
+    int result = code == MINTLINTEL_DONE ? 0 : fail(disk, "flush", code);
+    pthread_mutex_unlock(&disk->mutex);
+    return result;
+}
+
+// A sector of which no page tells is empty; another one may have been trimmed, which its page says.
+int image_disk_is_empty(struct image_disk *disk, uint32_t sector) {
+    struct mintlintel_place place;
+    uint8_t page[MAX_PAGE_BYTES];
+    int result;
+    pthread_mutex_lock(&disk->mutex);
+    chip_look();
+    uint32_t code = mintlintel_core_page(&disk->image.device.core, sector, &place);
+    if (code == MINTLINTEL_WRITTEN)
+        code = mintlintel_durable_read(&disk->image.device, sector, page, disk->options->page);
+    result = code <= MINTLINTEL_WRITTEN ? code == MINTLINTEL_EMPTY : fail(disk, "look", code);
+    pthread_mutex_unlock(&disk->mutex);
+    return result;
+}

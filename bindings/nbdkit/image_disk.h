@@ -1,0 +1,40 @@
+// The disk in an image file: a device that survives the end of the server, by image=FILE.
+//
+// One lock is round all calls of the layer. A request of many pages gives it up from time to time, so it is not one step; each of its pages is.
+#ifndef NBDKIT_IMAGE_DISK_H
+#define NBDKIT_IMAGE_DISK_H
+
+#include <mintlintel_image.h>
+#include <pthread.h>
+#include <stdint.h>
+
+#include "options.h"
+#include "power.h"
+
+struct image_disk {
+    struct options *options;
+    pthread_mutex_t mutex; // of all below
+    struct mintlintel_image image;
+    struct power power;
+    uint64_t reads, writes, trims, flushes; // what clients asked for, in pages, and flushes
+    struct unreadable unreadable;
+    int has_failed; // a failure was told
+    int is_worn;    // too few blocks are good, which was told: nothing changes any more
+};
+
+// Opens the image, or makes it, and takes the numbers that weren't given from it. 0, or -1 with an error reported.
+int image_disk_open(struct image_disk *disk, struct options *options);
+int image_disk_start(struct image_disk *disk);
+void image_disk_close(struct image_disk *disk);
+
+// The requests: 0, or -1 with an error set and reported.
+int image_disk_read(struct image_disk *disk, uint8_t *to, uint32_t count, uint64_t offset);
+int image_disk_write(struct image_disk *disk, const uint8_t *from, uint32_t count, uint64_t offset);
+int image_disk_zero(struct image_disk *disk, uint32_t count, uint64_t offset, int may_trim);
+int image_disk_trim(struct image_disk *disk, uint32_t count, uint64_t offset);
+int image_disk_flush(struct image_disk *disk);
+
+// Whether a sector is empty: 1 or 0, or -1 with an error set and reported.
+int image_disk_is_empty(struct image_disk *disk, uint32_t sector);
+
+#endif

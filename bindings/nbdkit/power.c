@@ -1,0 +1,202 @@
+#define _GNU_SOURCE
+#define NBDKIT_API_VERSION 2
+#include "power.h"
+
+#include <errno.h>
+#include <inttypes.h>
+#include <mintlintel_image.h>
+#include <nbdkit-plugin.h>
+#include <signal.h>
+#include <stdatomic.h>
+#include <stdio.h>
+#include <stdlib.h>
+#include <string.h>
+#include <unistd.h>
+
+#include "random.h"
+
+enum { DISK_SECTOR = 512, WAIT_FOR_A_WRITE_US = 10000 };
+
+// Where an image's record of its session stands, by docs/FORMATS.md: the name of the machine's run, and the check of what is before it.
+enum { SESSION_AT = 4096, BOOT_AT = 8, BOOT_BYTES = 36, SESSION_CHECK_AT = BOOT_AT + BOOT_BYTES, SESSION_BYTES = SESSION_CHECK_AT + 4 };
+
+// A write that isn't synced: what was there before, and what was written.
+struct unsynced {
+    struct unsynced *older, *newer;
+    int fd;
+    off_t at;
+    size_t count;
+    uint8_t bytes[]; // those before, and those after
+};
+
+// There is one image, and all of this is used under its lock.
+static struct {
+    struct unsynced *newest, *oldest;
+    uint64_t writes, cut, random, kept, lost;
+    int is_armed;
+    _Atomic int is_due; // the next write is cut
+} state;
+
+ssize_t __real_pwrite64(int fd, const void *bytes, size_t count, off_t at);
+int __real_fdatasync(int fd);
+ssize_t __wrap_pwrite64(int fd, const void *bytes, size_t count, off_t at);
+int __wrap_fdatasync(int fd);
+
+static void forget_all(void) {
+    while (state.oldest) {
+        struct unsynced *next = state.oldest->newer;
+        free(state.oldest);
+        state.oldest = next;
+    }
+    state.newest = NULL;
+}
+
+// ---- The cut.
+
+static void put(int fd, const uint8_t *bytes, size_t count, off_t at) {
+    if (__real_pwrite64(fd, bytes, count, at) != (ssize_t) count)
+        fprintf(stderr, "mintlintel: a cut of the power couldn't change the image: %s\n", strerror(errno));
+}
+
+// Each write is lost or kept by itself: with all older ones lost, as if they never were, and those that are kept written again in their order.
+static void lose_writes(void) {
+    uint64_t percent = next_number(&state.random) % 101;
+    for (struct unsynced *write = state.newest; write; write = write->older)
+        put(write->fd, write->bytes, write->count, write->at);
+    for (struct unsynced *write = state.oldest; write; write = write->newer) {
+        int is_kept = next_number(&state.random) % 100 < percent;
+        if (is_kept)
+            put(write->fd, write->bytes + write->count, write->count, write->at);
+        state.kept += is_kept;
+        state.lost += !is_kept;
+    }
+}
+
+// The machine's run has another name from now on, so that the next server doubts what it finds.
+static void end_session(int fd) {
+    uint8_t session[SESSION_BYTES];
+    if (pread(fd, session, sizeof session, SESSION_AT) != sizeof session)
+        return;
+    memset(session + BOOT_AT, '-', BOOT_BYTES);
+    uint32_t check = mintlintel_crc32c(0, session, SESSION_CHECK_AT);
+    for (int i = 0; i < 4; i++)
+        session[SESSION_CHECK_AT + i] = (uint8_t) (check >> 8 * i);
+    put(fd, session, sizeof session, SESSION_AT);
+}
+
+static void cut(int fd) {
+    lose_writes();
+    if (fd != -1)
+        end_session(fd);
+    fprintf(stderr, "mintlintel: the power is cut at write %" PRIu64 " to the image: of those that were not synced %" PRIu64 " are lost, and %" PRIu64
+                    " kept\n", state.writes, state.lost, state.kept);
+    _exit(STATUS_OF_A_CUT);
+}
+
+// ---- What the library calls.
+
+// Keeps what a write changes. 0 if there is no memory.
+static int keep(int fd, const void *bytes, size_t count, off_t at) {
+    struct unsynced *write = malloc(sizeof *write + 2 * count);
+    if (!write)
+        return 0;
+    *write = (struct unsynced){.older = state.newest, .fd = fd, .at = at, .count = count};
+    memset(write->bytes, 0, count);
+    if (pread(fd, write->bytes, count, at) < 0) {
+        free(write);
+        return 0;
+    }
+    memcpy(write->bytes + count, bytes, count);
+    *(state.newest ? &state.newest->newer : &state.oldest) = write;
+    state.newest = write;
+    return 1;
+}
+
+// A write that is torn: of its sectors of the disk some first ones are written.
+static size_t torn(size_t count, off_t at) {
+    size_t bytes = (size_t) (next_number(&state.random) % (count + 1)), end = ((size_t) at + bytes) / DISK_SECTOR * DISK_SECTOR;
+    return end > (size_t) at ? end - (size_t) at : 0;
+}
+
+ssize_t __wrap_pwrite64(int fd, const void *bytes, size_t count, off_t at) {
+    if (!state.is_armed)
+        return __real_pwrite64(fd, bytes, count, at);
+    state.writes++;
+    int is_cut = state.writes == state.cut || atomic_load(&state.is_due);
+    size_t most = is_cut ? torn(count, at) : count;
+    if (most > 0 && !keep(fd, bytes, most, at)) {
+        errno = ENOMEM;
+        return -1;
+    }
+    if (is_cut)
+        cut(fd);
+    return __real_pwrite64(fd, bytes, count, at);
+}
+
+int __wrap_fdatasync(int fd) {
+    int result = __real_fdatasync(fd);
+    if (result == 0)
+        forget_all();
+    return result;
+}
+
+// ---- SIGUSR2.
+
+static void one_signal(sigset_t *signals) {
+    sigemptyset(signals);
+    sigaddset(signals, SIGUSR2);
+}
+
+// The next write is cut, or, if there is none soon, the power goes between two.
+static void *wait_for_signal(void *argument) {
+    struct power *power = argument;
+    sigset_t signals;
+    int signal;
+    one_signal(&signals);
+    pthread_setname_np(pthread_self(), "power");
+    while (sigwait(&signals, &signal) != 0)
+        ;
+    if (atomic_load(&power->is_stopping))
+        return NULL;
+    atomic_store(&state.is_due, 1);
+    usleep(WAIT_FOR_A_WRITE_US);
+    pthread_mutex_lock(power->mutex);
+    cut(state.newest ? state.newest->fd : -1);
+    return NULL;
+}
+
+int power_open(struct power *power, const struct options *options, pthread_mutex_t *mutex) {
+    *power = (struct power){.mutex = mutex, .is_armed = options->cut != NO_CUT};
+    if (!power->is_armed)
+        return 0;
+    state.is_armed = 1;
+    state.cut = (uint64_t) options->cut;
+    state.random = options->seed;
+    sigset_t signals;
+    one_signal(&signals);
+    int error = pthread_sigmask(SIG_BLOCK, &signals, NULL);
+    if (error)
+        nbdkit_error("SIGUSR2: %s", strerror(error));
+    return error ? -1 : 0;
+}
+
+int power_start(struct power *power) {
+    if (!power->is_armed)
+        return 0;
+    int error = pthread_create(&power->thread, NULL, wait_for_signal, power);
+    power->has_thread = error == 0;
+    if (error)
+        nbdkit_error("no thread for the power: %s", strerror(error));
+    return error ? -1 : 0;
+}
+
+void power_close(struct power *power) {
+    if (power->has_thread) {
+        atomic_store(&power->is_stopping, 1);
+        pthread_kill(power->thread, SIGUSR2);
+        pthread_join(power->thread, NULL);
+        power->has_thread = 0;
+    }
+    state.is_armed = 0;
+    forget_all();
+}

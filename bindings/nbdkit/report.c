@@ -1,0 +1,195 @@
+#define _GNU_SOURCE
+#define NBDKIT_API_VERSION 2
+#include "report.h"
+
+#include <inttypes.h>
+#include <nbdkit-plugin.h>
+#include <stdio.h>
+#include <stdlib.h>
+
+#include "chip.h"
+
+enum { REPORT_BLOCK = 4096 };
+
+// What was done, in pages and blocks.
+struct work {
+    uint64_t reads, programs, trims, emptied, used, copies, erases, retired;
+};
+
+// What the stock knows, at one moment.
+struct supply {
+    uint64_t free, open, spareless, refused, waited_ns, waiting;
+    uint64_t waits_by_time[WAIT_STEPS];
+};
+
+static struct work work_of(struct device *device) {
+    struct work work = {0};
+    uint64_t filled = 0;
+    for (uint32_t i = 0; i < device->stock.host_count; i++) {
+        struct host *host = &device->stock.hosts[i];
+        work.reads += tally_of(&host->reads);
+        work.programs += tally_of(&host->writes);
+        work.trims += tally_of(&host->trims);
+        work.emptied += tally_of(&host->emptied);
+        filled += tally_of(&host->filled);
+    }
+    work.used = filled > work.emptied ? filled - work.emptied : 0; // both are of moments near each other
+    for (uint32_t i = 0; i < device->brooms.count; i++)
+        work.copies += tally_of(&device->brooms.brooms[i].copies);
+    return work;
+}
+
+static struct supply supply_of(struct stock *stock) {
+    pthread_mutex_lock(&stock->mutex);
+    struct supply supply = {
+        .free = stock->free_count > 0 ? (uint64_t) stock->free_count : 0,
+        .open = stock->open_count,
+        .spareless = (uint64_t) stock->spareless,
+        .refused = stock->gave_up,
+        .waited_ns = stock->waited_ns,
+        .waiting = stock->starving,
+    };
+    for (int i = 0; i < WAIT_STEPS; i++)
+        supply.waits_by_time[i] = stock->waits_by_time[i];
+    pthread_mutex_unlock(&stock->mutex);
+    return supply;
+}
+
+// The blocks at one moment, so that their sums are those of the lines above them. NULL if there is no memory.
+static uint32_t *erases_of_blocks(const struct brooms *brooms, struct work *work) {
+    uint32_t *erases = calloc(brooms->blocks, sizeof *erases);
+    for (uint32_t i = 0; erases && i < brooms->blocks; i++) {
+        work->retired += atomic_load_explicit(&brooms->is_retired[i], memory_order_relaxed);
+        work->erases += erases[i] = atomic_load_explicit(&brooms->erases[i], memory_order_relaxed);
+    }
+    return erases;
+}
+
+static void tell_blocks(FILE *file, const uint32_t *erases, uint32_t blocks) {
+    for (uint32_t i = 0; i < blocks; i++)
+        fprintf(file, "%s%" PRIu32, i > 0 ? ", " : "  \"erases_by_block\": [", erases[i]);
+    fprintf(file, "]\n}\n");
+}
+
+static void tell_waits(FILE *file, const struct supply *supply) {
+    uint64_t writes = 0;
+    for (int i = 0; i < WAIT_STEPS; i++)
+        writes += supply->waits_by_time[i];
+    fprintf(file, "  \"waits\": {\"writes\": %" PRIu64 ", \"microseconds\": %" PRIu64 ", \"now\": %" PRIu64 ", \"by_time\": [\n", writes,
+            supply->waited_ns / 1000, supply->waiting);
+    for (int i = 0; i + 1 < WAIT_STEPS; i++)
+        fprintf(file, "    {\"up_to_microseconds\": %" PRIu64 ", \"writes\": %" PRIu64 "},\n", (uint64_t) FIRST_WAIT_STEP_US << i,
+                supply->waits_by_time[i]);
+    fprintf(file, "    {\"up_to_microseconds\": null, \"writes\": %" PRIu64 "}]},\n", supply->waits_by_time[WAIT_STEPS - 1]);
+}
+
+// A line with part / whole in three decimals, or null if there is no whole.
+static void tell_ratio(FILE *file, const char *name, uint64_t part, uint64_t whole) {
+    uint64_t thousandths = whole > 0 ? (uint64_t) ((unsigned __int128) part * 1000 / whole) : 0;
+    if (whole > 0)
+        fprintf(file, "  \"%s\": %" PRIu64 ".%03" PRIu64 ",\n", name, thousandths / 1000, thousandths % 1000);
+    else
+        fprintf(file, "  \"%s\": null,\n", name);
+}
+
+struct line {
+    const char *name;
+    uint64_t number;
+};
+
+static void tell_lines(FILE *file, const struct line *lines, size_t count) {
+    for (size_t i = 0; i < count; i++)
+        fprintf(file, "  \"%s\": %" PRIu64 ",\n", lines[i].name, lines[i].number);
+}
+
+static void tell_numbers(FILE *file, const struct options *options) {
+    const struct line lines[] = {
+        {"bytes", (uint64_t) options->sectors * options->page}, {"page_bytes", options->page}, {"pages_of_a_block", options->pages},
+        {"blocks", options->blocks}, {"luns", options->luns},
+    };
+    fprintf(file, "{\n  \"library\": \"mintlintel %s\",\n", mintlintel_version());
+    tell_lines(file, lines, sizeof lines / sizeof *lines);
+}
+
+static void tell_work(FILE *file, const struct options *options, const struct work *work, const struct supply *supply) {
+    const struct line lines[] = {
+        {"used_bytes", work->used * options->page}, {"endurance", options->endurance}, {"handles", options->hosts}, {"brooms", options->brooms},
+        {"host_reads", work->reads}, {"host_programs", work->programs}, {"host_trims", work->trims}, {"trims_that_freed", work->emptied},
+        {"copies", work->copies}, {"erases", work->erases}, {"refused_writes", supply->refused}, {"free_blocks", supply->free},
+        {"open_blocks", supply->open}, {"retired_blocks", work->retired}, {"brooms_without_spare", supply->spareless},
+    };
+    tell_lines(file, lines, sizeof lines / sizeof *lines);
+}
+
+static int tell(FILE *file, struct device *device) {
+    const struct options *options = &device->options;
+    struct work work = work_of(device);
+    struct supply supply = supply_of(&device->stock);
+    uint32_t *erases = erases_of_blocks(&device->brooms, &work);
+    if (!erases)
+        return -1;
+    tell_numbers(file, options);
+    uint64_t left = options->spare_blocks > work.retired ? options->spare_blocks - work.retired : 0;
+    tell_ratio(file, "percentage_used", 100 * work.erases, options->blocks * (uint64_t) options->endurance);
+    tell_ratio(file, "available_spare", 100 * left, options->spare_blocks);
+    tell_ratio(file, "write_amplification", work.programs + work.copies, work.programs);
+    fprintf(file, "  \"is_readonly\": %s,\n", atomic_load(&device->is_readonly) ? "true" : "false");
+    tell_work(file, options, &work, &supply);
+    tell_waits(file, &supply);
+    tell_blocks(file, erases, options->blocks);
+    free(erases);
+    return 0;
+}
+
+// What the image's disk has done since the server's start.
+static void tell_image(FILE *file, struct image_disk *disk) {
+    static const char *const modes[] = {[MINTLINTEL_ALWAYS] = "always", [MINTLINTEL_FLUSH] = "flush", [MINTLINTEL_NEVER] = "never"};
+    struct mintlintel_totals totals = {0};
+    pthread_mutex_lock(&disk->mutex);
+    mintlintel_durable_counts(&disk->image.device, &totals);
+    struct chip_counts chip = chip_count();
+    totals.programs += chip.before.programs;
+    totals.copies += chip.before.copies;
+    totals.erases += chip.before.erases;
+    const struct line lines[] = {
+        {"host_reads", disk->reads}, {"host_programs", disk->writes}, {"host_trims", disk->trims}, {"flushes", disk->flushes},
+        {"programs", totals.programs}, {"copies", totals.copies}, {"erases", totals.erases},
+        {"failed_programs", chip.failed_programs}, {"failed_erases", chip.failed_erases}, {"bad_blocks", chip.bad_blocks},
+        {"reserve_blocks", chip.reserve_blocks},
+    };
+    uint64_t writes = disk->writes;
+    int is_readonly = disk->is_worn;
+    pthread_mutex_unlock(&disk->mutex);
+    tell_numbers(file, disk->options);
+    tell_ratio(file, "write_amplification", totals.programs + totals.copies, writes);
+    tell_lines(file, lines, sizeof lines / sizeof *lines);
+    fprintf(file, "  \"is_readonly\": %s,\n", is_readonly ? "true" : "false");
+    fprintf(file, "  \"sync\": \"%s\"\n}\n", modes[disk->options->sync]);
+}
+
+// Ends a text, to which `failed` says whether a part of it is missing. NULL if so.
+static char *end_report(FILE *file, char **text, int failed) {
+    while (!failed && ftell(file) % REPORT_BLOCK != 0 && !ferror(file))
+        fputc(' ', file);
+    failed |= ferror(file);
+    failed |= fclose(file);
+    if (!failed)
+        return *text;
+    free(*text);
+    return NULL;
+}
+
+char *report_make(struct device *device, size_t *size) {
+    char *text = NULL;
+    FILE *file = open_memstream(&text, size);
+    return file ? end_report(file, &text, tell(file, device) == -1) : NULL;
+}
+
+char *report_of_image(struct image_disk *disk, size_t *size) {
+    char *text = NULL;
+    FILE *file = open_memstream(&text, size);
+    if (!file)
+        return NULL;
+    tell_image(file, disk);
+    return end_report(file, &text, 0);
+}

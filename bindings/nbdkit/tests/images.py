@@ -1,0 +1,207 @@
+"""The disk in an image: what is there after the end of its server, and after power cuts."""
+
+import json
+import random
+import re
+import signal
+import time
+
+import faults
+from running import HERE, Failure, Server, fio, kill, want
+
+SMALL = ["size=4M", "spare=10", "pages=16"]  # it collects all the time, so that erases sync it
+ROOMY = ["size=4M", "spare=100", "pages=512"]  # few erases, so that flushes alone do
+STATUS_OF_A_CUT = 3
+
+
+def history(shop, server, seed, most, since=""):
+    """A run of the client that knows what the disk may hold: what it found, or None if it still runs."""
+    call = ["/usr/bin/python3", HERE / "tests/history.py", server.uri, shop.folder / "state", seed, most, since]
+    return shop.start(call, shop.folder / "history")
+
+
+def has_ended(shop, process):
+    """The steps that were answered since the flush before, and how many of them the disk had."""
+    told = (shop.folder / "history").read_text
+    try:
+        status = process.wait(60 * shop.slow)
+    except Exception:
+        raise Failure(f"the client didn't end: {told()}") from None
+    shop.started.remove(process)
+    want(status == 0, f"the disk isn't as it may be: {told()[-1000:]}")
+    return map(int, told().split())
+
+
+def gone(shop, server, status):
+    """Waits for the end of a server."""
+    try:
+        found = server.process.wait(30 * shop.slow)
+    except Exception:
+        raise Failure(f"the server didn't end: {server.log.read_text()[-1000:]}") from None
+    shop.started.remove(server.process)
+    want(found == status, f"the server ended with status {found}: {server.log.read_text()[-1000:]}")
+
+
+def new_image(shop):
+    for name in ("image", "state"):
+        (shop.folder / name).unlink(missing_ok=True)
+    return shop.folder / "image"
+
+
+def killed(shop):
+    """kill -9 of the server, over and over: each answered request is there after it, whatever was flushed."""
+    lost = rounds = 0
+    for sync in ("flush", "never"):
+        image, draw = new_image(shop), random.Random(sync)
+        for _ in range(shop.scaled(3, 50)):
+            server = Server(shop, *SMALL, f"sync={sync}", image=image)
+            client = history(shop, server, rounds, 1_000_000, "answered")
+            time.sleep(draw.uniform(0.2, 1))
+            kill(server.process)
+            shop.started.remove(server.process)
+            answered, found = has_ended(shop, client)
+            lost += answered - found
+            rounds += 1
+        server = Server(shop, image=image)
+        has_ended(shop, history(shop, server, rounds, 300, "answered"))
+        server.stop()
+    want(lost == 0, f"{lost} answered steps are lost")
+    return f"{rounds} kills; {by_fio(shop)}"
+
+
+def by_fio(shop):
+    """fio writes in order, with a pattern of each round, until the server is killed; after its start fio finds all that was answered."""
+    image, found = new_image(shop), []
+    for turn in range(shop.scaled(2, 50)):
+        server = Server(shop, "size=32M", image=image)
+        log, pattern = shop.folder / "fio.json", f"0x{0x11111111 * (turn % 15 + 1):08x}"
+        job = ["--thread", "--ioengine=nbd", "--bs=4k", "--size=32m", "--verify=pattern", f"--verify_pattern={pattern}"]
+        writer = shop.start(["fio", "--name=write", *job, f"--uri={server.uri}", "--rw=write", "--do_verify=0", "--time_based", "--runtime=100",
+                             "--output-format=json", f"--output={log}"], shop.folder / "fio.log")
+        server.wait_until(lambda: server.report()["host_programs"] > 300, 60, "take 300 writes")
+        kill(server.process)
+        shop.started.remove(server.process)
+        writer.wait(60 * shop.slow)
+        shop.started.remove(writer)
+        text = log.read_text()
+        pages = min(8192, json.loads(text[text.index("{"):])["jobs"][0]["write"]["io_bytes"] // 4096 - 1)
+        want(pages > 200, f"only {pages} writes were answered")
+        server = Server(shop, image=image)
+        shop.run(["fio", "--name=read", *job, f"--uri={server.uri}", "--rw=read", f"--io_size={4 * pages}k", "--verify_fatal=1"])
+        server.stop()
+        found.append(pages)
+    return f"fio found {sum(found)} pages of {len(found)} kills"
+
+
+def power_cuts(shop):
+    """Cuts at a write, and by SIGUSR2. What was flushed is there, with a beginning of what came after it; by sync=always all that was answered."""
+    told = []
+    cut_by_seed(shop)
+    for sync in ("flush", "always"):
+        for numbers in (SMALL, ROOMY):
+            told.append(cut_over_and_over(shop, sync, numbers))
+    lost = sum(lost for _, lost in told)
+    want(lost > 0, "no cut has lost what wasn't flushed, so a missing flush isn't seen")
+    return f"{sum(rounds for rounds, _ in told)} cuts, by which {lost} steps were lost that weren't flushed"
+
+
+def cut_by_seed(shop):
+    """The same requests, number and seed leave the same image, and another seed another one."""
+    left = []
+    for seed in (5, 5, 6):
+        image = new_image(shop)
+        server = Server(shop, *SMALL, "cut=400", f"seed={seed}", image=image)
+        shop.run(["qemu-io", "-f", "raw", "-c", "write -P 1 0 400k", "-c", "flush", "-c", "write -P 2 200k 2M", server.uri], status=1)
+        gone(shop, server, STATUS_OF_A_CUT)
+        left.append(image.read_bytes())
+    want(left[0] == left[1] and left[0] != left[2], f"by seeds 5, 5 and 6 the images are {'equal' if left[0] == left[2] else 'all different'}")
+
+
+def cut_over_and_over(shop, sync, numbers):
+    """How many cuts, and how many answered steps were lost by them."""
+    image, draw, since, lost = new_image(shop), random.Random(sync), "answered" if sync == "always" else "", 0
+    rounds = shop.scaled(6, 50)
+    for turn in range(rounds):
+        by_signal = turn % 5 == 4
+        at = 0 if by_signal else draw.randrange(1, 20 if turn % 5 == 3 else 2500)
+        server = Server(shop, *numbers, f"sync={sync}", f"cut={at}", f"seed={turn}", image=image)
+        client = history(shop, server, turn, 1_000_000, since)
+        if by_signal:
+            time.sleep(draw.uniform(0.1, 0.6))
+            server.process.send_signal(signal.SIGUSR2)
+        answered, found = has_ended(shop, client)
+        gone(shop, server, STATUS_OF_A_CUT)
+        want("the power is cut at write" in server.log.read_text(), f"a server that doesn't tell of its cut: {server.log.read_text()}")
+        lost += answered - found
+    server = Server(shop, image=image)
+    answered, found = has_ended(shop, history(shop, server, rounds, 300, since))
+    server.stop()
+    return rounds, lost + answered - found
+
+
+def refused(shop, words, text):
+    status, told = faults.start(shop, words)
+    want(status == 1 and text in told, f"{' '.join(words)}: status {status}: {told}")
+
+
+def image_file(shop):
+    """An image is opened by one server, with its own numbers; it is sparse, and its trims and zeros are those of a disk."""
+    image = new_image(shop)
+    server = Server(shop, *SMALL, image=image)
+    refused(shop, [f"image={image}"], "the image is in use")
+    lines = ["write -P 1 0 4M", "write -P 2 4097 12345", "read -P 2 4097 12345", "read -P 1 16442 100000", "discard 1000001 99999",
+             "read -P 1 999424 577", "read -P 0 1003520 94208", "write -z 20000 30000", "read -P 0 20000 30000", "write -z -u 2000001 300000",
+             "read -P 0 2000001 300000", "read -P 1 2300001 9999", "write -z -u -n 3M 1M", "read -P 0 3M 1M", "flush"]
+    printed = shop.run(["qemu-io", "-f", "raw", *(word for line in lines for word in ("-c", line)), server.uri])
+    want(not re.search("fail|mismatch|error", printed, re.I), printed)
+    before = shop.run(["nbdinfo", "--map", server.uri])
+    want("hole,zero" in before.splitlines()[-1], before)
+    server.stop()
+    server = Server(shop, image=image)
+    want(shop.run(["nbdinfo", "--map", server.uri]) == before, "the map is another after the server's end")
+    report = server.report()
+    want(report["sync"] == "flush" and report["bytes"] == 4 << 20, str(report))
+    server.stop()
+    refused(shop, [f"image={image}", "size=8M"], "has 1024 sectors and 75 blocks of 16 pages of 4096 bytes on 1 LUNs, and not 2048 and")
+    refused(shop, [f"image={image}", "hosts=2"], "hosts= is of a device in memory")
+    refused(shop, ["sync=never"], "give image= too")
+    refused(shop, ["image=/dev/null/image"], "image=/dev/null/image: Not a directory")
+    refused(shop, [f"image={image}", "sync=often"], "sync=often: it is always, flush or never")
+    refused(shop, [f"image={HERE}/check"], "not an image, or its head is damaged")
+    return large(shop)
+
+
+def large(shop):
+    """64 GiB, of which little is written."""
+    image = shop.folder / "large"
+    server = Server(shop, "size=64G", image=image)
+    shop.run(["qemu-io", "-f", "raw", "-c", "write -P 7 63G 1M", "-c", "discard 0 2000M", "-c", "read -P 7 63G 1M", "-c", "read -P 0 30G 1M", "-c", "flush",
+              server.uri])
+    server.stop()
+    server = Server(shop, image=image)
+    shop.run(["qemu-io", "-f", "raw", "-r", "-c", "read -P 7 63G 1M", server.uri])
+    server.stop()
+    used = 512 * image.stat().st_blocks
+    want(used < 8 << 20, f"an image with 1 MiB in it takes {used} bytes of its file system")
+    image.unlink()
+    return f"64 GiB in {used // 1024} KiB"
+
+
+def fast_part(shop):
+    path = shop.folder / "fast.toml"
+    path.write_text("read = 2\nprogram = 5\ncopyback = 6\nerase = 20\ntransfer = 0.5\n")
+    return path
+
+
+def image_sanitized(shop, kind):
+    """Requests of four connections at once on an image, under a sanitizer."""
+    image = new_image(shop)
+    faults_of_it = ["bad=5", "fail-programs=0.01%", "fail-erases=1%", "worn=eio", f"part={fast_part(shop)}"]
+    server = Server(shop, "size=8M", "spare=60", "luns=2", "sync=never", "cut=0", *faults_of_it, image=image, kind=kind)
+    fio(shop, server, "load", rw="randwrite", bsrange="512-16k", bs_unaligned=1, blockalign=512, size="2m", offset_increment="2m", numjobs=4, iodepth=16,
+        io_size=f"{shop.scaled(4, 40)}m", norandommap=1, serialize_overlap=1, verify="crc32c")
+    shop.run(["qemu-io", "-f", "raw", "-c", "discard 10000 3M", "-c", "write -z 100 9999", "-c", "write -z -u 5000 1M", "-c", "map", "-c", "flush", server.uri])
+    report = server.report()
+    want(report["failed_erases"] > 0 and not report["is_readonly"], f"no erase has failed, or the disk is worn out: {report}")
+    server.stop()
+    return f"{report['failed_programs']} programs and {report['failed_erases']} erases failed"
